@@ -1,0 +1,15 @@
+-- The key of an object, as contracts see it: a kind, and an id from 1 to the greatest.
+-- osmium OPL manual, "OPL Format": each line begins with the letter of its kind, and then the id.
+use Rattle.std.specs.Prelude.{ℕ, ◌≤◌}
+use Rattle.osm_base.specs.declared.key.Kind.{Kind}
+use Rattle.osm_base.specs.declared.key.TheConstants.{MAX_ID}
+
+-- a kind and an id
+pub record KeyOf : Type 0 where
+  pub kind : Kind
+  pub id : ℕ
+
+-- an id that an object may have
+pub record IsId (id : ℕ) : Type 0 where
+  pub least : 1 ≤ id
+  pub greatest : id ≤ MAX_ID

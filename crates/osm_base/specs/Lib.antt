@@ -1,0 +1,5 @@
+pub mod Key
+pub mod Limits
+pub mod Place
+pub mod Tags
+pub mod TagText

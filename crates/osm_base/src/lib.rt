@@ -1,0 +1,26 @@
+//! The objects of a map as all other crates see them: nodes, ways and relations with their keys,
+//! places and tags, and the lists and limits that go with them.
+//!
+//! It stands below every other crate. A range that the data has is a fact of the type, so that
+//! nobody tests it twice: an id is from 1 to 9223372036854775807, a place is on the earth. Contracts
+//! see a `Text` as its characters, `Tags` as a finite map, `Items` as a list, and `Key` and `Place`
+//! as plain records.
+#![tactic(auto)]
+
+mod items;
+mod key;
+mod limits;
+mod memory;
+mod object;
+mod place;
+mod tags;
+mod text;
+
+pub use items::{Bytes, FileList, Ids, Items, Places, TryCopy};
+pub use key::{Key, Kind, MAX_ID};
+pub use limits::{LimitKind, Limits};
+pub use memory::OutOfMemory;
+pub use object::{Entry, Member, Members, Object};
+pub use place::{MAX_LAT, MAX_LON, Place};
+pub use tags::Tags;
+pub use text::Text;
