@@ -1,0 +1,10 @@
+pub mod Cuts
+pub mod Digits
+pub mod Ascii
+pub mod TagSteps
+pub mod Tests
+pub mod Joined
+pub mod SpelledNumbers
+pub mod SpelledPlaces
+pub mod SpelledTags
+pub mod SpelledLines
