@@ -1,0 +1,103 @@
+//! Real files, read as `Inputs`.
+ghost use Rattle.std.specs.Prelude.{◌≡◌, ◌≢◌, ◌<◌, ◌≤◌, ℕ, None, Option, List, length, IfOk, is_err, if◌then◌else◌};
+ghost use Rattle.std.specs.Io.KnownBytes.{ReadConsumes};
+ghost use Rattle.std.specs.Io.{ReadsAtMost};
+ghost use Rattle.outside.specs.Calls.{one_more};
+ghost use Rattle.outside.specs.Causes.{HasCause};
+
+use crate::{Failed, Inputs};
+use std::io::{Error, ErrorKind, Read};
+use std::marker::Model;
+use std::rt::Files;
+use std::{fs, io};
+
+/// The files that words name, which are their paths. A file is opened at its first read, and one is
+/// open at a time: a file that was left for another is read from its first byte again. Every error
+/// of the system is a fault, and so is a word that is not there. No bytes are told, since no proof
+/// says what a file holds.
+#[derive(Drop)]
+pub struct FileInputs<'w, R: Files> {
+    rt: R,
+    words: &'w [String],
+    open: Option<(u32, R::File)>,
+    faults: u64,
+}
+
+// Contracts see the count of faults.
+impl<'w, R: Files> Model for FileInputs<'w, R> {
+    ghost use Rattle.std.specs.Prelude.{ℕ};
+
+    ghost Value = { ℕ };
+
+    ghost view = { λ inputs. inputs.faults };
+}
+
+impl<'w, R: Files> FileInputs<'w, R> {
+    /// The files of these words, none of them opened yet.
+    pub fn new(rt: R, words: &'w [String]) -> Self
+        ensures none { result ≡ 0 }
+    {
+        Self {
+            rt,
+            words,
+            open: None,
+            faults: 0,
+        }
+    }
+}
+
+impl<R: Files + Drop> FileInputs<'_, R> {
+    // Opens the file where another one is open, or none.
+    fn turn_to(&mut self, file: u32) -> io::Result<()>
+        ensures same { self.new ≡ self.old }
+    {
+        if matches!(&self.open, Some((number, _)) if *number == file) {
+            return Ok(());
+        }
+        let path = self
+            .words
+            .get(file as usize)
+            .ok_or(Error::from(ErrorKind::NotFound))?;
+        self.open = Some((file, fs::open(&self.rt, path.as_str())?));
+        Ok(())
+    }
+
+    fn try_read(&mut self, file: u32, buf: &mut [u8]) -> io::Result<usize>
+        ensures bound { ReadsAtMost result buf.new }
+        ensures same { self.new ≡ self.old }
+    {
+        self.turn_to(file)?;
+        match &mut self.open {
+            Some((_, open)) => open.read(buf),
+            None => Err(Error::from(ErrorKind::NotFound)),
+        }
+    }
+
+    // Reads on in a file; a fault is counted exactly where that fails.
+    fn read(&mut self, file: u32, buf: &mut [u8]) -> Result<usize, Failed>
+        ensures bound { IfOk result (λ count. count ≤ length buf.new) }
+        ensures counted { self.new ≡ (if is_err result then one_more self.old else self.old) }
+        ensures cause { HasCause self.old self.new result }
+    {
+        match self.try_read(file, buf) {
+            Ok(count) => Ok(count),
+            Err(_) => {
+                self.faults = self.faults.saturating_add(1);
+                Err(Failed)
+            }
+        }
+    }
+}
+
+impl<R: Files + Drop + Send> Inputs for FileInputs<'_, R>
+where
+    R::File: Send,
+{
+    ghost left = { λ _ _. None };
+
+    ghost faults = { λ faults. faults };
+
+    fn next(&mut self, file: u32, buf: &mut [u8]) -> Result<usize, Failed> {
+        self.read(file, buf)
+    }
+}

@@ -1,0 +1,51 @@
+-- Examples written out by hand.
+use Rattle.std.proofs.Common.{◌≡◌, Some, None, [], ◌∷◌, refl}
+use Rattle.std.specs.Prelude.{codes, pos, negsuc}
+use Rattle.std.specs.Fmt.{digits}
+use Rattle.std.proofs.Math.Utf8.{encode}
+use Rattle.updater_main.specs.Command.{command, points_of}
+use Rattle.updater_main.specs.Degrees.{degrees, fraction}
+use Rattle.updater_main.specs.PointsText.{point_line}
+
+-- coordinates
+pub degrees-place : degrees (pos 133777000) ≡ codes "13.3777"
+unfolding degrees fraction digits
+degrees-place = refl
+
+pub degrees-zero : degrees (pos 0) ≡ codes "0"
+unfolding degrees fraction digits
+degrees-zero = refl
+
+pub degrees-least : degrees (negsuc 0) ≡ codes "-0.0000001"
+unfolding degrees fraction digits
+degrees-least = refl
+
+pub degrees-east : degrees (pos 1800000000) ≡ codes "180"
+unfolding degrees fraction digits
+degrees-east = refl
+
+pub degrees-south : degrees (negsuc 899999999) ≡ codes "-90"
+unfolding degrees fraction digits
+degrees-south = refl
+
+-- a line of points
+pub point_line-cafe : point_line 1 (codes "cafe") (record { lon = pos 133777000; lat = pos 525163000 }) ≡ codes "1\tcafe\tPOINT(13.3777 52.5163)\n"
+unfolding point_line degrees fraction digits encode
+point_line-cafe = refl
+
+-- words
+pub command-plain : command (codes "points" ∷ codes "k" ∷ codes "f" ∷ []) ≡ Some (points_of (codes "k") 2)
+unfolding command
+command-plain = refl
+
+pub command-dashes : command (codes "points" ∷ codes "--" ∷ codes "a=b" ∷ codes "f" ∷ []) ≡ Some (points_of (codes "a=b") 3)
+unfolding command
+command-dashes = refl
+
+pub command-option : command (codes "points" ∷ codes "a=b" ∷ codes "f" ∷ []) ≡ None
+unfolding command
+command-option = refl
+
+pub command-no_option : command (codes "points" ∷ codes "A=b" ∷ codes "f" ∷ []) ≡ Some (points_of (codes "A=b") 2)
+unfolding command
+command-no_option = refl

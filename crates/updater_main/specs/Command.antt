@@ -1,0 +1,60 @@
+-- What the words of a command line ask for, the program's name left out.
+-- The first word is the command. Each following word that begins with one or more letters a to z and then `=` is
+-- an option, up to the first word that is none. If that word is `--`, it is dropped. The words that remain are the form.
+-- An option has to belong to the command, to stand once and to have a value in range, and the form has to be the
+-- command's. Words that fit no command are a wrong use of the program, and so are more than MAX_WORDS.
+use Rattle.std.specs.Prelude.{ℕ, ◌+◌, ◌-◌, Bool, nat_lt, nat_le, ◌&&◌, if◌then◌else◌, Option, Some, None, List, [], ◌∷◌, length, drop, take_while, codes, nat_eq}
+use Rattle.std.specs.List.{prefix_len, starts_with}
+use Rattle.std.specs.Str.{bytes_eq}
+use Rattle.updater_main.specs.declared.words.Command.{Command}
+use Rattle.updater_main.specs.declared.words.Command.TheVariants.{Points}
+use Rattle.updater_main.specs.declared.words.TheConstants.{MAX_WORDS, MAX_KEY}
+
+-- a command with its words; a file is the place of its word among all words, the command word being at 0
+pub data CommandOf : Type 0 where
+  points_of : (key : List ℕ) → (input : ℕ) → CommandOf
+
+-- a command of the program, as contracts see it
+abbrev pub seen : Command → CommandOf
+seen (Points key input) = points_of key.now input
+
+-- what remains from the first on that fails a test
+abbrev pub behind : {A : Type 0} → (A → Bool) → List A → List A
+behind test items = drop (prefix_len test items) items
+
+-- a to z
+abbrev pub is_letter : ℕ → Bool
+is_letter byte = nat_le 97 byte && nat_le byte 122
+
+-- a word that begins with one or more letters and then `=`
+abbrev pub is_option : List ℕ → Bool
+is_option word = nat_lt 0 (length (take_while is_letter word)) && starts_with nat_eq (behind is_letter word) (codes "=")
+
+-- words without `--` at their front
+abbrev pub without_dashes : List (List ℕ) → List (List ℕ)
+without_dashes [] = []
+without_dashes (word ∷ words) = if bytes_eq word (codes "--") then words else word ∷ words
+
+-- the options among the words behind the command word
+abbrev pub options_of : List (List ℕ) → List (List ℕ)
+options_of words = take_while is_option words
+
+-- the words of the form among the words behind the command word
+abbrev pub form_of : List (List ℕ) → List (List ℕ)
+form_of words = without_dashes (behind is_option words)
+
+-- `points KEY INPUT`: no option, and a KEY of 1 to MAX_KEY bytes; place is that of the first word of the form
+abbrev pub points : (options form : List (List ℕ)) → (place : ℕ) → Option CommandOf
+points [] (key ∷ _ ∷ []) place = if nat_le 1 (length key) && nat_le (length key) MAX_KEY then Some (points_of key (place + 1)) else None
+points _ _ _ = None
+
+-- what words ask for whose first is this name
+abbrev pub row : (name : List ℕ) → (options form : List (List ℕ)) → (place : ℕ) → Option CommandOf
+row name options form place = if bytes_eq name (codes "points") then points options form place else None
+
+-- what all words ask for, where they ask for something
+unfoldable pub command : List (List ℕ) → Option CommandOf
+command [] = None
+command (name ∷ words) =
+    if nat_lt MAX_WORDS (length (name ∷ words)) then None else
+    row name (options_of words) (form_of words) (length (name ∷ words) - length (form_of words))

@@ -1,0 +1,10 @@
+pub mod Answer
+pub mod Command
+pub mod Degrees
+pub mod Faults
+pub mod PlainFile
+pub mod PointsText
+pub mod Run
+pub mod Points
+pub mod Stops
+pub mod ReadFile

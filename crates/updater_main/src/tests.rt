@@ -1,0 +1,193 @@
+//! Examples from outside, and each call with ample memory.
+use crate::{Command, Fault, Outcome, command_of, fault_line, push_degrees, push_point};
+use osm_base::{Entry, Ids, Key, Kind, Object, OutOfMemory, Place, Tags};
+use std::alloc::{AllocError, Global};
+use std::test::Fail;
+
+// Coordinates in units of 1e-7 degree, and their texts, written by hand.
+const DEGREES: [(i32, &str); 22] = [
+    (0, "0"),
+    (1, "0.0000001"),
+    (-1, "-0.0000001"),
+    (10, "0.000001"),
+    (1_000_000, "0.1"),
+    (1_234_567, "0.1234567"),
+    (-5_000_000, "-0.5"),
+    (9_999_999, "0.9999999"),
+    (10_000_000, "1"),
+    (-10_000_000, "-1"),
+    (10_000_001, "1.0000001"),
+    (100_000_010, "10.000001"),
+    (133_777_000, "13.3777"),
+    (525_163_000, "52.5163"),
+    (1_799_999_999, "179.9999999"),
+    (1_800_000_000, "180"),
+    (-1_800_000_000, "-180"),
+    (900_000_000, "90"),
+    (-900_000_000, "-90"),
+    (-899_999_999, "-89.9999999"),
+    (2_147_483_647, "214.7483647"),
+    (-2_147_483_648, "-214.7483648"),
+];
+
+#[test]
+fn coordinates_are_written_in_degrees(rt: HostRuntime) -> Result<(), Fail> {
+    for (units, text) in DEGREES {
+        let mut out = Vec::from_slice(rt.alloc(), b"x")?;
+        push_degrees(&mut out, units)?;
+        assert_eq!(rt; out[0], b'x');
+        assert_eq!(rt; &out[1..], text.as_bytes(), "at {units}");
+    }
+    Ok(())
+}
+
+// Words of a command line, and the KEY and the place of INPUT that they give.
+const WORDS: [(&[&str], Option<(&str, u32)>); 24] = [
+    (&["points", "k", "f"], Some(("k", 2))),
+    (&["points", "--", "k", "f"], Some(("k", 3))),
+    (&["points", "--", "a=b", "f"], Some(("a=b", 3))),
+    (&["points", "--", "--", "f"], Some(("--", 3))),
+    (&["points", "k", "--"], Some(("k", 2))),
+    (&["points", "k", "a=b"], Some(("k", 2))),
+    (&["points", "=", "f"], Some(("=", 2))),
+    (&["points", "A=b", "f"], Some(("A=b", 2))),
+    (&["points", "a1=b", "f"], Some(("a1=b", 2))),
+    (&["points", "abc", ""], Some(("abc", 2))),
+    (&["points", "stra\u{df}e", "f"], Some(("stra\u{df}e", 2))),
+    (&[], None),
+    (&["points"], None),
+    (&["points", "k"], None),
+    (&["points", "k", "f", "g"], None),
+    (&["points", "", "f"], None),
+    (&["points", "a=b", "f"], None),
+    (&["points", "a=b", "k", "f"], None),
+    (&["points", "abc=", "k", "f"], None),
+    (&["points", "a=b", "--", "k", "f"], None),
+    (&["points", "k", "--", "f"], None),
+    (&["--", "points", "k", "f"], None),
+    (&["point", "k", "f"], None),
+    (&["--help"], None),
+];
+
+#[test]
+fn words_are_read_as_commands(rt: HostRuntime) -> Result<(), Fail> {
+    for (texts, want) in WORDS {
+        let words = words_of(rt.alloc(), texts)?;
+        assert_eq!(rt; parts(command_of(&words)), want, "at {texts:?}");
+    }
+    Ok(())
+}
+
+#[test]
+fn a_key_has_at_most_255_bytes(rt: HostRuntime) -> Result<(), Fail> {
+    for (bytes, is_command) in [(254, true), (255, true), (256, false)] {
+        let mut key = String::new(rt.alloc());
+        for _ in 0..bytes {
+            key.push('k')?;
+        }
+        let words = words_of(rt.alloc(), &["points", key.as_str(), "f"])?;
+        assert_eq!(rt; command_of(&words).is_some(), is_command, "at {bytes}");
+    }
+    Ok(())
+}
+
+#[test]
+fn a_line_of_too_many_words_is_no_command(rt: HostRuntime) -> Result<(), Fail> {
+    let mut words = words_of(rt.alloc(), &["points", "k", "f"])?;
+    for _ in 0..4_094 {
+        words.push(String::from_str(rt.alloc(), "f")?)?;
+    }
+    assert_eq!(rt; command_of(&words), None);
+    Ok(())
+}
+
+/// The words with these texts.
+fn words_of(alloc: Global, texts: &[&str]) -> Result<Vec<String>, AllocError> {
+    let mut words = Vec::new(alloc);
+    for text in texts {
+        words.push(String::from_str(alloc, text)?)?;
+    }
+    Ok(words)
+}
+
+/// The parts of a command.
+fn parts(command: Option<Command<'_>>) -> Option<(&str, u32)> {
+    let Command::Points { key, input } = command?;
+    Some((key, input))
+}
+
+#[test]
+fn a_node_with_the_tag_and_a_place_has_a_line(rt: HostRuntime) -> Result<(), Fail> {
+    let mut out = Vec::new(rt.alloc());
+    let cafe = Entry {
+        key: Key::new(Kind::Node, 1),
+        object: Some(Object::Node {
+            place: Some(Place::new(133_777_000, 525_163_000)),
+            tags: cafe_tags(rt.alloc())?,
+        }),
+    };
+    push_point(&mut out, "amenity", &cafe)?;
+    push_point(&mut out, "shop", &cafe)?;
+    push_point(&mut out, "name", &cafe)?;
+    let text = "1\tcafe\tPOINT(13.3777 52.5163)\n1\tStra\u{df}e 1\tPOINT(13.3777 52.5163)\n";
+    assert_eq!(rt; out.as_slice(), text.as_bytes());
+    Ok(())
+}
+
+#[test]
+fn other_entries_have_no_line(rt: HostRuntime) -> Result<(), Fail> {
+    let mut out = Vec::new(rt.alloc());
+    let nowhere = Object::Node {
+        place: None,
+        tags: cafe_tags(rt.alloc())?,
+    };
+    let way = Object::Way {
+        nodes: Ids::new(rt.alloc()),
+        tags: cafe_tags(rt.alloc())?,
+    };
+    for object in [None, Some(nowhere), Some(way)] {
+        let entry = Entry {
+            key: Key::new(Kind::Node, 7),
+            object,
+        };
+        push_point(&mut out, "amenity", &entry)?;
+    }
+    assert!(rt; out.is_empty());
+    Ok(())
+}
+
+/// The tags of a cafe.
+fn cafe_tags(alloc: Global) -> Result<Tags, OutOfMemory> {
+    let mut tags = Tags::new(alloc);
+    tags.add("amenity", "cafe")?;
+    tags.add("name", "Stra\u{df}e 1")?;
+    Ok(tags)
+}
+
+// Each fault, with its status and its line.
+const FAULTS: [(Fault, u8, &str); 5] = [
+    (Fault::Usage, 2, "usage"),
+    (Fault::ReadFault { file: 2 }, 7, "read fault file 2"),
+    (Fault::WriteFault, 8, "write fault"),
+    (Fault::OutOfMemory, 11, "out of memory"),
+    (
+        Fault::NotBuilt {
+            file: 2,
+            line: 4_294_967_295,
+        },
+        13,
+        "not built file 2 line 4294967295",
+    ),
+];
+
+#[test]
+fn faults_have_statuses_and_lines(rt: HostRuntime) -> Result<(), Fail> {
+    for (fault, status, line) in FAULTS {
+        let outcome = Outcome::of(Some(fault));
+        assert_eq!(rt; outcome.status, status);
+        assert_eq!(rt; outcome.fault, Some(fault));
+        assert_eq!(rt; fault_line(rt.alloc(), &fault)?.as_str(), line);
+    }
+    assert_eq!(rt; Outcome::of(None).status, 0);
+    Ok(())
+}

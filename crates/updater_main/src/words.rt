@@ -1,0 +1,97 @@
+//! The words of the command line.
+ghost use Rattle.std.specs.Prelude.{◌≡◌, ◌≤◌, map, length};
+ghost use Rattle.std.specs.List.{prefix_len};
+ghost use Rattle.std.specs.Option.{option_map};
+ghost use Rattle.std.specs.String.{string_bytes};
+ghost use Rattle.updater_main.specs.Command as spec;
+
+/// The most words that a command line may have, the command word counted.
+pub const MAX_WORDS: usize = 4_096;
+
+/// The most bytes that a KEY may have.
+pub const MAX_KEY: usize = 255;
+
+/// What the words of a command line ask for. A file is named by the place of its word.
+#[derive(Clone, Copy, Debug, PartialEq, Eq)]
+pub enum Command<'a> {
+    /// The nodes of the file INPUT that have the tag KEY and a place.
+    Points { key: &'a str, input: u32 },
+}
+
+/// The command that the words behind the program's name ask for.
+/// `None`: they are no command of this program.
+///
+/// The first word names the command. Words behind it that begin with letters a to z and `=` are
+/// its options, up to the first word that does not. One `--` in that place is dropped, so that a
+/// KEY may look like an option. The words that remain fill the command's form.
+#[tactic(auto, unfolding(crate::specs::Command::command))]
+pub fn command_of(words: &[String]) -> Option<Command<'_>>
+    ensures command { option_map spec.seen result ≡ spec.command (map string_bytes words.now) }
+{
+    let (name, later) = words.split_first()?;
+    if words.len() > MAX_WORDS {
+        return None;
+    }
+    let (options, rest) = later.split_at(count_options(later));
+    let form = without_dashes(rest);
+    let place = (words.len() - form.len()) as u32;
+    match name.as_str() {
+        "points" => points(options, form, place),
+        _ => None,
+    }
+}
+
+/// How many options the words begin with.
+fn count_options(words: &[String]) -> usize
+    ensures count { result ≡ prefix_len (λ word. spec.is_option (string_bytes word)) words.now }
+    ensures within { result ≤ length words.now }
+{
+    words.iter().take_while(|word| is_option(word)).count()
+}
+
+/// Whether a word begins with one or more letters a to z and then `=`.
+fn is_option(word: &str) -> bool
+    ensures option { result ≡ spec.is_option word.now }
+{
+    let bytes = word.as_bytes();
+    let letters = count_letters(bytes);
+    0 < letters && bytes[letters..].starts_with(b"=")
+}
+
+/// How many letters a to z the bytes begin with.
+fn count_letters(bytes: &[u8]) -> usize
+    ensures count { result ≡ prefix_len spec.is_letter bytes.now }
+    ensures within { result ≤ length bytes.now }
+{
+    bytes
+        .iter()
+        .take_while(|byte| byte.is_ascii_lowercase())
+        .count()
+}
+
+/// The words without `--` at their front.
+fn without_dashes(words: &[String]) -> &[String]
+    ensures words { map string_bytes result.now ≡ spec.without_dashes (map string_bytes words.now) }
+    ensures fewer { length result.now ≤ length words.now }
+{
+    match words {
+        [dashes, form @ ..] if dashes.as_str() == "--" => form,
+        _ => words,
+    }
+}
+
+/// `points KEY INPUT`, whose first word has this place.
+fn points<'a>(options: &[String], form: &'a [String], place: u32) -> Option<Command<'a>>
+    requires { place ≤ MAX_WORDS }
+    ensures points { option_map spec.seen result
+        ≡ spec.points (map string_bytes options.now) (map string_bytes form.now) place }
+{
+    let [key, _] = form else { return None };
+    if !options.is_empty() || key.is_empty() || key.len() > MAX_KEY {
+        return None;
+    }
+    Some(Command::Points {
+        key: key.as_str(),
+        input: place + 1,
+    })
+}
