@@ -88,6 +88,12 @@ pub type FileList = Items<Bytes>;
 /// The places of a line, in order.
 pub type Places = Items<Place>;
 
+/// Lines, or rings.
+pub type LineList = Items<Places>;
+
+/// Polygons: the rings of each, the outer one first.
+pub type Polygons = Items<LineList>;
+
 impl<T> Items<T> {
     /// The empty list.
     pub fn new(alloc: Global) -> Self

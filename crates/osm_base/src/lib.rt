@@ -16,11 +16,11 @@ mod place;
 mod tags;
 mod text;
 
-pub use items::{Bytes, FileList, Ids, Items, Places, TryCopy};
+pub use items::{Bytes, FileList, Ids, Items, LineList, Places, Polygons, TryCopy};
 pub use key::{Key, Kind, MAX_ID};
 pub use limits::{LimitKind, Limits};
 pub use memory::OutOfMemory;
 pub use object::{Entry, Member, Members, Object};
-pub use place::{MAX_LAT, MAX_LON, Place};
+pub use place::{GeoBox, MAX_LAT, MAX_LON, Place};
 pub use tags::Tags;
 pub use text::Text;

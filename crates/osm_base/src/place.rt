@@ -36,3 +36,12 @@ impl Place {
         Self { lon, lat }
     }
 }
+
+/// A box of longitudes and latitudes in units of 1e-7 degree, its sides included.
+#[derive(Clone, Copy, Debug, PartialEq, Eq)]
+pub struct GeoBox {
+    pub west: i32,
+    pub south: i32,
+    pub east: i32,
+    pub north: i32,
+}
