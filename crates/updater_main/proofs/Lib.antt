@@ -5,3 +5,4 @@ pub mod WordLists
 pub mod AnswerLaws
 pub mod SaidLaws
 pub mod LineSteps
+pub mod RunLaws
