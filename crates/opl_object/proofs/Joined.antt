@@ -5,7 +5,7 @@ use Rattle.std.proofs.lemmas.List.{append-nil}
 use Rattle.std.proofs.lemmas.List.Folds.{list_all-append}
 use Rattle.std.specs.List.{list_all, onto_first, join_with_byte, AllByRecursion, flat_map}
 use Rattle.opl_object.specs.Pieces.{cut_at, pieces, later_pieces}
-use Rattle.opl_object.proofs.Tests.{left, right, both}
+use Rattle.opl_object.proofs.Steps.{left, right, both}
 use Rattle.opl_object.proofs.Cuts.{pieces-cut_at}
 
 -- the separator does not stand in the text

@@ -2,7 +2,7 @@ pub mod Cuts
 pub mod Digits
 pub mod Ascii
 pub mod TagSteps
-pub mod Tests
+pub mod Steps
 pub mod Joined
 pub mod SpelledNumbers
 pub mod SpelledPlaces

@@ -15,7 +15,7 @@ use Rattle.opl_object.specs.Words.{tags_of}
 use Rattle.opl_object.specs.Reading.{is_skipped, node, behind, tags_in, place_in, node_in, entry_of, reading}
 use Rattle.opl_object.specs.Spells.{IsSkipped, SpellsTagField, SpellsPlaceFields, Spells, Says}
 use Rattle.opl_object.proofs.Cuts.{pieces-cut_at}
-use Rattle.opl_object.proofs.Tests.{bind_some, some_is, chosen}
+use Rattle.opl_object.proofs.Steps.{bind_some, some_is, chosen}
 use Rattle.opl_object.proofs.Joined.{AllLack, spaced, pieces-spaced, text-pieces}
 use Rattle.opl_object.proofs.SpelledNumbers.{id_of-some, id_of-spelled, lacks-digits}
 use Rattle.opl_object.proofs.SpelledPlaces.{place_of-some, place_of-spelled, lacks-coordinate}

@@ -9,7 +9,7 @@ use Rattle.osm_base.specs.declared.key.TheConstants.{MAX_ID}
 use Rattle.opl_object.specs.Pieces.{cut_at}
 use Rattle.opl_object.specs.Numbers.{◌>>=◌, is_digits, number_of, id_of, decimals_of, magnitude_of}
 use Rattle.opl_object.specs.Spells.{IsDigits, SpellsId, SpellsSize}
-use Rattle.opl_object.proofs.Tests.{bind_some, some_is, chosen, left, right, both, list_all-weaker}
+use Rattle.opl_object.proofs.Steps.{bind_some, some_is, chosen, left, right, both, list_all-weaker}
 use Rattle.opl_object.proofs.Joined.{lacks, cut_at-parts, cut_at-whole, cut_at-append, cut_at-lacks}
 
 -- digits

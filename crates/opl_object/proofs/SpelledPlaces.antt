@@ -14,7 +14,7 @@ use Rattle.osm_base.specs.declared.place.TheConstants.{MAX_LON, MAX_LAT}
 use Rattle.opl_object.specs.Pieces.{cut_at}
 use Rattle.opl_object.specs.Numbers.{◌>>=◌, magnitude_of, coordinate_of, is_on_earth, place_of}
 use Rattle.opl_object.specs.Spells.{IsDigits, SpellsSize, SpellsCoordinate}
-use Rattle.opl_object.proofs.Tests.{bind_some, chosen, left, right, both}
+use Rattle.opl_object.proofs.Steps.{bind_some, chosen, left, right, both}
 use Rattle.opl_object.proofs.Joined.{lacks, lacks-append}
 use Rattle.opl_object.proofs.SpelledNumbers.{magnitude_of-some, magnitude_of-spelled, lacks-digits}
 

@@ -13,7 +13,7 @@ use Rattle.opl_object.specs.Numbers.{◌>>=◌}
 use Rattle.opl_object.specs.Words.{is_word_byte, is_word, word_of, pair_of, with_pair, with_pairs, tags_of}
 use Rattle.opl_object.specs.Spells.{pair_text, IsPlainPair, KeysDiffer, SpellsTags}
 use Rattle.opl_object.proofs.Cuts.{pieces-cut_at}
-use Rattle.opl_object.proofs.Tests.{bind_some, some_is, chosen, refused, right, both, list_all-weaker}
+use Rattle.opl_object.proofs.Steps.{bind_some, some_is, chosen, refused, right, both, list_all-weaker}
 use Rattle.opl_object.proofs.Joined.{lacks, AllLack, lacks-append, spaced, pieces-spaced, text-pieces, join_with_byte-cons, cut_at-parts, cut_at-append}
 
 -- a pair of texts

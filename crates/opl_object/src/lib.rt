@@ -13,6 +13,8 @@ mod line;
 mod number;
 mod pieces;
 mod refused;
+#[cfg(test)]
+mod tests;
 mod words;
 
 pub use line::read_line;

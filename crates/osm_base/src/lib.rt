@@ -14,6 +14,8 @@ mod memory;
 mod object;
 mod place;
 mod tags;
+#[cfg(test)]
+mod tests;
 mod text;
 
 pub use items::{Bytes, FileList, Ids, Items, LineList, Places, Polygons, TryCopy};

@@ -2,13 +2,13 @@
 use Rattle.std.proofs.Common.{◌≡◌, ℕ, zero, suc, ◌+◌, ◌-◌, ◌<◌, ◌≤◌, Bool, true, false, cond, ◌&&◌, nat_lt, nat_le, Option, Some, None, List, [], ◌∷◌, ◌++◌, length, take, map, refl, sym, ◌∙◌, ap, subst, append_assoc, ⊎_elim, arith}
 use Rattle.std.proofs.lemmas.List.{append-nil}
 use Rattle.std.proofs.lemmas.Bool.{leb-true, le-leb, false≢true, cases_lt}
-use Rattle.std.specs.Prelude.{IsSome, flat_map}
-use Rattle.std.specs.List.{filter_map, AllByRecursion}
+use Rattle.std.specs.Prelude.{IsSome}
+use Rattle.std.specs.List.{AllByRecursion}
 use Rattle.osm_base.specs.declared.limits.Limits.{Limits}
 use Rattle.osm_base.specs.declared.object.Entry.{Entry}
 use Rattle.opl_object.specs.Numbers.{◌>>=◌}
 use Rattle.opl_object.specs.Reading.{reading}
-use Rattle.updater_main.specs.PlainFile.{spelled, entries_in, RisesAbove, IsPlainFile, IsFirstNotPlain}
+use Rattle.updater_main.specs.PlainFile.{entries_in, RisesAbove, IsPlainFile, IsFirstNotPlain}
 use Rattle.updater_main.specs.PointsText.{line_of, points_text}
 use Rattle.updater_main.specs.Answer.{Answer, Done, Stopped, Progress, nothing, after, is_above, said_next, next, continued, answer_from}
 
@@ -52,7 +52,7 @@ said-some : (key : List ℕ) (progress : Progress) (line : List ℕ) (more : Pro
 said-some key progress line more None is e = absurd (cc)
 said-some key progress line more (Some said) is e =
     elim (is_above progress.last said) as (λ b. is_above progress.last said ≡ b → cond b (Some (after key progress said)) None ≡ Some more
-        → (own : Option Entry) × (reading line ≡ Some own) × (is_above progress.last own ≡ true) × (more ≡ after key progress own)) [
+    → (own : Option Entry) × (reading line ≡ Some own) × (is_above progress.last own ≡ true) × (more ≡ after key progress own)) [
       | true ↦ λ above same. (said, is, above, cc)
       | false ↦ λ above same. absurd (cc)
     ] refl e
@@ -63,7 +63,7 @@ next-some limits key progress line more e =
     let counted = nat_lt progress.number limits.lines in
     let short = nat_le (length line) limits.line_bytes in
     elim (counted && short) as (λ b. (counted && short) ≡ b → cond b (reading line >>= λ said. cond (is_above progress.last said) (Some (after key progress said)) None) None ≡ Some more
-        → Reads limits key progress line more) [
+    → Reads limits key progress line more) [
       | true ↦ λ within is.
           let p = said-some key progress line more (reading line) refl is in
           record {
@@ -72,7 +72,7 @@ next-some limits key progress line more e =
             short = leb-true (length line) limits.line_bytes (right counted short within);
             reads = p.1;
             above = p.2;
-            more_is = p.3
+            more_is = p.3;
           }
       | false ↦ λ within is. absurd (cc)
     ] refl e
@@ -98,17 +98,17 @@ plain-cons : (limits : Limits) (key : List ℕ) (progress : Progress) (line : Li
     → progress.number < limits.lines → length line ≤ limits.line_bytes → reading line ≡ Some said → is_above progress.last said ≡ true
     → PlainFrom limits (after key progress said).last (after key progress said).number lines → PlainFrom limits progress.last progress.number (line ∷ lines)
 plain-cons limits key progress line lines None counted short reads above h = record {
-    plain = (subst IsSome (sym reads) refl, h.plain);
-    rising = subst (λ entries. RisesAbove progress.last (map id_of entries)) (sym (entries-skipped line lines reads)) h.rising;
-    short = (short, h.short);
-    few = omega (arith, h.few)
-  }
+  plain = (subst IsSome (sym reads) refl, h.plain);
+  rising = subst (λ entries. RisesAbove progress.last (map id_of entries)) (sym (entries-skipped line lines reads)) h.rising;
+  short = (short, h.short);
+  few = omega (arith, h.few);
+}
 plain-cons limits key progress line lines (Some entry) counted short reads above h = record {
-    plain = (subst IsSome (sym reads) refl, h.plain);
-    rising = subst (λ entries. RisesAbove progress.last (map id_of entries)) (sym (entries-entry line lines entry reads)) (leb-true (suc progress.last) entry.key.id above, h.rising);
-    short = (short, h.short);
-    few = omega (arith, h.few)
-  }
+  plain = (subst IsSome (sym reads) refl, h.plain);
+  rising = subst (λ entries. RisesAbove progress.last (map id_of entries)) (sym (entries-entry line lines entry reads)) (leb-true (suc progress.last) entry.key.id above, h.rising);
+  short = (short, h.short);
+  few = omega (arith, h.few);
+}
 
 -- and the other way
 
@@ -119,20 +119,25 @@ said_of line (Some said) e h = (said, e)
 uncons : (limits : Limits) (key : List ℕ) (progress : Progress) (line : List ℕ) (lines : List (List ℕ)) (said : Option Entry)
     → reading line ≡ Some said → PlainFrom limits progress.last progress.number (line ∷ lines)
     → (is_above progress.last said ≡ true) × PlainFrom limits (after key progress said).last (after key progress said).number lines
-uncons limits key progress line lines None reads h = (refl, record {
+uncons limits key progress line lines None reads h = (
+  refl,
+  record {
     plain = h.plain.1;
     rising = subst (λ entries. RisesAbove progress.last (map id_of entries)) (entries-skipped line lines reads) h.rising;
     short = h.short.1;
-    few = omega (arith, h.few)
-  })
+    few = omega (arith, h.few);
+  },
+)
 uncons limits key progress line lines (Some entry) reads h =
-    let rising = subst (λ entries. RisesAbove progress.last (map id_of entries)) (entries-entry line lines entry reads) h.rising in
-    (le-leb (suc progress.last) entry.key.id rising.0, record {
-      plain = h.plain.1;
-      rising = rising.1;
-      short = h.short.1;
-      few = omega (arith, h.few)
-    })
+    let rising = subst (λ entries. RisesAbove progress.last (map id_of entries)) (entries-entry line lines entry reads) h.rising in (
+      le-leb (suc progress.last) entry.key.id rising.0,
+      record {
+        plain = h.plain.1;
+        rising = rising.1;
+        short = h.short.1;
+        few = omega (arith, h.few);
+      },
+    )
 
 -- the text of a line and of those after it
 
@@ -192,9 +197,10 @@ answer-done limits key progress (line ∷ lines) text small e =
       | Some more ↦ λ is.
           let r = next-some limits key progress line more is in
           let bound = subst (λ own. own.number ≤ limits.lines) (sym r.more_is) (grown limits key progress r.said r.counted) in
-          let later = answer-done limits key more lines text bound (sym (answer-next limits key progress line lines more is) ∙ e) in
-          (plain-cons limits key progress line lines r.said r.counted r.short r.reads r.above (subst (λ (own : Progress). PlainFrom limits own.last own.number lines) r.more_is later.0),
-            later.1 ∙ ap (λ (own : Progress). own.text ++ points_text key (entries_in lines)) r.more_is ∙ text-cons key progress line lines r.said r.reads)
+          let later = answer-done limits key more lines text bound (sym (answer-next limits key progress line lines more is) ∙ e) in (
+            plain-cons limits key progress line lines r.said r.counted r.short r.reads r.above (subst (λ (own : Progress). PlainFrom limits own.last own.number lines) r.more_is later.0),
+            later.1 ∙ ap (λ (own : Progress). own.text ++ points_text key (entries_in lines)) r.more_is ∙ text-cons key progress line lines r.said r.reads,
+          )
       | None ↦ λ is.
           let stop : Stopped (progress.number + 1) ≡ Done text = sym (answer-stop limits key progress line lines is) ∙ e in
           absurd (cc)
@@ -244,20 +250,26 @@ answer-stopped limits key progress (line ∷ lines) number small e =
           let bound = subst (λ own. own.number ≤ limits.lines) (sym r.more_is) (grown limits key progress r.said r.counted) in
           let later = answer-stopped limits key more lines number bound (sym (answer-next limits key progress line lines more is) ∙ e) in
           let own = subst (λ (own : Progress). StopsAt limits own lines later.0) r.more_is later.1 in
-          let numbered : number ≡ progress.number + 1 + suc later.0 = omega (arith, later.2, ap (λ (at : Progress). at.number) r.more_is, number-after key progress r.said) in
-          (suc later.0, record {
-            within = omega (arith, later.1.within);
-            plain = plain-cons limits key progress line (take later.0 lines) r.said r.counted r.short r.reads r.above own.plain;
-            no_more = λ h. own.no_more (uncons limits key progress line (take (suc later.0) lines) r.said r.reads h).1
-          }, numbered)
+          let numbered : number ≡ progress.number + 1 + suc later.0 = omega (arith, later.2, ap (λ (at : Progress). at.number) r.more_is, number-after key progress r.said) in (
+            suc later.0,
+            record {
+              within = omega (arith, later.1.within);
+              plain = plain-cons limits key progress line (take later.0 lines) r.said r.counted r.short r.reads r.above own.plain;
+              no_more = λ h. own.no_more (uncons limits key progress line (take (suc later.0) lines) r.said r.reads h).1;
+            },
+            numbered,
+          )
       | None ↦ λ is.
           let stop : Stopped (progress.number + 1) ≡ Stopped number = sym (answer-stop limits key progress line lines is) ∙ e in
-          let same : progress.number + 1 ≡ number = cc in
-          (0, record {
-            within = omega arith;
-            plain = none_left limits progress.last progress.number small;
-            no_more = refused_first limits key progress line [] is
-          }, omega (arith, same))
+          let same : progress.number + 1 ≡ number = cc in (
+            0,
+            record {
+              within = omega arith;
+              plain = none_left limits progress.last progress.number small;
+              no_more = refused_first limits key progress line [] is;
+            },
+            omega (arith, same),
+          )
     ] refl
 
 -- the whole file
@@ -289,7 +301,7 @@ file-stopped limits key lines number e =
     subst (IsFirstNotPlain limits lines) at (record {
       counted = (omega arith, omega (arith, p.1.within));
       before = subst (λ count. IsPlainFile limits (take count lines)) one_less (whole_file limits (take p.0 lines) p.1.plain);
-      here = λ h. p.1.no_more (from_start limits (take (suc p.0) lines) h)
+      here = λ h. p.1.no_more (from_start limits (take (suc p.0) lines) h);
     })
 
 -- there is one first line at most

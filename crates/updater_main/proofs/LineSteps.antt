@@ -1,10 +1,9 @@
 -- What a step of the reader of lines does to the answer.
-use Rattle.std.proofs.Common.{◌≡◌, ◌≢◌, ℕ, suc, ◌+◌, ◌<◌, ◌≤◌, Bool, true, false, cond, ◌&&◌, nat_lt, nat_le, Option, Some, None, List, [], ◌∷◌, ◌++◌, length, drop, refl, sym, ◌∙◌, ap, subst, arith}
+use Rattle.std.proofs.Common.{◌≡◌, ◌≢◌, ℕ, suc, ◌+◌, ◌<◌, ◌≤◌, true, false, cond, ◌&&◌, nat_lt, nat_le, Some, None, List, [], ◌∷◌, ◌++◌, length, drop, refl, ◌∙◌, ap, arith}
 use Rattle.std.proofs.lemmas.List.{append-nil}
 use Rattle.std.proofs.lemmas.Bool.{le-leb, le-ltb, lt-leb}
-use Rattle.std.specs.Option.{option_to_list}
 use Rattle.osm_base.specs.declared.limits.Limits.{Limits}
-use Rattle.opl_lines.specs.Lines.{lines_of, first_of, first_line}
+use Rattle.opl_lines.specs.Lines.{lines_of, first_of}
 use Rattle.opl_lines.specs.Reading.{Reading, begun}
 use Rattle.opl_lines.specs.Takes.{Takes, Refuses}
 use Rattle.opl_lines.specs.declared.fault.LineFault.{LineFault}
@@ -12,7 +11,7 @@ use Rattle.opl_lines.specs.declared.fault.LineFault.TheVariants.{LineBytes, File
 use Rattle.updater_main.specs.declared.fault.Fault.{Fault}
 use Rattle.updater_main.specs.declared.fault.Fault.TheVariants as faults
 use Rattle.updater_main.specs.Stops.{StopsAt}
-use Rattle.updater_main.specs.Answer.{Answer, Done, Stopped, Progress, said_next, next, answer_from}
+use Rattle.updater_main.specs.Answer.{Done, Stopped, Progress, said_next, next, answer_from}
 use Rattle.updater_main.proofs.AnswerLaws.{answer-next, answer-stop, answer-nil}
 
 module _ (limits : Limits) (key : List ℕ) (progress : Progress) (line : List ℕ) where

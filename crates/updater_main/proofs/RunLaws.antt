@@ -1,5 +1,5 @@
 -- How a run ends, by how its file was read and its text was written.
-use Rattle.std.proofs.Common.{◌≡◌, ◌≢◌, ℕ, Option, Some, None, List, [], refl, sym, ◌∙◌, ap, subst}
+use Rattle.std.proofs.Common.{◌≡◌, ℕ, Option, Some, None, List, [], refl, sym, ◌∙◌, ap, subst}
 use Rattle.std.specs.Prelude.{IfSome}
 use Rattle.std.specs.Io.KnownBytes.{Appends, Keeps}
 use Rattle.std.specs.Str.{chars}
@@ -8,7 +8,7 @@ use Rattle.outside.specs.Bytes.{BothKnown, AppendsPrefix}
 use Rattle.updater_main.specs.declared.fault.Fault.{Fault}
 use Rattle.updater_main.specs.declared.fault.Fault.TheVariants as faults
 use Rattle.updater_main.specs.Answer.{Answer, Done, Stopped, nothing, answer_from}
-use Rattle.updater_main.specs.PlainFile.{IsPlainFile, IsFirstNotPlain, entries_in}
+use Rattle.updater_main.specs.PlainFile.{IsFirstNotPlain, entries_in}
 use Rattle.updater_main.specs.PointsText.{points_text}
 use Rattle.updater_main.specs.Run.{standard, points_of, IsRead, Change, Failed, RunsPoints}
 use Rattle.updater_main.specs.Stops.{Stops}
@@ -88,7 +88,7 @@ module _ (key : List ℕ) (file : ℕ) (input output : Change) (text : List ℕ)
     write_fault = λ e. absurd (cc);
     front = λ e. absurd (cc);
     kept = λ e _. absurd (e refl);
-    complete = λ bytes is _ _ _. (λ _. refl, λ line first. absurd (never_both bytes line (at_told (λ known. IsRead known × (input.bytes_after ≡ Some [])) input.bytes bytes is h.read).0 first))
+    complete = λ bytes is _ _ _. (λ _. refl, λ line first. absurd (never_both bytes line (at_told (λ known. IsRead known × (input.bytes_after ≡ Some [])) input.bytes bytes is h.read).0 first));
   }
 
   -- all was read, and the output failed
@@ -102,7 +102,7 @@ module _ (key : List ℕ) (file : ℕ) (input output : Change) (text : List ℕ)
     write_fault = λ _. f;
     front = λ _. written_front key text input.bytes output.bytes output.bytes_after (pair_told key text input h) w;
     kept = λ _ e. absurd (e refl);
-    complete = λ bytes is _ none _. absurd (none f)
+    complete = λ bytes is _ none _. absurd (none f);
   }
 
 module _ (key : List ℕ) (file : ℕ) (input output : Change) where
@@ -123,9 +123,10 @@ module _ (key : List ℕ) (file : ℕ) (input output : Change) where
     front = λ e. absurd (cc);
     kept = λ _ _. k;
     complete = λ bytes is _ _ _.
-        let stopped = at_told (λ known. answer key known ≡ Stopped line) input.bytes bytes is s.1 in
-        (λ plain. absurd (never_both bytes line plain (file-stopped standard (chars key) (lines_of bytes) line stopped)),
-         λ l first. ap (λ own. Some (faults.NotBuilt own line)) s.0 ∙ ap (λ own. Some (faults.NotBuilt file own)) (one_line key bytes line l stopped first))
+        let stopped = at_told (λ known. answer key known ≡ Stopped line) input.bytes bytes is s.1 in (
+          λ plain. absurd (never_both bytes line plain (file-stopped standard (chars key) (lines_of bytes) line stopped)),
+          λ l first. ap (λ own. Some (faults.NotBuilt own line)) s.0 ∙ ap (λ own. Some (faults.NotBuilt file own)) (one_line key bytes line l stopped first),
+        );
   }
   runs-stopped (faults.ReadFault other) s k = record {
     read = λ e. absurd (cc);
@@ -136,7 +137,7 @@ module _ (key : List ℕ) (file : ℕ) (input output : Change) where
     write_fault = λ e. absurd (cc);
     front = λ e. absurd (cc);
     kept = λ _ _. k;
-    complete = λ bytes is none _ _. absurd (none s.1)
+    complete = λ bytes is none _ _. absurd (none s.1);
   }
   runs-stopped faults.WriteFault s k = absurd s
   runs-stopped faults.OutOfMemory s k = record {
@@ -148,5 +149,5 @@ module _ (key : List ℕ) (file : ℕ) (input output : Change) where
     write_fault = λ e. absurd (cc);
     front = λ e. absurd (cc);
     kept = λ _ _. k;
-    complete = λ bytes is _ _ other. absurd (other refl)
+    complete = λ bytes is _ _ other. absurd (other refl);
   }

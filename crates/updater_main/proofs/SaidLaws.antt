@@ -1,9 +1,9 @@
 -- One line, by what it says.
-use Rattle.std.proofs.Common.{◌≡◌, ℕ, ◌<◌, ◌≤◌, suc, true, false, nat_lt, Option, Some, None, List, refl, arith}
+use Rattle.std.proofs.Common.{◌≡◌, ℕ, ◌<◌, ◌≤◌, suc, true, false, nat_lt, Some, None, List, refl}
 use Rattle.std.proofs.lemmas.Bool.{le-leb, le-ltb}
 use Rattle.osm_base.specs.declared.object.Entry.{Entry}
 use Rattle.opl_object.specs.Reading.{reading}
-use Rattle.updater_main.specs.Answer.{Progress, after, is_above, said_next}
+use Rattle.updater_main.specs.Answer.{Progress, after, said_next}
 
 module _ (key : List ℕ) (progress : Progress) (line : List ℕ) where
   pub said_next-skipped : reading line ≡ Some None → said_next key progress line ≡ Some (after key progress None)

@@ -1,7 +1,6 @@
 -- What is left to be answered while a file is read piece by piece.
-use Rattle.std.specs.Prelude.{◌≡◌, ◌≤◌, ℕ, ◌<◌, ◌^◌, List, ◌++◌, Option, None}
+use Rattle.std.specs.Prelude.{◌≡◌, ◌≤◌, ℕ, List, ◌++◌, None}
 use Rattle.std.specs.Str.{chars}
-use Rattle.osm_base.specs.Limits.{IsWithinStandard}
 use Rattle.opl_lines.specs.Lines.{lines_of}
 use Rattle.opl_lines.specs.Reading.{begun}
 use Rattle.updater_main.specs.declared.points.Task.{Task}
@@ -27,4 +26,3 @@ pub record IsReady (task : Task) (points : Points) : Type 0 where
   pub lines : points.reader.lines ≡ task.limits.lines
   pub counted : points.reader.number ≤ task.limits.lines
   pub no_fault : points.reader.failed ≡ None
-

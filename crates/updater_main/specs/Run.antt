@@ -1,6 +1,6 @@
 -- What a run of `points KEY INPUT` does to the world outside: the bytes left in INPUT and those that the output took,
 -- where they are told, and the counts of faults.
-use Rattle.std.specs.Prelude.{◌≡◌, ◌≢◌, ℕ, List, [], ◌⊎◌, Option, Some, None, IfSome}
+use Rattle.std.specs.Prelude.{◌≡◌, ◌≢◌, ℕ, List, [], Option, Some, None, IfSome}
 use Rattle.std.specs.Io.KnownBytes.{Appends, Keeps}
 use Rattle.std.specs.Str.{chars}
 use Rattle.osm_base.specs.declared.limits.Limits.{Limits}
@@ -39,18 +39,15 @@ pub record RunsPoints (key : List ℕ) (file : ℕ) (input output : Change) (fau
   -- without a fault INPUT is a file that is read, to its end, and the output took the text of its points
   pub read : fault ≡ None → IfSome input.bytes (λ bytes. IsRead bytes × (input.bytes_after ≡ Some []))
   pub written : fault ≡ None → IfSome input.bytes (λ bytes. Appends output.bytes output.bytes_after (points_of key bytes))
-
   -- each fault has its cause; want of memory alone is free
   pub usage : fault ≢ Some Usage
   pub not_built : (other line : ℕ) → fault ≡ Some (NotBuilt other line)
       → (other ≡ file) × IfSome input.bytes (λ bytes. IsFirstNotPlain standard (lines_of bytes) line)
   pub read_fault : (other : ℕ) → fault ≡ Some (ReadFault other) → (other ≡ file) × Failed input
   pub write_fault : fault ≡ Some WriteFault → Failed output
-
   -- nothing is written before INPUT is known to be a file that is read; then a fault leaves a front of the text
   pub front : fault ≡ Some WriteFault → IfSome input.bytes (λ bytes. IsRead bytes × AppendsPrefix output.bytes output.bytes_after (points_of key bytes))
   pub kept : fault ≢ None → fault ≢ Some WriteFault → Keeps output.bytes output.bytes_after
-
   -- where no count of faults rose, the bytes of INPUT alone say how it ends, unless memory ran out
   pub complete : (bytes : List ℕ) → input.bytes ≡ Some bytes → (Failed input → ⊥) → (Failed output → ⊥) → fault ≢ Some OutOfMemory
       → (IsRead bytes → fault ≡ None) × ((line : ℕ) → IsFirstNotPlain standard (lines_of bytes) line → fault ≡ Some (NotBuilt file line))

@@ -1,8 +1,11 @@
 //! The program: it reads the words of the command line, does what they say and ends with a status.
 //!
-//! Here stand the parts that need no file: `command_of` says what the words mean, `push_point` writes
-//! the line of a node with a tag and a place, with its coordinates in degrees, and a `Fault` says
-//! why a run ended early, with its status and its one line of text.
+//! `run` does all of it over the traits of `outside`, and its contract is the promise of each
+//! command: on no fault the output took exactly the text that the definition gives, and each fault
+//! has its cause. `main` only makes the real files and the real output, calls `run` and tells the
+//! fault. Below `run`, `command_of` says what the words mean, `read_points` reads a file piece by
+//! piece to its end, `push_point` writes the line of a node with a tag and a place, and a `Fault`
+//! has its status and its one line of text.
 #![tactic(auto)]
 
 mod degrees;
@@ -12,12 +15,81 @@ mod read_file;
 mod row;
 mod run;
 #[cfg(test)]
+mod run_tests;
+#[cfg(test)]
 mod tests;
 mod words;
 
-pub use degrees::push_degrees;
-pub use fault::{Fault, Outcome, fault_line};
-pub use row::push_point;
-pub use words::{Command, MAX_KEY, MAX_WORDS, command_of};
+use fault::{Fault, Outcome, fault_line};
+use outside::{Failed, FileInputs, StdSink, put_all};
+use run::run;
+use std::process::ExitCode;
+use std::rt::Env;
+use std::{env, io};
 
-fn main(_rt: HostRuntime) {}
+const HELP: &str = "\
+usage: yilgartzu points KEY INPUT
+
+  points KEY INPUT   read the OPL file INPUT and write a line for each node that
+                     has the tag KEY and a place: id, value, POINT(lon lat)
+  --help             this text
+  --version          the version
+
+A word -- ends the options. Status 0: done; 2: wrong words; 7: a file could not
+be read; 8: the output failed; 11: out of memory; 13: a line that is not read yet.
+";
+
+const VERSION: &str = "yilgartzu 0.1.0\n";
+
+fn main(rt: HostRuntime) -> ExitCode {
+    let outcome = match words_of(&rt) {
+        Ok(words) => {
+            let mut out = StdSink::new(io::writer(&rt));
+            match text_asked(&words) {
+                Some(text) => told(put_all(&mut out, text.as_bytes())),
+                None => {
+                    let mut inputs = FileInputs::new(&rt, &words);
+                    run(&rt, rt.alloc(), &words, &mut inputs, &mut out)
+                }
+            }
+        }
+        Err(fault) => Outcome::of(Some(fault)),
+    };
+    if let Some(fault) = outcome.fault {
+        tell(&rt, &fault);
+    }
+    ExitCode::from(outcome.status)
+}
+
+/// The words behind the program's name. Words that are not text are a wrong use.
+fn words_of(rt: &(impl Env + AllocGlobal)) -> Result<Vec<String>, Fault> {
+    match env::args(rt) {
+        Ok(words) => words
+            .skip(1)
+            .collect(rt.alloc())
+            .map_err(|_| Fault::OutOfMemory),
+        Err(error) if error.kind() == io::ErrorKind::OutOfMemory => Err(Fault::OutOfMemory),
+        Err(_) => Err(Fault::Usage),
+    }
+}
+
+/// The text that the words ask for, where they begin with `--help` or `--version`.
+fn text_asked(words: &[String]) -> Option<&'static str> {
+    match words.first()?.as_str() {
+        "--help" => Some(HELP),
+        "--version" => Some(VERSION),
+        _ => None,
+    }
+}
+
+/// The outcome of writing a text.
+fn told(written: Result<(), Failed>) -> Outcome {
+    Outcome::of(written.err().map(|_| Fault::WriteFault))
+}
+
+/// Prints the line of a fault to standard error. Where there is no memory for it, nothing is printed.
+fn tell(rt: &(impl Eprint + AllocGlobal), fault: &Fault) {
+    if let Ok(line) = fault_line(rt.alloc(), fault) {
+        let _ = rt.eprintln(line.as_str());
+    }
+}

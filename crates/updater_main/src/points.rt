@@ -154,7 +154,11 @@ impl Points {
             let line = self.reader.line();
             add_line(alloc, task, line, before, &mut self.last, &mut self.text)?;
         }
-        let Points { reader: _, last: _, text } = self;
+        let Points {
+            reader: _,
+            last: _,
+            text,
+        } = self;
         Ok(text)
     }
 }

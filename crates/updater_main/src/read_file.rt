@@ -47,7 +47,11 @@ fn read_on<I: Inputs>(
 }
 
 /// The text of the points of a file.
-pub fn read_points<I: Inputs>(alloc: Global, task: &Task<'_>, inputs: &mut I) -> Result<Vec<u8>, Fault>
+pub fn read_points<I: Inputs>(
+    alloc: Global,
+    task: &Task<'_>,
+    inputs: &mut I,
+) -> Result<Vec<u8>, Fault>
     ensures text { IfOk result (λ text. ReadsAll task.now text.items (I.left inputs.old task.now.file) (I.left inputs.new task.now.file)) }
     ensures stopped { IfErr result (StopsReading task.now (I.left inputs.old task.now.file) (I.faults inputs.old) (I.faults inputs.new)) }
     ensures later { I.faults inputs.old ≤ I.faults inputs.new }

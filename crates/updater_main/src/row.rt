@@ -3,7 +3,7 @@ ghost use Rattle.std.specs.Prelude.{◌≡◌, ◌++◌, OnOk, take, length};
 ghost use Rattle.std.specs.Str.{chars};
 ghost use Rattle.updater_main.specs.PointsText.{line_of, point_line};
 
-use crate::push_degrees;
+use crate::degrees::push_degrees;
 use osm_base::{Entry, Object, OutOfMemory, Place};
 
 /// Appends the line of an entry, where it is a node with a place and with the tag of this key.

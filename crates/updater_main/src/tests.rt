@@ -1,5 +1,8 @@
 //! Examples from outside, and each call with ample memory.
-use crate::{Command, Fault, Outcome, command_of, fault_line, push_degrees, push_point};
+use crate::degrees::push_degrees;
+use crate::fault::{Fault, Outcome, fault_line};
+use crate::row::push_point;
+use crate::words::{Command, command_of};
 use osm_base::{Entry, Ids, Key, Kind, Object, OutOfMemory, Place, Tags};
 use std::alloc::{AllocError, Global};
 use std::test::Fail;

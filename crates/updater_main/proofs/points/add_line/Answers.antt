@@ -1,6 +1,5 @@
-use Rattle.std.proofs.Common.{sym, ◌∙◌, ap, subst, refl, ◌≤◌, ◌<◌, ℕ, ◌+◌, List, Some}
+use Rattle.std.proofs.Common.{ap, subst, refl, ◌≤◌, ◌<◌}
 use Rattle.osm_base.specs.declared.object.Entry.{Entry}
-use Rattle.updater_main.specs.Answer.{Progress}
 use Rattle.updater_main.proofs.SaidLaws.{said_next-skipped, said_next-refused, said_next-entry, said_next-low}
 use Rattle.updater_main.proofs.points.add_line.Goals as goal
 
@@ -21,4 +20,4 @@ returns-clause-ok c =
     let same = ap (λ (entry : Entry). entry.key.id) c.entry.view_is in
     let reads = rw c.in-Ok-Some.field-0-is at c.in-Ok-Some.ensures.exact in
     rw (c.in_ok-push_point.ensures.line, same)
-      (said_next-entry _ _ c.args.line.now c.in-Ok-Some.entry reads (subst (λ id. c.args.last.now < id) same c.if-entry-last.false))
+    (said_next-entry _ _ c.args.line.now c.in-Ok-Some.entry reads (subst (λ id. c.args.last.now < id) same c.if-entry-last.false))

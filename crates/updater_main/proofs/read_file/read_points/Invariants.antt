@@ -10,8 +10,8 @@ invariant-loop-points g l = record {
   ready : IsReady l.task l.points;
   some : 0 < length l.buffer.items;
   answer : BothKnown (g.I.Inputs.left l.initial.inputs l.task.file) (g.I.Inputs.left l.inputs l.task.file)
-    (λ bytes rest. answer_of l.task bytes ≡ answer_with l.task l.points rest);
-  later : g.I.Inputs.faults l.initial.inputs ≤ g.I.Inputs.faults l.inputs
+      (λ bytes rest. answer_of l.task bytes ≡ answer_with l.task l.points rest);
+  later : g.I.Inputs.faults l.initial.inputs ≤ g.I.Inputs.faults l.inputs;
 }
 
 abbrev pub decreases-loop-points : goal.decreases-loop-points

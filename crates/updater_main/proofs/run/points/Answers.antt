@@ -1,6 +1,4 @@
-use Rattle.std.proofs.Common.{sym, ◌∙◌, ap, subst}
 use Rattle.std.proofs.lemmas.Result.{err_from_is_err_and}
-use Rattle.outside.specs.Bytes.{AppendsPrefix}
 use Rattle.updater_main.proofs.RunLaws.{has_read, runs-done, runs-unwritten, runs-stopped, keeps_refl}
 use Rattle.updater_main.proofs.run.points.Goals as goal
 

@@ -1,4 +1,4 @@
-use Rattle.std.proofs.Common.{◌≡◌, ◌++◌, List, ℕ, sym, ◌∙◌, ap, arith}
+use Rattle.std.proofs.Common.{◌++◌, List, ℕ, sym, ◌∙◌, ap, arith}
 use Rattle.updater_main.specs.Points.{answer_with}
 use Rattle.updater_main.proofs.points.Points.take.Goals as goal
 
@@ -9,5 +9,5 @@ loop-rest-preserved c = record {
       ∙ ap (λ (rest : List ℕ). answer_with c.args.task.now c.take_line.new.self (rest ++ later)) (sym c.split_at.ensures.back);
   shorter = omega (arith, c.split_at.ensures.back_len, c.loop-rest.invariant.shorter);
   at_most = omega (arith, c.in_ok-used.ensures.room, c.loop-rest.invariant.at_most);
-  room = λ _. omega (arith, c.in_ok-used.ensures.room, c.loop-rest.invariant.at_most)
+  room = λ _. omega (arith, c.in_ok-used.ensures.room, c.loop-rest.invariant.at_most);
 }

@@ -1,4 +1,4 @@
-use Rattle.std.proofs.Common.{◌≡◌, ◌≤◌, ◌<◌, ◌++◌, ◌⊎◌, ℕ, List, length}
+use Rattle.std.proofs.Common.{◌≡◌, ◌≤◌, ◌<◌, ◌++◌, ℕ, List, length}
 use Rattle.opl_lines.specs.Reading.{room}
 use Rattle.updater_main.specs.Points.{answer_with, IsReady}
 use Rattle.updater_main.proofs.points.Points.take.Given as goal
@@ -10,7 +10,7 @@ invariant-loop-rest l = record {
   answer : (later : List ℕ) → answer_with l.task l.fn.self (l.fn.piece ++ later) ≡ answer_with l.task l.self (l.rest ++ later);
   shorter : length l.rest ≤ length l.fn.piece;
   at_most : room l.self.reader ≤ room l.fn.self.reader;
-  room : (length l.rest < length l.fn.piece → room l.self.reader < room l.fn.self.reader)
+  room : (length l.rest < length l.fn.piece → room l.self.reader < room l.fn.self.reader);
 }
 
 abbrev pub decreases-loop-rest : goal.decreases-loop-rest

@@ -1,0 +1,95 @@
+//! Each call once, with ample memory.
+use crate::{
+    Entry, Ids, Items, Key, Kind, Limits, Member, Members, Object, Place, Tags, Text, TryCopy,
+};
+use std::alloc::Global;
+use std::test::Fail;
+
+fn tags(alloc: Global) -> Result<Tags, crate::OutOfMemory> {
+    let mut tags = Tags::with_room(alloc, 2, 16)?;
+    tags.add("amenity", "cafe")?;
+    tags.add("name", "Stra\u{df}e")?;
+    Ok(tags)
+}
+
+#[test]
+fn tags_keep_each_key_once(rt: HostRuntime) -> Result<(), Fail> {
+    let mut tags = tags(rt.alloc())?;
+    assert_eq!(rt; tags.add("name", "Weg"), Ok(false));
+    assert_eq!(rt; tags.add("", ""), Ok(true));
+    assert_eq!(rt; tags.get("amenity"), Some("cafe"));
+    assert_eq!(rt; tags.get("name"), Some("Stra\u{df}e"));
+    assert_eq!(rt; tags.get(""), Some(""));
+    assert_eq!(rt; tags.get("nam"), None);
+    assert_eq!(rt; Tags::new(rt.alloc()).get("name"), None);
+    Ok(())
+}
+
+/// A copy of what a line says that this object is.
+fn copied(alloc: Global, object: Object) -> Result<Option<Object>, crate::OutOfMemory> {
+    let entry = Entry {
+        key: Key::new(Kind::Node, 1),
+        object: Some(object),
+    };
+    Ok(entry.copy(alloc)?.object)
+}
+
+#[test]
+fn copies_of_nodes_and_ways_are_equal(rt: HostRuntime) -> Result<(), Fail> {
+    let alloc = rt.alloc();
+    let node = Object::Node {
+        place: Some(Place::new(-1_800_000_000, 900_000_000)),
+        tags: tags(alloc)?,
+    };
+    if let Some(Object::Node { place, tags }) = copied(alloc, node)? {
+        assert_eq!(rt; place, Some(Place::new(-1_800_000_000, 900_000_000)));
+        assert_eq!(rt; tags.get("amenity"), Some("cafe"));
+    }
+    let mut nodes = Ids::new(alloc);
+    nodes.push(7)?;
+    let way = Object::Way {
+        nodes,
+        tags: tags(alloc)?,
+    };
+    if let Some(Object::Way { nodes, .. }) = copied(alloc, way)? {
+        assert_eq!(rt; nodes.into_vec().as_slice(), [7].as_slice());
+    }
+    Ok(())
+}
+
+#[test]
+fn copies_of_relations_are_equal(rt: HostRuntime) -> Result<(), Fail> {
+    let alloc = rt.alloc();
+    let role = Text::from_str(alloc, "outer")?;
+    let mut members = Members::new(alloc);
+    members.push(Member {
+        key: Key::new(Kind::Way, 7),
+        role,
+    })?;
+    let relation = Object::Relation {
+        members,
+        tags: Tags::new(alloc),
+    };
+    if let Some(Object::Relation { members, .. }) = copied(alloc, relation)? {
+        for member in members.as_slice() {
+            assert_eq!(rt; member.role.as_str(), "outer");
+        }
+    }
+    Ok(())
+}
+
+#[test]
+fn keys_are_ordered_by_kind_and_id(rt: HostRuntime) {
+    assert!(rt; Key::new(Kind::Node, 9) < Key::new(Kind::Way, 1));
+    assert!(rt; Key::new(Kind::Way, 2) < Key::new(Kind::Way, 10));
+    assert!(rt; Key::new(Kind::Way, 10) < Key::new(Kind::Relation, 1));
+    assert_eq!(rt; Limits::standard().line_bytes, 4_194_304);
+}
+
+#[test]
+fn a_list_of_bytes_is_its_vector(rt: HostRuntime) -> Result<(), Fail> {
+    let list = Items::from_vec(Vec::from_slice(rt.alloc(), b"abc")?);
+    let text = Text::from_string(String::from_str(rt.alloc(), "abc")?);
+    assert_eq!(rt; list.copy(rt.alloc())?.as_slice(), text.as_str().as_bytes());
+    Ok(())
+}
