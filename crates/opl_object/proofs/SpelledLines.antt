@@ -1,235 +1,208 @@
--- A plain line, and how it is spelled: what is read is spelled so, and what is spelled so is read.
-use Rattle.std.proofs.Common.{◌≡◌, ℕ, ◌==◌, ◌||◌, ◌⊎◌, inl, inr, ⊎_elim, true, false, cond, Option, Some, None, Result, Ok, Err, List, [], ◌∷◌, ◌++◌, codes, refl, sym, ◌∙◌, ap, subst, append_assoc}
-use Rattle.std.proofs.lemmas.Bool.{eqb-true, eq-eqb}
-use Rattle.std.proofs.lemmas.List.{append-nil}
-use Rattle.std.specs.FinMap as finite
-use Rattle.osm_base.specs.Place.{PlaceOf}
-use Rattle.osm_base.specs.Tags.{TagMap}
+-- Lines: what is read is spelled so, what is spelled so is read, and each line has one meaning.
+use Rattle.std.proofs.Common.{◌≡◌, ℕ, Bool, true, false, cond, not, ◌⊎◌, inl, inr, List, [], ◌∷◌, Option, None, Some, Result, Ok, Err, refl, sym, ◌∙◌, ap, subst, map}
+use Rattle.std.specs.Prelude.{ℤ}
+use Rattle.std.specs.List.{AllByRecursion, filter, slice_split}
+use Rattle.std.specs.Str.{IsUtf8, is_utf8}
+use Rattle.std.proofs.lemmas.Bool.{cases_Bool, false_from_ne_true}
+use Rattle.std.proofs.lemmas.Str.{is_utf8-from_IsUtf8, IsUtf8-from_is_utf8}
+use Rattle.osm_base.specs.declared.key.Kind.{Kind}
+use Rattle.osm_base.specs.declared.key.Kind.TheVariants as kinds
 use Rattle.osm_base.specs.declared.object.Entry.{Entry}
-use Rattle.std.specs.Prelude.{IfOk}
-use Rattle.opl_object.specs.declared.refused.LineRefused.{LineRefused}
-use Rattle.opl_object.specs.Gives.{Gives}
-use Rattle.opl_object.specs.Pieces.{cut_at, pieces, later_pieces}
-use Rattle.opl_object.specs.Numbers.{◌>>=◌, id_of, place_of}
-use Rattle.opl_object.specs.Words.{tags_of}
-use Rattle.opl_object.specs.Reading.{is_skipped, node, behind, tags_in, place_in, node_in, entry_of, reading}
-use Rattle.opl_object.specs.Spells.{IsSkipped, SpellsTagField, SpellsPlaceFields, Spells, Says}
-use Rattle.opl_object.proofs.Cuts.{pieces-cut_at}
-use Rattle.opl_object.proofs.Steps.{bind_some, some_is, chosen}
-use Rattle.opl_object.proofs.Joined.{AllLack, spaced, pieces-spaced, text-pieces}
-use Rattle.opl_object.proofs.SpelledNumbers.{id_of-some, id_of-spelled, lacks-digits}
-use Rattle.opl_object.proofs.SpelledPlaces.{place_of-some, place_of-spelled, lacks-coordinate}
-use Rattle.opl_object.proofs.SpelledTags.{tags_of-some, tags_of-spelled, lacks-tags}
+use Rattle.osm_base.specs.declared.object.Object.{Object}
+use Rattle.osm_base.specs.declared.object.Object.TheVariants as objects
+use Rattle.osm_base.specs.Key.{KeyOf}
+use Rattle.osm_base.specs.Place.{PlaceOf}
+use Rattle.opl_object.specs.declared.parts.Parts.{Parts}
+use Rattle.opl_object.specs.declared.why.Why.{Why}
+use Rattle.opl_object.specs.declared.why.Why.TheVariants as causes
+use Rattle.opl_object.specs.Fields.{is_blank, is_empty, fields_of}
+use Rattle.opl_object.specs.Line.{IsSkipped, is_skipped, utf8_of, key_of, place_of, object_of, entry_of, entry_from, reading}
+use Rattle.opl_object.specs.Meaning.{HasFault, HasOneMeaning}
+use Rattle.opl_object.specs.Members.{kind_at}
+use Rattle.opl_object.specs.Number.{id_of}
+use Rattle.opl_object.specs.Parts.{parts_of}
+use Rattle.opl_object.specs.Spelling.{SpellsId, kind_byte}
+use Rattle.opl_object.specs.Spells.{field_text, IsPlace, IsObject, IsObjectOf, Spells}
+use Rattle.opl_object.specs.Why.{◌>>=◌, given}
+use Rattle.opl_object.proofs.Cuts.{blank-ascii}
+use Rattle.opl_object.proofs.SpelledFields.{parts_said, parts_again}
+use Rattle.opl_object.proofs.SpelledLists.{kind_at_is, kind_at_again}
+use Rattle.opl_object.proofs.SpelledNumbers.{id_spells, id_again}
+use Rattle.opl_object.proofs.SpelledTexts.{split_utf8}
+use Rattle.opl_object.proofs.Steps.{bind_ok, given_ok, chosen, ok_is, some_is}
 
-behind-some : (letter : ℕ) (field text : List ℕ) → behind letter field ≡ Some text → field ≡ letter ∷ text
-behind-some letter [] text e = absurd (cc)
-behind-some letter (byte ∷ bytes) text e =
-    let p = chosen (byte == letter) bytes text e in
-    ap (λ first. first ∷ bytes) (eqb-true byte letter p.0) ∙ ap (λ rest. letter ∷ rest) p.1
+-- ---- what is read is spelled
 
-behind-letter : (letter : ℕ) (text : List ℕ) → behind letter (letter ∷ text) ≡ Some text
-behind-letter letter text = rw (eq-eqb letter letter refl) refl
+kept_utf8 : (pieces : List (List ℕ)) → AllByRecursion IsUtf8 pieces → AllByRecursion IsUtf8 (filter (λ piece. not (is_empty piece)) pieces)
+kept_utf8 [] all = tt
+kept_utf8 (piece ∷ pieces) all = elim (cases_Bool (is_empty piece)) [
+  | inl none ↦ rw none (kept_utf8 pieces all.1)
+  | inr some ↦ rw some (all.0, kept_utf8 pieces all.1)
+]
 
--- the place
+fields_utf8 : (line : List ℕ) → IsUtf8 line → AllByRecursion IsUtf8 (fields_of line)
+unfolding fields_of
+fields_utf8 line utf8 = kept_utf8 (slice_split is_blank line) (split_utf8 is_blank line blank-ascii utf8)
 
-place_layout : (x y : List ℕ) → spaced 32 ((120 ∷ x) ∷ (121 ∷ y) ∷ []) ≡ codes " x" ++ x ++ codes " y" ++ y
-place_layout x y = simp (append_assoc, append-nil)
+record IsKey (field : List ℕ) (key : KeyOf) : Type 0 where
+  pub digits : List ℕ
+  pub form : field ≡ kind_byte key.kind ∷ digits
+  pub number : SpellsId digits key.id
 
-place_in-some : (fields : List (List ℕ)) (place : Option PlaceOf) → place_in fields ≡ Some place → SpellsPlaceFields (spaced 32 fields) place
-unfolding place_in
-place_in-some [] place e = subst (SpellsPlaceFields []) (some_is _ _ e) refl
-place_in-some (first ∷ []) place e = absurd (cc)
-place_in-some (first ∷ second ∷ []) place e =
-    let p = bind_some (behind 120 first) (λ x. behind 121 second >>= λ y. place_of x y >>= λ own. Some (Some own)) place e in
-    let q = bind_some (behind 121 second) (λ y. place_of p.0 y >>= λ own. Some (Some own)) place p.2 in
-    let r = bind_some (place_of p.0 q.0) (λ own. Some (Some own)) place q.2 in
-    let s = place_of-some p.0 q.0 r.0 r.1 in
-    let first_is : first ≡ 120 ∷ p.0 = behind-some 120 first p.0 p.1 in
-    let second_is : second ≡ 121 ∷ q.0 = behind-some 121 second q.0 q.1 in
-    let layout : spaced 32 (first ∷ second ∷ []) ≡ codes " x" ++ p.0 ++ codes " y" ++ q.0 =
-    ap (λ field. spaced 32 (field ∷ second ∷ [])) first_is ∙ ap (λ field. spaced 32 ((120 ∷ p.0) ∷ field ∷ [])) second_is ∙ place_layout p.0 q.0 in
-    subst (SpellsPlaceFields (spaced 32 (first ∷ second ∷ []))) (some_is _ _ r.2) (p.0, q.0, layout, s.0, s.1, s.2)
-place_in-some (first ∷ second ∷ third ∷ fields) place e = absurd (cc)
+key_spells : (field : List ℕ) (key : KeyOf) → key_of field ≡ Ok key → IsKey field key
+unfolding key_of
+key_spells field key e =
+    let front = bind_ok (given causes.Kind (kind_at field)) (λ front. id_of front.1 >>= λ id. Ok (record { kind = front.0; id = id })) key e in
+    let id = bind_ok (id_of front.0.1) (λ id. Ok (record { kind = front.0.0; id = id })) key front.2 in
+    let made : KeyOf = record { kind = front.0.0; id = id.0 } in
+    subst (IsKey field) (ok_is made key id.2) (record { digits = front.0.1; form = kind_at_is field front.0 (given_ok causes.Kind (kind_at field) front.0 front.1); number = id_spells front.0.1 id.0 id.1 })
 
--- fields that hold a place, and no tags
-record HoldsPlace (text : List ℕ) (place : Option PlaceOf) : Type 0 where
-  fields : List (List ℕ)
-  text_is : text ≡ spaced 32 fields
-  apart : AllLack 32 fields
-  reads : place_in fields ≡ Some place
-  no_tags : tags_in fields ≡ Some (finite.empty, fields)
+place_is : (lon lat : Option ℤ) (place : Option PlaceOf) → place_of lon lat ≡ Ok place → IsPlace lon lat place
+place_is None None place e = sym (ok_is None place e)
+place_is (Some lon) (Some lat) place e = sym (ok_is (Some (record { lon = lon; lat = lat })) place e)
+place_is None (Some lat) place e = absurd cc
+place_is (Some lon) None place e = absurd cc
 
-place_spelled : (text : List ℕ) (place : Option PlaceOf) → SpellsPlaceFields text place → HoldsPlace text place
-unfolding place_in tags_in
-place_spelled text None h = record { fields = []; text_is = h; apart = tt; reads = refl; no_tags = refl }
-place_spelled text (Some place) h =
-    record {
-      fields = (120 ∷ h.0) ∷ (121 ∷ h.1) ∷ [];
-      text_is = h.2 ∙ sym (place_layout h.0 h.1);
-      apart = (lacks-coordinate h.0 place.lon h.3, (lacks-coordinate h.1 place.lat h.4, tt));
-      reads = rw (place_of-spelled h.0 h.1 place h.3 h.4 h.5) refl;
-      no_tags = refl;
-    }
+object_is : (kind : Kind) (parts : Parts) (object : Object) → object_of kind parts ≡ Ok object → IsObject kind parts object
+object_is kinds.Node parts object e =
+    let place = bind_ok (place_of parts.lon parts.lat) (λ place. Ok (objects.Node place parts.tags)) object e in
+    (place.0, place_is parts.lon parts.lat place.0 place.1, sym (ok_is (objects.Node place.0 parts.tags) object place.2))
+object_is kinds.Way parts object e = sym (ok_is (objects.Way parts.nodes parts.tags) object e)
+object_is kinds.Relation parts object e = sym (ok_is (objects.Relation parts.members parts.tags) object e)
 
--- the tags
+deleted_is : (deleted : Bool) (object : Object) → IsObjectOf deleted object (cond deleted None (Some object))
+deleted_is true object = refl
+deleted_is false object = refl
 
-record HoldsTags (fields : List (List ℕ)) (tags : TagMap) (more : List (List ℕ)) : Type 0 where
-  own : List ℕ
-  text_is : spaced 32 fields ≡ own ++ spaced 32 more
-  spells : SpellsTagField own tags
+module _ (line : List ℕ) (counts : IsSkipped line → ⊥) (utf8 : IsUtf8 line) where
+  fields_spell : (fields : List (List ℕ)) (entry : Entry) → fields_of line ≡ fields → AllByRecursion IsUtf8 fields → entry_from fields ≡ Ok entry → Spells line entry
+  unfolding entry_from entry_of
+  fields_spell [] entry cut all e = absurd cc
+  fields_spell (first ∷ fields) entry cut all e =
+      let key = bind_ok (key_of first) (λ key. parts_of key.kind fields >>= λ parts. entry_of key parts) entry e in
+      let parts = bind_ok (parts_of key.0.kind fields) (λ parts. entry_of key.0 parts) entry key.2 in
+      let object = bind_ok (object_of key.0.kind parts.0) (λ object. Ok (record { key = key.0; object = cond parts.0.deleted None (Some object) })) entry parts.2 in
+      let k = key_spells first key.0 key.1 in
+      let said = parts_said key.0.kind fields parts.0 all.1 parts.1 in
+      let made : Entry = record { key = key.0; object = cond parts.0.deleted None (Some object.0) } in
+      subst (Spells line) (ok_is made entry object.2) (record {
+        digits = k.digits;
+        fields = said.pairs;
+        parts = parts.0;
+        object = object.0;
+        counts = counts;
+        utf8 = utf8;
+        form = cut ∙ ap (λ f. f ∷ fields) k.form ∙ ap (λ fs. (kind_byte key.0.kind ∷ k.digits) ∷ fs) said.form;
+        number = k.number;
+        say = said.say;
+        made = object_is key.0.kind parts.0 object.0 object.1;
+        is = deleted_is parts.0.deleted object.0;
+      })
 
-tags_in-some : (fields : List (List ℕ)) (tags : TagMap) (more : List (List ℕ)) → tags_in fields ≡ Some (tags, more) → HoldsTags fields tags more
-unfolding tags_in
-tags_in-some [] tags more e =
-    let same = some_is _ _ e in
-    record { own = []; text_is = ap (spaced 32) (ap (λ (pair : TagMap × List (List ℕ)). pair.1) same); spells = inl (refl, sym (ap (λ (pair : TagMap × List (List ℕ)). pair.0) same)) }
-tags_in-some (field ∷ fields) tags more e =
-    elim (behind 84 field) as (λ found. behind 84 field ≡ found
-    → elim found as (λ _. Option (TagMap × List (List ℕ))) [ Some text ↦ tags_of text >>= λ own. Some (own, fields) | None ↦ Some (finite.empty, field ∷ fields) ] ≡ Some (tags, more)
-    → HoldsTags (field ∷ fields) tags more) [
-      | Some text ↦ λ found is.
-          let p = bind_some (tags_of text) (λ (own : TagMap). let pair : TagMap × List (List ℕ) = (own, fields) in Some pair) (tags, more) is in
-          let same = some_is _ _ p.2 in
-          let rest : fields ≡ more = ap (λ (pair : TagMap × List (List ℕ)). pair.1) same in
-          let kept : p.0 ≡ tags = ap (λ (pair : TagMap × List (List ℕ)). pair.0) same in
-          record {
-            own = 32 ∷ 84 ∷ text;
-            text_is = ap (λ first. spaced 32 (first ∷ fields)) (behind-some 84 field text found) ∙ ap (λ later. 32 ∷ 84 ∷ text ++ spaced 32 later) rest;
-            spells = inr (text, refl, tags_of-some text tags (p.1 ∙ ap Some kept));
-          }
-      | None ↦ λ found is.
-          let same = some_is _ _ is in
-          record {
-            own = [];
-            text_is = ap (spaced 32) (ap (λ (pair : TagMap × List (List ℕ)). pair.1) same);
-            spells = inl (refl, sym (ap (λ (pair : TagMap × List (List ℕ)). pair.0) same));
-          }
-    ] refl e
+abbrev nothing_read : Result (Option Entry) Why
+nothing_read = Ok None
 
--- fields that hold the tags, and then others that hold none
-record BeginsWithTags (own : List ℕ) (tags : TagMap) (more : List (List ℕ)) : Type 0 where
-  fields : List (List ℕ)
-  text_is : own ++ spaced 32 more ≡ spaced 32 fields
-  apart : AllLack 32 fields
-  reads : tags_in fields ≡ Some (tags, more)
-
-tags_spelled : (own : List ℕ) (tags : TagMap) (more : List (List ℕ)) → AllLack 32 more → tags_in more ≡ Some (finite.empty, more) → SpellsTagField own tags → BeginsWithTags own tags more
-unfolding tags_in
-tags_spelled own tags more apart none h = ⊎_elim
-    (λ empty. record {
-      fields = more;
-      text_is = ap (λ front. front ++ spaced 32 more) empty.0;
-      apart = apart;
-      reads = none ∙ ap (λ (kept : TagMap). let pair : TagMap × List (List ℕ) = (kept, more) in Some pair) (sym empty.1);
-    })
-    (λ there. record {
-      fields = (84 ∷ there.0) ∷ more;
-      text_is = ap (λ front. front ++ spaced 32 more) there.1;
-      apart = (lacks-tags there.0 tags there.2, apart);
-      reads = rw (tags_of-spelled there.0 tags there.2) refl;
-    })
-    h
-
--- the whole line
-
-node_in-some : (text first : List ℕ) (fields : List (List ℕ)) (entry : Entry) → text ≡ first ++ spaced 32 fields → node_in (first ∷ fields) ≡ Some entry → Spells (110 ∷ text) entry
-unfolding node_in
-node_in-some text first fields entry is e =
-    let p = bind_some (id_of first) (λ id. tags_in fields >>= λ tagged. place_in tagged.1 >>= λ place. Some (node id tagged.0 place)) entry e in
-    let q = bind_some (tags_in fields) (λ tagged. place_in tagged.1 >>= λ place. Some (node p.0 tagged.0 place)) entry p.2 in
-    let r = bind_some (place_in q.0.1) (λ place. Some (node p.0 q.0.0 place)) entry q.2 in
-    let t = tags_in-some fields q.0.0 q.0.1 q.1 in
-    record {
-      id_text = first;
-      tags_text = t.own;
-      place_text = spaced 32 q.0.1;
-      id = p.0;
-      tags = q.0.0;
-      place = r.0;
-      line_is = ap (λ later. 110 ∷ later) (is ∙ ap (λ later. first ++ later) t.text_is ∙ sym (append_assoc first t.own (spaced 32 q.0.1)));
-      entry_is = sym (some_is _ _ r.2);
-      spells_id = id_of-some first p.0 p.1;
-      spells_tags = t.spells;
-      spells_place = place_in-some q.0.1 r.0 r.1;
-    }
-
-entry_of-some : (line : List ℕ) (entry : Entry) → entry_of line ≡ Some entry → Spells line entry
-unfolding entry_of
-entry_of-some line entry e =
-    let p = bind_some (behind 110 line) (λ text. node_in (pieces 32 text)) entry e in
-    let parts = cut_at 32 p.0 in
-    let first = pieces-cut_at 32 p.0 in
-    subst (λ all. Spells all entry) (sym (behind-some 110 line p.0 p.1))
-    (node_in-some p.0 parts.0 (later_pieces 32 parts.1) entry (text-pieces 32 p.0 parts.0 (later_pieces 32 parts.1) first) (ap node_in (sym first) ∙ p.2))
-
-node_in-spelled : (first : List ℕ) (fields more : List (List ℕ)) (id : ℕ) (tags : TagMap) (place : Option PlaceOf)
-    → id_of first ≡ Some id → tags_in fields ≡ Some (tags, more) → place_in more ≡ Some place → node_in (first ∷ fields) ≡ Some (node id tags place)
-unfolding node_in
-node_in-spelled first fields more id tags place p q r = rw (p, q, r) refl
-
-entry_of-text : (text : List ℕ) → entry_of (110 ∷ text) ≡ node_in (pieces 32 text)
-unfolding entry_of
-entry_of-text text = refl
-
-entry_of-spelled : (line : List ℕ) (entry : Entry) → Spells line entry → entry_of line ≡ Some entry
-entry_of-spelled line entry h =
-    let p = place_spelled h.place_text h.place h.spells_place in
-    let t = tags_spelled h.tags_text h.tags p.fields p.apart p.no_tags h.spells_tags in
-    let text = h.id_text ++ h.tags_text ++ h.place_text in
-    let layout : text ≡ h.id_text ++ spaced 32 t.fields =
-    append_assoc h.id_text h.tags_text h.place_text ∙ ap (λ later. h.id_text ++ (h.tags_text ++ later)) p.text_is ∙ ap (λ later. h.id_text ++ later) t.text_is in
-    ap entry_of h.line_is ∙ entry_of-text text ∙ ap (λ all. node_in (pieces 32 all)) layout
-    ∙ ap node_in (pieces-spaced 32 h.id_text t.fields (lacks-digits 32 h.id_text refl h.spells_id.digits.each) t.apart)
-    ∙ node_in-spelled h.id_text t.fields p.fields h.id h.tags h.place (id_of-spelled h.id_text h.id h.spells_id) t.reads p.reads
-    ∙ ap Some (sym h.entry_is)
-
--- skipped lines
-
-IsSkipped-test : (line : List ℕ) → is_skipped line ≡ true → IsSkipped line
-IsSkipped-test [] e = tt
-IsSkipped-test (byte ∷ bytes) e =
-    elim (byte == 35) as (λ b. (byte == 35) ≡ b → (b || byte == 99) ≡ true → (byte ≡ 35) ⊎ (byte ≡ 99)) [
-      | true ↦ λ is _. inl (eqb-true byte 35 is)
-      | false ↦ λ is other. inr (eqb-true byte 99 other)
-    ] refl e
-
-is_skipped-true : (line : List ℕ) → IsSkipped line → is_skipped line ≡ true
-is_skipped-true [] h = refl
-is_skipped-true (byte ∷ bytes) h = ⊎_elim (λ e. rw e refl) (λ e. rw e refl) h
-
-not_skipped : (line : List ℕ) (entry : Entry) → Spells line entry → is_skipped line ≡ false
-not_skipped line entry h = ap is_skipped h.line_is
-
--- what a line says
-
-pub reading-some : (line : List ℕ) (said : Option Entry) → reading line ≡ Some said → Says line said
+pub line_spells : (line : List ℕ) (entry : Entry) → reading line ≡ Ok (Some entry) → Spells line entry
 unfolding reading
-reading-some line said e =
-    elim (is_skipped line) as (λ b. is_skipped line ≡ b → cond b (Some None) (entry_of line >>= λ entry. Some (Some entry)) ≡ Some said → Says line said) [
-      | true ↦ λ skipped is. subst (Says line) (some_is _ _ is) (IsSkipped-test line skipped)
-      | false ↦ λ there is.
-          let p = bind_some (entry_of line) (λ entry. Some (Some entry)) said is in
-          subst (Says line) (some_is _ _ p.2) (entry_of-some line p.0 p.1)
-    ] refl e
+line_spells line entry e = elim (cases_Bool (is_skipped line)) [
+  | inl skipped ↦ absurd (let wrong : none_of ≡ Some entry = ok_is none_of (Some entry) (rw skipped at e) in cc)
+  | inr counts ↦ (
+      let read : (utf8_of line >>= λ text. entry_from (fields_of text) >>= λ entry. Ok (Some entry)) ≡ Ok (Some entry) = rw counts at e in
+      let text = bind_ok (utf8_of line) (λ text. entry_from (fields_of text) >>= λ entry. Ok (Some entry)) (Some entry) read in
+      let valid = chosen (is_utf8 line) causes.Utf8 line text.0 text.1 in
+      let utf8 = IsUtf8-from_is_utf8 line valid.0 in
+      let found = bind_ok (entry_from (fields_of text.0)) (λ entry. Ok (Some entry)) (Some entry) text.2 in
+      let same : found.0 ≡ entry = some_is found.0 entry (ok_is (Some found.0) (Some entry) found.2) in
+      let own : entry_from (fields_of line) ≡ Ok entry = ap (λ t. entry_from (fields_of t)) valid.1 ∙ found.1 ∙ ap (λ x. Ok x) same in
+      fields_spell line (λ s. let wrong : true ≡ false = sym s ∙ counts in cc) utf8 (fields_of line) entry refl (fields_utf8 line utf8) own)
+] where
+  none_of : Option Entry
+  none_of = None
 
-pub reading-skipped : (line : List ℕ) → IsSkipped line → reading line ≡ Some None
+-- ---- what is spelled is read
+
+key_again : (digits : List ℕ) (key : KeyOf) → SpellsId digits key.id → key_of (kind_byte key.kind ∷ digits) ≡ Ok key
+unfolding key_of
+key_again digits key s =
+    ap (λ o. given causes.Kind o >>= λ front. id_of front.1 >>= λ id. Ok (record { kind = front.0; id = id })) (kind_at_again key.kind digits)
+    ∙ ap (λ r. r >>= λ id. Ok (record { kind = key.kind; id = id })) (id_again digits key.id s)
+
+place_again : (lon lat : Option ℤ) (place : Option PlaceOf) → IsPlace lon lat place → place_of lon lat ≡ Ok place
+place_again None None place s = ap (λ p. Ok p) (sym s)
+place_again (Some lon) (Some lat) place s = ap (λ p. Ok p) (sym s)
+place_again None (Some lat) place s = absurd s
+place_again (Some lon) None place s = absurd s
+
+object_again : (kind : Kind) (parts : Parts) (object : Object) → IsObject kind parts object → object_of kind parts ≡ Ok object
+object_again kinds.Node parts object s =
+    ap (λ r. r >>= λ place. Ok (objects.Node place parts.tags)) (place_again parts.lon parts.lat s.0 s.1) ∙ ap (λ o. Ok o) (sym s.2)
+object_again kinds.Way parts object s = ap (λ o. Ok o) (sym s)
+object_again kinds.Relation parts object s = ap (λ o. Ok o) (sym s)
+
+deleted_again : (deleted : Bool) (object : Object) (found : Option Object) → IsObjectOf deleted object found → cond deleted None (Some object) ≡ found
+deleted_again true object found s = sym s
+deleted_again false object found s = sym s
+
+pub line_again : (line : List ℕ) (entry : Entry) → Spells line entry → reading line ≡ Ok (Some entry)
+unfolding reading entry_from entry_of
+line_again line entry s =
+    let counts : is_skipped line ≡ false = false_from_ne_true _ s.counts in
+    let valid : utf8_of line ≡ Ok line = ap (λ b. cond b (Ok line) (Err causes.Utf8)) (is_utf8-from_IsUtf8 line s.utf8) in
+    let key : KeyOf = entry.key in
+    let made : entry_of entry.key s.parts ≡ Ok entry
+    = ap (λ r. r >>= λ object. Ok (record { key = entry.key; object = cond s.parts.deleted None (Some object) })) (object_again entry.key.kind s.parts s.object s.made)
+    ∙ ap (λ o. Ok (record { key = entry.key; object = o })) (deleted_again s.parts.deleted s.object entry.object s.is) in
+    let own : entry_from (fields_of line) ≡ Ok entry
+    = ap entry_from s.form
+    ∙ ap (λ r. r >>= λ key. parts_of key.kind (map field_text s.fields) >>= λ parts. entry_of key parts) (key_again s.digits entry.key s.number)
+    ∙ ap (λ r. r >>= λ parts. entry_of entry.key parts) (parts_again entry.key.kind s.fields s.parts s.say)
+    ∙ made in
+    ap (λ b. cond b (Ok None) (utf8_of line >>= λ text. entry_from (fields_of text) >>= λ entry. Ok (Some entry))) counts
+    ∙ ap (λ r. r >>= λ text. entry_from (fields_of text) >>= λ entry. Ok (Some entry)) valid
+    ∙ ap (λ r. r >>= λ entry. Ok (Some entry)) own
+
+-- ---- each line has one meaning
+
+pub skipped_reads : (line : List ℕ) → IsSkipped line → reading line ≡ Ok None
 unfolding reading
-reading-skipped line h = rw (is_skipped-true line h) refl
+skipped_reads line s = ap (λ b. cond b (Ok None) (utf8_of line >>= λ text. entry_from (fields_of text) >>= λ entry. Ok (Some entry))) s
 
-pub reading-spelled : (line : List ℕ) (entry : Entry) → Spells line entry → reading line ≡ Some (Some entry)
+none_skipped : (line : List ℕ) → reading line ≡ Ok None → IsSkipped line
 unfolding reading
-reading-spelled line entry h = rw (not_skipped line entry h, entry_of-spelled line entry h) refl
+none_skipped line e = elim (cases_Bool (is_skipped line)) [
+  | inl skipped ↦ skipped
+  | inr counts ↦ (
+      let read : (utf8_of line >>= λ text. entry_from (fields_of text) >>= λ entry. Ok (Some entry)) ≡ Ok None = rw counts at e in
+      let text = bind_ok (utf8_of line) (λ text. entry_from (fields_of text) >>= λ entry. Ok (Some entry)) None read in
+      let found = bind_ok (entry_from (fields_of text.0)) (λ entry. Ok (Some entry)) None text.2 in
+      absurd (let wrong : some_of found.0 ≡ None = ok_is (some_of found.0) None found.2 in cc))
+] where
+  some_of : Entry → Option Entry
+  some_of x = Some x
 
-reading-said : (line : List ℕ) (said : Option Entry) → Says line said → reading line ≡ Some said
-reading-said line None h = reading-skipped line h
-reading-said line (Some entry) h = reading-spelled line entry h
+abbrev outcome : Result (Option Entry) Why → Result (Option Entry) Why
+outcome r = r
 
--- what was read, by an answer that gives it
+meaning : (line : List ℕ) (read : Result (Option Entry) Why) → reading line ≡ read → IsSkipped line ⊎ (((entry : Entry) × Spells line entry) ⊎ ((why : Why) × HasFault line why))
+meaning line (Ok None) e = inl (none_skipped line e)
+meaning line (Ok (Some entry)) e = inr (inl (entry, line_spells line entry e))
+meaning line (Err why) e = inr (inr (why, e))
 
-pub Gives-said : (line : List ℕ) (answer : Result (Option Entry) LineRefused) → Gives (λ read. read) answer (reading line) → IfOk answer (λ read. Says line read)
-Gives-said line (Ok read) e = reading-some line read e
-Gives-said line (Err fault) e = tt
+entry_is : (a b : Entry) → outcome (Ok (Some a)) ≡ Ok (Some b) → a ≡ b
+entry_is a b e = cc
 
-pub Gives-read : (line : List ℕ) (answer : Result (Option Entry) LineRefused) → Gives (λ read. read) answer (reading line)
-    → (said : Option Entry) → Says line said → Gives (λ read. read) answer (Some said)
-Gives-read line answer e said h = subst (Gives (λ read. read) answer) (reading-said line said h) e
+fault_is : (a b : Why) → outcome (Err a) ≡ Err b → a ≡ b
+fault_is a b e = cc
+
+no_both : (a : Option Entry) (b : Why) → outcome (Ok a) ≡ Err b → ⊥
+no_both a b e = absurd cc
+
+pub each_line : (line : List ℕ) → HasOneMeaning line
+each_line line = record {
+  some = meaning line (reading line) refl;
+  skipped_no_entry = λ entry skipped s. s.counts skipped;
+  skipped_no_fault = λ why skipped fault. no_both None why (sym (skipped_reads line skipped) ∙ fault);
+  entry_no_fault = λ entry why s fault. no_both (Some entry) why (sym (line_again line entry s) ∙ fault);
+  one_entry = λ entry other s t. entry_is entry other (sym (line_again line entry s) ∙ line_again line other t);
+  one_fault = λ why other f g. fault_is why other (sym f ∙ g);
+}

@@ -1,166 +1,212 @@
--- Tags, and how they are spelled.
-use Rattle.std.proofs.Common.{◌≡◌, ℕ, ◌==◌, true, false, cond, not, Option, Some, None, List, [], ◌∷◌, ◌++◌, length, map, refl, sym, ◌∙◌, ap, subst, append_assoc, nat_cmp, nat_lt}
-use Rattle.std.proofs.lemmas.Bool.{eqb-true}
-use Rattle.std.proofs.lemmas.List.{append-nil}
+-- Tags: what is read is spelled so, and what is spelled so is read.
+use Rattle.std.proofs.Common.{◌≡◌, ◌≢◌, ℕ, ◌<◌, true, false, cond, inl, inr, List, [], ◌∷◌, ◌++◌, length, Option, None, Some, Result, Ok, Err, refl, sym, ◌∙◌, ap, subst, arith, append_assoc, map}
+use Rattle.std.specs.List.{slice_split, join_with_byte, AllByRecursion}
 use Rattle.std.specs.Option.{is_some}
-use Rattle.std.specs.List.{AllByRecursion, list_all, join_with_byte}
-use Rattle.std.specs.Cmp.Lexicographic.{slice_cmp, nat_list_cmp_total}
+use Rattle.std.specs.Str.{IsUtf8}
+use Rattle.std.specs.Ordering.{nat_cmp, eq_by_cmp}
+use Rattle.std.specs.Cmp.Lexicographic.{slice_cmp, texts_ties, nat_list_cmp_total}
 use Rattle.std.specs.FinMap as finite
 use Rattle.std.specs.FinMap.{nat_cmp-IsAntisymmetric, slice_cmp-IsAntisymmetric}
+use Rattle.std.proofs.lemmas.Bool.{cases_Bool, eqb-true, false_from_ne_true}
+use Rattle.std.proofs.lemmas.List.{append-nil, length-append}
+use Rattle.std.proofs.lemmas.List.Splits.{join_with_byte-slice_split}
+use Rattle.std.proofs.lemmas.Slice.Eq.{bytes_eq-Decides}
 use Rattle.osm_base.specs.Tags.{TagMap}
-use Rattle.opl_object.specs.Pieces.{cut_at, pieces, later_pieces}
-use Rattle.opl_object.specs.Numbers.{◌>>=◌}
-use Rattle.opl_object.specs.Words.{is_word_byte, is_word, word_of, pair_of, with_pair, with_pairs, tags_of}
-use Rattle.opl_object.specs.Spells.{pair_text, IsPlainPair, KeysDiffer, SpellsTags}
-use Rattle.opl_object.proofs.Cuts.{pieces-cut_at}
-use Rattle.opl_object.proofs.Steps.{bind_some, some_is, chosen, refused, right, both, list_all-weaker}
-use Rattle.opl_object.proofs.Joined.{lacks, AllLack, lacks-append, spaced, pieces-spaced, text-pieces, join_with_byte-cons, cut_at-parts, cut_at-append}
+use Rattle.opl_object.specs.declared.why.Why.{Why}
+use Rattle.opl_object.specs.declared.why.Why.TheVariants as causes
+use Rattle.opl_object.specs.Fields.{is, is_empty, cut_at}
+use Rattle.opl_object.specs.Spelling.{AreDistinct, SpellEach, SpellsList, SpellsTag, SpellsTags}
+use Rattle.opl_object.specs.Tags.{with_tag, with_pair, with_piece, tags_of}
+use Rattle.opl_object.specs.Text.{text_of}
+use Rattle.opl_object.specs.Why.{◌>>=◌, each_piece}
+use Rattle.opl_object.proofs.Cuts.{IsAsciiTest}
+use Rattle.opl_object.proofs.SpelledLists.{nil_is, utf8_sides, list_pieces}
+use Rattle.opl_object.proofs.SpelledNumbers.{cut_some, cut_cases}
+use Rattle.opl_object.proofs.SpelledTexts.{IsFree, free_append, split_pieces, split_utf8, text_spells, text_again, text_free}
+use Rattle.opl_object.proofs.Steps.{bind_ok, ok_is}
 
--- a pair of texts
-abbrev Pair : Type 0
-Pair = List ℕ × List ℕ
+abbrev Tag : Type 0
+Tag = List ℕ × List ℕ
 
--- words have no separator in them
+-- ---- keys
 
-word_byte_is_not : (c byte : ℕ) → is_word_byte c ≡ false → is_word_byte byte ≡ true → not (byte == c) ≡ true
-word_byte_is_not c byte e d = elim (byte == c) as (λ b. (byte == c) ≡ b → not b ≡ true) [
-  | true ↦ λ same. absurd (let here : is_word_byte c ≡ true = subst (λ x. is_word_byte x ≡ true) (eqb-true byte c same) d in cc)
-  | false ↦ λ same. refl
-] refl
+same_key : (a b : List ℕ) → eq_by_cmp (slice_cmp nat_cmp) a b ≡ true → a ≡ b
+same_key a b e = (bytes_eq-Decides a b).0 (texts_ties a b ∙ e)
 
-pub lacks-word : (c : ℕ) (text : List ℕ) → is_word_byte c ≡ false → is_word text ≡ true → lacks c text ≡ true
-lacks-word c text e h = list_all-weaker is_word_byte (λ b. not (b == c)) (λ byte d. word_byte_is_not c byte e d) text (right (nat_lt 0 (length text)) (list_all is_word_byte text) h)
+key_itself : (a : List ℕ) → eq_by_cmp (slice_cmp nat_cmp) a a ≡ true
+key_itself a = sym (texts_ties a a) ∙ (bytes_eq-Decides a a).1 refl
 
-lacks-pair : (c : ℕ) (pair : Pair) → is_word_byte c ≡ false → not (61 == c) ≡ true → IsPlainPair pair → lacks c (pair_text pair) ≡ true
-lacks-pair c pair e f h =
-    lacks-append c pair.0 (61 ∷ pair.1) (lacks-word c pair.0 e h.0) (both (not (61 == c)) (lacks c pair.1) f (lacks-word c pair.1 e h.1))
+-- no tag has the key
+abbrev IsNew : TagMap → List ℕ → Type 0
+IsNew tags key = finite.get tags key ≡ None
 
-AllLack-pairs : (c : ℕ) (pairs : List Pair) → is_word_byte c ≡ false → not (61 == c) ≡ true → AllByRecursion IsPlainPair pairs → AllLack c (map pair_text pairs)
-AllLack-pairs c [] e f h = tt
-AllLack-pairs c (pair ∷ pairs) e f h = (lacks-pair c pair e f h.0, AllLack-pairs c pairs e f h.1)
+new_again : (tags : TagMap) (key value other : List ℕ) → key ≢ other → IsNew tags other → IsNew (finite.insert tags key value) other
+new_again tags key value other apart new =
+    let differs : eq_by_cmp (slice_cmp nat_cmp) other key ≡ false = false_from_ne_true _ (λ e. apart (sym (same_key other key e))) in
+    finite.get-insert nat_list_cmp_total tags key value other ∙ rw differs new
 
--- one pair
+new_before : (tags : TagMap) (key value other : List ℕ) → IsNew (finite.insert tags key value) other → (key ≢ other) × IsNew tags other
+new_before tags key value other new =
+    let read : cond (eq_by_cmp (slice_cmp nat_cmp) other key) (Some value) (finite.get tags other) ≡ None = sym (finite.get-insert nat_list_cmp_total tags key value other) ∙ new in
+    let differs : eq_by_cmp (slice_cmp nat_cmp) other key ≡ false = false_from_ne_true _ (λ e. let wrong : Some value ≡ None = rw e at read in cc) in (
+      λ same. let again : eq_by_cmp (slice_cmp nat_cmp) other key ≡ true = ap (λ k. eq_by_cmp (slice_cmp nat_cmp) other k) same ∙ key_itself other in let wrong : true ≡ false = sym again ∙ differs in cc,
+      rw differs at read,
+    )
 
-word_of-some : (text word : List ℕ) → word_of text ≡ Some word → (is_word text ≡ true) × (text ≡ word)
-unfolding word_of
-word_of-some text word e = chosen (is_word text) text word e
+-- ---- one tag
 
-word_of-word : (text : List ℕ) → is_word text ≡ true → word_of text ≡ Some text
-unfolding word_of
-word_of-word text e = rw e refl
+pub record Adds (tags : TagMap) (piece : List ℕ) (next : TagMap) : Type 0 where
+  pub tag : List ℕ × List ℕ
+  pub spelled : SpellsTag piece tag
+  pub new : finite.get tags tag.0 ≡ None
+  pub is : next ≡ finite.insert tags tag.0 tag.1
 
-pair_of-some : (text : List ℕ) (parts : List ℕ × Option (List ℕ)) (pair : Pair) → cut_at 61 text ≡ parts → pair_of parts ≡ Some pair → IsPlainPair pair × (text ≡ pair_text pair)
-unfolding pair_of
-pair_of-some text (key, None) pair is e = absurd (cc)
-pair_of-some text (key, Some value) pair is e =
-    let made = λ (own its : List ℕ). let own_pair : Pair = (own, its) in own_pair in
-    let p = bind_some (word_of key) (λ own. word_of value >>= λ its. Some (made own its)) pair e in
-    let q = bind_some (word_of value) (λ its. Some (made p.0 its)) pair p.2 in
-    let k = word_of-some key p.0 p.1 in
-    let v = word_of-some value q.0 q.1 in
-    let same : made key value ≡ pair = ap (λ own. made own value) k.1 ∙ ap (made p.0) v.1 ∙ some_is _ _ q.2 in
-    (subst IsPlainPair same (k.0, v.0), cut_at-parts 61 text key value is ∙ ap pair_text same)
+not_some : {A : Type 0} (o : Option A) → is_some o ≡ false → o ≡ None
+not_some None e = refl
+not_some (Some x) e = absurd cc
 
-pair_of-spelled : (pair : Pair) → IsPlainPair pair → pair_of (cut_at 61 (pair_text pair)) ≡ Some pair
-unfolding pair_of
-pair_of-spelled pair h = rw (cut_at-append 61 pair.0 pair.1 (lacks-word 61 pair.0 refl h.0), word_of-word pair.0 h.0, word_of-word pair.1 h.1) refl
+tag_added : (tags : TagMap) (key value : List ℕ) (next : TagMap) → with_tag tags key value ≡ Ok next → (finite.get tags key ≡ None) × (next ≡ finite.insert tags key value)
+tag_added tags key value next e = elim (cases_Bool (is_some (finite.get tags key))) [
+  | inl there ↦ absurd (let wrong : refused ≡ Ok next = rw there at e in cc)
+  | inr absent ↦ (not_some _ absent, sym (ok_is (finite.insert tags key value) next (rw absent at e)))
+] where
+  refused : Result TagMap Why
+  refused = Err causes.RepeatedKey
 
--- pairs one after another
+piece_adds : (tags : TagMap) (piece : List ℕ) (next : TagMap) → IsUtf8 piece → with_piece tags piece ≡ Ok next → Adds tags piece next
+unfolding with_piece
+piece_adds tags piece next utf8 e = elim (cut_cases 61 piece) [
+  | inl whole ↦ absurd (let wrong : with_pair tags (piece, None) ≡ Ok next = ap (with_pair tags) (sym whole) ∙ e in cc)
+  | inr cut ↦ (
+      let read : (text_of cut.0 >>= λ key. text_of cut.1 >>= λ value. with_tag tags key value) ≡ Ok next = ap (with_pair tags) (sym cut.2.is) ∙ e in
+      let key = bind_ok (text_of cut.0) (λ key. text_of cut.1 >>= λ value. with_tag tags key value) next read in
+      let value = bind_ok (text_of cut.1) (λ value. with_tag tags key.0 value) next key.2 in
+      let sides = utf8_sides cut.0 cut.1 61 (omega arith) (subst IsUtf8 cut.2.form utf8) in
+      let added = tag_added tags key.0 value.0 next value.2 in
+      record {
+        tag = (key.0, value.0);
+        spelled = record { key = cut.0; value = cut.1; form = cut.2.form; key_text = text_spells cut.0 key.0 sides.0 key.1; value_text = text_spells cut.1 value.0 sides.1 value.1 };
+        new = added.0;
+        is = added.1;
+      })
+]
 
-none_of : {A : Type 0} (o : Option A) → is_some o ≡ false → o ≡ None
-none_of None e = refl
-none_of (Some x) e = absurd (cc)
+piece_again : (tags : TagMap) (piece : List ℕ) (tag : Tag) → SpellsTag piece tag → IsNew tags tag.0 → with_piece tags piece ≡ Ok (finite.insert tags tag.0 tag.1)
+unfolding with_piece
+piece_again tags piece tag s new =
+    let absent : is_some (finite.get tags tag.0) ≡ false = ap is_some new in
+    ap (λ t. with_pair tags (cut_at (is 61) t)) s.form
+    ∙ ap (with_pair tags) (cut_some 61 s.key s.value (text_free 61 s.key tag.0 refl refl refl s.key_text))
+    ∙ ap (λ r. r >>= λ key. text_of s.value >>= λ value. with_tag tags key value) (text_again s.key tag.0 s.key_text)
+    ∙ ap (λ r. r >>= λ value. with_tag tags tag.0 value) (text_again s.value tag.1 s.value_text)
+    ∙ ap (λ b. cond b (Err causes.RepeatedKey) (Ok (finite.insert tags tag.0 tag.1))) absent
 
-grown : (before : List Pair) (pair : Pair) → finite.find (slice_cmp nat_cmp) pair.0 before ≡ None
-    → finite.from_entries (before ++ pair ∷ []) ≡ finite.insert {R = slice_cmp nat_cmp} (finite.from_entries before) pair.0 pair.1
-grown before pair e = finite.from_entries_push nat_list_cmp_total (slice_cmp-IsAntisymmetric nat_cmp-IsAntisymmetric) before pair.0 pair.1 e
+-- ---- all tags
 
-absent : (before : List Pair) (key : List ℕ) → finite.get {R = slice_cmp nat_cmp} (finite.from_entries before) key ≡ finite.find (slice_cmp nat_cmp) key before
-absent before key = finite.get-from_entries nat_list_cmp_total before key
+abbrev inserted : TagMap → List Tag → TagMap
+inserted tags [] = tags
+inserted tags (tag ∷ pairs) = inserted (finite.insert tags tag.0 tag.1) pairs
 
-with_pair-some : (before : List Pair) (text : List ℕ) (more : TagMap) → with_pair (finite.from_entries before) text ≡ Some more
-    → (pair : Pair) × IsPlainPair pair × (finite.find (slice_cmp nat_cmp) pair.0 before ≡ None) × (text ≡ pair_text pair) × (more ≡ finite.from_entries (before ++ pair ∷ []))
-unfolding with_pair
-with_pair-some before text more e =
-    let tags : TagMap = finite.from_entries before in
-    let p = bind_some (pair_of (cut_at 61 text)) (λ pair. cond (finite.contains_key tags pair.0) None (Some (finite.insert tags pair.0 pair.1))) more e in
-    let q = refused (finite.contains_key tags p.0.0) (finite.insert tags p.0.0 p.0.1) more p.2 in
-    let r = pair_of-some text (cut_at 61 text) p.0 refl p.1 in
-    let none = sym (absent before p.0.0) ∙ none_of (finite.get tags p.0.0) q.0 in
-    (p.0, r.0, none, r.1, sym q.1 ∙ sym (grown before p.0 none))
+abbrev AllNew : TagMap → List Tag → Type 0
+AllNew tags pairs = AllByRecursion (λ key. finite.get tags key ≡ None) (map (λ pair. pair.0) pairs)
 
-with_pair-spelled : (before : List Pair) (pair : Pair) → IsPlainPair pair → finite.find (slice_cmp nat_cmp) pair.0 before ≡ None
-    → with_pair (finite.from_entries before) (pair_text pair) ≡ Some (finite.from_entries (before ++ pair ∷ []))
-unfolding with_pair
-with_pair-spelled before pair h none =
-    let gone : is_some (finite.get {R = slice_cmp nat_cmp} (finite.from_entries before) pair.0) ≡ false = ap is_some (absent before pair.0 ∙ none) in
-    rw (pair_of-spelled pair h, gone) (ap Some (sym (grown before pair none)))
+record Added (tags : TagMap) (pieces : List (List ℕ)) (last : TagMap) : Type 0 where
+  pub pairs : List (List ℕ × List ℕ)
+  pub spelled : SpellEach SpellsTag pieces pairs
+  pub new : AllNew tags pairs
+  pub distinct : AreDistinct (map (λ pair. pair.0) pairs)
+  pub is : last ≡ inserted tags pairs
 
-with_pairs-some : (before : List Pair) (texts : List (List ℕ)) (tags : TagMap) → with_pairs (finite.from_entries before) texts ≡ Some tags
-    → (pairs : List Pair) × AllByRecursion IsPlainPair pairs × KeysDiffer before pairs × (texts ≡ map pair_text pairs) × (tags ≡ finite.from_entries (before ++ pairs))
-unfolding with_pairs
-with_pairs-some before [] tags e = ([], tt, tt, refl, sym (some_is _ _ e) ∙ ap finite.from_entries (sym (append-nil before)))
-with_pairs-some before (text ∷ texts) tags e =
-    let p = bind_some (with_pair (finite.from_entries before) text) (λ more. with_pairs more texts) tags e in
-    let q = with_pair-some before text p.0 p.1 in
-    let r = with_pairs-some (before ++ q.0 ∷ []) texts tags (subst (λ more. with_pairs more texts ≡ Some tags) q.4 p.2) in
-    (q.0 ∷ r.0, (q.1, r.1), (q.2, r.2), ap (λ first. first ∷ texts) q.3 ∙ ap (λ later. pair_text q.0 ∷ later) r.3, r.4 ∙ ap finite.from_entries (append_assoc before (q.0 ∷ []) r.0))
+all_before : (tags : TagMap) (key value : List ℕ) (keys : List (List ℕ)) → AllByRecursion (λ other. finite.get (finite.insert tags key value) other ≡ None) keys
+    → AllByRecursion (λ other. key ≢ other) keys × AllByRecursion (λ other. finite.get tags other ≡ None) keys
+all_before tags key value [] h = (tt, tt)
+all_before tags key value (other ∷ keys) h =
+    let here = new_before tags key value other h.0 in
+    let rest = all_before tags key value keys h.1 in
+    ((here.0, rest.0), (here.1, rest.1))
 
-with_pairs-spelled : (before pairs : List Pair) → AllByRecursion IsPlainPair pairs → KeysDiffer before pairs
-    → with_pairs (finite.from_entries before) (map pair_text pairs) ≡ Some (finite.from_entries (before ++ pairs))
-unfolding with_pairs
-with_pairs-spelled before [] h d = ap (λ all. Some (finite.from_entries {R = slice_cmp nat_cmp} all)) (sym (append-nil before))
-with_pairs-spelled before (pair ∷ pairs) h d =
-    rw (with_pair-spelled before pair h.0 d.0) (with_pairs-spelled (before ++ pair ∷ []) pairs h.1 d.1)
-    ∙ ap (λ all. Some (finite.from_entries {R = slice_cmp nat_cmp} all)) (append_assoc before (pair ∷ []) pairs)
+all_again : (tags : TagMap) (key value : List ℕ) (keys : List (List ℕ)) → AllByRecursion (λ other. key ≢ other) keys → AllByRecursion (λ other. finite.get tags other ≡ None) keys
+    → AllByRecursion (λ other. finite.get (finite.insert tags key value) other ≡ None) keys
+all_again tags key value [] apart new = tt
+all_again tags key value (other ∷ keys) apart new = (new_again tags key value other apart.0 new.0, all_again tags key value keys apart.1 new.1)
 
--- all of them
+pieces_add : (tags : TagMap) (pieces : List (List ℕ)) (last : TagMap) → AllByRecursion IsUtf8 pieces → each_piece with_piece tags pieces ≡ Ok last → Added tags pieces last
+unfolding each_piece
+pieces_add tags [] last utf8 e = record { pairs = []; spelled = tt; new = tt; distinct = tt; is = sym (ok_is tags last e) }
+pieces_add tags (piece ∷ pieces) last utf8 e =
+    let next = bind_ok (with_piece tags piece) (λ tags. each_piece with_piece tags pieces) last e in
+    let one = piece_adds tags piece next.0 utf8.0 next.1 in
+    let rest = pieces_add (finite.insert tags one.tag.0 one.tag.1) pieces last utf8.1 (ap (λ t. each_piece with_piece t pieces) (sym one.is) ∙ next.2) in
+    let before = all_before tags one.tag.0 one.tag.1 (map (λ pair. pair.0) rest.pairs) rest.new in
+    record {
+      pairs = one.tag ∷ rest.pairs;
+      spelled = (one.spelled, rest.spelled);
+      new = (one.new, before.1);
+      distinct = (before.0, rest.distinct);
+      is = rest.is;
+    }
 
-pub tags_of-some : (text : List ℕ) (tags : TagMap) → tags_of text ≡ Some tags → SpellsTags text tags
+pieces_again : (tags : TagMap) (pieces : List (List ℕ)) (pairs : List Tag) → SpellEach SpellsTag pieces pairs → AllNew tags pairs → AreDistinct (map (λ pair. pair.0) pairs)
+    → each_piece with_piece tags pieces ≡ Ok (inserted tags pairs)
+unfolding each_piece
+pieces_again tags [] [] s new distinct = refl
+pieces_again tags [] (pair ∷ pairs) s new distinct = absurd s
+pieces_again tags (piece ∷ pieces) [] s new distinct = absurd s
+pieces_again tags (piece ∷ pieces) (pair ∷ pairs) s new distinct =
+    ap (λ r. r >>= λ tags. each_piece with_piece tags pieces) (piece_again tags piece pair s.0 new.0)
+    ∙ pieces_again (finite.insert tags pair.0 pair.1) pieces pairs s.1 (all_again tags pair.0 pair.1 (map (λ pair. pair.0) pairs) distinct.0 new.1) distinct.1
+
+-- adding tags one by one makes the map of them all
+inserted-entries : (front pairs : List Tag) → AllNew (finite.from_entries front) pairs → AreDistinct (map (λ pair. pair.0) pairs) → inserted (finite.from_entries front) pairs ≡ finite.from_entries (front ++ pairs)
+inserted-entries front [] new distinct = ap finite.from_entries (sym (append-nil front))
+inserted-entries front (pair ∷ pairs) new distinct =
+    let absent = sym (finite.get-from_entries nat_list_cmp_total front pair.0) ∙ new.0 in
+    let push : finite.from_entries (front ++ pair ∷ []) ≡ finite.insert (finite.from_entries front) pair.0 pair.1
+    = finite.from_entries_push nat_list_cmp_total (slice_cmp-IsAntisymmetric nat_cmp-IsAntisymmetric) front pair.0 pair.1 absent in
+    let later = all_again (finite.from_entries front) pair.0 pair.1 (map (λ pair. pair.0) pairs) distinct.0 new.1 in
+    ap (λ t. inserted t pairs) (sym push)
+    ∙ inserted-entries (front ++ pair ∷ []) pairs (subst (λ t. AllNew t pairs) (sym push) later) distinct.1
+    ∙ ap finite.from_entries (append_assoc front (pair ∷ []) pairs)
+
+empty_new : (keys : List (List ℕ)) → AllByRecursion (λ other. finite.get {X = List ℕ} {R = slice_cmp nat_cmp} finite.empty other ≡ None) keys
+empty_new [] = tt
+empty_new (key ∷ keys) = (finite.get-empty (slice_cmp nat_cmp) key, empty_new keys)
+
+comma-ascii : IsAsciiTest (is 44)
+comma-ascii byte passes = omega (arith, eqb-true byte 44 passes)
+
+pub tags_spell : (text : List ℕ) (tags : TagMap) → IsUtf8 text → tags_of text ≡ Ok tags → SpellsTags text tags
 unfolding tags_of
-tags_of-some [] tags e = ([], tt, tt, refl, sym (some_is _ _ e))
-tags_of-some (byte ∷ bytes) tags e =
-    let p = with_pairs-some [] (pieces 44 (byte ∷ bytes)) tags e in
-    let parts = cut_at 44 (byte ∷ bytes) in
-    let first = pieces-cut_at 44 (byte ∷ bytes) in
-    let joined = text-pieces 44 (byte ∷ bytes) parts.0 (later_pieces 44 parts.1) first ∙ sym (join_with_byte-cons 44 parts.0 (later_pieces 44 parts.1)) in
-    (p.0, p.1, p.2, joined ∙ ap (join_with_byte 44) (sym first ∙ p.3), p.4)
+tags_spell text tags utf8 e = elim (cases_Bool (is_empty text)) [
+  | inl none ↦ record { pairs = []; list = inl (nil_is text none, refl); distinct = tt; is = sym (ok_is finite.empty tags (rw none at e)) }
+  | inr some ↦ (
+      let read : each_piece with_piece finite.empty (slice_split (is 44) text) ≡ Ok tags = rw some at e in
+      let found = pieces_add finite.empty (slice_split (is 44) text) tags (split_utf8 (is 44) text comma-ascii utf8) read in
+      let p = split_pieces (is 44) text in
+      record {
+        pairs = found.pairs;
+        list = inr (p.0, p.1, sym (join_with_byte-slice_split 44 text) ∙ ap (join_with_byte 44) p.2, subst (λ pieces. SpellEach SpellsTag pieces found.pairs) p.2 found.spelled);
+        distinct = found.distinct;
+        is = found.is ∙ inserted-entries [] found.pairs found.new found.distinct;
+      })
+]
 
-tags_of-bytes : (text : List ℕ) (byte : ℕ) (bytes : List ℕ) → text ≡ byte ∷ bytes → tags_of text ≡ with_pairs finite.empty (pieces 44 text)
+tag_stands : (piece : List ℕ) (tag : Tag) → SpellsTag piece tag → IsFree (is 44) piece × (0 < length piece)
+tag_stands piece tag s = (
+  subst (IsFree (is 44)) (sym s.form) (free_append (is 44) s.key (61 ∷ s.value) (text_free 44 s.key tag.0 refl refl refl s.key_text) (refl, text_free 44 s.value tag.1 refl refl refl s.value_text)),
+  subst (λ t. 0 < length t) (sym s.form) (omega (arith, length-append s.key (61 ∷ s.value))),
+)
+
+listed : (text : List ℕ) (pairs : List Tag) → SpellsList SpellsTag text pairs → AreDistinct (map (λ pair. pair.0) pairs) → tags_of text ≡ Ok (finite.from_entries pairs)
 unfolding tags_of
-tags_of-bytes text byte bytes e = rw e refl
+listed text pairs (inl none) distinct =
+    ap (λ t. cond (is_empty t) (Ok finite.empty) (each_piece with_piece finite.empty (slice_split (is 44) t))) none.0 ∙ ap (λ p. Ok (finite.from_entries p)) (sym none.1)
+listed text pairs (inr some) distinct =
+    let parts = list_pieces SpellsTag reads tag_stands some.0 some.1 pairs text some.2 some.3 in
+    let new = empty_new (map (λ pair. pair.0) pairs) in
+    rw (parts.0, parts.1) (pieces_again finite.empty (some.0 ∷ some.1) pairs some.3 new distinct ∙ ap (λ t. Ok t) (inserted-entries [] pairs new distinct)) where
+      reads : List ℕ → Result Tag Why
+      reads piece = Err causes.Tag
 
--- a pair is never empty
-pair_first : (pair : Pair) (rest : List ℕ) → (byte : ℕ) × (bytes : List ℕ) × (pair_text pair ++ rest ≡ byte ∷ bytes)
-pair_first ([], value) rest = (61, value ++ rest, refl)
-pair_first (byte ∷ bytes, value) rest = (byte, (bytes ++ 61 ∷ value) ++ rest, refl)
-
-tags_of-pairs : (pairs : List Pair) → AllByRecursion IsPlainPair pairs → KeysDiffer [] pairs → tags_of (join_with_byte 44 (map pair_text pairs)) ≡ Some (finite.from_entries pairs)
-unfolding tags_of
-tags_of-pairs [] h d = refl
-tags_of-pairs (pair ∷ pairs) h d =
-    let text = join_with_byte 44 (map pair_text (pair ∷ pairs)) in
-    let apart : text ≡ pair_text pair ++ spaced 44 (map pair_text pairs) = join_with_byte-cons 44 (pair_text pair) (map pair_text pairs) in
-    let p = pair_first pair (spaced 44 (map pair_text pairs)) in
-    let lack = AllLack-pairs 44 (pair ∷ pairs) refl refl h in
-    tags_of-bytes text p.0 p.1 (apart ∙ p.2)
-    ∙ ap (λ all. with_pairs finite.empty (pieces 44 all)) apart
-    ∙ ap (with_pairs finite.empty) (pieces-spaced 44 (pair_text pair) (map pair_text pairs) lack.0 lack.1)
-    ∙ with_pairs-spelled [] (pair ∷ pairs) h d
-
-pub tags_of-spelled : (text : List ℕ) (tags : TagMap) → SpellsTags text tags → tags_of text ≡ Some tags
-tags_of-spelled text tags h = ap tags_of h.3 ∙ tags_of-pairs h.0 h.1 h.2 ∙ ap Some (sym h.4)
-
--- no separator of fields stands in them
-
-lacks_spaced : (c : ℕ) (texts : List (List ℕ)) → not (44 == c) ≡ true → AllLack c texts → lacks c (spaced 44 texts) ≡ true
-lacks_spaced c [] e h = refl
-lacks_spaced c (text ∷ texts) e h = both (not (44 == c)) (lacks c (text ++ spaced 44 texts)) e (lacks-append c text (spaced 44 texts) h.0 (lacks_spaced c texts e h.1))
-
-lacks_joined : (texts : List (List ℕ)) → AllLack 32 texts → lacks 32 (join_with_byte 44 texts) ≡ true
-lacks_joined [] h = refl
-lacks_joined (text ∷ texts) h =
-    ap (lacks 32) (join_with_byte-cons 44 text texts) ∙ lacks-append 32 text (spaced 44 texts) h.0 (lacks_spaced 32 texts refl h.1)
-
-pub lacks-tags : (text : List ℕ) (tags : TagMap) → SpellsTags text tags → lacks 32 text ≡ true
-lacks-tags text tags h = ap (lacks 32) h.3 ∙ lacks_joined (map pair_text h.0) (AllLack-pairs 32 h.0 refl refl h.1)
+pub tags_again : (text : List ℕ) (tags : TagMap) → SpellsTags text tags → tags_of text ≡ Ok tags
+tags_again text tags s = listed text s.pairs s.list s.distinct ∙ ap (λ t. Ok t) (sym s.is)

@@ -1,96 +1,105 @@
--- What a plain line is, apart from how it is read: its fields, each the spelling of a value.
--- osmium manual, "OPL File Format": a line begins with the letter of its kind and the id; fields are separated by a
--- space and begin with their letter; tags are `key=value` with commas between them; coordinates are in degrees.
-use Rattle.std.specs.Prelude.{◌≡◌, ℕ, ℤ, pos, neg_ℤ, ◌+◌, ◌-◌, ◌*◌, ◌^◌, ◌<◌, ◌≤◌, ◌⊎◌, true, List, [], ◌∷◌, ◌++◌, length, map, codes, Option, Some, None}
-use Rattle.std.specs.List.{AllByRecursion, list_all, join_with_byte}
-use Rattle.std.specs.Ordering.{nat_cmp}
-use Rattle.std.specs.Cmp.Lexicographic.{slice_cmp}
-use Rattle.std.specs.Char.{is_ascii_digit}
-use Rattle.std.specs.Str.Parse.{digits_value}
+-- Which lines spell which entry, apart from how they are read.
+-- osmium "OPL File Format": each line contains one object; its fields stand in any order behind the first.
+use Rattle.std.specs.Prelude.{◌≡◌, ◌≢◌, ℕ, ℤ, Bool, true, false, IsTrue, List, [], ◌∷◌, Option, None, Some, map, nat_abs}
 use Rattle.std.specs.FinMap as finite
-use Rattle.osm_base.specs.Key.{IsId}
-use Rattle.osm_base.specs.Place.{PlaceOf, IsOnEarth}
-use Rattle.osm_base.specs.Tags.{TagMap}
+use Rattle.std.specs.List.{AllByRecursion}
+use Rattle.std.specs.Str.{IsUtf8}
+use Rattle.osm_base.specs.declared.key.Kind.{Kind}
+use Rattle.osm_base.specs.declared.key.Kind.TheVariants as kinds
 use Rattle.osm_base.specs.declared.object.Entry.{Entry}
-use Rattle.opl_object.specs.Words.{is_word}
-use Rattle.opl_object.specs.Reading.{node}
+use Rattle.osm_base.specs.declared.object.Object.{Object}
+use Rattle.osm_base.specs.declared.object.Object.TheVariants as objects
+use Rattle.osm_base.specs.declared.place.TheConstants.{MAX_LON, MAX_LAT}
+use Rattle.osm_base.specs.Place.{PlaceOf}
+use Rattle.opl_object.specs.declared.letter.Letter.{Letter}
+use Rattle.opl_object.specs.declared.letter.Letter.TheVariants.{Version, Visible, Changeset, Time, UserId, User, Tags, Lon, Lat, Nodes, Members}
+use Rattle.opl_object.specs.declared.parts.Parts.{Parts}
+use Rattle.opl_object.specs.Fields.{fields_of}
+use Rattle.opl_object.specs.Letter.{byte_of}
+use Rattle.opl_object.specs.Line.{IsSkipped}
+use Rattle.opl_object.specs.Number.{is_whole, is_time}
+use Rattle.opl_object.specs.Spelling.{AreDistinct, SpellsText, SpellsId, SpellsCoordinate, SpellsTags, SpellsList, SpellsNode, SpellsMember, kind_byte}
 
--- an empty line, or one that begins with `#` or `c`
-abbrev pub IsSkipped : List ℕ → Type 0
-IsSkipped [] = Unit {0}
-IsSkipped (byte ∷ bytes) = (byte ≡ 35) ⊎ (byte ≡ 99)
+-- a letter that lines of this kind have
+abbrev pub Belongs : Kind → Letter → Type 0
+Belongs kind Lon = kind ≡ kinds.Node
+Belongs kind Lat = kind ≡ kinds.Node
+Belongs kind Nodes = kind ≡ kinds.Way
+Belongs kind Members = kind ≡ kinds.Relation
+Belongs kind _ = Unit {0}
 
--- from one to `most` digits
-pub record IsDigits (most : ℕ) (text : List ℕ) : Type 0 where
-  pub some : 0 < length text
-  pub few : length text ≤ most
-  pub each : list_all is_ascii_digit text ≡ true
+-- nothing, or a coordinate
+abbrev pub SpellsDegrees : ℕ → List ℕ → Option ℤ → Type 0
+SpellsDegrees greatest text None = text ≡ []
+SpellsDegrees greatest text (Some value) = SpellsCoordinate greatest text value
 
--- an id: up to nineteen digits, from 1 to the greatest id
-pub record SpellsId (text : List ℕ) (id : ℕ) : Type 0 where
-  pub digits : IsDigits 19 text
-  pub value : digits_value 10 text ≡ id
-  pub range : IsId id
+-- V for an object that is there, D for one that is deleted
+abbrev pub SpellsVisible : List ℕ → Bool → Type 0
+SpellsVisible text false = text ≡ 86 ∷ []
+SpellsVisible text true = text ≡ 68 ∷ []
 
--- a size in units of 1e-7 degree: up to three digits of degrees, and up to seven decimals behind a point
-abbrev pub SpellsSize : List ℕ → ℕ → Type 0
-SpellsSize text size =
-    (IsDigits 3 text × (size ≡ digits_value 10 text * 10 ^ 7))
-    ⊎ ((whole : List ℕ) × (decimals : List ℕ) × IsDigits 3 whole × IsDigits 7 decimals × (text ≡ whole ++ 46 ∷ decimals)
-    × (size ≡ digits_value 10 whole * 10 ^ 7 + digits_value 10 decimals * 10 ^ (7 - length decimals)))
+-- the value of a letter is in its form, and these parts have what it says
+abbrev pub Says : Letter → List ℕ → Parts → Type 0
+Says Version value parts = IsTrue (is_whole value)
+Says Visible value parts = SpellsVisible value parts.deleted
+Says Changeset value parts = IsTrue (is_whole value)
+Says Time value parts = IsTrue (is_time value)
+Says UserId value parts = IsTrue (is_whole value)
+Says User value parts = (name : List ℕ) × SpellsText value name
+Says Tags value parts = SpellsTags value parts.tags
+Says Lon value parts = SpellsDegrees (nat_abs MAX_LON) value parts.lon
+Says Lat value parts = SpellsDegrees (nat_abs MAX_LAT) value parts.lat
+Says Nodes value parts = SpellsList SpellsNode value parts.nodes
+Says Members value parts = SpellsList SpellsMember value parts.members
 
--- a coordinate in units of 1e-7 degree: a size, or `-` and a size
-abbrev pub SpellsCoordinate : List ℕ → ℤ → Type 0
-SpellsCoordinate text units =
-    ((size : ℕ) × SpellsSize text size × (units ≡ pos size))
-    ⊎ ((rest : List ℕ) × (size : ℕ) × (text ≡ 45 ∷ rest) × SpellsSize rest size × (units ≡ neg_ℤ (pos size)))
+-- these parts have what a line says that lacks the letter
+abbrev pub Lacks : Letter → Parts → Type 0
+Lacks Visible parts = parts.deleted ≡ false
+Lacks Tags parts = parts.tags ≡ finite.empty
+Lacks Lon parts = parts.lon ≡ None
+Lacks Lat parts = parts.lat ≡ None
+Lacks Nodes parts = parts.nodes ≡ []
+Lacks Members parts = parts.members ≡ []
+Lacks _ parts = Unit {0}
 
--- a key, `=` and a value
-abbrev pub pair_text : List ℕ × List ℕ → List ℕ
-pair_text pair = pair.0 ++ 61 ∷ pair.1
+-- a letter and its value as a field
+abbrev pub field_text : Letter × List ℕ → List ℕ
+field_text field = byte_of field.0 ∷ field.1
 
--- both are plain words
-abbrev pub IsPlainPair : List ℕ × List ℕ → Type 0
-IsPlainPair pair = (is_word pair.0 ≡ true) × (is_word pair.1 ≡ true)
+-- these fields, whose letters are distinct and belong to the kind, say these parts
+pub record SayParts (kind : Kind) (fields : List (Letter × List ℕ)) (parts : Parts) : Type 0 where
+  pub belong : AllByRecursion (λ field. Belongs kind field.0) fields
+  pub distinct : AreDistinct (map (λ field. field.0) fields)
+  pub says : AllByRecursion (λ field. Says field.0 field.1 parts) fields
+  pub lacks : (letter : Letter) → AllByRecursion (λ field. letter ≢ field.0) fields → Lacks letter parts
 
--- each key is another than those before it
-abbrev pub KeysDiffer : List (List ℕ × List ℕ) → List (List ℕ × List ℕ) → Type 0
-KeysDiffer before [] = Unit {0}
-KeysDiffer before (pair ∷ pairs) = (finite.find (slice_cmp nat_cmp) pair.0 before ≡ None) × KeysDiffer (before ++ pair ∷ []) pairs
+-- the place of both coordinates or of none
+abbrev pub IsPlace : Option ℤ → Option ℤ → Option PlaceOf → Type 0
+IsPlace None None place = place ≡ None
+IsPlace (Some lon) (Some lat) place = place ≡ Some (record { lon = lon; lat = lat })
+IsPlace _ _ place = ⊥
 
--- pairs with commas between them, each key once
-abbrev pub SpellsTags : List ℕ → TagMap → Type 0
-SpellsTags text tags =
-    (pairs : List (List ℕ × List ℕ)) × AllByRecursion IsPlainPair pairs × KeysDiffer [] pairs
-    × (text ≡ join_with_byte 44 (map pair_text pairs)) × (tags ≡ finite.from_entries pairs)
+-- the object that the parts make of a kind
+abbrev pub IsObject : Kind → Parts → Object → Type 0
+IsObject kinds.Node parts object = (place : Option PlaceOf) × IsPlace parts.lon parts.lat place × (object ≡ objects.Node place parts.tags)
+IsObject kinds.Way parts object = object ≡ objects.Way parts.nodes parts.tags
+IsObject kinds.Relation parts object = object ≡ objects.Relation parts.members parts.tags
 
--- the field of the tags, or nothing where there is no tag
-abbrev pub SpellsTagField : List ℕ → TagMap → Type 0
-SpellsTagField text tags =
-    ((text ≡ []) × (tags ≡ finite.empty)) ⊎ ((own : List ℕ) × (text ≡ codes " T" ++ own) × SpellsTags own tags)
+-- that object, or none where it is deleted
+abbrev pub IsObjectOf : Bool → Object → Option Object → Type 0
+IsObjectOf true object entry = entry ≡ None
+IsObjectOf false object entry = entry ≡ Some object
 
--- the fields of the longitude and of the latitude, or nothing where there is no place
-abbrev pub SpellsPlaceFields : List ℕ → Option PlaceOf → Type 0
-SpellsPlaceFields text None = text ≡ []
-SpellsPlaceFields text (Some place) =
-    (x : List ℕ) × (y : List ℕ) × (text ≡ codes " x" ++ x ++ codes " y" ++ y)
-    × SpellsCoordinate x place.lon × SpellsCoordinate y place.lat × IsOnEarth place.lon place.lat
-
--- the line of a node: its id, its tags, its place
+-- the line is UTF-8 and not skipped, its fields are a key and parts, and the entry has these
 pub record Spells (line : List ℕ) (entry : Entry) : Type 0 where
-  pub id_text : List ℕ
-  pub tags_text : List ℕ
-  pub place_text : List ℕ
-  pub id : ℕ
-  pub tags : TagMap
-  pub place : Option PlaceOf
-  pub line_is : line ≡ codes "n" ++ id_text ++ tags_text ++ place_text
-  pub entry_is : entry ≡ node id tags place
-  pub spells_id : SpellsId id_text id
-  pub spells_tags : SpellsTagField tags_text tags
-  pub spells_place : SpellsPlaceFields place_text place
-
--- what a line says: nothing where it is skipped, and else the entry that it spells
-abbrev pub Says : List ℕ → Option Entry → Type 0
-Says line None = IsSkipped line
-Says line (Some entry) = Spells line entry
+  pub digits : List ℕ
+  pub fields : List (Letter × List ℕ)
+  pub parts : Parts
+  pub object : Object
+  pub counts : IsSkipped line → ⊥
+  pub utf8 : IsUtf8 line
+  pub form : fields_of line ≡ (kind_byte entry.key.kind ∷ digits) ∷ map field_text fields
+  pub number : SpellsId digits entry.key.id
+  pub say : SayParts entry.key.kind fields parts
+  pub made : IsObject entry.key.kind parts object
+  pub is : IsObjectOf parts.deleted object entry.object

@@ -1,21 +1,32 @@
-//! One line of an OPL file, and the entry that it says.
+//! One line of an OPL file: the entry that it spells, or the first thing that is wrong with it.
 //!
-//! Lines come from `opl_lines`, entries go to the commands. So far a line is read where it is plain:
-//! a node with its id, its tags of plain words and its place, the fields in this order with single
-//! spaces between them. Any other line is refused as not built, save empty lines and comments,
-//! which are skipped.
+//! On the path of the data it stands between the lines of a file and the fold of its entries. A line
+//! comes in as bytes, cut from a file; `osm_base` has the types of what goes out.
 //!
-//! `read_line` gives exactly what the definition `reading` gives, which is computed on the fields of
-//! the whole line, and `Spells` says apart from it what a plain line is.
+//! `read_line` keeps three promises, each for every line and unless memory runs out. It gives just
+//! what `reading` of `specs/Line.antt` gives, so the cause of a refusal is the first one in the order
+//! of the checks. What it reads is spelled so, and what is spelled so it reads, by `Spells` of
+//! `specs/Spells.antt`, a relation on whole fields that knows nothing of the order of reading.
+//! `one_meaning` is the law that follows: a line is skipped, or has one fault, or spells one entry.
+//!
+//! A text without an escape is copied from the line as it stands. Values that are not kept are
+//! checked where they stand, and take no memory; an empty list takes none either.
 #![tactic(auto)]
 
+mod coordinate;
+mod fields;
+mod letter;
 mod line;
+mod members;
+mod nodes;
 mod number;
-mod pieces;
-mod refused;
+mod parts;
+mod tags;
+mod text;
+mod why;
+
+pub use line::{one_meaning, read_line};
+pub use why::{LineRefused, Why};
+
 #[cfg(test)]
 mod tests;
-mod words;
-
-pub use line::read_line;
-pub use refused::LineRefused;

@@ -1,88 +1,150 @@
-//! The line of a node, from its first byte to its last.
-ghost use Rattle.std.specs.Prelude.{◌≡◌, Option, Some, IfOk};
-ghost use Rattle.osm_base.specs.declared.object.Entry.{Entry as EntryOf};
-ghost use Rattle.std.specs.Option.{option_map};
-ghost use Rattle.opl_object.specs.Gives.{Gives};
-ghost use Rattle.opl_object.specs.Pieces.{pieces, later_pieces};
-ghost use Rattle.opl_object.specs.Reading.{tags_in, place_in, node_in, reading};
-ghost use Rattle.opl_object.specs.Spells.{Says};
+//! A whole line.
+ghost use Rattle.std.specs.Prelude.{◌≡◌, ◌≢◌, ◌↔◌, ◌≤ℤ◌, neg_ℤ, ℕ, List, Option, None, Some, Result, Ok, Err, IsFalse, IsSome, IfSome, IfOk, IsOkAnd};
+ghost use Rattle.osm_base.specs.declared.object.Entry.{Entry};
+ghost use Rattle.osm_base.specs.Key.{KeyOf};
+ghost use Rattle.opl_object.specs.declared.why.Why.TheVariants.{Order};
+ghost use Rattle.opl_object.specs.declared.why.LineRefused.TheVariants.{Bad};
+ghost use Rattle.opl_object.specs.Meaning.{HasOneMeaning};
+ghost use Rattle.opl_object.specs.Spells.{Spells};
+ghost use Rattle.osm_base.specs.declared.place.TheConstants.{MAX_LON, MAX_LAT};
+ghost use Rattle.opl_object.specs.Earth.{AreOnEarth};
+ghost use Rattle.opl_object.specs.Fields.{fields_of};
+ghost use Rattle.opl_object.specs.Line.{IsSkipped, is_skipped, utf8_of, key_of, place_of, object_of, entry_of, entry_from, reading};
+ghost use Rattle.opl_object.specs.Why.{Gives, Tells};
 
-use crate::LineRefused;
-use crate::number::{id, place};
-use crate::pieces::{behind, cut};
-use crate::words::tags;
-use osm_base::{Entry, Key, Kind, Object, Place, Tags};
+use crate::fields::next_field;
+use crate::members::kind_at;
+use crate::number::id_of;
+use crate::parts::{Parts, read_fields};
+use crate::{LineRefused, Why};
+use osm_base::{Entry, Key, Kind, Object, Place};
 use std::alloc::Global;
 
-/// The tags, where the next field has them, and the fields after it.
-#[tactic(auto, unfolding(crate::specs::Reading::tags_in))]
-fn tags_field(alloc: Global, fields: Option<&[u8]>) -> Result<(Tags, Option<&[u8]>), LineRefused>
-    ensures value { Gives (λ x. (x.0, later_pieces 32 (option_map (λ text. text.now) x.1))) result
-        (tags_in (later_pieces 32 (option_map (λ text. text.now) fields.entry))) }
+/// The entry of a line; `None` where the line is skipped.
+pub fn read_line(alloc: Global, line: &[u8]) -> Result<Option<Entry>, LineRefused>
+    // The entry, or the first cause, unless memory ran out.
+    ensures exact { Gives (λ entry. entry) result (reading line.now) }
+    ensures skipped { IsSkipped line.now ↔ IsOkAnd result (λ entry. entry ≡ None) }
+    // What is read is spelled so, and what is spelled so is read, unless memory ran out.
+    ensures spelled { IfOk result (λ found. IfSome found (λ entry. Spells line.now entry)) }
+    ensures read { (entry : Entry) → Spells line.now entry → Gives (λ found. found) result (Ok (Some entry)) }
+    // The order of lines is no fault of one line.
+    ensures in_order { (earlier later : KeyOf) → result ≢ Err (Bad (Order earlier later)) }
 {
-    let Some(text) = fields else {
-        return Ok((Tags::new(alloc), None));
-    };
-    let (field, after) = cut(text, b' ');
-    match behind(field, b'T') {
-        Some(text) => Ok((tags(alloc, text)?, after)),
-        None => Ok((Tags::new(alloc), fields)),
+    if is_skipped(line) {
+        return Ok(None);
+    }
+    read_counted(alloc, line)
+}
+
+/// Each line is skipped, or has one fault, or spells one entry.
+pub fn one_meaning()
+    ensures one { (line : List ℕ) → HasOneMeaning line }
+{}
+
+/// The entry of a line that is not skipped.
+#[tactic(auto, unfolding(crate::specs::Line::reading))]
+fn read_counted(alloc: Global, line: &[u8]) -> Result<Option<Entry>, LineRefused>
+    requires { IsFalse (is_skipped line.now) }
+    ensures exact { Gives (λ entry. entry) result (reading line.now) }
+    ensures some { IfOk result IsSome }
+{
+    let text = utf8_of(line)?;
+    Ok(Some(read_entry(alloc, text)?))
+}
+
+/// The line as a text.
+fn utf8_of(line: &[u8]) -> Result<&str, Why>
+    ensures text { Tells (λ text. text.now) result (utf8_of line.now) }
+{
+    match str::from_utf8(line) {
+        Ok(text) => Ok(text),
+        Err(_) => Err(Why::Utf8),
     }
 }
 
-/// The place, where there are two fields more, for the longitude and the latitude.
-#[tactic(auto, unfolding(crate::specs::Reading::place_in))]
-fn place_fields(fields: Option<&[u8]>) -> Option<Option<Place>>
-    ensures value { result ≡ place_in (later_pieces 32 (option_map (λ text. text.now) fields.entry)) }
+/// Whether a line is skipped: it is empty, or begins with `#` or `c`.
+fn is_skipped(line: &[u8]) -> bool
+    ensures value { result ≡ is_skipped line.now }
 {
-    let Some(text) = fields else {
-        return Some(None);
-    };
-    let (first, after) = cut(text, b' ');
-    let (second, end) = cut(after?, b' ');
-    if end.is_some() {
-        return None;
+    match line {
+        [] | [b'#' | b'c', ..] => true,
+        _ => false,
     }
-    let x = behind(first, b'x')?;
-    let y = behind(second, b'y')?;
-    Some(Some(place(x, y)?))
 }
 
-/// The node that the fields behind the letter say.
-#[tactic(auto, unfolding(crate::specs::Reading::node_in))]
-fn node(alloc: Global, text: &[u8]) -> Result<Entry, LineRefused>
-    ensures value { Gives (λ entry. entry) result (node_in (pieces 32 text.now)) }
+/// The entry of the fields of a line.
+#[tactic(auto, unfolding(crate::specs::Line::entry_from))]
+fn read_entry(alloc: Global, text: &str) -> Result<Entry, LineRefused>
+    ensures entry { Gives (λ entry. entry) result (entry_from (fields_of text.now)) }
 {
-    let (first, fields) = cut(text, b' ');
-    let id = id(first).ok_or(LineRefused::NotBuilt)?;
-    let (tags, fields) = tags_field(alloc, fields)?;
-    let place = place_fields(fields).ok_or(LineRefused::NotBuilt)?;
+    let Some((first, rest)) = next_field(text) else {
+        return Err(LineRefused::Bad(Why::Kind));
+    };
+    let key = key_of(first)?;
+    let parts = read_fields(alloc, key.kind, rest)?;
+    Ok(entry_of(key, parts)?)
+}
+
+/// The key that the first field is.
+#[tactic(auto, unfolding(crate::specs::Line::key_of))]
+fn key_of(field: &str) -> Result<Key, Why>
+    ensures key { result ≡ key_of field.now }
+{
+    let Some((kind, digits)) = kind_at(field) else {
+        return Err(Why::Kind);
+    };
+    let id = id_of(digits.as_bytes())?;
+    Ok(Key::new(kind, id))
+}
+
+/// The entry of the fields: no object where it is deleted.
+#[tactic(auto, unfolding(crate::specs::Line::entry_of))]
+fn entry_of(key: Key, parts: Parts) -> Result<Entry, Why>
+    requires { AreOnEarth parts }
+    ensures entry { result ≡ entry_of key parts }
+{
+    let deleted = parts.deleted;
+    let object = object_of(key.kind, parts)?;
     Ok(Entry {
-        key: Key::new(Kind::Node, id),
-        object: Some(Object::Node { place, tags }),
+        key,
+        object: if deleted { None } else { Some(object) },
     })
 }
 
-/// What a line says, by the definition that is computed on its fields.
-#[tactic(auto, unfolding(crate::specs::Reading::reading, crate::specs::Reading::entry_of))]
-fn read(alloc: Global, line: &[u8]) -> Result<Option<Entry>, LineRefused>
-    ensures value { Gives (λ read. read) result (reading line.now) }
+/// The object of the fields.
+fn object_of(kind: Kind, parts: Parts) -> Result<Object, Why>
+    requires { AreOnEarth parts }
+    ensures object { result ≡ object_of kind parts }
 {
-    match line {
-        [] | [b'#' | b'c', ..] => Ok(None),
-        [b'n', text @ ..] => Ok(Some(node(alloc, text)?)),
-        _ => Err(LineRefused::NotBuilt),
+    let tags = parts.tags;
+    match kind {
+        Kind::Node => Ok(Object::Node {
+            place: place_of(parts.lon, parts.lat)?,
+            tags,
+        }),
+        Kind::Way => Ok(Object::Way {
+            nodes: parts.nodes,
+            tags,
+        }),
+        Kind::Relation => Ok(Object::Relation {
+            members: parts.members,
+            tags,
+        }),
     }
 }
 
-/// The entry of a line without its newline; `None` where the line is skipped.
-pub fn read_line(alloc: Global, line: &[u8]) -> Result<Option<Entry>, LineRefused>
-    // What is read is what the line says.
-    ensures said { IfOk result (λ read. Says line.now read) }
-    // What it says is read, unless memory runs out: so `NotBuilt` comes only where it says nothing.
-    ensures read { (said : Option EntryOf) → Says line.now said → Gives (λ read. read) result (Some said) }
-    // And this is what it says, or that it says nothing.
-    ensures exact { Gives (λ read. read) result (reading line.now) }
+/// The place of a node: both coordinates or none.
+fn place_of(lon: Option<i32>, lat: Option<i32>) -> Result<Option<Place>, Why>
+    requires east { IfSome lon (λ lon. lon ≤ℤ MAX_LON) }
+    requires west { IfSome lon (λ lon. neg_ℤ MAX_LON ≤ℤ lon) }
+    requires north { IfSome lat (λ lat. lat ≤ℤ MAX_LAT) }
+    requires south { IfSome lat (λ lat. neg_ℤ MAX_LAT ≤ℤ lat) }
+    ensures place { result ≡ place_of lon lat }
 {
-    read(alloc, line)
+    match (lon, lat) {
+        (None, None) => Ok(None),
+        (Some(lon), Some(lat)) => Ok(Some(Place::new(lon, lat))),
+        _ => Err(Why::HalfPlace),
+    }
 }

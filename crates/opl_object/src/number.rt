@@ -1,135 +1,114 @@
-//! Ids and coordinates.
-ghost use Rattle.std.specs.Prelude.{◌≡◌, ◌≤◌, ◌<◌, ◌^◌, ◌-◌, ◌≤ℤ◌, neg_ℤ, length, IfSome};
-ghost use Rattle.std.specs.Option.{option_map};
+//! Numbers, times and ids.
+ghost use Rattle.std.specs.Prelude.{◌≡◌, ◌≤◌, ◌<◌, ◌^◌, IsTrue, IfOk, length};
+ghost use Rattle.std.specs.Char.{is_ascii_digit};
+ghost use Rattle.std.specs.List.{list_all, zip};
+ghost use Rattle.std.specs.Str.Parse.{digits_value};
 ghost use Rattle.osm_base.specs.Key.{IsId};
-ghost use Rattle.opl_object.specs.Pieces.{cut_at};
-ghost use Rattle.opl_object.specs.Numbers.{number_of, id_of, decimals_of, magnitude_of, coordinate_of, place_of, is_on_earth as on_earth};
+ghost use Rattle.opl_object.specs.Number.{is_negative, unsigned, are_digits, is_whole, is_formed, is_time, id_of};
 
-use crate::pieces::cut;
-use osm_base::{MAX_ID, MAX_LAT, MAX_LON, Place};
+use crate::Why;
+use osm_base::MAX_ID;
 
-/// The units of 1e-7 degree in a degree.
-const DEGREE: u64 = 10_000_000;
+/// The form of a time, with a zero where a digit stands.
+pub const TIME_FORM: [u8; 20] = *b"0000-00-00T00:00:00Z";
 
-/// The number that from one to `most` digits write.
-#[tactic(auto, unfolding(crate::specs::Numbers::number_of))]
-fn number(text: &[u8], most: usize) -> Option<u64>
-    requires { most ≤ 19 }
-    ensures value { result ≡ number_of most text.now }
-    ensures small { IfSome result (λ number. number < 10 ^ most) }
-    ensures few { IfSome result (λ _. length text.now ≤ most) }
-{
-    if text.is_empty() || text.len() > most {
-        return None;
-    }
-    let mut value = 0u64;
-    for digit in text {
-        if !digit.is_ascii_digit() {
-            return None;
-        }
-        value = value * 10 + u64::from(*digit - b'0');
-    }
-    Some(value)
-}
+/// The greatest number of digits of an id or of another whole number.
+const WHOLE_DIGITS: usize = 19;
 
-/// The id that a text writes.
-#[tactic(auto, unfolding(crate::specs::Numbers::id_of))]
-pub fn id(text: &[u8]) -> Option<u64>
-    ensures value { result ≡ id_of text.now }
-    ensures range { IfSome result (λ id. IsId id) }
-{
-    let id = number(text, 19)?;
-    if 1 <= id && id <= MAX_ID {
-        Some(id)
-    } else {
-        None
-    }
-}
-
-/// The units of 1e-7 that one unit of the last of some decimals counts.
-fn scale(decimals: usize) -> u64
-    requires { decimals ≤ 7 }
-    ensures value { result ≡ 10 ^ (7 - decimals) }
-    ensures small { result ≤ 10 ^ 7 }
-{
-    const SCALES: [u64; 8] = [10_000_000, 1_000_000, 100_000, 10_000, 1_000, 100, 10, 1];
-    SCALES[decimals]
-}
-
-/// What stands after a point, in units of 1e-7.
-#[tactic(auto, unfolding(crate::specs::Numbers::decimals_of))]
-fn decimals(text: &[u8]) -> Option<u64>
-    ensures value { result ≡ decimals_of text.now }
-    ensures small { IfSome result (λ units. units ≤ 10 ^ 14) }
-{
-    let digits = number(text, 7)?;
-    Some(digits * scale(text.len()))
-}
-
-/// A coordinate without its sign, cut at the point, in units of 1e-7 degree.
-#[tactic(auto, unfolding(crate::specs::Numbers::magnitude_of))]
-fn magnitude(whole: &[u8], fraction: Option<&[u8]>) -> Option<u64>
-    ensures value { result ≡ magnitude_of (whole.now, option_map (λ text. text.now) fraction.entry) }
-    ensures small { IfSome result (λ units. units < 10 ^ 15) }
-{
-    let degrees = number(whole, 3)?;
-    match fraction {
-        None => Some(degrees * DEGREE),
-        Some(fraction) => {
-            let units = decimals(fraction)?;
-            Some(degrees * DEGREE + units)
-        }
-    }
-}
-
-/// A coordinate in units of 1e-7 degree.
-#[tactic(auto, unfolding(crate::specs::Numbers::coordinate_of))]
-fn coordinate(text: &[u8]) -> Option<i64>
-    ensures value { result ≡ coordinate_of text.now }
+/// Whether a minus stands in front, and what stands behind it.
+pub(crate) fn signed(text: &[u8]) -> (bool, &[u8])
+    ensures sign { result.0 ≡ is_negative text.now }
+    ensures rest { result.1.now ≡ unsigned text.now }
 {
     match text {
-        [] => None,
-        [b'-', text @ ..] => {
-            let (whole, fraction) = cut(text, b'.');
-            let units = magnitude(whole, fraction)?;
-            Some(-(units as i64))
-        }
-        _ => {
-            let (whole, fraction) = cut(text, b'.');
-            let units = magnitude(whole, fraction)?;
-            Some(units as i64)
-        }
+        [b'-', rest @ ..] => (true, rest),
+        _ => (false, text),
     }
 }
 
-/// The place with these texts as its longitude and its latitude.
-#[tactic(auto, unfolding(crate::specs::Numbers::place_of))]
-pub fn place(x: &[u8], y: &[u8]) -> Option<Place>
-    ensures value { result ≡ place_of x.now y.now }
+/// Whether the text is from one to `most` digits.
+pub(crate) fn are_digits(text: &[u8], most: usize) -> bool
+    ensures value { result ≡ are_digits most text.now }
 {
-    let lon = coordinate(x)?;
-    let lat = coordinate(y)?;
-    if is_on_earth(lon, lat) {
-        Some(Place::new(units(lon), units(lat)))
+    1 <= text.len() && text.len() <= most && all_digits(text)
+}
+
+/// Whether each byte is a digit.
+fn all_digits(text: &[u8]) -> bool
+    ensures value { result ≡ list_all is_ascii_digit text.now }
+{
+    for byte in text {
+        if !byte.is_ascii_digit() {
+            return false;
+        }
+    }
+    true
+}
+
+/// Whether the text is nothing or a whole number.
+pub(crate) fn is_whole(text: &[u8]) -> bool
+    ensures value { result ≡ is_whole text.now }
+{
+    let (_, digits) = signed(text);
+    text.is_empty() || are_digits(digits, WHOLE_DIGITS)
+}
+
+/// Whether the text is nothing or a time.
+pub(crate) fn is_time(text: &[u8]) -> bool
+    ensures value { result ≡ is_time text.now }
+{
+    text.is_empty() || (text.len() == TIME_FORM.len() && all_formed(text))
+}
+
+/// Whether each byte of a time is one that the form has there.
+fn all_formed(text: &[u8]) -> bool
+    requires { length text.now ≡ 20 }
+    ensures value { result ≡ list_all is_formed (zip TIME_FORM text.now) }
+{
+    for (place, &byte) in text.iter().enumerate() {
+        if !is_formed(TIME_FORM[place], byte) {
+            return false;
+        }
+    }
+    true
+}
+
+/// Whether a byte is a digit where the form has one, and else the form's own.
+fn is_formed(form: u8, byte: u8) -> bool
+    ensures value { result ≡ is_formed (form, byte) }
+{
+    if form.is_ascii_digit() {
+        byte.is_ascii_digit()
     } else {
-        None
+        byte == form
     }
 }
 
-/// Whether a longitude and a latitude in units of 1e-7 degree are those of a place.
-fn is_on_earth(lon: i64, lat: i64) -> bool
-    ensures value { result ≡ on_earth lon lat }
+/// The id that the text is.
+#[tactic(auto, unfolding(crate::specs::Number::id_of))]
+pub(crate) fn id_of(text: &[u8]) -> Result<u64, Why>
+    ensures value { result ≡ id_of text.now }
+    ensures id { IfOk result (λ id. IsId id) }
 {
-    let max_lon = i64::from(MAX_LON);
-    let max_lat = i64::from(MAX_LAT);
-    -max_lon <= lon && lon <= max_lon && -max_lat <= lat && lat <= max_lat
+    if !are_digits(text, WHOLE_DIGITS) {
+        return Err(Why::Id);
+    }
+    let id = value_of(text);
+    if 1 <= id && id <= MAX_ID {
+        Ok(id)
+    } else {
+        Err(Why::Id)
+    }
 }
 
-/// Units of 1e-7 degree that are no more than those of half a turn.
-fn units(value: i64) -> i32
-    requires west { neg_ℤ MAX_LON ≤ℤ value }
-    requires east { value ≤ℤ MAX_LON }
-    ensures same { result ≡ value }
+/// The number that the digits write.
+fn value_of(digits: &[u8]) -> u64
+    requires { IsTrue (are_digits 19 digits.now) }
+    ensures value { result ≡ digits_value 10 digits.now }
 {
-    value as i32
+    let mut value = 0;
+    for &digit in digits {
+        value = value * 10 + u64::from(digit - b'0');
+    }
+    value
 }

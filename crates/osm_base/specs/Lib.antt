@@ -1,4 +1,5 @@
 pub mod Key
+pub mod KeyOrder
 pub mod Limits
 pub mod Place
 pub mod Tags

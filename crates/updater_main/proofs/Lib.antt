@@ -2,7 +2,10 @@ pub mod AsciiTexts
 pub mod Digits
 pub mod Manual
 pub mod WordLists
-pub mod AnswerLaws
-pub mod SaidLaws
-pub mod LineSteps
+pub mod NodeLines
+pub mod LinesKept
+pub mod PointLaw
+pub mod FilesLaws
 pub mod RunLaws
+pub mod KeptLines
+pub mod Found

@@ -3,20 +3,25 @@
 -- an option, up to the first word that is none. If that word is `--`, it is dropped. The words that remain are the form.
 -- An option has to belong to the command, to stand once and to have a value in range, and the form has to be the
 -- command's. Words that fit no command are a wrong use of the program, and so are more than MAX_WORDS.
-use Rattle.std.specs.Prelude.{ℕ, ◌+◌, ◌-◌, Bool, nat_lt, nat_le, ◌&&◌, if◌then◌else◌, Option, Some, None, List, [], ◌∷◌, length, drop, take_while, codes, nat_eq}
+use Rattle.std.specs.Prelude.{ℕ, ◌+◌, ◌-◌, ◌≤◌, Bool, nat_lt, nat_le, ◌&&◌, if◌then◌else◌, Option, Some, None, List, [], ◌∷◌, length, drop, take_while, codes, nat_eq}
 use Rattle.std.specs.List.{prefix_len, starts_with}
 use Rattle.std.specs.Str.{bytes_eq}
 use Rattle.updater_main.specs.declared.words.Command.{Command}
 use Rattle.updater_main.specs.declared.words.Command.TheVariants.{Points}
+use Rattle.updater_main.specs.declared.files.Files.{Files}
 use Rattle.updater_main.specs.declared.words.TheConstants.{MAX_WORDS, MAX_KEY}
 
--- a command with its words; a file is the place of its word among all words, the command word being at 0
+-- a command with its words; a file is told by the place of its word among all words, the command word being at 0
 pub data CommandOf : Type 0 where
-  points_of : (key : List ℕ) → (input : ℕ) → CommandOf
+  points_of : (key : List ℕ) → (files : Files) → CommandOf
 
 -- a command of the program, as contracts see it
 abbrev pub seen : Command → CommandOf
-seen (Points key input) = points_of key.now input
+seen (Points key files) = points_of key.now files
+
+-- the files of a command are numbered by its words
+abbrev pub FilesFit : CommandOf → Type 0
+FilesFit (points_of key files) = files.first + files.count ≤ 8192
 
 -- what remains from the first on that fails a test
 abbrev pub behind : {A : Type 0} → (A → Bool) → List A → List A
@@ -43,9 +48,10 @@ options_of words = take_while is_option words
 abbrev pub form_of : List (List ℕ) → List (List ℕ)
 form_of words = without_dashes (behind is_option words)
 
--- `points KEY INPUT`: no option, and a KEY of 1 to MAX_KEY bytes; place is that of the first word of the form
+-- `points KEY INPUT CHANGE*`: no option, and a KEY of 1 to MAX_KEY bytes; place is that of the first word of the form
 abbrev pub points : (options form : List (List ℕ)) → (place : ℕ) → Option CommandOf
-points [] (key ∷ _ ∷ []) place = if nat_le 1 (length key) && nat_le (length key) MAX_KEY then Some (points_of key (place + 1)) else None
+points [] (key ∷ input ∷ changes) place =
+    if nat_le 1 (length key) && nat_le (length key) MAX_KEY then Some (points_of key (record { first = place + 1; count = length changes + 1 })) else None
 points _ _ _ = None
 
 -- what words ask for whose first is this name

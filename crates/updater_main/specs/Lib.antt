@@ -1,10 +1,9 @@
-pub mod Answer
+pub mod Causes
 pub mod Command
+pub mod CopyText
 pub mod Degrees
 pub mod Faults
-pub mod PlainFile
+pub mod Files
+pub mod PointLines
 pub mod PointsText
 pub mod Run
-pub mod Points
-pub mod Stops
-pub mod ReadFile

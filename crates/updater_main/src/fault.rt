@@ -1,25 +1,55 @@
 //! Why a run ended early, with its status and its line of text.
-ghost use Rattle.std.specs.Prelude.{◌≡◌, IfOk};
-ghost use Rattle.updater_main.specs.Faults.{fault_text, status_of};
+ghost use Rattle.std.specs.Prelude.{◌≡◌, IfOk, [], ◌∷◌};
+ghost use Rattle.updater_main.specs.Faults.{fault_text, kind_text, status_of};
+ghost use Rattle.updater_main.specs.Files.{fault_in};
 
-use osm_base::{OutOfMemory, Text};
+use object_fold::FileFault;
+use opl_object::Why;
+use osm_base::{Kind, LimitKind, OutOfMemory, Text};
 use std::alloc::Global;
 use std::error::Error;
 use std::fmt;
 
-/// Why a run did not do all that it was asked to. A file is named by the place of its word.
+/// Why a run did not do all that it was asked to. A file is told by the place of its word.
 #[derive(Clone, Copy, Debug, PartialEq, Eq)]
 pub enum Fault {
     /// The words are no command.
     Usage,
-    /// A line that this program does not read yet.
-    NotBuilt { file: u32, line: u32 },
+    /// A line of a file is not in its form or not in its place.
+    Malformed { file: u32, line: u32, why: Why },
+    /// There is more of something than there may be.
+    Limit { which: LimitKind, value: u64 },
     /// A file could not be read.
     ReadFault { file: u32 },
     /// The output took no more bytes.
     WriteFault,
     /// There was no memory.
     OutOfMemory,
+}
+
+impl Fault {
+    /// The fault of this file.
+    pub fn in_file(file: u32, fault: FileFault) -> Self
+        ensures fault { result ≡ fault_in file fault }
+    {
+        match fault {
+            FileFault::Malformed { line, why } => Fault::Malformed { file, line, why },
+            FileFault::Limit { which, value } => Fault::Limit { which, value },
+            FileFault::ReadFault => Fault::ReadFault { file },
+            FileFault::OutOfMemory => Fault::OutOfMemory,
+        }
+    }
+}
+
+/// The letter of a kind.
+fn kind_letter(kind: Kind) -> char
+    ensures letter { result ∷ [] ≡ kind_text kind }
+{
+    match kind {
+        Kind::Node => 'n',
+        Kind::Way => 'w',
+        Kind::Relation => 'r',
+    }
 }
 
 /// How a run ended.
@@ -39,10 +69,11 @@ impl Outcome {
         let status = match fault {
             None => 0,
             Some(Fault::Usage) => 2,
+            Some(Fault::Malformed { .. }) => 3,
             Some(Fault::ReadFault { .. }) => 7,
             Some(Fault::WriteFault) => 8,
+            Some(Fault::Limit { .. }) => 10,
             Some(Fault::OutOfMemory) => 11,
-            Some(Fault::NotBuilt { .. }) => 13,
         };
         Self { status, fault }
     }
@@ -64,7 +95,33 @@ impl fmt::Display for Fault {
     fn fmt<W: fmt::Write>(&self, f: &mut fmt::Formatter<W>) -> fmt::Result {
         match self {
             Fault::Usage => write!(f, "usage"),
-            Fault::NotBuilt { file, line } => write!(f, "not built file {file} line {line}"),
+            Fault::Malformed { file, line, why } => match why {
+                Why::Order { earlier, later } => write!(
+                    f,
+                    "malformed file {file} line {line} cause {} {}{} {}{}",
+                    why.number(),
+                    kind_letter(earlier.kind),
+                    earlier.id,
+                    kind_letter(later.kind),
+                    later.id
+                ),
+                _ => write!(
+                    f,
+                    "malformed file {file} line {line} cause {}",
+                    why.number()
+                ),
+            },
+            Fault::Limit { which, value } => match which {
+                LimitKind::LineBytes => write!(f, "limit line-bytes value {value}"),
+                LimitKind::FileLines => write!(f, "limit file-lines value {value}"),
+                LimitKind::FileEntries => write!(f, "limit file-entries value {value}"),
+                LimitKind::StyleBytes => write!(f, "limit style-bytes value {value}"),
+                LimitKind::BoundsBytes => write!(f, "limit bounds-bytes value {value}"),
+                LimitKind::QueryBytes => write!(f, "limit query-bytes value {value}"),
+                LimitKind::Pages => write!(f, "limit pages value {value}"),
+                LimitKind::Pending => write!(f, "limit pending value {value}"),
+                LimitKind::Changes => write!(f, "limit changes value {value}"),
+            },
             Fault::ReadFault { file } => write!(f, "read fault file {file}"),
             Fault::WriteFault => write!(f, "write fault"),
             Fault::OutOfMemory => write!(f, "out of memory"),

@@ -3,19 +3,21 @@
 //! `run` does all of it over the traits of `outside`, and its contract is the promise of each
 //! command: on no fault the output took exactly the text that the definition gives, and each fault
 //! has its cause. `main` only makes the real files and the real output, calls `run` and tells the
-//! fault. Below `run`, `command_of` says what the words mean, `read_points` reads a file piece by
-//! piece to its end, `push_point` writes the line of a node with a tag and a place, and a `Fault`
-//! has its status and its one line of text.
+//! fault. Below `run`, `command_of` says what the words mean, `scan_files` reads the files one after
+//! another to their ends, `PointLines` keeps the line of each node with a tag and a place while they
+//! are read, and a `Fault` has its status and its one line of text.
 #![tactic(auto)]
 
+mod copy_text;
 mod degrees;
 mod fault;
-mod points;
-mod read_file;
+mod files;
+mod point_lines;
 mod row;
 mod run;
 #[cfg(test)]
 mod run_tests;
+mod scan_files;
 #[cfg(test)]
 mod tests;
 mod words;
@@ -28,21 +30,23 @@ use std::rt::Env;
 use std::{env, io};
 
 const HELP: &str = "\
-usage: yilgartzu points KEY INPUT
+usage: yilgartzu points KEY INPUT [CHANGE..]
 
-  points KEY INPUT   read the OPL file INPUT and write a line for each node that
-                     has the tag KEY and a place: id, value, POINT(lon lat)
-  --help             this text
-  --version          the version
+  points KEY INPUT [CHANGE..]
+               read the OPL file INPUT and the change files in order and write a
+               line for each node that has the tag KEY and a place: id, value,
+               POINT(lon lat)
+  --help       this text
+  --version    the version
 
-A word -- ends the options. Status 0: done; 2: wrong words; 7: a file could not
-be read; 8: the output failed; 11: out of memory; 13: a line that is not read yet.
+A word -- ends the options. Status 0: done; 2: wrong words; 3: a line is wrong;
+7: a file could not be read; 8: the output failed; 10: a limit; 11: out of memory.
 ";
 
 const VERSION: &str = "yilgartzu 0.1.0\n";
 
 fn main(rt: HostRuntime) -> ExitCode {
-    let outcome = match words_of(&rt) {
+    let Outcome { status, fault } = match words_of(&rt) {
         Ok(words) => {
             let mut out = StdSink::new(io::writer(&rt));
             match text_asked(&words) {
@@ -55,10 +59,10 @@ fn main(rt: HostRuntime) -> ExitCode {
         }
         Err(fault) => Outcome::of(Some(fault)),
     };
-    if let Some(fault) = outcome.fault {
-        tell(&rt, &fault);
+    if let Some(fault) = &fault {
+        tell(&rt, fault);
     }
-    ExitCode::from(outcome.status)
+    ExitCode::from(status)
 }
 
 /// The words behind the program's name. Words that are not text are a wrong use.

@@ -1,8 +1,9 @@
 //! The line of a node in the text of points.
-ghost use Rattle.std.specs.Prelude.{◌≡◌, ◌++◌, OnOk, take, length};
+ghost use Rattle.std.specs.Prelude.{◌≡◌, ◌++◌, OnOk};
 ghost use Rattle.std.specs.Str.{chars};
 ghost use Rattle.updater_main.specs.PointsText.{line_of, point_line};
 
+use crate::copy_text::push_copy_text;
 use crate::degrees::push_degrees;
 use osm_base::{Entry, Object, OutOfMemory, Place};
 
@@ -10,7 +11,6 @@ use osm_base::{Entry, Object, OutOfMemory, Place};
 #[tactic(auto, unfolding(crate::specs::PointsText::line_of))]
 pub fn push_point(out: &mut Vec<u8>, key: &str, entry: &Entry) -> Result<(), OutOfMemory>
     ensures line { OnOk result (out.new.items ≡ out.old.items ++ line_of (chars key.now) entry.now) }
-    ensures front { take (length out.old.items) out.new.items ≡ out.old.items }
 {
     let Some(
         Object::Node {
@@ -30,12 +30,11 @@ pub fn push_point(out: &mut Vec<u8>, key: &str, entry: &Entry) -> Result<(), Out
 /// Appends a line.
 fn push_line(out: &mut Vec<u8>, id: u64, value: &str, place: Place) -> Result<(), OutOfMemory>
     ensures line { OnOk result (out.new.items ≡ out.old.items ++ point_line id (chars value.now) place) }
-    ensures front { take (length out.old.items) out.new.items ≡ out.old.items }
 {
     let mut digits = itoa::Buffer::new();
     out.extend_from_slice(digits.format(id).as_bytes())?;
     out.push(b'\t')?;
-    out.extend_from_slice(value.as_bytes())?;
+    push_copy_text(out, value.as_bytes())?;
     out.extend_from_slice(b"\tPOINT(")?;
     push_degrees(out, place.lon)?;
     out.push(b' ')?;

@@ -1,9 +1,8 @@
 //! Whole runs over files and an output in memory.
 use crate::fault::{Fault, Outcome};
-use crate::points::Task;
-use crate::read_file::read_points;
 use crate::run::run;
-use osm_base::{Bytes, FileList, Ids, Limits};
+use opl_object::Why;
+use osm_base::{Bytes, FileList, Ids, Key, Kind};
 use outside::{Fails, MemInputs, MemSink};
 use std::alloc::{AllocError, Global};
 use std::test::Fail;
@@ -31,83 +30,212 @@ fn failing_from(alloc: Global, from: u64) -> Fails {
     Fails::new(Ids::new(alloc), from)
 }
 
-/// The outcome of a run over the file of word 2 that refuses this line, or none for 0.
-fn refusing(line: u32) -> Outcome {
-    let fault = match line {
-        0 => None,
-        _ => Some(Fault::NotBuilt { file: 2, line }),
-    };
-    Outcome::of(fault)
-}
-
-// The key, the file, the line that is refused, 0 for none, and what is written.
-const RUNS: [(&str, &[u8], u32, &[u8]); 23] = [
+// The key, the files from INPUT on, the fault, and what is written.
+const RUNS: [(&str, &[&[u8]], Option<Fault>, &[u8]); 20] = [
     (
         "amenity",
-        b"n1 Tamenity=cafe,name=Eins x13.3777 y52.5163\nn2 x1 y1\n",
-        0,
+        &[b"n1 v1 dV x13.3777 y52.5163 Tamenity=cafe,name=Caf%e9%"],
+        None,
         b"1\tcafe\tPOINT(13.3777 52.5163)\n",
     ),
-    ("amenity", b"w1", 1, b""),
-    ("amenity", b"", 0, b""),
+    (
+        "name",
+        &[b"n1 v1 dV x13.3777 y52.5163 Tamenity=cafe,name=Caf%e9%"],
+        None,
+        b"1\tCaf\xc3\xa9\tPOINT(13.3777 52.5163)\n",
+    ),
+    ("amenity", &[b""], None, b""),
     // The corners of the world.
     (
         "k",
-        b"n1 Tk=a x180 y-90\nn2 Tk=b x-180 y90\n",
-        0,
+        &[b"n1 Tk=a x180 y-90\nn2 Tk=b x-180 y90\n"],
+        None,
         b"1\ta\tPOINT(180 -90)\n2\tb\tPOINT(-180 90)\n",
     ),
-    ("k", b"n1 Tk=a x180.0000001 y0\n", 1, b""),
-    ("k", b"n1 Tk=a x0 y-90.0000001\n", 1, b""),
-    // The last line needs no newline.
+    // The eighth decimal rounds, half away from zero.
     (
         "k",
-        b"n1 Tk=a x1 y1\nn2 Tk=b x2 y2",
-        0,
-        b"1\ta\tPOINT(1 1)\n2\tb\tPOINT(2 2)\n",
+        &[b"n1 Tk=v x0.00000005 y-0.00000005\n"],
+        None,
+        b"1\tv\tPOINT(0.0000001 -0.0000001)\n",
     ),
-    ("k", b"\n", 0, b""),
-    // Skipped lines count.
-    ("k", b"# a comment\n\nchange\xff\nw1\n", 4, b""),
-    // Nodes without the tag or without a place have no line.
     (
         "k",
-        b"n1 Tk=a\nn2 Tj=k x1 y1\nn3 T x1 y1\nn4 Tk=d x-0.5 y0.0000001\n",
-        0,
+        &[b"n1 Tk=v x0.00000004 y-0.00000004\n"],
+        None,
+        b"1\tv\tPOINT(0 0)\n",
+    ),
+    (
+        "k",
+        &[b"n1 Tk=v x1 y1\nn2 x180.00000005 y0\n"],
+        Some(Fault::Malformed {
+            file: 2,
+            line: 2,
+            why: Why::Range,
+        }),
+        b"",
+    ),
+    // The escapes of a value.
+    (
+        "k",
+        &[b"n1 Tk=a%9%b\\c x0 y0"],
+        None,
+        b"1\ta\\tb\\\\c\tPOINT(0 0)\n",
+    ),
+    (
+        "k",
+        &[b"n1 Tk=%8%%a%%b%%c%%d%%7% x0 y0"],
+        None,
+        b"1\t\\b\\n\\v\\f\\r\x07\tPOINT(0 0)\n",
+    ),
+    // Keys strictly rise, in each file.
+    (
+        "k",
+        &[b"n1 x0 y0\nn1 x0 y0\n"],
+        Some(Fault::Malformed {
+            file: 2,
+            line: 2,
+            why: Why::Order {
+                earlier: Key {
+                    kind: Kind::Node,
+                    id: 1,
+                },
+                later: Key {
+                    kind: Kind::Node,
+                    id: 1,
+                },
+            },
+        }),
+        b"",
+    ),
+    (
+        "k",
+        &[b"w5 N\nn1 Tk=v x0 y0\n"],
+        Some(Fault::Malformed {
+            file: 2,
+            line: 2,
+            why: Why::Order {
+                earlier: Key {
+                    kind: Kind::Way,
+                    id: 5,
+                },
+                later: Key {
+                    kind: Kind::Node,
+                    id: 1,
+                },
+            },
+        }),
+        b"",
+    ),
+    // A change gives a node another tag, another place, a new line or none.
+    (
+        "k",
+        &[b"n1 Tk=a x1 y1\nn3 Tk=c x3 y3\n", b"n1 Tk=b x1 y2\n"],
+        None,
+        b"1\tb\tPOINT(1 2)\n3\tc\tPOINT(3 3)\n",
+    ),
+    (
+        "k",
+        &[b"n1 Tk=a x1 y1\nn3 Tk=c x3 y3\n", b"n1 dD\nn2 Tk=b x2 y2\n"],
+        None,
+        b"2\tb\tPOINT(2 2)\n3\tc\tPOINT(3 3)\n",
+    ),
+    (
+        "k",
+        &[b"n1 Tk=a x1 y1\nn2 Tk=b x2 y2\n", b"n1 x1 y1\nn2 Tk=b\n"],
+        None,
+        b"",
+    ),
+    (
+        "k",
+        &[b"n1 Tk=a x1 y1\n", b"n1 dD\n", b"", b"n1 Tk=z x1 y1\n"],
+        None,
+        b"1\tz\tPOINT(1 1)\n",
+    ),
+    // Ways and relations of the same ids touch no node.
+    (
+        "k",
+        &[
+            b"n1 Tk=a x1 y1\nw1 Tk=b Nn1\nr1 Tk=c Mn1@\n",
+            b"w1 dD\nr1 dD\n",
+        ],
+        None,
+        b"1\ta\tPOINT(1 1)\n",
+    ),
+    // A fault of a later file: nothing is written.
+    (
+        "k",
+        &[b"n1 Tk=a x1 y1\n", b"", b"n9 x1 y1\nn10 x200 y1"],
+        Some(Fault::Malformed {
+            file: 4,
+            line: 2,
+            why: Why::Range,
+        }),
+        b"",
+    ),
+    // The first file with a fault decides.
+    (
+        "k",
+        &[b"n1 Tk=a x1 y1\nq\n", b"\xff\n"],
+        Some(Fault::Malformed {
+            file: 2,
+            line: 2,
+            why: Why::Kind,
+        }),
+        b"",
+    ),
+    // Skipped lines count.
+    (
+        "k",
+        &[b"# a comment\n\nchange\xff\nx1\n"],
+        Some(Fault::Malformed {
+            file: 2,
+            line: 4,
+            why: Why::Kind,
+        }),
+        b"",
+    ),
+    // Nodes without the tag or without a place have no line; all attributes are read.
+    (
+        "k",
+        &[
+            b"n1 v1 dV c1 t2020-01-01T00:00:00Z i1 uA%20%b Tk=a\nn3 T x1 y1\nn4 Tk=d,j=k x-0.5 y0.0000001\n",
+        ],
+        None,
         b"4\td\tPOINT(-0.5 0.0000001)\n",
     ),
-    // Ids strictly rise.
-    ("k", b"n1 Tk=a x1 y1\nn1 Tk=b x2 y2\n", 2, b""),
-    ("k", b"n2\n#\nn1\n", 3, b""),
-    (
-        "k",
-        b"n9223372036854775807 Tk=a x1 y1",
-        0,
-        b"9223372036854775807\ta\tPOINT(1 1)\n",
-    ),
-    ("k", b"n9223372036854775808", 1, b""),
-    ("k", b"n0\n", 1, b""),
-    // What is not plain.
-    ("k", b"n1 x1\n", 1, b""),
-    ("k", b"n1  x1 y1\n", 1, b""),
-    ("k", b"n1 x1 y1 Tk=a\n", 1, b""),
-    ("k", b"n1 Tk=a,k=b\n", 1, b""),
-    ("k", b"n1 Tk=\n", 1, b""),
-    ("k", b"n1 Tk=a%20%b\n", 1, b""),
-    ("k", b"n1 v1\n", 1, b""),
-    ("k", b"n1 x1 y1\r\n", 1, b""),
 ];
 
+/// The files with these bytes, from that of word 2 on.
+fn inputs_of(alloc: Global, texts: &[&[u8]]) -> Result<FileList, AllocError> {
+    let mut files = Vec::new(alloc);
+    files.push(Bytes::new(alloc))?;
+    files.push(Bytes::new(alloc))?;
+    for text in texts {
+        files.push(Bytes::from_vec(Vec::from_slice(alloc, text)?))?;
+    }
+    Ok(FileList::from_vec(files))
+}
+
+/// The words of `points` with this key and so many files.
+fn points_words(alloc: Global, key: &str, files: usize) -> Result<Vec<String>, AllocError> {
+    let mut words = words_of(alloc, &["points", key])?;
+    for _ in 0..files {
+        words.push(String::from_str(alloc, "f")?)?;
+    }
+    Ok(words)
+}
+
 #[test]
-fn a_run_writes_the_points_of_its_file(rt: HostRuntime) -> Result<(), Fail> {
+fn a_run_writes_the_points_of_its_files(rt: HostRuntime) -> Result<(), Fail> {
     let alloc = rt.alloc();
-    for (key, text, refused, written) in RUNS {
-        let words = words_of(alloc, &["points", key, "INPUT"])?;
-        let mut inputs = MemInputs::new(files_of(alloc, &[b"", b"", text])?, Fails::never(alloc));
+    for (key, texts, fault, written) in RUNS {
+        let words = points_words(alloc, key, texts.len())?;
+        let mut inputs = MemInputs::new(inputs_of(alloc, texts)?, Fails::never(alloc));
         let mut out = MemSink::new(alloc, Fails::never(alloc));
         let outcome = run(&rt, alloc, &words, &mut inputs, &mut out);
-        assert_eq!(rt; outcome, refusing(refused), "of {text:?}");
-        assert_eq!(rt; out.taken(), written, "of {text:?}");
+        assert_eq!(rt; outcome, Outcome::of(fault), "of {texts:?}");
+        assert_eq!(rt; out.taken(), written, "of {texts:?}");
     }
     Ok(())
 }
@@ -158,50 +286,6 @@ fn a_missing_file_is_a_read_fault(rt: HostRuntime) -> Result<(), Fail> {
     Ok(())
 }
 
-// Greatest length and number of lines, the file, and the line that is refused, 0 for none.
-const LIMITS: [(u64, u64, &[u8], u32); 7] = [
-    (8, 2, b"n1 x1 y1\nn2 x1 y1\n", 0),
-    (8, 2, b"n1 x1 y1\nn2 x1 y1", 0),
-    (7, 2, b"n1 x1 y1\n", 1),
-    (8, 2, b"n1\nn2 x11 y1\n", 2),
-    (8, 2, b"#\n#\n#\n", 3),
-    (8, 2, b"#\n#\n\n", 3),
-    (8, 2, b"# comment\n", 1),
-];
-
-#[test]
-fn limits_of_a_file_are_exact(rt: HostRuntime) -> Result<(), Fail> {
-    let alloc = rt.alloc();
-    for (line_bytes, lines, text, refused) in LIMITS {
-        let mut inputs = MemInputs::new(files_of(alloc, &[text])?, Fails::never(alloc));
-        let standard = Limits::standard();
-        assert!(rt; line_bytes <= standard.line_bytes && lines <= standard.lines);
-        let limits = Limits {
-            line_bytes,
-            lines,
-            entries: standard.entries,
-            pages: standard.pages,
-            pending: standard.pending,
-        };
-        let task = Task {
-            key: "k",
-            file: 0,
-            limits,
-        };
-        let fault = read_points(alloc, &task, &mut inputs).err();
-        let want = if refused == 0 {
-            None
-        } else {
-            Some(Fault::NotBuilt {
-                file: 0,
-                line: refused,
-            })
-        };
-        assert_eq!(rt; fault, want, "of {text:?}");
-    }
-    Ok(())
-}
-
 #[test]
 fn lines_that_two_reads_share_are_whole(rt: HostRuntime) -> Result<(), Fail> {
     let alloc = rt.alloc();
@@ -220,7 +304,10 @@ fn lines_that_two_reads_share_are_whole(rt: HostRuntime) -> Result<(), Fail> {
     let files = files_of(alloc, &[b"", b"", text.as_bytes()])?;
     let mut inputs = MemInputs::new(files, Fails::never(alloc));
     let mut out = MemSink::new(alloc, Fails::never(alloc));
-    assert_eq!(rt; run(&rt, alloc, &words, &mut inputs, &mut out), refusing(0));
+    assert_eq!(rt;
+        run(&rt, alloc, &words, &mut inputs, &mut out),
+        Outcome::of(None)
+    );
     assert_eq!(rt; out.taken(), want.as_bytes());
     Ok(())
 }

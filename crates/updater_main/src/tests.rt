@@ -3,7 +3,8 @@ use crate::degrees::push_degrees;
 use crate::fault::{Fault, Outcome, fault_line};
 use crate::row::push_point;
 use crate::words::{Command, command_of};
-use osm_base::{Entry, Ids, Key, Kind, Object, OutOfMemory, Place, Tags};
+use opl_object::Why;
+use osm_base::{Entry, Ids, Key, Kind, LimitKind, Object, OutOfMemory, Place, Tags};
 use std::alloc::{AllocError, Global};
 use std::test::Fail;
 
@@ -44,29 +45,31 @@ fn coordinates_are_written_in_degrees(rt: HostRuntime) -> Result<(), Fail> {
     Ok(())
 }
 
-// Words of a command line, and the KEY and the place of INPUT that they give.
-const WORDS: [(&[&str], Option<(&str, u32)>); 24] = [
-    (&["points", "k", "f"], Some(("k", 2))),
-    (&["points", "--", "k", "f"], Some(("k", 3))),
-    (&["points", "--", "a=b", "f"], Some(("a=b", 3))),
-    (&["points", "--", "--", "f"], Some(("--", 3))),
-    (&["points", "k", "--"], Some(("k", 2))),
-    (&["points", "k", "a=b"], Some(("k", 2))),
-    (&["points", "=", "f"], Some(("=", 2))),
-    (&["points", "A=b", "f"], Some(("A=b", 2))),
-    (&["points", "a1=b", "f"], Some(("a1=b", 2))),
-    (&["points", "abc", ""], Some(("abc", 2))),
-    (&["points", "stra\u{df}e", "f"], Some(("stra\u{df}e", 2))),
+// Words of a command line, and the KEY, the place of INPUT and the number of files that they give.
+const WORDS: [(&[&str], Option<(&str, u32, u32)>); 26] = [
+    (&["points", "k", "f"], Some(("k", 2, 1))),
+    (&["points", "k", "f", "g"], Some(("k", 2, 2))),
+    (&["points", "--", "k", "f", "g", "h"], Some(("k", 3, 3))),
+    (&["points", "--", "k", "f"], Some(("k", 3, 1))),
+    (&["points", "--", "a=b", "f"], Some(("a=b", 3, 1))),
+    (&["points", "--", "--", "f"], Some(("--", 3, 1))),
+    (&["points", "k", "--"], Some(("k", 2, 1))),
+    (&["points", "k", "--", "f"], Some(("k", 2, 2))),
+    (&["points", "k", "a=b"], Some(("k", 2, 1))),
+    (&["points", "=", "f"], Some(("=", 2, 1))),
+    (&["points", "A=b", "f"], Some(("A=b", 2, 1))),
+    (&["points", "a1=b", "f"], Some(("a1=b", 2, 1))),
+    (&["points", "abc", ""], Some(("abc", 2, 1))),
+    (&["points", "stra\u{df}e", "f"], Some(("stra\u{df}e", 2, 1))),
     (&[], None),
     (&["points"], None),
     (&["points", "k"], None),
-    (&["points", "k", "f", "g"], None),
+    (&["points", "--", "k"], None),
     (&["points", "", "f"], None),
     (&["points", "a=b", "f"], None),
     (&["points", "a=b", "k", "f"], None),
     (&["points", "abc=", "k", "f"], None),
     (&["points", "a=b", "--", "k", "f"], None),
-    (&["points", "k", "--", "f"], None),
     (&["--", "points", "k", "f"], None),
     (&["point", "k", "f"], None),
     (&["--help"], None),
@@ -95,11 +98,13 @@ fn a_key_has_at_most_255_bytes(rt: HostRuntime) -> Result<(), Fail> {
 }
 
 #[test]
-fn a_line_of_too_many_words_is_no_command(rt: HostRuntime) -> Result<(), Fail> {
-    let mut words = words_of(rt.alloc(), &["points", "k", "f"])?;
+fn a_command_line_has_at_most_4096_words(rt: HostRuntime) -> Result<(), Fail> {
+    let mut words = words_of(rt.alloc(), &["points", "k"])?;
     for _ in 0..4_094 {
         words.push(String::from_str(rt.alloc(), "f")?)?;
     }
+    assert_eq!(rt; parts(command_of(&words)), Some(("k", 2, 4_094)));
+    words.push(String::from_str(rt.alloc(), "f")?)?;
     assert_eq!(rt; command_of(&words), None);
     Ok(())
 }
@@ -114,9 +119,9 @@ fn words_of(alloc: Global, texts: &[&str]) -> Result<Vec<String>, AllocError> {
 }
 
 /// The parts of a command.
-fn parts(command: Option<Command<'_>>) -> Option<(&str, u32)> {
-    let Command::Points { key, input } = command?;
-    Some((key, input))
+fn parts(command: Option<Command<'_>>) -> Option<(&str, u32, u32)> {
+    let Command::Points { key, files } = command?;
+    Some((key, files.first, files.count))
 }
 
 #[test]
@@ -168,19 +173,80 @@ fn cafe_tags(alloc: Global) -> Result<Tags, OutOfMemory> {
 }
 
 // Each fault, with its status and its line.
-const FAULTS: [(Fault, u8, &str); 5] = [
+const FAULTS: [(Fault, u8, &str); 10] = [
     (Fault::Usage, 2, "usage"),
+    (
+        Fault::Malformed {
+            file: 2,
+            line: 16_777_216,
+            why: Why::HalfPlace,
+        },
+        3,
+        "malformed file 2 line 16777216 cause 12",
+    ),
+    (
+        Fault::Malformed {
+            file: 2,
+            line: 2,
+            why: Why::Order {
+                earlier: Key {
+                    kind: Kind::Way,
+                    id: 5,
+                },
+                later: Key {
+                    kind: Kind::Node,
+                    id: 1,
+                },
+            },
+        },
+        3,
+        "malformed file 2 line 2 cause 13 w5 n1",
+    ),
+    (
+        Fault::Malformed {
+            file: 4_095,
+            line: 1,
+            why: Why::Order {
+                earlier: Key {
+                    kind: Kind::Relation,
+                    id: 9_223_372_036_854_775_807,
+                },
+                later: Key {
+                    kind: Kind::Relation,
+                    id: 1,
+                },
+            },
+        },
+        3,
+        "malformed file 4095 line 1 cause 13 r9223372036854775807 r1",
+    ),
     (Fault::ReadFault { file: 2 }, 7, "read fault file 2"),
     (Fault::WriteFault, 8, "write fault"),
-    (Fault::OutOfMemory, 11, "out of memory"),
     (
-        Fault::NotBuilt {
-            file: 2,
-            line: 4_294_967_295,
+        Fault::Limit {
+            which: LimitKind::LineBytes,
+            value: 4_194_305,
         },
-        13,
-        "not built file 2 line 4294967295",
+        10,
+        "limit line-bytes value 4194305",
     ),
+    (
+        Fault::Limit {
+            which: LimitKind::FileLines,
+            value: 16_777_217,
+        },
+        10,
+        "limit file-lines value 16777217",
+    ),
+    (
+        Fault::Limit {
+            which: LimitKind::FileEntries,
+            value: 4_194_305,
+        },
+        10,
+        "limit file-entries value 4194305",
+    ),
+    (Fault::OutOfMemory, 11, "out of memory"),
 ];
 
 #[test]

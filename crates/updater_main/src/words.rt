@@ -1,9 +1,11 @@
 //! The words of the command line.
-ghost use Rattle.std.specs.Prelude.{◌≡◌, ◌≤◌, map, length};
+ghost use Rattle.std.specs.Prelude.{◌≡◌, ◌≤◌, map, length, IfSome};
 ghost use Rattle.std.specs.List.{prefix_len};
 ghost use Rattle.std.specs.Option.{option_map};
 ghost use Rattle.std.specs.String.{string_bytes};
 ghost use Rattle.updater_main.specs.Command as spec;
+
+use crate::files::Files;
 
 /// The most words that a command line may have, the command word counted.
 pub const MAX_WORDS: usize = 4_096;
@@ -11,11 +13,11 @@ pub const MAX_WORDS: usize = 4_096;
 /// The most bytes that a KEY may have.
 pub const MAX_KEY: usize = 255;
 
-/// What the words of a command line ask for. A file is named by the place of its word.
+/// What the words of a command line ask for. A file is told by the place of its word.
 #[derive(Clone, Copy, Debug, PartialEq, Eq)]
 pub enum Command<'a> {
-    /// The nodes of the file INPUT that have the tag KEY and a place.
-    Points { key: &'a str, input: u32 },
+    /// The nodes of the files that have the tag KEY and a place.
+    Points { key: &'a str, files: Files },
 }
 
 /// The command that the words behind the program's name ask for.
@@ -27,6 +29,7 @@ pub enum Command<'a> {
 #[tactic(auto, unfolding(crate::specs::Command::command))]
 pub fn command_of(words: &[String]) -> Option<Command<'_>>
     ensures command { option_map spec.seen result ≡ spec.command (map string_bytes words.now) }
+    ensures fits { IfSome result (λ command. spec.FilesFit (spec.seen command)) }
 {
     let (name, later) = words.split_first()?;
     if words.len() > MAX_WORDS {
@@ -80,18 +83,23 @@ fn without_dashes(words: &[String]) -> &[String]
     }
 }
 
-/// `points KEY INPUT`, whose first word has this place.
+/// `points KEY INPUT CHANGE*`, whose first word has this place.
 fn points<'a>(options: &[String], form: &'a [String], place: u32) -> Option<Command<'a>>
-    requires { place ≤ MAX_WORDS }
+    requires place { place ≤ MAX_WORDS }
+    requires form { length form.now ≤ MAX_WORDS }
     ensures points { option_map spec.seen result
         ≡ spec.points (map string_bytes options.now) (map string_bytes form.now) place }
+    ensures fits { IfSome result (λ command. spec.FilesFit (spec.seen command)) }
 {
-    let [key, _] = form else { return None };
-    if !options.is_empty() || key.is_empty() || key.len() > MAX_KEY {
+    let (key, files) = form.split_first()?;
+    if !options.is_empty() || files.is_empty() || key.is_empty() || key.len() > MAX_KEY {
         return None;
     }
     Some(Command::Points {
         key: key.as_str(),
-        input: place + 1,
+        files: Files {
+            first: place + 1,
+            count: files.len() as u32,
+        },
     })
 }

@@ -1,8 +1,16 @@
-use Rattle.opl_object.proofs.SpelledLines.{Gives-said, Gives-read}
+use Rattle.std.proofs.Common.{◌∙◌, sym}
+use Rattle.opl_object.proofs.Promises.{found_spells, again_gives, never_order}
+use Rattle.opl_object.proofs.SpelledLines.{skipped_reads}
 use Rattle.opl_object.proofs.line.read_line.Goals as goal
 
-pub returns-clause-said : goal.returns-clause-said
-returns-clause-said c = Gives-said c.args.line.now c.read.result c.read.ensures.value
+pub returns-then-is_skipped-clause-exact : goal.returns-then-is_skipped-clause-exact
+returns-then-is_skipped-clause-exact c = skipped_reads c.args.line.now (sym c.is_skipped.ensures.value ∙ c.if-is_skipped.true)
+
+pub returns-clause-spelled : goal.returns-clause-spelled
+returns-clause-spelled c = found_spells c.args.line.now c.read_counted.result c.read_counted.ensures.exact
 
 pub returns-clause-read : goal.returns-clause-read
-returns-clause-read c = Gives-read c.args.line.now c.read.result c.read.ensures.value
+returns-clause-read c = λ entry s. again_gives c.args.line.now entry c.read_counted.result s c.read_counted.ensures.exact
+
+pub returns-clause-in_order : goal.returns-clause-in_order
+returns-clause-in_order c = λ earlier later e. never_order c.args.line.now earlier later c.read_counted.result c.read_counted.ensures.exact e

@@ -8,6 +8,7 @@ pub returns-in-points : goal.returns-in-points
 returns-in-points c =
     let words = c.in_ok-name.ensures.cases.0 in
     record {
+      fits = c.points.ensures.fits;
       command =
           c.points.ensures.points
           ∙ command-points string_bytes c.in_ok-name.name.now c.in_ok-name.later.now c.split_at.result.0.now c.without_dashes-form.result.now c.count_options.result _

@@ -1,0 +1,6 @@
+mod Found
+mod KeyTree
+mod Lines
+mod Proper
+mod Rising
+mod WholeFile

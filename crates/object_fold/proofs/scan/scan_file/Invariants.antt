@@ -1,0 +1,22 @@
+use Rattle.std.proofs.Common.{◌≡◌, ◌≢◌, ◌≤◌, ◌<◌, ℕ, length}
+use Rattle.opl_lines.specs.Reading.{room}
+use Rattle.outside.specs.Bytes.{BothKnown}
+use Rattle.object_fold.specs.Entries.{entries_of}
+use Rattle.object_fold.specs.Keeps.{kept_all}
+use Rattle.object_fold.specs.Reading.{entries_left, IsReady, TakesNext}
+use Rattle.object_fold.proofs.scan.scan_file.Given as goal
+
+-- what is left of the file makes of the keeper now what the whole file makes of it
+abbrev pub invariant-loop-progress : goal.invariant-loop-progress
+invariant-loop-progress g l = record {
+  ready : IsReady l.limits l.progress;
+  some : 0 < length l.buffer.items;
+  takes : TakesNext g.K.Keeper.takes l.progress.passed.last l.keeper;
+  entries : BothKnown (g.I.Inputs.left l.fn.inputs l.file) (g.I.Inputs.left l.inputs l.file)
+      (λ bytes rest. kept_all g.K.Keeper.after l.fn.keeper (entries_of l.limits bytes) ≡ kept_all g.K.Keeper.after l.keeper (entries_left l.limits l.progress rest));
+  later : g.I.Inputs.faults l.fn.inputs ≤ g.I.Inputs.faults l.inputs;
+  others : (other : ℕ) → other ≢ l.file → g.I.Inputs.left l.inputs other ≡ g.I.Inputs.left l.fn.inputs other;
+}
+
+abbrev pub decreases-loop-progress : goal.decreases-loop-progress
+decreases-loop-progress g l = room l.progress.reader

@@ -1,0 +1,16 @@
+use Rattle.std.proofs.Common.{◌≡◌, ◌≢◌, ◌≤◌, ◌<◌, ◌-◌, ◌++◌, ℕ, length}
+use Rattle.outside.specs.Bytes.{BothKnown}
+use Rattle.object_fold.proofs.whole.read_all.Given as goal
+
+-- the bytes that are kept, and then those that are left, are the file
+abbrev pub invariant-loop-bytes : goal.invariant-loop-bytes
+invariant-loop-bytes g l = record {
+  some : 0 < length l.buffer.items;
+  within : length l.bytes.items ≤ l.max;
+  whole : BothKnown (g.I.Inputs.left l.fn.inputs l.file) (g.I.Inputs.left l.inputs l.file) (λ before after. before ≡ l.bytes.items ++ after);
+  later : g.I.Inputs.faults l.fn.inputs ≤ g.I.Inputs.faults l.inputs;
+  others : (other : ℕ) → other ≢ l.file → g.I.Inputs.left l.inputs other ≡ g.I.Inputs.left l.fn.inputs other;
+}
+
+abbrev pub decreases-loop-bytes : goal.decreases-loop-bytes
+decreases-loop-bytes g l = l.max - length l.bytes.items

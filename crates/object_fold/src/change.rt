@@ -1,0 +1,72 @@
+//! The entries of a file, kept.
+ghost use Rattle.std.specs.Prelude.{◌≡◌, List, [], None, IsTrue, OnOk};
+ghost use Rattle.osm_base.specs.Key.{KeyOf};
+ghost use Rattle.osm_base.specs.KeyOrder.{is_below};
+ghost use Rattle.object_fold.specs.Change.{IsChange, IsProper, Follows, last_key};
+ghost use Rattle.object_fold.specs.Keeps.{pushed};
+
+use crate::Keeper;
+use osm_base::{Entry, OutOfMemory};
+use std::alloc::Global;
+use std::marker::Model;
+
+/// Entries whose keys strictly rise, each object of its key's kind; the nodes of a way have ids.
+#[derive(Debug, Drop)]
+pub struct Change {
+    entries: Vec<Entry>,
+}
+
+impl Model for Change {
+    ghost use Rattle.std.specs.Prelude.{List};
+    ghost use Rattle.std.specs.Coded.{coded_list};
+    ghost use Rattle.osm_base.specs.declared.object.Entry.{Entry};
+    ghost use Rattle.osm_base.specs.contracts.object.Entry as entry;
+    ghost use Rattle.object_fold.specs.Change.{IsChange};
+
+    ghost Value = { List Entry };
+
+    ghost coded = { coded_list entry.the_row.coded };
+
+    ghost view = { λ change. change.entries.items };
+
+    ghost invariant = { λ change. IsChange change.entries.items };
+}
+
+impl Change {
+    /// No entry.
+    pub fn new(alloc: Global) -> Self
+        ensures empty { result ≡ [] }
+    {
+        Self {
+            entries: Vec::new(alloc),
+        }
+    }
+
+    /// The entries in order.
+    pub fn entries(&self) -> &[Entry]
+        ensures entries { result.now ≡ self.now }
+        ensures rise { IsChange self.now }
+    {
+        self.entries.as_slice()
+    }
+
+    /// The vector of the entries.
+    pub fn into_entries(self) -> Vec<Entry>
+        ensures entries { result.items ≡ self }
+        ensures rise { IsChange self }
+    {
+        let Self { entries } = self;
+        entries
+    }
+}
+
+impl Keeper for Change {
+    ghost takes = { λ change next. Follows (last_key None change) next };
+
+    ghost after = { pushed };
+
+    fn keep(&mut self, entry: Entry) -> Result<(), OutOfMemory> {
+        self.entries.push(entry)?;
+        Ok(())
+    }
+}

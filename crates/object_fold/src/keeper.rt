@@ -1,0 +1,24 @@
+//! Who is given the entries of a file.
+ghost use Rattle.std.specs.Prelude.{◌≡◌, OnOk, IsTrue};
+ghost use Rattle.osm_base.specs.Key.{KeyOf};
+ghost use Rattle.osm_base.specs.KeyOrder.{is_below};
+ghost use Rattle.osm_base.specs.declared.object.Entry.{Entry as EntryOf};
+ghost use Rattle.object_fold.specs.Change.{IsProper};
+
+use osm_base::{Entry, OutOfMemory};
+
+/// Keeps what it needs of the entries of a file, which it is given one after another by rising keys.
+pub trait Keeper: Drop {
+    /// It may be given an entry with this key next.
+    ghost takes: { Self → KeyOf → Type 0 };
+
+    /// What it is with one entry more.
+    ghost after: { Self → EntryOf → Self };
+
+    /// Takes the next entry.
+    fn keep(&mut self, entry: Entry) -> Result<(), OutOfMemory>
+        requires takes { takes self.old entry.key }
+        requires proper { IsProper entry }
+        ensures ok { OnOk result (self.new ≡ after self.old entry) }
+        ensures rises { OnOk result ((next : KeyOf) → IsTrue (is_below entry.key next) → takes self.new next) };
+}

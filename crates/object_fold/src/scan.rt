@@ -1,0 +1,104 @@
+//! A file of entries, read piece by piece to its end.
+ghost use Rattle.std.specs.Prelude.{◌≡◌, ◌≢◌, ◌≤◌, ◌<◌, ℕ, None, true, length, IfOk, IfErr, OnOk};
+ghost use Rattle.osm_base.specs.Limits.{IsWithinStandard};
+ghost use Rattle.opl_lines.specs.Reading.{room};
+ghost use Rattle.outside.specs.Causes.{Rose};
+ghost use Rattle.object_fold.specs.Reading.{IsReady, TakesNext, ReadsOn, ReadsAll, IsKeptFault, IsFaultOf, HasEntries};
+ghost use Rattle.object_fold.specs.Stops.{Stops};
+
+use crate::progress::Progress;
+use crate::{Change, FileFault, Keeper};
+use osm_base::{Limits, OutOfMemory};
+use outside::Inputs;
+use std::alloc::Global;
+
+/// How many bytes are asked of a file at a time.
+const PIECE: usize = 65_536;
+
+/// Room for the bytes of one read.
+pub(crate) fn piece_buffer(alloc: Global) -> Result<Vec<u8>, OutOfMemory>
+    ensures some { IfOk result (λ buffer. 0 < length buffer.items) }
+{
+    Ok(vec![in alloc; 0u8; PIECE]?)
+}
+
+/// One read of the file, and all lines that end in it. `false`: the file is at its end.
+fn read_on<I: Inputs, K: Keeper>(
+    alloc: Global,
+    inputs: &mut I,
+    file: u32,
+    limits: &Limits,
+    buffer: &mut [u8],
+    progress: &mut Progress,
+    keeper: &mut K,
+) -> Result<bool, FileFault>
+    requires limits { IsWithinStandard limits.now }
+    requires some { 0 < length buffer.old }
+    requires ready { IsReady limits.now progress.old }
+    requires takes { TakesNext K.takes progress.old.passed.last keeper.old }
+    ensures ready { OnOk result (IsReady limits.now progress.new) }
+    ensures takes { OnOk result (TakesNext K.takes progress.new.passed.last keeper.new) }
+    ensures bytes { IfOk result (λ more. ReadsOn K.after limits.now progress.old keeper.old progress.new keeper.new more
+        (I.left inputs.old file) (I.left inputs.new file)) }
+    ensures room { IfOk result (λ more. more ≡ true → room progress.new.reader < room progress.old.reader) }
+    ensures stopped { IfErr result (Stops (IsKeptFault K.after limits.now progress.old keeper.old (I.left inputs.old file))
+        (Rose (I.faults inputs.old) (I.faults inputs.new))) }
+    ensures later { I.faults inputs.old ≤ I.faults inputs.new }
+    ensures others { (other : ℕ) → other ≢ file → I.left inputs.new other ≡ I.left inputs.old other }
+{
+    let Ok(count) = inputs.next(file, buffer) else {
+        return Err(FileFault::ReadFault);
+    };
+    if count == 0 {
+        return Ok(false);
+    }
+    progress.take(alloc, limits, keeper, &buffer[..count])?;
+    Ok(true)
+}
+
+/// Gives a keeper the entries of a file, one after another, while the whole file is read and tested.
+pub fn scan_file<I: Inputs, K: Keeper>(
+    alloc: Global,
+    inputs: &mut I,
+    file: u32,
+    limits: &Limits,
+    keeper: &mut K,
+) -> Result<(), FileFault>
+    requires limits { IsWithinStandard limits.now }
+    requires takes { TakesNext K.takes None keeper.old }
+    ensures ok { OnOk result (ReadsAll K.after limits.now keeper.old keeper.new (I.left inputs.old file) (I.left inputs.new file)) }
+    ensures stopped { IfErr result (Stops (IsFaultOf limits.now (I.left inputs.old file)) (Rose (I.faults inputs.old) (I.faults inputs.new))) }
+    ensures later { I.faults inputs.old ≤ I.faults inputs.new }
+    ensures others { (other : ℕ) → other ≢ file → I.left inputs.new other ≡ I.left inputs.old other }
+{
+    let mut buffer = piece_buffer(alloc)?;
+    let mut progress = Progress::new(alloc, limits);
+    while read_on(
+        alloc,
+        inputs,
+        file,
+        limits,
+        &mut buffer,
+        &mut progress,
+        keeper,
+    )? {}
+    progress.finish(alloc, limits, keeper)
+}
+
+/// The entries of a file.
+pub fn read_file<I: Inputs>(
+    alloc: Global,
+    inputs: &mut I,
+    file: u32,
+    limits: &Limits,
+) -> Result<Change, FileFault>
+    requires limits { IsWithinStandard limits.now }
+    ensures ok { IfOk result (λ change. HasEntries limits.now change (I.left inputs.old file) (I.left inputs.new file)) }
+    ensures stopped { IfErr result (Stops (IsFaultOf limits.now (I.left inputs.old file)) (Rose (I.faults inputs.old) (I.faults inputs.new))) }
+    ensures later { I.faults inputs.old ≤ I.faults inputs.new }
+    ensures others { (other : ℕ) → other ≢ file → I.left inputs.new other ≡ I.left inputs.old other }
+{
+    let mut change = Change::new(alloc);
+    scan_file(alloc, inputs, file, limits, &mut change)?;
+    Ok(change)
+}

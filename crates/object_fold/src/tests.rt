@@ -1,0 +1,163 @@
+ghost use Rattle.osm_base.specs.Key.{IsId};
+ghost use Rattle.osm_base.specs.Limits.{IsWithinStandard};
+
+use crate::{Change, FileFault, WholeFault, read_all, read_file};
+use opl_object::Why;
+use osm_base::{Bytes, FileList, Ids, Key, Kind, LimitKind, Limits};
+use outside::{Fails, MemInputs};
+use std::alloc::Global;
+use std::test::Fail;
+
+// One file, whose word has the number 0.
+fn inputs(alloc: Global, text: &[u8], fails: Fails) -> Result<MemInputs, Fail> {
+    let mut files = FileList::new(alloc);
+    files.push(Bytes::from_vec(Vec::from_slice(alloc, text)?))?;
+    Ok(MemInputs::new(files, fails))
+}
+
+fn small() -> Limits {
+    Limits {
+        line_bytes: 8,
+        lines: 2,
+        entries: 1,
+        pages: 0,
+        pending: 0,
+    }
+}
+
+fn read(alloc: Global, text: &[u8], limits: &Limits) -> Result<Result<Change, FileFault>, Fail>
+    requires { IsWithinStandard limits.now }
+{
+    let mut inputs = inputs(alloc, text, Fails::never(alloc))?;
+    Ok(read_file(alloc, &mut inputs, 0, limits))
+}
+
+fn fault(alloc: Global, text: &[u8], limits: &Limits) -> Result<Option<FileFault>, Fail>
+    requires { IsWithinStandard limits.now }
+{
+    Ok(read(alloc, text, limits)?.err())
+}
+
+fn node(id: u64) -> Key
+    requires { IsId id }
+{
+    Key::new(Kind::Node, id)
+}
+
+#[test]
+fn nodes_come_before_ways_and_these_before_relations(rt: HostRuntime) -> Result<(), Fail> {
+    let text = b"# a map\nn2 v1 x1 y2\nn10\n\nw1 Nn2,n10\nr1 Mn2@a\n";
+    let change = read(rt.alloc(), text, &Limits::standard())??;
+    let entries = change.entries();
+    assert_eq!(rt; entries.len(), 4);
+    assert_eq!(rt; entries[0].key, node(2));
+    assert_eq!(rt; entries[3].key, Key::new(Kind::Relation, 1));
+    assert!(rt; entries[3].object.is_some());
+    Ok(())
+}
+
+#[test]
+fn a_deleted_object_is_none(rt: HostRuntime) -> Result<(), Fail> {
+    let change = read(rt.alloc(), b"n1 dD x1 y2", &Limits::standard())??;
+    assert_eq!(rt; change.entries().len(), 1);
+    assert!(rt; change.entries()[0].object.is_none());
+    Ok(())
+}
+
+#[test]
+fn a_key_has_to_be_above_the_one_before(rt: HostRuntime) -> Result<(), Fail> {
+    let limits = Limits::standard();
+    for text in [b"n3\n#\nn3\n".as_slice(), b"n3\n\nn3"] {
+        let why = Why::Order {
+            earlier: node(3),
+            later: node(3),
+        };
+        assert_eq!(rt;
+            fault(rt.alloc(), text, &limits)?,
+            Some(FileFault::Malformed { line: 3, why })
+        );
+    }
+    let why = Why::Order {
+        earlier: Key::new(Kind::Way, 1),
+        later: node(2),
+    };
+    assert_eq!(rt;
+        fault(rt.alloc(), b"w1\nn2\nn!", &limits)?,
+        Some(FileFault::Malformed { line: 2, why })
+    );
+    Ok(())
+}
+
+#[test]
+fn the_first_line_with_a_fault_decides(rt: HostRuntime) -> Result<(), Fail> {
+    let found = fault(rt.alloc(), b"n1\nn2 z\nn1\n", &Limits::standard())?;
+    assert_eq!(rt;
+        found,
+        Some(FileFault::Malformed {
+            line: 2,
+            why: Why::Field
+        })
+    );
+    Ok(())
+}
+
+// A limit of 8 bytes a line, 2 lines and 1 entry.
+#[test]
+fn limits_are_passed_by_one(rt: HostRuntime) -> Result<(), Fail> {
+    let limits = small();
+    assert!(rt; read(rt.alloc(), b"n1 x1 y1", &limits)?.is_ok());
+    let passed: [(&[u8], LimitKind, u64); 4] = [
+        (b"n1 x10 y1", LimitKind::LineBytes, 9),
+        (b"#\n#\n#", LimitKind::FileLines, 3),
+        (b"#\n#\n\n", LimitKind::FileLines, 3),
+        (b"n1\nn2", LimitKind::FileEntries, 2),
+    ];
+    for (text, which, value) in passed {
+        assert_eq!(rt;
+            fault(rt.alloc(), text, &limits)?,
+            Some(FileFault::Limit { which, value })
+        );
+    }
+    Ok(())
+}
+
+#[test]
+fn a_read_that_fails_is_told(rt: HostRuntime) -> Result<(), Fail> {
+    let alloc = rt.alloc();
+    let limits = Limits::standard();
+    for at in [1, 2] {
+        let mut first = inputs(
+            alloc,
+            b"n1\n",
+            Fails::new(Ids::from_vec(Vec::from_slice(alloc, &[at])?), 0),
+        )?;
+        assert_eq!(rt;
+            read_file(alloc, &mut first, 0, &limits).err(),
+            Some(FileFault::ReadFault)
+        );
+        let mut second = inputs(
+            alloc,
+            b"n1\n",
+            Fails::new(Ids::from_vec(Vec::from_slice(alloc, &[at])?), 0),
+        )?;
+        assert_eq!(rt;
+            read_all(alloc, &mut second, 0, 9).err(),
+            Some(WholeFault::ReadFault)
+        );
+    }
+    Ok(())
+}
+
+#[test]
+fn a_file_is_read_whole_up_to_its_limit(rt: HostRuntime) -> Result<(), Fail> {
+    let alloc = rt.alloc();
+    let mut file = inputs(alloc, b"three", Fails::never(alloc))?;
+    let bytes = read_all(alloc, &mut file, 0, 5)?;
+    assert_eq!(rt; bytes.as_slice(), b"three".as_slice());
+    let mut longer = inputs(alloc, b"three", Fails::never(alloc))?;
+    assert_eq!(rt;
+        read_all(alloc, &mut longer, 0, 4).err(),
+        Some(WholeFault::TooLong)
+    );
+    Ok(())
+}

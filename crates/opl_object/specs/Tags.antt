@@ -1,0 +1,28 @@
+-- The tags of a line.
+-- osmium "OPL File Format": T has tags that are separated by commas, each a key, an equals sign and a value.
+use Rattle.std.specs.Prelude.{ℕ, if◌then◌else◌, List, Option, None, Some, Result, Ok, Err, is_some}
+use Rattle.std.specs.List.{slice_split}
+use Rattle.std.specs.FinMap as map
+use Rattle.osm_base.specs.Tags.{TagMap}
+use Rattle.opl_object.specs.declared.why.Why.{Why}
+use Rattle.opl_object.specs.declared.why.Why.TheVariants.{Tag, RepeatedKey}
+use Rattle.opl_object.specs.Fields.{is, is_empty, cut_at}
+use Rattle.opl_object.specs.Text.{text_of}
+use Rattle.opl_object.specs.Why.{◌>>=◌, each_piece}
+
+-- one tag more, whose key is not there yet
+abbrev pub with_tag : TagMap → List ℕ → List ℕ → Result TagMap Why
+with_tag tags key value = if is_some (map.get tags key) then Err RepeatedKey else Ok (map.insert tags key value)
+
+-- what stands before the first equals sign is the key, what stands after it the value
+abbrev pub with_pair : TagMap → List ℕ × Option (List ℕ) → Result TagMap Why
+with_pair tags (key, None) = Err Tag
+with_pair tags (key, Some value) = text_of key >>= λ key. text_of value >>= λ value. with_tag tags key value
+
+-- one piece more
+unfoldable pub with_piece : TagMap → List ℕ → Result TagMap Why
+with_piece tags piece = with_pair tags (cut_at (is 61) piece)
+
+-- nothing, or tags separated by commas
+unfoldable pub tags_of : List ℕ → Result TagMap Why
+tags_of text = if is_empty text then Ok map.empty else each_piece with_piece map.empty (slice_split (is 44) text)

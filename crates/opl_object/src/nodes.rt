@@ -1,0 +1,102 @@
+//! The node references of a way.
+ghost use Rattle.std.specs.Prelude.{◌≡◌, ◌≤◌, ℕ, [], IfOk};
+ghost use Rattle.std.specs.List.{slice_split};
+ghost use Rattle.opl_object.specs.Fields.{is};
+ghost use Rattle.osm_base.specs.Key.{IsId};
+ghost use Rattle.opl_object.specs.Nodes.{numbered, placed, place_pair, node_of, with_node, nodes_of};
+ghost use Rattle.opl_object.specs.Why.{Gives, Tells, each_piece};
+ghost use Rattle.std.specs.Option.{option_map};
+
+use crate::coordinate::coordinate;
+use crate::fields::{behind, cut, digits_len, pieces};
+use crate::number::id_of;
+use crate::{LineRefused, Why};
+use osm_base::{Ids, MAX_LAT, MAX_LON};
+use std::alloc::Global;
+
+/// The greatest longitude and latitude, without a sign.
+pub(crate) const FURTHEST_EAST: u32 = MAX_LON as u32;
+
+pub(crate) const FURTHEST_NORTH: u32 = MAX_LAT as u32;
+
+/// The node ids of a value.
+#[tactic(auto, unfolding(crate::specs::Nodes::nodes_of))]
+pub(crate) fn nodes_of(alloc: Global, text: &str) -> Result<Ids, LineRefused>
+    ensures nodes { Gives (λ nodes. nodes) result (nodes_of text.now) }
+{
+    if text.is_empty() {
+        return Ok(Ids::new(alloc));
+    }
+    Ok(Ids::from_vec(nodes_between(alloc, text)?))
+}
+
+/// The node ids of the pieces between commas.
+fn nodes_between(alloc: Global, text: &str) -> Result<Vec<u64>, LineRefused>
+    ensures nodes { Gives (λ nodes. nodes.items) result (each_piece with_node [] (slice_split (is 44) text.now)) }
+{
+    let mut nodes = Vec::with_capacity(alloc, pieces(text))?;
+    let mut left = Some(text);
+    while let Some(text) = left {
+        let (piece, later) = cut(text, b',');
+        nodes.push(node_of(piece)?)?;
+        left = later;
+    }
+    Ok(nodes)
+}
+
+/// The id of a node reference.
+#[tactic(auto, unfolding(crate::specs::Nodes::node_of))]
+fn node_of(piece: &str) -> Result<u64, Why>
+    ensures node { result ≡ node_of piece.now }
+{
+    let Some(rest) = behind(piece, b'n') else {
+        return Err(Why::Member);
+    };
+    let (id, place) = numbered(rest)?;
+    placed(place)?;
+    Ok(id)
+}
+
+/// The digits in front as an id, and what stands after them.
+#[tactic(auto, unfolding(crate::specs::Nodes::numbered))]
+pub(crate) fn numbered(text: &str) -> Result<(u64, &str), Why>
+    ensures parts { Tells (λ (id, rest). (id, rest.now)) result (numbered text.now) }
+    ensures id { IfOk result (λ (id, _). IsId id) }
+{
+    let (digits, rest) = text.split_at(digits_len(text.as_bytes()));
+    Ok((id_of(digits.as_bytes())?, rest))
+}
+
+/// Tests that nothing stands after an id, or a place.
+#[tactic(auto, unfolding(crate::specs::Nodes::placed))]
+fn placed(text: &str) -> Result<(), Why>
+    ensures place { result ≡ placed text.now }
+{
+    if text.is_empty() {
+        return Ok(());
+    }
+    let Some(place) = behind(text, b'x') else {
+        return Err(Why::Member);
+    };
+    let (lon, lat) = cut(place, b'y');
+    let Some(lat) = lat else {
+        return Err(Why::HalfPlace);
+    };
+    place_pair(lon, lat)
+}
+
+/// Tests that nothing stands on both sides, or a longitude and a latitude.
+#[tactic(auto, unfolding(crate::specs::Nodes::place_pair))]
+fn place_pair(lon: &str, lat: &str) -> Result<(), Why>
+    ensures place { result ≡ place_pair lon.now lat.now }
+{
+    if lon.is_empty() && lat.is_empty() {
+        return Ok(());
+    }
+    if lon.is_empty() || lat.is_empty() {
+        return Err(Why::HalfPlace);
+    }
+    coordinate(FURTHEST_EAST, lon.as_bytes())?;
+    coordinate(FURTHEST_NORTH, lat.as_bytes())?;
+    Ok(())
+}

@@ -1,0 +1,161 @@
+//! What the fields of a line say.
+ghost use Rattle.std.specs.Prelude.{◌≡◌, OnOk, IfOk};
+ghost use Rattle.std.specs.FinMap as map;
+ghost use Rattle.opl_object.specs.Earth.{AreOnEarth};
+ghost use Rattle.opl_object.specs.Fields.{fields_of};
+ghost use Rattle.opl_object.specs.Letter.{none_stood};
+ghost use Rattle.opl_object.specs.Parts.{nothing, with_visible, with_lon, with_lat, with_value, new_field, with_field, parts_of};
+ghost use Rattle.opl_object.specs.Seen.{stands};
+ghost use Rattle.opl_object.specs.Why.{Gives, Tells};
+
+use crate::coordinate::coordinate;
+use crate::fields::next_field;
+use crate::letter::{Letter, Seen, letter_at};
+use crate::members::members_of;
+use crate::nodes::{FURTHEST_EAST, FURTHEST_NORTH, nodes_of};
+use crate::number::{is_time, is_whole};
+use crate::tags::tags_of;
+use crate::text::check_text;
+use crate::{LineRefused, Why};
+use osm_base::{Ids, Kind, Members, Tags};
+use std::alloc::Global;
+
+/// What the fields of a line say.
+#[derive(Debug, Drop)]
+pub struct Parts {
+    pub deleted: bool,
+    pub lon: Option<i32>,
+    pub lat: Option<i32>,
+    pub tags: Tags,
+    pub nodes: Ids,
+    pub members: Members,
+}
+
+impl Parts {
+    /// Nothing yet.
+    pub(crate) fn new(alloc: Global) -> Self
+        ensures nothing { result ≡ nothing }
+        ensures earth { AreOnEarth result }
+    {
+        Self {
+            deleted: false,
+            lon: None,
+            lat: None,
+            tags: Tags::new(alloc),
+            nodes: Ids::new(alloc),
+            members: Members::new(alloc),
+        }
+    }
+
+    /// Adds the value of a letter.
+    #[tactic(auto, unfolding(crate::specs::Parts::with_value, crate::specs::Text::text_of, crate::specs::Text::checked_text))]
+    fn add(&mut self, alloc: Global, letter: Letter, value: &str) -> Result<(), LineRefused>
+        ensures parts { Gives (λ _. self.new) result (with_value letter value.now self.old) }
+        ensures earth { OnOk result (AreOnEarth self.old → AreOnEarth self.new) }
+    {
+        match letter {
+            Letter::Version | Letter::Changeset | Letter::UserId => {
+                if !is_whole(value.as_bytes()) {
+                    return Err(LineRefused::Bad(Why::Number));
+                }
+                Ok(())
+            }
+            Letter::Time => {
+                if !is_time(value.as_bytes()) {
+                    return Err(LineRefused::Bad(Why::Number));
+                }
+                Ok(())
+            }
+            Letter::Visible => Ok(self.add_visible(value)?),
+            Letter::User => Ok(check_text(value)?),
+            Letter::Tags => {
+                self.tags = tags_of(alloc, value)?;
+                Ok(())
+            }
+            Letter::Lon => Ok(self.add_lon(value)?),
+            Letter::Lat => Ok(self.add_lat(value)?),
+            Letter::Nodes => {
+                self.nodes = nodes_of(alloc, value)?;
+                Ok(())
+            }
+            Letter::Members => {
+                self.members = members_of(alloc, value)?;
+                Ok(())
+            }
+        }
+    }
+
+    /// Adds a longitude, where there is one.
+    fn add_lon(&mut self, value: &str) -> Result<(), Why>
+        ensures parts { Tells (λ _. self.new) result (with_lon value.now self.old) }
+        ensures earth { OnOk result (AreOnEarth self.old → AreOnEarth self.new) }
+    {
+        if value.is_empty() {
+            return Ok(());
+        }
+        self.lon = Some(coordinate(FURTHEST_EAST, value.as_bytes())?);
+        Ok(())
+    }
+
+    /// Adds a latitude, where there is one.
+    fn add_lat(&mut self, value: &str) -> Result<(), Why>
+        ensures parts { Tells (λ _. self.new) result (with_lat value.now self.old) }
+        ensures earth { OnOk result (AreOnEarth self.old → AreOnEarth self.new) }
+    {
+        if value.is_empty() {
+            return Ok(());
+        }
+        self.lat = Some(coordinate(FURTHEST_NORTH, value.as_bytes())?);
+        Ok(())
+    }
+
+    /// Adds whether the object is deleted.
+    fn add_visible(&mut self, value: &str) -> Result<(), Why>
+        ensures parts { Tells (λ _. self.new) result (with_visible value.now self.old) }
+        ensures earth { OnOk result (AreOnEarth self.old → AreOnEarth self.new) }
+    {
+        match value.as_bytes() {
+            [b'V'] => Ok(()),
+            [b'D'] => {
+                self.deleted = true;
+                Ok(())
+            }
+            _ => Err(Why::Field),
+        }
+    }
+}
+
+/// What the fields of a line of this kind say.
+pub(crate) fn read_fields(alloc: Global, kind: Kind, text: &str) -> Result<Parts, LineRefused>
+    ensures parts { Gives (λ parts. parts) result (parts_of kind (fields_of text.now)) }
+    ensures earth { IfOk result AreOnEarth }
+{
+    let mut seen = Seen::new();
+    let mut parts = Parts::new(alloc);
+    let mut left = text;
+    while let Some((field, later)) = next_field(left) {
+        read_field(alloc, kind, &mut seen, &mut parts, field)?;
+        left = later;
+    }
+    Ok(parts)
+}
+
+/// Adds what a field says.
+fn read_field(
+    alloc: Global,
+    kind: Kind,
+    seen: &mut Seen,
+    parts: &mut Parts,
+    field: &str,
+) -> Result<(), LineRefused>
+    ensures parts { Gives (λ _. (stands seen.new, parts.new)) result (with_field kind (stands seen.old, parts.old) field.now) }
+    ensures earth { OnOk result (AreOnEarth parts.old → AreOnEarth parts.new) }
+{
+    let Some((letter, value)) = letter_at(kind, field) else {
+        return Err(LineRefused::Bad(Why::Field));
+    };
+    if seen.add(letter) {
+        return Err(LineRefused::Bad(Why::Repeated));
+    }
+    parts.add(alloc, letter, value)
+}
