@@ -15,7 +15,9 @@ fn inputs(alloc: Global, text: &[u8], fails: Fails) -> Result<MemInputs, Fail> {
     Ok(MemInputs::new(files, fails))
 }
 
-fn small() -> Limits {
+fn small() -> Limits
+    ensures within { IsWithinStandard result }
+{
     Limits {
         line_bytes: 8,
         lines: 2,
