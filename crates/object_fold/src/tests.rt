@@ -1,9 +1,9 @@
 ghost use Rattle.osm_base.specs.Key.{IsId};
 ghost use Rattle.osm_base.specs.Limits.{IsWithinStandard};
 
-use crate::{Change, FileFault, WholeFault, read_all, read_file};
+use crate::{Change, FileFault, Objects, WholeFault, read_all, read_file};
 use opl_object::Why;
-use osm_base::{Bytes, FileList, Ids, Key, Kind, LimitKind, Limits};
+use osm_base::{Bytes, FileList, Ids, Key, Kind, LimitKind, Limits, Object};
 use outside::{Fails, MemInputs};
 use std::alloc::Global;
 use std::test::Fail;
@@ -161,5 +161,22 @@ fn a_file_is_read_whole_up_to_its_limit(rt: HostRuntime) -> Result<(), Fail> {
         read_all(alloc, &mut longer, 0, 4).err(),
         Some(WholeFault::TooLong)
     );
+    Ok(())
+}
+
+#[test]
+fn later_objects_take_the_place_of_earlier_ones(rt: HostRuntime) -> Result<(), Fail> {
+    let alloc = rt.alloc();
+    let limits = Limits::standard();
+    let mut objects = Objects::new(alloc);
+    objects.fold(read(alloc, b"n1 x1 y2 Ta=b\nn2 x3 y4\nw1 Nn1,n2\n", &limits)??)?;
+    objects.fold(read(alloc, b"n1 x5 y6\nn2 dD\nn3\n", &limits)??)?;
+    match objects.object_of(node(1)) {
+        Some(Object::Node { tags, .. }) => assert!(rt; tags.get("a").is_none()),
+        _ => assert!(rt; false, "node 1 is there"),
+    }
+    assert!(rt; objects.object_of(node(2)).is_none());
+    assert!(rt; objects.object_of(node(3)).is_some());
+    assert!(rt; objects.object_of(Key::new(Kind::Way, 1)).is_some());
     Ok(())
 }
