@@ -1,6 +1,8 @@
+pub mod Ids
 pub mod Key
 pub mod KeyOrder
+pub mod Known
 pub mod Limits
 pub mod Place
-pub mod Tags
 pub mod TagText
+pub mod Tags

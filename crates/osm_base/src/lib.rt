@@ -7,9 +7,11 @@
 //! as plain records.
 #![tactic(auto)]
 
+mod back;
 mod items;
 mod key;
 mod limits;
+mod lookup;
 mod memory;
 mod object;
 mod place;
@@ -18,9 +20,11 @@ mod tags;
 mod tests;
 mod text;
 
+pub use back::Back;
 pub use items::{Bytes, FileList, Ids, Items, LineList, Places, Polygons, TryCopy};
 pub use key::{Key, Kind, MAX_ID};
 pub use limits::{LimitKind, Limits};
+pub use lookup::Lookup;
 pub use memory::OutOfMemory;
 pub use object::{Entry, Member, Members, Object};
 pub use place::{GeoBox, MAX_LAT, MAX_LON, Place};
