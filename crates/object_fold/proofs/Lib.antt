@@ -3,4 +3,5 @@ mod KeyTree
 mod Lines
 mod Proper
 mod Rising
+mod SortedIds
 mod WholeFile

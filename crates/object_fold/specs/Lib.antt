@@ -4,5 +4,6 @@ pub mod Fold
 pub mod Keeps
 pub mod Passed
 pub mod Reading
+pub mod RisingIds
 pub mod Stops
 pub mod Whole

@@ -7,6 +7,7 @@ mod keeper;
 mod objects;
 mod passed;
 mod progress;
+mod rising_ids;
 mod scan;
 #[cfg(test)]
 mod tests;
@@ -16,5 +17,6 @@ pub use change::Change;
 pub use fault::FileFault;
 pub use keeper::Keeper;
 pub use objects::Objects;
+pub use rising_ids::RisingIds;
 pub use scan::{read_file, scan_file};
 pub use whole::{WholeFault, read_all};
