@@ -1,6 +1,7 @@
 mod Found
 mod KeyTree
 mod Lines
+mod ListingSteps
 mod Proper
 mod Rising
 mod SortedIds

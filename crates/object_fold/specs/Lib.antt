@@ -1,7 +1,10 @@
 pub mod Change
 pub mod Entries
 pub mod Fold
+pub mod Index
+pub mod Indexes
 pub mod Keeps
+pub mod Listing
 pub mod Passed
 pub mod Reading
 pub mod RisingIds

@@ -4,6 +4,7 @@
 mod change;
 mod fault;
 mod keeper;
+mod listing;
 mod objects;
 mod passed;
 mod progress;

@@ -1,5 +1,5 @@
 //! Ids in their order.
-ghost use Rattle.std.specs.Prelude.{◌≡◌, ℕ, [], IfOk, IfErr, OnOk, OnErr};
+ghost use Rattle.std.specs.Prelude.{◌≡◌, ℕ, [], IfOk, IfErr, OnOk, OnErr, IsTrue, ◌↔◌};
 ghost use Rattle.object_fold.specs.RisingIds.{IsRising, has, Joins, Leaves, StandsAt, IsGapAt};
 
 use osm_base::{Ids, OutOfMemory};
@@ -59,6 +59,13 @@ impl RisingIds {
     {
         let Self { ids } = self;
         Ids::from_vec(ids)
+    }
+
+    /// Whether there is none.
+    pub fn is_empty(&self) -> bool
+        ensures value { IsTrue result ↔ (self.now ≡ []) }
+    {
+        self.ids.is_empty()
     }
 
     /// Whether this id is among them.
