@@ -4,5 +4,6 @@ mod Lines
 mod ListingSteps
 mod Proper
 mod Rising
+mod RowSteps
 mod SortedIds
 mod WholeFile

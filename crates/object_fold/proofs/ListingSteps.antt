@@ -105,3 +105,7 @@ unlists-none old id lister none other by =
           empty ∙ sym (ap (λ b. not (nat_eq lister by) && b) empty ∙ and-false (not (nat_eq lister by)))
       | false ↦ λ differs. refl
     ] refl
+
+pub if_err : {A E : Type 0} (result : Result A E) {P Q : Type 0} → (P → Q) → OnErr result P → OnErr result Q
+if_err (Ok value) f p = tt
+if_err (Err error) f p = f p

@@ -2,11 +2,11 @@ pub mod Change
 pub mod Entries
 pub mod Fold
 pub mod Index
-pub mod Indexes
 pub mod Keeps
 pub mod Listing
 pub mod Passed
 pub mod Reading
 pub mod RisingIds
+pub mod Rows
 pub mod Stops
 pub mod Whole

@@ -4,7 +4,9 @@
 mod change;
 mod fault;
 mod keeper;
+mod listed;
 mod listing;
+mod listings;
 mod objects;
 mod passed;
 mod progress;
