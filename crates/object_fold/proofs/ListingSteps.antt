@@ -1,5 +1,5 @@
 -- One id of a listing gets other listers.
-use Rattle.std.proofs.Common.{◌≡◌, ℕ, Bool, true, false, not, ◌&&◌, ◌||◌, cond, List, [], ◌∷◌, ◌++◌, Option, Some, None, Result, Ok, Err, OnErr, refl, sym, ap, subst, ◌∙◌, arith, nat_eq}
+use Rattle.std.proofs.Common.{◌≡◌, ℕ, Bool, true, false, not, ◌&&◌, ◌||◌, cond, List, [], ◌∷◌, Option, Some, None, Result, Ok, Err, OnErr, refl, sym, ap, subst, ◌∙◌, arith, nat_eq}
 use Rattle.std.specs.Option.{unwrap_or, IsSome}
 use Rattle.std.specs.Ordering.{nat_cmp, eq_by_cmp}
 use Rattle.std.specs.BTreeMap.{BTreeMap, Updates, get_by}
@@ -10,7 +10,7 @@ use Rattle.std.proofs.lemmas.Cmp.{nat_eq_equiv}
 use Rattle.std.proofs.lemmas.Bool.Decides.{nat_tests}
 use Rattle.object_fold.specs.RisingIds.{has, Joins, Leaves}
 use Rattle.object_fold.proofs.Found.{found, inserted, removed}
-use Rattle.object_fold.specs.Listing.{ListingOf, listers, is_listed, Lists, ListsFront, Unlists}
+use Rattle.object_fold.specs.Listing.{ListingOf, listers, Lists, Unlists}
 
 -- the listers of one id are these now, and those of the others as before
 abbrev pub Sets : ℕ → List ℕ → ListingOf → ListingOf → Type 0
@@ -82,9 +82,9 @@ module _ (old new : BTreeMap ℕ (List ℕ)) (id : ℕ) where
   pub taken-sets : (last : BTreeMap ℕ (List ℕ)) (ids : List ℕ) → Updates nat_cmp old new id (Some ids) → Updates nat_cmp new last id None → Sets id [] (in_tree old) (in_tree last)
   taken-sets last ids updates taken =
       subst (Sets id [] (in_tree old))
-        (ap (λ (own : ListingOf). finite.remove own id) (sym (inserted nat_cmp nat_cmp_total nat_cmp-IsAntisymmetric old new id ids updates))
-          ∙ sym (removed nat_cmp nat_cmp_total nat_cmp-IsAntisymmetric new last id taken))
-        (removed-sets (in_tree old) id ids)
+      (ap (λ (own : ListingOf). finite.remove own id) (sym (inserted nat_cmp nat_cmp_total nat_cmp-IsAntisymmetric old new id ids updates))
+      ∙ sym (removed nat_cmp nat_cmp_total nat_cmp-IsAntisymmetric new last id taken))
+      (removed-sets (in_tree old) id ids)
 
 pub listers_in : (tree : BTreeMap ℕ (List ℕ)) (id : ℕ) → listers (in_tree tree) id ≡ unwrap_or (get_by (nat_cmp id) tree) []
 listers_in tree id = ap (λ found. unwrap_or found []) (sym (found nat_cmp nat_cmp_total nat_cmp-IsAntisymmetric id tree.entries))

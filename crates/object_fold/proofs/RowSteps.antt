@@ -1,5 +1,5 @@
 -- Listings of which some are changed, and the rows that they answer by.
-use Rattle.std.proofs.Common.{◌≡◌, ℕ, Bool, true, false, not, ◌&&◌, ◌||◌, cond, List, [], ◌∷◌, ◌++◌, Option, Some, None, refl, sym, ap, subst, ◌∙◌, nat_eq}
+use Rattle.std.proofs.Common.{◌≡◌, ℕ, Bool, true, false, ◌&&◌, ◌||◌, List, [], ◌++◌, refl, sym, ap, subst, ◌∙◌, nat_eq}
 use Rattle.std.specs.Ordering.{nat_cmp, is_eq, eq_by_cmp, ordering_then}
 use Rattle.std.specs.Cmp.{unsigned_tied}
 use Rattle.std.proofs.lemmas.Cmp.{nat_eq_equiv}
@@ -12,7 +12,7 @@ use Rattle.object_fold.specs.declared.listed.Listed.{Listed}
 use Rattle.object_fold.specs.declared.listings.Listings.{Listings}
 use Rattle.object_fold.specs.RisingIds.{has}
 use Rattle.object_fold.specs.Listing.{ListingOf, is_listed, Lists, ListsFront}
-use Rattle.object_fold.specs.Rows.{Rows, Answer, way, relation, ids_in, is_key, added, AddsSome}
+use Rattle.object_fold.specs.Rows.{way, relation, ids_in, is_key, AddsSome}
 
 and_swap : (a b c : Bool) → ((a && b) || c) ≡ ((b && a) || c)
 and_swap true true c = refl
@@ -59,22 +59,30 @@ module _ (key : KeyOf) (ids : Listed) (old : Listings) where
   within_nodes front rest is Relation id there = absurd (cc)
 
   pub some_of_way : key.kind ≡ Way → (new : ListingOf) → ListsFront ids.nodes key.id old.ways_of_nodes new → AddsSome key ids old (record old { ways_of_nodes = new })
-  some_of_way is new (front, rest, parts, lists) = (nodes_only front, within_nodes front rest parts, λ rows answer. record {
-    ways_of_nodes = λ id by.
-        lists id by ∙ and_swap (has front id) (nat_eq key.id by) (is_listed old.ways_of_nodes id by)
-        ∙ (λ i. (sym (is_key-way key is by) i && has front id) || answer.ways_of_nodes id by i);
-    relations_of_nodes = λ id by. answer.relations_of_nodes id by ∙ ap (λ b. (b && has front id) || rows (relation by) Node id) (sym (is_key-no_relation key is by));
-    relations_of_ways = λ id by. answer.relations_of_ways id by ∙ ap (λ b. (b && false) || rows (relation by) Way id) (sym (is_key-no_relation key is by));
-  })
+  some_of_way is new (front, rest, parts, lists) = (
+    nodes_only front,
+    within_nodes front rest parts,
+    λ rows answer. record {
+      ways_of_nodes = λ id by.
+          lists id by ∙ and_swap (has front id) (nat_eq key.id by) (is_listed old.ways_of_nodes id by)
+          ∙ (λ i. (sym (is_key-way key is by) i && has front id) || answer.ways_of_nodes id by i);
+      relations_of_nodes = λ id by. answer.relations_of_nodes id by ∙ ap (λ b. (b && has front id) || rows (relation by) Node id) (sym (is_key-no_relation key is by));
+      relations_of_ways = λ id by. answer.relations_of_ways id by ∙ ap (λ b. (b && false) || rows (relation by) Way id) (sym (is_key-no_relation key is by));
+    },
+  )
 
   pub some_nodes : key.kind ≡ Relation → (new : ListingOf) → ListsFront ids.nodes key.id old.relations_of_nodes new → AddsSome key ids old (record old { relations_of_nodes = new })
-  some_nodes is new (front, rest, parts, lists) = (nodes_only front, within_nodes front rest parts, λ rows answer. record {
-    ways_of_nodes = λ id by. answer.ways_of_nodes id by ∙ ap (λ b. (b && has front id) || rows (way by) Node id) (sym (is_key-no_way key is by));
-    relations_of_nodes = λ id by.
-        lists id by ∙ and_swap (has front id) (nat_eq key.id by) (is_listed old.relations_of_nodes id by)
-        ∙ (λ i. (sym (is_key-relation key is by) i && has front id) || answer.relations_of_nodes id by i);
-    relations_of_ways = λ id by. answer.relations_of_ways id by ∙ sym (none_of (is_key key (relation by)) (rows (relation by) Way id));
-  })
+  some_nodes is new (front, rest, parts, lists) = (
+    nodes_only front,
+    within_nodes front rest parts,
+    λ rows answer. record {
+      ways_of_nodes = λ id by. answer.ways_of_nodes id by ∙ ap (λ b. (b && has front id) || rows (way by) Node id) (sym (is_key-no_way key is by));
+      relations_of_nodes = λ id by.
+          lists id by ∙ and_swap (has front id) (nat_eq key.id by) (is_listed old.relations_of_nodes id by)
+          ∙ (λ i. (sym (is_key-relation key is by) i && has front id) || answer.relations_of_nodes id by i);
+      relations_of_ways = λ id by. answer.relations_of_ways id by ∙ sym (none_of (is_key key (relation by)) (rows (relation by) Way id));
+    },
+  )
 
   within_ways : (front rest : List ℕ) → ids.ways ≡ front ++ rest → (kind : Kind) (id : ℕ) → has (ids_in kind (record ids { ways = front })) id ≡ true → has (ids_in kind ids) id ≡ true
   within_ways front rest is Node id there = there
@@ -83,12 +91,16 @@ module _ (key : KeyOf) (ids : Listed) (old : Listings) where
 
   pub some_ways : key.kind ≡ Relation → (nodes ways : ListingOf) → Lists ids.nodes key.id old.relations_of_nodes nodes → ListsFront ids.ways key.id old.relations_of_ways ways
       → AddsSome key ids old (record old { relations_of_nodes = nodes; relations_of_ways = ways })
-  some_ways is nodes ways all (front, rest, parts, lists) = (record ids { ways = front }, within_ways front rest parts, λ rows answer. record {
-    ways_of_nodes = λ id by. answer.ways_of_nodes id by ∙ ap (λ b. (b && has ids.nodes id) || rows (way by) Node id) (sym (is_key-no_way key is by));
-    relations_of_nodes = λ id by.
-        all id by ∙ and_swap (has ids.nodes id) (nat_eq key.id by) (is_listed old.relations_of_nodes id by)
-        ∙ (λ i. (sym (is_key-relation key is by) i && has ids.nodes id) || answer.relations_of_nodes id by i);
-    relations_of_ways = λ id by.
-        lists id by ∙ and_swap (has front id) (nat_eq key.id by) (is_listed old.relations_of_ways id by)
-        ∙ (λ i. (sym (is_key-relation key is by) i && has front id) || answer.relations_of_ways id by i);
-  })
+  some_ways is nodes ways all (front, rest, parts, lists) = (
+    record ids { ways = front },
+    within_ways front rest parts,
+    λ rows answer. record {
+      ways_of_nodes = λ id by. answer.ways_of_nodes id by ∙ ap (λ b. (b && has ids.nodes id) || rows (way by) Node id) (sym (is_key-no_way key is by));
+      relations_of_nodes = λ id by.
+          all id by ∙ and_swap (has ids.nodes id) (nat_eq key.id by) (is_listed old.relations_of_nodes id by)
+          ∙ (λ i. (sym (is_key-relation key is by) i && has ids.nodes id) || answer.relations_of_nodes id by i);
+      relations_of_ways = λ id by.
+          lists id by ∙ and_swap (has front id) (nat_eq key.id by) (is_listed old.relations_of_ways id by)
+          ∙ (λ i. (sym (is_key-relation key is by) i && has front id) || answer.relations_of_ways id by i);
+    },
+  )

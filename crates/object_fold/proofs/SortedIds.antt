@@ -1,9 +1,9 @@
 -- Rising ids, one more and one less.
-use Rattle.std.proofs.Common.{◌≡◌, ◌<◌, ◌≤◌, ℕ, suc, zero, Bool, true, false, not, ◌&&◌, ◌||◌, T, List, [], ◌∷◌, map, length, get_or, Result, Ok, Err, IfOk, IfErr, is_ok, refl, sym, ap, subst, ◌∙◌, arith, nat_eq, Option, Some, None, is_some, if◌then◌else◌, cond}
+use Rattle.std.proofs.Common.{◌≡◌, ◌<◌, ℕ, suc, zero, Bool, true, false, not, ◌&&◌, ◌||◌, T, List, [], ◌∷◌, map, length, get_or, Result, Ok, Err, IfOk, IfErr, is_ok, refl, sym, ap, subst, ◌∙◌, arith, nat_eq, Option, Some, None, if◌then◌else◌, cond}
 use Rattle.std.specs.declared.cmp.Ordering.TheVariants.{Less}
-use Rattle.std.specs.Ordering.{nat_cmp, is_lt, eq_by_cmp}
+use Rattle.std.specs.Ordering.{nat_cmp, is_lt}
 use Rattle.std.specs.Cmp.{nat_cmp_total, unsigned_tied}
-use Rattle.std.specs.List.{AllByRecursion, insert, remove, list_any, dedup, dedup_from}
+use Rattle.std.specs.List.{AllByRecursion, insert, remove, dedup, dedup_from}
 use Rattle.std.specs.List.Sorted.{IsStrictlySortedBy, IsSorted, IsPermutation, IsBinarySearchResult}
 use Rattle.std.specs.FinMap as finite
 use Rattle.std.specs.FinMap.{nat_cmp-IsAntisymmetric, is_sorted}
@@ -62,12 +62,14 @@ pub insert-rise : (ids : List ℕ) (id at : ℕ) → IsRising ids → IsGapAt id
 unfolding IsStrictlySortedBy
 insert-rise ids id zero rise gap = (all_above-from id ids (λ place within. gap.greater place (omega arith) within), rise)
 insert-rise [] id (suc at) rise gap = (tt, tt)
-insert-rise (first ∷ ids) id (suc at) rise gap =
-    (all_above-insert first ids at id rise.0 (less_of first id (gap.less 0 (omega arith))),
-     insert-rise ids id at rise.1 (record {
-       within = omega (arith, gap.within);
-       less = λ place before. gap.less (suc place) (omega (arith, before));
-       greater = λ place le within. gap.greater (suc place) (omega (arith, le)) (omega (arith, within)) }))
+insert-rise (first ∷ ids) id (suc at) rise gap = (
+  all_above-insert first ids at id rise.0 (less_of first id (gap.less 0 (omega arith))),
+  insert-rise ids id at rise.1 (record {
+    within = omega (arith, gap.within);
+    less = λ place before. gap.less (suc place) (omega (arith, before));
+    greater = λ place le within. gap.greater (suc place) (omega (arith, le)) (omega (arith, within));
+  }),
+)
 
 pub remove-rise : (ids : List ℕ) (at : ℕ) → at < length ids → IsRising ids → IsRising (remove ids at)
 unfolding IsStrictlySortedBy
@@ -150,8 +152,8 @@ same_rising one other rise rise_other same =
     sym (first_marks one)
     ∙ ap (map (λ (e : ℕ × Unit {0}). e.0)) (sym (finite.entries-from_sorted nat_cmp (marks one) sorted))
     ∙ ap finite.keys (finite.same_map nat_cmp_total nat_cmp-IsAntisymmetric (finite.from_sorted {R = nat_cmp} (marks one)) (finite.from_sorted (marks other))
-        (λ id. finite.get-from_sorted nat_cmp (marks one) id sorted ∙ find-marks id one ∙ ap mark_if (same id)
-            ∙ sym (find-marks id other) ∙ sym (finite.get-from_sorted nat_cmp (marks other) id sorted_other)))
+    (λ id. finite.get-from_sorted nat_cmp (marks one) id sorted ∙ find-marks id one ∙ ap mark_if (same id)
+    ∙ sym (find-marks id other) ∙ sym (finite.get-from_sorted nat_cmp (marks other) id sorted_other)))
     ∙ ap (map (λ (e : ℕ × Unit {0}). e.0)) (finite.entries-from_sorted nat_cmp (marks other) sorted_other)
     ∙ first_marks other
 

@@ -1,19 +1,16 @@
 -- Who lists the objects of a map.
 -- osm2pgsql manual, "Updating an Existing Database": a way is processed again when a node of it changes, and a relation when a node or
 -- a way that is a member of it changes.
-use Rattle.std.specs.Prelude.{◌≡◌, ℕ, Bool, true, false, ◌&&◌, ◌||◌, not, List, [], map, Option, None, Some, ⊤}
+use Rattle.std.specs.Prelude.{ℕ, Bool, true, false, ◌&&◌, List, [], map, Option, None, Some}
 use Rattle.std.specs.List.{filter}
-use Rattle.std.specs.Ordering.{eq_by_cmp}
 use Rattle.std.specs.FinMap as finite
 use Rattle.osm_base.specs.declared.key.Kind.{Kind}
 use Rattle.osm_base.specs.declared.key.Kind.TheVariants as kinds
 use Rattle.osm_base.specs.declared.object.Member.{Member}
 use Rattle.osm_base.specs.declared.object.Object.{Object}
-use Rattle.osm_base.specs.declared.object.Object.TheVariants.{Node, Way, Relation}
-use Rattle.osm_base.specs.Key.{KeyOf}
-use Rattle.osm_base.specs.KeyOrder.{key_cmp}
-use Rattle.osm_base.specs.Known.{Index}
-use Rattle.object_fold.specs.Fold.{ObjectSet}
+use Rattle.osm_base.specs.declared.object.Object.TheVariants.{Way, Relation}
+use Rattle.osm_base.specs.Known.{Index, Known}
+use Rattle.object_fold.specs.Fold.{ObjectSet, place_in}
 use Rattle.object_fold.specs.RisingIds.{has}
 
 -- whether two kinds are the same
@@ -48,4 +45,13 @@ index_of objects = record {
   ways_of_node = λ id. ids_of kinds.Way kinds.Node id objects;
   relations_of_node = λ id. ids_of kinds.Relation kinds.Node id objects;
   relations_of_way = λ id. ids_of kinds.Relation kinds.Way id objects;
+}
+
+-- what may be known of the objects of a map
+abbrev pub known_of : ObjectSet → Known
+known_of objects = record {
+  place = λ id. place_in (finite.get objects (record { kind = kinds.Node; id = id }));
+  object = finite.get objects;
+  relations_of_way = (index_of objects).relations_of_way;
+  relations_of_node = (index_of objects).relations_of_node;
 }

@@ -1,11 +1,11 @@
 -- Which object lists which, as the three listings of a map keep it.
-use Rattle.std.specs.Prelude.{◌≡◌, ℕ, Bool, true, ◌&&◌, ◌||◌, not, List, []}
+use Rattle.std.specs.Prelude.{◌≡◌, ℕ, Bool, true, ◌&&◌, ◌||◌, not, List, [], Option, IsSome}
 use Rattle.std.specs.Ordering.{eq_by_cmp}
 use Rattle.std.specs.FinMap as finite
 use Rattle.osm_base.specs.declared.key.Kind.{Kind}
 use Rattle.osm_base.specs.declared.key.Kind.TheVariants.{Node, Way, Relation}
 use Rattle.osm_base.specs.declared.object.Object.{Object}
-use Rattle.osm_base.specs.Key.{KeyOf}
+use Rattle.osm_base.specs.Key.{KeyOf, IsId}
 use Rattle.osm_base.specs.KeyOrder.{key_cmp}
 use Rattle.object_fold.specs.declared.listed.Listed.{Listed}
 use Rattle.object_fold.specs.declared.listings.Listings.{Listings}
@@ -63,3 +63,17 @@ Turns turn old new = (rows : Rows) → Answer old rows → Answer new (turn rows
 -- some of these ids are listed by the object of this key too
 abbrev pub AddsSome : KeyOf → Listed → Listings → Listings → Type 0
 AddsSome key ids old new = (some : Listed) × ((kind : Kind) (id : ℕ) → has (ids_in kind some) id ≡ true → has (ids_in kind ids) id ≡ true) × Turns (added key some) old new
+
+-- the keys of the objects have ids
+abbrev pub HasIds : ObjectSet → Type 0
+HasIds objects = (key : KeyOf) → IsSome (finite.get objects key) → IsId key.id
+
+-- the listings are those of these objects, and the keys of the objects have ids
+pub record AreListingsOf (objects : ObjectSet) (listings : Listings) : Type 0 where
+  pub rows : Answer listings (rows_of objects)
+  pub ids : HasIds objects
+
+-- these are the nodes and the ways that the object, if there is one, lists
+pub record AreListedBy (object : Option Object) (ids : Listed) : Type 0 where
+  pub nodes : (id : ℕ) → has ids.nodes id ≡ lists Node id object
+  pub ways : (id : ℕ) → has ids.ways id ≡ lists Way id object

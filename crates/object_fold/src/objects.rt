@@ -1,20 +1,29 @@
 //! The objects of a map, in memory.
-ghost use Rattle.std.specs.Prelude.{◌≡◌, ℕ, take, OnOk, OnErr};
+ghost use Rattle.std.specs.Prelude.{◌≡◌, ◌≤◌, ℕ, false, Some, take, IfOk, IfErr, OnOk, OnErr};
 ghost use Rattle.std.specs.FinMap as map;
 ghost use Rattle.std.specs.Option.{option_copied};
+ghost use Rattle.osm_base.specs.Ids.{AreRisingIds};
 ghost use Rattle.osm_base.specs.KeyOrder.{key_cmp};
-ghost use Rattle.object_fold.specs.Fold.{folded, folded_all, objects_in};
+ghost use Rattle.osm_base.specs.declared.memory.OutOfMemory.{OutOfMemory as NoMemory};
+ghost use Rattle.object_fold.specs.Fold.{folded, folded_all, objects_in, place_in};
+ghost use Rattle.object_fold.specs.Index.{index_of, known_of};
+ghost use Rattle.object_fold.specs.RisingIds.{has};
+ghost use Rattle.object_fold.specs.Rows.{AreListingsOf, AreListedBy, HasIds, AreListed, AddsSome, Turns, added};
 
 use crate::Change;
-use osm_base::{Entry, Key, Kind, Object, OutOfMemory, Place};
+use crate::listed::Listed;
+use crate::listings::Listings;
+use osm_base::{Back, Entry, Ids, Key, Kind, Lookup, MAX_ID, Object, OutOfMemory, Place};
 use std::alloc::Global;
 use std::collections::BTreeMap;
 use std::marker::Model;
 
-/// The objects of a map by their keys.
+/// The objects of a map by their keys, with the index of who lists them.
 #[derive(Drop)]
 pub struct Objects {
+    alloc: Global,
     objects: BTreeMap<Key, Object>,
+    listings: Listings,
 }
 
 impl Model for Objects {
@@ -29,8 +38,11 @@ impl Model for Objects {
     ghost coded = { map.code key.the_row.coded object.the_row.coded };
 
     ghost use Rattle.object_fold.specs.Fold.{objects_in};
+    ghost use Rattle.object_fold.specs.Rows.{AreListingsOf};
 
     ghost view = { λ objects. objects_in objects.objects };
+
+    ghost invariant = { λ objects. AreListingsOf (objects_in objects.objects) objects.listings };
 }
 
 impl Objects {
@@ -39,15 +51,10 @@ impl Objects {
         ensures empty { result ≡ map.empty }
     {
         Self {
+            alloc,
             objects: BTreeMap::new(alloc),
+            listings: Listings::new(alloc),
         }
-    }
-
-    /// The object of a key.
-    pub fn object_of(&self, key: Key) -> Option<&Object>
-        ensures object { option_copied result ≡ map.get self.now key }
-    {
-        self.objects.get(&key)
     }
 
     /// What an entry says is so from now on.
@@ -57,11 +64,14 @@ impl Objects {
     {
         let Entry { key, object } = entry;
         match object {
-            Some(object) => put(&mut self.objects, key, object),
-            None => {
-                take_out(&mut self.objects, key);
-                Ok(())
-            }
+            Some(object) => put(
+                self.alloc,
+                &mut self.objects,
+                &mut self.listings,
+                key,
+                object,
+            ),
+            None => take_out(self.alloc, &mut self.objects, &mut self.listings, key),
         }
     }
 
@@ -77,18 +87,155 @@ impl Objects {
     }
 }
 
-/// Gives a key this object.
-fn put(objects: &mut BTreeMap<Key, Object>, key: Key, object: Object) -> Result<(), OutOfMemory>
-    ensures ok { OnOk result (objects_in objects.new ≡ map.insert (objects_in objects.old) key object) }
-    ensures err { OnErr result (objects_in objects.new ≡ objects_in objects.old) }
+/// What the object of a key lists, if it has one.
+fn listed_at(
+    alloc: Global,
+    objects: &BTreeMap<Key, Object>,
+    key: Key,
+) -> Result<Listed, OutOfMemory>
+    ensures ids { IfOk result (AreListedBy (map.get (objects_in objects.now) key)) }
 {
+    match objects.get(&key) {
+        Some(object) => Listed::of(alloc, object),
+        None => Ok(Listed::none(alloc)),
+    }
+}
+
+/// The place of a node, where there is one that has a place.
+fn place_at(objects: &BTreeMap<Key, Object>, id: u64) -> Option<Place>
+    requires { HasIds (objects_in objects.now) }
+    ensures place { result ≡ (known_of (objects_in objects.now)).place id }
+{
+    if id < 1 || id > MAX_ID {
+        return None;
+    }
+    match objects.get(&Key::new(Kind::Node, id)) {
+        Some(object) => place_in(object),
+        None => None,
+    }
+}
+
+/// The place of an object that is a node.
+fn place_in(object: &Object) -> Option<Place>
+    ensures place { result ≡ place_in (Some object.now) }
+{
+    match object {
+        Object::Node { place, .. } => *place,
+        _ => None,
+    }
+}
+
+/// Gives a key this object, and lists what it lists beside what was listed before. After `Err` only
+/// some of that is listed too.
+fn insert(
+    alloc: Global,
+    objects: &mut BTreeMap<Key, Object>,
+    listings: &mut Listings,
+    key: Key,
+    object: Object,
+    ids: &Listed,
+) -> Result<(), OutOfMemory>
+    ensures ok { OnOk result (objects_in objects.new ≡ map.insert (objects_in objects.old) key object) }
+    ensures listed { OnOk result (Turns (added key ids.now) listings.old listings.new) }
+    ensures err { OnErr result (objects_in objects.new ≡ objects_in objects.old) }
+    ensures some { OnErr result (AddsSome key ids.now listings.old listings.new) }
+{
+    listings.add(alloc, key, ids)?;
     objects.insert(key, object)?;
     Ok(())
 }
 
-/// Takes the object of a key away, if it has one.
-fn take_out(objects: &mut BTreeMap<Key, Object>, key: Key)
-    ensures removed { objects_in objects.new ≡ map.remove (objects_in objects.old) key }
+/// Gives a key this object.
+fn put(
+    alloc: Global,
+    objects: &mut BTreeMap<Key, Object>,
+    listings: &mut Listings,
+    key: Key,
+    object: Object,
+) -> Result<(), OutOfMemory>
+    requires { AreListingsOf (objects_in objects.old) listings.old }
+    ensures ok { OnOk result (objects_in objects.new ≡ map.insert (objects_in objects.old) key object) }
+    ensures err { OnErr result (objects_in objects.new ≡ objects_in objects.old) }
+    ensures listings { AreListingsOf (objects_in objects.new) listings.new }
 {
+    prove!(1 <= key.id && key.id <= MAX_ID);
+    let old = listed_at(alloc, objects, key)?;
+    let new = Listed::of(alloc, &object)?;
+    if let Err(why) = insert(alloc, objects, listings, key, object, &new) {
+        listings.take_out(key, &new, &old);
+        return Err(why);
+    }
+    listings.take_out(key, &old, &new);
+    Ok(())
+}
+
+/// Takes the object of a key away, if it has one.
+fn take_out(
+    alloc: Global,
+    objects: &mut BTreeMap<Key, Object>,
+    listings: &mut Listings,
+    key: Key,
+) -> Result<(), OutOfMemory>
+    requires { AreListingsOf (objects_in objects.old) listings.old }
+    ensures ok { OnOk result (objects_in objects.new ≡ map.remove (objects_in objects.old) key) }
+    ensures err { OnErr result (objects_in objects.new ≡ objects_in objects.old) }
+    ensures listings { AreListingsOf (objects_in objects.new) listings.new }
+{
+    let old = listed_at(alloc, objects, key)?;
     objects.remove(&key);
+    listings.take_out(key, &old, &Listed::none(alloc));
+    Ok(())
+}
+
+impl Lookup for Objects {
+    ghost known = { known_of };
+
+    fn place_of(&self, id: u64) -> Option<Place> {
+        place_at(&self.objects, id)
+    }
+
+    fn object_of(&self, key: Key) -> Option<&Object> {
+        self.objects.get(&key)
+    }
+
+    fn relations_of_way(&self, id: u64) -> &[u64] {
+        self.listings.relations_of_ways.listers(id)
+    }
+
+    fn relations_of_node(&self, id: u64) -> &[u64] {
+        self.listings.relations_of_nodes.listers(id)
+    }
+}
+
+impl Back for Objects {
+    type Refusal = OutOfMemory;
+
+    ghost index = { index_of };
+
+    ghost faults = { λ _. 0 };
+
+    ghost spent = { λ _. false };
+
+    ghost bears = { λ _ _ _. Unit {0} };
+
+    fn ways_of_node(&mut self, id: u64) -> Result<Ids, OutOfMemory> {
+        copied(self.alloc, self.listings.ways_of_nodes.listers(id))
+    }
+
+    fn relations_of_node(&mut self, id: u64) -> Result<Ids, OutOfMemory> {
+        copied(self.alloc, self.listings.relations_of_nodes.listers(id))
+    }
+
+    fn relations_of_way(&mut self, id: u64) -> Result<Ids, OutOfMemory> {
+        copied(self.alloc, self.listings.relations_of_ways.listers(id))
+    }
+
+    ghost bears_fewer = { λ _ _ _ _ _ _. tt };
+}
+
+/// A list of these ids.
+fn copied(alloc: Global, ids: &[u64]) -> Result<Ids, OutOfMemory>
+    ensures ids { IfOk result (λ copy. copy ≡ ids.now) }
+{
+    Ok(Ids::from_vec(Vec::from_slice(alloc, ids)?))
 }

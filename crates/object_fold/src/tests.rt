@@ -3,7 +3,7 @@ ghost use Rattle.osm_base.specs.Limits.{IsWithinStandard};
 
 use crate::{Change, FileFault, Objects, WholeFault, read_all, read_file};
 use opl_object::Why;
-use osm_base::{Bytes, FileList, Ids, Key, Kind, LimitKind, Limits, Object};
+use osm_base::{Back, Bytes, FileList, Ids, Key, Kind, LimitKind, Limits, Lookup, Object, Place};
 use outside::{Fails, MemInputs};
 use std::alloc::Global;
 use std::test::Fail;
@@ -178,5 +178,41 @@ fn later_objects_take_the_place_of_earlier_ones(rt: HostRuntime) -> Result<(), F
     assert!(rt; objects.object_of(node(2)).is_none());
     assert!(rt; objects.object_of(node(3)).is_some());
     assert!(rt; objects.object_of(Key::new(Kind::Way, 1)).is_some());
+    Ok(())
+}
+
+/// What the index has of the ways of node 1, the relations of node 1 and the relations of way 1.
+fn index(objects: &mut Objects) -> Result<(Ids, Ids, Ids), Fail> {
+    Ok((
+        objects.ways_of_node(1)?,
+        objects.relations_of_node(1)?,
+        objects.relations_of_way(1)?,
+    ))
+}
+
+#[test]
+fn the_index_follows_the_objects(rt: HostRuntime) -> Result<(), Fail> {
+    let alloc = rt.alloc();
+    let limits = Limits::standard();
+    let mut objects = Objects::new(alloc);
+    let text = b"n1 x1 y2\nw1 Nn1,n2,n1\nw3 Nn9\nw7 Nn1\nr2 Mn1@,w1@a\nr5 Mw1@,w1@b,r2@\n";
+    objects.fold(read(alloc, text, &limits)??)?;
+    let (ways, of_node, of_way) = index(&mut objects)?;
+    assert_eq!(rt; ways.as_slice(), [1, 7].as_slice());
+    assert_eq!(rt; of_node.as_slice(), [2].as_slice());
+    assert_eq!(rt; of_way.as_slice(), [2, 5].as_slice());
+    assert_eq!(rt; objects.relations_of_way(7), [].as_slice());
+    assert_eq!(rt; objects.relations_of_node(1), [2].as_slice());
+    assert_eq!(rt;
+        objects.place_of(1),
+        Some(Place::new(10_000_000, 20_000_000))
+    );
+    assert_eq!(rt; objects.place_of(0), None);
+    objects.fold(read(alloc, b"n1\nw1 Nn2\nw3 Nn1\nw7 dD\nr2 Mw7@\n", &limits)??)?;
+    let (ways, of_node, of_way) = index(&mut objects)?;
+    assert_eq!(rt; ways.as_slice(), [3].as_slice());
+    assert_eq!(rt; of_node.as_slice(), [].as_slice());
+    assert_eq!(rt; of_way.as_slice(), [5].as_slice());
+    assert_eq!(rt; objects.place_of(1), None);
     Ok(())
 }

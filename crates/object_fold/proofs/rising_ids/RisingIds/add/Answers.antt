@@ -8,7 +8,7 @@ pub invariant_of-self : goal.invariant_of-self
 invariant_of-self c =
     subst IsRising (sym c.in_ok-insert.ensures.items)
     (insert-rise c.self.inside.ids.items c.args.id c.in-Err.at c.self.invariant
-      (subst (λ ids. IsGapAt ids c.args.id c.in-Err.at) c.as_slice.ensures.value c.in-Err.ensures.err))
+    (subst (λ ids. IsGapAt ids c.args.id c.in-Err.at) c.as_slice.ensures.value c.in-Err.ensures.err))
 
 pub returns-in_ok-insert-clause-ok : goal.returns-in_ok-insert-clause-ok
 returns-in_ok-insert-clause-ok c =
@@ -20,4 +20,4 @@ pub returns-in_default-clause-ok : goal.returns-in_default-clause-ok
 returns-in_default-clause-ok c =
     subst (λ ids. Joins c.args.id ids ids) c.self.view_is
     (joins-there c.self.inside.ids.items c.in_default.field-0 c.args.id
-      (subst (λ ids. StandsAt ids c.args.id c.in_default.field-0) c.as_slice.ensures.value c.in_default.ensures.ok))
+    (subst (λ ids. StandsAt ids c.args.id c.in_default.field-0) c.as_slice.ensures.value c.in_default.ensures.ok))

@@ -1,0 +1,10 @@
+use Rattle.std.proofs.Common.{◌∙◌, ap}
+use Rattle.std.specs.FinMap as map
+use Rattle.object_fold.specs.Fold.{ObjectSet}
+use Rattle.object_fold.proofs.OfObjects.{got}
+use Rattle.object_fold.proofs.objects.ObjectsLookup.object_of.Goals as goal
+
+pub returns : goal.returns
+returns c = record {
+  object = c.get.ensures.value ∙ got c.self.inside.objects c.args.key ∙ ap (λ (own : ObjectSet). map.get own c.args.key) c.self.view_is;
+}
