@@ -1,1 +1,4 @@
+pub mod CharacterOrder
 pub mod TagPairs
+pub mod TagPlaces
+pub mod TagSearch

@@ -4,5 +4,6 @@ pub mod KeyOrder
 pub mod Known
 pub mod Limits
 pub mod Place
+pub mod TagOrder
 pub mod TagText
 pub mod Tags

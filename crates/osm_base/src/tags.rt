@@ -1,16 +1,22 @@
-//! The tags of an object, kept in one row of bytes.
-ghost use Rattle.std.specs.Prelude.{◌≡◌, ◌≢◌, ℕ, List, None, Some, Ok, true, ◌≤◌, length, slice_range, [], ◌∷◌, ◌++◌, OnOk, OnErr, IfOk, IsTrue, ◌↔◌};
+//! The tags of an object, kept in one row of bytes by rising keys.
+ghost use Rattle.std.specs.Prelude.{◌≡◌, ◌≢◌, ℕ, List, None, Some, Ok, true, ◌<◌, ◌≤◌, length, slice_range, slice_index_or, OnOk, OnErr, IfOk, IfErr, IfSome, IsNone, IsTrue, ◌↔◌};
 ghost use Rattle.std.specs.Option.{option_map};
 ghost use Rattle.std.specs.Ordering.{nat_cmp};
 ghost use Rattle.std.specs.Cmp.Lexicographic.{slice_cmp};
+ghost use Rattle.std.specs.List.{slice_get, insert};
 ghost use Rattle.std.specs.Str.{IsUtf8, chars};
 ghost use Rattle.std.specs.FinMap as map;
-ghost use Rattle.std.specs.Prelude.{map as each};
-ghost use Rattle.osm_base.specs.TagText.{pair_of, AreSpans};
+ghost use Rattle.osm_base.specs.TagText.{key_bytes, value_bytes, AreSpans};
+ghost use Rattle.osm_base.specs.declared.tags.Span.{Span};
+ghost use Rattle.osm_base.specs.TagOrder.{pairs_of, AreTags, BelongsAt};
 
 use crate::{OutOfMemory, TryCopy};
 use std::alloc::Global;
+use std::cmp::Ordering;
 use std::marker::Model;
+
+/// So many tags are looked through one after the other. Among more a key is looked for by halves.
+const FEW: usize = 8;
 
 /// Where the key and the value of a tag stand: from `key` to `value`, and from there to `end`.
 #[derive(Clone, Copy, Debug)]
@@ -20,7 +26,7 @@ struct Span {
     end: usize,
 }
 
-/// Keys with their values, each key once.
+/// Keys with their values, each key once, by rising keys.
 #[derive(Debug, Drop)]
 pub struct Tags {
     text: Vec<u8>,
@@ -28,7 +34,7 @@ pub struct Tags {
 }
 
 impl Model for Tags {
-    ghost use Rattle.std.specs.Prelude.{ℕ, List, map as each};
+    ghost use Rattle.std.specs.Prelude.{ℕ, List};
     ghost use Rattle.std.specs.Ordering.{nat_cmp};
     ghost use Rattle.std.specs.Cmp.Lexicographic.{slice_cmp};
     ghost use Rattle.std.specs.Coded.{coded_list, coded_ℕ};
@@ -38,11 +44,12 @@ impl Model for Tags {
 
     ghost coded = { map.code (coded_list coded_ℕ) (coded_list coded_ℕ) };
 
-    ghost use Rattle.osm_base.specs.TagText.{pair_of, AreSpans};
+    ghost use Rattle.osm_base.specs.declared.tags.Span.{Span};
+    ghost use Rattle.osm_base.specs.TagOrder.{pairs_of, AreTags};
 
-    ghost view = { λ tags. map.from_entries (each (pair_of tags.text.items) tags.spans.items) };
+    ghost view = { λ tags. map.from_entries (pairs_of tags.text.items tags.spans.items) };
 
-    ghost invariant = { λ tags. AreSpans tags.text.items tags.spans.items };
+    ghost invariant = { λ tags. AreTags tags.text.items tags.spans.items };
 }
 
 impl Tags {
@@ -70,7 +77,32 @@ impl Tags {
     pub fn get(&self, key: &str) -> Option<&str>
         ensures value { option_map (λ value. chars value.now) result ≡ map.get self.now (chars key.now) }
     {
-        value_in(&self.text, &self.spans, key)
+        value_of(&self.text, &self.spans, key)
+    }
+
+    /// How many tags there are.
+    pub fn len(&self) -> usize
+        ensures count { result ≡ map.len self.now }
+    {
+        self.spans.len()
+    }
+
+    /// Whether there is no tag.
+    pub fn is_empty(&self) -> bool
+        ensures none { IsTrue result ↔ (map.len self.now ≡ 0) }
+    {
+        self.spans.is_empty()
+    }
+
+    /// The tag at this place by rising keys, as a key and its value.
+    pub fn nth(&self, index: usize) -> (&str, &str)
+        requires { index < map.len self.now }
+        ensures tag { slice_get (map.entries self.now) index ≡ Some (chars result.0.now, chars result.1.now) }
+    {
+        (
+            key_at(&self.text, &self.spans, index),
+            value_at(&self.text, &self.spans, index),
+        )
     }
 
     /// Adds a tag, or answers `false` and adds none where the key stands already.
@@ -79,19 +111,34 @@ impl Tags {
         ensures added { result ≡ Ok true → self.new ≡ map.insert self.old (chars key.now) (chars value.now) }
         ensures kept { result ≢ Ok true → self.new ≡ self.old }
     {
-        if self.get(key).is_some() {
+        let Some(place) = free_place(&self.text, &self.spans, key) else {
             return Ok(false);
-        }
-        append(&mut self.text, &mut self.spans, key, value)?;
+        };
+        insert(&mut self.text, &mut self.spans, place, key, value)?;
         Ok(true)
     }
 }
 
 /// The value of a key among the tags of these spans.
+fn value_of<'a>(text: &'a [u8], spans: &[Span], key: &str) -> Option<&'a str>
+    requires { AreTags text.now spans.now }
+    ensures value { option_map (λ value. chars value.now) result
+        ≡ map.find (slice_cmp nat_cmp) (chars key.now) (pairs_of text.now spans.now) }
+{
+    if spans.len() <= FEW {
+        return value_in(text, spans, key);
+    }
+    match search(text, spans, key) {
+        Ok(place) => Some(value_at(text, spans, place)),
+        Err(_) => None,
+    }
+}
+
+/// The value of a key, looked for from the first tag on.
 fn value_in<'a>(text: &'a [u8], spans: &[Span], key: &str) -> Option<&'a str>
     requires { AreSpans text.now spans.now }
     ensures value { option_map (λ value. chars value.now) result
-        ≡ map.find (slice_cmp nat_cmp) (chars key.now) (each (pair_of text.now) spans.now) }
+        ≡ map.find (slice_cmp nat_cmp) (chars key.now) (pairs_of text.now spans.now) }
 {
     for span in spans {
         if text_of(text, span.key, span.value) == key {
@@ -101,30 +148,96 @@ fn value_in<'a>(text: &'a [u8], spans: &[Span], key: &str) -> Option<&'a str>
     None
 }
 
-/// Adds a tag behind the tags of these spans.
-fn append(
+/// The place where a key is to be put, or `None` where it stands already.
+fn free_place(text: &[u8], spans: &[Span], key: &str) -> Option<usize>
+    requires { AreTags text.now spans.now }
+    ensures free { IfSome result (BelongsAt (chars key.now) (pairs_of text.now spans.now)) }
+    ensures there { IsNone result → map.find (slice_cmp nat_cmp) (chars key.now) (pairs_of text.now spans.now) ≢ None }
+{
+    if is_above_all(text, spans, key) {
+        return Some(spans.len());
+    }
+    match search(text, spans, key) {
+        Ok(_) => None,
+        Err(place) => Some(place),
+    }
+}
+
+/// Whether a key is above the last one.
+fn is_above_all(text: &[u8], spans: &[Span], key: &str) -> bool
+    requires { AreTags text.now spans.now }
+    ensures above { result ≡ true → BelongsAt (chars key.now) (pairs_of text.now spans.now) (length spans.now) }
+{
+    spans.is_empty() || key_at(text, spans, spans.len() - 1).cmp(key).is_lt()
+}
+
+/// The key of the tag at a place.
+fn key_at<'a>(text: &'a [u8], spans: &[Span], index: usize) -> &'a str
+    requires cuts { AreSpans text.now spans.now }
+    requires within { index < length spans.now }
+    ensures key { (past : Span) → result.now ≡ key_bytes text.now (slice_index_or spans.now index past) }
+{
+    let span = spans[index];
+    text_of(text, span.key, span.value)
+}
+
+/// The value of the tag at a place.
+fn value_at<'a>(text: &'a [u8], spans: &[Span], index: usize) -> &'a str
+    requires cuts { AreSpans text.now spans.now }
+    requires within { index < length spans.now }
+    ensures value { (past : Span) → result.now ≡ value_bytes text.now (slice_index_or spans.now index past) }
+{
+    let span = spans[index];
+    text_of(text, span.value, span.end)
+}
+
+/// The place of a key, or the one where it is to be put.
+fn search(text: &[u8], spans: &[Span], key: &str) -> Result<usize, usize>
+    requires { AreTags text.now spans.now }
+    ensures within { IfOk result (λ place. place < length spans.now) }
+    ensures found { IfOk result (λ place. (past : Span) → map.find (slice_cmp nat_cmp) (chars key.now) (pairs_of text.now spans.now)
+        ≡ Some (chars (value_bytes text.now (slice_index_or spans.now place past)))) }
+    ensures free { IfErr result (BelongsAt (chars key.now) (pairs_of text.now spans.now)) }
+{
+    let mut low = 0;
+    let mut high = spans.len();
+    while low < high {
+        let middle = low + (high - low) / 2;
+        match key_at(text, spans, middle).cmp(key) {
+            Ordering::Less => low = middle + 1,
+            Ordering::Equal => return Ok(middle),
+            Ordering::Greater => high = middle,
+        }
+    }
+    Err(low)
+}
+
+/// Puts a tag at a place among the tags of these spans.
+fn insert(
     text: &mut Vec<u8>,
     spans: &mut Vec<Span>,
+    place: usize,
     key: &str,
     value: &str,
 ) -> Result<(), OutOfMemory>
-    requires { AreSpans text.old.items spans.old.items }
-    ensures spans { AreSpans text.new.items spans.new.items }
-    ensures added { OnOk result (each (pair_of text.new.items) spans.new.items
-        ≡ each (pair_of text.old.items) spans.old.items ++ (chars key.now, chars value.now) ∷ []) }
-    ensures kept { OnErr result (each (pair_of text.new.items) spans.new.items
-        ≡ each (pair_of text.old.items) spans.old.items) }
+    requires cuts { AreSpans text.old.items spans.old.items }
+    requires within { place ≤ length spans.old.items }
+    ensures cuts { AreSpans text.new.items spans.new.items }
+    ensures added { OnOk result (pairs_of text.new.items spans.new.items
+        ≡ insert (pairs_of text.old.items spans.old.items) place (chars key.now, chars value.now)) }
+    ensures kept { OnErr result (pairs_of text.new.items spans.new.items ≡ pairs_of text.old.items spans.old.items) }
 {
     let start = text.len();
     text.extend_from_slice(key.as_bytes())?;
     let middle = text.len();
     text.extend_from_slice(value.as_bytes())?;
     let end = text.len();
-    spans.push(Span {
+    let span = Span {
         key: start,
         value: middle,
         end,
-    })?;
+    };
+    spans.insert(place, span)?;
     Ok(())
 }
 

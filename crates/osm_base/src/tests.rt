@@ -25,6 +25,58 @@ fn tags_keep_each_key_once(rt: HostRuntime) -> Result<(), Fail> {
     Ok(())
 }
 
+/// Keys in the order of their coming, more than are looked through one by one.
+const KEYS: [&str; 12] = [
+    "name",
+    "name:de",
+    "highway",
+    "",
+    "Name",
+    "na",
+    "\u{e9}",
+    "\u{ff5e}",
+    "\u{1f600}",
+    "z",
+    "addr:street",
+    "addr:city",
+];
+
+/// The same by their bytes, as C's `memcmp` orders them.
+const IN_ORDER: [&str; 12] = [
+    "",
+    "Name",
+    "addr:city",
+    "addr:street",
+    "highway",
+    "na",
+    "name",
+    "name:de",
+    "z",
+    "\u{e9}",
+    "\u{ff5e}",
+    "\u{1f600}",
+];
+
+#[test]
+fn tags_stand_by_the_bytes_of_their_keys(rt: HostRuntime) -> Result<(), Fail> {
+    let mut tags = Tags::new(rt.alloc());
+    assert!(rt; tags.is_empty());
+    for key in KEYS {
+        assert_eq!(rt; tags.add(key, key), Ok(true));
+    }
+    assert_eq!(rt; tags.len(), IN_ORDER.len());
+    for (index, key) in IN_ORDER.into_iter().enumerate() {
+        if index < tags.len() {
+            assert_eq!(rt; tags.nth(index).0, key);
+            assert_eq!(rt; tags.nth(index).1, key);
+        }
+        assert_eq!(rt; tags.get(key), Some(key));
+        assert_eq!(rt; tags.add(key, "again"), Ok(false));
+    }
+    assert_eq!(rt; tags.get("nam"), None);
+    Ok(())
+}
+
 /// A copy of what a line says that this object is.
 fn copied(alloc: Global, object: Object) -> Result<Option<Object>, crate::OutOfMemory> {
     let entry = Entry {

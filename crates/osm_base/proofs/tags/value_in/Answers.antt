@@ -1,11 +1,8 @@
 use Rattle.std.proofs.Common.{sym, ◌∙◌, ap, Some, ◌<◌, length, arith}
 use Rattle.std.specs.Str.{chars}
-use Rattle.osm_base.specs.declared.tags.Span.{Span}
 use Rattle.osm_base.proofs.TagPairs.{find-here, find-later}
+use Rattle.osm_base.proofs.TagSearch.{past_the_end}
 use Rattle.osm_base.proofs.tags.value_in.Goals as goal
-
-abbrev past_the_end : Span
-past_the_end = record { key = 0; value = 0; end = 0 }
 
 pub returns-then-eq : goal.returns-then-eq
 returns-then-eq c =
