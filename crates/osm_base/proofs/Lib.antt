@@ -1,4 +1,6 @@
 pub mod CharacterOrder
+pub mod Digits
+pub mod Manual
 pub mod TagPairs
 pub mod TagPlaces
 pub mod TagSearch

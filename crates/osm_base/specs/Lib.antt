@@ -1,3 +1,4 @@
+pub mod Degrees
 pub mod Ids
 pub mod Key
 pub mod KeyOrder

@@ -8,6 +8,7 @@
 #![tactic(auto)]
 
 mod back;
+mod degrees;
 mod items;
 mod key;
 mod limits;
@@ -21,6 +22,7 @@ mod tests;
 mod text;
 
 pub use back::Back;
+pub use degrees::DegreesBuffer;
 pub use items::{Bytes, FileList, Ids, Items, LineList, Places, Polygons, TryCopy};
 pub use key::{Key, Kind, MAX_ID};
 pub use limits::{LimitKind, Limits};

@@ -1,6 +1,7 @@
 //! Each call once, with ample memory.
 use crate::{
-    Entry, Ids, Items, Key, Kind, Limits, Member, Members, Object, Place, Tags, Text, TryCopy,
+    DegreesBuffer, Entry, Ids, Items, Key, Kind, Limits, Member, Members, Object, Place, Tags,
+    Text, TryCopy,
 };
 use std::alloc::Global;
 use std::test::Fail;
@@ -144,4 +145,38 @@ fn a_list_of_bytes_is_its_vector(rt: HostRuntime) -> Result<(), Fail> {
     let text = Text::from_string(String::from_str(rt.alloc(), "abc")?);
     assert_eq!(rt; list.copy(rt.alloc())?.as_slice(), text.as_str().as_bytes());
     Ok(())
+}
+
+// Coordinates in units of 1e-7 degree, and their texts, written by hand.
+const DEGREES: [(i32, &str); 22] = [
+    (0, "0"),
+    (1, "0.0000001"),
+    (-1, "-0.0000001"),
+    (10, "0.000001"),
+    (1_000_000, "0.1"),
+    (1_234_567, "0.1234567"),
+    (-5_000_000, "-0.5"),
+    (9_999_999, "0.9999999"),
+    (10_000_000, "1"),
+    (-10_000_000, "-1"),
+    (10_000_001, "1.0000001"),
+    (100_000_010, "10.000001"),
+    (133_777_000, "13.3777"),
+    (525_163_000, "52.5163"),
+    (1_799_999_999, "179.9999999"),
+    (1_800_000_000, "180"),
+    (-1_800_000_000, "-180"),
+    (900_000_000, "90"),
+    (-900_000_000, "-90"),
+    (-899_999_999, "-89.9999999"),
+    (2_147_483_647, "214.7483647"),
+    (-2_147_483_648, "-214.7483648"),
+];
+
+#[test]
+fn coordinates_are_written_in_degrees(rt: HostRuntime) {
+    let mut buffer = DegreesBuffer::new();
+    for (units, text) in DEGREES {
+        assert_eq!(rt; buffer.format(units), text.as_bytes(), "at {units}");
+    }
 }

@@ -1,5 +1,4 @@
 pub mod AsciiTexts
-pub mod Digits
 pub mod Manual
 pub mod WordLists
 pub mod NodeLines

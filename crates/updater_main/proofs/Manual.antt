@@ -1,33 +1,12 @@
 -- Examples written out by hand.
 use Rattle.std.proofs.Common.{◌≡◌, Some, None, [], ◌∷◌, refl}
-use Rattle.std.specs.Prelude.{codes, pos, negsuc}
+use Rattle.std.specs.Prelude.{codes, pos}
 use Rattle.std.specs.Fmt.{digits}
 use Rattle.std.proofs.Math.Utf8.{encode}
 use Rattle.updater_main.specs.Command.{command, points_of}
 use Rattle.updater_main.specs.CopyText.{escape_letter}
-use Rattle.updater_main.specs.Degrees.{degrees, fraction}
+use Rattle.osm_base.specs.Degrees.{degrees, fraction}
 use Rattle.updater_main.specs.PointsText.{point_line}
-
--- coordinates
-pub degrees-place : degrees (pos 133777000) ≡ codes "13.3777"
-unfolding degrees fraction digits
-degrees-place = refl
-
-pub degrees-zero : degrees (pos 0) ≡ codes "0"
-unfolding degrees fraction digits
-degrees-zero = refl
-
-pub degrees-least : degrees (negsuc 0) ≡ codes "-0.0000001"
-unfolding degrees fraction digits
-degrees-least = refl
-
-pub degrees-east : degrees (pos 1800000000) ≡ codes "180"
-unfolding degrees fraction digits
-degrees-east = refl
-
-pub degrees-south : degrees (negsuc 899999999) ≡ codes "-90"
-unfolding degrees fraction digits
-degrees-south = refl
 
 -- a line of points
 pub point_line-cafe : point_line 1 (codes "cafe") (record { lon = pos 133777000; lat = pos 525163000 }) ≡ codes "1\tcafe\tPOINT(13.3777 52.5163)\n"

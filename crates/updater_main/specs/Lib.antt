@@ -1,7 +1,6 @@
 pub mod Causes
 pub mod Command
 pub mod CopyText
-pub mod Degrees
 pub mod Faults
 pub mod Files
 pub mod PointLines

@@ -12,7 +12,7 @@ use Rattle.osm_base.specs.declared.object.Object.TheVariants.{Node}
 use Rattle.osm_base.specs.declared.object.Entry.{Entry}
 use Rattle.object_fold.specs.Fold.{ObjectSet}
 use Rattle.updater_main.specs.CopyText.{copy_text}
-use Rattle.updater_main.specs.Degrees.{degrees}
+use Rattle.osm_base.specs.Degrees.{degrees}
 
 -- a place as a geometry
 abbrev pub point_text : PlaceOf → List ℕ

@@ -9,7 +9,6 @@
 #![tactic(auto)]
 
 mod copy_text;
-mod degrees;
 mod fault;
 mod files;
 mod point_lines;

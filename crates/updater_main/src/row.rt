@@ -4,8 +4,7 @@ ghost use Rattle.std.specs.Str.{chars};
 ghost use Rattle.updater_main.specs.PointsText.{line_of, point_line};
 
 use crate::copy_text::push_copy_text;
-use crate::degrees::push_degrees;
-use osm_base::{Entry, Object, OutOfMemory, Place};
+use osm_base::{DegreesBuffer, Entry, Object, OutOfMemory, Place};
 
 /// Appends the line of an entry, where it is a node with a place and with the tag of this key.
 #[tactic(auto, unfolding(crate::specs::PointsText::line_of))]
@@ -32,13 +31,14 @@ fn push_line(out: &mut Vec<u8>, id: u64, value: &str, place: Place) -> Result<()
     ensures line { OnOk result (out.new.items ≡ out.old.items ++ point_line id (chars value.now) place) }
 {
     let mut digits = itoa::Buffer::new();
+    let mut degrees = DegreesBuffer::new();
     out.extend_from_slice(digits.format(id).as_bytes())?;
     out.push(b'\t')?;
     push_copy_text(out, value.as_bytes())?;
     out.extend_from_slice(b"\tPOINT(")?;
-    push_degrees(out, place.lon)?;
+    out.extend_from_slice(degrees.format(place.lon))?;
     out.push(b' ')?;
-    push_degrees(out, place.lat)?;
+    out.extend_from_slice(degrees.format(place.lat))?;
     out.extend_from_slice(b")\n")?;
     Ok(())
 }

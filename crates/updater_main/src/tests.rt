@@ -1,5 +1,4 @@
 //! Examples from outside, and each call with ample memory.
-use crate::degrees::push_degrees;
 use crate::fault::{Fault, Outcome, fault_line};
 use crate::row::push_point;
 use crate::words::{Command, command_of};
@@ -7,43 +6,6 @@ use opl_object::Why;
 use osm_base::{Entry, Ids, Key, Kind, LimitKind, Object, OutOfMemory, Place, Tags};
 use std::alloc::{AllocError, Global};
 use std::test::Fail;
-
-// Coordinates in units of 1e-7 degree, and their texts, written by hand.
-const DEGREES: [(i32, &str); 22] = [
-    (0, "0"),
-    (1, "0.0000001"),
-    (-1, "-0.0000001"),
-    (10, "0.000001"),
-    (1_000_000, "0.1"),
-    (1_234_567, "0.1234567"),
-    (-5_000_000, "-0.5"),
-    (9_999_999, "0.9999999"),
-    (10_000_000, "1"),
-    (-10_000_000, "-1"),
-    (10_000_001, "1.0000001"),
-    (100_000_010, "10.000001"),
-    (133_777_000, "13.3777"),
-    (525_163_000, "52.5163"),
-    (1_799_999_999, "179.9999999"),
-    (1_800_000_000, "180"),
-    (-1_800_000_000, "-180"),
-    (900_000_000, "90"),
-    (-900_000_000, "-90"),
-    (-899_999_999, "-89.9999999"),
-    (2_147_483_647, "214.7483647"),
-    (-2_147_483_648, "-214.7483648"),
-];
-
-#[test]
-fn coordinates_are_written_in_degrees(rt: HostRuntime) -> Result<(), Fail> {
-    for (units, text) in DEGREES {
-        let mut out = Vec::from_slice(rt.alloc(), b"x")?;
-        push_degrees(&mut out, units)?;
-        assert_eq!(rt; out[0], b'x');
-        assert_eq!(rt; &out[1..], text.as_bytes(), "at {units}");
-    }
-    Ok(())
-}
 
 // Words of a command line, and the KEY, the place of INPUT and the number of files that they give.
 const WORDS: [(&[&str], Option<(&str, u32, u32)>); 26] = [

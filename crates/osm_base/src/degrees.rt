@@ -1,9 +1,8 @@
 //! The text of a coordinate, in degrees.
-ghost use Rattle.std.specs.Prelude.{◌≡◌, ◌++◌, ◌<◌, ◌≤◌, length, drop, decimal, OnOk, OnErr};
-ghost use Rattle.updater_main.specs.Degrees.{degrees, fraction, trimmed};
+ghost use Rattle.std.specs.Prelude.{◌≡◌, ◌<◌, ◌≤◌, length, drop, decimal};
+ghost use Rattle.osm_base.specs.Degrees.{degrees, fraction, trimmed};
 
 use itoa::write_digits;
-use osm_base::OutOfMemory;
 
 /// Units of a coordinate in a degree.
 const UNITS: u32 = 10_000_000;
@@ -11,15 +10,28 @@ const UNITS: u32 = 10_000_000;
 /// The bytes of the longest text: a sign, three digits, a point and seven digits.
 const LONGEST: usize = 12;
 
-/// Appends a coordinate, given in units of 1e-7 degree, as degrees.
-pub fn push_degrees(out: &mut Vec<u8>, units: i32) -> Result<(), OutOfMemory>
-    ensures ok { OnOk result (out.new.items ≡ out.old.items ++ degrees units) }
-    ensures err { OnErr result (out.new.items ≡ out.old.items) }
-{
-    let mut text = [0u8; LONGEST];
-    let start = write_degrees(units, &mut text);
-    out.extend_from_slice(&text[start..])?;
-    Ok(())
+/// A buffer on the stack for the text of one coordinate at a time.
+#[derive(Clone, Copy)]
+pub struct DegreesBuffer {
+    text: [u8; LONGEST],
+}
+
+impl DegreesBuffer {
+    /// A buffer that holds no text yet.
+    #[inline]
+    pub fn new() -> Self {
+        Self { text: [0; LONGEST] }
+    }
+
+    /// The text of a coordinate, given in units of 1e-7 degree, as degrees.
+    #[inline]
+    pub fn format(&mut self, units: i32) -> &[u8]
+        ensures text { result.now ≡ degrees units }
+        ensures short { length result.now ≤ LONGEST }
+    {
+        let start = write_degrees(units, &mut self.text);
+        &self.text[start..]
+    }
 }
 
 /// Writes the text of a coordinate at the end of the bytes, and says where it starts.

@@ -2,9 +2,9 @@ use Rattle.std.proofs.Common.{◌++◌, sym, ◌∙◌, ap, arith, refl}
 use Rattle.std.specs.Prelude.{decimal}
 use Rattle.std.proofs.lemmas.List.{append-nil}
 use Rattle.std.proofs.lemmas.Fmt.{length-decimal-le, decimal_nonempty}
-use Rattle.updater_main.proofs.Digits.{drop-whole, drop-point, fraction-digits, decimal-units}
-use Rattle.updater_main.specs.Degrees.{fraction, padded, trimmed}
-use Rattle.updater_main.proofs.degrees.write_fraction.Goals as goal
+use Rattle.osm_base.proofs.Digits.{drop-whole, drop-point, fraction-digits, decimal-units}
+use Rattle.osm_base.specs.Degrees.{fraction, padded, trimmed}
+use Rattle.osm_base.proofs.degrees.write_fraction.Goals as goal
 
 pub returns-then-rest-eq0-clause-written : goal.returns-then-rest-eq0-clause-written
 unfolding fraction

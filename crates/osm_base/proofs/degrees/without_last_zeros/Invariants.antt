@@ -1,7 +1,7 @@
 use Rattle.std.proofs.Common.{◌≡◌, ◌<◌, ◌≤◌}
 use Rattle.std.specs.Prelude.{decimal}
-use Rattle.updater_main.specs.Degrees.{trimmed}
-use Rattle.updater_main.proofs.degrees.without_last_zeros.Given as goal
+use Rattle.osm_base.specs.Degrees.{trimmed}
+use Rattle.osm_base.proofs.degrees.without_last_zeros.Given as goal
 
 -- the zeros that were taken off change no trimmed text
 abbrev pub invariant-loop-digits : goal.invariant-loop-digits

@@ -1,6 +1,6 @@
 use Rattle.std.proofs.Common.{sym, ◌∙◌, arith}
-use Rattle.updater_main.proofs.Digits.{decimal-zero, trimmed-decimal}
-use Rattle.updater_main.proofs.degrees.without_last_zeros.Goals as goal
+use Rattle.osm_base.proofs.Digits.{decimal-zero, trimmed-decimal}
+use Rattle.osm_base.proofs.degrees.without_last_zeros.Goals as goal
 
 pub loop-digits-preserved : goal.loop-digits-preserved
 loop-digits-preserved c = (

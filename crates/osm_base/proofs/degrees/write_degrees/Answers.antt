@@ -4,8 +4,8 @@ use Rattle.std.specs.Int.{is_negative}
 use Rattle.std.proofs.lemmas.Int.{to_z-of_z}
 use Rattle.std.proofs.lemmas.List.{drop-set}
 use Rattle.std.proofs.lemmas.Fmt.{length-decimal-le}
-use Rattle.updater_main.proofs.Digits.{degrees-positive, degrees-negative, size-text}
-use Rattle.updater_main.proofs.degrees.write_degrees.Goals as goal
+use Rattle.osm_base.proofs.Digits.{degrees-positive, degrees-negative, size-text}
+use Rattle.osm_base.proofs.degrees.write_degrees.Goals as goal
 
 pub write_digits-whole-requires : goal.write_digits-whole-requires
 write_digits-whole-requires c =
