@@ -1,2 +1,5 @@
+pub mod Cutting
 pub mod Growth
+pub mod History
+pub mod Overlay
 pub mod ServedFiles

@@ -1,7 +1,13 @@
 pub mod Bytes
 pub mod Calls
 pub mod Causes
+pub mod CrashPick
+pub mod Disk
 pub mod Fails
+pub mod MemDisk
 pub mod MemInputs
 pub mod MemSink
+pub mod Recorded
+pub mod RecordedView
 pub mod StdSink
+pub mod Tape

@@ -12,22 +12,31 @@
 #![tactic(auto)]
 
 mod calls;
+mod crash_pick;
+mod disk;
 mod failed;
 mod fails;
 mod file_inputs;
 mod files_left;
 mod inputs;
+mod mem_disk;
 mod mem_inputs;
 mod mem_sink;
+mod overwrite;
+mod recorded;
 mod sink;
 mod std_sink;
+mod tape;
 #[cfg(test)]
 mod tests;
 
+pub use crash_pick::CrashPick;
+pub use disk::Disk;
 pub use failed::Failed;
 pub use fails::Fails;
 pub use file_inputs::FileInputs;
 pub use inputs::Inputs;
+pub use mem_disk::MemDisk;
 pub use mem_inputs::MemInputs;
 pub use mem_sink::MemSink;
 pub use sink::{Sink, put_all};

@@ -1,0 +1,69 @@
+-- A disk, and what a crash may leave on it.
+-- Between two syncs each written range, and what lies past the old end, may hold anything after a crash, and the
+-- end may be anywhere from the old one to the new one. Bytes outside the written ranges stay. A write that fails
+-- counts as written. A sync that succeeds leaves what a read gives, and one that fails promises nothing new.
+use Rattle.std.specs.Prelude.{◌≡◌, ℕ, ◌+◌, ◌-◌, ◌^◌, ◌<◌, ◌≤◌, ◌⊎◌, min, max, List, ◌++◌, length, take, drop, replicate, slice_index, Option, Some}
+
+-- what crashes may leave: of a crash now, and of a crash at some moment from an earlier one on, inside a call or
+-- between two. The clock of moments never goes back.
+pub record Crashes : Type 1 where
+  pub moment : ℕ
+  pub outcomes : List ℕ → Type 0
+  pub outcomes_since : ℕ → List ℕ → Type 0
+
+-- what a disk is: what a read gives, where it tells that; what crashes may leave; how many calls have failed; and
+-- how many were reads, where it tells that
+pub record DiskView : Type 1 where
+  pub content : Option (List ℕ)
+  pub crashes : Crashes
+  pub faults : ℕ
+  pub reads : Option ℕ
+
+-- the disk tells that a read gives this
+abbrev pub Tells : DiskView → List ℕ → Type 0
+Tells view content = view.content ≡ Some content
+
+-- the front of a content, made longer by zeros where it is too short
+unfoldable pub padded : ℕ → List ℕ → List ℕ
+padded at content = take at content ++ replicate (at - length content) 0
+
+-- a content with these bytes written over it, with zeros in a gap behind its end
+unfoldable pub overlaid : ℕ → List ℕ → List ℕ → List ℕ
+overlaid at bytes content = padded at content ++ bytes ++ drop (at + length bytes) content
+
+-- what a crash may make of a content while so many bytes are written to it from here on: any bytes in the range
+-- and past the old end, and the same elsewhere
+pub record Torn (at count : ℕ) (old new : List ℕ) : Type 0 where
+  pub no_shorter : length old ≤ length new
+  pub no_longer : length new ≤ max (length old) (at + count)
+  pub below : (i : ℕ) → i < length old → i < at → slice_index new i ≡ slice_index old i
+  pub above : (i : ℕ) → i < length old → at + count ≤ i → slice_index new i ≡ slice_index old i
+
+-- each outcome of a crash now is an earlier outcome after this step
+abbrev pub Follows : (List ℕ → List ℕ → Type 0) → Crashes → Crashes → Type 0
+Follows step old new = (left : List ℕ) → new.outcomes left → (before : List ℕ) × old.outcomes before × step before left
+
+-- no crash leaves what an earlier one could not leave
+abbrev pub NoneNew : Crashes → Crashes → Type 0
+NoneNew old new = (left : List ℕ) → new.outcomes left → old.outcomes left
+
+-- a crash leaves this and nothing else
+abbrev pub Only : List ℕ → Crashes → Type 0
+Only content crashes = (left : List ℕ) → crashes.outcomes left → left ≡ content
+
+-- time goes on: a crash since a moment might have left what it might have left before, or what it may leave now
+pub record Elapses (old new : Crashes) : Type 0 where
+  pub later : old.moment ≤ new.moment
+  pub each : (since : ℕ) (left : List ℕ) → since ≤ old.moment → new.outcomes_since since left
+      → old.outcomes_since since left ⊎ new.outcomes left
+  pub keeps : (since : ℕ) (left : List ℕ) → since ≤ old.moment → old.outcomes_since since left
+      → new.outcomes_since since left
+
+-- so many bytes of a content from here on stand at the front of the buffer, whose rest is as it was
+pub record ReadsFrom (at count : ℕ) (content old new : List ℕ) : Type 0 where
+  pub many : count ≡ min (length old) (length content - at)
+  pub bytes : new ≡ take count (drop at content) ++ drop count old
+
+-- where this content is told, another that is told is the same
+pub told_is : (content told : List ℕ) → Some content ≡ Some told → told ≡ content
+told_is content told is = cc

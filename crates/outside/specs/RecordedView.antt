@@ -1,0 +1,15 @@
+-- What contracts see of bytes with the calls that made them.
+use Rattle.std.specs.Prelude.{ℕ, List}
+use Rattle.outside.specs.Disk.{Crashes}
+use Rattle.outside.specs.Recorded.{first_bytes}
+use Rattle.outside.specs.Tape.{crashes_of}
+use Rattle.outside.specs.declared.recorded.Recorded.{Recorded}
+
+abbrev pub bytes_of : Recorded → List ℕ
+bytes_of recorded = recorded.bytes.items
+
+abbrev pub start_of : Recorded → List ℕ
+start_of recorded = first_bytes recorded.start recorded.bytes.items
+
+abbrev pub crashes_in : Recorded → Crashes
+crashes_in recorded = crashes_of (start_of recorded) recorded.calls.items
