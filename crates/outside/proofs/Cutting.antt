@@ -1,5 +1,5 @@
 -- What a crash in a call leaves is one of its outcomes.
-use Rattle.std.proofs.Common.{◌≡◌, inl, inr, Bool, true, false, ℕ, zero, suc, ◌+◌, ◌-◌, ◌/◌, ◌<◌, ◌≤◌, ◌⊎◌, List, [], ◌∷◌, ◌++◌, length, take, drop, get_or, replicate, slice_get, slice_range, Option, Some, None, refl, sym, ap, ◌∙◌, subst, arith, append_assoc, length-drop, length-take, take-append-drop}
+use Rattle.std.proofs.Common.{◌≡◌, inl, inr, Bool, true, false, ℕ, zero, suc, ◌+◌, ◌-◌, ◌/◌, ◌<◌, ◌≤◌, ◌⊎◌, List, [], ◌∷◌, ◌++◌, length, take, drop, get_or, replicate, slice_get, slice_range, Some, refl, sym, ap, ◌∙◌, subst, arith, append_assoc, length-drop, length-take, take-append-drop}
 use Rattle.std.proofs.lemmas.Option.{slice_get-get_or}
 use Rattle.std.proofs.lemmas.List.{take_more, take-take, drop-take, get_or-drop, length-replicate}
 use Rattle.outside.specs.Disk.{Torn}
@@ -130,14 +130,14 @@ last_outcome pick start front mid call content quiet reached false is =
     let ran = run-append (fresh start) (front ++ mid) (call ∷ []) ∙ ap (λ (m : Medium). after call m) (run-append (fresh start) front mid) in
     let P : Medium → List ℕ → Type 0 = MayLeave in
     inr (subst (λ (m : Medium). P m (all_cut_short pick (mid ++ call ∷ []) content)) (sym ran)
-        (subst (λ (l : List ℕ). P (after call (run (run (fresh start) front) mid)) l) (sym cut) (inr after-it)))
+    (subst (λ (l : List ℕ). P (after call (run (run (fresh start) front) mid)) l) (sym cut) (inr after-it)))
 last_outcome pick start front mid call content quiet reached true is =
     let before = all_reach pick mid (run (fresh start) front) content quiet reached in
     let cut = all_cut_short-append pick mid (call ∷ []) content ∙ whole_sync pick call (all_cut_short pick mid content) is in
     let ran = run-append (fresh start) front mid in
     let P : Medium → List ℕ → Type 0 = MayLeave in
     inl (subst (λ (m : Medium). P m (all_cut_short pick (mid ++ call ∷ []) content)) (sym ran)
-        (subst (λ (l : List ℕ). P (run (run (fresh start) front) mid) l) (sym cut) (inr before)))
+    (subst (λ (l : List ℕ). P (run (run (fresh start) front) mid) l) (sym cut) (inr before)))
 
 pub left_outcome : (pick : CrashPick) (start : List ℕ) (calls : List Call) (number : ℕ) (left : List ℕ) → 0 < number
     → number ≤ length calls → IsLeftIn pick start calls number left

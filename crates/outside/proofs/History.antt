@@ -1,9 +1,9 @@
 -- What one call more adds to a history of calls.
-use Rattle.std.proofs.Common.{◌≡◌, inl, inr, Bool, true, false, ℕ, ◌+◌, ◌<◌, ◌≤◌, ◌⊎◌, List, [], ◌∷◌, ◌++◌, length, take, refl, sym, ap, ◌∙◌, subst, arith, length-append, if◌then◌else◌}
+use Rattle.std.proofs.Common.{◌≡◌, inl, inr, Bool, true, false, ℕ, List, [], ◌∷◌, ◌++◌, length, take, refl, sym, ap, ◌∙◌, subst, arith, if◌then◌else◌}
 use Rattle.std.proofs.lemmas.Bool.{cases_lt}
 use Rattle.std.proofs.lemmas.List.{take_all, take-append-le, length_push}
-use Rattle.outside.specs.Disk.{Torn, Elapses, Follows, overlaid}
-use Rattle.outside.specs.Tape.{Medium, fresh, after, run, Reaches, MayLeave, MayLeaveAfter, MayLeaveSince, crashes_of, CallAdds}
+use Rattle.outside.specs.Disk.{Torn, Elapses, overlaid}
+use Rattle.outside.specs.Tape.{Medium, fresh, after, run, MayLeave, crashes_of, CallAdds}
 use Rattle.std.specs.Option.{IsSome}
 use Rattle.std.specs.Prelude.{Vec, Option, Some, None}
 use Rattle.std.specs.declared.alloc.Global.{Global}
@@ -30,9 +30,10 @@ after-adds (Write at piece done) old new start is = λ left may.
     let now : MayLeave (after (Write at piece done) medium) left = subst (λ (m : Medium). MayLeave m left) is may in
     elim now [
       | inl seen ↦ (
-          medium.seen, inl refl,
-          subst (λ (l : List ℕ). Torn at (length piece.items) medium.seen l) (sym seen) (Torn-written at piece.items medium.seen done),
-        )
+        medium.seen,
+        inl refl,
+        subst (λ (l : List ℕ). Torn at (length piece.items) medium.seen l) (sym seen) (Torn-written at piece.items medium.seen done),
+      )
       | inr reached ↦ (reached.0, inr reached.1, reached.2)
     ]
 after-adds (Sync true) old new start is = λ left may.

@@ -2,7 +2,7 @@
 -- Between two syncs each written range, and what lies past the old end, may hold anything after a crash, and the
 -- end may be anywhere from the old one to the new one. Bytes outside the written ranges stay. A write that fails
 -- counts as written. A sync that succeeds leaves what a read gives, and one that fails promises nothing new.
-use Rattle.std.specs.Prelude.{◌≡◌, ℕ, ◌+◌, ◌-◌, ◌^◌, ◌<◌, ◌≤◌, ◌⊎◌, min, max, List, ◌++◌, length, take, drop, replicate, slice_index, Option, Some}
+use Rattle.std.specs.Prelude.{◌≡◌, ℕ, ◌+◌, ◌-◌, ◌<◌, ◌≤◌, ◌⊎◌, min, max, List, ◌++◌, length, take, drop, replicate, slice_index, Option, Some}
 
 -- what crashes may leave: of a crash now, and of a crash at some moment from an earlier one on, inside a call or
 -- between two. The clock of moments never goes back.

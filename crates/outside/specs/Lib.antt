@@ -4,6 +4,7 @@ pub mod Causes
 pub mod CrashPick
 pub mod Disk
 pub mod Fails
+pub mod FileDisk
 pub mod MemDisk
 pub mod MemInputs
 pub mod MemSink

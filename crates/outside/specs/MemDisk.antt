@@ -1,5 +1,5 @@
 -- A disk in memory.
-use Rattle.std.specs.Prelude.{◌≡◌, ◌⊎◌, ◌≢◌, ℕ, ◌+◌, ◌-◌, Bool, Some, Result, IsErr, IsTrue, OnOk, OnErr, is_err, List}
+use Rattle.std.specs.Prelude.{◌≡◌, ◌⊎◌, ℕ, ◌+◌, ◌-◌, Bool, Some, Result, IsErr, IsTrue, OnOk, OnErr, is_err, List}
 use Rattle.outside.specs.Calls.{CallLog, NamesNext, after_call}
 use Rattle.outside.specs.CrashPick.{IsLeftIn}
 use Rattle.outside.specs.Disk.{DiskView}

@@ -1,8 +1,8 @@
 -- The calls of a disk in memory, and what they make of it.
-use Rattle.std.specs.Prelude.{◌≡◌, ℕ, ◌+◌, ◌≤◌, ◌⊎◌, List, [], ◌∷◌, length, take, if◌then◌else◌}
-use Rattle.std.proofs.Common.{inl, inr, subst, sym, arith}
+use Rattle.std.specs.Prelude.{◌≡◌, ℕ, ◌≤◌, ◌⊎◌, List, [], ◌∷◌, length, take, if◌then◌else◌}
+use Rattle.std.proofs.Common.{subst, sym, arith}
 use Rattle.std.proofs.lemmas.List.{take_all}
-use Rattle.outside.specs.Disk.{Crashes, DiskView, Torn, Follows, NoneNew, overlaid}
+use Rattle.outside.specs.Disk.{Crashes, Torn, Follows, NoneNew, overlaid}
 use Rattle.outside.specs.declared.tape.Call.{Call}
 use Rattle.outside.specs.declared.tape.Call.TheVariants.{Look, Write, Sync}
 

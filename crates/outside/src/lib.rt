@@ -1,13 +1,16 @@
-//! The world outside of the program as traits that count their faults: files that are read, and a
-//! place where output goes.
+//! The world outside of the program as traits that count their faults: files that are read, a place
+//! where output goes, and a disk.
 //!
-//! Every command reads through `Inputs` and writes through `Sink`. Contracts name the bytes that are
-//! left in each file and those that a sink has taken, where the object tells them, and a count of
-//! faults. A call answers `Failed` only where that count rose, so code that is generic over these
-//! traits cannot make a fault up: its own contract says `HasCause`.
+//! Every command reads through `Inputs`, writes through `Sink` and keeps its store on a `Disk`.
+//! Contracts name the bytes that are left in each file, those that a sink has taken and those that a
+//! disk gives, where the object tells them, and a count of faults. A call answers `Failed` only where
+//! that count rose, so code that is generic over these traits cannot make a fault up: its own contract
+//! says `HasCause`. Of a disk they also say what a crash may leave, now and at each moment since an
+//! earlier one: until a sync has succeeded, anything may stand in the ranges that were written.
 //!
-//! `MemInputs` and `MemSink` keep all in memory, tell every byte, and fail at the calls that `Fails`
-//! names. `FileInputs` and `StdSink` stand over real files and a real stream: no proof says what
+//! `MemInputs`, `MemSink` and `MemDisk` keep all in memory, tell every byte, and fail at the calls
+//! that `Fails` names. `MemDisk` keeps each call too, so that a crash in any of them can be tried.
+//! `FileInputs`, `StdSink` and `FileDisk` stand over real files and a real stream: no proof says what
 //! those hold, so they tell no bytes, and each counts its faults. `put_all` writes a whole text.
 #![tactic(auto)]
 
@@ -16,6 +19,7 @@ mod crash_pick;
 mod disk;
 mod failed;
 mod fails;
+mod file_disk;
 mod file_inputs;
 mod files_left;
 mod inputs;
@@ -34,6 +38,7 @@ pub use crash_pick::CrashPick;
 pub use disk::Disk;
 pub use failed::Failed;
 pub use fails::Fails;
+pub use file_disk::FileDisk;
 pub use file_inputs::FileInputs;
 pub use inputs::Inputs;
 pub use mem_disk::MemDisk;

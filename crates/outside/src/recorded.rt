@@ -95,7 +95,11 @@ impl Recorded {
         ensures time { Elapses (crashes_in self.old) (crashes_in self.new) }
         ensures noted { OnOk result ((crashes_in self.new).moment ≡ (crashes_in self.old).moment + 1) }
     {
-        keep_first(*self.bytes.allocator(), &mut self.start, self.bytes.as_slice())?;
+        keep_first(
+            *self.bytes.allocator(),
+            &mut self.start,
+            self.bytes.as_slice(),
+        )?;
         write_over(&mut self.bytes, &mut self.calls, at, piece)
     }
 
@@ -121,11 +125,7 @@ impl Recorded {
 }
 
 // Keeps the bytes before the first write.
-fn keep_first(
-    alloc: Global,
-    start: &mut Option<Vec<u8>>,
-    bytes: &[u8],
-) -> Result<(), AllocError>
+fn keep_first(alloc: Global, start: &mut Option<Vec<u8>>, bytes: &[u8]) -> Result<(), AllocError>
     ensures same { first_bytes start.new bytes.now ≡ first_bytes start.old bytes.now }
     ensures kept { OnOk result (IsSome start.new) }
 {

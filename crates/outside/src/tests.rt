@@ -1,3 +1,5 @@
+mod disks;
+
 use crate::{Failed, Fails, FileInputs, Inputs, MemInputs, MemSink, Sink, StdSink, put_all};
 use osm_base::{Bytes, FileList, Ids};
 use std::alloc::Global;

@@ -1,4 +1,4 @@
-use Rattle.std.proofs.Common.{◌≡◌, ℕ, List, slice_range, ap, ◌∙◌}
+use Rattle.std.proofs.Common.{ℕ, List, slice_range, ap, ◌∙◌}
 use Rattle.outside.specs.CrashPick.{all_cut_short}
 use Rattle.outside.proofs.Cutting.{left_outcome}
 use Rattle.outside.proofs.crash_pick.left_in.Goals as goal

@@ -1,4 +1,4 @@
-use Rattle.std.proofs.Common.{◌≡◌, ℕ, List, ◌+◌, ◌≤◌, length, max, ap, ◌∙◌, arith}
+use Rattle.std.proofs.Common.{ℕ, List, ◌+◌, length, max, ap, ◌∙◌, arith}
 use Rattle.outside.specs.Disk.{overlaid}
 use Rattle.outside.proofs.Overlay.{length-padded, overlaid-padded}
 use Rattle.outside.proofs.overwrite.overwrite.Goals as goal

@@ -1,4 +1,4 @@
-use Rattle.std.proofs.Common.{◌≡◌, ℕ, List, ◌+◌, ◌-◌, ◌++◌, ◌≤◌, take, drop, length, ap, sym, ◌∙◌, arith}
+use Rattle.std.proofs.Common.{◌≡◌, ℕ, List, ◌+◌, ◌-◌, ◌++◌, take, drop, length, ap, sym, ◌∙◌, arith}
 use Rattle.std.proofs.lemmas.List.{drop-drop}
 use Rattle.outside.proofs.Overlay.{overlaid-within}
 use Rattle.outside.proofs.overwrite.put_into.Goals as goal
@@ -12,6 +12,6 @@ returns c =
     let rest : drop (at + length piece - at) (drop at bytes) ≡ drop (at + length piece) bytes =
     drop-drop (at + length piece - at) at bytes ∙ ap (λ (n : ℕ). drop n bytes) end in
     rw c.copy_from_slice.ensures.after (
-      ap (λ (l : List ℕ). take at bytes ++ (piece ++ l)) rest
-      ∙ sym (overlaid-within at piece bytes (omega (arith, c.requires)))
+    ap (λ (l : List ℕ). take at bytes ++ (piece ++ l)) rest
+    ∙ sym (overlaid-within at piece bytes (omega (arith, c.requires)))
     )

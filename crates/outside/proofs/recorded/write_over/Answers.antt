@@ -1,6 +1,6 @@
-use Rattle.std.proofs.Common.{◌≡◌, ℕ, List, true, ◌+◌, ◌≤◌, ◌^◌, length, take, max, ap, sym, ◌∙◌, subst, arith, rules}
+use Rattle.std.proofs.Common.{◌≡◌, ℕ, List, ◌+◌, ◌≤◌, length, take, max, ap, sym, ◌∙◌, subst, arith, rules}
 use Rattle.outside.specs.Disk.{padded, overlaid, Torn}
-use Rattle.outside.specs.Tape.{Medium, fresh, run, MayLeave}
+use Rattle.outside.specs.Tape.{Medium, fresh, run}
 use Rattle.outside.specs.declared.tape.Call.{Call}
 use Rattle.outside.proofs.Overlay.{length-padded, length-overlaid, overlaid-padded, take-padded}
 use Rattle.outside.proofs.recorded.write_over.Goals as goal

@@ -1,4 +1,4 @@
-use Rattle.std.proofs.Common.{ap, ◌∙◌, ℕ, List}
+use Rattle.std.proofs.Common.{ap, ◌∙◌, List}
 use Rattle.outside.specs.Tape.{Medium, fresh, run}
 use Rattle.outside.specs.declared.tape.Call.{Call}
 use Rattle.outside.proofs.History.{call_adds, adds_nothing, elapses_more, elapses_not, run_push}

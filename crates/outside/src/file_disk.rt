@@ -1,0 +1,185 @@
+//! A real file as a disk.
+ghost use Rattle.std.specs.Prelude.{◌≡◌, ℕ, ◌+◌, ◌-◌, ◌^◌, ◌≤◌, None, List, length, IfOk, is_err, if◌then◌else◌};
+ghost use Rattle.outside.specs.Calls.{one_more};
+ghost use Rattle.outside.specs.Causes.{HasCause};
+ghost use Rattle.outside.specs.FileDisk.{silent};
+
+use crate::overwrite::MAX_LEN;
+use crate::{Disk, Failed};
+use std::fs::{self, OpenFile, OpenOptions};
+use std::io::{self, ErrorKind, Read, Seek, SeekFrom, Write};
+use std::marker::Model;
+use std::path::Path;
+use std::rt::Files;
+
+/// The file at a path, which is opened at the first call. Every error of the system is a fault, and so
+/// is a file of more than 2^62 bytes. No bytes are told, since no proof says what a file holds.
+#[derive(Drop)]
+pub struct FileDisk<'p, R: Files> {
+    rt: R,
+    path: &'p str,
+    make: bool,
+    open: Option<R::File>,
+    faults: u64,
+}
+
+// Contracts see the count of faults.
+impl<'p, R: Files> Model for FileDisk<'p, R> {
+    ghost use Rattle.std.specs.Prelude.{ℕ};
+
+    ghost Value = { ℕ };
+
+    ghost view = { λ disk. disk.faults };
+}
+
+impl<'p, R: Files> FileDisk<'p, R> {
+    /// The file at this path. It is made where `make` says so and there is none, and else its absence is
+    /// a fault.
+    pub fn new(rt: R, path: &'p str, make: bool) -> Self
+        ensures none { result ≡ 0 }
+    {
+        Self {
+            rt,
+            path,
+            make,
+            open: None,
+            faults: 0,
+        }
+    }
+}
+
+impl<R: Files + Drop> FileDisk<'_, R> {
+    // Opens the file, if no earlier call has.
+    fn begin(&mut self) -> io::Result<()>
+        ensures same { self.new ≡ self.old }
+    {
+        if self.open.is_none() {
+            let mut options = OpenOptions::new();
+            options.read(true);
+            options.write(true);
+            options.create(self.make);
+            self.open = Some(options.open(&self.rt, self.path)?);
+        }
+        Ok(())
+    }
+
+    // Makes the name of a file stable that this disk may have made.
+    fn keep_name(&self) -> io::Result<()> {
+        if !self.make {
+            return Ok(());
+        }
+        let folder = match Path::new(self.path).parent() {
+            Some(folder) if !folder.as_str().is_empty() => folder.as_str(),
+            _ => ".",
+        };
+        fs::open(&self.rt, folder)?.sync_all()
+    }
+
+    fn try_len(&mut self) -> io::Result<u64>
+        ensures small { IfOk result (λ len. len ≤ 2 ^ 62) }
+        ensures same { self.new ≡ self.old }
+    {
+        self.begin()?;
+        let open = self.open.as_ref().ok_or(closed())?;
+        let len = open.metadata()?.len();
+        if len > MAX_LEN as u64 {
+            return Err(ErrorKind::FileTooLarge.into());
+        }
+        Ok(len)
+    }
+
+    fn try_read(&mut self, at: u64, buf: &mut [u8]) -> io::Result<usize>
+        ensures bound { IfOk result (λ count. count ≤ length buf.old) }
+        ensures same { self.new ≡ self.old }
+    {
+        self.begin()?;
+        let open = self.open.as_mut().ok_or(closed())?;
+        open.seek(SeekFrom::Start(at))?;
+        fill(open, buf)
+    }
+
+    fn try_write(&mut self, at: u64, piece: &[u8]) -> io::Result<()>
+        ensures same { self.new ≡ self.old }
+    {
+        self.begin()?;
+        let open = self.open.as_mut().ok_or(closed())?;
+        open.seek(SeekFrom::Start(at))?;
+        open.write_all(piece)
+    }
+
+    fn try_sync(&mut self) -> io::Result<()>
+        ensures same { self.new ≡ self.old }
+    {
+        self.begin()?;
+        let open = self.open.as_ref().ok_or(closed())?;
+        open.sync_all()?;
+        self.keep_name()
+    }
+}
+
+fn closed() -> io::Error {
+    ErrorKind::NotFound.into()
+}
+
+// Reads until the buffer is full or the file ends.
+fn fill<F: Read>(open: &mut F, buf: &mut [u8]) -> io::Result<usize>
+    ensures bound { IfOk result (λ count. count ≤ length buf.old) }
+{
+    let mut filled = 0;
+    while filled < buf.len() {
+        let count = open.read(&mut buf[filled..])?;
+        if count == 0 {
+            break;
+        }
+        filled += count;
+    }
+    Ok(filled)
+}
+
+// The answer of a call: each error of the system is a fault.
+fn told<T: Drop>(outcome: io::Result<T>, faults: &mut u64) -> Result<T, Failed>
+    ensures same { IfOk result (λ value. outcome ≡ Ok value) }
+    ensures counted { faults.new ≡ (if is_err result then one_more faults.old else faults.old) }
+    ensures cause { HasCause faults.old faults.new result }
+{
+    match outcome {
+        Ok(value) => Ok(value),
+        Err(_) => {
+            *faults = faults.saturating_add(1);
+            Err(Failed)
+        }
+    }
+}
+
+impl<R: Files + Drop + Send> Disk for FileDisk<'_, R>
+where
+    R::File: Send,
+{
+    ghost view = { silent };
+
+    ghost reads_stay = { λ disk content told. Prim.cc };
+
+    ghost counts_now = { λ disk since left le now. now };
+
+    ghost only_now = { λ disk left since. since };
+
+    fn len(&mut self) -> Result<u64, Failed> {
+        let outcome = self.try_len();
+        told(outcome, &mut self.faults)
+    }
+
+    fn read_at(&mut self, at: u64, buf: &mut [u8]) -> Result<usize, Failed> {
+        let outcome = self.try_read(at, buf);
+        told(outcome, &mut self.faults)
+    }
+
+    fn write_at(&mut self, at: u64, piece: &[u8]) -> Result<(), Failed> {
+        let outcome = self.try_write(at, piece);
+        told(outcome, &mut self.faults)
+    }
+
+    fn sync(&mut self) -> Result<(), Failed> {
+        let outcome = self.try_sync();
+        told(outcome, &mut self.faults)
+    }
+}
