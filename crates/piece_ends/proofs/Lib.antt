@@ -1,0 +1,7 @@
+pub mod IndexBuilt
+pub mod IndexSteps
+pub mod Lines
+pub mod PlaceTree
+pub mod SamePlace
+pub mod Taken
+pub mod Steps

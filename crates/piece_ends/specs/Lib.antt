@@ -1,0 +1,4 @@
+pub mod Heads
+pub mod Index
+pub mod Pieces
+pub mod Walk
