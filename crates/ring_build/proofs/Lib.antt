@@ -1,0 +1,4 @@
+pub mod Appended
+pub mod Closed
+pub mod OddPlaces
+pub mod Parity
