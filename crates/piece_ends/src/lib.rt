@@ -11,6 +11,6 @@ mod piece;
 mod unused;
 mod walk;
 
-pub use piece::is_closed;
+pub use piece::{are_pieces, is_closed};
 pub use unused::UnusedPieces;
 pub use walk::extend;

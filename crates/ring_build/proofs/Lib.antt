@@ -1,4 +1,5 @@
 pub mod Appended
 pub mod Closed
+pub mod Examples
 pub mod OddPlaces
 pub mod Parity
