@@ -2,5 +2,7 @@
 #![tactic(auto)]
 
 mod joins;
+#[cfg(test)]
+mod tests;
 
 pub use joins::join_lines;

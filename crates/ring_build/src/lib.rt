@@ -2,5 +2,7 @@
 #![tactic(auto)]
 
 mod rings;
+#[cfg(test)]
+mod tests;
 
 pub use rings::rings_of;
