@@ -23,10 +23,10 @@ module _ (line : Line) (index : ℕ) (before place : PlaceOf) (some : 1 ≤ inde
   pub more_differ : same_place before place ≡ false → ((earlier : ℕ) → earlier + 1 < index → slice_get line earlier ≢ slice_get line (earlier + 1))
       → (earlier : ℕ) → earlier + 1 < index + 1 → slice_get line earlier ≢ slice_get line (earlier + 1)
   more_differ apart kept earlier less same = ⊎_elim
-    (λ (e : earlier ≡ index - 1).
+      (λ (e : earlier ≡ index - 1).
       let here = subst (λ n. slice_get line n ≡ slice_get line (n + 1)) e same in
       let alike : before ≡ place = ap (λ found. unwrap_or found before) (sym one ∙ here ∙ two) in
       let h : same_place before place ≡ true = ap (same_place before) (sym alike) ∙ same_place-itself before in
       absurd (cc))
-    (λ (e : earlier ≢ index - 1). kept earlier (omega arith) same)
-    (cases_eq earlier (index - 1))
+      (λ (e : earlier ≢ index - 1). kept earlier (omega arith) same)
+      (cases_eq earlier (index - 1))

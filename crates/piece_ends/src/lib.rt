@@ -8,6 +8,8 @@
 mod heads;
 mod index;
 mod piece;
+#[cfg(test)]
+mod tests;
 mod unused;
 mod walk;
 

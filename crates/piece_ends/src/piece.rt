@@ -44,5 +44,8 @@ pub fn is_piece(line: &[Place]) -> bool
 pub fn are_pieces(lines: &LineList) -> bool
     ensures pieces { IsTrue result ↔ ArePieces lines.now }
 {
-    lines.as_slice().iter().all(|line| is_piece(line.as_slice()))
+    lines
+        .as_slice()
+        .iter()
+        .all(|line| is_piece(line.as_slice()))
 }

@@ -1,4 +1,4 @@
-use Rattle.std.proofs.Common.{◌∙◌, ◌≡◌, ◌+◌, ◌-◌, ◌<◌, length, sym, true, false, arith}
+use Rattle.std.proofs.Common.{◌∙◌, ◌+◌, ◌-◌, ◌<◌, length, sym, arith}
 use Rattle.piece_ends.proofs.Neighbours.{equal_neighbours, more_differ}
 use Rattle.piece_ends.proofs.piece.is_piece.Goals as goal
 
