@@ -3,6 +3,7 @@ pub mod Entries
 pub mod Fold
 pub mod Index
 pub mod Keeps
+pub mod Listers
 pub mod Listing
 pub mod Passed
 pub mod Reading
