@@ -1,0 +1,68 @@
+//! The ways that a change makes due.
+ghost use Rattle.std.specs.Prelude.{◌≡◌, ◌≤◌, ◌||◌, ℕ, false, IfOk, IfErr, OnOk};
+ghost use Rattle.std.specs.List.{AllByRecursion};
+ghost use Rattle.osm_base.specs.Ids.{AreRisingIds};
+ghost use Rattle.osm_base.specs.Key.{IsId};
+ghost use Rattle.object_fold.specs.Fold.{ObjectSet, folded_all};
+ghost use Rattle.object_fold.specs.Index.{index_of};
+ghost use Rattle.object_fold.specs.RisingIds.{has};
+ghost use Rattle.dep_closure.specs.Stops.{Stops};
+ghost use Rattle.dep_closure.specs.Ways.{is_due, makes_due, Leaves};
+
+use crate::PendingFault;
+use object_fold::{Change, RisingIds};
+use osm_base::{Back, Entry, Ids, Kind};
+use std::alloc::Global;
+
+/// The rising ids of the ways of a change, and of those that list a node of it. The index is that of
+/// the objects after the change.
+pub fn ways_due<B: Back>(
+    alloc: Global,
+    change: &Change,
+    back: &mut B,
+) -> Result<Ids, PendingFault<B::Refusal>>
+    requires { B.spent back.old ≡ false }
+    ensures due { IfOk result (λ ids. (way : ℕ) → has ids way ≡ is_due (B.index back.old) change.now way) }
+    ensures rising { IfOk result AreRisingIds }
+
+    // A way that is not among them has the same object and the same line before and after.
+    ensures others { IfOk result (λ ids. (objects : ObjectSet) → B.index back.old ≡ index_of (folded_all objects change.now)
+        → (way : ℕ) → has ids way ≡ false → Leaves change.now objects way) }
+    ensures index { OnOk result (B.index back.new ≡ B.index back.old) }
+    ensures spent { OnOk result (B.spent back.new ≡ false) }
+    ensures faults { B.faults back.old ≤ B.faults back.new }
+    ensures stopped { IfErr result (Stops (B.bears back.new (B.faults back.old)) (λ _. ⊥)) }
+{
+    let entries = change.entries();
+    let mut ways = Vec::new(alloc);
+    for entry in entries {
+        add_due(entry, back, &mut ways)?;
+    }
+    Ok(RisingIds::from_vec(ways).into_ids())
+}
+
+/// Adds the ways that an entry makes due.
+fn add_due<B: Back>(
+    entry: &Entry,
+    back: &mut B,
+    ways: &mut Vec<u64>,
+) -> Result<(), PendingFault<B::Refusal>>
+    requires { B.spent back.old ≡ false }
+    ensures due { OnOk result ((way : ℕ) → has ways.new.items way ≡ (makes_due (B.index back.old) way entry.now || has ways.old.items way)) }
+    ensures ids { OnOk result (AllByRecursion IsId ways.old.items → AllByRecursion IsId ways.new.items) }
+    ensures index { OnOk result (B.index back.new ≡ B.index back.old) }
+    ensures spent { OnOk result (B.spent back.new ≡ false) }
+    ensures faults { B.faults back.old ≤ B.faults back.new }
+    ensures stopped { IfErr result (Stops (B.bears back.new (B.faults back.old)) (λ _. ⊥)) }
+{
+    let key = entry.key;
+    match key.kind {
+        Kind::Node => {
+            let listing = back.ways_of_node(key.id).map_err(PendingFault::Back)?;
+            ways.extend_from_slice(listing.as_slice())?;
+        }
+        Kind::Way => ways.push(key.id)?,
+        Kind::Relation => {}
+    }
+    Ok(())
+}
