@@ -1,43 +1,30 @@
 -- What a change leaves of a way that it does not make due.
-use Rattle.std.proofs.Common.{◌≡◌, ℕ, Bool, true, false, ◌&&◌, ◌||◌, cond, List, [], ◌∷◌, Option, Some, None, refl, sym, ap, subst, ◌∙◌, nat_eq, arith}
+use Rattle.std.proofs.Common.{◌≡◌, ℕ, Bool, true, false, ◌&&◌, ◌||◌, List, [], ◌∷◌, Option, Some, None, refl, sym, ap, subst, ◌∙◌, nat_eq, arith}
 use mathlib.Core.Bool.{false≢true}
 use Rattle.std.specs.Ordering.{eq_by_cmp}
 use Rattle.std.specs.Cmp.{Equal-is}
 use Rattle.std.specs.List.{AllByRecursion, list_any, filter_map, dedup}
 use Rattle.std.specs.FinMap as finite
 use Rattle.std.proofs.lemmas.Bool.Decides.{nat_tests}
-use Rattle.osm_base.specs.declared.key.Kind.{Kind}
 use Rattle.osm_base.specs.declared.key.Kind.TheVariants as kinds
 use Rattle.osm_base.specs.declared.object.Entry.{Entry}
 use Rattle.osm_base.specs.declared.object.Object.{Object}
 use Rattle.osm_base.specs.declared.object.Object.TheVariants.{Node, Way, Relation}
 use Rattle.osm_base.specs.Key.{KeyOf, IsId}
-use Rattle.osm_base.specs.KeyOrder.{key_cmp, key_cmp_total, key_cmp-IsAntisymmetric}
+use Rattle.osm_base.specs.KeyOrder.{key_cmp, key_cmp-IsAntisymmetric}
 use Rattle.osm_base.specs.Known.{Index}
 use Rattle.osm_base.specs.Place.{PlaceOf}
 use Rattle.piece_ends.specs.Pieces.{same_place}
-use Rattle.line_build.specs.Points.{line, line_through}
-use Rattle.object_fold.specs.Fold.{ObjectSet, folded, folded_all, with_object, place_in}
+use Rattle.line_build.specs.Points.{line_through}
+use Rattle.object_fold.specs.Fold.{ObjectSet, folded_all, place_in}
+use Rattle.object_fold.specs.FoldLaws.{Untouched, get-untouched}
 use Rattle.object_fold.specs.Index.{is_kind, lists, index_of, known_of}
 use Rattle.object_fold.specs.Listers.{has-ids_of}
 use Rattle.object_fold.specs.RisingIds.{has}
-use Rattle.dep_closure.specs.Ways.{way_key, makes_due, is_due, line_of, line_in, Leaves}
+use Rattle.dep_closure.specs.Ways.{way_key, makes_due, is_due, line_of, Leaves}
 
 abbrev node_key : ℕ → KeyOf
 node_key id = record { kind = kinds.Node; id = id }
-
--- a key that no entry has
-abbrev Untouched : KeyOf → List Entry → Type 0
-Untouched key change = AllByRecursion (λ (entry : Entry). eq_by_cmp key_cmp key entry.key ≡ false) change
-
-get-with_object : (objects : ObjectSet) (key own : KeyOf) (object : Option Object) → eq_by_cmp key_cmp own key ≡ false → finite.get (with_object objects key object) own ≡ finite.get objects own
-get-with_object objects key own None differs = finite.get-remove key_cmp_total objects key own ∙ ap (λ b. cond b None (finite.get objects own)) differs
-get-with_object objects key own (Some object) differs = finite.get-insert key_cmp_total objects key object own ∙ ap (λ b. cond b (Some object) (finite.get objects own)) differs
-
-get-folded_all : (objects : ObjectSet) (change : List Entry) (key : KeyOf) → Untouched key change → finite.get (folded_all objects change) key ≡ finite.get objects key
-get-folded_all objects [] key untouched = refl
-get-folded_all objects (entry ∷ change) key untouched =
-    get-folded_all (folded objects entry) change key untouched.1 ∙ get-with_object objects entry.key key entry.object untouched.0
 
 left_false : (a b : Bool) → (a || b) ≡ false → a ≡ false
 left_false true b is = absurd (false≢true (sym is))
@@ -80,7 +67,7 @@ module _ (objects : ObjectSet) (change : List Entry) (way : ℕ) (not_due : is_d
   not_made = none_passes (makes_due index way) change not_due
 
   object-left : finite.get after (way_key way) ≡ finite.get objects (way_key way)
-  object-left = get-folded_all objects change (way_key way) (each (λ (entry : Entry) not. left_false (eq_by_cmp key_cmp (way_key way) entry.key) _ not) change not_made)
+  object-left = get-untouched objects change (way_key way) (each (λ (entry : Entry) not. left_false (eq_by_cmp key_cmp (way_key way) entry.key) _ not) change not_made)
 
   -- a node that the way lists is in no entry
   node_untouched : (id : ℕ) → lists kinds.Node id (finite.get after (way_key way)) ≡ true → Untouched (node_key id) change
@@ -103,7 +90,7 @@ module _ (objects : ObjectSet) (change : List Entry) (way : ℕ) (not_due : is_d
   line-left (Some (Relation members tags)) is = refl
   line-left (Some (Way nodes tags)) is =
       ap (λ places. line_through (dedup same_place places)) (filter_map-same (known_of after).place (known_of objects).place nodes
-      (λ id there. ap place_in (get-folded_all objects change (node_key id) (node_untouched id (ap (lists kinds.Node id) is ∙ there)))))
+      (λ id there. ap place_in (get-untouched objects change (node_key id) (node_untouched id (ap (lists kinds.Node id) is ∙ there)))))
 
   pub left : Leaves change objects way
   left = record {

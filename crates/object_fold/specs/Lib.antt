@@ -1,6 +1,7 @@
 pub mod Change
 pub mod Entries
 pub mod Fold
+pub mod FoldLaws
 pub mod Index
 pub mod Keeps
 pub mod Listers

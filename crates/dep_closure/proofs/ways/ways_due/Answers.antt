@@ -1,7 +1,5 @@
-use Rattle.std.proofs.Common.{◌≡◌, ℕ, false, sym, ap, subst, ◌∙◌, take}
-use Rattle.std.specs.List.{AllByRecursion}
+use Rattle.std.proofs.Common.{sym, ap, subst, ◌∙◌}
 use Rattle.std.proofs.lemmas.List.{take_all}
-use Rattle.osm_base.specs.Key.{IsId}
 use Rattle.osm_base.specs.Known.{Index}
 use Rattle.object_fold.specs.RisingIds.{IsRising, has}
 use Rattle.dep_closure.specs.Ways.{is_due}
