@@ -34,7 +34,7 @@ kind_same Relation Way e = absurd (cc)
 kind_same Relation Relation e = refl
 
 -- in keys of one kind the ids decide
-tied-ids : (kind other : Kind) (id own : ℕ) → is_kind kind other ≡ true → eq_by_cmp key_cmp (key kind id) (key other own) ≡ nat_eq id own
+pub tied-ids : (kind other : Kind) (id own : ℕ) → is_kind kind other ≡ true → eq_by_cmp key_cmp (key kind id) (key other own) ≡ nat_eq id own
 tied-ids Node Node id own e = unsigned_tied id own
 tied-ids Node Way id own e = absurd (cc)
 tied-ids Node Relation id own e = absurd (cc)
@@ -45,7 +45,7 @@ tied-ids Relation Node id own e = absurd (cc)
 tied-ids Relation Way id own e = absurd (cc)
 tied-ids Relation Relation id own e = unsigned_tied id own
 
-untied-kinds : (kind other : Kind) (id own : ℕ) → is_kind kind other ≡ false → eq_by_cmp key_cmp (key kind id) (key other own) ≡ false
+pub untied-kinds : (kind other : Kind) (id own : ℕ) → is_kind kind other ≡ false → eq_by_cmp key_cmp (key kind id) (key other own) ≡ false
 untied-kinds Node Node id own e = absurd (cc)
 untied-kinds Node Way id own e = refl
 untied-kinds Node Relation id own e = refl

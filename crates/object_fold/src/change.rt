@@ -6,7 +6,7 @@ ghost use Rattle.object_fold.specs.Change.{IsChange, IsProper, Follows, last_key
 ghost use Rattle.object_fold.specs.Keeps.{pushed};
 
 use crate::Keeper;
-use osm_base::{Entry, OutOfMemory};
+use osm_base::{Entry, OutOfMemory, TryCopy};
 use std::alloc::Global;
 use std::marker::Model;
 
@@ -57,6 +57,14 @@ impl Change {
     {
         let Self { entries } = self;
         entries
+    }
+}
+
+impl TryCopy for Change {
+    fn copy(&self, alloc: Global) -> Result<Self, OutOfMemory> {
+        Ok(Self {
+            entries: Entry::copy_all(self.entries.as_slice(), alloc)?,
+        })
     }
 }
 

@@ -19,7 +19,7 @@ mod whole;
 pub use change::Change;
 pub use fault::FileFault;
 pub use keeper::Keeper;
-pub use objects::Objects;
+pub use objects::{ObjectIndex, Objects};
 pub use rising_ids::RisingIds;
 pub use scan::{read_file, scan_file};
 pub use whole::{WholeFault, read_all};

@@ -207,6 +207,32 @@ impl Lookup for Objects {
     }
 }
 
+impl Objects {
+    /// The rising ids of the ways that list a node.
+    fn ways_at(&self, id: u64) -> Result<Ids, OutOfMemory>
+        ensures ids { IfOk result (λ ids. ids ≡ (index_of self.now).ways_of_node id) }
+        ensures rising { IfOk result AreRisingIds }
+    {
+        copied(self.alloc, self.listings.ways_of_nodes.listers(id))
+    }
+
+    /// The rising ids of the relations that have a node as a member.
+    fn relations_at(&self, id: u64) -> Result<Ids, OutOfMemory>
+        ensures ids { IfOk result (λ ids. ids ≡ (index_of self.now).relations_of_node id) }
+        ensures rising { IfOk result AreRisingIds }
+    {
+        copied(self.alloc, self.listings.relations_of_nodes.listers(id))
+    }
+
+    /// The rising ids of the relations that have a way as a member.
+    fn relations_along(&self, id: u64) -> Result<Ids, OutOfMemory>
+        ensures ids { IfOk result (λ ids. ids ≡ (index_of self.now).relations_of_way id) }
+        ensures rising { IfOk result AreRisingIds }
+    {
+        copied(self.alloc, self.listings.relations_of_ways.listers(id))
+    }
+}
+
 impl Back for Objects {
     type Refusal = OutOfMemory;
 
@@ -219,15 +245,70 @@ impl Back for Objects {
     ghost bears = { λ _ _ _. Unit {0} };
 
     fn ways_of_node(&mut self, id: u64) -> Result<Ids, OutOfMemory> {
-        copied(self.alloc, self.listings.ways_of_nodes.listers(id))
+        self.ways_at(id)
     }
 
     fn relations_of_node(&mut self, id: u64) -> Result<Ids, OutOfMemory> {
-        copied(self.alloc, self.listings.relations_of_nodes.listers(id))
+        self.relations_at(id)
     }
 
     fn relations_of_way(&mut self, id: u64) -> Result<Ids, OutOfMemory> {
-        copied(self.alloc, self.listings.relations_of_ways.listers(id))
+        self.relations_along(id)
+    }
+
+    ghost bears_fewer = { λ _ _ _ _ _ _. tt };
+}
+
+/// The index of objects that are only read.
+#[derive(Drop)]
+pub struct ObjectIndex<'o> {
+    objects: &'o Objects,
+}
+
+impl<'o> Model for ObjectIndex<'o> {
+    ghost use Rattle.std.specs.FinMap as map;
+    ghost use Rattle.osm_base.specs.declared.object.Object.{Object};
+    ghost use Rattle.osm_base.specs.KeyOrder.{key_cmp};
+    ghost use Rattle.osm_base.specs.contracts.key.Key as key;
+    ghost use Rattle.osm_base.specs.contracts.object.Object as object;
+
+    ghost Value = { map.FinMap key_cmp Object };
+
+    ghost coded = { map.code key.the_row.coded object.the_row.coded };
+
+    ghost view = { λ index. index.objects.now };
+}
+
+impl<'o> ObjectIndex<'o> {
+    /// The index of these objects.
+    pub fn new(objects: &'o Objects) -> Self
+        ensures objects { result ≡ objects.now }
+    {
+        Self { objects }
+    }
+}
+
+impl Back for ObjectIndex<'_> {
+    type Refusal = OutOfMemory;
+
+    ghost index = { index_of };
+
+    ghost faults = { λ _. 0 };
+
+    ghost spent = { λ _. false };
+
+    ghost bears = { λ _ _ _. Unit {0} };
+
+    fn ways_of_node(&mut self, id: u64) -> Result<Ids, OutOfMemory> {
+        self.objects.ways_at(id)
+    }
+
+    fn relations_of_node(&mut self, id: u64) -> Result<Ids, OutOfMemory> {
+        self.objects.relations_at(id)
+    }
+
+    fn relations_of_way(&mut self, id: u64) -> Result<Ids, OutOfMemory> {
+        self.objects.relations_along(id)
     }
 
     ghost bears_fewer = { λ _ _ _ _ _ _. tt };
