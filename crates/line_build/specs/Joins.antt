@@ -10,7 +10,7 @@ extended_at_first line unused =
     let turned = extended (length unused) (reverse line) unused in
     (reverse turned.0, turned.1)
 
--- the line that a piece begins: it grows at its last place and then, if its ends differ, at its first
+-- the line that a piece begins: it grows at its last place and, if its ends differ, at its first
 abbrev pub line_begun : Line → List Line → Line × List Line
 line_begun piece unused =
     let forward = extended (length unused) piece unused in

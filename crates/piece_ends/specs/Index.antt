@@ -5,7 +5,7 @@ use Rattle.std.specs.FinMap as map
 use Rattle.osm_base.specs.Place.{PlaceOf}
 use Rattle.piece_ends.specs.declared.index.Links.{Links}
 use Rattle.piece_ends.specs.Heads.{HeadMap}
-use Rattle.piece_ends.specs.Pieces.{Line, same_place, first_place, fits}
+use Rattle.piece_ends.specs.Pieces.{Line, same_place, first_place, last_place, fits}
 
 -- the pieces that are not used, in the order of their numbers
 abbrev pub unused_of : List Bool → List Line → List Line
@@ -15,6 +15,10 @@ unused_of _ _ = []
 
 abbrev pub piece_at : List Line → ℕ → Line
 piece_at pieces number = slice_index_or pieces number []
+
+-- each piece has a point
+abbrev pub HavePoints : List Line → Type 0
+HavePoints pieces = (number : ℕ) → number < length pieces → 0 < length (piece_at pieces number)
 
 -- a piece is open and has an end at a place
 pub record IsAt (pieces : List Line) (place : PlaceOf) (number : ℕ) : Type 0 where
@@ -28,8 +32,18 @@ next_of pieces links place number =
     if same_place (first_place (piece_at pieces number)) place then behind.first else behind.last
 
 -- the head at a place; the number of all pieces where there is none
+abbrev pub head_among : ℕ → HeadMap → PlaceOf → ℕ
+head_among count heads place = unwrap_or (map.get heads place) count
+
 abbrev pub head_of : List Line → HeadMap → PlaceOf → ℕ
-head_of pieces heads place = unwrap_or (map.get heads place) (length pieces)
+head_of pieces heads place = head_among (length pieces) heads place
+
+-- the heads with a piece put before those at its first place, and then before those at its last
+abbrev pub headed_first : HeadMap → Line → ℕ → HeadMap
+headed_first heads piece number = map.insert heads (first_place piece) number
+
+abbrev pub headed_both : HeadMap → Line → ℕ → HeadMap
+headed_both heads piece number = map.insert (headed_first heads piece number) (last_place piece) number
 
 -- a number is that of the next piece at a place, at or above a bound
 pub record IsNext (pieces : List Line) (place : PlaceOf) (bound number : ℕ) : Type 0 where
@@ -67,7 +81,7 @@ NoneAt pieces used place = (number : ℕ) → IsAt pieces place number → slice
 pub record IsIndex (pieces : List Line) (used : List Bool) (links : List Links) (heads : HeadMap) : Type 0 where
   pub marks : length used ≡ length pieces
   pub rows : length links ≡ length pieces
-  pub points : (number : ℕ) → number < length pieces → 0 < length (piece_at pieces number)
+  pub points : HavePoints pieces
   pub linked : AreLinks pieces links 0
   pub headed : AreHeads pieces heads used
 

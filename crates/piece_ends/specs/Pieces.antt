@@ -38,7 +38,8 @@ fits place piece = not (is_closed piece) && has_end piece place
 -- a line that may be joined to others: two points or more, and no two equal neighbours
 pub record IsPiece (piece : Line) : Type 0 where
   pub points : 2 ≤ length piece
-  pub moves : (index : ℕ) → index + 1 < length piece → slice_get piece index ≢ slice_get piece (index + 1)
+  pub moves : (index : ℕ) → index + 1 < length piece
+      → slice_get piece index ≢ slice_get piece (index + 1)
 
 abbrev pub ArePieces : List Line → Type 0
 ArePieces pieces = All IsPiece pieces

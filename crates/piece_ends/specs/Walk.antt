@@ -26,10 +26,13 @@ unfoldable pub extended : ℕ → Line → List Line → Line × List Line
 extended zero line unused = (line, unused)
 extended (suc steps) line unused =
     if is_closed line then (line, unused)
-    else option_map_or (λ found. extended steps (appended line found.0) found.1) (next_at (last_place line) unused) (line, unused)
+    else option_map_or
+    (λ found. extended steps (appended line found.0) found.1)
+    (next_at (last_place line) unused)
+    (line, unused)
 
--- the lines of at most so many pieces, where `grown` makes a line of a piece and of the others: a closed
--- piece is a line by itself, and otherwise the lowest piece begins one
+-- the lines of at most so many pieces, where `grown` makes a line of a piece and of the others: a
+-- closed piece is a line by itself, and otherwise the lowest piece begins one
 unfoldable pub lines_within : (Line → List Line → Line × List Line) → ℕ → List Line → List Line
 lines_within grown zero unused = []
 lines_within grown (suc count) [] = []
@@ -37,6 +40,6 @@ lines_within grown (suc count) (piece ∷ unused) =
     if is_closed piece then piece ∷ lines_within grown count unused
     else (grown piece unused).0 ∷ lines_within grown count (grown piece unused).1
 
--- the lines of all pieces; since each is begun by its lowest piece, they stand in the order of those
+-- the lines of all pieces; each is begun by its lowest piece, and they stand in the order of those
 abbrev pub lines_by : (Line → List Line → Line × List Line) → List Line → List Line
 lines_by grown pieces = lines_within grown (length pieces) pieces

@@ -1,9 +1,9 @@
-//! For each place the pieces that end there, by rising numbers: a head, and links from one to the next.
-ghost use Rattle.std.specs.Prelude.{◌≡◌, ℕ, ◌+◌, ◌<◌, ◌≤◌, length, IfOk, IfSome, IfNone, OnOk, unwrap_or};
-ghost use Rattle.std.specs.FinMap as map;
-ghost use Rattle.osm_base.specs.Place.{PlaceOf};
+//! For each place the pieces that end there, by rising numbers: a head, and links to the next ones.
+ghost use Rattle.std.specs.Prelude.{◌≡◌, ◌<◌, length, IfOk, IfSome, IfNone, OnOk};
 ghost use Rattle.piece_ends.specs.Pieces.{first_place, last_place};
-ghost use Rattle.piece_ends.specs.Index.{piece_at, AreLinks, AreHeadsFrom, IsIndex, IsLowestAt, NoneAt, next_of};
+ghost use Rattle.piece_ends.specs.Index.{piece_at, HavePoints, AreLinks, AreHeadsFrom, IsIndex};
+ghost use Rattle.piece_ends.specs.Index.{IsLowestAt, NoneAt, next_of, head_among};
+ghost use Rattle.piece_ends.specs.Index.{headed_first, headed_both};
 
 use crate::heads::Heads;
 use crate::piece::{first_place, is_closed, last_place};
@@ -56,7 +56,7 @@ fn next_of(pieces: &[Places], links: &[Links], place: Place, number: usize) -> u
 
 /// The heads and the links of pieces.
 pub fn indexed(alloc: Global, pieces: &[Places]) -> Result<(Heads, Vec<Links>), OutOfMemory>
-    requires points { (number : ℕ) → number < length pieces.now → 0 < length (piece_at pieces.now number) }
+    requires points { HavePoints pieces.now }
     ensures rows { IfOk result (λ (_, links). length links.items ≡ length pieces.now) }
     ensures links { IfOk result (λ (_, links). AreLinks pieces.now links.items 0) }
     ensures heads { IfOk result (λ (heads, _). AreHeadsFrom pieces.now heads 0) }
@@ -85,9 +85,11 @@ fn put_open(
     count: usize,
 ) -> Result<Links, OutOfMemory>
     requires points { 0 < length piece.now }
-    ensures heads { OnOk result (heads.new ≡ map.insert (map.insert heads.old (first_place piece.now) number) (last_place piece.now) number) }
-    ensures first { IfOk result (λ links. links.first ≡ unwrap_or (map.get heads.old (first_place piece.now)) count) }
-    ensures last { IfOk result (λ links. links.last ≡ unwrap_or (map.get (map.insert heads.old (first_place piece.now) number) (last_place piece.now)) count) }
+    ensures heads { OnOk result (heads.new ≡ headed_both heads.old piece.now number) }
+    ensures first { IfOk result (λ links. links.first
+        ≡ head_among count heads.old (first_place piece.now)) }
+    ensures last { IfOk result (λ links. links.last
+        ≡ head_among count (headed_first heads.old piece.now number) (last_place piece.now)) }
 {
     let first = heads.put(first_place(piece), number)?.unwrap_or(count);
     let last = heads.put(last_place(piece), number)?.unwrap_or(count);

@@ -1,4 +1,4 @@
-//! Pieces that are taken, each call once with ample memory. A place is a letter, and a piece is a word.
+//! Pieces that are taken, with ample memory. A place is a letter, and a piece is a word.
 use crate::{UnusedPieces, are_pieces, extend, is_closed};
 use osm_base::{LineList, OutOfMemory, Place, Places};
 use std::alloc::Global;

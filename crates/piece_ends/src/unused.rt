@@ -1,6 +1,7 @@
 //! The pieces that are not used yet.
-ghost use Rattle.std.specs.Prelude.{◌≡◌, ℕ, [], ◌∷◌, ◌<◌, ◌≤◌, false, true, slice_index_or, length, IfOk, IfSome, IfNone, Some, None, MatchOption};
-ghost use Rattle.piece_ends.specs.Pieces.{ArePieces, has_end};
+ghost use Rattle.std.specs.Prelude.{◌≡◌, [], ◌∷◌, ◌<◌, ◌≤◌, false, true, slice_index_or, length};
+ghost use Rattle.std.specs.Prelude.{IfOk, IfSome, IfNone, MatchOption};
+ghost use Rattle.piece_ends.specs.Pieces.{ArePieces};
 ghost use Rattle.piece_ends.specs.Walk.{next_at};
 ghost use Rattle.piece_ends.specs.Index.{AreUsedBelow};
 
@@ -30,7 +31,8 @@ impl<'a> Model for UnusedPieces<'a> {
 
     ghost view = { λ unused. unused_of unused.used.items unused.pieces.now };
 
-    ghost invariant = { λ unused. IsUnused unused.pieces.now unused.used.items unused.links.items unused.heads unused.first };
+    ghost invariant = { λ unused.
+        IsUnused unused.pieces.now unused.used.items unused.links.items unused.heads unused.first };
 }
 
 impl<'a> UnusedPieces<'a> {
@@ -53,7 +55,9 @@ impl<'a> UnusedPieces<'a> {
 
     /// The piece of the lowest number, which is used from now on.
     pub fn take_first(&mut self) -> Option<&'a Places>
-        ensures first { MatchOption result (self.old ≡ []) (λ piece. self.old ≡ piece.now ∷ self.new) }
+        ensures first { MatchOption result
+            (self.old ≡ [])
+            (λ piece. self.old ≡ piece.now ∷ self.new) }
         ensures points { IfSome result (λ piece. 0 < length piece.now) }
     {
         self.first = next_unused(self.used.as_slice(), self.first);
@@ -68,7 +72,8 @@ impl<'a> UnusedPieces<'a> {
     pub fn take_at(&mut self, place: Place) -> Option<&'a Places>
         ensures none { IfNone result (next_at place self.old ≡ None) }
         ensures none_stays { IfNone result (self.new ≡ self.old) }
-        ensures some { IfSome result (λ piece. next_at place self.old ≡ Some (piece.now, self.new)) }
+        ensures some { IfSome result (λ piece.
+            next_at place self.old ≡ Some (piece.now, self.new)) }
         ensures points { IfSome result (λ piece. 0 < length piece.now) }
     {
         let number = lowest_at(
@@ -82,6 +87,7 @@ impl<'a> UnusedPieces<'a> {
             return None;
         };
         self.used[number] = true;
+        // What was passed at this place is not passed again; without it only time is lost.
         let _ = self.heads.put(place, number);
         Some(&self.pieces[number])
     }

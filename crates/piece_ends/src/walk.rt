@@ -1,16 +1,17 @@
 //! The walk that makes a line longer out of the pieces that are not used yet.
-ghost use Rattle.std.specs.Prelude.{◌≡◌, ◌<◌, ◌++◌, drop, reverse, length, OnOk};
-ghost use Rattle.piece_ends.specs.Pieces.{same_place, first_place, last_place};
+ghost use Rattle.std.specs.Prelude.{◌≡◌, ◌<◌, length, OnOk};
 ghost use Rattle.piece_ends.specs.Walk.{appended, extended};
 
 use crate::UnusedPieces;
 use crate::piece::{first_place, is_closed, last_place};
 use osm_base::{OutOfMemory, Place};
 
-/// Puts pieces behind a line until it ends where it begins, or until none has an end at its last place.
+/// Puts pieces behind a line until it ends where it begins, or until none ends at its last place.
+/// After `Err` some of them are behind it, and are used.
 pub fn extend(line: &mut Vec<Place>, unused: &mut UnusedPieces) -> Result<(), OutOfMemory>
     requires points { 0 < length line.old.items }
-    ensures longer { OnOk result ((line.new.items, unused.new) ≡ extended (length unused.old) line.old.items unused.old) }
+    ensures longer { OnOk result ((line.new.items, unused.new)
+        ≡ extended (length unused.old) line.old.items unused.old) }
     ensures points { 0 < length line.new.items }
 {
     'walk: while !is_closed(line) {

@@ -1,4 +1,9 @@
-//! Rings closed out of pieces.
+//! Rings closed out of the lines of a relation's ways.
+//!
+//! An area is bounded by rings, and a relation gives them in pieces, in any order and turned either
+//! way. A ring begins with the lowest piece that is left, and goes on with the lowest that fits
+//! until it comes back. `rings_of` answers none where a place holds an odd number of ends of open
+//! pieces, or a ring has fewer than four points; that each walk comes back otherwise is proved.
 #![tactic(auto)]
 
 mod rings;

@@ -34,7 +34,8 @@ fn begun(
     unused: &mut UnusedPieces,
 ) -> Result<Vec<Place>, OutOfMemory>
     requires points { 0 < length piece.now }
-    ensures ring { IfOk result (λ ring. (ring.items, unused.new) ≡ ring_begun piece.now unused.old) }
+    ensures ring { IfOk result (λ ring.
+        (ring.items, unused.new) ≡ ring_begun piece.now unused.old) }
 {
     let mut ring = Vec::from_slice(alloc, piece.as_slice())?;
     extend(&mut ring, unused)?;
