@@ -1,0 +1,3 @@
+pub mod Box
+pub mod Crossing
+pub mod Grid

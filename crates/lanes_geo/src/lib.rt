@@ -1,0 +1,23 @@
+//! Geometry by vectors: sixteen numbers at a time, and one after the other for the rest.
+//!
+//! It stands on the places and boxes of `osm_base` and knows nothing of objects or files. Rings are
+//! nested, tiles met and boxes queried by these three calls, and none of them takes memory.
+//!
+//! `odd_crossings` tells whether an odd number of a ring's segments cross the latitude of a place
+//! strictly east of it. Sixteen segments with all ends on one side of the latitude are passed over
+//! by one comparison. For others the two products of the definition are told by natural numbers of
+//! 64 bits, at most 6480000000000000000, which are added and compared and never subtracted.
+//! `box_of` is the box of places, and `boxes_meet` marks the boxes that have a place in common with
+//! an asked one, sides included. Each is equal to its plain definition for every length.
+#![tactic(auto)]
+
+mod boxes;
+mod crossings;
+mod grid;
+mod spans;
+#[cfg(test)]
+mod tests;
+
+pub use boxes::boxes_meet;
+pub use crossings::odd_crossings;
+pub use spans::box_of;

@@ -1,0 +1,132 @@
+//! Boxes and rings with known answers, and each kernel against its plain loop.
+use crate::boxes::{boxes_meet, is_met};
+use crate::crossings::{odd_crossings, plain_crossings};
+use crate::spans::box_of;
+use osm_base::{GeoBox, Place};
+use std::alloc::{AllocError, Global};
+use std::test::Fail;
+
+const LONGEST: usize = 40;
+
+/// The four corners of the world as a ring.
+fn world(alloc: Global) -> Result<Vec<Place>, AllocError> {
+    let mut ring = Vec::new(alloc);
+    ring.push(Place::new(-1_800_000_000, -900_000_000))?;
+    ring.push(Place::new(1_800_000_000, -900_000_000))?;
+    ring.push(Place::new(1_800_000_000, 900_000_000))?;
+    ring.push(Place::new(-1_800_000_000, 900_000_000))?;
+    ring.push(Place::new(-1_800_000_000, -900_000_000))?;
+    Ok(ring)
+}
+
+/// From the south west corner of the world to the north east one, down the antimeridian by ten
+/// degrees at a time, and back.
+fn half_world(alloc: Global) -> Result<Vec<Place>, AllocError> {
+    let mut ring = Vec::new(alloc);
+    ring.push(Place::new(-1_800_000_000, -900_000_000))?;
+    for step in 0..19u8 {
+        ring.push(Place::new(1_800_000_000, 900_000_000 - i32::from(step) * 100_000_000))?;
+    }
+    ring.push(Place::new(-1_800_000_000, -900_000_000))?;
+    Ok(ring)
+}
+
+/// Places that repeat after no short run.
+fn scattered(alloc: Global) -> Result<Vec<Place>, AllocError> {
+    let mut places = Vec::new(alloc);
+    let mut seed: u64 = 1;
+    for _ in 0..LONGEST {
+        seed = seed % 2_147_483_647 * 48_271;
+        let lon = seed % 4_001;
+        seed = seed % 2_147_483_647 * 48_271;
+        let lat = seed % 4_001;
+        places.push(Place::new(lon as i32 - 2_000, lat as i32 - 2_000))?;
+    }
+    Ok(places)
+}
+
+#[test]
+fn the_world_holds_its_western_side_alone(rt: HostRuntime) -> Result<(), Fail> {
+    let ring = world(rt.alloc())?;
+    assert!(rt; odd_crossings(&ring, Place::new(0, 0)));
+    assert!(rt; odd_crossings(&ring, Place::new(-1_800_000_000, 0)));
+    assert!(rt; !odd_crossings(&ring, Place::new(1_800_000_000, 0)));
+    assert!(rt; !odd_crossings(&ring, Place::new(0, 900_000_000)));
+    assert!(rt; odd_crossings(&ring, Place::new(0, -900_000_000)));
+    Ok(())
+}
+
+#[test]
+fn a_unit_beside_the_longest_segment_is_told_apart(rt: HostRuntime) -> Result<(), Fail> {
+    let ring = half_world(rt.alloc())?;
+    assert!(rt; odd_crossings(&ring, Place::new(0, 0)));
+    assert!(rt; odd_crossings(&ring, Place::new(1, 0)));
+    assert!(rt; !odd_crossings(&ring, Place::new(-1, 0)));
+    assert!(rt; odd_crossings(&ring, Place::new(1_799_999_999, 899_999_999)));
+    assert!(rt; !odd_crossings(&ring, Place::new(-1_799_999_999, -899_999_999)));
+    Ok(())
+}
+
+#[test]
+fn a_box_has_the_outermost_units(rt: HostRuntime) -> Result<(), Fail> {
+    let mut places = Vec::new(rt.alloc());
+    assert_eq!(rt; box_of(&places), None);
+    places.push(Place::new(3, -1))?;
+    places.push(Place::new(-2, 5))?;
+    let around = GeoBox {
+        west: -2,
+        south: -1,
+        east: 3,
+        north: 5,
+    };
+    assert_eq!(rt; box_of(&places), Some(around));
+    Ok(())
+}
+
+/// The box of places, one place after the other.
+fn plain_box(places: &[Place]) -> Option<GeoBox> {
+    let first = *places.first()?;
+    let mut around = GeoBox {
+        west: first.lon,
+        south: first.lat,
+        east: first.lon,
+        north: first.lat,
+    };
+    for place in places {
+        let place = *place;
+        around.west = around.west.min(place.lon);
+        around.south = around.south.min(place.lat);
+        around.east = around.east.max(place.lon);
+        around.north = around.north.max(place.lat);
+    }
+    Some(around)
+}
+
+#[test]
+fn each_kernel_is_its_plain_loop(rt: HostRuntime) -> Result<(), Fail> {
+    let alloc = rt.alloc();
+    let places = scattered(alloc)?;
+    let asked = GeoBox {
+        west: -500,
+        south: -900,
+        east: 700,
+        north: 800,
+    };
+    for length in 0..=places.len() {
+        let some = &places[..length];
+        let is_odd = plain_crossings(some, Place::new(7, 9)) % 2 == 1;
+        assert_eq!(rt; odd_crossings(some, Place::new(7, 9)), is_odd);
+        assert_eq!(rt; box_of(some), plain_box(some));
+        let mut boxes = Vec::new(alloc);
+        let mut plain = Vec::new(alloc);
+        for place in some {
+            let around = box_of(&[*place, Place::new(700, 1_000)]).unwrap_or(asked);
+            boxes.push(around)?;
+            plain.push(is_met(asked, around))?;
+        }
+        let mut mask = vec![in alloc; false; boxes.len()]?;
+        boxes_meet(&boxes, asked, &mut mask);
+        assert_eq!(rt; mask, plain);
+    }
+    Ok(())
+}
