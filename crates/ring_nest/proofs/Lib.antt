@@ -1,0 +1,4 @@
+pub mod Off
+pub mod Apart
+pub mod Held
+pub mod Filled

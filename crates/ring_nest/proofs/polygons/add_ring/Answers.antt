@@ -1,0 +1,32 @@
+use Rattle.std.proofs.Common.{sym, take}
+use Rattle.ring_nest.proofs.Filled.{slot_of, inner_is}
+use Rattle.ring_nest.proofs.Held.{next_of}
+use Rattle.ring_nest.proofs.polygons.add_ring.Goals as goal
+
+pub slot_at-requires : goal.slot_at-requires
+slot_at-requires c =
+    let rings = c.args.rings.now in
+    let ring = c.index-rings-at.result in
+    let inner = inner_is rings c.args.depths.now c.args.at ring c.requires.depths c.requires.at c.index-rings-at.is c.if-depth-eq0.false in
+    let owned = rw c.as_slice.ensures.items at c.in-Some.ensures in
+    let slot = slot_of rings (take c.args.at rings) ring c.args.depths.now c.args.slots.now c.in-Some.number c.requires.depths c.requires.slots inner (sym owned) in
+    slot.0
+
+pub add_inner-requires : goal.add_inner-requires
+add_inner-requires c =
+    let rings = c.args.rings.now in
+    let ring = c.index-rings-at.result in
+    let inner = inner_is rings c.args.depths.now c.args.at ring c.requires.depths c.requires.at c.index-rings-at.is c.if-depth-eq0.false in
+    let owned = rw c.as_slice.ensures.items at c.in-Some.ensures in
+    let slot = slot_of rings (take c.args.at rings) ring c.args.depths.now c.args.slots.now c.in-Some.number c.requires.depths c.requires.slots inner (sym owned) in
+    rw (c.slot_at.ensures, c.requires.so_far) slot.1.within
+
+pub returns-in_ok-add_inner-in-Some-clause-added : goal.returns-in_ok-add_inner-in-Some-clause-added
+returns-in_ok-add_inner-in-Some-clause-added c placed =
+    let rings = c.args.rings.now in
+    let ring = c.index-rings-at.result in
+    let inner = inner_is rings c.args.depths.now c.args.at ring c.requires.depths c.requires.at c.index-rings-at.is c.if-depth-eq0.false in
+    let owned = rw c.as_slice.ensures.items at c.in-Some.ensures in
+    let slot = slot_of rings (take c.args.at rings) ring c.args.depths.now c.args.slots.now c.in-Some.number c.requires.depths c.requires.slots inner (sym owned) in
+    rw (c.in_ok-add_inner-in-Some.ensures, c.slot_at.ensures, c.requires.so_far, c.in_ok-copy-in-Some.ensures.equal, next_of rings c.args.at ring c.requires.at, ← c.index-rings-at.is)
+    (sym slot.1.change)

@@ -1,0 +1,35 @@
+-- The boxes of rings, and of blocks of rings, by which pairs are passed over.
+use Rattle.std.specs.Prelude.{◌≡◌, ◌≤ℤ◌, pos, List, [], ◌∷◌, take, drop, length, Option, Some, None}
+use Rattle.std.specs.List.{AllByRecursion}
+use Rattle.osm_base.specs.declared.place.GeoBox.{GeoBox}
+use Rattle.lanes_geo.specs.Box.{IsWithin, box_of}
+use Rattle.lanes_geo.specs.Grid.{IsPlace}
+use Rattle.ring_nest.specs.Nesting.{Ring, IsClosed}
+use Rattle.ring_nest.specs.declared.depths.TheConstants.{BLOCK}
+
+-- a box, where there is one
+abbrev pub some_box : Option GeoBox → GeoBox
+some_box None = record { west = pos 0; south = pos 0; east = pos 0; north = pos 0 }
+some_box (Some box) = box
+
+-- the box of a ring, which has at least one place
+abbrev pub around : Ring → GeoBox
+around ring = some_box (box_of ring)
+
+-- a closed ring with all places of the world and within its box
+pub record IsBoxed (ring : Ring) : Type 0 where
+  pub closed : IsClosed ring
+  pub on_earth : AllByRecursion IsPlace ring
+  pub within : AllByRecursion (IsWithin (around ring)) ring
+
+-- a box that another one lies within
+pub record Covers (box other : GeoBox) : Type 0 where
+  pub west : box.west ≤ℤ other.west
+  pub south : box.south ≤ℤ other.south
+  pub east : other.east ≤ℤ box.east
+  pub north : other.north ≤ℤ box.north
+
+-- boxes each of which covers the next so many boxes
+abbrev pub AreBlocks : List GeoBox → List GeoBox → Type 0
+AreBlocks [] boxes = length boxes ≡ 0
+AreBlocks (block ∷ blocks) boxes = AllByRecursion (Covers block) (take BLOCK boxes) × AreBlocks blocks (drop BLOCK boxes)

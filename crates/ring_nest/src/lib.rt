@@ -1,0 +1,23 @@
+//! The polygons of rings: which rings are outer ones, and which inner rings belong to them.
+//!
+//! It stands on the kernels of `lanes_geo`. A relation's rings come in, and its polygons go out, which
+//! its rows and its tiles are made of.
+//!
+//! A ring holds another one where the first place of that which does not lie on it is within it. A ring
+//! that an even number of rings hold is an outer one; another one belongs to the lowest ring that holds
+//! it and is held by one less. `nest` gives the outer rings in order, each followed by its inner rings
+//! in order, and None exactly where an inner ring belongs to none. The definition counts over all pairs
+//! of rings; the code asks only pairs whose boxes meet, since a ring holds none whose box does not meet
+//! its own, and passes over blocks of rings by the box of the block. `lies_on` and `crosses_odd` are
+//! exact in whole numbers of 64 bits. The answer has its own copy of each ring.
+#![tactic(auto)]
+
+mod depths;
+mod polygons;
+mod rings;
+mod segment;
+#[cfg(test)]
+mod tests;
+
+pub use polygons::nest;
+pub use rings::{crosses_odd, lies_on};

@@ -1,0 +1,218 @@
+//! The polygons of rings.
+ghost use Rattle.std.specs.Prelude.{◌≡◌, ◌+◌, ◌<◌, true, take, ◌%◌, ◌==◌, ◌&&◌, ◌++◌, ◌∷◌, [], List, length, map, IfOk, OnOk, if◌then◌else◌, slice_index_or, slice_set};
+ghost use Rattle.std.specs.List.{AllByRecursion, list_all};
+ghost use Rattle.std.specs.Option.{option_map};
+ghost use Rattle.osm_base.specs.Place.{PlaceOf};
+ghost use Rattle.ring_nest.specs.Around.{IsBoxed, around};
+ghost use Rattle.ring_nest.specs.Nesting.{IsRing, has_place, depth as depth_of_ring, holds as holds_ring, nested, owner, owns, polygons_from, slots_from};
+
+use crate::depths::{box_around, boxes_of, depths_of, is_met};
+use crate::rings::holds;
+use osm_base::{GeoBox, LineList, OutOfMemory, Place, Places, Polygons, TryCopy};
+use std::alloc::Global;
+
+/// Whether a ring of this depth holds another one, whose depth is one more.
+fn is_owner(
+    other: &[Place],
+    other_box: GeoBox,
+    other_depth: usize,
+    ring: &[Place],
+    asked: GeoBox,
+    depth: usize,
+) -> bool
+    requires other { IsBoxed other.now }
+    requires other_box { other_box ≡ around other.now }
+    requires ring { IsBoxed ring.now }
+    requires asked { asked ≡ around ring.now }
+    requires held { 0 < depth }
+    ensures { result ≡ (holds_ring other.now ring.now && (other_depth + 1 == depth)) }
+{
+    if other_depth == depth - 1 {
+        if is_met(asked, other_box) {
+            holds(other, ring)
+        } else {
+            false
+        }
+    } else {
+        false
+    }
+}
+
+/// The number of the ring that an inner ring belongs to.
+fn owner_of(
+    rings: &[Places],
+    boxes: &[GeoBox],
+    depths: &[usize],
+    ring: &[Place],
+    depth: usize,
+) -> Option<usize>
+    requires boxes { boxes.now ≡ map around rings.now }
+    requires depths { depths.now ≡ map (depth_of_ring rings.now) rings.now }
+    requires boxed { AllByRecursion IsBoxed rings.now }
+    requires ring { IsBoxed ring.now }
+    requires depth { depth ≡ depth_of_ring rings.now ring.now }
+    requires held { 0 < depth }
+    ensures { result ≡ owner rings.now ring.now }
+{
+    let asked = box_around(ring);
+    let mut at = 0;
+    while rings.len() - at > 0 {
+        let other = &rings[at];
+        if is_owner(other.as_slice(), boxes[at], depths[at], ring, asked, depth) {
+            return Some(at);
+        }
+        at += 1;
+    }
+    None
+}
+
+/// The place of each ring's polygon among the polygons.
+fn slots_of(alloc: Global, depths: &[usize]) -> Result<Vec<usize>, OutOfMemory>
+    ensures { IfOk result (λ slots. slots.items ≡ slots_from 0 depths.now) }
+{
+    let mut slots = Vec::with_capacity(alloc, depths.len())?;
+    let mut place = 0;
+    for depth in depths {
+        slots.push(place)?;
+        place = next_place(place, *depth, slots.len());
+    }
+    Ok(slots)
+}
+
+/// The place after that of a ring of this depth.
+fn next_place(place: usize, depth: usize, rings: usize) -> usize
+    requires { place < rings }
+    ensures { result ≡ (if depth % 2 == 0 then place + 1 else place) }
+{
+    if depth % 2 == 0 { place + 1 } else { place }
+}
+
+/// Adds the polygon of an outer ring.
+fn add_outer(
+    alloc: Global,
+    polygons: &mut Vec<LineList>,
+    ring: &Places,
+    depth: usize,
+) -> Result<(), OutOfMemory>
+    ensures { OnOk result (polygons.new.items ≡ (if depth % 2 == 0 then polygons.old.items ++ (ring.now ∷ []) ∷ [] else polygons.old.items)) }
+{
+    if depth % 2 == 0 {
+        let mut polygon = LineList::new(alloc);
+        polygon.push(ring.copy(alloc)?)?;
+        polygons.push(polygon)?;
+        Ok(())
+    } else {
+        Ok(())
+    }
+}
+
+/// The polygons of the outer rings alone.
+fn outers_of(
+    alloc: Global,
+    rings: &[Places],
+    depths: &[usize],
+) -> Result<Vec<LineList>, OutOfMemory>
+    requires depths { depths.now ≡ map (depth_of_ring rings.now) rings.now }
+    ensures { IfOk result (λ polygons. polygons.items ≡ polygons_from rings.now [] 0 rings.now) }
+{
+    let mut polygons = Vec::with_capacity(alloc, rings.len())?;
+    let mut at = 0;
+    while rings.len() - at > 0 {
+        add_outer(alloc, &mut polygons, &rings[at], depths[at])?;
+        at += 1;
+    }
+    Ok(polygons)
+}
+
+/// Adds an inner ring to a polygon.
+fn add_inner(polygons: &mut Vec<LineList>, slot: usize, ring: Places) -> Result<(), OutOfMemory>
+    requires { slot < length polygons.old.items }
+    ensures { OnOk result (polygons.new.items ≡ slice_set polygons.old.items slot (slice_index_or polygons.old.items slot [] ++ ring ∷ [])) }
+{
+    let polygon = &mut polygons[slot];
+    polygon.push(ring)?;
+    Ok(())
+}
+
+/// The place of a ring's polygon.
+fn slot_at(slots: &[usize], number: usize) -> usize
+    requires { number < length slots.now }
+    ensures { result ≡ slice_index_or slots.now number 0 }
+{
+    slots[number]
+}
+
+/// Adds a ring, if it is an inner one, to the polygon that it belongs to, and tells whether it has a place.
+fn add_ring(
+    alloc: Global,
+    rings: &[Places],
+    boxes: &[GeoBox],
+    depths: &[usize],
+    slots: &[usize],
+    at: usize,
+    polygons: &mut Vec<LineList>,
+) -> Result<bool, OutOfMemory>
+    requires boxes { boxes.now ≡ map around rings.now }
+    requires depths { depths.now ≡ map (depth_of_ring rings.now) rings.now }
+    requires boxed { AllByRecursion IsBoxed rings.now }
+    requires slots { slots.now ≡ slots_from 0 depths.now }
+    requires at { at < length rings.now }
+    requires so_far { polygons.old.items ≡ polygons_from rings.now (take at rings.now) 0 rings.now }
+    ensures placed { IfOk result (λ placed. placed ≡ has_place rings.now (slice_index_or rings.now at [])) }
+    ensures added { IfOk result (λ placed. placed ≡ true → polygons.new.items ≡ polygons_from rings.now (take (at + 1) rings.now) 0 rings.now) }
+{
+    let ring = &rings[at];
+    let depth = depths[at];
+    if depth % 2 == 0 {
+        return Ok(true);
+    }
+    match owner_of(rings, boxes, depths, ring.as_slice(), depth) {
+        None => Ok(false),
+        Some(number) => {
+            add_inner(polygons, slot_at(slots, number), ring.copy(alloc)?)?;
+            Ok(true)
+        }
+    }
+}
+
+/// The polygons with their inner rings; none where an inner ring belongs to no ring.
+fn with_inners(
+    alloc: Global,
+    rings: &[Places],
+    boxes: &[GeoBox],
+    depths: &[usize],
+    outers: Vec<LineList>,
+) -> Result<Option<Vec<LineList>>, OutOfMemory>
+    requires boxes { boxes.now ≡ map around rings.now }
+    requires depths { depths.now ≡ map (depth_of_ring rings.now) rings.now }
+    requires boxed { AllByRecursion IsBoxed rings.now }
+    requires outers { outers.items ≡ polygons_from rings.now [] 0 rings.now }
+    ensures { IfOk result (λ polygons. option_map (λ some. some.items) polygons ≡ nested rings.now) }
+{
+    let slots = slots_of(alloc, depths)?;
+    let mut polygons = outers;
+    let mut at = 0;
+    while rings.len() - at > 0 {
+        if !add_ring(alloc, rings, boxes, depths, &slots, at, &mut polygons)? {
+            return Ok(None);
+        }
+        at += 1;
+    }
+    Ok(Some(polygons))
+}
+
+/// The polygons of rings: each outer ring in order, followed by its inner rings in order. None where an inner ring belongs
+/// to no outer one.
+pub fn nest(alloc: Global, rings: &LineList) -> Result<Option<Polygons>, OutOfMemory>
+    requires { AllByRecursion IsRing rings.now }
+    ensures { IfOk result (λ polygons. polygons ≡ nested rings.now) }
+{
+    let rings = rings.as_slice();
+    let boxes = boxes_of(alloc, rings)?;
+    let depths = depths_of(alloc, rings, &boxes)?;
+    let outers = outers_of(alloc, rings, &depths)?;
+    match with_inners(alloc, rings, &boxes, &depths, outers)? {
+        None => Ok(None),
+        Some(polygons) => Ok(Some(Polygons::from_vec(polygons))),
+    }
+}

@@ -1,0 +1,52 @@
+//! One ring and one place, and whether a ring holds another one.
+ghost use Rattle.std.specs.Prelude.{◌≡◌};
+ghost use Rattle.lanes_geo.specs.Crossing.{odd};
+ghost use Rattle.ring_nest.specs.Nesting.{first_off as first_off_ring, holds as holds_ring, lies_on as lies_on_ring};
+
+use crate::segment::lies_within_segment;
+use lanes_geo::odd_crossings;
+use osm_base::Place;
+
+/// Whether an odd number of a ring's segments cross the latitude of a place strictly east of it.
+pub fn crosses_odd(ring: &[Place], place: Place) -> bool
+    ensures { result ≡ odd ring.now place }
+{
+    odd_crossings(ring, place)
+}
+
+/// Whether a place lies on one of a ring's segments, their ends included.
+pub fn lies_on(ring: &[Place], place: Place) -> bool
+    ensures { result ≡ lies_on_ring ring.now place }
+{
+    let mut at = 0;
+    while ring.len() - at > 1 {
+        if lies_within_segment(ring[at], ring[at + 1], place) {
+            return true;
+        }
+        at += 1;
+    }
+    false
+}
+
+/// The first place of another ring that does not lie on this one.
+fn first_off(ring: &[Place], other: &[Place]) -> Option<Place>
+    ensures { result ≡ first_off_ring ring.now other.now }
+{
+    for place in other {
+        let place = *place;
+        if !lies_on(ring, place) {
+            return Some(place);
+        }
+    }
+    None
+}
+
+/// Whether a ring holds another one.
+pub(crate) fn holds(ring: &[Place], other: &[Place]) -> bool
+    ensures { result ≡ holds_ring ring.now other.now }
+{
+    match first_off(ring, other) {
+        None => false,
+        Some(place) => odd_crossings(ring, place),
+    }
+}
