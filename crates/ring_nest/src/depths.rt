@@ -193,16 +193,17 @@ fn depth_of(
     boxes: &[GeoBox],
     blocks: &[GeoBox],
     ring: &[Place],
+    asked: GeoBox,
     mask: &mut [bool],
 ) -> usize
     requires boxes { boxes.now ≡ map around rings.now }
     requires blocks { AreBlocks blocks.now boxes.now }
     requires boxed { AllByRecursion IsBoxed rings.now }
     requires ring { IsBoxed ring.now }
+    requires asked { asked ≡ around ring.now }
     requires mask { length mask.old ≡ BLOCK }
     ensures { result ≡ depth rings.now ring.now }
 {
-    let asked = box_around(ring);
     let mut rings_left = rings;
     let mut boxes_left = boxes;
     let mut count = 0;
@@ -230,8 +231,12 @@ pub(crate) fn depths_of(
     let blocks = blocks_of(alloc, boxes)?;
     let mut mask = [false; BLOCK];
     let mut depths = Vec::with_capacity(alloc, rings.len())?;
-    for ring in rings {
-        depths.push(depth_of(rings, boxes, &blocks, ring.as_slice(), &mut mask))?;
+    let mut at = 0;
+    while rings.len() - at > 0 {
+        let ring = &rings[at];
+        let depth = depth_of(rings, boxes, &blocks, ring.as_slice(), boxes[at], &mut mask);
+        depths.push(depth)?;
+        at += 1;
     }
     Ok(depths)
 }

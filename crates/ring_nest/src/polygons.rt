@@ -6,7 +6,7 @@ ghost use Rattle.osm_base.specs.Place.{PlaceOf};
 ghost use Rattle.ring_nest.specs.Around.{IsBoxed, around};
 ghost use Rattle.ring_nest.specs.Nesting.{IsRing, has_place, depth as depth_of_ring, holds as holds_ring, nested, owner, owns, polygons_from, slots_from};
 
-use crate::depths::{box_around, boxes_of, depths_of, is_met};
+use crate::depths::{boxes_of, depths_of, is_met};
 use crate::rings::holds;
 use osm_base::{GeoBox, LineList, OutOfMemory, Place, Places, Polygons, TryCopy};
 use std::alloc::Global;
@@ -44,17 +44,18 @@ fn owner_of(
     boxes: &[GeoBox],
     depths: &[usize],
     ring: &[Place],
+    asked: GeoBox,
     depth: usize,
 ) -> Option<usize>
     requires boxes { boxes.now ≡ map around rings.now }
     requires depths { depths.now ≡ map (depth_of_ring rings.now) rings.now }
     requires boxed { AllByRecursion IsBoxed rings.now }
     requires ring { IsBoxed ring.now }
+    requires asked { asked ≡ around ring.now }
     requires depth { depth ≡ depth_of_ring rings.now ring.now }
     requires held { 0 < depth }
     ensures { result ≡ owner rings.now ring.now }
 {
-    let asked = box_around(ring);
     let mut at = 0;
     while rings.len() - at > 0 {
         let other = &rings[at];
@@ -166,7 +167,7 @@ fn add_ring(
     if depth % 2 == 0 {
         return Ok(true);
     }
-    match owner_of(rings, boxes, depths, ring.as_slice(), depth) {
+    match owner_of(rings, boxes, depths, ring.as_slice(), boxes[at], depth) {
         None => Ok(false),
         Some(number) => {
             add_inner(polygons, slot_at(slots, number), ring.copy(alloc)?)?;
