@@ -1,0 +1,6 @@
+pub mod Bytes
+pub mod Entries
+pub mod Moments
+pub mod Counting
+pub mod Parts
+pub mod Places

@@ -1,0 +1,43 @@
+-- How a run of disk calls goes on.
+use Rattle.std.proofs.Common.{◌≡◌, inl, inr, ⊎_elim, ℕ, ◌≤◌, List, Option, Some, option_map, ap, ◌∙◌, arith}
+use Rattle.outside.specs.Disk.{Crashes, Elapses, NoneNew, Follows, Only, Torn}
+use Rattle.page_journal.specs.Crash.{Goes, Within}
+
+-- before the first call
+pub started : (P : List ℕ → Type 0) (old : Crashes) → Within P old → Goes P old old
+started P old here = record { later = omega arith; each = λ since left le before. inl before; now = here }
+
+-- one call more, after which a crash leaves what has P
+pub goes_on : (P : List ℕ → Type 0) (old mid new : Crashes) → Goes P old mid → Elapses mid new → Within P new → Goes P old new
+goes_on P old mid new so_far time here = record {
+  later = omega (arith, so_far.later, time.later);
+  each = λ since left le now.
+      ⊎_elim (so_far.each since left le) (λ last. inr (here left last)) (time.each since left (omega (arith, le, so_far.later)) now);
+  now = here;
+}
+
+-- one call more, that adds no outcome
+pub goes_quiet : (P : List ℕ → Type 0) (old mid new : Crashes) → Goes P old mid → Elapses mid new → NoneNew mid new → Goes P old new
+goes_quiet P old mid new so_far time none = goes_on P old mid new so_far time (λ left now. so_far.now left (none left now))
+
+-- a run after a run
+pub goes_then : (P : List ℕ → Type 0) (old mid new : Crashes) → Goes P old mid → Goes P mid new → Goes P old new
+goes_then P old mid new first second = record {
+  later = omega (arith, first.later, second.later);
+  each = λ since left le now.
+      ⊎_elim (first.each since left le) (λ last. inr last) (second.each since left (omega (arith, le, first.later)) now);
+  now = second.now;
+}
+
+-- what has P has Q
+pub goes_weaker : (P Q : List ℕ → Type 0) (old new : Crashes) → Goes P old new → ((left : List ℕ) → P left → Q left) → Goes Q old new
+goes_weaker P Q old new run weaker = record {
+  later = run.later;
+  each = λ since left le now. ⊎_elim (λ before. inl before) (λ has. inr (weaker left has)) (run.each since left le now);
+  now = λ left now. weaker left (run.now left now);
+}
+
+-- what a read gives after a write
+pub told_written : (f : List ℕ → List ℕ) (old new : Option (List ℕ)) (bytes : List ℕ) → old ≡ Some bytes → new ≡ option_map f old
+    → new ≡ Some (f bytes)
+told_written f old new bytes told written = written ∙ ap (λ (known : Option (List ℕ)). option_map f known) told

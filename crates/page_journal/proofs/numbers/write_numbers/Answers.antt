@@ -1,0 +1,82 @@
+use Rattle.std.proofs.Common.{◌≡◌, ℕ, ◌+◌, ◌*◌, ◌<◌, ◌≤◌, List, length, ap, sym, ◌∙◌, subst, arith, rules}
+use Rattle.std.proofs.lemmas.List.{length_push}
+use Rattle.std.proofs.lemmas.Map.Iter.{iter_turn, iter_end}
+use Rattle.std.specs.Map.Iter.{deref_pair}
+use Rattle.outside.specs.Disk.{overlaid}
+use Rattle.page_journal.specs.Crash.{BesideJournal, Spares}
+use Rattle.page_journal.specs.PageSet.{plain}
+use Rattle.page_journal.specs.Written.{NumbersHeld, NumbersPut}
+use Rattle.page_journal.proofs.Counting.{held_start, held_last}
+use Rattle.page_journal.proofs.Entries.{number_at-plain}
+use Rattle.page_journal.proofs.Moments.{started, goes_then, told_written}
+use Rattle.page_journal.proofs.numbers.write_numbers.Goals as goal
+
+pub loop-number-init : goal.loop-number-init
+loop-number-init g c =
+    let page = c.new-page.result in
+    record {
+      can = tt;
+      finite = tt;
+      room = omega (arith, c.new-page.ensures.none);
+      from = omega (arith, c.new-page.ensures.place);
+      place = omega (arith, c.new-page.ensures.place, c.new-page.ensures.none);
+      put = λ bytes told. (
+        bytes,
+        told,
+        subst (λ (at : ℕ). NumbersHeld (plain c.args.pages.now.entries) 0 c.args.at at page.filled page.bytes bytes bytes) (sym c.new-page.ensures.place)
+        (subst (λ (n : ℕ). NumbersHeld (plain c.args.pages.now.entries) 0 c.args.at c.args.at n page.bytes bytes bytes) (sym c.new-page.ensures.none)
+          (held_start (plain c.args.pages.now.entries) c.args.at page.bytes bytes c.new-page.ensures.long)),
+      );
+      crash = λ low base le within. started (Spares (BesideJournal low) base) _ within;
+      reads = search rules;
+      later = omega arith;
+    }
+
+pub loop-number-preserved : goal.loop-number-preserved
+loop-number-preserved g c =
+    let so_far = c.loop-number.invariant in
+    let added = c.in_ok-add_number.ensures in
+    let entries = c.args.pages.now.entries in
+    let yielded = c.loop-number.yielded in
+    let start : c.into_iter-number-iterator.result ≡ entries = c.into_iter-number-iterator.ensures.into_iter_gives.0 in
+    let turn = iter_turn deref_pair entries yielded c.into_iter-number-iterator.result _ _ _ start c.loop-number.yielded_by
+      (c.in-Some.number, c.in-Some.field-0-1) c.in-Some.is c.next.ensures.steps in
+    let here = number_at-plain entries (length yielded) c.in-Some.number.now c.in-Some.field-0-1.now turn.1 in
+    let more = length_push yielded (c.in-Some.number, c.in-Some.field-0-1) in
+    record {
+      can = tt;
+      finite = tt;
+      room = added.room;
+      from = omega (arith, so_far.from, added.further);
+      place = omega (arith, so_far.place, added.place, more);
+      put = λ bytes told.
+          let held = so_far.put bytes told in
+          let next = added.put held.0 held.1 in
+          (
+            next.0,
+            next.1,
+            subst (λ (n : ℕ). NumbersHeld (plain entries) n c.args.at c.add_number.new.page.at c.add_number.new.page.filled c.add_number.new.page.bytes bytes next.0) (sym more)
+            (next.2 (plain entries) (length yielded) c.args.at bytes held.2 (sym here)),
+          );
+      crash = λ low base le within.
+          let run = so_far.crash low base le within in
+          goes_then (Spares (BesideJournal low) base) _ _ _ run (added.crash low base (omega (arith, le, so_far.from)) run.now);
+      reads = added.reads ∙ so_far.reads;
+      later = omega (arith, so_far.later, c.add_number.ensures.cause.later);
+    }
+
+pub returns-in_ok-flush-clause-put : goal.returns-in_ok-flush-clause-put
+returns-in_ok-flush-clause-put g c = λ bytes told.
+    let so_far = c.loop-number.invariant in
+    let entries = c.args.pages.now.entries in
+    let page = c.loop-number.page in
+    let start : c.into_iter-number-iterator.result ≡ entries = c.into_iter-number-iterator.ensures.into_iter_gives.0 in
+    let end = iter_end deref_pair entries c.loop-number.yielded c.into_iter-number-iterator.result _ _ _ start c.loop-number.yielded_by
+      c.in-None.is c.next.ensures.steps in
+    let held = so_far.put bytes told in
+    (
+      overlaid page.at page.bytes held.0,
+      told_written (overlaid page.at page.bytes) _ _ held.0 held.1 c.in_ok-flush.ensures.written,
+      subst (λ (n : ℕ). NumbersPut (plain entries) n c.args.at bytes (overlaid page.at page.bytes held.0)) end.1
+      (held_last (plain entries) (length c.loop-number.yielded) c.args.at page.at page.filled page.bytes bytes held.0 held.2 (omega (arith, so_far.room))),
+    )

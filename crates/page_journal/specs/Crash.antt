@@ -1,0 +1,42 @@
+-- What a run of disk calls leaves at each moment.
+use Rattle.std.specs.Prelude.{◌≡◌, ◌≢◌, ◌⊎◌, ℕ, ◌+◌, ◌*◌, ◌<◌, ◌≤◌, List, length, slice_index}
+use Rattle.outside.specs.Disk.{Crashes, DiskView, Tells, Only}
+use Rattle.page_journal.specs.Home.{Home}
+use Rattle.page_journal.specs.Pages.{gate}
+use Rattle.page_journal.specs.declared.layout.TheConstants.{OPEN}
+
+-- each outcome of a crash now is such a content
+abbrev pub Within : (List ℕ → Type 0) → Crashes → Type 0
+Within P crashes = (left : List ℕ) → crashes.outcomes left → P left
+
+-- time went on, and each outcome of a crash at a moment since then is one from before or such a content
+pub record Goes (P : List ℕ → Type 0) (old new : Crashes) : Type 0 where
+  pub later : old.moment ≤ new.moment
+  pub each : (since : ℕ) (left : List ℕ) → since ≤ old.moment → new.outcomes_since since left
+      → old.outcomes_since since left ⊎ P left
+  pub now : Within P new
+
+-- the new content has the old one's bytes at these places
+pub record Spares (K : ℕ → Type 0) (old new : List ℕ) : Type 0 where
+  pub no_shorter : length old ≤ length new
+  pub same : (i : ℕ) → i < length old → K i → slice_index new i ≡ slice_index old i
+
+-- the store is at rest: its disk gives these bytes, and a crash leaves nothing else; the gate is shut, and these are
+-- the home pages
+pub record IsSettled (pages : List (List ℕ)) (bytes : List ℕ) (view : DiskView) : Type 0 where
+  pub told : Tells view bytes
+  pub only : Only bytes view.crashes
+  pub shut : gate bytes ≢ OPEN
+  pub home : Home pages bytes
+
+-- the places below `low` that are not the journal's fields in page 0
+abbrev pub BesideJournal : ℕ → ℕ → Type 0
+BesideJournal low i = ((i < 8) ⊎ (24 ≤ i)) × (i < low)
+
+-- all places but the gate
+abbrev pub BesideGate : ℕ → Type 0
+BesideGate i = i ≢ 4095
+
+-- the places outside of these pages
+abbrev pub BesidePages : ℕ → (ℕ → ℕ) → ℕ → Type 0
+BesidePages count numbers i = (place : ℕ) → place < count → (i < 4096 * numbers place) ⊎ (4096 * numbers place + 4096 ≤ i)

@@ -1,0 +1,6 @@
+pub mod Pages
+pub mod Home
+pub mod Crash
+pub mod PageSet
+pub mod Answers
+pub mod Written

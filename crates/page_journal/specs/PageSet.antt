@@ -1,0 +1,43 @@
+-- Pages by their numbers, and what a commit of them makes of the home pages.
+use Rattle.std.specs.Prelude.{◌≡◌, ℕ, zero, suc, ◌+◌, ◌-◌, ◌<◌, ◌≤◌, List, [], ◌∷◌, ◌++◌, map, length, slice_index_or, Option, Some, None, IsSome, Vec}
+use Rattle.std.specs.Ordering.{nat_cmp}
+use Rattle.std.specs.FinMap as map
+use Rattle.std.specs.declared.alloc.Global.{Global}
+use Rattle.page_journal.specs.Pages.{number}
+
+-- a finite map from numbers to pages
+abbrev pub PageMap : Type 0
+PageMap = map.FinMap nat_cmp (List ℕ)
+
+-- entries of a tree, with the bytes of their pages
+abbrev pub plain : List (ℕ × Vec ℕ Global) → List (ℕ × List ℕ)
+plain entries = map (λ entry. (entry.0, entry.1.items)) entries
+
+-- the number and the page at a place
+abbrev pub number_at : List (ℕ × List ℕ) → ℕ → ℕ
+number_at entries place = (slice_index_or entries place (0, [])).0
+
+abbrev pub page_at : List (ℕ × List ℕ) → ℕ → List ℕ
+page_at entries place = (slice_index_or entries place (0, [])).1
+
+-- the list of what a function gives at 1 and on up to a number
+abbrev pub up_to : (ℕ → List ℕ) → ℕ → List (List ℕ)
+up_to page zero = []
+up_to page (suc count) = up_to page count ++ page (suc count) ∷ []
+
+-- a page of the set, or where it has none with this number, another
+abbrev pub page_or : Option (List ℕ) → List ℕ → List ℕ
+page_or None other = other
+page_or (Some page) other = page
+
+-- the home pages once the set is written over them; `home` is their number, with page 0
+abbrev pub overwritten : PageMap → ℕ → List (List ℕ) → List (List ℕ)
+overwritten set home pages = up_to (λ n. page_or (map.get set n) (slice_index_or pages (n - 1) [])) (home - 1)
+
+-- a commit may write this set to so many home pages: it makes them no fewer, has pages from 1 to below `home` alone,
+-- each new one among them, and page 1 with the number `home` at its front
+pub record CanCommit (set : PageMap) (count home : ℕ) : Type 0 where
+  pub more : count ≤ home
+  pub within : (n : ℕ) → IsSome (map.get set n) → (1 ≤ n) × (n < home)
+  pub root : (page : List ℕ) × (map.get set 1 ≡ Some page) × (number page 0 ≡ home)
+  pub new : (n : ℕ) → count ≤ n → n < home → IsSome (map.get set n)

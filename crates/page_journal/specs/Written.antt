@@ -1,0 +1,55 @@
+-- What the parts of a commit leave on the disk.
+use Rattle.std.specs.Prelude.{◌≡◌, ◌⊎◌, ℕ, ◌+◌, ◌-◌, ◌*◌, ◌<◌, ◌≤◌, List, length}
+use Rattle.page_journal.specs.Crash.{Spares, BesideGate, BesidePages}
+use Rattle.page_journal.specs.Pages.{number, page_from, gate, number_pages}
+use Rattle.page_journal.specs.PageSet.{number_at, page_at}
+
+-- the places in front of one
+abbrev pub Below : ℕ → ℕ → Type 0
+Below at i = i < at
+
+-- the first `count` numbers of the entries stand from this byte on
+pub record NumbersPut (entries : List (ℕ × List ℕ)) (count at : ℕ) (old new : List ℕ) : Type 0 where
+  pub spares : Spares (Below at) old new
+  pub numbers : (place : ℕ) → place < count → number new (at + 8 * place) ≡ number_at entries place
+  pub long : 0 < count → at + 8 * count ≤ length new
+
+-- the first `count` pages of the entries stand from this byte on
+pub record PagesPut (entries : List (ℕ × List ℕ)) (count at : ℕ) (old new : List ℕ) : Type 0 where
+  pub spares : Spares (Below at) old new
+  pub pages : (place : ℕ) → place < count → page_from new (at + 4096 * place) ≡ page_at entries place
+  pub long : 0 < count → at + 4096 * count ≤ length new
+
+-- a number stands at this byte
+pub record NumberPut (at value : ℕ) (old new : List ℕ) : Type 0 where
+  pub spares : Spares (λ i. (i < at) ⊎ (at + 8 ≤ i)) old new
+  pub here : number new at ≡ value
+  pub long : at + 8 ≤ length new
+
+-- the journal's first page and its number of pages stand in page 0
+pub record FieldsPut (first count : ℕ) (old new : List ℕ) : Type 0 where
+  pub spares : Spares (λ i. (i < 8) ⊎ (24 ≤ i)) old new
+  pub start : number new 8 ≡ first
+  pub pages : number new 16 ≡ count
+
+-- the gate has this value
+pub record GatePut (value : ℕ) (old new : List ℕ) : Type 0 where
+  pub spares : Spares BesideGate old new
+  pub gate : gate new ≡ value
+
+-- the first `count` pages of the entries stand at home
+pub record HomePut (entries : List (ℕ × List ℕ)) (count : ℕ) (old new : List ℕ) : Type 0 where
+  pub spares : Spares (BesidePages count (number_at entries)) old new
+  pub pages : (place : ℕ) → place < count → page_from new (4096 * number_at entries place) ≡ page_at entries place
+  pub long : (place : ℕ) → place < count → 4096 * number_at entries place + 4096 ≤ length new
+
+-- numbers that are written a page at a time: of the first `count`, the last `filled` stand in the buffer, and the
+-- others on the disk from `start` on; `at` is where the buffer goes
+pub record NumbersHeld (entries : List (ℕ × List ℕ)) (count start at filled : ℕ) (buffer old new : List ℕ) : Type 0 where
+  pub from : start ≤ at
+  pub place : at + 8 * filled ≡ start + 8 * count
+  pub spares : Spares (Below start) old new
+  pub written : (place : ℕ) → place + filled < count → number new (start + 8 * place) ≡ number_at entries place
+  pub held : (place : ℕ) → place < filled → number buffer (8 * place) ≡ number_at entries (count - filled + place)
+  pub long : start < at → at ≤ length new
+  pub size : length buffer ≡ 4096

@@ -1,0 +1,37 @@
+//! Where the numbers of a store stand on the disk.
+
+/// The first eight bytes of a store, the text `SLIMUPD1` read as a number, the least byte first.
+pub const MARK: u64 = 0x3144_5055_4d49_4c53;
+
+/// How many bytes a page has.
+pub const PAGE: usize = 4096;
+
+/// How many numbers fit a page.
+pub const PER_PAGE: usize = 512;
+
+/// Where page 0 has the number of the journal's first page.
+pub const FIRST_AT: u64 = 8;
+
+/// Where page 0 has the number of the pages in the journal.
+pub const COUNT_AT: u64 = 16;
+
+/// Where the fields of the journal end.
+pub const FIELDS_END: u64 = 24;
+
+/// Where page 0 has the gate of the journal.
+pub const GATE_AT: u64 = 4095;
+
+/// The one value of the gate that means that the journal counts.
+pub const OPEN: u8 = 1;
+
+/// The value that is written to shut the gate.
+pub const SHUT: u8 = 0;
+
+/// Where page 1, the root, stands. Its first number is that of the home pages.
+pub const ROOT_AT: u64 = 4096;
+
+/// Where the root has the format.
+pub const FORMAT_AT: u64 = 4104;
+
+/// The format that is written.
+pub const FORMAT: u64 = 1;
