@@ -1,6 +1,6 @@
 -- What the parts of a commit leave on the disk.
-use Rattle.std.specs.Prelude.{◌≡◌, ◌⊎◌, ℕ, ◌+◌, ◌-◌, ◌*◌, ◌<◌, ◌≤◌, List, length}
-use Rattle.page_journal.specs.Crash.{Spares, BesideGate, BesidePages}
+use Rattle.std.specs.Prelude.{◌≡◌, ◌≢◌, ◌⊎◌, ℕ, ◌+◌, ◌-◌, ◌*◌, ◌<◌, ◌≤◌, List, [], length, slice_index_or}
+use Rattle.page_journal.specs.Crash.{Spares, BesideGate, BesideJournal, BesidePages}
 use Rattle.page_journal.specs.Pages.{number, page_from, gate, number_pages}
 use Rattle.page_journal.specs.PageSet.{number_at, page_at}
 
@@ -53,3 +53,26 @@ pub record NumbersHeld (entries : List (ℕ × List ℕ)) (count start at filled
   pub held : (place : ℕ) → place < filled → number buffer (8 * place) ≡ number_at entries (count - filled + place)
   pub long : start < at → at ≤ length new
   pub size : length buffer ≡ 4096
+
+-- the journal of these entries stands behind the home pages
+pub record JournalPut (entries : List (ℕ × List ℕ)) (count home : ℕ) (old new : List ℕ) : Type 0 where
+  pub spares : Spares (BesideJournal (4096 * home)) old new
+  pub first : number new 8 ≡ home
+  pub pages_are : number new 16 ≡ count
+  pub numbers : (place : ℕ) → place < count → number new (4096 * home + 8 * place) ≡ number_at entries place
+  pub bodies : (place : ℕ) → place < count → page_from new (4096 * (home + number_pages count + place)) ≡ page_at entries place
+  pub long : 0 < count → 4096 * (home + number_pages count + count) ≤ length new
+
+-- entries, written over home pages, make other home pages of them
+pub record Makes (entries : List (ℕ × List ℕ)) (count home : ℕ) (old new : List (List ℕ)) : Type 0 where
+  pub some : 1 ≤ count
+  pub positive : (place : ℕ) → place < count → 1 ≤ number_at entries place
+  pub below : (place : ℕ) → place < count → number_at entries place < home
+  pub rises : (one two : ℕ) → one < two → two < count → number_at entries one < number_at entries two
+  pub more : length old + 1 ≤ home
+  pub many : length new + 1 ≡ home
+  pub pages : 1 ≤ length new
+  pub says : number (slice_index_or new 0 []) 0 ≡ home
+  pub inside : (place : ℕ) → place < count → slice_index_or new (number_at entries place - 1) [] ≡ page_at entries place
+  pub others : (n : ℕ) → 1 ≤ n → n ≤ length new → ((place : ℕ) → place < count → number_at entries place ≢ n)
+      → (n ≤ length old) × (slice_index_or new (n - 1) [] ≡ slice_index_or old (n - 1) [])

@@ -1,6 +1,7 @@
 //! Sets of pages that are written to the store as a whole or not at all.
 #![tactic(auto)]
 
+mod committing;
 mod fault;
 mod layout;
 mod numbers;
