@@ -1,8 +1,10 @@
 pub mod Bytes
 pub mod Entries
+pub mod Fresh
 pub mod Moments
 pub mod Counting
 pub mod Parts
 pub mod Phases
 pub mod Places
 pub mod Standing
+pub mod Trees

@@ -41,10 +41,10 @@ bodies_more entries count at next page old now put place-is page-is size =
       long = λ some. omega (arith, place-is);
     }
 
-pub home_none : (entries : List (ℕ × List ℕ)) (bytes : List ℕ) → HomePut entries 0 bytes bytes
-home_none entries bytes = record {
-  spares = Spares-self (BesidePages 0 (number_at entries)) bytes;
-  pages = λ place below. absurd (omega (arith, below));
+pub home_none : (numbers : ℕ → ℕ) (pages : ℕ → List ℕ) (bytes : List ℕ) → HomePut numbers pages 0 bytes bytes
+home_none numbers pages bytes = record {
+  spares = Spares-self (BesidePages 0 numbers) bytes;
+  stand = λ place below. absurd (omega (arith, below));
   long = λ place below. absurd (omega (arith, below));
 }
 
@@ -54,35 +54,35 @@ pub beside_page : (count : ℕ) (numbers : ℕ → ℕ) (place at size : ℕ) �
 beside_page count numbers place at size inside at-is size-is = λ i keeps.
     ⊎_elim (λ before. inl (omega (arith, before, at-is))) (λ behind. inr (omega (arith, behind, at-is, size-is))) (keeps place inside)
 
-pub home_more : (entries : List (ℕ × List ℕ)) (count at : ℕ) (page old now : List ℕ) → HomePut entries count old now
-    → ((place : ℕ) → place < count → number_at entries place < number_at entries count) → at ≡ 4096 * number_at entries count
-    → page ≡ page_at entries count → length page ≡ 4096 → HomePut entries (count + 1) old (overlaid at page now)
-home_more entries count at page old now put rises at-is page-is size =
+pub home_more : (numbers : ℕ → ℕ) (pages : ℕ → List ℕ) (count at : ℕ) (page old now : List ℕ) → HomePut numbers pages count old now
+    → ((place : ℕ) → place < count → numbers place < numbers count) → at ≡ 4096 * numbers count
+    → page ≡ pages count → length page ≡ 4096 → HomePut numbers pages (count + 1) old (overlaid at page now)
+home_more numbers pages count at page old now put rises at-is page-is size =
     let long = length-overlaid at page now in
-    let fewer : (i : ℕ) → BesidePages (count + 1) (number_at entries) i → BesidePages count (number_at entries) i =
+    let fewer : (i : ℕ) → BesidePages (count + 1) numbers i → BesidePages count numbers i =
     λ i keeps place inside. keeps place (omega (arith, inside)) in
     record {
-      spares = Spares-overlaid (BesidePages (count + 1) (number_at entries)) old now at page
-          (Spares-less (BesidePages count (number_at entries)) (BesidePages (count + 1) (number_at entries)) old now fewer put.spares)
-          (beside_page (count + 1) (number_at entries) count at (length page) (omega arith) at-is size);
-      pages = λ place inside. elim (cases_lt place count) [
+      spares = Spares-overlaid (BesidePages (count + 1) numbers) old now at page
+          (Spares-less (BesidePages count numbers) (BesidePages (count + 1) numbers) old now fewer put.spares)
+          (beside_page (count + 1) numbers count at (length page) (omega arith) at-is size);
+      stand = λ place inside. elim (cases_lt place count) [
         | inl earlier ↦
             let above = rises place earlier in
             let fits = put.long place earlier in
-            page_same now (overlaid at page now) (4096 * number_at entries place) (4096 * number_at entries place) fits (omega arith) (λ k below.
-            overlaid-beside at page now (4096 * number_at entries place + k) (inl (omega (arith, at-is, above, below))))
-            ∙ put.pages place earlier
+            page_same now (overlaid at page now) (4096 * numbers place) (4096 * numbers place) fits (omega arith) (λ k below.
+            overlaid-beside at page now (4096 * numbers place + k) (inl (omega (arith, at-is, above, below))))
+            ∙ put.stand place earlier
         | inr last ↦
             let same : place ≡ count = omega arith in
-            let there : 4096 * number_at entries place ≡ at = ap (λ (k : ℕ). 4096 * number_at entries k) same ∙ sym at-is in
+            let there : 4096 * numbers place ≡ at = ap (λ (k : ℕ). 4096 * numbers k) same ∙ sym at-is in
             ap (λ (i : ℕ). page_from (overlaid at page now) i) there ∙ page_overlaid at page now size ∙ page-is
-            ∙ ap (λ (k : ℕ). page_at entries k) (sym same)
+            ∙ ap (λ (k : ℕ). pages k) (sym same)
       ];
       long = λ place inside. elim (cases_lt place count) [
         | inl earlier ↦ omega (arith, put.long place earlier)
         | inr last ↦
             let same : place ≡ count = omega arith in
-            let there : 4096 * number_at entries place ≡ at = ap (λ (k : ℕ). 4096 * number_at entries k) same ∙ sym at-is in
+            let there : 4096 * numbers place ≡ at = ap (λ (k : ℕ). 4096 * numbers k) same ∙ sym at-is in
             omega arith
       ];
     }

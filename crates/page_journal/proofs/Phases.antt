@@ -213,11 +213,11 @@ module _ (entries : List (ℕ × List ℕ)) (count home : ℕ) (old new : List (
       let then-staged = staged_pages bytes left spares staged in
       inr (home_open count numbers pages home left new then-staged.stands are has then-staged.rest (gate_stays bytes left spares staged ∙ is_open)))
 
-  pub to_copied : (bytes now : List ℕ) → Staged bytes → HomePut entries count bytes now → Staged now
+  pub to_copied : (bytes now : List ℕ) → Staged bytes → HomePut numbers pages count bytes now → Staged now
   to_copied bytes now staged put = staged_pages bytes now put.spares staged
 
-  pub to_placed : (bytes now : List ℕ) → HomePut entries count bytes now → Placed count numbers pages now
-  to_placed bytes now put = record { each = put.pages }
+  pub to_placed : (bytes now : List ℕ) → HomePut numbers pages count bytes now → Placed count numbers pages now
+  to_placed bytes now put = record { each = put.stand }
 
   placed_gate : (one two : List ℕ) → Spares BesideGate one two → Staged one → Placed count numbers pages one → Placed count numbers pages two
   placed_gate one two spares staged placed = record {

@@ -1,6 +1,7 @@
 -- When each answer comes. A call over a disk may answer that the disk failed in place of any other; that this comes
 -- only where the disk's count of faults rose is said beside.
-use Rattle.std.specs.Prelude.{◌≡◌, ◌≢◌, ◌⊎◌, ℕ, ◌+◌, ◌*◌, ◌<◌, ◌≤◌, Bool, true, false, List, length, Result, Ok, Err, IsTrue}
+use Rattle.std.specs.Prelude.{◌≡◌, ◌≢◌, ◌⊎◌, ℕ, ◌+◌, ◌*◌, ◌<◌, ◌≤◌, Bool, true, false, List, length, Result, Ok, Err, IsErrOf}
+use Rattle.outside.specs.Causes.{Rose}
 use Rattle.page_journal.specs.Home.{IsFormatted, IsWellFormed, IsHomePage}
 use Rattle.page_journal.specs.Pages.{number, gate}
 use Rattle.page_journal.specs.declared.fault.StoreFault.{StoreFault}
@@ -48,3 +49,15 @@ Opens bytes (Err NotFormatted) = ¬ IsFormatted bytes
 Opens bytes (Err (BadStore page)) = JournalRefused bytes page ⊎ HomeRefused bytes page
 Opens bytes (Err DiskFault) = Unit {0}
 Opens bytes (Err _) = ⊥
+
+-- formatting a disk of these bytes may give this answer
+abbrev pub Formats : List ℕ → Result (Unit {0}) StoreFault → Type 0
+Formats bytes (Ok done) = length bytes ≡ 0
+Formats bytes (Err NotEmpty) = length bytes ≢ 0
+Formats bytes (Err DiskFault) = Unit {0}
+Formats bytes (Err _) = ⊥
+
+-- the disk's count of faults did not fall, and it rose where the answer is that the disk failed
+pub record HasDiskCause {T : Type 0} (before now : ℕ) (result : Result T StoreFault) : Type 0 where
+  pub later : before ≤ now
+  pub failed : IsErrOf result DiskFault → Rose before now

@@ -1,5 +1,5 @@
 -- Pages by their numbers, and what a commit of them makes of the home pages.
-use Rattle.std.specs.Prelude.{◌≡◌, ℕ, zero, suc, ◌+◌, ◌-◌, ◌<◌, ◌≤◌, List, [], ◌∷◌, ◌++◌, map, length, slice_index_or, Option, Some, None, IsSome, Vec}
+use Rattle.std.specs.Prelude.{◌≡◌, ℕ, zero, suc, ◌+◌, ◌-◌, ◌<◌, ◌≤◌, List, [], ◌∷◌, ◌++◌, map, length, slice_index_or, Option, Some, None, IsSome, Vec, T}
 use Rattle.std.specs.Ordering.{nat_cmp}
 use Rattle.std.specs.FinMap as map
 use Rattle.std.specs.declared.alloc.Global.{Global}
@@ -41,3 +41,8 @@ pub record CanCommit (set : PageMap) (count home : ℕ) : Type 0 where
   pub within : (n : ℕ) → IsSome (map.get set n) → (1 ≤ n) × (n < home)
   pub root : (page : List ℕ) × (map.get set 1 ≡ Some page) × (number page 0 ≡ home)
   pub new : (n : ℕ) → count ≤ n → n < home → IsSome (map.get set n)
+
+-- the entries of a tree rise by their numbers, and each page has its length
+pub record IsPageTree (entries : List (ℕ × Vec ℕ Global)) : Type 0 where
+  pub sorted : T (map.is_sorted nat_cmp (plain entries))
+  pub sized : (place : ℕ) → place < length entries → length (page_at (plain entries) place) ≡ 4096

@@ -37,11 +37,11 @@ pub record GatePut (value : ℕ) (old new : List ℕ) : Type 0 where
   pub spares : Spares BesideGate old new
   pub gate : gate new ≡ value
 
--- the first `count` pages of the entries stand at home
-pub record HomePut (entries : List (ℕ × List ℕ)) (count : ℕ) (old new : List ℕ) : Type 0 where
-  pub spares : Spares (BesidePages count (number_at entries)) old new
-  pub pages : (place : ℕ) → place < count → page_from new (4096 * number_at entries place) ≡ page_at entries place
-  pub long : (place : ℕ) → place < count → 4096 * number_at entries place + 4096 ≤ length new
+-- the first `count` of these pages stand at the places that their numbers say
+pub record HomePut (numbers : ℕ → ℕ) (pages : ℕ → List ℕ) (count : ℕ) (old new : List ℕ) : Type 0 where
+  pub spares : Spares (BesidePages count numbers) old new
+  pub stand : (place : ℕ) → place < count → page_from new (4096 * numbers place) ≡ pages place
+  pub long : (place : ℕ) → place < count → 4096 * numbers place + 4096 ≤ length new
 
 -- numbers that are written a page at a time: of the first `count`, the last `filled` stand in the buffer, and the
 -- others on the disk from `start` on; `at` is where the buffer goes

@@ -3,8 +3,12 @@
 
 mod committing;
 mod fault;
+mod formatting;
 mod layout;
 mod numbers;
+mod page_set;
 mod pages;
 
 pub use fault::StoreFault;
+pub use formatting::format;
+pub use page_set::PageSet;

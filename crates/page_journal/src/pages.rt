@@ -40,7 +40,7 @@ pub fn write_home<D: Disk>(disk: &mut D, pages: &BTreeMap<u64, Vec<u8>>) -> Resu
         → number_at (plain pages.now.entries) one < number_at (plain pages.now.entries) two }
     requires room { (place : ℕ) → place < length pages.now.entries → 4096 * number_at (plain pages.now.entries) place + 4096 ≤ 2 ^ 62 }
     ensures put { OnOk result ((bytes : List ℕ) → Tells (D.view disk.old) bytes → (now : List ℕ) × Tells (D.view disk.new) now
-        × Only now (D.view disk.new).crashes × HomePut (plain pages.now.entries) (length pages.now.entries) bytes now) }
+        × Only now (D.view disk.new).crashes × HomePut (number_at (plain pages.now.entries)) (page_at (plain pages.now.entries)) (length pages.now.entries) bytes now) }
     ensures crash { (base : List ℕ) → Within (Spares (BesidePages (length pages.now.entries) (number_at (plain pages.now.entries))) base) (D.view disk.old).crashes
         → Goes (Spares (BesidePages (length pages.now.entries) (number_at (plain pages.now.entries))) base) (D.view disk.old).crashes (D.view disk.new).crashes }
     ensures reads { (D.view disk.new).reads ≡ (D.view disk.old).reads }

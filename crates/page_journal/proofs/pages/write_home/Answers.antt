@@ -42,7 +42,7 @@ pub loop-number-init : goal.loop-number-init
 loop-number-init g c = record {
   can = tt;
   finite = tt;
-  put = λ bytes told. (bytes, told, home_none (plain c.args.pages.now.entries) bytes);
+  put = λ bytes told. (bytes, told, home_none (number_at (plain c.args.pages.now.entries)) (page_at (plain c.args.pages.now.entries)) bytes);
   crash = λ base within. started (Spares (BesidePages (length c.args.pages.now.entries) (number_at (plain c.args.pages.now.entries))) base) _ within;
   reads = search rules;
   later = omega arith;
@@ -72,8 +72,8 @@ loop-number-preserved g c =
           (
             overlaid at c.as_slice.result.now now.0,
             told_written (overlaid at c.as_slice.result.now) _ _ now.0 now.1 c.in_ok-write_at.ensures.written,
-            subst (λ (n : ℕ). HomePut (plain entries) n bytes (overlaid at c.as_slice.result.now now.0)) (sym more)
-            (home_more (plain entries) (length yielded) at c.as_slice.result.now bytes now.0 now.2
+            subst (λ (n : ℕ). HomePut (number_at (plain entries)) (page_at (plain entries)) n bytes (overlaid at c.as_slice.result.now now.0)) (sym more)
+            (home_more (number_at (plain entries)) (page_at (plain entries)) (length yielded) at c.as_slice.result.now bytes now.0 now.2
               (λ place below. c.requires.rises place (length yielded) below inside) at-is is size),
           );
       crash = λ base within.
@@ -121,5 +121,5 @@ returns-clause-put g c = λ bytes told.
     let now = c.loop-number.invariant.put bytes told in
     (
       now.0, c.sync.ensures.content ∙ now.1, c.in_ok-sync.ensures.durable now.0 now.1,
-      subst (λ (n : ℕ). HomePut (plain entries) n bytes now.0) end.1 now.2,
+      subst (λ (n : ℕ). HomePut (number_at (plain entries)) (page_at (plain entries)) n bytes now.0) end.1 now.2,
     )

@@ -1,7 +1,7 @@
 use Rattle.std.proofs.Common.{◌≡◌, ◌≤◌, List, ℕ, length}
 use Rattle.outside.specs.Disk.{Tells}
 use Rattle.page_journal.specs.Crash.{BesidePages, Goes, Spares, Within}
-use Rattle.page_journal.specs.PageSet.{plain, number_at}
+use Rattle.page_journal.specs.PageSet.{plain, number_at, page_at}
 use Rattle.page_journal.specs.Written.{HomePut}
 use Rattle.page_journal.proofs.pages.write_home.Given as goal
 
@@ -14,7 +14,7 @@ invariant-loop-number g l =
       can : (goal.iterator-loop-number g).can_next l.number-iterator;
       finite : (goal.iterator-loop-number g).is_finite l.number-iterator;
       put : (bytes : List ℕ) → Tells old bytes → (left : List ℕ) × Tells now left
-          × HomePut (plain l.pages.entries) (length l.yielded) bytes left;
+          × HomePut (number_at (plain l.pages.entries)) (page_at (plain l.pages.entries)) (length l.yielded) bytes left;
       crash : (base : List ℕ) → Within (Spares beside base) old.crashes → Goes (Spares beside base) old.crashes now.crashes;
       reads : now.reads ≡ old.reads;
       later : old.faults ≤ now.faults;

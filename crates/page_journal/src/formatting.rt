@@ -1,0 +1,58 @@
+//! The first bytes of a store.
+ghost use Rattle.std.specs.Prelude.{◌≡◌, ◌≢◌, ◌+◌, ◌<◌, ◌≤◌, ◌⊎◌, ◌^◌, List, ℕ, length, OnOk, IsErrOf, EachIndex, slice_index};
+ghost use Rattle.outside.specs.Disk.{Only, Tells};
+ghost use Rattle.page_journal.specs.Answers.{Formats, HasDiskCause};
+ghost use Rattle.page_journal.specs.Home.{IsFresh};
+ghost use Rattle.page_journal.specs.Pages.{number};
+ghost use Rattle.page_journal.specs.declared.fault.StoreFault.TheVariants.{NotEmpty};
+
+use crate::StoreFault;
+use crate::layout::{FORMAT, FORMAT_AT, MARK, PAGE, ROOT_AT};
+use outside::Disk;
+
+const FRESH_LEN: usize = 2 * PAGE;
+
+/// Writes an empty store to an empty disk.
+pub fn format<D: Disk>(disk: &mut D) -> Result<(), StoreFault>
+    ensures fresh { OnOk result ((bytes : List ℕ) → Tells (D.view disk.old) bytes
+        → (now : List ℕ) × Tells (D.view disk.new) now × Only now (D.view disk.new).crashes × IsFresh now) }
+    ensures answers { (bytes : List ℕ) → Tells (D.view disk.old) bytes → Formats bytes result }
+    ensures unchanged { IsErrOf result NotEmpty → (D.view disk.new).content ≡ (D.view disk.old).content }
+    ensures cause { HasDiskCause (D.view disk.old).faults (D.view disk.new).faults result }
+{
+    if disk.len()? != 0 {
+        return Err(StoreFault::NotEmpty);
+    }
+    let bytes = fresh_bytes();
+    disk.write_at(0, &bytes)?;
+    disk.sync()?;
+    Ok(())
+}
+
+// The bytes of an empty store.
+fn fresh_bytes() -> [u8; FRESH_LEN]
+    ensures { IsFresh result }
+{
+    let mut bytes = zeros();
+    put_field(&mut bytes, 0, MARK);
+    put_field(&mut bytes, ROOT_AT as usize, 2);
+    put_field(&mut bytes, FORMAT_AT as usize, FORMAT);
+    bytes
+}
+
+fn zeros() -> [u8; FRESH_LEN]
+    ensures long { length result ≡ 8192 }
+    ensures zero { (i : ℕ) → slice_index result i ≡ 0 }
+{
+    [0; FRESH_LEN]
+}
+
+// Puts a number at its place.
+fn put_field(bytes: &mut [u8], at: usize, value: u64)
+    requires { at + 8 ≤ length bytes.old }
+    ensures here { number bytes.new at ≡ value }
+    ensures long { length bytes.new ≡ length bytes.old }
+    ensures others { (i : ℕ) → (i < at) ⊎ (at + 8 ≤ i) → slice_index bytes.new i ≡ slice_index bytes.old i }
+{
+    bytes[at..at + 8].copy_from_slice(&value.to_le_bytes());
+}
