@@ -113,3 +113,25 @@ put_mid-overlaid at count old new within long =
     let rest : drop (at + count - at) (drop at old) ≡ drop (at + length new) old =
     drop-drop (at + count - at) at old ∙ ap (λ (n : ℕ). drop n old) end in
     ap (λ (l : List ℕ). take at old ++ (new ++ l)) rest ∙ sym (overlaid-within at new old within)
+
+-- one byte that was read
+pub byte_read : (bytes old new : List ℕ) (at count : ℕ) → length old ≡ 1 → at + 1 ≤ length bytes → ReadsFrom at count bytes old new
+    → get_or new 0 0 ≡ get_or bytes at 0
+byte_read bytes old new at count long fits reads =
+    let many : count ≡ 1 = omega (arith, reads.many) in
+    let none : drop count old ≡ [] = drop_all count old (omega arith) in
+    let whole : new ≡ take 1 (drop at bytes) =
+    reads.bytes ∙ ap (λ (l : List ℕ). take count (drop at bytes) ++ l) none ∙ append-nil (take count (drop at bytes))
+    ∙ ap (λ (n : ℕ). take n (drop at bytes)) many in
+    let place : at + 0 ≡ at = omega arith in
+    ap (λ (l : List ℕ). get_or l 0 0) whole ∙ get_or-take 1 (drop at bytes) 0 0 (omega arith) ∙ get_or-drop at bytes 0 0
+    ∙ ap (λ (i : ℕ). get_or bytes i 0) place
+
+-- a page that was read, where it is there
+pub page_read_whole : (bytes old new : List ℕ) (at count : ℕ) → length old ≡ 4096 → at + 4096 ≤ length bytes → ReadsFrom at count bytes old new
+    → new ≡ page_from bytes at
+page_read_whole bytes old new at count long fits reads = page_read bytes old new at count long (omega (arith, reads.many)) reads
+
+pub page_long : (bytes : List ℕ) (at : ℕ) → at + 4096 ≤ length bytes → length (page_from bytes at) ≡ 4096
+unfolding page_from
+page_long bytes at fits = length-part 4096 bytes at fits

@@ -1,5 +1,6 @@
 -- Entries of a tree of pages, by their places.
 use Rattle.std.proofs.Common.{◌≡◌, ℕ, zero, suc, ◌+◌, ◌<◌, ◌≤◌, List, [], ◌∷◌, length, slice_get, Option, Some, None, Vec, refl, sym, ap, ◌∙◌, arith}
+use Rattle.std.proofs.lemmas.List.{length-map}
 use Rattle.std.specs.declared.alloc.Global.{Global}
 use Rattle.page_journal.specs.PageSet.{plain, number_at, page_at}
 
@@ -17,3 +18,6 @@ page_at-plain [] place n page is = absurd (cc)
 page_at-plain (entry ∷ entries) zero n page is =
     let same : entry ≡ (n, page) = cc in ap (λ (e : ℕ × Vec ℕ Global). e.1.items) same
 page_at-plain (entry ∷ entries) (suc place) n page is = page_at-plain entries place n page is
+
+pub plain_long : (entries : List (ℕ × Vec ℕ Global)) → length (plain entries) ≡ length entries
+plain_long entries = length-map entries (λ entry. (entry.0, entry.1.items))

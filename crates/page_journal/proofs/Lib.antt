@@ -1,10 +1,12 @@
 pub mod Bytes
 pub mod Entries
+pub mod Finishing
 pub mod Fresh
 pub mod Moments
 pub mod Counting
 pub mod Parts
 pub mod Phases
 pub mod Places
+pub mod Sets
 pub mod Standing
 pub mod Trees

@@ -1,7 +1,7 @@
 -- How a run of disk calls goes on.
 use Rattle.std.proofs.Common.{◌≡◌, inl, inr, ⊎_elim, ℕ, ◌≤◌, List, Option, Some, option_map, ap, ◌∙◌, arith}
-use Rattle.outside.specs.Disk.{Crashes, Elapses, NoneNew, Follows, Only, Torn}
-use Rattle.page_journal.specs.Crash.{Goes, Within}
+use Rattle.outside.specs.Disk.{Crashes, DiskView, Elapses, NoneNew, Follows, Only, Torn}
+use Rattle.page_journal.specs.Crash.{Goes, Stays, Within}
 
 -- before the first call
 pub started : (P : List ℕ → Type 0) (old : Crashes) → Within P old → Goes P old old
@@ -41,3 +41,29 @@ goes_weaker P Q old new run weaker = record {
 pub told_written : (f : List ℕ → List ℕ) (old new : Option (List ℕ)) (bytes : List ℕ) → old ≡ Some bytes → new ≡ option_map f old
     → new ≡ Some (f bytes)
 told_written f old new bytes told written = written ∙ ap (λ (known : Option (List ℕ)). option_map f known) told
+
+-- no look at all
+pub stays_same : (view : DiskView) → Stays view view
+stays_same view = record { content = λ i. view.content; runs = started view.crashes.outcomes view.crashes (λ left now. now) }
+
+-- looks, one after another
+pub stays_call : (old new : DiskView) → new.content ≡ old.content → NoneNew old.crashes new.crashes → Elapses old.crashes new.crashes → Stays old new
+stays_call old new same none time = record {
+  content = same;
+  runs = goes_quiet old.crashes.outcomes old.crashes old.crashes new.crashes
+      (started old.crashes.outcomes old.crashes (λ left now. now)) time none;
+}
+
+pub stays_then : (old mid new : DiskView) → Stays old mid → Stays mid new → Stays old new
+stays_then old mid new first second = record {
+  content = second.content ∙ first.content;
+  runs = goes_then old.crashes.outcomes old.crashes mid.crashes new.crashes first.runs
+      (goes_weaker mid.crashes.outcomes old.crashes.outcomes mid.crashes new.crashes second.runs first.runs.now);
+}
+
+-- looks leave a run as it is
+pub goes_stays : (P : List ℕ → Type 0) (old : Crashes) (mid new : DiskView) → Goes P old mid.crashes → Stays mid new → Goes P old new.crashes
+goes_stays P old mid new so_far stays =
+    goes_then P old mid.crashes new.crashes so_far (goes_weaker mid.crashes.outcomes P mid.crashes new.crashes stays.runs so_far.now)
+
+pub ruleset looks = (stays_call, stays_then)

@@ -25,8 +25,8 @@ journal_put entries count home at old one two new above some at-is numbers bodie
     record {
       spares = Spares-trans K old two new
           (Spares-trans K old one two
-            (Spares-less (Below (4096 * home)) K old one (λ i keeps. keeps.1) numbers.spares)
-            (Spares-less (Below at) K one two (λ i keeps. let low = keeps.1 in omega (arith, low, at-is)) bodies.spares))
+          (Spares-less (Below (4096 * home)) K old one (λ i keeps. keeps.1) numbers.spares)
+          (Spares-less (Below at) K one two (λ i keeps. let low = keeps.1 in omega (arith, low, at-is)) bodies.spares))
           (Spares-less F K two new (λ i keeps. keeps.0) fields.spares);
       first = fields.start;
       pages_are = fields.pages;
@@ -124,7 +124,7 @@ module _ (entries : List (ℕ × List ℕ)) (count home : ℕ) (old new : List (
 
   pub go_journal : (view : DiskView) (bytes : List ℕ) (after : Crashes) → IsSettled old bytes view
       → ((base : List ℕ) → Within (Spares (BesideJournal (4096 * home)) base) view.crashes
-        → Goes (Spares (BesideJournal (4096 * home)) base) view.crashes after)
+      → Goes (Spares (BesideJournal (4096 * home)) base) view.crashes after)
       → Goes OldOrNew view.crashes after
   go_journal view bytes after settled crash =
       goes_weaker (Spares (BesideJournal (4096 * home)) bytes) OldOrNew view.crashes after

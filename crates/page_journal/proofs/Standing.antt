@@ -81,16 +81,18 @@ module _ (count : ℕ) (numbers : ℕ → ℕ) (pages : ℕ → List ℕ) (home 
       let first = stands.first in
       record {
         some = omega (arith, are.some, many);
-        positive = λ place inside.
-            let fits : place < count = omega (arith, inside, many) in
-            omega (arith, entry_is stands place fits, are.positive place fits);
-        below = λ place inside.
-            let fits : place < count = omega (arith, inside, many) in
-            omega (arith, entry_is stands place fits, are.below place fits, first);
-        rises = λ place inside.
-            let next : place + 1 < count = omega (arith, inside, many) in
-            let fits : place < count = omega (arith, next) in
-            omega (arith, entry_is stands place fits, entry_is stands (place + 1) next, are.rises place (place + 1) (omega arith) next);
+        numbers = record {
+          positive = λ place inside.
+              let fits : place < count = omega (arith, inside, many) in
+              omega (arith, entry_is stands place fits, are.positive place fits);
+          below = λ place inside.
+              let fits : place < count = omega (arith, inside, many) in
+              omega (arith, entry_is stands place fits, are.below place fits, first);
+          rises = λ place inside.
+              let next : place + 1 < count = omega (arith, inside, many) in
+              let fits : place < count = omega (arith, next) in
+              omega (arith, entry_is stands place fits, entry_is stands (place + 1) next, are.rises place (place + 1) (omega arith) next);
+        };
         long =
             let same : 4096 * (first_page bytes + number_pages (page_count bytes) + page_count bytes) ≡ 4096 * (home + number_pages count + count) =
             ap (λ (n : ℕ). 4096 * (n + number_pages (page_count bytes) + page_count bytes)) first

@@ -66,10 +66,10 @@ view_put entries new n page tree size is =
     let later = tree_put entries new n page tree size is in
     let before : PageMap = map.from_sorted (plain entries) in
     map.same_entries_map (map.from_sorted {R = nat_cmp} (plain new)) (map.insert before n page.items) (
-      map.entries-from_sorted nat_cmp (plain new) later.sorted
-      ∙ ap plain is ∙ plain-insert entries n page
-      ∙ ap (λ (es : List (ℕ × List ℕ)). put nat_cmp n page.items es) (sym (map.entries-from_sorted nat_cmp (plain entries) tree.sorted))
-      ∙ sym (map.entries-insert nat_cmp_total before n page.items)
+    map.entries-from_sorted nat_cmp (plain new) later.sorted
+    ∙ ap plain is ∙ plain-insert entries n page
+    ∙ ap (λ (es : List (ℕ × List ℕ)). put nat_cmp n page.items es) (sym (map.entries-from_sorted nat_cmp (plain entries) tree.sorted))
+    ∙ sym (map.entries-insert nat_cmp_total before n page.items)
     )
 
 pub view_none : map.from_sorted {K = ℕ} {X = List ℕ} {R = nat_cmp} [] ≡ map.empty

@@ -1,9 +1,9 @@
 -- When each answer comes. A call over a disk may answer that the disk failed in place of any other; that this comes
 -- only where the disk's count of faults rose is said beside.
-use Rattle.std.specs.Prelude.{◌≡◌, ◌≢◌, ◌⊎◌, ℕ, ◌+◌, ◌*◌, ◌<◌, ◌≤◌, Bool, true, false, List, length, Result, Ok, Err, IsErrOf}
+use Rattle.std.specs.Prelude.{◌≡◌, ◌≢◌, ◌⊎◌, ℕ, ◌+◌, ◌*◌, ◌<◌, ◌≤◌, Bool, true, false, Option, Some, None, List, length, Result, Ok, Err, IsErrOf}
 use Rattle.outside.specs.Causes.{Rose}
 use Rattle.page_journal.specs.Home.{IsFormatted, IsWellFormed, IsHomePage}
-use Rattle.page_journal.specs.Pages.{number, gate}
+use Rattle.page_journal.specs.Pages.{number, gate, first_page, page_count}
 use Rattle.page_journal.specs.declared.fault.StoreFault.{StoreFault}
 use Rattle.page_journal.specs.declared.fault.StoreFault.TheVariants.{NotFormatted, NotEmpty, BadStore, DiskFault, StoreFull, Broken, OutOfMemory}
 use Rattle.page_journal.specs.declared.layout.TheConstants.{OPEN}
@@ -50,6 +50,33 @@ Opens bytes (Err (BadStore page)) = JournalRefused bytes page ⊎ HomeRefused by
 Opens bytes (Err DiskFault) = Unit {0}
 Opens bytes (Err _) = ⊥
 
+-- finishing the journal of these bytes, if it is open, may give this answer
+abbrev pub Finishes : List ℕ → Result (Unit {0}) StoreFault → Type 0
+Finishes bytes (Ok done) = gate bytes ≡ OPEN → IsWellFormed bytes
+Finishes bytes (Err (BadStore page)) = JournalRefused bytes page
+Finishes bytes (Err DiskFault) = Unit {0}
+Finishes bytes (Err _) = ⊥
+
+-- the first looks at these bytes may give these answers
+abbrev pub Prepares : List ℕ → Result ℕ StoreFault → Type 0
+Prepares bytes (Ok len) = IsFormatted bytes × (len ≡ length bytes)
+Prepares bytes (Err NotFormatted) = ¬ IsFormatted bytes
+Prepares bytes (Err DiskFault) = Unit {0}
+Prepares bytes (Err _) = ⊥
+
+abbrev pub Looks : List ℕ → Result (Option (ℕ × ℕ)) StoreFault → Type 0
+Looks bytes (Ok None) = gate bytes ≢ OPEN
+Looks bytes (Ok (Some found)) = (gate bytes ≡ OPEN) × IsWellFormed bytes × (found.0 ≡ first_page bytes) × (found.1 ≡ page_count bytes)
+Looks bytes (Err (BadStore page)) = JournalRefused bytes page
+Looks bytes (Err DiskFault) = Unit {0}
+Looks bytes (Err _) = ⊥
+
+abbrev pub Counts : List ℕ → ℕ → Result ℕ StoreFault → Type 0
+Counts bytes len (Ok home) = (home ≡ number bytes 4096) × (2 ≤ home) × (4096 * home ≤ len)
+Counts bytes len (Err (BadStore page)) = (page ≡ 1) × ((number bytes 4096 < 2) ⊎ (len < 4096 * number bytes 4096))
+Counts bytes len (Err DiskFault) = Unit {0}
+Counts bytes len (Err _) = ⊥
+
 -- formatting a disk of these bytes may give this answer
 abbrev pub Formats : List ℕ → Result (Unit {0}) StoreFault → Type 0
 Formats bytes (Ok done) = length bytes ≡ 0
@@ -61,3 +88,25 @@ Formats bytes (Err _) = ⊥
 pub record HasDiskCause {T : Type 0} (before now : ℕ) (result : Result T StoreFault) : Type 0 where
   pub later : before ≤ now
   pub failed : IsErrOf result DiskFault → Rose before now
+
+-- a commit to so many home pages may give this answer, of a journal that is broken or not and has this limit
+abbrev pub Commits : Bool → ℕ → ℕ → Result (Unit {0}) StoreFault → Type 0
+Commits broken limit home (Ok done) = (broken ≡ false) × (home ≤ limit)
+Commits broken limit home (Err (StoreFull pages)) = (broken ≡ false) × (limit < home) × (pages ≡ home)
+Commits broken limit home (Err Broken) = broken ≡ true
+Commits broken limit home (Err DiskFault) = (broken ≡ false) × (home ≤ limit)
+Commits broken limit home (Err _) = ⊥
+
+-- a read of a page of a journal that is broken or not may give this answer
+abbrev pub Reads : Bool → ℕ → Result (Unit {0}) StoreFault → Type 0
+Reads broken page (Ok done) = broken ≡ false
+Reads broken page (Err (BadStore at)) = (broken ≡ false) × (at ≡ page)
+Reads broken page (Err Broken) = broken ≡ true
+Reads broken page (Err DiskFault) = broken ≡ false
+Reads broken page (Err _) = ⊥
+
+-- and where the disk tells these bytes, the page is there, or they end inside it
+abbrev pub ReadsFrom : List ℕ → ℕ → Result (Unit {0}) StoreFault → Type 0
+ReadsFrom bytes page (Ok done) = 4096 * page + 4096 ≤ length bytes
+ReadsFrom bytes page (Err (BadStore at)) = length bytes < 4096 * page + 4096
+ReadsFrom bytes page (Err _) = Unit {0}

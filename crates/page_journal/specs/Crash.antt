@@ -40,3 +40,20 @@ BesideGate i = i ≢ 4095
 -- the places outside of these pages
 abbrev pub BesidePages : ℕ → (ℕ → ℕ) → ℕ → Type 0
 BesidePages count numbers i = (place : ℕ) → place < count → (i < 4096 * numbers place) ⊎ (4096 * numbers place + 4096 ≤ i)
+
+-- only looks were made: what a read gives is as before, and no crash leaves anything new
+pub record Stays (old new : DiskView) : Type 0 where
+  pub content : new.content ≡ old.content
+  pub runs : Goes old.crashes.outcomes old.crashes new.crashes
+
+-- each outcome of a crash has home pages
+abbrev pub AllHome : Crashes → Type 0
+AllHome crashes = (left : List ℕ) → crashes.outcomes left → (pages : List (List ℕ)) × Home pages left
+
+-- a content with the home pages of one of these outcomes
+pub record IsLikeOne (crashes : Crashes) (left : List ℕ) : Type 0 where
+  pub one : List ℕ
+  pub among : crashes.outcomes one
+  pub pages : List (List ℕ)
+  pub had : Home pages one
+  pub has : Home pages left

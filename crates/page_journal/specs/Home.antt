@@ -8,12 +8,16 @@ pub record IsFormatted (bytes : List ℕ) : Type 0 where
   pub long : 8192 ≤ length bytes
   pub marked : number bytes 0 ≡ MARK
 
--- the journal has a page, its numbers rise from at least 1 to below its own first page, and its pages are all there
+-- the numbers of a journal rise from at least 1 to below its first page
+pub record AreRising (bytes : List ℕ) (first count : ℕ) : Type 0 where
+  pub positive : (place : ℕ) → place < count → 1 ≤ number bytes (4096 * first + 8 * place)
+  pub below : (place : ℕ) → place < count → number bytes (4096 * first + 8 * place) < first
+  pub rises : (place : ℕ) → place + 1 < count → number bytes (4096 * first + 8 * place) < number bytes (4096 * first + 8 * (place + 1))
+
+-- the journal has a page, its numbers rise so, and its pages are all there
 pub record IsWellFormed (bytes : List ℕ) : Type 0 where
   pub some : 1 ≤ page_count bytes
-  pub positive : (place : ℕ) → place < page_count bytes → 1 ≤ entry bytes place
-  pub below : (place : ℕ) → place < page_count bytes → entry bytes place < first_page bytes
-  pub rises : (place : ℕ) → place + 1 < page_count bytes → entry bytes place < entry bytes (place + 1)
+  pub numbers : AreRising bytes (first_page bytes) (page_count bytes)
   pub long : 4096 * (first_page bytes + number_pages (page_count bytes) + page_count bytes) ≤ length bytes
 
 -- the page with this number, once the journal is copied home: where the gate is open and the journal has the page,

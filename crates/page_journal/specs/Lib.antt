@@ -1,6 +1,7 @@
 pub mod Pages
 pub mod Home
 pub mod Crash
+pub mod Journal
 pub mod PageSet
 pub mod Answers
 pub mod Written

@@ -1,6 +1,8 @@
 -- What the parts of a commit leave on the disk.
 use Rattle.std.specs.Prelude.{◌≡◌, ◌≢◌, ◌⊎◌, ℕ, ◌+◌, ◌-◌, ◌*◌, ◌<◌, ◌≤◌, List, [], length, slice_index_or}
 use Rattle.page_journal.specs.Crash.{Spares, BesideGate, BesideJournal, BesidePages}
+use Rattle.page_journal.specs.Home.{IsFormatted, IsHomePage}
+use Rattle.page_journal.specs.declared.layout.TheConstants.{OPEN}
 use Rattle.page_journal.specs.Pages.{number, page_from, gate, number_pages}
 use Rattle.page_journal.specs.PageSet.{number_at, page_at}
 
@@ -76,3 +78,10 @@ pub record Makes (entries : List (ℕ × List ℕ)) (count home : ℕ) (old new 
   pub inside : (place : ℕ) → place < count → slice_index_or new (number_at entries place - 1) [] ≡ page_at entries place
   pub others : (n : ℕ) → 1 ≤ n → n ≤ length new → ((place : ℕ) → place < count → number_at entries place ≢ n)
       → (n ≤ length old) × (slice_index_or new (n - 1) [] ≡ slice_index_or old (n - 1) [])
+
+-- the gate is shut, and each home page that is there, once the journal is copied home, stands in its place
+pub record Finished (old new : List ℕ) : Type 0 where
+  pub formatted : IsFormatted new
+  pub shut : gate new ≢ OPEN
+  pub long : length old ≤ length new
+  pub home : (n : ℕ) (page : List ℕ) → 1 ≤ n → 4096 * n + 4096 ≤ length old → IsHomePage old n page → page_from new (4096 * n) ≡ page

@@ -8,7 +8,7 @@ ghost use Rattle.page_journal.specs.PageSet.{number_at, page_at, plain};
 ghost use Rattle.page_journal.specs.Pages.{number_pages};
 ghost use Rattle.page_journal.specs.Written.{JournalPut, Makes};
 
-use crate::layout::{OPEN, PAGE, PER_PAGE, SHUT};
+use crate::layout::{OPEN, PAGE_LEN, SHUT, number_page_count};
 use crate::numbers::write_numbers;
 use crate::pages::{set_gate, write_bodies, write_fields, write_home};
 use outside::{Disk, Failed};
@@ -63,7 +63,7 @@ fn write_journal<D: Disk>(
 {
     let count = pages.len() as u64;
     let bodies = bodies_at(home, count);
-    write_numbers(disk, pages, home * PAGE as u64)?;
+    write_numbers(disk, pages, home * PAGE_LEN)?;
     write_bodies(disk, pages, bodies)?;
     write_fields(disk, home, count)?;
     disk.sync()?;
@@ -77,5 +77,5 @@ fn bodies_at(home: u64, count: u64) -> u64
     ensures place { result ≡ 4096 * (home + number_pages count) }
     ensures small { result ≤ 2 ^ 42 }
 {
-    (home + (count + (PER_PAGE as u64 - 1)) / PER_PAGE as u64) * PAGE as u64
+    (home + number_page_count(count)) * PAGE_LEN
 }

@@ -1,10 +1,15 @@
 //! Where the numbers of a store stand on the disk.
+ghost use Rattle.std.specs.Prelude.{◌≡◌, ◌^◌, ◌≤◌};
+ghost use Rattle.page_journal.specs.Pages.{number_pages};
 
 /// The first eight bytes of a store, the text `SLIMUPD1` read as a number, the least byte first.
 pub const MARK: u64 = 0x3144_5055_4d49_4c53;
 
 /// How many bytes a page has.
 pub const PAGE: usize = 4096;
+
+/// The same, for places on the disk.
+pub const PAGE_LEN: u64 = 4096;
 
 /// How many numbers fit a page.
 pub const PER_PAGE: usize = 512;
@@ -35,3 +40,11 @@ pub const FORMAT_AT: u64 = 4104;
 
 /// The format that is written.
 pub const FORMAT: u64 = 1;
+
+/// How many pages so many numbers take.
+pub fn number_page_count(count: u64) -> u64
+    requires { count ≤ 2 ^ 62 }
+    ensures { result ≡ number_pages count }
+{
+    (count + (PER_PAGE as u64 - 1)) / PER_PAGE as u64
+}

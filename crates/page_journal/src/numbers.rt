@@ -65,9 +65,9 @@ fn add_number<D: Disk>(disk: &mut D, page: &mut NumberPage, value: u64) -> Resul
     ensures room { OnOk result (page.new.filled < 512) }
     ensures put { OnOk result ((bytes : List ℕ) → Tells (D.view disk.old) bytes → (now : List ℕ) × Tells (D.view disk.new) now
         × ((entries : List (ℕ × List ℕ)) (count start : ℕ) (base : List ℕ)
-          → NumbersHeld entries count start page.old.at page.old.filled page.old.bytes base bytes
-          → value ≡ number_at entries count
-          → NumbersHeld entries (count + 1) start page.new.at page.new.filled page.new.bytes base now)) }
+        → NumbersHeld entries count start page.old.at page.old.filled page.old.bytes base bytes
+        → value ≡ number_at entries count
+        → NumbersHeld entries (count + 1) start page.new.at page.new.filled page.new.bytes base now)) }
     ensures crash { (low : ℕ) (base : List ℕ) → low ≤ page.old.at → Within (Spares (BesideJournal low) base) (D.view disk.old).crashes
         → Goes (Spares (BesideJournal low) base) (D.view disk.old).crashes (D.view disk.new).crashes }
     ensures further { OnOk result (page.old.at ≤ page.new.at) }

@@ -19,9 +19,10 @@ returns-clause-put g c = λ bytes told.
     let at-is : c.bodies_at-bodies.result ≡ 4096 * (home + number_pages count) =
     c.bodies_at-bodies.ensures.place ∙ ap (λ (n : ℕ). 4096 * (home + number_pages n)) many in
     let numbers = subst (λ (at : ℕ). NumbersPut entries count at bytes one.0) start one.2 in
-    let fields = subst (λ (n : ℕ). FieldsPut home n two.0 three.0) many three.2 in
-    (
-      three.0, c.sync.ensures.content ∙ three.1, c.in_ok-sync.ensures.durable three.0 three.1,
+    let fields = subst (λ (n : ℕ). FieldsPut home n two.0 three.0) many three.2 in (
+      three.0,
+      c.sync.ensures.content ∙ three.1,
+      c.in_ok-sync.ensures.durable three.0 three.1,
       journal_put entries count home c.bodies_at-bodies.result bytes one.0 two.0 three.0 (omega (arith, c.requires.some, c.requires.few))
-        c.requires.some at-is numbers two.2 fields,
+          c.requires.some at-is numbers two.2 fields,
     )

@@ -13,8 +13,8 @@ returns-clause-here c =
     let copied : c.copy_from_slice.new.self ≡ spelled = c.copy_from_slice.ensures.after ∙ c.to_le_bytes.ensures in
     let long : length c.copy_from_slice.new.self ≡ 8 = ap length copied ∙ eight in
     ap (λ (l : List ℕ). number l c.args.at) (
-      put_mid-overlaid c.args.at 8 c.args.bytes.now c.copy_from_slice.new.self (omega (arith, c.requires)) long
-      ∙ ap (λ (l : List ℕ). overlaid c.args.at l c.args.bytes.now) copied
+    put_mid-overlaid c.args.at 8 c.args.bytes.now c.copy_from_slice.new.self (omega (arith, c.requires)) long
+    ∙ ap (λ (l : List ℕ). overlaid c.args.at l c.args.bytes.now) copied
     ) ∙ number_written c.args.at c.args.value c.args.bytes.now (omega (arith, c.ranges.value.fits))
 
 pub returns-clause-others : goal.returns-clause-others
@@ -24,6 +24,6 @@ returns-clause-others c = λ i beside.
     let copied : c.copy_from_slice.new.self ≡ spelled = c.copy_from_slice.ensures.after ∙ c.to_le_bytes.ensures in
     let long : length c.copy_from_slice.new.self ≡ 8 = ap length copied ∙ eight in
     ap (λ (l : List ℕ). get_or l i 0) (
-      put_mid-overlaid c.args.at 8 c.args.bytes.now c.copy_from_slice.new.self (omega (arith, c.requires)) long
+    put_mid-overlaid c.args.at 8 c.args.bytes.now c.copy_from_slice.new.self (omega (arith, c.requires)) long
     ) ∙ overlaid-beside c.args.at c.copy_from_slice.new.self c.args.bytes.now i
     (⊎_elim (λ before. inl before) (λ behind. inr (omega (arith, behind, long))) beside)

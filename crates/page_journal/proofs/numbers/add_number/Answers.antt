@@ -8,8 +8,7 @@ use Rattle.page_journal.proofs.numbers.add_number.Goals as goal
 pub returns-in_ok-flush-clause-put : goal.returns-in_ok-flush-clause-put
 returns-in_ok-flush-clause-put g c = λ bytes told.
     let page = c.args.page.now in
-    let buffer = c.put_number.new.bytes in
-    (
+    let buffer = c.put_number.new.bytes in (
       overlaid page.at buffer bytes,
       told_written (overlaid page.at buffer) _ _ bytes told c.in_ok-flush.ensures.written,
       λ entries count start base held is.

@@ -13,8 +13,8 @@ returns-clause-here c =
     let copied : c.copy_from_slice.new.self ≡ spelled = c.copy_from_slice.ensures.after ∙ c.to_le_bytes.ensures in
     let long : length c.copy_from_slice.new.self ≡ 8 = ap length copied ∙ eight in
     ap (λ (l : List ℕ). number l (8 * c.args.place)) (
-      put_mid-overlaid (8 * c.args.place) 8 c.args.bytes.now c.copy_from_slice.new.self (omega (arith, c.told-bytes)) long
-      ∙ ap (λ (l : List ℕ). overlaid (8 * c.args.place) l c.args.bytes.now) copied
+    put_mid-overlaid (8 * c.args.place) 8 c.args.bytes.now c.copy_from_slice.new.self (omega (arith, c.told-bytes)) long
+    ∙ ap (λ (l : List ℕ). overlaid (8 * c.args.place) l c.args.bytes.now) copied
     ) ∙ number_written (8 * c.args.place) c.args.value c.args.bytes.now (omega (arith, c.ranges.value.fits))
 
 pub returns-clause-others : goal.returns-clause-others
@@ -26,7 +26,7 @@ returns-clause-others c = λ other below.
     let new = c.copy_from_slice.new.self in
     let size = length-overlaid (8 * c.args.place) new c.args.bytes.now in
     ap (λ (l : List ℕ). number l (8 * other)) (
-      put_mid-overlaid (8 * c.args.place) 8 c.args.bytes.now new (omega (arith, c.told-bytes)) long
+    put_mid-overlaid (8 * c.args.place) 8 c.args.bytes.now new (omega (arith, c.told-bytes)) long
     ) ∙ number_same c.args.bytes.now (overlaid (8 * c.args.place) new c.args.bytes.now) (8 * other) (8 * other) (omega (arith, c.told-bytes, c.requires))
     (omega (arith, c.told-bytes, c.requires))
     (λ k inside. overlaid-beside (8 * c.args.place) new c.args.bytes.now (8 * other + k) (inl (omega arith)))

@@ -24,8 +24,8 @@ loop-number-init g c =
         bytes,
         told,
         subst (λ (at : ℕ). NumbersHeld (plain c.args.pages.now.entries) 0 c.args.at at page.filled page.bytes bytes bytes) (sym c.new-page.ensures.place)
-        (subst (λ (n : ℕ). NumbersHeld (plain c.args.pages.now.entries) 0 c.args.at c.args.at n page.bytes bytes bytes) (sym c.new-page.ensures.none)
-          (held_start (plain c.args.pages.now.entries) c.args.at page.bytes bytes c.new-page.ensures.long)),
+            (subst (λ (n : ℕ). NumbersHeld (plain c.args.pages.now.entries) 0 c.args.at c.args.at n page.bytes bytes bytes) (sym c.new-page.ensures.none)
+            (held_start (plain c.args.pages.now.entries) c.args.at page.bytes bytes c.new-page.ensures.long)),
       );
       crash = λ low base le within. started (Spares (BesideJournal low) base) _ within;
       reads = search rules;
@@ -40,7 +40,7 @@ loop-number-preserved g c =
     let yielded = c.loop-number.yielded in
     let start : c.into_iter-number-iterator.result ≡ entries = c.into_iter-number-iterator.ensures.into_iter_gives.0 in
     let turn = iter_turn deref_pair entries yielded c.into_iter-number-iterator.result _ _ _ start c.loop-number.yielded_by
-      (c.in-Some.number, c.in-Some.field-0-1) c.in-Some.is c.next.ensures.steps in
+    (c.in-Some.number, c.in-Some.field-0-1) c.in-Some.is c.next.ensures.steps in
     let here = number_at-plain entries (length yielded) c.in-Some.number.now c.in-Some.field-0-1.now turn.1 in
     let more = length_push yielded (c.in-Some.number, c.in-Some.field-0-1) in
     record {
@@ -51,12 +51,11 @@ loop-number-preserved g c =
       place = omega (arith, so_far.place, added.place, more);
       put = λ bytes told.
           let held = so_far.put bytes told in
-          let next = added.put held.0 held.1 in
-          (
+          let next = added.put held.0 held.1 in (
             next.0,
             next.1,
             subst (λ (n : ℕ). NumbersHeld (plain entries) n c.args.at c.add_number.new.page.at c.add_number.new.page.filled c.add_number.new.page.bytes bytes next.0) (sym more)
-            (next.2 (plain entries) (length yielded) c.args.at bytes held.2 (sym here)),
+                (next.2 (plain entries) (length yielded) c.args.at bytes held.2 (sym here)),
           );
       crash = λ low base le within.
           let run = so_far.crash low base le within in
@@ -72,11 +71,10 @@ returns-in_ok-flush-clause-put g c = λ bytes told.
     let page = c.loop-number.page in
     let start : c.into_iter-number-iterator.result ≡ entries = c.into_iter-number-iterator.ensures.into_iter_gives.0 in
     let end = iter_end deref_pair entries c.loop-number.yielded c.into_iter-number-iterator.result _ _ _ start c.loop-number.yielded_by
-      c.in-None.is c.next.ensures.steps in
-    let held = so_far.put bytes told in
-    (
+    c.in-None.is c.next.ensures.steps in
+    let held = so_far.put bytes told in (
       overlaid page.at page.bytes held.0,
       told_written (overlaid page.at page.bytes) _ _ held.0 held.1 c.in_ok-flush.ensures.written,
       subst (λ (n : ℕ). NumbersPut (plain entries) n c.args.at bytes (overlaid page.at page.bytes held.0)) end.1
-      (held_last (plain entries) (length c.loop-number.yielded) c.args.at page.at page.filled page.bytes bytes held.0 held.2 (omega (arith, so_far.room))),
+          (held_last (plain entries) (length c.loop-number.yielded) c.args.at page.at page.filled page.bytes bytes held.0 held.2 (omega (arith, so_far.room))),
     )

@@ -18,7 +18,7 @@ write_at-requires g c =
     let yielded = c.loop-page.yielded in
     let start : c.into_iter-page-iterator.result ≡ entries = c.into_iter-page-iterator.ensures.into_iter_gives.0 in
     let turn = iter_turn deref_pair entries yielded c.into_iter-page-iterator.result _ _ _ start c.loop-page.yielded_by
-      (c.in-Some.field-0-0, c.in-Some.page) c.in-Some.is c.next.ensures.steps in
+    (c.in-Some.field-0-0, c.in-Some.page) c.in-Some.is c.next.ensures.steps in
     let here = page_at-plain entries (length yielded) c.in-Some.field-0-0.now c.in-Some.page.now turn.1 in
     let size : length c.as_slice.result.now ≡ 4096 =
     ap length (c.as_slice.ensures.value ∙ sym here) ∙ c.requires.sized (length yielded) turn.0 in
@@ -42,7 +42,7 @@ loop-page-preserved g c =
     let yielded = c.loop-page.yielded in
     let start : c.into_iter-page-iterator.result ≡ entries = c.into_iter-page-iterator.ensures.into_iter_gives.0 in
     let turn = iter_turn deref_pair entries yielded c.into_iter-page-iterator.result _ _ _ start c.loop-page.yielded_by
-      (c.in-Some.field-0-0, c.in-Some.page) c.in-Some.is c.next.ensures.steps in
+    (c.in-Some.field-0-0, c.in-Some.page) c.in-Some.is c.next.ensures.steps in
     let here = page_at-plain entries (length yielded) c.in-Some.field-0-0.now c.in-Some.page.now turn.1 in
     let is : c.as_slice.result.now ≡ page_at (plain entries) (length yielded) = c.as_slice.ensures.value ∙ sym here in
     let size : length c.as_slice.result.now ≡ 4096 = ap length is ∙ c.requires.sized (length yielded) turn.0 in
@@ -53,16 +53,15 @@ loop-page-preserved g c =
       finite = tt;
       place = omega (arith, so_far.place, more);
       put = λ bytes told.
-          let now = so_far.put bytes told in
-          (
+          let now = so_far.put bytes told in (
             overlaid next c.as_slice.result.now now.0,
             told_written (overlaid next c.as_slice.result.now) _ _ now.0 now.1 c.in_ok-write_at.ensures.written,
             subst (λ (n : ℕ). PagesPut (plain entries) n c.args.at bytes (overlaid next c.as_slice.result.now now.0)) (sym more)
-            (bodies_more (plain entries) (length yielded) c.args.at next c.as_slice.result.now bytes now.0 now.2 so_far.place is size),
+                (bodies_more (plain entries) (length yielded) c.args.at next c.as_slice.result.now bytes now.0 now.2 so_far.place is size),
           );
       crash = λ low base le within.
           goes_write (BesideJournal low) base next (length c.as_slice.result.now) _ _ _ (so_far.crash low base le within) c.write_at.ensures.time c.write_at.ensures.crash
-            (λ i keeps. let below = keeps.1 in inl (omega (arith, below, le, so_far.place)));
+          (λ i keeps. let below = keeps.1 in inl (omega (arith, below, le, so_far.place)));
       reads = c.write_at.ensures.reads ∙ so_far.reads;
       later = omega (arith, so_far.later, c.write_at.ensures.cause.later);
     }
@@ -72,6 +71,6 @@ returns-clause-put g c = λ bytes told.
     let entries = c.args.pages.now.entries in
     let start : c.into_iter-page-iterator.result ≡ entries = c.into_iter-page-iterator.ensures.into_iter_gives.0 in
     let end = iter_end deref_pair entries c.loop-page.yielded c.into_iter-page-iterator.result _ _ _ start c.loop-page.yielded_by
-      c.in-None.is c.next.ensures.steps in
+    c.in-None.is c.next.ensures.steps in
     let now = c.loop-page.invariant.put bytes told in
     (now.0, now.1, subst (λ (n : ℕ). PagesPut (plain entries) n c.args.at bytes now.0) end.1 now.2)

@@ -18,7 +18,7 @@ overflow_mul-number g c =
     let yielded = c.loop-number.yielded in
     let start : c.into_iter-number-iterator.result ≡ entries = c.into_iter-number-iterator.ensures.into_iter_gives.0 in
     let turn = iter_turn deref_pair entries yielded c.into_iter-number-iterator.result _ _ _ start c.loop-number.yielded_by
-      (c.in-Some.number, c.in-Some.page) c.in-Some.is c.next.ensures.steps in
+    (c.in-Some.number, c.in-Some.page) c.in-Some.is c.next.ensures.steps in
     let here = number_at-plain entries (length yielded) c.in-Some.number.now c.in-Some.page.now turn.1 in
     let room = c.requires.room (length yielded) turn.0 in
     let small : c.in-Some.number.now * 4096 < 2 ^ 64 = omega (arith, here, room) in
@@ -30,7 +30,7 @@ write_at-requires g c =
     let yielded = c.loop-number.yielded in
     let start : c.into_iter-number-iterator.result ≡ entries = c.into_iter-number-iterator.ensures.into_iter_gives.0 in
     let turn = iter_turn deref_pair entries yielded c.into_iter-number-iterator.result _ _ _ start c.loop-number.yielded_by
-      (c.in-Some.number, c.in-Some.page) c.in-Some.is c.next.ensures.steps in
+    (c.in-Some.number, c.in-Some.page) c.in-Some.is c.next.ensures.steps in
     let here = number_at-plain entries (length yielded) c.in-Some.number.now c.in-Some.page.now turn.1 in
     let same = page_at-plain entries (length yielded) c.in-Some.number.now c.in-Some.page.now turn.1 in
     let size : length c.as_slice.result.now ≡ 4096 =
@@ -55,7 +55,7 @@ loop-number-preserved g c =
     let yielded = c.loop-number.yielded in
     let start : c.into_iter-number-iterator.result ≡ entries = c.into_iter-number-iterator.ensures.into_iter_gives.0 in
     let turn = iter_turn deref_pair entries yielded c.into_iter-number-iterator.result _ _ _ start c.loop-number.yielded_by
-      (c.in-Some.number, c.in-Some.page) c.in-Some.is c.next.ensures.steps in
+    (c.in-Some.number, c.in-Some.page) c.in-Some.is c.next.ensures.steps in
     let here = number_at-plain entries (length yielded) c.in-Some.number.now c.in-Some.page.now turn.1 in
     let same = page_at-plain entries (length yielded) c.in-Some.number.now c.in-Some.page.now turn.1 in
     let is : c.as_slice.result.now ≡ page_at (plain entries) (length yielded) = c.as_slice.ensures.value ∙ sym same in
@@ -68,18 +68,17 @@ loop-number-preserved g c =
       can = tt;
       finite = tt;
       put = λ bytes told.
-          let now = so_far.put bytes told in
-          (
+          let now = so_far.put bytes told in (
             overlaid at c.as_slice.result.now now.0,
             told_written (overlaid at c.as_slice.result.now) _ _ now.0 now.1 c.in_ok-write_at.ensures.written,
             subst (λ (n : ℕ). HomePut (number_at (plain entries)) (page_at (plain entries)) n bytes (overlaid at c.as_slice.result.now now.0)) (sym more)
-            (home_more (number_at (plain entries)) (page_at (plain entries)) (length yielded) at c.as_slice.result.now bytes now.0 now.2
-              (λ place below. c.requires.rises place (length yielded) below inside) at-is is size),
+                (home_more (number_at (plain entries)) (page_at (plain entries)) (length yielded) at c.as_slice.result.now bytes now.0 now.2
+                (λ place below. c.requires.rises place (length yielded) below inside) at-is is size),
           );
       crash = λ base within.
           goes_write (BesidePages (length entries) (number_at (plain entries))) base at (length c.as_slice.result.now) _ _ _ (so_far.crash base within)
-            c.write_at.ensures.time c.write_at.ensures.crash
-            (beside_page (length entries) (number_at (plain entries)) (length yielded) at (length c.as_slice.result.now) inside at-is size);
+          c.write_at.ensures.time c.write_at.ensures.crash
+          (beside_page (length entries) (number_at (plain entries)) (length yielded) at (length c.as_slice.result.now) inside at-is size);
       reads = c.write_at.ensures.reads ∙ so_far.reads;
       later = omega (arith, so_far.later, c.write_at.ensures.cause.later);
     }
@@ -91,7 +90,7 @@ returns-in_err-write_at-clause-crash g c = λ base within.
     let yielded = c.loop-number.yielded in
     let start : c.into_iter-number-iterator.result ≡ entries = c.into_iter-number-iterator.ensures.into_iter_gives.0 in
     let turn = iter_turn deref_pair entries yielded c.into_iter-number-iterator.result _ _ _ start c.loop-number.yielded_by
-      (c.in-Some.number, c.in-Some.page) c.in-Some.is c.next.ensures.steps in
+    (c.in-Some.number, c.in-Some.page) c.in-Some.is c.next.ensures.steps in
     let here = number_at-plain entries (length yielded) c.in-Some.number.now c.in-Some.page.now turn.1 in
     let same = page_at-plain entries (length yielded) c.in-Some.number.now c.in-Some.page.now turn.1 in
     let is : c.as_slice.result.now ≡ page_at (plain entries) (length yielded) = c.as_slice.ensures.value ∙ sym same in
@@ -99,8 +98,8 @@ returns-in_err-write_at-clause-crash g c = λ base within.
     let at = c.in-Some.number.now * 4096 in
     let at-is : at ≡ 4096 * number_at (plain entries) (length yielded) = omega (arith, here) in
     goes_write (BesidePages (length entries) (number_at (plain entries))) base at (length c.as_slice.result.now) _ _ _ (so_far.crash base within)
-      c.write_at.ensures.time c.write_at.ensures.crash
-      (beside_page (length entries) (number_at (plain entries)) (length yielded) at (length c.as_slice.result.now) turn.0 at-is size)
+    c.write_at.ensures.time c.write_at.ensures.crash
+    (beside_page (length entries) (number_at (plain entries)) (length yielded) at (length c.as_slice.result.now) turn.0 at-is size)
 
 pub returns-in_err-sync-clause-crash : goal.returns-in_err-sync-clause-crash
 returns-in_err-sync-clause-crash g c = λ base within.
@@ -117,9 +116,10 @@ returns-clause-put g c = λ bytes told.
     let entries = c.args.pages.now.entries in
     let start : c.into_iter-number-iterator.result ≡ entries = c.into_iter-number-iterator.ensures.into_iter_gives.0 in
     let end = iter_end deref_pair entries c.loop-number.yielded c.into_iter-number-iterator.result _ _ _ start c.loop-number.yielded_by
-      c.in-None.is c.next.ensures.steps in
-    let now = c.loop-number.invariant.put bytes told in
-    (
-      now.0, c.sync.ensures.content ∙ now.1, c.in_ok-sync.ensures.durable now.0 now.1,
+    c.in-None.is c.next.ensures.steps in
+    let now = c.loop-number.invariant.put bytes told in (
+      now.0,
+      c.sync.ensures.content ∙ now.1,
+      c.in_ok-sync.ensures.durable now.0 now.1,
       subst (λ (n : ℕ). HomePut (number_at (plain entries)) (page_at (plain entries)) n bytes now.0) end.1 now.2,
     )

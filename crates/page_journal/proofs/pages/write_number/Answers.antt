@@ -10,8 +10,7 @@ pub returns-clause-put : goal.returns-clause-put
 returns-clause-put g c = λ bytes told.
     let at = c.args.at in
     let value = c.args.value in
-    let spelled : c.to_le_bytes.result ≡ to_le_bytes w64 value = c.to_le_bytes.ensures in
-    (
+    let spelled : c.to_le_bytes.result ≡ to_le_bytes w64 value = c.to_le_bytes.ensures in (
       overlaid at c.to_le_bytes.result bytes,
       told_written (overlaid at c.to_le_bytes.result) _ _ bytes told c.in_ok-write_at.ensures.written,
       subst (λ (l : List ℕ). NumberPut at value bytes (overlaid at l bytes)) (sym spelled) (number_is_put at value bytes (omega (arith, c.ranges.value.fits))),

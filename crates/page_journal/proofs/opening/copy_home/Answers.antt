@@ -1,0 +1,99 @@
+use Rattle.std.proofs.Common.{◌≡◌, ℕ, ◌+◌, ◌*◌, ◌<◌, ◌≤◌, List, length, min, ap, sym, ◌∙◌, subst, refl, arith, rules}
+use Rattle.outside.specs.Disk.{Tells, overlaid}
+use Rattle.page_journal.specs.Crash.{BesidePages, Goes, Spares}
+use Rattle.page_journal.specs.Pages.{entry, body_at, number_pages, page_from}
+use Rattle.page_journal.specs.Written.{HomePut}
+use Rattle.page_journal.proofs.Bytes.{page_long}
+use Rattle.page_journal.proofs.Finishing.{bodies_of, number_fits, copy_to, body_fits, copied_body, rises_to}
+use Rattle.page_journal.proofs.Moments.{started, goes_stays, goes_quiet}
+use Rattle.page_journal.proofs.Parts.{home_none, home_more, beside_page}
+use Rattle.page_journal.proofs.Places.{goes_write}
+use Rattle.page_journal.proofs.opening.copy_home.Goals as goal
+
+pub loop-place-init : goal.loop-place-init
+loop-place-init g c = record {
+  put = λ bytes told well first-is count-is. (bytes, told, home_none (entry bytes) (bodies_of bytes) bytes);
+  crash = λ bytes told well first-is count-is within. started (Spares (BesidePages c.args.count (entry bytes)) bytes) _ within;
+  later = omega arith;
+}
+
+pub loop-place-preserved : goal.loop-place-preserved
+loop-place-preserved g c = record {
+  put = λ bytes told well first-is count-is.
+      let first = c.args.first in
+      let count = c.args.count in
+      let place = c.loop-place.place in
+      let inside : place < count = c.loop-place-test.true in
+      let left = c.loop-place.invariant.put bytes told well first-is count-is in
+      let value = c.in_ok-number.number in
+      let is = c.in_ok-number.ensures.value left.0 left.1 (number_fits bytes first count first-is count-is well place left.0 inside left.2) in
+      let to = c.min.result * 4096 in
+      let to-is : to ≡ 4096 * entry bytes place =
+      ap (λ (n : ℕ). n * 4096) c.min.ensures ∙ copy_to bytes first count first-is count-is well place value left.0 inside left.2 is in
+      let from = (first + c.number_page_count.result) * 4096 + 4096 * place in
+      let from-is : from ≡ 4096 * (first + number_pages count + place) = omega (arith, c.number_page_count.ensures) in
+      let fits = body_fits bytes first count first-is count-is well place from left.0 inside left.2 from-is in
+      let page = page_from left.0 from in
+      (
+        overlaid to page left.0,
+        c.in_ok-copy_page.ensures.put left.0 (c.read_number.ensures.stays.content ∙ left.1) fits,
+        home_more (entry bytes) (bodies_of bytes) place to page bytes left.0 left.2
+        (rises_to bytes first count first-is count-is well place inside) to-is
+        (copied_body bytes first count first-is count-is well place from left.0 inside left.2 from-is) (page_long left.0 from fits),
+      );
+  crash = λ bytes told well first-is count-is within.
+      let first = c.args.first in
+      let count = c.args.count in
+      let place = c.loop-place.place in
+      let inside : place < count = c.loop-place-test.true in
+      let left = c.loop-place.invariant.put bytes told well first-is count-is in
+      let value = c.in_ok-number.number in
+      let is = c.in_ok-number.ensures.value left.0 left.1 (number_fits bytes first count first-is count-is well place left.0 inside left.2) in
+      let to = c.min.result * 4096 in
+      let to-is : to ≡ 4096 * entry bytes place =
+      ap (λ (n : ℕ). n * 4096) c.min.ensures ∙ copy_to bytes first count first-is count-is well place value left.0 inside left.2 is in
+      goes_write (BesidePages count (entry bytes)) bytes to 4096 _ _ _
+      (goes_stays (Spares (BesidePages count (entry bytes)) bytes) _ _ _ (c.loop-place.invariant.crash bytes told well first-is count-is within) c.read_number.ensures.stays)
+      c.copy_page.ensures.time c.copy_page.ensures.torn (beside_page count (entry bytes) place to 4096 inside to-is refl);
+  later = omega (arith, c.loop-place.invariant.later, c.read_number.ensures.cause.later, c.copy_page.ensures.cause.later);
+}
+
+pub returns-in_err-number-clause-crash : goal.returns-in_err-number-clause-crash
+returns-in_err-number-clause-crash g c = λ bytes told well first-is count-is within.
+    goes_stays (Spares (BesidePages c.args.count (entry bytes)) bytes) _ _ _
+    (c.loop-place.invariant.crash bytes told well first-is count-is within) c.read_number.ensures.stays
+
+pub returns-in_err-copy_page-clause-crash : goal.returns-in_err-copy_page-clause-crash
+returns-in_err-copy_page-clause-crash g c = λ bytes told well first-is count-is within.
+    let first = c.args.first in
+    let count = c.args.count in
+    let place = c.loop-place.place in
+    let inside : place < count = c.loop-place-test.true in
+    let left = c.loop-place.invariant.put bytes told well first-is count-is in
+    let value = c.in_ok-number.number in
+    let is = c.in_ok-number.ensures.value left.0 left.1 (number_fits bytes first count first-is count-is well place left.0 inside left.2) in
+    let to = c.min.result * 4096 in
+    let to-is : to ≡ 4096 * entry bytes place =
+    ap (λ (n : ℕ). n * 4096) c.min.ensures ∙ copy_to bytes first count first-is count-is well place value left.0 inside left.2 is in
+    goes_write (BesidePages count (entry bytes)) bytes to 4096 _ _ _
+    (goes_stays (Spares (BesidePages count (entry bytes)) bytes) _ _ _ (c.loop-place.invariant.crash bytes told well first-is count-is within) c.read_number.ensures.stays)
+    c.copy_page.ensures.time c.copy_page.ensures.torn (beside_page count (entry bytes) place to 4096 inside to-is refl)
+
+pub returns-in_err-sync-clause-crash : goal.returns-in_err-sync-clause-crash
+returns-in_err-sync-clause-crash g c = λ bytes told well first-is count-is within.
+    goes_quiet (Spares (BesidePages c.args.count (entry bytes)) bytes) _ _ _
+    (c.loop-place.invariant.crash bytes told well first-is count-is within) c.sync.ensures.time c.sync.ensures.crash
+
+pub returns-clause-crash : goal.returns-clause-crash
+returns-clause-crash g c = λ bytes told well first-is count-is within.
+    goes_quiet (Spares (BesidePages c.args.count (entry bytes)) bytes) _ _ _
+    (c.loop-place.invariant.crash bytes told well first-is count-is within) c.sync.ensures.time c.sync.ensures.crash
+
+pub returns-clause-put : goal.returns-clause-put
+returns-clause-put g c = λ bytes told well first-is count-is.
+    let left = c.loop-place.invariant.put bytes told well first-is count-is in
+    let end : c.loop-place.place ≡ c.args.count = omega (arith, c.loop-place-test.false) in
+    (
+      left.0, c.sync.ensures.content ∙ left.1, c.in_ok-sync.ensures.durable left.0 left.1,
+      subst (λ (n : ℕ). HomePut (entry bytes) (bodies_of bytes) n bytes left.0) end left.2,
+    )

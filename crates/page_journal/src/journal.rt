@@ -1,0 +1,167 @@
+//! The home pages of an open store.
+ghost use Rattle.std.specs.Prelude.{◌≡◌, ◌⊎◌, ◌+◌, ◌*◌, ◌^◌, ◌<◌, ◌≤◌, ◌||◌, List, ℕ, false, length, option_map, is_ok, MatchResult, Ok, Err, IfOk, OnOk, IsErr, if◌then◌else◌};
+ghost use Rattle.osm_base.specs.Limits.{IsWithinStandard};
+ghost use Rattle.outside.specs.Calls.{one_more};
+ghost use Rattle.outside.specs.Disk.{Tells};
+ghost use Rattle.page_journal.specs.Answers.{Commits, HasDiskCause, Opens, Reads, ReadsFrom, answers_disk_fault};
+ghost use Rattle.page_journal.specs.Crash.{AllHome, Goes, IsLikeOne, IsSettled, Stays};
+ghost use Rattle.page_journal.specs.Home.{Home};
+ghost use Rattle.page_journal.specs.PageSet.{CanCommit, overwritten};
+ghost use Rattle.page_journal.specs.Pages.{page_from};
+
+use crate::committing::write_through;
+use crate::layout::{PAGE, PAGE_LEN};
+use crate::opening::open;
+use crate::{PageSet, StoreFault};
+use osm_base::Limits;
+use outside::{Disk, Failed};
+
+/// The home pages of an open store, over the disk that it borrows.
+#[derive(Drop)]
+pub struct Journal<'d, D: Disk> {
+    pub disk: &'d mut D,
+    pages: u64,
+    limit: u64,
+    broken: bool,
+    ghost some: { 2 ≤ pages },
+    ghost small: { 4096 * pages ≤ 2 ^ 62 },
+    ghost limited: { limit ≤ 2 ^ 28 },
+}
+
+impl<'d, D: Disk> Journal<'d, D> {
+    ghost use Rattle.page_journal.specs.Journal.{home_count, page_limit, is_broken};
+
+    /// Opens the store on this disk. It is the call of `open`, which says what a refusal leaves on the
+    /// disk, and then `over`.
+    pub fn attach(disk: &'d mut D, limits: &Limits) -> Result<Self, StoreFault>
+        requires { IsWithinStandard limits.now }
+        ensures same_disk { IfOk result (λ journal. journal.disk.ghost_name ≡ disk.entry.ghost_name) }
+        ensures answers { (bytes : List ℕ) → Tells (D.view disk.entry.now) bytes
+            → MatchResult result (λ journal. Opens bytes (Ok (home_count journal))) (λ fault. Opens bytes (Err fault)) }
+        ensures done { IfOk result (λ journal. (bytes : List ℕ) → Tells (D.view disk.entry.now) bytes
+            → (pages : List (List ℕ)) × Home pages bytes × (length pages + 1 ≡ home_count journal)
+            × ((now : List ℕ) × IsSettled pages now (D.view journal.disk.now))) }
+        ensures any_moment { IfOk result (λ journal. (bytes : List ℕ) → Tells (D.view disk.entry.now) bytes
+            → AllHome (D.view disk.entry.now).crashes
+            → Goes (IsLikeOne (D.view disk.entry.now).crashes) (D.view disk.entry.now).crashes (D.view journal.disk.now).crashes) }
+        ensures limit { IfOk result (λ journal. page_limit journal ≡ limits.now.pages) }
+        ensures whole { IfOk result (λ journal. is_broken journal ≡ false) }
+    {
+        match open(disk) {
+            Ok(pages) => Ok(Self::over(disk, pages, limits)),
+            Err(fault) => Err(fault),
+        }
+    }
+
+    /// The journal of a disk that `open` has opened, which answered so many home pages.
+    pub fn over(disk: &'d mut D, pages: u64, limits: &Limits) -> Self
+        requires limits { IsWithinStandard limits.now }
+        requires some { 2 ≤ pages }
+        requires small { 4096 * pages ≤ 2 ^ 62 }
+        ensures same_disk { result.disk.ghost_name ≡ disk.entry.ghost_name }
+        ensures disk { result.disk.now ≡ disk.entry.now }
+        ensures pages { home_count result ≡ pages }
+        ensures limit { page_limit result ≡ limits.now.pages }
+        ensures whole { is_broken result ≡ false }
+    {
+        Journal {
+            disk,
+            pages,
+            limit: limits.pages,
+            broken: false,
+        }
+    }
+
+    /// Hands the disk back.
+    pub fn close(self) -> &'d mut D
+        ensures same_disk { result.ghost_name ≡ self.entry.disk.ghost_name }
+        ensures disk { result.now ≡ self.entry.disk.now }
+    {
+        let Journal {
+            disk,
+            pages: _,
+            limit: _,
+            broken: _,
+        } = self;
+        disk
+    }
+
+    /// How many home pages there are, page 0 among them.
+    pub fn pages(&self) -> u64
+        ensures pages { result ≡ home_count self.now }
+        ensures some { 2 ≤ result }
+    {
+        self.pages
+    }
+
+    /// Reads a home page. A page in which the disk ends is refused.
+    #[tactic(auto, using(crate::proofs::Moments::looks))]
+    pub fn read_page(&mut self, page: u64, buf: &mut [u8; 4096]) -> Result<(), StoreFault>
+        requires { page < home_count self.old }
+        ensures page { OnOk result ((bytes : List ℕ) → Tells (D.view self.old.disk.now) bytes → buf.new ≡ page_from bytes (4096 * page)) }
+        ensures answers { Reads (is_broken self.old) page result }
+        ensures bounds { (bytes : List ℕ) → Tells (D.view self.old.disk.now) bytes → ReadsFrom bytes page result }
+        ensures stays { Stays (D.view self.old.disk.now) (D.view self.new.disk.now) }
+        ensures reads { (D.view self.new.disk.now).reads ≡ (if is_broken self.old then (D.view self.old.disk.now).reads
+            else option_map one_more (D.view self.old.disk.now).reads) }
+        ensures pages { home_count self.new ≡ home_count self.old }
+        ensures limit { page_limit self.new ≡ page_limit self.old }
+        ensures broken { is_broken self.new ≡ (is_broken self.old || answers_disk_fault result) }
+        ensures same_disk { self.new.disk.ghost_name ≡ self.old.disk.ghost_name }
+        ensures cause { HasDiskCause (D.view self.old.disk.now).faults (D.view self.new.disk.now).faults result }
+    {
+        if self.broken {
+            return Err(StoreFault::Broken);
+        }
+        match self.disk.read_at(page * PAGE_LEN, buf.as_mut_slice()) {
+            Ok(count) => {
+                if count < PAGE {
+                    return Err(StoreFault::BadStore { page });
+                }
+                Ok(())
+            }
+            Err(Failed) => {
+                self.broken = true;
+                Err(StoreFault::DiskFault)
+            }
+        }
+    }
+
+    /// Writes the pages of the set over the home pages, of which there are `home` from then on. At every
+    /// moment a crash leaves the old home pages or the new ones, and after `Ok` the new ones alone.
+    pub fn commit(&mut self, set: &PageSet, home: u64) -> Result<(), StoreFault>
+        requires { CanCommit set.now (home_count self.old) home }
+        ensures answers { Commits (is_broken self.old) (page_limit self.old) home result }
+        ensures any_moment { (old : List (List ℕ)) (bytes : List ℕ) → IsSettled old bytes (D.view self.old.disk.now)
+            → length old + 1 ≡ home_count self.old
+            → Goes (λ left. Home old left ⊎ Home (overwritten set.now home old) left)
+                (D.view self.old.disk.now).crashes (D.view self.new.disk.now).crashes }
+        ensures done { OnOk result ((old : List (List ℕ)) (bytes : List ℕ) → IsSettled old bytes (D.view self.old.disk.now)
+            → length old + 1 ≡ home_count self.old
+            → (now : List ℕ) × IsSettled (overwritten set.now home old) now (D.view self.new.disk.now)) }
+        ensures untouched { IsErr result → answers_disk_fault result ≡ false → self.new.disk.now ≡ self.old.disk.now }
+        ensures reads { (D.view self.new.disk.now).reads ≡ (D.view self.old.disk.now).reads }
+        ensures pages { home_count self.new ≡ (if is_ok result then home else home_count self.old) }
+        ensures limit { page_limit self.new ≡ page_limit self.old }
+        ensures broken { is_broken self.new ≡ (is_broken self.old || answers_disk_fault result) }
+        ensures same_disk { self.new.disk.ghost_name ≡ self.old.disk.ghost_name }
+        ensures cause { HasDiskCause (D.view self.old.disk.now).faults (D.view self.new.disk.now).faults result }
+    {
+        if self.broken {
+            return Err(StoreFault::Broken);
+        }
+        if home > self.limit {
+            return Err(StoreFault::StoreFull { pages: home });
+        }
+        match write_through(self.disk, &set.pages, home) {
+            Ok(()) => {
+                self.pages = home;
+                Ok(())
+            }
+            Err(Failed) => {
+                self.broken = true;
+                Err(StoreFault::DiskFault)
+            }
+        }
+    }
+}

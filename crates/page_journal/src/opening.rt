@@ -1,0 +1,236 @@
+//! A store is opened: a journal that a crash has left open is finished.
+ghost use Rattle.std.specs.Prelude.{◌≡◌, ◌≢◌, ◌⊎◌, ◌↔◌, ◌+◌, ◌*◌, ◌^◌, ◌<◌, ◌≤◌, List, ℕ, length, IfOk, IfSome, OnOk, IsErrOf, IsTrue};
+ghost use Rattle.outside.specs.Causes.{HasCause};
+ghost use Rattle.outside.specs.Disk.{Elapses, Follows, Only, Tells, Torn, overlaid};
+ghost use Rattle.page_journal.specs.Answers.{Counts, Finishes, HasDiskCause, Looks, Opens, Prepares};
+ghost use Rattle.page_journal.specs.Crash.{AllHome, BesidePages, Goes, IsLikeOne, IsSettled, Spares, Stays, Within};
+ghost use Rattle.page_journal.specs.Home.{AreRising, Home, IsFormatted, IsWellFormed};
+ghost use Rattle.page_journal.specs.Pages.{body_at, entry, first_page, gate, number_pages, page_count, page_from};
+ghost use Rattle.page_journal.specs.Written.{Finished, HomePut};
+ghost use Rattle.page_journal.specs.declared.fault.StoreFault.TheVariants.{NotFormatted};
+ghost use Rattle.page_journal.specs.declared.layout.TheConstants.{OPEN};
+
+use crate::StoreFault;
+use crate::layout::{COUNT_AT, FIRST_AT, MARK, OPEN, PAGE, PAGE_LEN, ROOT_AT, SHUT, number_page_count};
+use crate::pages::set_gate;
+use crate::reading::{read_gate, read_number};
+use outside::{Disk, Failed};
+
+/// Opens a store, and answers how many home pages it has, page 0 among them. A journal that was left
+/// open is finished. It begins with a sync, so that nothing older is pending from then on.
+pub fn open<D: Disk>(disk: &mut D) -> Result<u64, StoreFault>
+    ensures answers { (bytes : List ℕ) → Tells (D.view disk.old) bytes → Opens bytes result }
+    ensures done { IfOk result (λ home. (bytes : List ℕ) → Tells (D.view disk.old) bytes
+        → (pages : List (List ℕ)) × Home pages bytes × (length pages + 1 ≡ home)
+        × ((now : List ℕ) × IsSettled pages now (D.view disk.new))) }
+
+    // Each outcome of a crash during the call has the home pages of one at its entry.
+    ensures any_moment { (bytes : List ℕ) → Tells (D.view disk.old) bytes → AllHome (D.view disk.old).crashes
+        → Goes (IsLikeOne (D.view disk.old).crashes) (D.view disk.old).crashes (D.view disk.new).crashes }
+    ensures unchanged { IsErrOf result NotFormatted → (D.view disk.new).content ≡ (D.view disk.old).content }
+    ensures small { IfOk result (λ home. (2 ≤ home) × (4096 * home ≤ 2 ^ 62)) }
+    ensures cause { HasDiskCause (D.view disk.old).faults (D.view disk.new).faults result }
+{
+    let len = match prepare(disk) {
+        Ok(len) => len,
+        Err(fault) => return Err(fault),
+    };
+    match finish(disk, len) {
+        Ok(()) => {}
+        Err(fault) => return Err(fault),
+    }
+    match count_home(disk, len) {
+        Ok(home) => Ok(home),
+        Err(fault) => Err(fault),
+    }
+}
+
+// Syncs the disk, and answers how long it is. What does not begin as a store is refused.
+#[tactic(auto, using(crate::proofs::Moments::looks))]
+fn prepare<D: Disk>(disk: &mut D) -> Result<u64, StoreFault>
+    ensures answers { (bytes : List ℕ) → Tells (D.view disk.old) bytes → Prepares bytes result }
+    ensures durable { OnOk result ((bytes : List ℕ) → Tells (D.view disk.old) bytes → Only bytes (D.view disk.new).crashes) }
+    ensures small { IfOk result (λ len. len ≤ 2 ^ 62) }
+    ensures stays { Stays (D.view disk.old) (D.view disk.new) }
+    ensures cause { HasDiskCause (D.view disk.old).faults (D.view disk.new).faults result }
+{
+    disk.sync()?;
+    let len = disk.len()?;
+    if len < 2 * PAGE_LEN {
+        return Err(StoreFault::NotFormatted);
+    }
+    let mark = read_number(disk, 0)?;
+    if mark != MARK {
+        return Err(StoreFault::NotFormatted);
+    }
+    Ok(len)
+}
+
+// How many home pages there are, where no journal is open.
+#[tactic(auto, using(crate::proofs::Moments::looks))]
+fn count_home<D: Disk>(disk: &mut D, len: u64) -> Result<u64, StoreFault>
+    requires { len ≤ 2 ^ 62 }
+    ensures answers { (bytes : List ℕ) → Tells (D.view disk.old) bytes → 8192 ≤ length bytes → Counts bytes len result }
+    ensures small { IfOk result (λ home. (2 ≤ home) × (4096 * home ≤ len)) }
+    ensures stays { Stays (D.view disk.old) (D.view disk.new) }
+    ensures formatted { IsErrOf result NotFormatted → ⊥ }
+    ensures cause { HasDiskCause (D.view disk.old).faults (D.view disk.new).faults result }
+{
+    let home = read_number(disk, ROOT_AT)?;
+    if !holds(home, len) {
+        return Err(StoreFault::BadStore { page: 1 });
+    }
+    Ok(home)
+}
+
+// Whether so many bytes hold so many pages, at least two.
+fn holds(home: u64, len: u64) -> bool
+    requires { len ≤ 2 ^ 62 }
+    ensures { IsTrue result ↔ ((2 ≤ home) × (4096 * home ≤ len)) }
+{
+    2 <= home && home <= len / PAGE_LEN
+}
+
+// Finishes the journal, where the gate is open.
+fn finish<D: Disk>(disk: &mut D, len: u64) -> Result<(), StoreFault>
+    requires { len ≤ 2 ^ 62 }
+    ensures answers { (bytes : List ℕ) → Tells (D.view disk.old) bytes → IsFormatted bytes → len ≡ length bytes
+        → Finishes bytes result }
+    ensures done { OnOk result ((bytes : List ℕ) → Tells (D.view disk.old) bytes → Only bytes (D.view disk.old).crashes
+        → IsFormatted bytes → len ≡ length bytes
+        → (now : List ℕ) × Tells (D.view disk.new) now × Only now (D.view disk.new).crashes × Finished bytes now) }
+    ensures any_moment { (bytes : List ℕ) (pages : List (List ℕ)) → Tells (D.view disk.old) bytes
+        → Only bytes (D.view disk.old).crashes → len ≡ length bytes → Home pages bytes
+        → Goes (Home pages) (D.view disk.old).crashes (D.view disk.new).crashes }
+    ensures formatted { IsErrOf result NotFormatted → ⊥ }
+    ensures cause { HasDiskCause (D.view disk.old).faults (D.view disk.new).faults result }
+{
+    match look(disk, len) {
+        Ok(None) => Ok(()),
+        Ok(Some((first, count))) => match copy_and_shut(disk, first, count) {
+            Ok(()) => Ok(()),
+            Err(Failed) => Err(StoreFault::DiskFault),
+        },
+        Err(fault) => Err(fault),
+    }
+}
+
+// The first page of the journal and the number of its pages, where the gate is open.
+#[tactic(auto, using(crate::proofs::Moments::looks))]
+fn look<D: Disk>(disk: &mut D, len: u64) -> Result<Option<(u64, u64)>, StoreFault>
+    requires { len ≤ 2 ^ 62 }
+    ensures answers { (bytes : List ℕ) → Tells (D.view disk.old) bytes → IsFormatted bytes → len ≡ length bytes
+        → Looks bytes result }
+    ensures room { IfOk result (λ found. IfSome found (λ (first, count). 4096 * (first + number_pages count + count) ≤ 2 ^ 62)) }
+    ensures stays { Stays (D.view disk.old) (D.view disk.new) }
+    ensures formatted { IsErrOf result NotFormatted → ⊥ }
+    ensures cause { HasDiskCause (D.view disk.old).faults (D.view disk.new).faults result }
+{
+    let value = read_gate(disk)?;
+    if value != OPEN {
+        return Ok(None);
+    }
+    let first = read_number(disk, FIRST_AT)?;
+    let count = read_number(disk, COUNT_AT)?;
+    if !fits(first, count, len) {
+        return Err(StoreFault::BadStore { page: 0 });
+    }
+    let well = rises(disk, first, count)?;
+    if !well {
+        return Err(StoreFault::BadStore { page: 0 });
+    }
+    Ok(Some((first, count)))
+}
+
+// Whether so many bytes hold a journal of so many pages, at least one, from this page on.
+fn fits(first: u64, count: u64, len: u64) -> bool
+    requires { len ≤ 2 ^ 62 }
+    ensures { IsTrue result ↔ ((1 ≤ count) × (4096 * (first + number_pages count + count) ≤ len)) }
+{
+    let pages = len / PAGE_LEN;
+    if count < 1 || count > pages || first > pages {
+        return false;
+    }
+    first + number_page_count(count) + count <= pages
+}
+
+// Whether the numbers of the journal rise from at least 1 to below its first page.
+#[tactic(auto, using(crate::proofs::Moments::looks))]
+fn rises<D: Disk>(disk: &mut D, first: u64, count: u64) -> Result<bool, Failed>
+    requires { 4096 * (first + number_pages count + count) ≤ 2 ^ 62 }
+    ensures rises { IfOk result (λ yes. (bytes : List ℕ) → Tells (D.view disk.old) bytes
+        → 4096 * (first + number_pages count + count) ≤ length bytes → IsTrue yes ↔ AreRising bytes first count) }
+    ensures stays { Stays (D.view disk.old) (D.view disk.new) }
+    ensures cause { HasCause (D.view disk.old).faults (D.view disk.new).faults result }
+{
+    let mut last = 0;
+    for place in 0..count {
+        let number = read_number(disk, first * PAGE_LEN + 8 * place)?;
+        if !is_next(last, number, first) {
+            return Ok(false);
+        }
+        last = number;
+    }
+    Ok(true)
+}
+
+fn is_next(last: u64, number: u64, first: u64) -> bool
+    ensures { IsTrue result ↔ ((last < number) × (number < first)) }
+{
+    last < number && number < first
+}
+
+// Copies the pages of the journal home, and shuts its gate.
+fn copy_and_shut<D: Disk>(disk: &mut D, first: u64, count: u64) -> Result<(), Failed>
+    requires { 4096 * (first + number_pages count + count) ≤ 2 ^ 62 }
+    ensures done { OnOk result ((bytes : List ℕ) → Tells (D.view disk.old) bytes → IsFormatted bytes → IsWellFormed bytes
+        → gate bytes ≡ OPEN → first ≡ first_page bytes → count ≡ page_count bytes
+        → (now : List ℕ) × Tells (D.view disk.new) now × Only now (D.view disk.new).crashes × Finished bytes now) }
+    ensures any_moment { (bytes : List ℕ) (pages : List (List ℕ)) → Tells (D.view disk.old) bytes
+        → Only bytes (D.view disk.old).crashes → Home pages bytes → gate bytes ≡ OPEN
+        → first ≡ first_page bytes → count ≡ page_count bytes
+        → Goes (Home pages) (D.view disk.old).crashes (D.view disk.new).crashes }
+    ensures cause { HasCause (D.view disk.old).faults (D.view disk.new).faults result }
+{
+    copy_home(disk, first, count)?;
+    set_gate(disk, SHUT)?;
+    Ok(())
+}
+
+// Copies the pages of the journal home, and makes them stable.
+fn copy_home<D: Disk>(disk: &mut D, first: u64, count: u64) -> Result<(), Failed>
+    requires { 4096 * (first + number_pages count + count) ≤ 2 ^ 62 }
+    ensures put { OnOk result ((bytes : List ℕ) → Tells (D.view disk.old) bytes → IsWellFormed bytes
+        → first ≡ first_page bytes → count ≡ page_count bytes
+        → (now : List ℕ) × Tells (D.view disk.new) now × Only now (D.view disk.new).crashes
+        × HomePut (entry bytes) (λ place. page_from bytes (body_at bytes place)) count bytes now) }
+    ensures crash { (bytes : List ℕ) → Tells (D.view disk.old) bytes → IsWellFormed bytes
+        → first ≡ first_page bytes → count ≡ page_count bytes
+        → Within (Spares (BesidePages count (entry bytes)) bytes) (D.view disk.old).crashes
+        → Goes (Spares (BesidePages count (entry bytes)) bytes) (D.view disk.old).crashes (D.view disk.new).crashes }
+    ensures cause { HasCause (D.view disk.old).faults (D.view disk.new).faults result }
+{
+    let bodies = (first + number_page_count(count)) * PAGE_LEN;
+    for place in 0..count {
+        let number = read_number(disk, first * PAGE_LEN + 8 * place)?;
+        copy_page(disk, bodies + PAGE_LEN * place, number.min(first) * PAGE_LEN)?;
+    }
+    disk.sync()?;
+    Ok(())
+}
+
+// Copies one page.
+fn copy_page<D: Disk>(disk: &mut D, from: u64, to: u64) -> Result<(), Failed>
+    requires from { from + 4096 ≤ 2 ^ 62 }
+    requires to { to + 4096 ≤ 2 ^ 62 }
+    ensures put { OnOk result ((bytes : List ℕ) → Tells (D.view disk.old) bytes → from + 4096 ≤ length bytes
+        → Tells (D.view disk.new) (overlaid to (page_from bytes from) bytes)) }
+    ensures torn { Follows (Torn to 4096) (D.view disk.old).crashes (D.view disk.new).crashes }
+    ensures time { Elapses (D.view disk.old).crashes (D.view disk.new).crashes }
+    ensures cause { HasCause (D.view disk.old).faults (D.view disk.new).faults result }
+{
+    let mut page = [0; PAGE];
+    disk.read_at(from, &mut page)?;
+    disk.write_at(to, &page)?;
+    Ok(())
+}
