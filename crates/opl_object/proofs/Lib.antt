@@ -1,10 +1,12 @@
 pub mod Causes
 pub mod Cuts
 pub mod Digits
+pub mod Escaping
 pub mod Letters
 pub mod Passes
 pub mod Pieces
 pub mod Promises
+pub mod Puts
 pub mod Resolving
 pub mod SpelledFields
 pub mod SpelledLines
@@ -14,3 +16,6 @@ pub mod SpelledTags
 pub mod SpelledTexts
 pub mod Steps
 pub mod Units
+pub mod WrittenLines
+pub mod WrittenNumbers
+pub mod WrittenTexts

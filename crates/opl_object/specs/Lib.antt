@@ -1,8 +1,10 @@
 pub mod Coordinate
 pub mod Earth
+pub mod Escapes
 pub mod Fields
 pub mod Letter
 pub mod Line
+pub mod Lists
 pub mod Meaning
 pub mod Members
 pub mod Nodes
@@ -15,3 +17,4 @@ pub mod Spells
 pub mod Tags
 pub mod Text
 pub mod Why
+pub mod Written

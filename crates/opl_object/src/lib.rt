@@ -14,9 +14,11 @@
 #![tactic(auto)]
 
 mod coordinate;
+mod escapes;
 mod fields;
 mod letter;
 mod line;
+mod lists;
 mod members;
 mod nodes;
 mod number;
@@ -24,9 +26,11 @@ mod parts;
 mod tags;
 mod text;
 mod why;
+mod written;
 
 pub use line::{one_meaning, read_line};
 pub use why::{LineRefused, Why};
+pub use written::write_entry;
 
 #[cfg(test)]
 mod tests;

@@ -1,0 +1,12 @@
+use Rattle.std.proofs.Common.{[], ◌∷◌, ◌≤◌, take}
+use Rattle.std.specs.Io.KnownBytes.{Appends}
+use Rattle.std.specs.List.{join_by}
+use Rattle.opl_object.specs.Lists.{node_text}
+use Rattle.opl_object.proofs.lists.put_nodes.Given as goal
+
+-- the items so far were put, and no fault is forgotten
+abbrev pub invariant-loop-index : goal.invariant-loop-index
+invariant-loop-index g l = record {
+  taken : Appends (g.S.Sink.taken l.initial.out) (g.S.Sink.taken l.out) (join_by node_text (44 ∷ []) (take l.index (l.nodes)));
+  later : g.S.Sink.faults l.initial.out ≤ g.S.Sink.faults l.out;
+}

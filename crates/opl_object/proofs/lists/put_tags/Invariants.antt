@@ -1,0 +1,15 @@
+use Rattle.std.proofs.Common.{[], ◌∷◌, ◌≤◌, take}
+use Rattle.std.specs.FinMap as map
+use Rattle.std.specs.Io.KnownBytes.{Appends}
+use Rattle.std.specs.List.{AllByRecursion, join_by}
+use Rattle.opl_object.specs.Escapes.{IsText}
+use Rattle.opl_object.specs.Lists.{tag_text, OfTag}
+use Rattle.opl_object.proofs.lists.put_tags.Given as goal
+
+-- the items so far were put, and no fault is forgotten
+abbrev pub invariant-loop-index : goal.invariant-loop-index
+invariant-loop-index g l = record {
+  taken : Appends (g.S.Sink.taken l.initial.out) (g.S.Sink.taken l.out) (join_by tag_text (44 ∷ []) (take l.index (map.entries l.tags)));
+  later : g.S.Sink.faults l.initial.out ≤ g.S.Sink.faults l.out;
+  each : AllByRecursion (OfTag IsText) (take l.index (map.entries l.tags));
+}
