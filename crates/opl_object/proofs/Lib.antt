@@ -16,6 +16,7 @@ pub mod SpelledTags
 pub mod SpelledTexts
 pub mod Steps
 pub mod Units
+pub mod Writable
 pub mod WrittenLines
 pub mod WrittenNumbers
 pub mod WrittenTexts

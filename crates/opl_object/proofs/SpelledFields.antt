@@ -65,7 +65,7 @@ letter_back-byte_of Nodes = refl
 letter_back-byte_of Members = refl
 
 -- letters of one byte are one
-same_letter : (a b : Letter) → byte_of a ≡ byte_of b → a ≡ b
+pub same_letter : (a b : Letter) → byte_of a ≡ byte_of b → a ≡ b
 same_letter a b e = sym (letter_back-byte_of a) ∙ ap letter_back e ∙ letter_back-byte_of b
 
 also_apart : (stood : Letter → Bool) (letter other : Letter) → also stood letter other ≡ false → (letter ≢ other) × (stood other ≡ false)

@@ -1,10 +1,9 @@
 -- A text as it is written: some characters as they are, all others as escapes.
 -- osmium "OPL File Format": special characters are written as a percent sign, the code point in hexadecimal digits and
 -- a percent sign. This writer leaves only letters, digits and five signs as they are.
-use Rattle.std.specs.Prelude.{ℕ, ◌/◌, ◌%◌, Bool, ◌||◌, ◌==◌, if◌then◌else◌, List, [], ◌∷◌, ◌++◌, drop, flat_map}
+use Rattle.std.specs.Prelude.{◌≡◌, ℕ, ◌/◌, ◌%◌, ◌<◌, Bool, true, ◌||◌, ◌==◌, if◌then◌else◌, List, [], ◌∷◌, ◌++◌, drop, flat_map}
 use Rattle.std.specs.Char.{is_ascii_alphanumeric, digit_char}
 use Rattle.std.specs.List.{prefix_len, AllByRecursion}
-use Rattle.std.specs.Prelude.{◌<◌, ◌≡◌, true}
 use lib.Utf8.{scalars}
 
 -- an ASCII letter or digit, or one of _ - . : /

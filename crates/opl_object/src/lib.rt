@@ -34,3 +34,5 @@ pub use written::write_entry;
 
 #[cfg(test)]
 mod tests;
+#[cfg(test)]
+mod written_tests;

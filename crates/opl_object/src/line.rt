@@ -11,6 +11,7 @@ ghost use Rattle.opl_object.specs.Earth.{AreOnEarth};
 ghost use Rattle.opl_object.specs.Fields.{fields_of};
 ghost use Rattle.opl_object.specs.Line.{IsSkipped, is_skipped, utf8_of, key_of, place_of, object_of, entry_of, entry_from, reading};
 ghost use Rattle.opl_object.specs.Why.{Gives, Tells};
+ghost use Rattle.opl_object.specs.Written.{IsWritable};
 
 use crate::fields::next_field;
 use crate::members::kind_at;
@@ -28,6 +29,8 @@ pub fn read_line(alloc: Global, line: &[u8]) -> Result<Option<Entry>, LineRefuse
     // What is read is spelled so, and what is spelled so is read, unless memory ran out.
     ensures spelled { IfOk result (λ found. IfSome found (λ entry. Spells line.now entry)) }
     ensures read { (entry : Entry) → Spells line.now entry → Gives (λ found. found) result (Ok (Some entry)) }
+    // What is read can be written.
+    ensures writable { IfOk result (λ found. IfSome found IsWritable) }
     // The order of lines is no fault of one line.
     ensures in_order { (earlier later : KeyOf) → result ≢ Err (Bad (Order earlier later)) }
 {

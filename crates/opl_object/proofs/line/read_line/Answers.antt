@@ -1,6 +1,7 @@
 use Rattle.std.proofs.Common.{◌∙◌, sym}
 use Rattle.opl_object.proofs.Promises.{found_spells, again_gives, never_order}
 use Rattle.opl_object.proofs.SpelledLines.{skipped_reads}
+use Rattle.opl_object.proofs.Writable.{found_writable}
 use Rattle.opl_object.proofs.line.read_line.Goals as goal
 
 pub returns-then-is_skipped-clause-exact : goal.returns-then-is_skipped-clause-exact
@@ -14,3 +15,6 @@ returns-clause-read c = λ entry s. again_gives c.args.line.now entry c.read_cou
 
 pub returns-clause-in_order : goal.returns-clause-in_order
 returns-clause-in_order c = λ earlier later e. never_order c.args.line.now earlier later c.read_counted.result c.read_counted.ensures.exact e
+
+pub returns-clause-writable : goal.returns-clause-writable
+returns-clause-writable c = found_writable c.args.line.now c.read_counted.result (found_spells c.args.line.now c.read_counted.result c.read_counted.ensures.exact)
