@@ -7,11 +7,7 @@ use osm_base::{Lookup, OutOfMemory, Place, Places};
 use std::alloc::Global;
 
 /// The places of nodes that have one, in order, each that equals the one before it dropped.
-pub fn points_of<L: Lookup>(
-    alloc: Global,
-    lookup: &L,
-    ids: &[u64],
-) -> Result<Places, OutOfMemory>
+pub fn points_of<L: Lookup>(alloc: Global, lookup: &L, ids: &[u64]) -> Result<Places, OutOfMemory>
     ensures points { IfOk result (λ places. places ≡ points (L.known lookup.now).place ids.now) }
 {
     let mut places = places_of(alloc, lookup, ids)?;
@@ -35,11 +31,7 @@ pub fn line_of<L: Lookup>(
 }
 
 /// The places of nodes that have one, in order.
-fn places_of<L: Lookup>(
-    alloc: Global,
-    lookup: &L,
-    ids: &[u64],
-) -> Result<Vec<Place>, OutOfMemory>
+fn places_of<L: Lookup>(alloc: Global, lookup: &L, ids: &[u64]) -> Result<Vec<Place>, OutOfMemory>
     ensures places { IfOk result (λ places. places.items ≡ filter_map (L.known lookup.now).place ids.now) }
 {
     let mut places = Vec::with_capacity(alloc, ids.len())?;

@@ -173,7 +173,7 @@ module _ (bytes : List ℕ) (first count : ℕ) (first-is : first ≡ first_page
       let fits : first * 4096 + 8 * place + 8 ≤ length bytes = omega (arith, long_enough well, inside) in
       let same : value ≡ entry bytes place =
       is ∙ number_spared (BesidePages place (entry bytes)) bytes left (first * 4096 + 8 * place) put.spares fits
-        (λ i from to. read_places well place (omega (arith, inside)) i (omega (arith, from)))
+      (λ i from to. read_places well place (omega (arith, inside)) i (omega (arith, from)))
       ∙ ap (λ (at : ℕ). number bytes at) at-is in
       let below = (numbers well).below place inside in
       omega (arith, same, below)
@@ -215,7 +215,7 @@ module _ (bytes : List ℕ) (first count : ℕ) (first-is : first ≡ first_page
               | inr here ↦
                   page_spared (BesidePages count (entry bytes)) bytes mid (4096 * n) put.spares fits
                   (λ i low high. beside_others count (entry bytes) n i
-                    (λ place inside. here.not_there is_open place (omega (arith, inside, count-is))) low high)
+                  (λ place inside. here.not_there is_open place (omega (arith, inside, count-is))) low high)
                   ∙ sym here.same
             ];
       }
@@ -233,13 +233,16 @@ finished_shut bytes formatted shut = record {
 pub home_page : (bytes : List ℕ) (n : ℕ) → (page : List ℕ) × IsHomePage bytes n page
 home_page bytes n = elim (cases_eq (gate bytes) OPEN) [
   | inl is_open ↦ elim (find_place (entry bytes) n (page_count bytes)) [
-    | inl found ↦ (page_from bytes (body_at bytes found.0), inl (record {
-      is_open = is_open;
-      place = found.0;
-      within = found.1;
-      here = found.2;
-      same = λ i. page_from bytes (body_at bytes found.0);
-    }))
+    | inl found ↦ (
+      page_from bytes (body_at bytes found.0),
+      inl (record {
+        is_open = is_open;
+        place = found.0;
+        within = found.1;
+        here = found.2;
+        same = λ i. page_from bytes (body_at bytes found.0);
+      }),
+    )
     | inr none ↦ (page_from bytes (4096 * n), inr (record { not_there = λ yes. none; same = λ i. page_from bytes (4096 * n) }))
   ]
   | inr shut ↦ (page_from bytes (4096 * n), inr (record { not_there = λ yes. absurd (shut yes); same = λ i. page_from bytes (4096 * n) }))

@@ -143,7 +143,7 @@ module _ (entries : List (ℕ × List ℕ)) (sorted : T (is_sorted nat_cmp entri
         pages = omega arith;
         says =
             ap (λ (l : List ℕ). number l 0) (get_or-up_to page (home - 1) 1 (omega arith) (omega arith)
-              ∙ ap (λ (o : Option (List ℕ)). page_or o (slice_index_or old 0 [])) can.root.1)
+            ∙ ap (λ (o : Option (List ℕ)). page_or o (slice_index_or old 0 [])) can.root.1)
             ∙ can.root.2;
         inside = λ place inside.
             let low = (within place inside).0 in
@@ -156,8 +156,7 @@ module _ (entries : List (ℕ × List ℕ)) (sorted : T (is_sorted nat_cmp entri
             let kept : n < count = elim (cases_lt n count) [
               | inl before ↦ before
               | inr behind ↦ absurd (cc (nothing, can.new n behind (omega (arith, fits, more, above))))
-            ] in
-            (
+            ] in (
               omega (arith, kept, long),
               get_or-up_to page (home - 1) n from fits ∙ ap (λ (o : Option (List ℕ)). page_or o (slice_index_or old (n - 1) [])) nothing,
             );

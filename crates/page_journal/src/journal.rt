@@ -135,7 +135,7 @@ impl<'d, D: Disk> Journal<'d, D> {
         ensures any_moment { (old : List (List ℕ)) (bytes : List ℕ) → IsSettled old bytes (D.view self.old.disk.now)
             → length old + 1 ≡ home_count self.old
             → Goes (λ left. Home old left ⊎ Home (overwritten set.now home old) left)
-                (D.view self.old.disk.now).crashes (D.view self.new.disk.now).crashes }
+            (D.view self.old.disk.now).crashes (D.view self.new.disk.now).crashes }
         ensures done { OnOk result ((old : List (List ℕ)) (bytes : List ℕ) → IsSettled old bytes (D.view self.old.disk.now)
             → length old + 1 ≡ home_count self.old
             → (now : List ℕ) × IsSettled (overwritten set.now home old) now (D.view self.new.disk.now)) }

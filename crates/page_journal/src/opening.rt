@@ -11,7 +11,9 @@ ghost use Rattle.page_journal.specs.declared.fault.StoreFault.TheVariants.{NotFo
 ghost use Rattle.page_journal.specs.declared.layout.TheConstants.{OPEN};
 
 use crate::StoreFault;
-use crate::layout::{COUNT_AT, FIRST_AT, MARK, OPEN, PAGE, PAGE_LEN, ROOT_AT, SHUT, number_page_count};
+use crate::layout::{
+    COUNT_AT, FIRST_AT, MARK, OPEN, PAGE, PAGE_LEN, ROOT_AT, SHUT, number_page_count,
+};
 use crate::pages::set_gate;
 use crate::reading::{read_gate, read_number};
 use outside::{Disk, Failed};
@@ -213,7 +215,11 @@ fn copy_home<D: Disk>(disk: &mut D, first: u64, count: u64) -> Result<(), Failed
     let bodies = (first + number_page_count(count)) * PAGE_LEN;
     for place in 0..count {
         let number = read_number(disk, first * PAGE_LEN + 8 * place)?;
-        copy_page(disk, bodies + PAGE_LEN * place, number.min(first) * PAGE_LEN)?;
+        copy_page(
+            disk,
+            bodies + PAGE_LEN * place,
+            number.min(first) * PAGE_LEN,
+        )?;
     }
     disk.sync()?;
     Ok(())

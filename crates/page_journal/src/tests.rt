@@ -36,7 +36,10 @@ fn an_empty_disk_is_formatted_once(rt: HostRuntime) -> Result<(), Fail> {
     let bytes = disk.bytes();
     assert_eq!(rt; bytes.len(), 8192);
     assert_eq!(rt; &bytes[..8], b"SLIMUPD1".as_slice());
-    assert_eq!(rt; &bytes[4096..4112], b"\x02\0\0\0\0\0\0\0\x01\0\0\0\0\0\0\0".as_slice());
+    assert_eq!(rt;
+        &bytes[4096..4112],
+        b"\x02\0\0\0\0\0\0\0\x01\0\0\0\0\0\0\0".as_slice()
+    );
     assert_eq!(rt; bytes.iter().filter(|byte| **byte != 0).count(), 10);
     assert_eq!(rt; format(&mut disk), Err(StoreFault::NotEmpty));
     Ok(())

@@ -33,13 +33,12 @@ loop-place-preserved g c = record {
       let from = (first + c.number_page_count.result) * 4096 + 4096 * place in
       let from-is : from ≡ 4096 * (first + number_pages count + place) = omega (arith, c.number_page_count.ensures) in
       let fits = body_fits bytes first count first-is count-is well place from left.0 inside left.2 from-is in
-      let page = page_from left.0 from in
-      (
+      let page = page_from left.0 from in (
         overlaid to page left.0,
         c.in_ok-copy_page.ensures.put left.0 (c.read_number.ensures.stays.content ∙ left.1) fits,
         home_more (entry bytes) (bodies_of bytes) place to page bytes left.0 left.2
-        (rises_to bytes first count first-is count-is well place inside) to-is
-        (copied_body bytes first count first-is count-is well place from left.0 inside left.2 from-is) (page_long left.0 from fits),
+            (rises_to bytes first count first-is count-is well place inside) to-is
+            (copied_body bytes first count first-is count-is well place from left.0 inside left.2 from-is) (page_long left.0 from fits),
       );
   crash = λ bytes told well first-is count-is within.
       let first = c.args.first in
@@ -92,8 +91,9 @@ returns-clause-crash g c = λ bytes told well first-is count-is within.
 pub returns-clause-put : goal.returns-clause-put
 returns-clause-put g c = λ bytes told well first-is count-is.
     let left = c.loop-place.invariant.put bytes told well first-is count-is in
-    let end : c.loop-place.place ≡ c.args.count = omega (arith, c.loop-place-test.false) in
-    (
-      left.0, c.sync.ensures.content ∙ left.1, c.in_ok-sync.ensures.durable left.0 left.1,
+    let end : c.loop-place.place ≡ c.args.count = omega (arith, c.loop-place-test.false) in (
+      left.0,
+      c.sync.ensures.content ∙ left.1,
+      c.in_ok-sync.ensures.durable left.0 left.1,
       subst (λ (n : ℕ). HomePut (entry bytes) (bodies_of bytes) n bytes left.0) end left.2,
     )

@@ -19,8 +19,8 @@ returns-in-Err-finish-clause-any_moment g c = λ bytes told all.
     let told1 = c.prepare.ensures.stays.content ∙ told in
     let run1 = goes_weaker v0.crashes.outcomes P v0.crashes v1.crashes c.prepare.ensures.stays.runs (like_itself v0.crashes all) in
     let run2 = goes_then P v0.crashes v1.crashes v2.crashes run1 (goes_weaker (Home pages.0) P v1.crashes v2.crashes
-      (c.finish.ensures.any_moment bytes pages.0 told1 (c.in-Ok.ensures.durable bytes told) ready.1 pages.1)
-      (λ left has. record { one = bytes; among = among; pages = pages.0; had = pages.1; has = has })) in
+    (c.finish.ensures.any_moment bytes pages.0 told1 (c.in-Ok.ensures.durable bytes told) ready.1 pages.1)
+    (λ left has. record { one = bytes; among = among; pages = pages.0; had = pages.1; has = has })) in
     run2
 
 pub returns-in-Ok-count_home-clause-any_moment : goal.returns-in-Ok-count_home-clause-any_moment
@@ -36,8 +36,8 @@ returns-in-Ok-count_home-clause-any_moment g c = λ bytes told all.
     let told1 = c.prepare.ensures.stays.content ∙ told in
     let run1 = goes_weaker v0.crashes.outcomes P v0.crashes v1.crashes c.prepare.ensures.stays.runs (like_itself v0.crashes all) in
     let run2 = goes_then P v0.crashes v1.crashes v2.crashes run1 (goes_weaker (Home pages.0) P v1.crashes v2.crashes
-      (c.finish.ensures.any_moment bytes pages.0 told1 (c.in-Ok.ensures.durable bytes told) ready.1 pages.1)
-      (λ left has. record { one = bytes; among = among; pages = pages.0; had = pages.1; has = has })) in
+    (c.finish.ensures.any_moment bytes pages.0 told1 (c.in-Ok.ensures.durable bytes told) ready.1 pages.1)
+    (λ left has. record { one = bytes; among = among; pages = pages.0; had = pages.1; has = has })) in
     goes_stays P v0.crashes v2 _ run2 c.count_home.ensures.stays
 
 pub returns-in-Err-count_home-clause-any_moment : goal.returns-in-Err-count_home-clause-any_moment
@@ -53,8 +53,8 @@ returns-in-Err-count_home-clause-any_moment g c = λ bytes told all.
     let told1 = c.prepare.ensures.stays.content ∙ told in
     let run1 = goes_weaker v0.crashes.outcomes P v0.crashes v1.crashes c.prepare.ensures.stays.runs (like_itself v0.crashes all) in
     let run2 = goes_then P v0.crashes v1.crashes v2.crashes run1 (goes_weaker (Home pages.0) P v1.crashes v2.crashes
-      (c.finish.ensures.any_moment bytes pages.0 told1 (c.in-Ok.ensures.durable bytes told) ready.1 pages.1)
-      (λ left has. record { one = bytes; among = among; pages = pages.0; had = pages.1; has = has })) in
+    (c.finish.ensures.any_moment bytes pages.0 told1 (c.in-Ok.ensures.durable bytes told) ready.1 pages.1)
+    (λ left has. record { one = bytes; among = among; pages = pages.0; had = pages.1; has = has })) in
     goes_stays P v0.crashes v2 _ run2 c.count_home.ensures.stays
 
 pub returns-in-Ok-count_home-clause-answers : goal.returns-in-Ok-count_home-clause-answers
@@ -80,17 +80,19 @@ returns-in-Ok-count_home-clause-done g c = λ bytes told.
     let long : 8192 ≤ length done.0 = omega (arith, formatted.long, done.3.long) in
     let home = c.in-Ok-count_home.home in
     let counts = c.in-Ok-count_home.ensures.answers done.0 done.1 long in
-    let fits : 4096 * home ≤ length bytes = omega (arith, counts.2, ready.1) in
-    (
+    let fits : 4096 * home ≤ length bytes = omega (arith, counts.2, ready.1) in (
       pages_of bytes home,
       home_before bytes done.0 home can done.3 counts.0 counts.1 fits,
       many bytes done.0 home can done.3 counts.0 counts.1 fits,
-      (done.0, record {
-        told = c.count_home.ensures.stays.content ∙ done.1;
-        only = λ left now. done.2 left (c.count_home.ensures.stays.runs.now left now);
-        shut = done.3.shut;
-        home = home_after bytes done.0 home can done.3 counts.0 counts.1 fits;
-      }),
+      (
+        done.0,
+        record {
+          told = c.count_home.ensures.stays.content ∙ done.1;
+          only = λ left now. done.2 left (c.count_home.ensures.stays.runs.now left now);
+          shut = done.3.shut;
+          home = home_after bytes done.0 home can done.3 counts.0 counts.1 fits;
+        },
+      ),
     )
 
 pub returns-in-Err-count_home-clause-answers : goal.returns-in-Err-count_home-clause-answers
