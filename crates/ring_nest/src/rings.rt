@@ -1,5 +1,5 @@
 //! One ring and one place, and whether a ring holds another one.
-ghost use Rattle.std.specs.Prelude.{◌≡◌};
+ghost use Rattle.std.specs.Prelude.{◌≡◌, true};
 ghost use Rattle.lanes_geo.specs.Crossing.{odd};
 ghost use Rattle.ring_nest.specs.Nesting.{first_off as first_off_ring, holds as holds_ring, lies_on as lies_on_ring};
 
@@ -41,10 +41,37 @@ fn first_off(ring: &[Place], other: &[Place]) -> Option<Place>
     None
 }
 
-/// Whether a ring holds another one.
+/// Whether two places are the same.
+fn is_same_place(one: Place, other: Place) -> bool
+    ensures { result ≡ true → one ≡ other }
+{
+    (one.lon == other.lon) & (one.lat == other.lat)
+}
+
+/// Whether two rings have the same places in the same order.
+fn is_same(one: &[Place], other: &[Place]) -> bool
+    ensures { result ≡ true → one.now ≡ other.now }
+{
+    if one.len() != other.len() {
+        return false;
+    }
+    let mut at = 0;
+    while one.len() - at > 0 {
+        if !is_same_place(one[at], other[at]) {
+            return false;
+        }
+        at += 1;
+    }
+    true
+}
+
+/// Whether a ring holds another one. A ring does not hold itself, since all its places lie on it.
 pub(crate) fn holds(ring: &[Place], other: &[Place]) -> bool
     ensures { result ≡ holds_ring ring.now other.now }
 {
+    if is_same(ring, other) {
+        return false;
+    }
     match first_off(ring, other) {
         None => false,
         Some(place) => odd_crossings(ring, place),
