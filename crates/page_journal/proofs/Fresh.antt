@@ -1,12 +1,13 @@
 -- The bytes of an empty store.
-use Rattle.std.proofs.Common.{◌≡◌, inl, inr, ℕ, ◌+◌, ◌<◌, ◌≤◌, ◌⊎◌, List, length, get_or, slice_index, sym, ap, ◌∙◌, arith}
+use Rattle.std.proofs.Common.{◌≡◌, ◌≢◌, inl, inr, ℕ, ◌+◌, ◌-◌, ◌*◌, ◌<◌, ◌≤◌, ◌⊎◌, List, [], ◌∷◌, length, slice_index_or, subst, get_or, slice_index, sym, ap, ◌∙◌, arith}
 use Rattle.std.proofs.lemmas.List.{ext_get_or}
-use Rattle.outside.specs.Disk.{overlaid}
+use Rattle.outside.specs.Disk.{DiskView, Only, Tells, overlaid}
 use Rattle.outside.proofs.Overlay.{length-overlaid, overlaid-in}
-use Rattle.page_journal.specs.Home.{IsFresh}
-use Rattle.page_journal.specs.Pages.{number}
-use Rattle.page_journal.specs.declared.layout.TheConstants.{MARK}
-use Rattle.page_journal.proofs.Bytes.{number_same}
+use Rattle.page_journal.specs.Crash.{IsSettled}
+use Rattle.page_journal.specs.Home.{IsFresh, IsHomePage, InPlace, Home}
+use Rattle.page_journal.specs.Pages.{number, gate, page_from}
+use Rattle.page_journal.specs.declared.layout.TheConstants.{MARK, OPEN}
+use Rattle.page_journal.proofs.Bytes.{number_same, number-page_from}
 
 -- bytes over none
 pub overlaid-none : (bytes content : List ℕ) → length content ≡ 0 → overlaid 0 bytes content ≡ bytes
@@ -46,3 +47,27 @@ fresh none one two three long zero long1 mark others1 long2 home others2 long3 f
         others3 i (inr (omega arith)) ∙ others2 i (inr (omega arith)) ∙ others1 i (inr (omega arith)) ∙ zero i
   ];
 }
+
+-- such a store is at rest, and page 1 is its one home page
+pub fresh_settled : (bytes : List ℕ) (view : DiskView) → IsFresh bytes → Tells view bytes → Only bytes view.crashes
+    → IsSettled (page_from bytes 4096 ∷ []) bytes view
+fresh_settled bytes view is told only =
+    let gate-is : gate bytes ≡ 0 = is.zeros 4095 (inl (omega arith, omega arith)) in
+    let long = is.long in
+    let shut : gate bytes ≢ OPEN = λ is_open. absurd (omega (arith, gate-is, is_open)) in
+    record {
+      told = told;
+      only = only;
+      shut = shut;
+      home = record {
+        formatted = record { long = omega arith; marked = is.mark };
+        journal = λ is_open. absurd (shut is_open);
+        some = omega arith;
+        count = number-page_from bytes 4096 0 (omega arith) (omega arith) ∙ is.home;
+        holds = omega arith;
+        each = λ n from to.
+            let one : n ≡ 1 = omega (arith, from, to) in
+            let here : IsHomePage bytes 1 (page_from bytes 4096) = inr (record { not_there = λ is_open. absurd (shut is_open); same = λ i. page_from bytes 4096 }) in
+            subst (λ (k : ℕ). IsHomePage bytes k (slice_index_or (page_from bytes 4096 ∷ []) (k - 1) [])) (sym one) here;
+      };
+    }

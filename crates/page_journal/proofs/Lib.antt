@@ -2,6 +2,7 @@ pub mod Bytes
 pub mod Entries
 pub mod Finishing
 pub mod Fresh
+pub mod Manual
 pub mod Moments
 pub mod Counting
 pub mod Parts

@@ -1,7 +1,7 @@
 -- How a run of disk calls goes on.
 use Rattle.std.proofs.Common.{◌≡◌, inl, inr, ⊎_elim, ℕ, ◌≤◌, List, Option, Some, option_map, ap, ◌∙◌, arith}
 use Rattle.outside.specs.Disk.{Crashes, DiskView, Elapses, NoneNew, Follows, Only, Torn}
-use Rattle.page_journal.specs.Crash.{Goes, Stays, Within}
+use Rattle.page_journal.specs.Crash.{Goes, IsSettled, Stays, Within}
 
 -- before the first call
 pub started : (P : List ℕ → Type 0) (old : Crashes) → Within P old → Goes P old old
@@ -65,5 +65,14 @@ stays_then old mid new first second = record {
 pub goes_stays : (P : List ℕ → Type 0) (old : Crashes) (mid new : DiskView) → Goes P old mid.crashes → Stays mid new → Goes P old new.crashes
 goes_stays P old mid new so_far stays =
     goes_then P old mid.crashes new.crashes so_far (goes_weaker mid.crashes.outcomes P mid.crashes new.crashes stays.runs so_far.now)
+
+-- and a store at rest stays so
+pub settled_stays : (pages : List (List ℕ)) (bytes : List ℕ) (old new : DiskView) → IsSettled pages bytes old → Stays old new → IsSettled pages bytes new
+settled_stays pages bytes old new settled stays = record {
+  told = stays.content ∙ settled.told;
+  only = λ left now. settled.only left (stays.runs.now left now);
+  shut = settled.shut;
+  home = settled.home;
+}
 
 pub ruleset looks = (stays_call, stays_then)

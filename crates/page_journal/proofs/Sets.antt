@@ -23,7 +23,7 @@ less_from a b less =
       | Greater ↦ λ e t. absurd t
     ] refl less
 
-not_equal : (a b : ℕ) → a ≢ b → eq_by_cmp nat_cmp a b ≡ false
+pub not_equal : (a b : ℕ) → a ≢ b → eq_by_cmp nat_cmp a b ≡ false
 not_equal a b other =
     elim (nat_cmp a b) as (λ r. r ≡ nat_cmp a b → is_eq r ≡ false) [
       | Less ↦ λ e. refl

@@ -1,9 +1,10 @@
 //! The first bytes of a store.
-ghost use Rattle.std.specs.Prelude.{◌≡◌, ◌≢◌, ◌+◌, ◌<◌, ◌≤◌, ◌⊎◌, ◌^◌, List, ℕ, length, OnOk, IsErrOf, EachIndex, slice_index};
-ghost use Rattle.outside.specs.Disk.{Only, Tells};
+ghost use Rattle.std.specs.Prelude.{◌≡◌, ◌≢◌, ◌+◌, ◌<◌, ◌≤◌, ◌⊎◌, ◌^◌, List, [], ◌∷◌, ℕ, length, OnOk, IsErrOf, EachIndex, slice_index};
+ghost use Rattle.outside.specs.Disk.{Tells};
 ghost use Rattle.page_journal.specs.Answers.{Formats, HasDiskCause};
+ghost use Rattle.page_journal.specs.Crash.{IsSettled};
 ghost use Rattle.page_journal.specs.Home.{IsFresh};
-ghost use Rattle.page_journal.specs.Pages.{number};
+ghost use Rattle.page_journal.specs.Pages.{number, page_from};
 ghost use Rattle.page_journal.specs.declared.fault.StoreFault.TheVariants.{NotEmpty};
 
 use crate::StoreFault;
@@ -15,7 +16,7 @@ const FRESH_LEN: usize = 2 * PAGE;
 /// Writes an empty store to an empty disk.
 pub fn format<D: Disk>(disk: &mut D) -> Result<(), StoreFault>
     ensures fresh { OnOk result ((bytes : List ℕ) → Tells (D.view disk.old) bytes
-        → (now : List ℕ) × Tells (D.view disk.new) now × Only now (D.view disk.new).crashes × IsFresh now) }
+        → (now : List ℕ) × IsFresh now × IsSettled (page_from now 4096 ∷ []) now (D.view disk.new)) }
     ensures answers { (bytes : List ℕ) → Tells (D.view disk.old) bytes → Formats bytes result }
     ensures unchanged { IsErrOf result NotEmpty → (D.view disk.new).content ≡ (D.view disk.old).content }
     ensures cause { HasDiskCause (D.view disk.old).faults (D.view disk.new).faults result }
@@ -47,8 +48,8 @@ fn zeros() -> [u8; FRESH_LEN]
     [0; FRESH_LEN]
 }
 
-// Puts a number at its place.
-fn put_field(bytes: &mut [u8], at: usize, value: u64)
+/// Puts a number at its place.
+pub fn put_field(bytes: &mut [u8], at: usize, value: u64)
     requires { at + 8 ≤ length bytes.old }
     ensures here { number bytes.new at ≡ value }
     ensures long { length bytes.new ≡ length bytes.old }
