@@ -1,12 +1,11 @@
 -- Numbers and pages are equal where their bytes are.
-use Rattle.std.proofs.Common.{◌≡◌, ℕ, ◌+◌, ◌-◌, ◌*◌, ◌^◌, ◌<◌, ◌≤◌, ◌⊎◌, inl, inr, min, max, List, [], ◌++◌, length, take, drop, get_or, refl, sym, ap, ◌∙◌, arith, length-take, length-drop}
-use Rattle.std.proofs.lemmas.Bool.{cases_lt}
-use Rattle.std.proofs.lemmas.List.{ext_get_or, get_or-take, get_or-drop, take_at, take_all, append-nil, drop_all, drop-drop}
+use Rattle.std.proofs.Common.{◌≡◌, ℕ, ◌+◌, ◌-◌, ◌^◌, ◌<◌, ◌≤◌, List, [], ◌++◌, length, take, drop, get_or, refl, sym, ap, ◌∙◌, arith, length-take, length-drop}
+use Rattle.std.proofs.lemmas.List.{ext_get_or, get_or-take, get_or-drop, take_all, append-nil, drop_all, drop-drop}
 use Rattle.std.proofs.lemmas.Nat.{from_le_bytes-to_le_bytes_8}
 use Rattle.std.specs.Int.{w64, from_le_bytes, to_le_bytes}
 use borrow.Rule.Slice.PartMut.{put_mid}
 use Rattle.outside.specs.Disk.{overlaid, ReadsFrom}
-use Rattle.outside.proofs.Overlay.{length-overlaid, overlaid-in, overlaid-beside, overlaid-within}
+use Rattle.outside.proofs.Overlay.{length-overlaid, overlaid-in, overlaid-within}
 use Rattle.page_journal.specs.Pages.{number, page_from}
 
 length-part : (n : ℕ) (bytes : List ℕ) (at : ℕ) → at + n ≤ length bytes → length (take n (drop at bytes)) ≡ n

@@ -1,10 +1,10 @@
 -- A journal that a crash has left open is copied home, and its gate is shut.
-use Rattle.std.proofs.Common.{◌≡◌, ◌≢◌, inl, inr, ⊎_elim, Err, ℕ, zero, suc, ◌+◌, ◌-◌, ◌*◌, ◌/◌, ◌<◌, ◌≤◌, ◌⊎◌, List, [], length, min, get_or, slice_index_or, sym, ap, ◌∙◌, subst, arith}
+use Rattle.std.proofs.Common.{◌≡◌, ◌≢◌, inl, inr, ⊎_elim, Err, ℕ, zero, suc, ◌+◌, ◌-◌, ◌*◌, ◌<◌, ◌≤◌, ◌⊎◌, List, [], length, min, slice_index_or, sym, ap, ◌∙◌, subst, arith}
 use Rattle.std.proofs.lemmas.Bool.{cases_eq, cases_lt}
-use Rattle.outside.specs.Disk.{Crashes, DiskView, Only}
-use Rattle.page_journal.specs.Answers.{CanFinish, SaysHome, HomeRefused, Counts, Opens}
+use Rattle.outside.specs.Disk.{Crashes, Only}
+use Rattle.page_journal.specs.Answers.{CanFinish, SaysHome, Counts, Opens}
 use Rattle.page_journal.specs.Crash.{Spares, Within, Goes, AllHome, IsLikeOne, BesideGate, BesidePages}
-use Rattle.page_journal.specs.Home.{IsFormatted, AreRising, IsWellFormed, InJournal, InPlace, IsHomePage, Home}
+use Rattle.page_journal.specs.Home.{IsFormatted, AreRising, IsWellFormed, IsHomePage, Home}
 use Rattle.page_journal.specs.Pages.{number, page_from, gate, first_page, page_count, number_pages, entry, body_at}
 use Rattle.page_journal.specs.PageSet.{up_to}
 use Rattle.page_journal.specs.Written.{GatePut, HomePut, Finished}
@@ -15,7 +15,7 @@ use Rattle.page_journal.proofs.Bytes.{number-page_from}
 use Rattle.page_journal.proofs.Moments.{goes_weaker}
 use Rattle.page_journal.proofs.Places.{within_only, number_spared, page_spared}
 use Rattle.page_journal.proofs.Sets.{length-up_to, get_or-up_to}
-use Rattle.page_journal.proofs.Standing.{Stands, AreNumbers, Has, Rest, Placed, apart, find_place, home_open, home_shut, formatted_spared, stands_spared, rest_spared, beside_others}
+use Rattle.page_journal.proofs.Standing.{Stands, AreNumbers, Has, Rest, apart, find_place, home_open, home_shut, formatted_spared, stands_spared, rest_spared, beside_others}
 
 -- the pages of the journal
 abbrev pub bodies_of : List ℕ → ℕ → List ℕ

@@ -1,10 +1,10 @@
 -- The bytes of an empty store.
-use Rattle.std.proofs.Common.{◌≡◌, ◌≢◌, inl, inr, ℕ, ◌+◌, ◌-◌, ◌*◌, ◌<◌, ◌≤◌, ◌⊎◌, List, [], ◌∷◌, length, slice_index_or, subst, get_or, slice_index, sym, ap, ◌∙◌, arith}
+use Rattle.std.proofs.Common.{◌≡◌, ◌≢◌, inl, inr, ℕ, ◌+◌, ◌-◌, ◌<◌, ◌≤◌, ◌⊎◌, List, [], ◌∷◌, length, slice_index_or, subst, get_or, slice_index, sym, ap, ◌∙◌, arith}
 use Rattle.std.proofs.lemmas.List.{ext_get_or}
 use Rattle.outside.specs.Disk.{DiskView, Only, Tells, overlaid}
 use Rattle.outside.proofs.Overlay.{length-overlaid, overlaid-in}
 use Rattle.page_journal.specs.Crash.{IsSettled}
-use Rattle.page_journal.specs.Home.{IsFresh, IsHomePage, InPlace, Home}
+use Rattle.page_journal.specs.Home.{IsFresh, IsHomePage}
 use Rattle.page_journal.specs.Pages.{number, gate, page_from}
 use Rattle.page_journal.specs.declared.layout.TheConstants.{MARK, OPEN}
 use Rattle.page_journal.proofs.Bytes.{number_same, number-page_from}

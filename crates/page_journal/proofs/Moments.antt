@@ -1,6 +1,6 @@
 -- How a run of disk calls goes on.
-use Rattle.std.proofs.Common.{◌≡◌, inl, inr, ⊎_elim, ℕ, ◌≤◌, List, Option, Some, option_map, ap, ◌∙◌, arith}
-use Rattle.outside.specs.Disk.{Crashes, DiskView, Elapses, NoneNew, Follows, Only, Torn}
+use Rattle.std.proofs.Common.{◌≡◌, inl, inr, ⊎_elim, ℕ, List, Option, Some, option_map, ap, ◌∙◌, arith}
+use Rattle.outside.specs.Disk.{Crashes, DiskView, Elapses, NoneNew}
 use Rattle.page_journal.specs.Crash.{Goes, IsSettled, Stays, Within}
 
 -- before the first call

@@ -1,12 +1,12 @@
 -- What the writes of a commit leave, one write more at a time.
-use Rattle.std.proofs.Common.{◌≡◌, ◌≢◌, inl, inr, ⊎_elim, ℕ, ◌+◌, ◌*◌, ◌^◌, ◌<◌, ◌≤◌, ◌⊎◌, List, [], ◌∷◌, length, get_or, refl, sym, ap, ◌∙◌, arith}
+use Rattle.std.proofs.Common.{◌≡◌, inl, inr, ⊎_elim, ℕ, ◌+◌, ◌*◌, ◌^◌, ◌<◌, ◌≤◌, ◌⊎◌, List, [], ◌∷◌, length, refl, sym, ap, ◌∙◌, arith}
 use Rattle.std.proofs.lemmas.Bool.{cases_lt}
 use Rattle.std.specs.Int.{w64, to_le_bytes}
 use Rattle.outside.specs.Disk.{overlaid}
 use Rattle.outside.proofs.Overlay.{length-overlaid, overlaid-in, overlaid-beside}
-use Rattle.page_journal.specs.Crash.{Spares, BesideGate, BesideJournal, BesidePages}
-use Rattle.page_journal.specs.Pages.{number, page_from, gate}
-use Rattle.page_journal.specs.PageSet.{number_at, page_at}
+use Rattle.page_journal.specs.Crash.{BesideGate, BesideJournal, BesidePages}
+use Rattle.page_journal.specs.Pages.{page_from}
+use Rattle.page_journal.specs.PageSet.{page_at}
 use Rattle.page_journal.specs.Written.{Below, PagesPut, HomePut, NumberPut, FieldsPut, GatePut}
 use Rattle.page_journal.proofs.Bytes.{page_same, page_overlaid, number_written}
 use Rattle.page_journal.proofs.Places.{Spares-self, Spares-less, Spares-trans, Spares-overlaid, Beside, number_spared}

@@ -1,15 +1,15 @@
 -- The four parts of a commit: the journal, its gate opened, the pages copied home, the gate shut.
-use Rattle.std.proofs.Common.{◌≡◌, ◌≢◌, inl, inr, ⊎_elim, ℕ, ◌+◌, ◌-◌, ◌*◌, ◌/◌, ◌<◌, ◌≤◌, ◌⊎◌, List, [], length, get_or, slice_index, slice_index_or, sym, ap, ◌∙◌, arith}
+use Rattle.std.proofs.Common.{◌≡◌, ◌≢◌, inl, inr, ℕ, ◌+◌, ◌*◌, ◌<◌, ◌≤◌, ◌⊎◌, List, length, sym, ap, ◌∙◌, arith}
 use Rattle.std.proofs.lemmas.Bool.{cases_eq}
 use Rattle.outside.specs.Disk.{Crashes, DiskView, Only, Tells}
 use Rattle.page_journal.specs.Crash.{Spares, Within, Goes, IsSettled, BesideGate, BesideJournal, BesidePages}
 use Rattle.page_journal.specs.Home.{IsFormatted, Home}
-use Rattle.page_journal.specs.Pages.{number, page_from, gate, number_pages}
+use Rattle.page_journal.specs.Pages.{page_from, gate, number_pages}
 use Rattle.page_journal.specs.PageSet.{number_at, page_at}
 use Rattle.page_journal.specs.Written.{Below, NumbersPut, PagesPut, FieldsPut, GatePut, HomePut, JournalPut, Makes}
 use Rattle.page_journal.specs.declared.layout.TheConstants.{OPEN, SHUT}
 use Rattle.page_journal.proofs.Moments.{goes_weaker}
-use Rattle.page_journal.proofs.Places.{Spares-self, Spares-less, Spares-trans, within_only, number_spared, page_spared}
+use Rattle.page_journal.proofs.Places.{Spares-less, Spares-trans, within_only, number_spared, page_spared}
 use Rattle.page_journal.proofs.Standing.{Stands, AreNumbers, Has, Rest, Placed, home_open, home_shut, in_place, formatted_spared, stands_spared, rest_spared, beside_others}
 
 -- the numbers, the pages and the fields, written one after another

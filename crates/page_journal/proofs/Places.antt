@@ -1,5 +1,5 @@
 -- The places that a run of writes spares.
-use Rattle.std.proofs.Common.{◌≡◌, ◌≢◌, inl, inr, ℕ, ◌+◌, ◌*◌, ◌<◌, ◌≤◌, ◌⊎◌, List, length, get_or, slice_index, sym, ap, ◌∙◌, subst, arith}
+use Rattle.std.proofs.Common.{◌≡◌, inl, inr, ℕ, ◌+◌, ◌<◌, ◌≤◌, ◌⊎◌, List, length, get_or, sym, ◌∙◌, subst, arith}
 use Rattle.outside.specs.Disk.{Crashes, Elapses, Follows, Only, Torn, overlaid}
 use Rattle.outside.proofs.Overlay.{length-overlaid, overlaid-beside}
 use Rattle.page_journal.specs.Crash.{Goes, Within, Spares}

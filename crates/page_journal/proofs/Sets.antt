@@ -1,10 +1,9 @@
 -- A set of pages as its entries in order, and what it makes of the home pages.
-use Rattle.std.proofs.Common.{◌≡◌, ◌≢◌, inl, inr, ⊎_elim, Bool, true, false, ◌&&◌, cond, T, ℕ, zero, suc, ◌+◌, ◌-◌, ◌<◌, ◌≤◌, ◌⊎◌, List, [], ◌∷◌, ◌++◌, length, get_or, slice_index_or, Option, Some, None, refl, sym, ap, ◌∙◌, subst, arith}
+use Rattle.std.proofs.Common.{◌≡◌, ◌≢◌, inl, inr, Bool, true, false, ◌&&◌, cond, T, ℕ, zero, suc, ◌+◌, ◌-◌, ◌<◌, ◌≤◌, List, [], ◌∷◌, length, slice_index_or, Option, Some, None, refl, sym, ap, ◌∙◌, arith}
 use Rattle.std.proofs.lemmas.Bool.{cases_lt}
 use Rattle.std.proofs.lemmas.List.{get_or_append_left, get_or_push, length_push}
-use Rattle.std.specs.Option.{IsSome, is_some}
+use Rattle.std.specs.Option.{is_some}
 use Rattle.std.specs.Ordering.{nat_cmp, eq_by_cmp, is_lt, is_eq}
-use Rattle.std.specs.declared.cmp.Ordering.{Ordering}
 use Rattle.std.specs.declared.cmp.Ordering.TheVariants.{Less, Equal, Greater}
 use Rattle.std.specs.Cmp.{nat_cmp_total, ranked, eq_by_cmp_equiv}
 use Rattle.std.specs.FinMap as map
@@ -13,7 +12,6 @@ use Rattle.std.specs.FinMap.Entries.{below_all}
 use Rattle.page_journal.specs.Pages.{number}
 use Rattle.page_journal.specs.PageSet.{PageMap, CanCommit, number_at, page_at, page_or, up_to, overwritten}
 use Rattle.page_journal.specs.Written.{Makes}
-use Rattle.page_journal.proofs.Standing.{find_place}
 
 less_from : (a b : ℕ) → T (is_lt (nat_cmp a b)) → a < b
 less_from a b less =

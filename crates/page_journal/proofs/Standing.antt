@@ -1,10 +1,10 @@
 -- What the bytes of a store stand for: the home pages, with the journal and without it.
-use Rattle.std.proofs.Common.{◌≡◌, ◌≢◌, inl, inr, ⊎_elim, ℕ, zero, suc, ◌+◌, ◌-◌, ◌*◌, ◌/◌, ◌<◌, ◌≤◌, ◌⊎◌, List, [], length, get_or, slice_index, slice_index_or, sym, ap, ◌∙◌, subst, arith}
+use Rattle.std.proofs.Common.{◌≡◌, ◌≢◌, inl, inr, ℕ, zero, suc, ◌+◌, ◌-◌, ◌*◌, ◌<◌, ◌≤◌, ◌⊎◌, List, [], length, slice_index_or, sym, ap, ◌∙◌, arith}
 use Rattle.std.proofs.lemmas.Bool.{cases_eq, cases_lt}
-use Rattle.page_journal.specs.Crash.{Spares, BesideGate, BesideJournal, BesidePages}
-use Rattle.page_journal.specs.Home.{IsFormatted, IsWellFormed, InJournal, InPlace, IsHomePage, Home}
+use Rattle.page_journal.specs.Crash.{Spares, BesidePages}
+use Rattle.page_journal.specs.Home.{IsFormatted, IsWellFormed, Home}
 use Rattle.page_journal.specs.Pages.{number, page_from, gate, first_page, page_count, number_pages, entry, body_at}
-use Rattle.page_journal.specs.declared.layout.TheConstants.{MARK, OPEN}
+use Rattle.page_journal.specs.declared.layout.TheConstants.{OPEN}
 use Rattle.page_journal.proofs.Places.{number_spared, page_spared}
 
 -- a place at which a function has a value, or none

@@ -5,8 +5,8 @@ use Rattle.outside.specs.Causes.{Rose}
 use Rattle.page_journal.specs.Home.{IsFormatted, IsWellFormed, IsHomePage}
 use Rattle.page_journal.specs.Pages.{number, gate, first_page, page_count}
 use Rattle.page_journal.specs.declared.fault.StoreFault.{StoreFault}
-use Rattle.page_journal.specs.declared.fault.StoreFault.TheVariants.{NotFormatted, NotEmpty, BadStore, DiskFault, StoreFull, Broken, OutOfMemory}
-use Rattle.page_journal.specs.declared.layout.TheConstants.{OPEN}
+use Rattle.page_journal.specs.declared.fault.StoreFault.TheVariants.{NotFormatted, NotEmpty, BadStore, DiskFault, StoreFull, Broken}
+use Rattle.page_journal.specs.declared.layout.TheConstants.{OPEN, ROOT_AT}
 
 abbrev pub is_disk_fault : StoreFault → Bool
 is_disk_fault DiskFault = true
@@ -72,8 +72,8 @@ Looks bytes (Err DiskFault) = Unit {0}
 Looks bytes (Err _) = ⊥
 
 abbrev pub Counts : List ℕ → ℕ → Result ℕ StoreFault → Type 0
-Counts bytes len (Ok home) = (home ≡ number bytes 4096) × (2 ≤ home) × (4096 * home ≤ len)
-Counts bytes len (Err (BadStore page)) = (page ≡ 1) × ((number bytes 4096 < 2) ⊎ (len < 4096 * number bytes 4096))
+Counts bytes len (Ok home) = (home ≡ number bytes ROOT_AT) × (2 ≤ home) × (4096 * home ≤ len)
+Counts bytes len (Err (BadStore page)) = (page ≡ 1) × ((number bytes ROOT_AT < 2) ⊎ (len < 4096 * number bytes ROOT_AT))
 Counts bytes len (Err DiskFault) = Unit {0}
 Counts bytes len (Err _) = ⊥
 

@@ -3,7 +3,7 @@ use Rattle.std.specs.Prelude.{◌≡◌, ◌≢◌, ◌⊎◌, ℕ, ◌+◌, ◌
 use Rattle.outside.specs.Disk.{Crashes, DiskView, Tells, Only}
 use Rattle.page_journal.specs.Home.{Home}
 use Rattle.page_journal.specs.Pages.{gate}
-use Rattle.page_journal.specs.declared.layout.TheConstants.{OPEN}
+use Rattle.page_journal.specs.declared.layout.TheConstants.{OPEN, FIRST_AT, FIELDS_END, GATE_AT}
 
 -- each outcome of a crash now is such a content
 abbrev pub Within : (List ℕ → Type 0) → Crashes → Type 0
@@ -31,11 +31,11 @@ pub record IsSettled (pages : List (List ℕ)) (bytes : List ℕ) (view : DiskVi
 
 -- the places below `low` that are not the journal's fields in page 0
 abbrev pub BesideJournal : ℕ → ℕ → Type 0
-BesideJournal low i = ((i < 8) ⊎ (24 ≤ i)) × (i < low)
+BesideJournal low i = ((i < FIRST_AT) ⊎ (FIELDS_END ≤ i)) × (i < low)
 
 -- all places but the gate
 abbrev pub BesideGate : ℕ → Type 0
-BesideGate i = i ≢ 4095
+BesideGate i = i ≢ GATE_AT
 
 -- the places outside of these pages
 abbrev pub BesidePages : ℕ → (ℕ → ℕ) → ℕ → Type 0

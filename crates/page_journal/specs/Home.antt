@@ -1,7 +1,7 @@
 -- The home pages of a store.
 use Rattle.std.specs.Prelude.{◌≡◌, ◌≢◌, ◌⊎◌, ℕ, ◌+◌, ◌-◌, ◌*◌, ◌<◌, ◌≤◌, List, [], length, slice_index, slice_index_or}
 use Rattle.page_journal.specs.Pages.{number, page_from, gate, first_page, page_count, number_pages, entry, body_at}
-use Rattle.page_journal.specs.declared.layout.TheConstants.{MARK, OPEN}
+use Rattle.page_journal.specs.declared.layout.TheConstants.{MARK, OPEN, ROOT_AT, FORMAT_AT, FORMAT}
 
 -- there are two pages, and the first begins with the mark
 pub record IsFormatted (bytes : List ℕ) : Type 0 where
@@ -52,6 +52,6 @@ pub record Home (pages : List (List ℕ)) (bytes : List ℕ) : Type 0 where
 pub record IsFresh (bytes : List ℕ) : Type 0 where
   pub long : length bytes ≡ 8192
   pub mark : number bytes 0 ≡ MARK
-  pub home : number bytes 4096 ≡ 2
-  pub format : number bytes 4104 ≡ 1
+  pub home : number bytes ROOT_AT ≡ 2
+  pub format : number bytes FORMAT_AT ≡ FORMAT
   pub zeros : (i : ℕ) → (8 ≤ i) × (i < 4096) ⊎ (4112 ≤ i) → slice_index bytes i ≡ 0

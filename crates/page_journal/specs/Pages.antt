@@ -1,7 +1,7 @@
 -- Numbers, pages and the fields of page 0 in the bytes of a store. Numbers have eight bytes, the least first.
-use Rattle.std.specs.Prelude.{◌≡◌, ℕ, ◌+◌, ◌*◌, ◌/◌, List, take, drop, slice_index}
+use Rattle.std.specs.Prelude.{ℕ, ◌+◌, ◌*◌, ◌/◌, List, take, drop, slice_index}
 use Rattle.std.specs.Int.{w64, from_le_bytes}
-use Rattle.page_journal.specs.declared.layout.TheConstants.{PAGE, PER_PAGE, FIRST_AT, COUNT_AT, GATE_AT}
+use Rattle.page_journal.specs.declared.layout.TheConstants.{FIRST_AT, COUNT_AT, GATE_AT}
 
 -- the number that stands at this byte
 unfoldable pub number : List ℕ → ℕ → ℕ
@@ -13,13 +13,13 @@ page_from bytes at = take 4096 (drop at bytes)
 
 -- the journal's first page, its number of pages, and its gate
 abbrev pub first_page : List ℕ → ℕ
-first_page bytes = number bytes 8
+first_page bytes = number bytes FIRST_AT
 
 abbrev pub page_count : List ℕ → ℕ
-page_count bytes = number bytes 16
+page_count bytes = number bytes COUNT_AT
 
 abbrev pub gate : List ℕ → ℕ
-gate bytes = slice_index bytes 4095
+gate bytes = slice_index bytes GATE_AT
 
 -- how many pages so many numbers take
 abbrev pub number_pages : ℕ → ℕ

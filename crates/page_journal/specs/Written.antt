@@ -2,7 +2,7 @@
 use Rattle.std.specs.Prelude.{◌≡◌, ◌≢◌, ◌⊎◌, ℕ, ◌+◌, ◌-◌, ◌*◌, ◌<◌, ◌≤◌, List, [], length, slice_index_or}
 use Rattle.page_journal.specs.Crash.{Spares, BesideGate, BesideJournal, BesidePages}
 use Rattle.page_journal.specs.Home.{IsFormatted, IsHomePage}
-use Rattle.page_journal.specs.declared.layout.TheConstants.{OPEN}
+use Rattle.page_journal.specs.declared.layout.TheConstants.{OPEN, FIRST_AT, COUNT_AT}
 use Rattle.page_journal.specs.Pages.{number, page_from, gate, number_pages}
 use Rattle.page_journal.specs.PageSet.{number_at, page_at}
 
@@ -31,8 +31,8 @@ pub record NumberPut (at value : ℕ) (old new : List ℕ) : Type 0 where
 -- the journal's first page and its number of pages stand in page 0
 pub record FieldsPut (first count : ℕ) (old new : List ℕ) : Type 0 where
   pub spares : Spares (λ i. (i < 8) ⊎ (24 ≤ i)) old new
-  pub start : number new 8 ≡ first
-  pub pages : number new 16 ≡ count
+  pub start : number new FIRST_AT ≡ first
+  pub pages : number new COUNT_AT ≡ count
 
 -- the gate has this value
 pub record GatePut (value : ℕ) (old new : List ℕ) : Type 0 where
@@ -59,8 +59,8 @@ pub record NumbersHeld (entries : List (ℕ × List ℕ)) (count start at filled
 -- the journal of these entries stands behind the home pages
 pub record JournalPut (entries : List (ℕ × List ℕ)) (count home : ℕ) (old new : List ℕ) : Type 0 where
   pub spares : Spares (BesideJournal (4096 * home)) old new
-  pub first : number new 8 ≡ home
-  pub pages_are : number new 16 ≡ count
+  pub first : number new FIRST_AT ≡ home
+  pub pages_are : number new COUNT_AT ≡ count
   pub numbers : (place : ℕ) → place < count → number new (4096 * home + 8 * place) ≡ number_at entries place
   pub bodies : (place : ℕ) → place < count → page_from new (4096 * (home + number_pages count + place)) ≡ page_at entries place
   pub long : 0 < count → 4096 * (home + number_pages count + count) ≤ length new

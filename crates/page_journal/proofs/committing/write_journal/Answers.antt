@@ -1,8 +1,7 @@
-use Rattle.std.proofs.Common.{◌≡◌, ℕ, ◌+◌, ◌*◌, ◌≤◌, List, length, ap, sym, ◌∙◌, subst, arith, rules}
-use Rattle.page_journal.specs.Crash.{BesideJournal, Spares}
+use Rattle.std.proofs.Common.{◌≡◌, ℕ, ◌+◌, ◌*◌, length, ap, ◌∙◌, subst, arith, rules}
 use Rattle.page_journal.specs.Pages.{number_pages}
 use Rattle.page_journal.specs.PageSet.{plain}
-use Rattle.page_journal.specs.Written.{NumbersPut, FieldsPut, JournalPut}
+use Rattle.page_journal.specs.Written.{NumbersPut, FieldsPut}
 use Rattle.page_journal.proofs.Phases.{journal_put}
 use Rattle.page_journal.proofs.committing.write_journal.Goals as goal
 

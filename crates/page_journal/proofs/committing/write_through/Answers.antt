@@ -1,5 +1,4 @@
 use Rattle.std.proofs.Common.{ℕ, List, length}
-use Rattle.page_journal.specs.Crash.{Goes}
 use Rattle.page_journal.specs.PageSet.{plain}
 use Rattle.page_journal.proofs.Moments.{goes_then}
 use Rattle.page_journal.proofs.Phases.{OldOrNew, go_journal, to_before, to_staged, go_gate, to_open, go_home, to_copied, to_placed, go_shut, to_done}

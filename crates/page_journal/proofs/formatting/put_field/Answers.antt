@@ -1,4 +1,4 @@
-use Rattle.std.proofs.Common.{◌≡◌, ⊎_elim, inl, inr, ℕ, List, ◌+◌, length, get_or, ap, ◌∙◌, arith, refl}
+use Rattle.std.proofs.Common.{◌≡◌, ⊎_elim, inl, inr, ℕ, List, length, get_or, ap, ◌∙◌, arith, refl}
 use Rattle.std.specs.Int.{w64, to_le_bytes}
 use Rattle.outside.specs.Disk.{overlaid}
 use Rattle.outside.proofs.Overlay.{overlaid-beside}

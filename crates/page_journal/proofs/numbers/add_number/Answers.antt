@@ -1,4 +1,4 @@
-use Rattle.std.proofs.Common.{◌≡◌, ℕ, ◌+◌, ◌*◌, List, length, ap, sym, ◌∙◌, subst, arith}
+use Rattle.std.proofs.Common.{◌≡◌, ℕ, ◌+◌, sym, subst}
 use Rattle.outside.specs.Disk.{overlaid}
 use Rattle.page_journal.specs.Written.{NumbersHeld}
 use Rattle.page_journal.proofs.Counting.{held_added, held_flushed}

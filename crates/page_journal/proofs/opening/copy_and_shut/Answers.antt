@@ -1,4 +1,3 @@
-use Rattle.std.proofs.Common.{ℕ, List}
 use Rattle.page_journal.specs.Home.{Home}
 use Rattle.page_journal.proofs.Finishing.{go_copy, go_shut, finished}
 use Rattle.page_journal.proofs.Moments.{goes_then}

@@ -1,7 +1,7 @@
-use Rattle.std.proofs.Common.{◌≡◌, ℕ, ◌+◌, ◌*◌, ◌<◌, ◌≤◌, List, length, min, ap, sym, ◌∙◌, subst, refl, arith, rules}
-use Rattle.outside.specs.Disk.{Tells, overlaid}
-use Rattle.page_journal.specs.Crash.{BesidePages, Goes, Spares}
-use Rattle.page_journal.specs.Pages.{entry, body_at, number_pages, page_from}
+use Rattle.std.proofs.Common.{◌≡◌, ℕ, ◌+◌, ◌*◌, ◌<◌, ap, ◌∙◌, subst, refl, arith}
+use Rattle.outside.specs.Disk.{overlaid}
+use Rattle.page_journal.specs.Crash.{BesidePages, Spares}
+use Rattle.page_journal.specs.Pages.{entry, number_pages, page_from}
 use Rattle.page_journal.specs.Written.{HomePut}
 use Rattle.page_journal.proofs.Bytes.{page_long}
 use Rattle.page_journal.proofs.Finishing.{bodies_of, number_fits, copy_to, body_fits, copied_body, rises_to}

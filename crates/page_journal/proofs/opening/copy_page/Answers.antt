@@ -1,6 +1,6 @@
-use Rattle.std.proofs.Common.{◌≡◌, ℕ, List, Some, sym, ap, ◌∙◌, subst}
+use Rattle.std.proofs.Common.{◌≡◌, ℕ, List, Some, ap, ◌∙◌}
 use Rattle.std.proofs.lemmas.List.{length-replicate}
-use Rattle.outside.specs.Disk.{Tells, overlaid}
+use Rattle.outside.specs.Disk.{overlaid}
 use Rattle.page_journal.specs.Pages.{page_from}
 use Rattle.page_journal.proofs.Bytes.{page_read_whole}
 use Rattle.page_journal.proofs.Moments.{told_written}

@@ -1,4 +1,4 @@
-use Rattle.std.proofs.Common.{◌≡◌, ℕ, ◌*◌, ◌≤◌, List, length, sym, ◌∙◌, subst, arith}
+use Rattle.std.proofs.Common.{ℕ, ◌*◌, ◌≤◌, List, length, ◌∙◌, arith}
 use Rattle.page_journal.specs.Answers.{CanFinish}
 use Rattle.page_journal.specs.Crash.{IsLikeOne}
 use Rattle.page_journal.specs.Home.{Home}

@@ -1,6 +1,6 @@
-use Rattle.std.proofs.Common.{◌≡◌, ℕ, List, ◌+◌, ◌-◌, ◌*◌, ◌<◌, ap, sym, ◌∙◌, arith, rules}
+use Rattle.std.proofs.Common.{◌≡◌, ℕ, ◌+◌, ◌-◌, ◌*◌, ap, sym, ◌∙◌, arith}
 use Rattle.page_journal.specs.Pages.{number}
-use Rattle.page_journal.proofs.Finishing.{rising_none, rising_more, rising_not}
+use Rattle.page_journal.proofs.Finishing.{rising_none, rising_more}
 use Rattle.page_journal.proofs.Moments.{stays_same, stays_then}
 use Rattle.page_journal.proofs.opening.rises.Goals as goal
 

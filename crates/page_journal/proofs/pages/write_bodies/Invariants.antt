@@ -1,4 +1,4 @@
-use Rattle.std.proofs.Common.{◌≡◌, ◌+◌, ◌*◌, ◌<◌, ◌≤◌, List, ℕ, length}
+use Rattle.std.proofs.Common.{◌≡◌, ◌+◌, ◌*◌, ◌≤◌, List, ℕ, length}
 use Rattle.outside.specs.Disk.{Tells}
 use Rattle.page_journal.specs.Crash.{BesideJournal, Goes, Spares, Within}
 use Rattle.page_journal.specs.PageSet.{plain}

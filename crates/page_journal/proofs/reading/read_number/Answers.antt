@@ -1,4 +1,4 @@
-use Rattle.std.proofs.Common.{◌≡◌, ◌∙◌, refl}
+use Rattle.std.proofs.Common.{◌∙◌, refl}
 use Rattle.page_journal.proofs.Bytes.{number_read}
 use Rattle.page_journal.proofs.reading.read_number.Goals as goal
 

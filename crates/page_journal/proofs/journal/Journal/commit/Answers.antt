@@ -1,4 +1,4 @@
-use Rattle.std.proofs.Common.{ℕ, List, length, ap, ◌∙◌, subst, arith}
+use Rattle.std.proofs.Common.{ℕ, subst, arith}
 use Rattle.page_journal.specs.PageSet.{plain, overwritten}
 use Rattle.page_journal.specs.Written.{Makes}
 use Rattle.page_journal.proofs.Entries.{plain_long}
