@@ -15,9 +15,7 @@ use Rattle.std.specs.FinMap.Entries.{below_all}
 use Rattle.std.specs.FinMap as finite
 use Rattle.std.specs.BTreeMap.{BTreeMap, Updates}
 use Rattle.updater_main.proofs.Found.{inserted, removed}
-use Rattle.osm_base.specs.declared.object.Entry.{Entry}
-use Rattle.updater_main.specs.PointsText.{line_of}
-use Rattle.updater_main.specs.PointLines.{Lines, with_line, lines_text}
+use Rattle.updater_main.specs.LinesById.{LineMap, set_line, text_of}
 
 -- a sorted list of entries is that of its map
 
@@ -48,9 +46,8 @@ texts : (es : List (ℕ × List ℕ)) → flat_map (λ entry. entry.1) es ≡ co
 texts [] = refl
 texts (entry ∷ es) = ap (λ (later : List ℕ). entry.1 ++ later) (texts es)
 
-pub kept_text : (key : List ℕ) (es : List (ℕ × List ℕ)) → IsStrictlySortedBy nat_cmp (keys_of es)
-    → lines_text (record { key = key; lines = from_entries es }) ≡ concat (values_of es)
-kept_text key es h = ap (flat_map (λ entry. entry.1)) (same_entries es h) ∙ texts es
+pub kept_text : (es : List (ℕ × List ℕ)) → IsStrictlySortedBy nat_cmp (keys_of es) → text_of (from_entries es) ≡ concat (values_of es)
+kept_text es h = ap (flat_map (λ entry. entry.1)) (same_entries es h) ∙ texts es
 
 -- a list whose length is tested
 
@@ -72,22 +69,17 @@ one_more value (first ∷ items) item rest = ap (λ later. value first ∷ later
 
 -- one line more
 
-module _ (key : List ℕ) (self : Lines) (entry : Entry) (old new : BTreeMap ℕ (List ℕ)) (view : record { key = key; lines = from_entries {R = nat_cmp} old.entries } ≡ self) where
-  pub taken_out : (line : List ℕ) → line ≡ [] → line ≡ line_of key entry → Updates nat_cmp old new entry.key.id None
-      → record { key = key; lines = from_entries new.entries } ≡ with_line self entry.key.id (line_of self.key entry)
-  taken_out line none is updates =
-      ap (λ lines. record { key = key; lines = lines }) (removed nat_cmp nat_cmp_total nat_cmp-IsAntisymmetric old new entry.key.id updates)
-      ∙ ap (with_line (record { key = key; lines = from_entries old.entries }) entry.key.id) (sym none ∙ is)
-      ∙ ap (λ (own : Lines). with_line own entry.key.id (line_of own.key entry)) view
+module _ (own : LineMap) (id : ℕ) (old new : BTreeMap ℕ (List ℕ)) (view : from_entries {R = nat_cmp} old.entries ≡ own) where
+  pub taken_out : (line : List ℕ) → line ≡ [] → Updates nat_cmp old new id None → from_entries new.entries ≡ set_line own id line
+  taken_out line none updates =
+      removed nat_cmp nat_cmp_total nat_cmp-IsAntisymmetric old new id updates
+      ∙ ap (λ (lines : LineMap). finite.remove lines id) view ∙ ap (set_line own id) (sym none)
 
-  some_line : (points : Lines) (id : ℕ) (line : List ℕ) → (line ≡ [] → ⊥) → record { key = points.key; lines = finite.insert points.lines id line } ≡ with_line points id line
-  some_line points id [] some = absurd (some refl)
-  some_line points id (byte ∷ bytes) some = refl
+  some_line : (line : List ℕ) → (line ≡ [] → ⊥) → finite.insert own id line ≡ set_line own id line
+  some_line [] some = absurd (some refl)
+  some_line (byte ∷ bytes) some = refl
 
-  pub put_in : (line : List ℕ) → (line ≡ [] → ⊥) → line ≡ line_of key entry → Updates nat_cmp old new entry.key.id (Some line)
-      → record { key = key; lines = from_entries new.entries } ≡ with_line self entry.key.id (line_of self.key entry)
-  put_in line some is updates =
-      ap (λ lines. record { key = key; lines = lines }) (inserted nat_cmp nat_cmp_total nat_cmp-IsAntisymmetric old new entry.key.id line updates)
-      ∙ some_line (record { key = key; lines = from_entries old.entries }) entry.key.id line some
-      ∙ ap (with_line (record { key = key; lines = from_entries old.entries }) entry.key.id) is
-      ∙ ap (λ (own : Lines). with_line own entry.key.id (line_of own.key entry)) view
+  pub put_in : (line : List ℕ) → (line ≡ [] → ⊥) → Updates nat_cmp old new id (Some line) → from_entries new.entries ≡ set_line own id line
+  put_in line some updates =
+      inserted nat_cmp nat_cmp_total nat_cmp-IsAntisymmetric old new id line updates
+      ∙ ap (λ (lines : LineMap). finite.insert lines id line) view ∙ some_line line some

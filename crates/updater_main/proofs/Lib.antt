@@ -1,10 +1,12 @@
 pub mod AsciiTexts
 pub mod Manual
 pub mod WordLists
-pub mod NodeLines
+pub mod KindLines
 pub mod LinesKept
 pub mod PointLaw
 pub mod FilesLaws
 pub mod RunLaws
 pub mod KeptLines
 pub mod Found
+pub mod WayLaws
+pub mod KeptLaws

@@ -1,9 +1,9 @@
 -- The lines that are kept are those of the objects, after each entry.
 use Rattle.std.proofs.Common.{◌≡◌, ℕ, List, [], ◌∷◌, refl, sym, ap, ◌∙◌, true, false, cond}
-use Rattle.std.specs.Prelude.{Bool, Option, None, Some}
+use Rattle.std.specs.Prelude.{Bool, Option, None, Some, flat_map}
 use Rattle.std.specs.Ordering.{nat_cmp, eq_by_cmp}
 use Rattle.std.specs.Cmp.{nat_cmp_total}
-use Rattle.std.specs.FinMap.{get-empty, get-insert, get-remove, get-entries, get-from_sorted, entries-from_sorted, entries_sorted, from_sorted, same_map, nat_cmp-IsAntisymmetric}
+use Rattle.std.specs.FinMap.{get-empty, get-insert, get-remove}
 use Rattle.std.specs.FinMap as finite
 use Rattle.osm_base.specs.Key.{KeyOf}
 use Rattle.osm_base.specs.KeyOrder.{key_cmp, key_cmp_total}
@@ -12,26 +12,24 @@ use Rattle.osm_base.specs.declared.key.Kind.TheVariants.{Node, Way, Relation}
 use Rattle.osm_base.specs.declared.object.Object.{Object}
 use Rattle.osm_base.specs.declared.object.Entry.{Entry}
 use Rattle.object_fold.specs.Fold.{ObjectSet, with_object, folded, folded_all}
-use Rattle.updater_main.specs.PointsText.{object_line, line_of}
-use Rattle.updater_main.specs.PointLines.{Lines, with_line, after_kind, after_entry, after_entries, no_lines, line_at, Shows, shown}
-use Rattle.updater_main.proofs.NodeLines.{some_line, node_key, node_lines, same_id, sorted_lines, find_lines}
+use Rattle.object_fold.specs.FoldLaws.{get-with_object}
+use Rattle.object_fold.specs.Index.{is_kind}
+use Rattle.updater_main.specs.PointsText.{object_line, of_node, line_of, points_text}
+use Rattle.updater_main.specs.PointLines.{Lines, with_line, after_kind, after_entry, after_entries, no_lines, lines_text, line_at, Shows, shown}
+use Rattle.updater_main.specs.WayLines.{some_line}
+use Rattle.updater_main.proofs.KindLines.{same_id, text-entries}
+
+abbrev node_key : ℕ → KeyOf
+node_key id = record { kind = Node; id = id }
 
 -- the lines are those of the nodes of these objects that have one, and no other
 pub record Keeps (key : List ℕ) (points : Lines) (objects : ObjectSet) : Type 0 where
   pub key_is : points.key ≡ key
   pub lines_are : (id : ℕ) → finite.get points.lines id ≡ some_line (line_at key objects id)
 
-key-with_line : (points : Lines) (id : ℕ) (line : List ℕ) → (with_line points id line).key ≡ points.key
-key-with_line points id [] = refl
-key-with_line points id (byte ∷ bytes) = refl
-
 get-with_line : (points : Lines) (id : ℕ) (line : List ℕ) (at : ℕ) → finite.get (with_line points id line).lines at ≡ cond (eq_by_cmp nat_cmp at id) (some_line line) (finite.get points.lines at)
 get-with_line points id [] at = get-remove nat_cmp_total points.lines id at
 get-with_line points id (byte ∷ bytes) at = get-insert nat_cmp_total points.lines id (byte ∷ bytes) at
-
-pub get-with_object : (objects : ObjectSet) (key : KeyOf) (object : Option Object) (at : KeyOf) → finite.get (with_object objects key object) at ≡ cond (eq_by_cmp key_cmp at key) object (finite.get objects at)
-get-with_object objects key None at = get-remove key_cmp_total objects key at
-get-with_object objects key (Some object) at = get-insert key_cmp_total objects key object at
 
 either_line : (key own : List ℕ) (at id : ℕ) (object found : Option Object) (line : Option (List ℕ)) (same : Bool) → own ≡ key → eq_by_cmp nat_cmp at id ≡ same → line ≡ some_line (object_line key at found) → cond same (some_line (object_line own id object)) line ≡ some_line (object_line key at (cond same object found))
 either_line key own at id object found line true owned is kept = λ i. some_line (object_line (owned i) ((sym (same_id at id is)) i) object)
@@ -40,7 +38,7 @@ either_line key own at id object found line false owned is kept = kept
 kept_kind : (key : List ℕ) (kind : Kind) (id : ℕ) (object : Option Object) (points : Lines) (objects : ObjectSet) → Keeps key points objects → Keeps key (after_kind kind points (record { key = record { kind = kind; id = id }; object = object })) (with_object objects (record { kind = kind; id = id }) object)
 unfolding line_of
 kept_kind key Node id object points objects kept = record {
-  key_is = key-with_line points id _ ∙ kept.key_is;
+  key_is = kept.key_is;
   lines_are = λ at. get-with_line points id _ at
       ∙ either_line key points.key at id object (finite.get objects (node_key at)) _ (eq_by_cmp nat_cmp at id) kept.key_is refl (kept.lines_are at)
       ∙ ap (λ found. some_line (object_line key at found)) (sym (get-with_object objects (node_key id) object (node_key at)));
@@ -68,15 +66,16 @@ kept_first key = record {
   lines_are = λ id. get-empty nat_cmp id ∙ ap (λ found. some_line (object_line key id found)) (sym (get-empty key_cmp (node_key id)));
 }
 
--- then they are the lines of the objects' entries, in order
-pub kept_list : (key : List ℕ) (points : Lines) (objects : ObjectSet) → Keeps key points objects → finite.entries points.lines ≡ node_lines key (finite.entries objects)
-kept_list key points objects kept =
-    let held = finite.entries objects in
-    let nodes = node_lines key held in
-    let sorted = sorted_lines key held (entries_sorted objects) in
-    let same_line = λ (id : ℕ). kept.lines_are id ∙ ap (λ found. some_line (object_line key id found)) (get-entries objects (node_key id))
-    ∙ sym (find_lines key id held (entries_sorted objects)) ∙ sym (get-from_sorted nat_cmp nodes id sorted) in
-    ap finite.entries (same_map nat_cmp_total nat_cmp-IsAntisymmetric points.lines (from_sorted nodes) same_line) ∙ entries-from_sorted nat_cmp nodes sorted
+of_node-cond : (kind : Kind) (line : List ℕ) → cond (is_kind Node kind) line [] ≡ of_node kind line
+of_node-cond Node line = refl
+of_node-cond Way line = refl
+of_node-cond Relation line = refl
+
+-- then they are the text of the objects
+pub kept-text : (key : List ℕ) (points : Lines) (objects : ObjectSet) → Keeps key points objects → lines_text points ≡ points_text key objects
+kept-text key points objects kept =
+    text-entries Node (object_line key) (λ id. refl) points.lines objects kept.lines_are
+    ∙ λ i. flat_map (λ (entry : KeyOf × Object). of_node-cond entry.0.kind (object_line key entry.0.id (Some entry.1)) i) (finite.entries objects)
 
 shown_line : (line : List ℕ) → shown (some_line line) ≡ line
 shown_line [] = refl

@@ -6,8 +6,7 @@ use Rattle.osm_base.specs.declared.object.Entry.{Entry}
 use Rattle.object_fold.specs.Fold.{folded_all}
 use Rattle.updater_main.specs.PointsText.{points_text}
 use Rattle.updater_main.specs.PointLines.{lines_text, no_lines, after_entries, Shows}
-use Rattle.updater_main.proofs.NodeLines.{node_lines_text}
-use Rattle.updater_main.proofs.LinesKept.{Keeps, kept_first, kept_entries, kept_list, kept_shows}
+use Rattle.updater_main.proofs.LinesKept.{Keeps, kept_first, kept_entries, kept-text, kept_shows}
 
 kept_all : (key : List ℕ) → (entries : List Entry) → Keeps key (after_entries (no_lines key) entries) (folded_all finite.empty entries)
 kept_all key entries = kept_entries key entries (no_lines key) finite.empty (kept_first key)
@@ -16,5 +15,4 @@ pub lines_show_objects : (key : List ℕ) → (entries : List Entry) → Shows (
 lines_show_objects key entries = kept_shows key _ _ (kept_all key entries)
 
 pub lines_are_points : (key : List ℕ) → (entries : List Entry) → lines_text (after_entries (no_lines key) entries) ≡ points_text key (folded_all finite.empty entries)
-lines_are_points key entries =
-    ap (flat_map (λ line. line.1)) (kept_list key _ _ (kept_all key entries)) ∙ sym (node_lines_text key (finite.entries (folded_all finite.empty entries)))
+lines_are_points key entries = kept-text key _ _ (kept_all key entries)

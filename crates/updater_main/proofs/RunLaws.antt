@@ -2,7 +2,6 @@
 use Rattle.std.proofs.Common.{fold, ◌≡◌, ℕ, Option, Some, None, List, Result, Ok, Err, refl, sym, ◌∙◌, ap, subst}
 use Rattle.std.specs.Result.{IsOkAnd, result_err}
 use Rattle.std.specs.Io.KnownBytes.{Appends, Keeps}
-use Rattle.std.specs.Str.{chars}
 use Rattle.osm_base.specs.declared.object.Entry.{Entry}
 use Rattle.outside.specs.Bytes.{AppendsPrefix}
 use Rattle.updater_main.specs.declared.fault.Fault.{Fault}
@@ -10,54 +9,74 @@ use Rattle.updater_main.specs.declared.fault.Fault.TheVariants as faults
 use Rattle.updater_main.specs.declared.files.Files.{Files}
 use Rattle.updater_main.specs.Causes.{Ends, StopsFiles}
 use Rattle.updater_main.specs.Files.{Hold, AreRead, made, entries_in}
-use Rattle.updater_main.specs.PointLines.{Lines, after_entry, no_lines, lines_text}
-use Rattle.updater_main.specs.Run.{standard, points_of, Sources, Output, ReadFailed, WriteFailed, RunsPoints}
-use Rattle.updater_main.proofs.PointLaw.{lines_are_points}
+use Rattle.updater_main.specs.declared.kept.Kept.{Kept}
+use Rattle.updater_main.specs.Kept.{after_kept, kept_text}
+use Rattle.updater_main.specs.Run.{standard, Sources, Output, ReadFailed, WriteFailed, RunsText}
 
 pub keeps_refl : (bytes : Option (List ℕ)) → Keeps bytes bytes
 keeps_refl None = tt
 keeps_refl (Some known) = refl
 
--- what was made of entries is the text of their points
-of_made : (P : List ℕ → Type 0) (key text : List ℕ) (lines : Lines) (result : Result (List Entry) Fault)
-    → made after_entry (no_lines (chars key)) result ≡ Ok lines → text ≡ lines_text lines → P text → IsOkAnd result (λ entries. P (points_of key entries))
-of_made P key text lines (Ok entries) e t p =
-    let same : fold after_entry (no_lines (chars key)) entries ≡ lines = cc in
-    subst P (t ∙ ap lines_text (sym same) ∙ lines_are_points (chars key) entries) p
-of_made P key text lines (Err fault) e t p = absurd (cc)
+-- what was made of entries has the text that they make
+of_made : (P : List ℕ → Type 0) (text : List ℕ) (start last : Kept) (result : Result (List Entry) Fault)
+    → made after_kept start result ≡ Ok last → text ≡ kept_text last → P text → IsOkAnd result (λ entries. P (kept_text (fold after_kept start entries)))
+of_made P text start last (Ok entries) e t p =
+    let same : fold after_kept start entries ≡ last = cc in
+    subst P (t ∙ ap kept_text (sym same)) p
+of_made P text start last (Err fault) e t p = absurd (cc)
 
 -- files of which something was made have no fault
-no_fault : (key : List ℕ) (lines : Lines) (result : Result (List Entry) Fault) → made after_entry (no_lines (chars key)) result ≡ Ok lines → None ≡ result_err result
-no_fault key lines (Ok entries) e = refl
-no_fault key lines (Err fault) e = absurd (cc)
+no_fault : (start last : Kept) (result : Result (List Entry) Fault) → made after_kept start result ≡ Ok last → None ≡ result_err result
+no_fault start last (Ok entries) e = refl
+no_fault start last (Err fault) e = absurd (cc)
 
-module _ (key : List ℕ) (files : Files) (inputs : Sources) (output : Output) (text : List ℕ) (lines : Lines)
-    (all : (texts : ℕ → List ℕ) → Hold inputs.bytes texts files → made after_entry (no_lines (chars key)) (entries_in standard texts files.first files.count) ≡ Ok lines)
-    (is : text ≡ lines_text lines) where
+module _ (files : Files) (inputs : Sources) (output : Output) (text : List ℕ) (start last : Kept)
+    (all : (texts : ℕ → List ℕ) → Hold inputs.bytes texts files → made after_kept start (entries_in standard texts files.first files.count) ≡ Ok last)
+    (is : text ≡ kept_text last) where
+  abbrev text_of : List Entry → List ℕ
+  text_of entries = kept_text (fold after_kept start entries)
+
   -- all was read and written
   pub runs-done : ((texts : ℕ → List ℕ) → Hold inputs.bytes texts files → AreRead inputs.bytes_after files) → Appends output.bytes output.bytes_after text
-      → RunsPoints key files inputs output None
+      → RunsText text_of files inputs output None
   runs-done r w = record {
     read = λ _. r;
-    written = λ _ texts h. of_made (Appends output.bytes output.bytes_after) key text lines _ (all texts h) is w;
+    written = λ _ texts h. of_made (Appends output.bytes output.bytes_after) text start last _ (all texts h) is w;
     cause = λ own e. absurd (cc);
     front = λ e. absurd (cc);
     kept = λ e _. absurd (e refl);
-    complete = λ texts h _ _ _. no_fault key lines _ (all texts h);
+    complete = λ texts h _ _ _. no_fault start last _ (all texts h);
   }
 
   -- all was read, and the output failed
-  pub runs-unwritten : AppendsPrefix output.bytes output.bytes_after text → WriteFailed output → RunsPoints key files inputs output (Some faults.WriteFault)
+  pub runs-unwritten : AppendsPrefix output.bytes output.bytes_after text → WriteFailed output → RunsText text_of files inputs output (Some faults.WriteFault)
   runs-unwritten w f = record {
     read = λ e. absurd (cc);
     written = λ e. absurd (cc);
     cause = λ own e. let same : faults.WriteFault ≡ own = cc in rw (sym same) f;
-    front = λ _ texts h. of_made (AppendsPrefix output.bytes output.bytes_after) key text lines _ (all texts h) is w;
+    front = λ _ texts h. of_made (AppendsPrefix output.bytes output.bytes_after) text start last _ (all texts h) is w;
     kept = λ _ e. absurd (e refl);
     complete = λ texts h _ none _. absurd (none f);
   }
 
-module _ (key : List ℕ) (files : Files) (inputs : Sources) (output : Output) where
+-- a run writes the same text by another name
+same_ok : (P : List ℕ → Type 0) (one other : List Entry → List ℕ) → ((entries : List Entry) → one entries ≡ other entries) → (result : Result (List Entry) Fault)
+    → IsOkAnd result (λ entries. P (one entries)) → IsOkAnd result (λ entries. P (other entries))
+same_ok P one other same (Ok entries) p = subst P (same entries) p
+same_ok P one other same (Err fault) p = p
+
+pub runs-same : (files : Files) (inputs : Sources) (output : Output) (fault : Option Fault) (one other : List Entry → List ℕ) → ((entries : List Entry) → one entries ≡ other entries)
+    → RunsText one files inputs output fault → RunsText other files inputs output fault
+runs-same files inputs output fault one other same runs = record {
+  read = runs.read;
+  written = λ e texts h. same_ok (Appends output.bytes output.bytes_after) one other same (entries_in standard texts files.first files.count) (runs.written e texts h);
+  cause = runs.cause;
+  front = λ e texts h. same_ok (AppendsPrefix output.bytes output.bytes_after) one other same (entries_in standard texts files.first files.count) (runs.front e texts h);
+  kept = runs.kept;
+  complete = runs.complete;
+}
+
+module _ (text_of : List Entry → List ℕ) (files : Files) (inputs : Sources) (output : Output) where
   abbrev Found : Fault → Type 0
   Found fault = (texts : ℕ → List ℕ) → Hold inputs.bytes texts files → entries_in standard texts files.first files.count ≡ Err fault
 
@@ -65,7 +84,7 @@ module _ (key : List ℕ) (files : Files) (inputs : Sources) (output : Output) w
   found_only fault f texts h = ap result_err (sym (f texts h))
 
   -- the files were not read
-  pub runs-stopped : (fault : Fault) → StopsFiles files Found (ReadFailed inputs) fault → Keeps output.bytes output.bytes_after → RunsPoints key files inputs output (Some fault)
+  pub runs-stopped : (fault : Fault) → StopsFiles files Found (ReadFailed inputs) fault → Keeps output.bytes output.bytes_after → RunsText text_of files inputs output (Some fault)
   runs-stopped fault s k = record {
     read = λ e. absurd (cc);
     written = λ e. absurd (cc);

@@ -5,7 +5,7 @@ use Rattle.std.specs.Prelude.{codes}
 use Rattle.std.specs.List.{prefix_len}
 use Rattle.std.proofs.lemmas.List.{take-map, drop-map, length-map}
 use Rattle.std.proofs.lemmas.Bool.Decides.{nat_tests}
-use Rattle.updater_main.specs.Command.{is_option, options_of, form_of, without_dashes, points, row, command}
+use Rattle.updater_main.specs.Command.{is_option, options_of, form_of, without_dashes, row, command}
 
 -- how many items pass from the front on, told by a view of them
 prefix_len-map : {A B : Type 0} (view : A → B) (test : B → Bool) (items : List A)
@@ -13,9 +13,9 @@ prefix_len-map : {A B : Type 0} (view : A → B) (test : B → Bool) (items : Li
 prefix_len-map view test [] = refl
 prefix_len-map view test (item ∷ items) = simp (prefix_len-map view test items)
 
--- the command `points` of words that are cut as the program cuts them
+-- the command of words that are cut as the program cuts them
 module _ {A : Type 0} (view : A → List ℕ) (name : A) (later options form : List A) (count size : ℕ)
-    (sized : size ≡ length (name ∷ later)) (few : size ≤ 4096) (named : view name ≡ codes "points")
+    (sized : size ≡ length (name ∷ later)) (few : size ≤ 4096)
     (counted : count ≡ prefix_len (λ word. is_option (view word)) later) (cut : options ≡ take count later)
     (rest : each view form ≡ without_dashes (each view (drop count later))) where
   counted_bytes : count ≡ prefix_len is_option (each view later)
@@ -38,16 +38,15 @@ module _ {A : Type 0} (view : A → List ℕ) (name : A) (later options form : L
   within : ltb 4096 (length (view name ∷ each view later)) ≡ false
   within = let few_bytes : length (view name ∷ each view later) ≤ 4096 = omega (arith, the_size, few) in grind (arith, nat_tests)
 
-  command-points_row : command (view name ∷ each view later)
-      ≡ points (options_of (each view later)) (form_of (each view later)) (length (view name ∷ each view later) - length (form_of (each view later)))
+  command-row : command (view name ∷ each view later)
+      ≡ row (view name) (options_of (each view later)) (form_of (each view later)) (length (view name ∷ each view later) - length (form_of (each view later)))
   unfolding command
-  command-points_row =
+  command-row =
       ap (λ b. cond b None (row (view name) (options_of (each view later)) (form_of (each view later)) (length (view name ∷ each view later) - length (form_of (each view later))))) within
-      ∙ ap (λ n. row n (options_of (each view later)) (form_of (each view later)) (length (view name ∷ each view later) - length (form_of (each view later)))) named
 
-  pub command-points : points (each view options) (each view form) (size - length form) ≡ command (each view (name ∷ later))
-  command-points =
-      ap (λ o. points o (each view form) (size - length form)) the_options
-      ∙ ap (λ f. points (options_of (each view later)) f (size - length form)) the_form
-      ∙ ap (λ p. points (options_of (each view later)) (form_of (each view later)) p) the_place
-      ∙ sym command-points_row
+  pub command-words : row (view name) (each view options) (each view form) (size - length form) ≡ command (each view (name ∷ later))
+  command-words =
+      ap (λ o. row (view name) o (each view form) (size - length form)) the_options
+      ∙ ap (λ f. row (view name) (options_of (each view later)) f (size - length form)) the_form
+      ∙ ap (λ p. row (view name) (options_of (each view later)) (form_of (each view later)) p) the_place
+      ∙ sym command-row

@@ -7,21 +7,24 @@ use Rattle.std.specs.Prelude.{ℕ, ◌+◌, ◌-◌, ◌≤◌, Bool, nat_lt, na
 use Rattle.std.specs.List.{prefix_len, starts_with}
 use Rattle.std.specs.Str.{bytes_eq}
 use Rattle.updater_main.specs.declared.words.Command.{Command}
-use Rattle.updater_main.specs.declared.words.Command.TheVariants.{Points}
+use Rattle.updater_main.specs.declared.words.Command.TheVariants.{Points, Lines}
 use Rattle.updater_main.specs.declared.files.Files.{Files}
 use Rattle.updater_main.specs.declared.words.TheConstants.{MAX_WORDS, MAX_KEY}
 
 -- a command with its words; a file is told by the place of its word among all words, the command word being at 0
 pub data CommandOf : Type 0 where
   points_of : (key : List ℕ) → (files : Files) → CommandOf
+  lines_of : (key : List ℕ) → (files : Files) → CommandOf
 
 -- a command of the program, as contracts see it
 abbrev pub seen : Command → CommandOf
 seen (Points key files) = points_of key.now files
+seen (Lines key files) = lines_of key.now files
 
 -- the files of a command are numbered by its words
 abbrev pub FilesFit : CommandOf → Type 0
 FilesFit (points_of key files) = files.first + files.count ≤ 8192
+FilesFit (lines_of key files) = files.first + files.count ≤ 8192
 
 -- what remains from the first on that fails a test
 abbrev pub behind : {A : Type 0} → (A → Bool) → List A → List A
@@ -48,15 +51,17 @@ options_of words = take_while is_option words
 abbrev pub form_of : List (List ℕ) → List (List ℕ)
 form_of words = without_dashes (behind is_option words)
 
--- `points KEY INPUT CHANGE*`: no option, and a KEY of 1 to MAX_KEY bytes; place is that of the first word of the form
-abbrev pub points : (options form : List (List ℕ)) → (place : ℕ) → Option CommandOf
-points [] (key ∷ input ∷ changes) place =
-    if nat_le 1 (length key) && nat_le (length key) MAX_KEY then Some (points_of key (record { first = place + 1; count = length changes + 1 })) else None
-points _ _ _ = None
+-- `KEY INPUT CHANGE*`: no option, and a KEY of 1 to MAX_KEY bytes; place is that of the first word of the form
+abbrev pub keyed : (List ℕ → Files → CommandOf) → (options form : List (List ℕ)) → (place : ℕ) → Option CommandOf
+keyed command [] (key ∷ input ∷ changes) place =
+    if nat_le 1 (length key) && nat_le (length key) MAX_KEY then Some (command key (record { first = place + 1; count = length changes + 1 })) else None
+keyed command _ _ _ = None
 
 -- what words ask for whose first is this name
 abbrev pub row : (name : List ℕ) → (options form : List (List ℕ)) → (place : ℕ) → Option CommandOf
-row name options form place = if bytes_eq name (codes "points") then points options form place else None
+row name options form place =
+    if bytes_eq name (codes "points") then keyed points_of options form place else
+    if bytes_eq name (codes "lines") then keyed lines_of options form place else None
 
 -- what all words ask for, where they ask for something
 unfoldable pub command : List (List ℕ) → Option CommandOf

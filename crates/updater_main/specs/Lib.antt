@@ -3,6 +3,11 @@ pub mod Command
 pub mod CopyText
 pub mod Faults
 pub mod Files
+pub mod Kept
+pub mod KeptChange
+pub mod LinesById
+pub mod LinesText
 pub mod PointLines
 pub mod PointsText
 pub mod Run
+pub mod WayLines

@@ -1,29 +1,28 @@
 -- The lines of the points so far, while files are read.
-use Rattle.std.specs.Prelude.{◌≡◌, ℕ, List, [], ◌∷◌, flat_map, fold, Option, None, Some, refl}
+use Rattle.std.specs.Prelude.{◌≡◌, ℕ, List, [], fold, Option, None, Some, refl}
 use Rattle.std.specs.Coded.{Coded, code_by, coded×, coded_list, coded_ℕ}
-use Rattle.std.specs.Ordering.{nat_cmp}
 use Rattle.std.specs.FinMap as finite
 use Rattle.osm_base.specs.declared.key.Kind.{Kind}
 use Rattle.osm_base.specs.declared.key.Kind.TheVariants as kinds
 use Rattle.osm_base.specs.declared.object.Entry.{Entry}
 use Rattle.object_fold.specs.Fold.{ObjectSet}
+use Rattle.updater_main.specs.LinesById.{LineMap, set_line, text_of}
 use Rattle.updater_main.specs.PointsText.{line_of, object_line}
 
 -- the key that is asked for, and the lines of the nodes that have one, by their ids
 pub record Lines : Type 0 where
   pub key : List ℕ
-  pub lines : finite.FinMap nat_cmp (List ℕ)
+  pub lines : LineMap
 
 -- these are stored as the pair of their fields
 abbrev pub lines_code : Coded Lines
 lines_code =
-    code_by (List ℕ × finite.FinMap nat_cmp (List ℕ)) (coded× (coded_list coded_ℕ) (finite.code coded_ℕ (coded_list coded_ℕ))) (λ points. (points.key, points.lines))
+    code_by (List ℕ × LineMap) (coded× (coded_list coded_ℕ) (finite.code coded_ℕ (coded_list coded_ℕ))) (λ points. (points.key, points.lines))
     (λ pair. record { key = pair.0; lines = pair.1 }) (λ _. refl)
 
 -- with this line of a node, or with none where it is empty
 abbrev pub with_line : Lines → ℕ → List ℕ → Lines
-with_line points id [] = record { key = points.key; lines = finite.remove points.lines id }
-with_line points id (byte ∷ bytes) = record { key = points.key; lines = finite.insert points.lines id (byte ∷ bytes) }
+with_line points id line = record { key = points.key; lines = set_line points.lines id line }
 
 -- after an entry of this kind
 abbrev pub after_kind : Kind → Lines → Entry → Lines
@@ -37,7 +36,7 @@ after_entry points entry = after_kind entry.key.kind points entry
 
 -- the lines in order
 abbrev pub lines_text : Lines → List ℕ
-lines_text points = flat_map (λ (id, line). line) (finite.entries points.lines)
+lines_text points = text_of points.lines
 
 -- the line of a node of these objects, or nothing
 abbrev pub line_at : List ℕ → ObjectSet → ℕ → List ℕ

@@ -1,4 +1,4 @@
--- What a run of `points KEY INPUT CHANGE*` does to the world outside: the bytes left in its files and those that the
+-- What a run of `points` or `lines KEY INPUT CHANGE*` does to the world outside: the bytes left in its files and those that the
 -- output took, where they are told, and the counts of faults.
 use Rattle.std.specs.Prelude.{◌≡◌, ◌≢◌, ℕ, List, Option, Some, None, Err}
 use Rattle.std.specs.Result.{IsOkAnd, result_err}
@@ -15,6 +15,7 @@ use Rattle.updater_main.specs.declared.fault.Fault.TheVariants.{WriteFault, OutO
 use Rattle.updater_main.specs.declared.files.Files.{Files}
 use Rattle.updater_main.specs.Causes.{Ends}
 use Rattle.updater_main.specs.Files.{Hold, AreRead, entries_in}
+use Rattle.updater_main.specs.LinesText.{lines_text}
 use Rattle.updater_main.specs.PointsText.{points_text}
 
 -- the limits of the program
@@ -22,8 +23,12 @@ abbrev pub standard : Limits
 standard = record { line_bytes = 4194304; lines = 16777216; entries = 4194304; pages = 268435456; pending = 16777216 }
 
 -- the text of the points with this key of the objects that these entries make
-abbrev pub points_of : List ℕ → List Entry → List ℕ
-points_of key entries = points_text (chars key) (folded_all map.empty entries)
+abbrev pub points_text_of : List ℕ → List Entry → List ℕ
+points_text_of key entries = points_text (chars key) (folded_all map.empty entries)
+
+-- the text of the lines with this key of the objects that these entries make
+abbrev pub lines_text_of : List ℕ → List Entry → List ℕ
+lines_text_of key entries = lines_text (chars key) (folded_all map.empty entries)
 
 -- what the files show before and after the run, by their numbers
 pub record Sources : Type 0 where
@@ -47,18 +52,19 @@ ReadFailed inputs = Rose inputs.faults inputs.faults_after
 abbrev pub WriteFailed : Output → Type 0
 WriteFailed output = Rose output.faults output.faults_after
 
-pub record RunsPoints (key : List ℕ) (files : Files) (inputs : Sources) (output : Output) (fault : Option Fault) : Type 0 where
-  -- without a fault each file is read to its end, all are accepted, and the output took the text of the points of the objects that they make
+-- a run that writes a text of the entries of its files
+pub record RunsText (text : List Entry → List ℕ) (files : Files) (inputs : Sources) (output : Output) (fault : Option Fault) : Type 0 where
+  -- without a fault each file is read to its end, all are accepted, and the output took the text of their entries
   pub read : fault ≡ None → (texts : ℕ → List ℕ) → Hold inputs.bytes texts files → AreRead inputs.bytes_after files
   pub written : fault ≡ None → (texts : ℕ → List ℕ) → Hold inputs.bytes texts files
-      → IsOkAnd (entries_in standard texts files.first files.count) (λ entries. Appends output.bytes output.bytes_after (points_of key entries))
+      → IsOkAnd (entries_in standard texts files.first files.count) (λ entries. Appends output.bytes output.bytes_after (text entries))
   -- each fault has its cause; want of memory alone is free
   pub cause : (own : Fault) → fault ≡ Some own
       → Ends files (λ found. (texts : ℕ → List ℕ) → Hold inputs.bytes texts files → entries_in standard texts files.first files.count ≡ Err found)
       (ReadFailed inputs) (WriteFailed output) own
   -- nothing is written before all files are read and accepted; then a fault leaves a front of the text
   pub front : fault ≡ Some WriteFault → (texts : ℕ → List ℕ) → Hold inputs.bytes texts files
-      → IsOkAnd (entries_in standard texts files.first files.count) (λ entries. AppendsPrefix output.bytes output.bytes_after (points_of key entries))
+      → IsOkAnd (entries_in standard texts files.first files.count) (λ entries. AppendsPrefix output.bytes output.bytes_after (text entries))
   pub kept : fault ≢ None → fault ≢ Some WriteFault → Keeps output.bytes output.bytes_after
   -- where no count of faults rose, the bytes of the files alone say how it ends, unless memory ran out
   pub complete : (texts : ℕ → List ℕ) → Hold inputs.bytes texts files → (ReadFailed inputs → ⊥) → (WriteFailed output → ⊥) → fault ≢ Some OutOfMemory

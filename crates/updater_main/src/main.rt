@@ -5,12 +5,16 @@
 //! has its cause. `main` only makes the real files and the real output, calls `run` and tells the
 //! fault. Below `run`, `command_of` says what the words mean, `scan_files` reads the files one after
 //! another to their ends, `PointLines` keeps the line of each node with a tag and a place while they
-//! are read, and a `Fault` has its status and its one line of text.
+//! are read, `WayLines` the line of each way with the tag, of which a change builds again only those
+//! that it makes due, and a `Fault` has its status and its one line of text.
 #![tactic(auto)]
 
 mod copy_text;
 mod fault;
 mod files;
+mod kept;
+mod kept_change;
+mod lines_by_id;
 mod point_lines;
 mod row;
 mod run;
@@ -19,6 +23,8 @@ mod run_tests;
 mod scan_files;
 #[cfg(test)]
 mod tests;
+mod way_lines;
+mod way_row;
 mod words;
 
 use fault::{Fault, Outcome, fault_line};
@@ -30,11 +36,14 @@ use std::{env, io};
 
 const HELP: &str = "\
 usage: yilgartzu points KEY INPUT [CHANGE..]
+       yilgartzu lines KEY INPUT [CHANGE..]
 
-  points KEY INPUT [CHANGE..]
-               read the OPL file INPUT and the change files in order and write a
-               line for each node that has the tag KEY and a place: id, value,
-               POINT(lon lat)
+Both read the OPL file INPUT and the change files in order.
+
+  points       write a line for each node that has the tag KEY and a place: id,
+               value, POINT(lon lat)
+  lines        write a line for each way that has the tag KEY and two points or
+               more: id, value, LINESTRING(lon lat,lon lat,..)
   --help       this text
   --version    the version
 

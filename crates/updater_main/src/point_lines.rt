@@ -4,24 +4,22 @@ ghost use Rattle.std.specs.Str.{chars};
 ghost use Rattle.updater_main.specs.PointLines.{no_lines, with_line, lines_text};
 ghost use Rattle.updater_main.specs.PointsText.{line_of};
 
+use crate::lines_by_id::LinesById;
 use crate::row::push_point;
 use object_fold::Keeper;
-use osm_base::{Bytes, Entry, Kind, OutOfMemory};
+use osm_base::{Entry, Kind, OutOfMemory};
 use std::alloc::Global;
-use std::collections::BTreeMap;
 use std::marker::Model;
 
 /// The line of each node that has one, by the node's id.
 #[derive(Drop)]
 pub struct PointLines<'k> {
-    alloc: Global,
     key: &'k str,
-    lines: BTreeMap<u64, Bytes>,
+    lines: LinesById,
     scratch: Vec<u8>,
 }
 
 impl<'k> Model for PointLines<'k> {
-    ghost use Rattle.std.specs.FinMap as map;
     ghost use Rattle.std.specs.Str.{chars};
     ghost use Rattle.updater_main.specs.PointLines.{Lines, lines_code};
 
@@ -29,7 +27,7 @@ impl<'k> Model for PointLines<'k> {
 
     ghost coded = { lines_code };
 
-    ghost view = { λ points. record { key = chars points.key.now; lines = map.from_entries points.lines.entries } };
+    ghost view = { λ points. record { key = chars points.key.now; lines = points.lines } };
 }
 
 impl<'k> PointLines<'k> {
@@ -38,9 +36,8 @@ impl<'k> PointLines<'k> {
         ensures start { result ≡ no_lines (chars key.now) }
     {
         Self {
-            alloc,
             key,
-            lines: BTreeMap::new(alloc),
+            lines: LinesById::new(alloc),
             scratch: Vec::new(alloc),
         }
     }
@@ -51,12 +48,7 @@ impl<'k> PointLines<'k> {
     {
         self.scratch.clear();
         push_point(&mut self.scratch, self.key, entry)?;
-        if self.scratch.is_empty() {
-            self.lines.remove(&entry.key.id);
-            return Ok(());
-        }
-        let line = Vec::from_slice(self.alloc, &self.scratch)?;
-        self.lines.insert(entry.key.id, Bytes::from_vec(line))?;
+        self.lines.set(entry.key.id, &self.scratch)?;
         Ok(())
     }
 
@@ -64,11 +56,7 @@ impl<'k> PointLines<'k> {
     pub fn text(&self) -> Result<Vec<u8>, OutOfMemory>
         ensures text { IfOk result (λ text. text.items ≡ lines_text self.now) }
     {
-        let mut text = Vec::new(self.alloc);
-        for line in self.lines.values() {
-            text.extend_from_slice(line.as_slice())?;
-        }
-        Ok(text)
+        self.lines.text()
     }
 }
 

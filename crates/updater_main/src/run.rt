@@ -1,17 +1,20 @@
 //! A whole run of the program.
-ghost use Rattle.std.specs.Prelude.{◌≡◌, ◌≤◌, ◌+◌, ℕ, List, Some, None, map};
+ghost use Rattle.std.specs.Prelude.{◌≡◌, ◌≤◌, ◌+◌, ℕ, List, Some, None, map, fold};
 ghost use Rattle.std.specs.Result.{result_err};
 ghost use Rattle.std.specs.String.{string_bytes};
 ghost use Rattle.std.specs.Io.KnownBytes.{Keeps};
-ghost use Rattle.updater_main.specs.Command.{command, points_of};
+ghost use Rattle.updater_main.specs.Command.{command, points_of, lines_of};
 ghost use Rattle.updater_main.specs.Faults.{status_of};
-ghost use Rattle.updater_main.specs.Run.{RunsPoints};
+ghost use Rattle.updater_main.specs.Kept.{after_kept, kept_text};
+ghost use Rattle.updater_main.specs.Run.{RunsText, points_text_of, lines_text_of};
 ghost use Rattle.updater_main.specs.declared.files.Files.{Files as FilesOf};
 
 use crate::fault::{Fault, Outcome};
 use crate::files::Files;
+use crate::kept::Kept;
 use crate::point_lines::PointLines;
 use crate::scan_files::scan_files;
+use crate::way_lines::WayLines;
 use crate::words::{Command, command_of};
 use osm_base::Limits;
 use outside::{Inputs, Sink, put_all};
@@ -19,7 +22,30 @@ use std::alloc::Global;
 use std::sync::Wait;
 use std::thread::Threads;
 
-/// Writes the text of the points of the files, once all of them were read to their ends.
+/// Writes the text of what is kept of the files, once all of them were read to their ends.
+fn write_text<I: Inputs, S: Sink>(
+    alloc: Global,
+    start: Kept,
+    files: Files,
+    inputs: &mut I,
+    out: &mut S,
+) -> Result<(), Fault>
+    requires fits { files.first + files.count ≤ 8192 }
+    ensures runs { RunsText (λ entries. kept_text (fold after_kept start.entry entries)) files
+        (record { bytes = I.left inputs.old; bytes_after = I.left inputs.new; faults = I.faults inputs.old; faults_after = I.faults inputs.new })
+        (record { bytes = S.taken out.old; bytes_after = S.taken out.new; faults = S.faults out.old; faults_after = S.faults out.new })
+        (result_err result) }
+{
+    let mut kept = start;
+    scan_files(alloc, inputs, files, &Limits::standard(), &mut kept)?;
+    let text = kept.text()?;
+    match put_all(out, &text) {
+        Ok(()) => Ok(()),
+        Err(_) => Err(Fault::WriteFault),
+    }
+}
+
+/// Writes the text of the points of the files.
 fn points<I: Inputs, S: Sink>(
     alloc: Global,
     key: &str,
@@ -28,18 +54,31 @@ fn points<I: Inputs, S: Sink>(
     out: &mut S,
 ) -> Result<(), Fault>
     requires fits { files.first + files.count ≤ 8192 }
-    ensures runs { RunsPoints key.now files
+    ensures runs { RunsText (points_text_of key.now) files
         (record { bytes = I.left inputs.old; bytes_after = I.left inputs.new; faults = I.faults inputs.old; faults_after = I.faults inputs.new })
         (record { bytes = S.taken out.old; bytes_after = S.taken out.new; faults = S.faults out.old; faults_after = S.faults out.new })
         (result_err result) }
 {
-    let mut lines = PointLines::new(alloc, key);
-    scan_files(alloc, inputs, files, &Limits::standard(), &mut lines)?;
-    let text = lines.text()?;
-    match put_all(out, &text) {
-        Ok(()) => Ok(()),
-        Err(_) => Err(Fault::WriteFault),
-    }
+    let start = Kept::Points(PointLines::new(alloc, key));
+    write_text(alloc, start, files, inputs, out)
+}
+
+/// Writes the text of the lines of the ways of the files.
+fn lines<I: Inputs, S: Sink>(
+    alloc: Global,
+    key: &str,
+    files: Files,
+    inputs: &mut I,
+    out: &mut S,
+) -> Result<(), Fault>
+    requires fits { files.first + files.count ≤ 8192 }
+    ensures runs { RunsText (lines_text_of key.now) files
+        (record { bytes = I.left inputs.old; bytes_after = I.left inputs.new; faults = I.faults inputs.old; faults_after = I.faults inputs.new })
+        (record { bytes = S.taken out.old; bytes_after = S.taken out.new; faults = S.faults out.old; faults_after = S.faults out.new })
+        (result_err result) }
+{
+    let start = Kept::Ways(WayLines::new(alloc, key));
+    write_text(alloc, start, files, inputs, out)
 }
 
 /// Does what the words behind the program's name say. A file is told by the place of its word.
@@ -57,7 +96,13 @@ pub fn run<R: Threads + Wait + Sync, I: Inputs, S: Sink>(
     ensures unwritten { command (map string_bytes words.now) ≡ None → Keeps (S.taken out.old) (S.taken out.new) }
 
     // The points of files.
-    ensures points { (key : List ℕ) (files : FilesOf) → command (map string_bytes words.now) ≡ Some (points_of key files) → RunsPoints key files
+    ensures points { (key : List ℕ) (files : FilesOf) → command (map string_bytes words.now) ≡ Some (points_of key files) → RunsText (points_text_of key) files
+        (record { bytes = I.left inputs.old; bytes_after = I.left inputs.new; faults = I.faults inputs.old; faults_after = I.faults inputs.new })
+        (record { bytes = S.taken out.old; bytes_after = S.taken out.new; faults = S.faults out.old; faults_after = S.faults out.new })
+        result.fault }
+
+    // The lines of the ways of files.
+    ensures lines { (key : List ℕ) (files : FilesOf) → command (map string_bytes words.now) ≡ Some (lines_of key files) → RunsText (lines_text_of key) files
         (record { bytes = I.left inputs.old; bytes_after = I.left inputs.new; faults = I.faults inputs.old; faults_after = I.faults inputs.new })
         (record { bytes = S.taken out.old; bytes_after = S.taken out.new; faults = S.faults out.old; faults_after = S.faults out.new })
         result.fault }
@@ -66,6 +111,9 @@ pub fn run<R: Threads + Wait + Sync, I: Inputs, S: Sink>(
         None => Outcome::of(Some(Fault::Usage)),
         Some(Command::Points { key, files }) => {
             Outcome::of(points(alloc, key, files, inputs, out).err())
+        }
+        Some(Command::Lines { key, files }) => {
+            Outcome::of(lines(alloc, key, files, inputs, out).err())
         }
     }
 }

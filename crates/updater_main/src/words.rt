@@ -1,9 +1,10 @@
 //! The words of the command line.
-ghost use Rattle.std.specs.Prelude.{◌≡◌, ◌≤◌, map, length, IfSome};
+ghost use Rattle.std.specs.Prelude.{◌≡◌, ◌≤◌, ◌+◌, ℕ, List, map, length, IfSome};
 ghost use Rattle.std.specs.List.{prefix_len};
 ghost use Rattle.std.specs.Option.{option_map};
 ghost use Rattle.std.specs.String.{string_bytes};
 ghost use Rattle.updater_main.specs.Command as spec;
+ghost use Rattle.updater_main.specs.declared.files.Files.{Files as FilesOf};
 
 use crate::files::Files;
 
@@ -18,6 +19,8 @@ pub const MAX_KEY: usize = 255;
 pub enum Command<'a> {
     /// The nodes of the files that have the tag KEY and a place.
     Points { key: &'a str, files: Files },
+    /// The ways of the files that have the tag KEY and a line.
+    Lines { key: &'a str, files: Files },
 }
 
 /// The command that the words behind the program's name ask for.
@@ -38,8 +41,31 @@ pub fn command_of(words: &[String]) -> Option<Command<'_>>
     let (options, rest) = later.split_at(count_options(later));
     let form = without_dashes(rest);
     let place = (words.len() - form.len()) as u32;
-    match name.as_str() {
-        "points" => points(options, form, place),
+    row(name, options, form, place)
+}
+
+/// The command of this name with these words.
+fn row<'a>(
+    name: &str,
+    options: &[String],
+    form: &'a [String],
+    place: u32,
+) -> Option<Command<'a>>
+    requires place { place ≤ MAX_WORDS }
+    requires form { length form.now ≤ MAX_WORDS }
+    ensures row { option_map spec.seen result
+        ≡ spec.row name.now (map string_bytes options.now) (map string_bytes form.now) place }
+    ensures fits { IfSome result (λ command. spec.FilesFit (spec.seen command)) }
+{
+    match name {
+        "points" => {
+            let (key, files) = keyed(options, form, place)?;
+            Some(Command::Points { key, files })
+        }
+        "lines" => {
+            let (key, files) = keyed(options, form, place)?;
+            Some(Command::Lines { key, files })
+        }
         _ => None,
     }
 }
@@ -83,23 +109,21 @@ fn without_dashes(words: &[String]) -> &[String]
     }
 }
 
-/// `points KEY INPUT CHANGE*`, whose first word has this place.
-fn points<'a>(options: &[String], form: &'a [String], place: u32) -> Option<Command<'a>>
+/// `KEY INPUT CHANGE*`, whose first word has this place.
+fn keyed<'a>(options: &[String], form: &'a [String], place: u32) -> Option<(&'a str, Files)>
     requires place { place ≤ MAX_WORDS }
     requires form { length form.now ≤ MAX_WORDS }
-    ensures points { option_map spec.seen result
-        ≡ spec.points (map string_bytes options.now) (map string_bytes form.now) place }
-    ensures fits { IfSome result (λ command. spec.FilesFit (spec.seen command)) }
+    ensures keyed { (command : List ℕ → FilesOf → spec.CommandOf) → option_map (λ (key, files). command key.now files) result
+        ≡ spec.keyed command (map string_bytes options.now) (map string_bytes form.now) place }
+    ensures fits { IfSome result (λ (_, files). files.first + files.count ≤ 8192) }
 {
     let (key, files) = form.split_first()?;
     if !options.is_empty() || files.is_empty() || key.is_empty() || key.len() > MAX_KEY {
         return None;
     }
-    Some(Command::Points {
-        key: key.as_str(),
-        files: Files {
-            first: place + 1,
-            count: files.len() as u32,
-        },
-    })
+    let files = Files {
+        first: place + 1,
+        count: files.len() as u32,
+    };
+    Some((key.as_str(), files))
 }

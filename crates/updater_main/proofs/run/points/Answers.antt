@@ -1,12 +1,17 @@
-use Rattle.updater_main.proofs.RunLaws.{runs-done, runs-unwritten}
+use Rattle.std.proofs.Common.{List, ap, fold, ◌∙◌}
+use Rattle.std.specs.Result.{result_err}
+use Rattle.osm_base.specs.declared.object.Entry.{Entry}
+use Rattle.updater_main.specs.declared.kept.Kept.TheVariants.{Points}
+use Rattle.updater_main.specs.Kept.{after_kept, kept_text}
+use Rattle.updater_main.specs.PointLines.{Lines}
+use Rattle.updater_main.specs.Run.{points_text_of}
+use Rattle.updater_main.proofs.KeptLaws.{points-are}
+use Rattle.updater_main.proofs.RunLaws.{runs-same}
 use Rattle.updater_main.proofs.run.points.Goals as goal
 
-pub returns-in-Ok : goal.returns-in-Ok
-returns-in-Ok g c =
-    let all = rw (c.standard.ensures.numbers, c.new-lines.ensures.start) at c.in_ok-scan_files.ensures.made in
-    record { runs = runs-done c.args.key.now c.args.files _ _ c.in_ok-text.text.items c.scan_files.new.keeper all c.in_ok-text.ensures.text c.in_ok-scan_files.ensures.read (rw c.deref.ensures.value at c.in-Ok.ensures.ok) }
-
 pub returns : goal.returns
-returns g c =
-    let all = rw (c.standard.ensures.numbers, c.new-lines.ensures.start) at c.in_ok-scan_files.ensures.made in
-    record { runs = runs-unwritten c.args.key.now c.args.files _ _ c.in_ok-text.text.items c.scan_files.new.keeper all c.in_ok-text.ensures.text (rw c.deref.ensures.value at c.in-Err.ensures.err) c.in-Err.ensures.cause.failed }
+returns g c = record {
+  runs = runs-same c.args.files _ _ (result_err c.write_text.result) _ (points_text_of c.args.key.now)
+      (λ entries. ap (λ (own : Lines). kept_text (fold after_kept (Points own) entries)) c.new.ensures.start ∙ points-are c.args.key.now entries)
+      c.write_text.ensures.runs;
+}

@@ -1,6 +1,7 @@
 use Rattle.std.proofs.Common.{◌≡◌, ◌≤◌, ◌+◌, ℕ, List, [], Some, Err, ◌∙◌, arith}
 use Rattle.outside.specs.Causes.{Rose}
 use Rattle.object_fold.specs.Reading.{IsFaultOf}
+use Rattle.updater_main.specs.Kept.{after_kept}
 use Rattle.updater_main.specs.Files.{Hold, entries_in}
 use Rattle.updater_main.proofs.FilesLaws.{made-step, refused-step, made-none, told_all, told_fault, rose_later, stops_files, below_next}
 use Rattle.updater_main.proofs.scan_files.scan_files.Goals as goal
@@ -11,16 +12,16 @@ returns-in-Err-clause-stopped g c =
     let file = c.loop-file.file in
     let files = c.args.files in
     rw c.in_file.ensures.fault (stops_files files file
-    (Rose (g.I.Inputs.faults start) (g.I.Inputs.faults c.scan_file.new.inputs))
-    (Rose (g.I.Inputs.faults c.loop-file.inputs) (g.I.Inputs.faults c.scan_file.new.inputs))
+    (Rose (g.I.Inputs.faults start) (g.I.Inputs.faults c.take_file.new.inputs))
+    (Rose (g.I.Inputs.faults c.loop-file.inputs) (g.I.Inputs.faults c.take_file.new.inputs))
     (λ fault. (texts : ℕ → List ℕ) → Hold (g.I.Inputs.left start) texts files → entries_in c.args.limits.now texts files.first files.count ≡ Err fault)
     (IsFaultOf c.args.limits.now (g.I.Inputs.left c.loop-file.inputs file)) c.in-Err.fault
     c.loop-file.invariant.least (omega (arith, c.loop-file-test.true))
-    (λ fault h texts hold. refused-step g.K.Keeper.after c.args.limits.now texts files.first files.count c.args.keeper.now c.loop-file.keeper file (files.first + files.count) fault
+    (λ fault h texts hold. refused-step after_kept c.args.limits.now texts files.first files.count c.args.kept.now c.loop-file.kept file (files.first + files.count) fault
     (omega (arith, c.loop-file-test.true)) (c.loop-file.invariant.made texts hold)
     (told_fault c.args.limits.now (g.I.Inputs.left c.loop-file.inputs file) (texts file) fault h
     (c.loop-file.invariant.left file (omega arith) ∙ hold file c.loop-file.invariant.least (omega (arith, c.loop-file-test.true)))))
-    (rose_later (g.I.Inputs.faults start) (g.I.Inputs.faults c.loop-file.inputs) (g.I.Inputs.faults c.scan_file.new.inputs) c.loop-file.invariant.later)
+    (rose_later (g.I.Inputs.faults start) (g.I.Inputs.faults c.loop-file.inputs) (g.I.Inputs.faults c.take_file.new.inputs) c.loop-file.invariant.later)
     c.in-Err.ensures.stopped)
 
 pub loop-file-preserved : goal.loop-file-preserved
@@ -29,24 +30,24 @@ loop-file-preserved g c =
     let files = c.args.files in
     let below = c.loop-file-test.true in
     let all = λ (texts : ℕ → List ℕ) (hold : Hold (g.I.Inputs.left c.args.inputs.now) texts files).
-    told_all g.K.Keeper.after c.args.limits.now c.loop-file.keeper c.scan_file.new.keeper
-    (g.I.Inputs.left c.loop-file.inputs file) (g.I.Inputs.left c.scan_file.new.inputs file) (texts file) c.in_default.ensures.ok
+    told_all after_kept c.args.limits.now c.loop-file.kept c.take_file.new.kept
+    (g.I.Inputs.left c.loop-file.inputs file) (g.I.Inputs.left c.take_file.new.inputs file) (texts file) c.in_default.ensures.ok
     (c.loop-file.invariant.left file (omega arith) ∙ hold file c.loop-file.invariant.least (omega (arith, below))) in
     record {
       least = omega (arith, c.loop-file.invariant.least);
       most = omega (arith, below);
       made = λ texts hold. c.loop-file.invariant.made texts hold
-          ∙ made-step g.K.Keeper.after c.args.limits.now texts c.loop-file.keeper c.scan_file.new.keeper file (files.first + files.count) (omega (arith, below)) (all texts hold).0;
-      left = λ other above. c.scan_file.ensures.others other (λ e. omega (arith, above, e)) ∙ c.loop-file.invariant.left other (omega (arith, above));
-      read = λ texts hold other least less. below_next (λ other. files.first ≤ other → g.I.Inputs.left c.scan_file.new.inputs other ≡ Some []) file
-          (λ other less least. c.scan_file.ensures.others other (λ e. omega (arith, less, e)) ∙ c.loop-file.invariant.read texts hold other least less)
+          ∙ made-step after_kept c.args.limits.now texts c.loop-file.kept c.take_file.new.kept file (files.first + files.count) (omega (arith, below)) (all texts hold).0;
+      left = λ other above. c.take_file.ensures.others other (λ e. omega (arith, above, e)) ∙ c.loop-file.invariant.left other (omega (arith, above));
+      read = λ texts hold other least less. below_next (λ other. files.first ≤ other → g.I.Inputs.left c.take_file.new.inputs other ≡ Some []) file
+          (λ other less least. c.take_file.ensures.others other (λ e. omega (arith, less, e)) ∙ c.loop-file.invariant.read texts hold other least less)
           (λ _. (all texts hold).1) other less least;
-      later = omega (arith, c.loop-file.invariant.later, c.scan_file.ensures.later);
+      later = omega (arith, c.loop-file.invariant.later, c.take_file.ensures.later);
     }
 
 pub returns-clause-made : goal.returns-clause-made
 returns-clause-made g c = λ texts hold. c.loop-file.invariant.made texts hold
-    ∙ made-none g.K.Keeper.after c.args.limits.now texts c.loop-file.keeper c.loop-file.file (c.args.files.first + c.args.files.count) (omega (arith, c.loop-file-test.false))
+    ∙ made-none after_kept c.args.limits.now texts c.loop-file.kept c.loop-file.file (c.args.files.first + c.args.files.count) (omega (arith, c.loop-file-test.false))
 
 pub returns-clause-read : goal.returns-clause-read
 returns-clause-read g c = λ texts hold file least less. c.loop-file.invariant.read texts hold file least (omega (arith, less, c.loop-file-test.false))

@@ -1,4 +1,5 @@
 use Rattle.std.proofs.Common.{◌≡◌, ◌≤◌, ◌<◌, ◌-◌, ℕ, List, Some, []}
+use Rattle.updater_main.specs.Kept.{after_kept}
 use Rattle.updater_main.specs.Files.{Hold, made, entries_in}
 use Rattle.updater_main.proofs.scan_files.scan_files.Given as goal
 
@@ -8,8 +9,8 @@ invariant-loop-file g l = record {
   least : l.fn.files.first ≤ l.file;
   most : l.file ≤ l.end;
   made : (texts : ℕ → List ℕ) → Hold (g.I.Inputs.left l.fn.inputs) texts l.fn.files
-      → made g.K.Keeper.after l.fn.keeper (entries_in l.limits texts l.fn.files.first l.fn.files.count)
-      ≡ made g.K.Keeper.after l.keeper (entries_in l.limits texts l.file (l.end - l.file));
+      → made after_kept l.fn.kept (entries_in l.limits texts l.fn.files.first l.fn.files.count)
+      ≡ made after_kept l.kept (entries_in l.limits texts l.file (l.end - l.file));
   left : (other : ℕ) → l.file ≤ other → g.I.Inputs.left l.inputs other ≡ g.I.Inputs.left l.fn.inputs other;
   read : (texts : ℕ → List ℕ) → Hold (g.I.Inputs.left l.fn.inputs) texts l.fn.files
       → (other : ℕ) → l.fn.files.first ≤ other → other < l.file → g.I.Inputs.left l.inputs other ≡ Some [];

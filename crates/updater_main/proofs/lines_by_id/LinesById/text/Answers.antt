@@ -1,10 +1,9 @@
 use Rattle.std.proofs.Common.{◌++◌, ◌∙◌, map, ap, sym}
 use Rattle.std.specs.List.{concat}
-use Rattle.std.specs.Str.{chars}
 use Rattle.std.proofs.lemmas.List.{append-nil}
-use Rattle.updater_main.specs.PointLines.{lines_text}
+use Rattle.updater_main.specs.LinesById.{text_of}
 use Rattle.updater_main.proofs.KeptLines.{kept_text, texts_more, one_more}
-use Rattle.updater_main.proofs.point_lines.PointLines.text.Goals as goal
+use Rattle.updater_main.proofs.lines_by_id.LinesById.text.Goals as goal
 
 pub loop-line-preserved : goal.loop-line-preserved
 loop-line-preserved c = record {
@@ -29,6 +28,6 @@ returns c =
       text =
           c.loop-line.invariant.so_far
           ∙ ap concat (sym all ∙ c.into_iter-line-iterator.ensures.into_iter_gives ∙ c.values-line-items.ensures.rest)
-          ∙ sym (kept_text (chars c.self.inside.key.now) c.self.inside.lines.entries c.values-line-items.ensures.ordered)
-          ∙ ap lines_text c.self.view_is;
+          ∙ sym (kept_text c.self.inside.lines.entries c.values-line-items.ensures.ordered)
+          ∙ ap text_of c.self.view_is;
     }

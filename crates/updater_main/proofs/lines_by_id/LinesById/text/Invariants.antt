@@ -1,6 +1,6 @@
 use Rattle.std.proofs.Common.{◌≡◌, ◌++◌, map}
 use Rattle.std.specs.List.{concat}
-use Rattle.updater_main.proofs.point_lines.PointLines.text.Given as goal
+use Rattle.updater_main.proofs.lines_by_id.LinesById.text.Given as goal
 
 -- the lines so far are put one behind another
 abbrev pub invariant-loop-line : goal.invariant-loop-line
