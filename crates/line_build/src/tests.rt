@@ -1,6 +1,8 @@
-//! Joined lines with ample memory. A place is a letter, and a line is a word.
-use crate::join_lines;
-use osm_base::{LineList, MAX_LAT, MAX_LON, OutOfMemory, Place, Places};
+//! Lines of ways and joined lines with ample memory. Where pieces are joined a place is a letter, and a line is a word.
+ghost use Rattle.std.specs.Prelude.{Some, None, [], if◌then◌else◌, ◌&&◌, nat_eq, nat_le};
+
+use crate::{join_lines, line_of, points_of};
+use osm_base::{Key, LineList, Lookup, MAX_LAT, MAX_LON, Object, OutOfMemory, Place, Places};
 use piece_ends::are_pieces;
 use std::alloc::{AllocError, Global};
 use std::test::Fail;
@@ -76,6 +78,57 @@ fn lines_reach_the_corners_of_the_world(rt: HostRuntime) -> Result<(), Fail> {
     assert!(rt; are_pieces(&pieces));
     for line in join_lines(rt.alloc(), &pieces)?.as_slice() {
         assert_eq!(rt; line.as_slice(), [west, middle, east].as_slice());
+    }
+    Ok(())
+}
+
+/// A map whose nodes 1 to 3 have places, the second and the third the same.
+#[derive(Drop)]
+struct ThreeNodes {
+    first: Place,
+    second: Place,
+}
+
+impl Lookup for ThreeNodes {
+    ghost known = { λ own. record {
+      place = λ id. if nat_eq id 1 then Some own.first else if nat_le 2 id && nat_le id 3 then Some own.second else None;
+      object = λ _. None;
+      relations_of_way = λ _. [];
+      relations_of_node = λ _. [];
+    } };
+
+    fn place_of(&self, id: u64) -> Option<Place> {
+        match id {
+            1 => Some(self.first),
+            2 | 3 => Some(self.second),
+            _ => None,
+        }
+    }
+
+    fn object_of(&self, _key: Key) -> Option<&Object> {
+        None
+    }
+
+    fn relations_of_way(&self, _id: u64) -> &[u64] {
+        &[]
+    }
+
+    fn relations_of_node(&self, _id: u64) -> &[u64] {
+        &[]
+    }
+}
+
+#[test]
+fn a_line_has_two_points_that_differ(rt: HostRuntime) -> Result<(), Fail> {
+    let alloc = rt.alloc();
+    let (first, second) = (Place::new(0, 0), Place::new(1_800_000_000, -900_000_000));
+    let nodes = ThreeNodes { first, second };
+    let places = points_of(alloc, &nodes, &[9, 1, 2, 3, 2, 9, 1])?;
+    assert_eq!(rt; places.as_slice(), [first, second, first].as_slice());
+    let line = line_of(alloc, &nodes, &[1, 3])?.ok_or("no line")?;
+    assert_eq!(rt; line.as_slice(), [first, second].as_slice());
+    for short in [[].as_slice(), &[1], &[2, 3, 2], &[9, 1, 1]] {
+        assert!(rt; line_of(alloc, &nodes, short)?.is_none());
     }
     Ok(())
 }

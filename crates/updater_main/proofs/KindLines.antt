@@ -128,13 +128,13 @@ module _ (own : Kind) (row : ℕ → Option Object → List ℕ) (none : (id : �
   found_any : (id next : ℕ) (kind : Kind) (object : Object) (entries : List (KeyOf × Object)) → T (below_all key_cmp (key kind next) entries)
       → find nat_cmp id (own_lines entries) ≡ some_line (row id (find key_cmp (key own id) entries))
       → find nat_cmp id (in_front next (cond (is_kind own kind) (row next (Some object)) []) (own_lines entries))
-        ≡ some_line (row id (cond (eq_by_cmp key_cmp (key own id) (key kind next)) (Some object) (find key_cmp (key own id) entries)))
+      ≡ some_line (row id (cond (eq_by_cmp key_cmp (key own id) (key kind next)) (Some object) (find key_cmp (key own id) entries)))
   found_any id next kind object entries below rest =
       elim (is_kind own kind) as (λ b. is_kind own kind ≡ b → find nat_cmp id (in_front next (cond b (row next (Some object)) []) (own_lines entries))
-          ≡ some_line (row id (cond (eq_by_cmp key_cmp (key own id) (key kind next)) (Some object) (find key_cmp (key own id) entries)))) [
+      ≡ some_line (row id (cond (eq_by_cmp key_cmp (key own id) (key kind next)) (Some object) (find key_cmp (key own id) entries)))) [
         | true ↦ λ same.
             found_one id next object (find key_cmp (key own id) entries) (own_lines entries) (eq_by_cmp nat_cmp id next) refl
-              (below_lines next entries (subst (λ kind. T (below_all key_cmp (key kind next) entries)) (sym (kind_same own kind same)) below)) rest
+            (below_lines next entries (subst (λ kind. T (below_all key_cmp (key kind next) entries)) (sym (kind_same own kind same)) below)) rest
             ∙ ap (λ b. some_line (row id (cond b (Some object) (find key_cmp (key own id) entries)))) (unsigned_tied id next ∙ sym (tied-ids own kind id next same))
         | false ↦ λ differs. rest ∙ ap (λ b. some_line (row id (cond b (Some object) (find key_cmp (key own id) entries)))) (sym (untied-kinds own kind id next differs))
       ] refl

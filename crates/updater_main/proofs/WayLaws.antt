@@ -158,10 +158,10 @@ module _ (key : List ℕ) where
   kept_folded kept objects [] is = is
   kept_folded kept objects (entry ∷ entries) is =
       kept_folded (folded kept (kept_entry key entry)) (folded objects entry) entries (λ at.
-        get-with_object kept entry.key (option_and_then (kept_object key) entry.object) at
-        ∙ ap (cond (eq_by_cmp key_cmp at entry.key) (option_and_then (kept_object key) entry.object)) (is at)
-        ∙ chosen (eq_by_cmp key_cmp at entry.key) entry.object (finite.get objects at)
-        ∙ ap (option_and_then (kept_object key)) (sym (get-with_object objects entry.key entry.object at)))
+      get-with_object kept entry.key (option_and_then (kept_object key) entry.object) at
+      ∙ ap (cond (eq_by_cmp key_cmp at entry.key) (option_and_then (kept_object key) entry.object)) (is at)
+      ∙ chosen (eq_by_cmp key_cmp at entry.key) entry.object (finite.get objects at)
+      ∙ ap (option_and_then (kept_object key)) (sym (get-with_object objects entry.key entry.object at)))
 
   kept_place : (object : Option Object) → place_in (option_and_then (kept_object key) object) ≡ place_in object
   kept_place None = refl
@@ -202,4 +202,4 @@ module _ (key : List ℕ) where
   pub kept-lines : (entries : List Entry) → lines_text key (folded_all finite.empty (map (kept_entry key) entries)) ≡ lines_text key (folded_all finite.empty entries)
   kept-lines entries =
       kept_text (folded_all finite.empty (map (kept_entry key) entries)) (folded_all finite.empty entries)
-        (kept_folded finite.empty finite.empty entries (λ at. finite.get-empty key_cmp at ∙ sym (ap (option_and_then (kept_object key)) (finite.get-empty key_cmp at))))
+      (kept_folded finite.empty finite.empty entries (λ at. finite.get-empty key_cmp at ∙ sym (ap (option_and_then (kept_object key)) (finite.get-empty key_cmp at))))

@@ -15,6 +15,8 @@ mod files;
 mod kept;
 mod kept_change;
 mod lines_by_id;
+#[cfg(test)]
+mod lines_tests;
 mod point_lines;
 mod row;
 mod run;

@@ -8,7 +8,7 @@ use std::alloc::{AllocError, Global};
 use std::test::Fail;
 
 /// The files with these bytes, by the number of their word.
-fn files_of(alloc: Global, texts: &[&[u8]]) -> Result<FileList, AllocError> {
+pub fn files_of(alloc: Global, texts: &[&[u8]]) -> Result<FileList, AllocError> {
     let mut files = Vec::new(alloc);
     for text in texts {
         files.push(Bytes::from_vec(Vec::from_slice(alloc, text)?))?;
@@ -17,7 +17,7 @@ fn files_of(alloc: Global, texts: &[&[u8]]) -> Result<FileList, AllocError> {
 }
 
 /// The words with these texts.
-fn words_of(alloc: Global, texts: &[&str]) -> Result<Vec<String>, AllocError> {
+pub fn words_of(alloc: Global, texts: &[&str]) -> Result<Vec<String>, AllocError> {
     let mut words = Vec::new(alloc);
     for text in texts {
         words.push(String::from_str(alloc, text)?)?;
@@ -207,7 +207,7 @@ const RUNS: [(&str, &[&[u8]], Option<Fault>, &[u8]); 20] = [
 ];
 
 /// The files with these bytes, from that of word 2 on.
-fn inputs_of(alloc: Global, texts: &[&[u8]]) -> Result<FileList, AllocError> {
+pub fn inputs_of(alloc: Global, texts: &[&[u8]]) -> Result<FileList, AllocError> {
     let mut files = Vec::new(alloc);
     files.push(Bytes::new(alloc))?;
     files.push(Bytes::new(alloc))?;
@@ -217,9 +217,14 @@ fn inputs_of(alloc: Global, texts: &[&[u8]]) -> Result<FileList, AllocError> {
     Ok(FileList::from_vec(files))
 }
 
-/// The words of `points` with this key and so many files.
-fn points_words(alloc: Global, key: &str, files: usize) -> Result<Vec<String>, AllocError> {
-    let mut words = words_of(alloc, &["points", key])?;
+/// The words of a command with this key and so many files.
+pub fn keyed_words(
+    alloc: Global,
+    command: &str,
+    key: &str,
+    files: usize,
+) -> Result<Vec<String>, AllocError> {
+    let mut words = words_of(alloc, &[command, key])?;
     for _ in 0..files {
         words.push(String::from_str(alloc, "f")?)?;
     }
@@ -230,7 +235,7 @@ fn points_words(alloc: Global, key: &str, files: usize) -> Result<Vec<String>, A
 fn a_run_writes_the_points_of_its_files(rt: HostRuntime) -> Result<(), Fail> {
     let alloc = rt.alloc();
     for (key, texts, fault, written) in RUNS {
-        let words = points_words(alloc, key, texts.len())?;
+        let words = keyed_words(alloc, "points", key, texts.len())?;
         let mut inputs = MemInputs::new(inputs_of(alloc, texts)?, Fails::never(alloc));
         let mut out = MemSink::new(alloc, Fails::never(alloc));
         let outcome = run(&rt, alloc, &words, &mut inputs, &mut out);

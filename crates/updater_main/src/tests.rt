@@ -8,7 +8,7 @@ use std::alloc::{AllocError, Global};
 use std::test::Fail;
 
 // Words of a command line, and the KEY, the place of INPUT and the number of files that they give.
-const WORDS: [(&[&str], Option<(&str, u32, u32)>); 26] = [
+const WORDS: [(&[&str], Option<(&str, u32, u32)>); 29] = [
     (&["points", "k", "f"], Some(("k", 2, 1))),
     (&["points", "k", "f", "g"], Some(("k", 2, 2))),
     (&["points", "--", "k", "f", "g", "h"], Some(("k", 3, 3))),
@@ -23,7 +23,10 @@ const WORDS: [(&[&str], Option<(&str, u32, u32)>); 26] = [
     (&["points", "a1=b", "f"], Some(("a1=b", 2, 1))),
     (&["points", "abc", ""], Some(("abc", 2, 1))),
     (&["points", "stra\u{df}e", "f"], Some(("stra\u{df}e", 2, 1))),
+    (&["lines", "--", "k", "f", "g"], Some(("k", 3, 2))),
     (&[], None),
+    (&["lines", "k"], None),
+    (&["lines", "a=b", "k", "f"], None),
     (&["points"], None),
     (&["points", "k"], None),
     (&["points", "--", "k"], None),
@@ -82,8 +85,11 @@ fn words_of(alloc: Global, texts: &[&str]) -> Result<Vec<String>, AllocError> {
 
 /// The parts of a command.
 fn parts(command: Option<Command<'_>>) -> Option<(&str, u32, u32)> {
-    let Command::Points { key, files } = command?;
-    Some((key, files.first, files.count))
+    match command? {
+        Command::Points { key, files } | Command::Lines { key, files } => {
+            Some((key, files.first, files.count))
+        }
+    }
 }
 
 #[test]

@@ -45,12 +45,7 @@ pub fn command_of(words: &[String]) -> Option<Command<'_>>
 }
 
 /// The command of this name with these words.
-fn row<'a>(
-    name: &str,
-    options: &[String],
-    form: &'a [String],
-    place: u32,
-) -> Option<Command<'a>>
+fn row<'a>(name: &str, options: &[String], form: &'a [String], place: u32) -> Option<Command<'a>>
     requires place { place ≤ MAX_WORDS }
     requires form { length form.now ≤ MAX_WORDS }
     ensures row { option_map spec.seen result

@@ -13,5 +13,5 @@ returns-clause-ok g c =
     let left = g.I.Inputs.left c.args.inputs.now c.args.file in
     let rest = g.I.Inputs.left c.scan_file.new.inputs c.args.file in
     taken-reads c.args.limits.now old c.take.new.self change left rest
-      (c.in_ok-take.ensures.ok ∙ ap (λ (entries : List Entry). record { key = old.key; objects = folded_all old.objects entries }) c.into_change.ensures.entries)
-      (subst (λ (start : KeptEntries). ReadsAll with_entry c.args.limits.now start change left rest) c.begin-change.ensures.empty c.in_ok-scan_file.ensures.ok)
+    (c.in_ok-take.ensures.ok ∙ ap (λ (entries : List Entry). record { key = old.key; objects = folded_all old.objects entries }) c.into_change.ensures.entries)
+    (subst (λ (start : KeptEntries). ReadsAll with_entry c.args.limits.now start change left rest) c.begin-change.ensures.empty c.in_ok-scan_file.ensures.ok)

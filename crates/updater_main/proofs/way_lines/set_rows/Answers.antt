@@ -10,6 +10,6 @@ loop-id-preserved c =
     let id = get_or c.args.due.now c.loop-id.id-index 0 in
     let row = row_at (chars c.args.key.now) c.args.objects.now in
     set-more c.args.due.now c.loop-id.id-index id row c.args.lines.now c.loop-id.lines c.set.new.self c.push_row.new.out.items
-      c.loop-id-test.true refl c.loop-id.invariant
-      (c.in_ok-set.ensures.ok ∙ ap (set_line c.loop-id.lines id) c.deref.ensures.value)
-      (c.in_ok-push_row.ensures.row ∙ ap (λ before. before ++ row id) c.clear.ensures.items)
+    c.loop-id-test.true refl c.loop-id.invariant
+    (c.in_ok-set.ensures.ok ∙ ap (set_line c.loop-id.lines id) c.deref.ensures.value)
+    (c.in_ok-push_row.ensures.row ∙ ap (λ before. before ++ row id) c.clear.ensures.items)
