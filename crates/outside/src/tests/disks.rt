@@ -1,6 +1,7 @@
 use crate::{CrashPick, Disk, Failed, Fails, FileDisk, MemDisk};
 use osm_base::{Bytes, Ids};
 use std::alloc::Global;
+use std::fs;
 use std::process::Abort;
 use std::test::Fail;
 
@@ -108,6 +109,8 @@ fn a_crash_can_be_tried_in_each_of_many_calls(rt: HostRuntime) -> Result<(), Fai
 
 #[test]
 fn a_real_file_is_a_disk(rt: HostRuntime) -> Result<(), Fail> {
+    // A run that was cut short may have left it.
+    let _ = fs::remove_file(&rt, "store");
     let mut missing = FileDisk::new(&rt, "store", false);
     assert_eq!(rt; missing.len(), Err(Failed), "it is not made");
     let mut disk = FileDisk::new(&rt, "store", true);
@@ -119,5 +122,6 @@ fn a_real_file_is_a_disk(rt: HostRuntime) -> Result<(), Fail> {
     let mut buf = [b'.'; 6];
     assert_eq!(rt; again.read_at(1, &mut buf), Ok(4));
     assert_eq!(rt; buf.as_slice(), b"\0abc..".as_slice());
+    fs::remove_file(&rt, "store")?;
     Ok(())
 }
