@@ -1,4 +1,16 @@
-//! Files of entries, read whole, and the objects that they make.
+//! Files of entries, read whole, the objects that they make, and who lists which of these.
+//!
+//! On the path of the data it stands behind the grammar of one line. `scan_file` reads a file to its end
+//! and gives each entry to a `Keeper`, or answers the first line that is not in its form or not in its
+//! order; `read_file` keeps the entries as a `Change`, whose keys rise. `read_all` gives a short file's
+//! bytes.
+//!
+//! `Objects` are the objects of a map by their keys, and `fold` makes of them what a change says, as
+//! `folded_all` of `specs/Fold.antt`. Beside them they keep the index: which ways list a node, and which
+//! relations have a node or a way as a member, as rising ids. It is always the one that `index_of` of
+//! `specs/Index.antt` gives of the objects that stand, also after memory ran out within a fold. Lines
+//! are built of `Objects` through `Lookup`, and what a change makes due is asked through `Back`, of
+//! `Objects` or of an `ObjectIndex` over objects that are only read.
 #![tactic(auto)]
 
 mod change;
