@@ -84,6 +84,13 @@ Formats bytes (Err NotEmpty) = length bytes ≢ 0
 Formats bytes (Err DiskFault) = Unit {0}
 Formats bytes (Err _) = ⊥
 
+-- and whatever the disk tells, it gives no other answer than these
+abbrev pub IsFormatAnswer : Result (Unit {0}) StoreFault → Type 0
+IsFormatAnswer (Ok done) = Unit {0}
+IsFormatAnswer (Err NotEmpty) = Unit {0}
+IsFormatAnswer (Err DiskFault) = Unit {0}
+IsFormatAnswer (Err _) = ⊥
+
 -- the disk's count of faults did not fall, and it rose where the answer is that the disk failed
 pub record HasDiskCause {T : Type 0} (before now : ℕ) (result : Result T StoreFault) : Type 0 where
   pub later : before ≤ now

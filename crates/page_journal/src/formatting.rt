@@ -1,7 +1,7 @@
 //! The first bytes of a store.
 ghost use Rattle.std.specs.Prelude.{◌≡◌, ◌≢◌, ◌+◌, ◌<◌, ◌≤◌, ◌⊎◌, ◌^◌, List, [], ◌∷◌, ℕ, length, OnOk, IsErrOf, EachIndex, slice_index};
 ghost use Rattle.outside.specs.Disk.{Tells};
-ghost use Rattle.page_journal.specs.Answers.{Formats, HasDiskCause};
+ghost use Rattle.page_journal.specs.Answers.{Formats, HasDiskCause, IsFormatAnswer};
 ghost use Rattle.page_journal.specs.Crash.{IsSettled};
 ghost use Rattle.page_journal.specs.Home.{IsFresh};
 ghost use Rattle.page_journal.specs.Pages.{number, page_from};
@@ -18,6 +18,7 @@ pub fn format<D: Disk>(disk: &mut D) -> Result<(), StoreFault>
     ensures fresh { OnOk result ((bytes : List ℕ) → Tells (D.view disk.old) bytes
         → (now : List ℕ) × IsFresh now × IsSettled (page_from now 4096 ∷ []) now (D.view disk.new)) }
     ensures answers { (bytes : List ℕ) → Tells (D.view disk.old) bytes → Formats bytes result }
+    ensures alone { IsFormatAnswer result }
     ensures unchanged { IsErrOf result NotEmpty → (D.view disk.new).content ≡ (D.view disk.old).content }
     ensures cause { HasDiskCause (D.view disk.old).faults (D.view disk.new).faults result }
 {

@@ -1,12 +1,12 @@
 -- The lines that are kept are those of the objects, after each entry.
 use Rattle.std.proofs.Common.{◌≡◌, ℕ, List, [], ◌∷◌, refl, sym, ap, ◌∙◌, true, false, cond}
-use Rattle.std.specs.Prelude.{Bool, Option, None, Some, flat_map}
+use Rattle.std.specs.Prelude.{Bool, Option, Some, flat_map}
 use Rattle.std.specs.Ordering.{nat_cmp, eq_by_cmp}
 use Rattle.std.specs.Cmp.{nat_cmp_total}
 use Rattle.std.specs.FinMap.{get-empty, get-insert, get-remove}
 use Rattle.std.specs.FinMap as finite
 use Rattle.osm_base.specs.Key.{KeyOf}
-use Rattle.osm_base.specs.KeyOrder.{key_cmp, key_cmp_total}
+use Rattle.osm_base.specs.KeyOrder.{key_cmp}
 use Rattle.osm_base.specs.declared.key.Kind.{Kind}
 use Rattle.osm_base.specs.declared.key.Kind.TheVariants.{Node, Way, Relation}
 use Rattle.osm_base.specs.declared.object.Object.{Object}

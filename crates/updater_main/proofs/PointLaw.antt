@@ -1,6 +1,5 @@
 -- The lines that are kept while files are read are those of the objects that the entries make.
-use Rattle.std.proofs.Common.{◌≡◌, List, ℕ, sym, ap, ◌∙◌}
-use Rattle.std.specs.Prelude.{flat_map}
+use Rattle.std.proofs.Common.{◌≡◌, List, ℕ}
 use Rattle.std.specs.FinMap as finite
 use Rattle.osm_base.specs.declared.object.Entry.{Entry}
 use Rattle.object_fold.specs.Fold.{folded_all}

@@ -99,7 +99,9 @@ module _ (text_of : List Entry → List ℕ) (files : Files) (inputs : Sources) 
       ends (faults.Malformed file line why) s = s
       ends (faults.Limit which value) s = s
       ends (faults.ReadFault file) s = s
+      ends faults.NotEmpty s = s
       ends faults.WriteFault s = absurd s
+      ends faults.DiskFault s = s
       ends faults.OutOfMemory s = s
 
       unwritten : (fault : Fault) → StopsFiles files Found (ReadFailed inputs) fault → Some fault ≡ Some faults.WriteFault → ⊥
@@ -107,7 +109,9 @@ module _ (text_of : List Entry → List ℕ) (files : Files) (inputs : Sources) 
       unwritten (faults.Malformed file line why) s e = cc
       unwritten (faults.Limit which value) s e = cc
       unwritten (faults.ReadFault file) s e = cc
+      unwritten faults.NotEmpty s e = s
       unwritten faults.WriteFault s e = s
+      unwritten faults.DiskFault s e = s
       unwritten faults.OutOfMemory s e = cc
 
       ended : (fault : Fault) → StopsFiles files Found (ReadFailed inputs) fault → (texts : ℕ → List ℕ) → Hold inputs.bytes texts files → (ReadFailed inputs → ⊥) → (WriteFailed output → ⊥)
@@ -116,5 +120,7 @@ module _ (text_of : List Entry → List ℕ) (files : Files) (inputs : Sources) 
       ended (faults.Malformed file line why) s texts h r w o = found_only _ s texts h
       ended (faults.Limit which value) s texts h r w o = found_only _ s texts h
       ended (faults.ReadFault file) s texts h r w o = absurd (r s.2)
+      ended faults.NotEmpty s texts h r w o = absurd s
       ended faults.WriteFault s texts h r w o = absurd s
+      ended faults.DiskFault s texts h r w o = absurd s
       ended faults.OutOfMemory s texts h r w o = absurd (o refl)

@@ -1,5 +1,5 @@
 -- The lines of ways: those of no objects, those that stay, and their text.
-use Rattle.std.proofs.Common.{◌≡◌, ◌≤◌, ◌<◌, ◌+◌, ℕ, Bool, true, false, ◌||◌, cond, List, [], ◌∷◌, ◌++◌, map, fold, take, length, get_or, append_assoc, Option, Some, None, refl, sym, ap, subst, ◌∙◌, nat_eq}
+use Rattle.std.proofs.Common.{◌≡◌, ◌<◌, ◌+◌, ℕ, Bool, true, false, ◌||◌, cond, List, [], ◌∷◌, ◌++◌, map, fold, take, length, get_or, append_assoc, Option, Some, None, refl, sym, ap, ◌∙◌, nat_eq}
 use mathlib.Core.Bool.{false≢true}
 use Rattle.std.proofs.lemmas.List.{append-nil, take_more}
 use Rattle.std.proofs.lemmas.List.Folds.{list_any-append}
@@ -9,7 +9,6 @@ use Rattle.std.specs.Option.{option_and_then, option_map}
 use Rattle.std.specs.Ordering.{nat_cmp, is_eq, eq_by_cmp}
 use Rattle.std.specs.Cmp.{nat_cmp_total, unsigned_tied, tied_itself}
 use Rattle.std.specs.Cmp.Lexicographic.{slice_cmp, nat_list_cmp_total}
-use Rattle.std.specs.List.{list_any}
 use Rattle.std.specs.FinMap as finite
 use Rattle.osm_base.specs.declared.key.Kind.{Kind}
 use Rattle.osm_base.specs.declared.key.Kind.TheVariants as kinds
@@ -26,10 +25,10 @@ use Rattle.object_fold.specs.FoldLaws.{Untouched, get-with_object, get-untouched
 use Rattle.object_fold.specs.Index.{is_kind, known_of}
 use Rattle.object_fold.specs.RisingIds.{has}
 use Rattle.dep_closure.specs.Ways.{line_of, Leaves}
-use Rattle.updater_main.specs.KeptChange.{kept_object, kept_entry, KeptEntries, with_entry}
+use Rattle.updater_main.specs.KeptChange.{kept_object, kept_entry, with_entry}
 use Rattle.updater_main.specs.LinesById.{LineMap, set_line, text_of}
 use Rattle.updater_main.specs.LinesText.{way_row, object_row, of_way, lines_text}
-use Rattle.updater_main.specs.WayLines.{some_line, way_key, row_at, AreRows, AreLines, WaysRead, no_ways, after_way, is_way_in}
+use Rattle.updater_main.specs.WayLines.{some_line, way_key, row_at, AreRows, AreLines, after_way, is_way_in}
 use Rattle.updater_main.proofs.KindLines.{same_id, text-entries, lines_in, get-lines_in}
 
 of_way-cond : (kind : Kind) (text : List ℕ) → cond (is_kind kinds.Way kind) text [] ≡ of_way kind text

@@ -1,7 +1,6 @@
 -- Lists of words, and the same lists of their bytes.
 use Rattle.std.proofs.Common.{◌≡◌, ℕ, None, ◌-◌, ◌≤◌, Bool, false, cond, ltb, List, [], ◌∷◌, length, take, drop, refl, sym, ◌∙◌, ap, arith}
 use Rattle.std.proofs.Common.{map as each}
-use Rattle.std.specs.Prelude.{codes}
 use Rattle.std.specs.List.{prefix_len}
 use Rattle.std.proofs.lemmas.List.{take-map, drop-map, length-map}
 use Rattle.std.proofs.lemmas.Bool.Decides.{nat_tests}

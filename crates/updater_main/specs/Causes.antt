@@ -1,7 +1,7 @@
 -- Why a run over files ended early.
 use Rattle.std.specs.Prelude.{◌≤◌, ◌<◌, ◌+◌}
 use Rattle.updater_main.specs.declared.fault.Fault.{Fault}
-use Rattle.updater_main.specs.declared.fault.Fault.TheVariants.{Usage, Malformed, Limit, ReadFault, WriteFault, OutOfMemory}
+use Rattle.updater_main.specs.declared.fault.Fault.TheVariants.{Usage, Malformed, Limit, ReadFault, NotEmpty, WriteFault, DiskFault, OutOfMemory}
 use Rattle.updater_main.specs.declared.files.Files.{Files}
 
 -- a file has this fault, a read of one of the files failed, the output failed, or memory ran out
@@ -10,7 +10,9 @@ Ends files found read written Usage = ⊥
 Ends files found read written (Malformed file line why) = found (Malformed file line why)
 Ends files found read written (Limit which value) = found (Limit which value)
 Ends files found read written (ReadFault file) = (files.first ≤ file) × (file < files.first + files.count) × read
+Ends files found read written NotEmpty = ⊥
 Ends files found read written WriteFault = written
+Ends files found read written DiskFault = ⊥
 Ends files found read written OutOfMemory = Unit {0}
 
 -- the same where nothing is written

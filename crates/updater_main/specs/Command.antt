@@ -7,7 +7,7 @@ use Rattle.std.specs.Prelude.{ℕ, ◌+◌, ◌-◌, ◌≤◌, Bool, nat_lt, na
 use Rattle.std.specs.List.{prefix_len, starts_with}
 use Rattle.std.specs.Str.{bytes_eq}
 use Rattle.updater_main.specs.declared.words.Command.{Command}
-use Rattle.updater_main.specs.declared.words.Command.TheVariants.{Points, Lines}
+use Rattle.updater_main.specs.declared.words.Command.TheVariants.{Points, Lines, Init}
 use Rattle.updater_main.specs.declared.files.Files.{Files}
 use Rattle.updater_main.specs.declared.words.TheConstants.{MAX_WORDS, MAX_KEY}
 
@@ -15,16 +15,24 @@ use Rattle.updater_main.specs.declared.words.TheConstants.{MAX_WORDS, MAX_KEY}
 pub data CommandOf : Type 0 where
   points_of : (key : List ℕ) → (files : Files) → CommandOf
   lines_of : (key : List ℕ) → (files : Files) → CommandOf
+  init_of : (store : List ℕ) → CommandOf
 
 -- a command of the program, as contracts see it
 abbrev pub seen : Command → CommandOf
 seen (Points key files) = points_of key.now files
 seen (Lines key files) = lines_of key.now files
+seen (Init store) = init_of store.now
+
+-- the path of the store that words ask for
+abbrev pub store_of : Option CommandOf → Option (List ℕ)
+store_of (Some (init_of store)) = Some store
+store_of _ = None
 
 -- the files of a command are numbered by its words
 abbrev pub FilesFit : CommandOf → Type 0
 FilesFit (points_of key files) = files.first + files.count ≤ 8192
 FilesFit (lines_of key files) = files.first + files.count ≤ 8192
+FilesFit (init_of store) = Unit {0}
 
 -- what remains from the first on that fails a test
 abbrev pub behind : {A : Type 0} → (A → Bool) → List A → List A
@@ -57,11 +65,17 @@ keyed command [] (key ∷ input ∷ changes) place =
     if nat_le 1 (length key) && nat_le (length key) MAX_KEY then Some (command key (record { first = place + 1; count = length changes + 1 })) else None
 keyed command _ _ _ = None
 
+-- `STORE`: no option
+abbrev pub stored : (options form : List (List ℕ)) → Option CommandOf
+stored [] (store ∷ []) = Some (init_of store)
+stored _ _ = None
+
 -- what words ask for whose first is this name
 abbrev pub row : (name : List ℕ) → (options form : List (List ℕ)) → (place : ℕ) → Option CommandOf
 row name options form place =
     if bytes_eq name (codes "points") then keyed points_of options form place else
-    if bytes_eq name (codes "lines") then keyed lines_of options form place else None
+    if bytes_eq name (codes "lines") then keyed lines_of options form place else
+    if bytes_eq name (codes "init") then stored options form else None
 
 -- what all words ask for, where they ask for something
 unfoldable pub command : List (List ℕ) → Option CommandOf

@@ -9,15 +9,17 @@ use Rattle.opl_object.specs.declared.why.Why.{Why}
 use Rattle.opl_object.specs.declared.why.Why.TheVariants.{Order}
 use Rattle.opl_object.specs.Why.{number_of}
 use Rattle.updater_main.specs.declared.fault.Fault.{Fault}
-use Rattle.updater_main.specs.declared.fault.Fault.TheVariants.{Usage, Malformed, Limit, ReadFault, WriteFault, OutOfMemory}
+use Rattle.updater_main.specs.declared.fault.Fault.TheVariants.{Usage, Malformed, Limit, ReadFault, NotEmpty, WriteFault, DiskFault, OutOfMemory}
 
 -- the status of a run with this fault, or with none
 abbrev pub status_of : Option Fault → ℕ
 status_of None = 0
 status_of (Some Usage) = 2
 status_of (Some (Malformed _ _ _)) = 3
+status_of (Some NotEmpty) = 6
 status_of (Some (ReadFault _)) = 7
 status_of (Some WriteFault) = 8
+status_of (Some DiskFault) = 9
 status_of (Some (Limit _ _)) = 10
 status_of (Some OutOfMemory) = 11
 
@@ -55,5 +57,7 @@ fault_text (Malformed file line why) =
     codes "malformed file " ++ decimal file ++ codes " line " ++ decimal line ++ codes " cause " ++ decimal (number_of why) ++ order_text why
 fault_text (Limit which value) = codes "limit " ++ limit_text which ++ codes " value " ++ decimal value
 fault_text (ReadFault file) = codes "read fault file " ++ decimal file
+fault_text NotEmpty = codes "not empty"
 fault_text WriteFault = codes "write fault"
+fault_text DiskFault = codes "disk fault"
 fault_text OutOfMemory = codes "out of memory"

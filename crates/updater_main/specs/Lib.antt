@@ -3,6 +3,7 @@ pub mod Command
 pub mod CopyText
 pub mod Faults
 pub mod Files
+pub mod Init
 pub mod Kept
 pub mod KeptChange
 pub mod LinesById

@@ -2,7 +2,7 @@
 -- It is the id, the value of the key and the line as `LINESTRING(x y,x y)`, longitude first, separated by tabs and ended by a newline.
 -- OGC Simple Features, "Well-known Text Representation for Geometry": a line string is its points in order, separated by commas.
 -- The value has the escapes of PostgreSQL's COPY text format.
-use Rattle.std.specs.Prelude.{ℕ, Option, None, Some, List, [], ◌∷◌, ◌++◌, codes, decimal, encode_utf8_all, flat_map}
+use Rattle.std.specs.Prelude.{ℕ, Option, Some, List, [], ◌∷◌, ◌++◌, codes, decimal, encode_utf8_all, flat_map}
 use Rattle.std.specs.FinMap as map
 use Rattle.osm_base.specs.Degrees.{degrees}
 use Rattle.osm_base.specs.Place.{PlaceOf}

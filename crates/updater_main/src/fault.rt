@@ -21,8 +21,12 @@ pub enum Fault {
     Limit { which: LimitKind, value: u64 },
     /// A file could not be read.
     ReadFault { file: u32 },
+    /// The store is to be made on a disk that holds bytes.
+    NotEmpty,
     /// The output took no more bytes.
     WriteFault,
+    /// The disk of the store failed.
+    DiskFault,
     /// There was no memory.
     OutOfMemory,
 }
@@ -70,8 +74,10 @@ impl Outcome {
             None => 0,
             Some(Fault::Usage) => 2,
             Some(Fault::Malformed { .. }) => 3,
+            Some(Fault::NotEmpty) => 6,
             Some(Fault::ReadFault { .. }) => 7,
             Some(Fault::WriteFault) => 8,
+            Some(Fault::DiskFault) => 9,
             Some(Fault::Limit { .. }) => 10,
             Some(Fault::OutOfMemory) => 11,
         };
@@ -123,7 +129,9 @@ impl fmt::Display for Fault {
                 LimitKind::Changes => write!(f, "limit changes value {value}"),
             },
             Fault::ReadFault { file } => write!(f, "read fault file {file}"),
+            Fault::NotEmpty => write!(f, "not empty"),
             Fault::WriteFault => write!(f, "write fault"),
+            Fault::DiskFault => write!(f, "disk fault"),
             Fault::OutOfMemory => write!(f, "out of memory"),
         }
     }

@@ -1,5 +1,6 @@
 //! Whole runs of `lines` over files and an output in memory.
 use crate::fault::{Fault, Outcome};
+use crate::no_disk;
 use crate::run::run;
 use crate::run_tests::{inputs_of, keyed_words};
 use opl_object::Why;
@@ -120,7 +121,14 @@ fn a_run_writes_the_lines_of_its_ways(rt: HostRuntime) -> Result<(), Fail> {
         let words = keyed_words(alloc, "lines", "highway", texts.len())?;
         let mut inputs = MemInputs::new(inputs_of(alloc, texts)?, Fails::never(alloc));
         let mut out = MemSink::new(alloc, Fails::never(alloc));
-        let outcome = run(&rt, alloc, &words, &mut inputs, &mut out);
+        let outcome = run(
+            &rt,
+            alloc,
+            &words,
+            &mut inputs,
+            &mut no_disk(alloc),
+            &mut out,
+        );
         assert_eq!(rt; outcome, Outcome::of(fault), "of {texts:?}");
         assert_eq!(rt; out.taken(), written, "of {texts:?}");
     }
@@ -142,7 +150,14 @@ fn a_failing_call_ends_a_run_of_lines(rt: HostRuntime) -> Result<(), Fail> {
         let files = inputs_of(alloc, &[WAY, b"n2 x3 y1\n"])?;
         let mut inputs = MemInputs::new(files, Fails::new(Ids::new(alloc), from_input));
         let mut out = MemSink::new(alloc, Fails::new(Ids::new(alloc), from_output));
-        let outcome = run(&rt, alloc, &words, &mut inputs, &mut out);
+        let outcome = run(
+            &rt,
+            alloc,
+            &words,
+            &mut inputs,
+            &mut no_disk(alloc),
+            &mut out,
+        );
         assert_eq!(rt; outcome.fault, Some(fault));
         assert!(rt; out.taken().is_empty());
     }

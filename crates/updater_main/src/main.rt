@@ -6,12 +6,15 @@
 //! fault. Below `run`, `command_of` says what the words mean, `scan_files` reads the files one after
 //! another to their ends, `PointLines` keeps the line of each node with a tag and a place while they
 //! are read, `WayLines` the line of each way with the tag, of which a change builds again only those
-//! that it makes due, and a `Fault` has its status and its one line of text.
+//! that it makes due, `init` makes a store, and a `Fault` has its status and its one line of text.
 #![tactic(auto)]
 
 mod copy_text;
 mod fault;
 mod files;
+mod init;
+#[cfg(test)]
+mod init_tests;
 mod kept;
 mod kept_change;
 mod lines_by_id;
@@ -30,27 +33,34 @@ mod way_row;
 mod words;
 
 use fault::{Fault, Outcome, fault_line};
-use outside::{Failed, FileInputs, StdSink, put_all};
+use osm_base::Bytes;
+use outside::{Failed, Fails, FileDisk, FileInputs, MemDisk, StdSink, put_all};
 use run::run;
+use std::alloc::Global;
 use std::process::ExitCode;
 use std::rt::Env;
 use std::{env, io};
+use words::store_of;
 
 const HELP: &str = "\
 usage: yilgartzu points KEY INPUT [CHANGE..]
        yilgartzu lines KEY INPUT [CHANGE..]
+       yilgartzu init STORE
 
-Both read the OPL file INPUT and the change files in order.
+The first two read the OPL file INPUT and the change files in order.
 
   points       write a line for each node that has the tag KEY and a place: id,
                value, POINT(lon lat)
   lines        write a line for each way that has the tag KEY and two points or
                more: id, value, LINESTRING(lon lat,lon lat,..)
+  init         make the file STORE an empty store, where there is no file or an
+               empty one
   --help       this text
   --version    the version
 
 A word -- ends the options. Status 0: done; 2: wrong words; 3: a line is wrong;
-7: a file could not be read; 8: the output failed; 10: a limit; 11: out of memory.
+6: STORE holds bytes; 7: a file could not be read; 8: the output failed; 9: the
+disk of STORE failed; 10: a limit; 11: out of memory.
 ";
 
 const VERSION: &str = "yilgartzu 0.1.0\n";
@@ -58,12 +68,17 @@ const VERSION: &str = "yilgartzu 0.1.0\n";
 fn main(rt: HostRuntime) -> ExitCode {
     let Outcome { status, fault } = match words_of(&rt) {
         Ok(words) => {
+            let mut inputs = FileInputs::new(&rt, &words);
             let mut out = StdSink::new(io::writer(&rt));
-            match text_asked(&words) {
-                Some(text) => told(put_all(&mut out, text.as_bytes())),
-                None => {
-                    let mut inputs = FileInputs::new(&rt, &words);
-                    run(&rt, rt.alloc(), &words, &mut inputs, &mut out)
+            match asked_of(&words) {
+                Asked::Text(text) => told(put_all(&mut out, text.as_bytes())),
+                Asked::Store(path) => {
+                    let mut disk = FileDisk::new(&rt, path, true);
+                    run(&rt, rt.alloc(), &words, &mut inputs, &mut disk, &mut out)
+                }
+                Asked::Run => {
+                    let mut disk = no_disk(rt.alloc());
+                    run(&rt, rt.alloc(), &words, &mut inputs, &mut disk, &mut out)
                 }
             }
         }
@@ -75,6 +90,33 @@ fn main(rt: HostRuntime) -> ExitCode {
     ExitCode::from(status)
 }
 
+/// What the words ask for.
+enum Asked<'a> {
+    /// A text of the program.
+    Text(&'static str),
+    /// A run with the store at this path.
+    Store(&'a str),
+    /// A run without a store.
+    Run,
+}
+
+/// What the words ask for: a text where they begin with `--help` or `--version`.
+fn asked_of(words: &[String]) -> Asked<'_> {
+    match words.first() {
+        Some(word) if word.as_str() == "--help" => Asked::Text(HELP),
+        Some(word) if word.as_str() == "--version" => Asked::Text(VERSION),
+        _ => match store_of(words) {
+            Some(path) => Asked::Store(path),
+            None => Asked::Run,
+        },
+    }
+}
+
+/// The disk of a run without a store: an empty one in memory.
+fn no_disk(alloc: Global) -> MemDisk {
+    MemDisk::new(alloc, Bytes::new(alloc), Fails::never(alloc))
+}
+
 /// The words behind the program's name. Words that are not text are a wrong use.
 fn words_of(rt: &(impl Env + AllocGlobal)) -> Result<Vec<String>, Fault> {
     match env::args(rt) {
@@ -84,15 +126,6 @@ fn words_of(rt: &(impl Env + AllocGlobal)) -> Result<Vec<String>, Fault> {
             .map_err(|_| Fault::OutOfMemory),
         Err(error) if error.kind() == io::ErrorKind::OutOfMemory => Err(Fault::OutOfMemory),
         Err(_) => Err(Fault::Usage),
-    }
-}
-
-/// The text that the words ask for, where they begin with `--help` or `--version`.
-fn text_asked(words: &[String]) -> Option<&'static str> {
-    match words.first()?.as_str() {
-        "--help" => Some(HELP),
-        "--version" => Some(VERSION),
-        _ => None,
     }
 }
 

@@ -3,21 +3,23 @@ ghost use Rattle.std.specs.Prelude.{◌≡◌, ◌≤◌, ◌+◌, ℕ, List, So
 ghost use Rattle.std.specs.Result.{result_err};
 ghost use Rattle.std.specs.String.{string_bytes};
 ghost use Rattle.std.specs.Io.KnownBytes.{Keeps};
-ghost use Rattle.updater_main.specs.Command.{command, points_of, lines_of};
+ghost use Rattle.updater_main.specs.Command.{command, init_of, points_of, lines_of, store_of};
 ghost use Rattle.updater_main.specs.Faults.{status_of};
+ghost use Rattle.updater_main.specs.Init.{IsSpared, RunsInit};
 ghost use Rattle.updater_main.specs.Kept.{after_kept, kept_text};
 ghost use Rattle.updater_main.specs.Run.{RunsText, points_text_of, lines_text_of};
 ghost use Rattle.updater_main.specs.declared.files.Files.{Files as FilesOf};
 
 use crate::fault::{Fault, Outcome};
 use crate::files::Files;
+use crate::init::init;
 use crate::kept::Kept;
 use crate::point_lines::PointLines;
 use crate::scan_files::scan_files;
 use crate::way_lines::WayLines;
 use crate::words::{Command, command_of};
 use osm_base::Limits;
-use outside::{Inputs, Sink, put_all};
+use outside::{Disk, Inputs, Sink, put_all};
 use std::alloc::Global;
 use std::sync::Wait;
 use std::thread::Threads;
@@ -81,12 +83,14 @@ fn lines<I: Inputs, S: Sink>(
     write_text(alloc, start, files, inputs, out)
 }
 
-/// Does what the words behind the program's name say. A file is told by the place of its word.
-pub fn run<R: Threads + Wait + Sync, I: Inputs, S: Sink>(
+/// Does what the words behind the program's name say. A file is told by the place of its word. The disk
+/// is that of the store, if the words name one.
+pub fn run<R: Threads + Wait + Sync, I: Inputs, D: Disk, S: Sink>(
     _rt: &R,
     alloc: Global,
     words: &[String],
     inputs: &mut I,
+    disk: &mut D,
     out: &mut S,
 ) -> Outcome
     ensures status { result.status ≡ status_of result.fault }
@@ -94,6 +98,14 @@ pub fn run<R: Threads + Wait + Sync, I: Inputs, S: Sink>(
     // Words that are no command are a wrong use, and nothing is written.
     ensures usage { command (map string_bytes words.now) ≡ None → result.fault ≡ Some Fault.Usage }
     ensures unwritten { command (map string_bytes words.now) ≡ None → Keeps (S.taken out.old) (S.taken out.new) }
+
+    // Words that name no store leave the disk as it was.
+    ensures spared { store_of (command (map string_bytes words.now)) ≡ None → IsSpared (D.view disk.old) (D.view disk.new) }
+
+    // A new store.
+    ensures init { (store : List ℕ) → command (map string_bytes words.now) ≡ Some (init_of store) → RunsInit (D.view disk.old) (D.view disk.new)
+        (record { bytes = S.taken out.old; bytes_after = S.taken out.new; faults = S.faults out.old; faults_after = S.faults out.new })
+        result.fault }
 
     // The points of files.
     ensures points { (key : List ℕ) (files : FilesOf) → command (map string_bytes words.now) ≡ Some (points_of key files) → RunsText (points_text_of key) files
@@ -115,5 +127,6 @@ pub fn run<R: Threads + Wait + Sync, I: Inputs, S: Sink>(
         Some(Command::Lines { key, files }) => {
             Outcome::of(lines(alloc, key, files, inputs, out).err())
         }
+        Some(Command::Init { .. }) => Outcome::of(init(disk, out).err()),
     }
 }

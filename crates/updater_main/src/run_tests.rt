@@ -1,5 +1,6 @@
 //! Whole runs over files and an output in memory.
 use crate::fault::{Fault, Outcome};
+use crate::no_disk;
 use crate::run::run;
 use opl_object::Why;
 use osm_base::{Bytes, FileList, Ids, Key, Kind};
@@ -238,7 +239,14 @@ fn a_run_writes_the_points_of_its_files(rt: HostRuntime) -> Result<(), Fail> {
         let words = keyed_words(alloc, "points", key, texts.len())?;
         let mut inputs = MemInputs::new(inputs_of(alloc, texts)?, Fails::never(alloc));
         let mut out = MemSink::new(alloc, Fails::never(alloc));
-        let outcome = run(&rt, alloc, &words, &mut inputs, &mut out);
+        let outcome = run(
+            &rt,
+            alloc,
+            &words,
+            &mut inputs,
+            &mut no_disk(alloc),
+            &mut out,
+        );
         assert_eq!(rt; outcome, Outcome::of(fault), "of {texts:?}");
         assert_eq!(rt; out.taken(), written, "of {texts:?}");
     }
@@ -251,7 +259,14 @@ fn words_that_are_no_command_write_nothing(rt: HostRuntime) -> Result<(), Fail> 
     let words = words_of(alloc, &["points", "k"])?;
     let mut inputs = MemInputs::new(files_of(alloc, &[])?, Fails::never(alloc));
     let mut out = MemSink::new(alloc, Fails::never(alloc));
-    let outcome = run(&rt, alloc, &words, &mut inputs, &mut out);
+    let outcome = run(
+        &rt,
+        alloc,
+        &words,
+        &mut inputs,
+        &mut no_disk(alloc),
+        &mut out,
+    );
     assert_eq!(rt; outcome.fault, Some(Fault::Usage));
     assert!(rt; out.taken().is_empty());
     Ok(())
@@ -273,7 +288,14 @@ fn a_failing_call_ends_the_run(rt: HostRuntime) -> Result<(), Fail> {
         let files = files_of(alloc, &[b"", b"", b"", b"n1 Tk=a x1 y1\n"])?;
         let mut inputs = MemInputs::new(files, failing_from(alloc, from_input));
         let mut out = MemSink::new(alloc, failing_from(alloc, from_output));
-        let outcome = run(&rt, alloc, &words, &mut inputs, &mut out);
+        let outcome = run(
+            &rt,
+            alloc,
+            &words,
+            &mut inputs,
+            &mut no_disk(alloc),
+            &mut out,
+        );
         assert_eq!(rt; outcome.fault, Some(fault));
         assert!(rt; out.taken().is_empty());
     }
@@ -286,7 +308,14 @@ fn a_missing_file_is_a_read_fault(rt: HostRuntime) -> Result<(), Fail> {
     let words = words_of(alloc, &["points", "k", "INPUT"])?;
     let mut inputs = MemInputs::new(files_of(alloc, &[b"", b""])?, Fails::never(alloc));
     let mut out = MemSink::new(alloc, Fails::never(alloc));
-    let outcome = run(&rt, alloc, &words, &mut inputs, &mut out);
+    let outcome = run(
+        &rt,
+        alloc,
+        &words,
+        &mut inputs,
+        &mut no_disk(alloc),
+        &mut out,
+    );
     assert_eq!(rt; outcome.status, 7);
     Ok(())
 }
@@ -310,7 +339,14 @@ fn lines_that_two_reads_share_are_whole(rt: HostRuntime) -> Result<(), Fail> {
     let mut inputs = MemInputs::new(files, Fails::never(alloc));
     let mut out = MemSink::new(alloc, Fails::never(alloc));
     assert_eq!(rt;
-        run(&rt, alloc, &words, &mut inputs, &mut out),
+        run(
+            &rt,
+            alloc,
+            &words,
+            &mut inputs,
+            &mut no_disk(alloc),
+            &mut out
+        ),
         Outcome::of(None)
     );
     assert_eq!(rt; out.taken(), want.as_bytes());

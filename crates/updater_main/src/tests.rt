@@ -1,7 +1,7 @@
 //! Examples from outside, and each call with ample memory.
 use crate::fault::{Fault, Outcome, fault_line};
 use crate::row::push_point;
-use crate::words::{Command, command_of};
+use crate::words::{Command, command_of, store_of};
 use opl_object::Why;
 use osm_base::{Entry, Ids, Key, Kind, LimitKind, Object, OutOfMemory, Place, Tags};
 use std::alloc::{AllocError, Global};
@@ -49,6 +49,28 @@ fn words_are_read_as_commands(rt: HostRuntime) -> Result<(), Fail> {
     Ok(())
 }
 
+// Words of a command line, and the path of the store that they name.
+const STORES: [(&[&str], Option<&str>); 9] = [
+    (&["init", "s"], Some("s")),
+    (&["init", ""], Some("")),
+    (&["init", "--", "a=b"], Some("a=b")),
+    (&["init", "--", "--"], Some("--")),
+    (&["init", "--"], None),
+    (&["init"], None),
+    (&["init", "s", "t"], None),
+    (&["init", "a=b", "s"], None),
+    (&["points", "s", "f"], None),
+];
+
+#[test]
+fn words_name_a_store(rt: HostRuntime) -> Result<(), Fail> {
+    for (texts, want) in STORES {
+        let words = words_of(rt.alloc(), texts)?;
+        assert_eq!(rt; store_of(&words), want, "at {texts:?}");
+    }
+    Ok(())
+}
+
 #[test]
 fn a_key_has_at_most_255_bytes(rt: HostRuntime) -> Result<(), Fail> {
     for (bytes, is_command) in [(254, true), (255, true), (256, false)] {
@@ -89,6 +111,7 @@ fn parts(command: Option<Command<'_>>) -> Option<(&str, u32, u32)> {
         Command::Points { key, files } | Command::Lines { key, files } => {
             Some((key, files.first, files.count))
         }
+        Command::Init { .. } => None,
     }
 }
 
@@ -141,7 +164,7 @@ fn cafe_tags(alloc: Global) -> Result<Tags, OutOfMemory> {
 }
 
 // Each fault, with its status and its line.
-const FAULTS: [(Fault, u8, &str); 10] = [
+const FAULTS: [(Fault, u8, &str); 12] = [
     (Fault::Usage, 2, "usage"),
     (
         Fault::Malformed {
@@ -189,7 +212,9 @@ const FAULTS: [(Fault, u8, &str); 10] = [
         "malformed file 4095 line 1 cause 13 r9223372036854775807 r1",
     ),
     (Fault::ReadFault { file: 2 }, 7, "read fault file 2"),
+    (Fault::NotEmpty, 6, "not empty"),
     (Fault::WriteFault, 8, "write fault"),
+    (Fault::DiskFault, 9, "disk fault"),
     (
         Fault::Limit {
             which: LimitKind::LineBytes,

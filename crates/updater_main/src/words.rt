@@ -21,6 +21,18 @@ pub enum Command<'a> {
     Points { key: &'a str, files: Files },
     /// The ways of the files that have the tag KEY and a line.
     Lines { key: &'a str, files: Files },
+    /// An empty store on an empty disk.
+    Init { store: &'a str },
+}
+
+/// The path of the store that the words of a command name.
+pub fn store_of(words: &[String]) -> Option<&str>
+    ensures store { option_map (λ store. store.now) result ≡ spec.store_of (spec.command (map string_bytes words.now)) }
+{
+    match command_of(words)? {
+        Command::Init { store } => Some(store),
+        Command::Points { .. } | Command::Lines { .. } => None,
+    }
 }
 
 /// The command that the words behind the program's name ask for.
@@ -61,6 +73,9 @@ fn row<'a>(name: &str, options: &[String], form: &'a [String], place: u32) -> Op
             let (key, files) = keyed(options, form, place)?;
             Some(Command::Lines { key, files })
         }
+        "init" => Some(Command::Init {
+            store: stored(options, form)?,
+        }),
         _ => None,
     }
 }
@@ -101,6 +116,17 @@ fn without_dashes(words: &[String]) -> &[String]
     match words {
         [dashes, form @ ..] if dashes.as_str() == "--" => form,
         _ => words,
+    }
+}
+
+/// `STORE`.
+fn stored<'a>(options: &[String], form: &'a [String]) -> Option<&'a str>
+    ensures stored { option_map (λ store. spec.init_of store.now) result
+        ≡ spec.stored (map string_bytes options.now) (map string_bytes form.now) }
+{
+    match form {
+        [store] if options.is_empty() => Some(store.as_str()),
+        _ => None,
     }
 }
 

@@ -1,6 +1,5 @@
-use Rattle.std.proofs.Common.{List, ap, fold, ◌∙◌}
+use Rattle.std.proofs.Common.{ap, fold, ◌∙◌}
 use Rattle.std.specs.Result.{result_err}
-use Rattle.osm_base.specs.declared.object.Entry.{Entry}
 use Rattle.updater_main.specs.declared.kept.Kept.TheVariants.{Ways}
 use Rattle.updater_main.specs.Kept.{after_kept, kept_text}
 use Rattle.updater_main.specs.WayLines.{WaysRead}

@@ -1,5 +1,4 @@
 use Rattle.std.proofs.Common.{sym, ◌∙◌, ap}
-use Rattle.std.specs.Prelude.{◌==◌}
 use Rattle.updater_main.specs.LinesById.{set_line}
 use Rattle.updater_main.proofs.KeptLines.{taken_out, put_in, no_byte, some_byte}
 use Rattle.updater_main.proofs.lines_by_id.LinesById.set.Goals as goal
