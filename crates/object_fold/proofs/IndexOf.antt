@@ -4,11 +4,9 @@ use mathlib.Core.Bool.{false≢true}
 use Rattle.std.proofs.lemmas.Bool.Decides.{nat_tests}
 use Rattle.std.specs.declared.cmp.Ordering.{Ordering}
 use Rattle.std.specs.declared.cmp.Ordering.TheVariants.{Less, Equal, Greater}
-use Rattle.std.specs.Option.{IsSome, is_some}
-use Rattle.std.specs.Ordering.{nat_cmp, is_lt, eq_by_cmp}
-use Rattle.std.specs.Cmp.{unsigned_tied, Equal-is}
-use Rattle.std.proofs.lemmas.Cmp.{nat_eq_equiv}
-use Rattle.std.specs.List.{filter, list_any, AllByRecursion}
+use Rattle.std.specs.Option.{IsSome}
+use Rattle.std.specs.Ordering.{nat_cmp, is_lt}
+use Rattle.std.specs.List.{filter, AllByRecursion}
 use Rattle.std.specs.List.Sorted.{IsStrictlySortedBy}
 use Rattle.std.specs.FinMap as finite
 use Rattle.std.specs.FinMap.{is_sorted}
@@ -17,7 +15,7 @@ use Rattle.osm_base.specs.declared.key.Kind.TheVariants.{Node, Way, Relation}
 use Rattle.osm_base.specs.declared.object.Object.{Object}
 use Rattle.osm_base.specs.Ids.{AreRisingIds}
 use Rattle.osm_base.specs.Key.{KeyOf, IsId}
-use Rattle.osm_base.specs.KeyOrder.{key_cmp, key_cmp-IsAntisymmetric}
+use Rattle.osm_base.specs.KeyOrder.{key_cmp}
 use Rattle.object_fold.specs.Fold.{ObjectSet}
 use Rattle.object_fold.specs.Index.{is_kind, lists, ids_of}
 use Rattle.object_fold.specs.Listers.{key, kind_same, passing, test, has-ids_of}

@@ -120,3 +120,26 @@ module _ (objects : ObjectSet) (ids : (key : KeyOf) → IsSome (finite.get objec
         | true ↦ λ same none. absurd (cc)
         | false ↦ λ differs some. ids other some
       ] refl (subst IsSome (finite.get-remove key_cmp_total objects key other) there)
+
+-- what becomes of a node is no matter of the listings
+module _ (key : KeyOf) (is_node : key.kind ≡ Node) (objects after : ObjectSet) (own : Option Object)
+    (is : (at : KeyOf) → finite.get after at ≡ cond (is_key key at) own (finite.get objects at)) where
+  no_way : (id by : ℕ) → is_key (record { kind = Node; id = id }) (way by) ≡ false
+  no_way id by = refl
+
+  no_relation : (id by : ℕ) → is_key (record { kind = Node; id = id }) (relation by) ≡ false
+  no_relation id by = refl
+
+  same_way : (by : ℕ) → finite.get after (way by) ≡ finite.get objects (way by)
+  same_way by = is (way by) ∙ ap (λ b. cond b own (finite.get objects (way by))) (ap (λ kind. is_key (record { kind = kind; id = key.id }) (way by)) is_node ∙ no_way key.id by)
+
+  same_relation : (by : ℕ) → finite.get after (relation by) ≡ finite.get objects (relation by)
+  same_relation by =
+      is (relation by) ∙ ap (λ b. cond b own (finite.get objects (relation by))) (ap (λ kind. is_key (record { kind = kind; id = key.id }) (relation by)) is_node ∙ no_relation key.id by)
+
+  pub node-answers : (listings : Listings) → Answer listings (rows_of objects) → Answer listings (rows_of after)
+  node-answers listings answer = record {
+    ways_of_nodes = λ id by. answer.ways_of_nodes id by ∙ ap (lists Node id) (sym (same_way by));
+    relations_of_nodes = λ id by. answer.relations_of_nodes id by ∙ ap (lists Node id) (sym (same_relation by));
+    relations_of_ways = λ id by. answer.relations_of_ways id by ∙ ap (lists Way id) (sym (same_relation by));
+  }

@@ -57,8 +57,8 @@ impl Objects {
         }
     }
 
-    /// What an entry says is so from now on.
-    fn apply(&mut self, entry: Entry) -> Result<(), OutOfMemory>
+    /// What an entry says is so from now on. After `Err` nothing has changed.
+    pub fn apply(&mut self, entry: Entry) -> Result<(), OutOfMemory>
         ensures ok { OnOk result (self.new ≡ folded self.old entry) }
         ensures err { OnErr result (self.new ≡ self.old) }
     {
@@ -125,6 +125,26 @@ fn place_in(object: &Object) -> Option<Place>
     }
 }
 
+/// Gives a key this object in the tree.
+fn set_object(
+    objects: &mut BTreeMap<Key, Object>,
+    key: Key,
+    object: Object,
+) -> Result<(), OutOfMemory>
+    ensures ok { OnOk result (objects_in objects.new ≡ map.insert (objects_in objects.old) key object) }
+    ensures err { OnErr result (objects_in objects.new ≡ objects_in objects.old) }
+{
+    objects.insert(key, object)?;
+    Ok(())
+}
+
+/// Takes the object of a key out of the tree, if it has one.
+fn remove_object(objects: &mut BTreeMap<Key, Object>, key: Key)
+    ensures { objects_in objects.new ≡ map.remove (objects_in objects.old) key }
+{
+    objects.remove(&key);
+}
+
 /// Gives a key this object, and lists what it lists beside what was listed before. After `Err` only
 /// some of that is listed too.
 fn insert(
@@ -141,11 +161,11 @@ fn insert(
     ensures some { OnErr result (AddsSome key ids.now listings.old listings.new) }
 {
     listings.add(alloc, key, ids)?;
-    objects.insert(key, object)?;
+    set_object(objects, key, object)?;
     Ok(())
 }
 
-/// Gives a key this object.
+/// Gives a key this object. What a node lists is asked by nobody, so for a node the listings stay.
 fn put(
     alloc: Global,
     objects: &mut BTreeMap<Key, Object>,
@@ -159,6 +179,10 @@ fn put(
     ensures listings { AreListingsOf (objects_in objects.new) listings.new }
 {
     prove!(1 <= key.id && key.id <= MAX_ID);
+    if key.kind == Kind::Node {
+        set_object(objects, key, object)?;
+        return Ok(());
+    }
     let old = listed_at(alloc, objects, key)?;
     let new = Listed::of(alloc, &object)?;
     if let Err(why) = insert(alloc, objects, listings, key, object, &new) {
@@ -181,8 +205,12 @@ fn take_out(
     ensures err { OnErr result (objects_in objects.new ≡ objects_in objects.old) }
     ensures listings { AreListingsOf (objects_in objects.new) listings.new }
 {
+    if key.kind == Kind::Node {
+        remove_object(objects, key);
+        return Ok(());
+    }
     let old = listed_at(alloc, objects, key)?;
-    objects.remove(&key);
+    remove_object(objects, key);
     listings.take_out(key, &old, &Listed::none(alloc));
     Ok(())
 }

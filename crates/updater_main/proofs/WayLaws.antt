@@ -7,7 +7,7 @@ use Rattle.std.proofs.lemmas.Cmp.{nat_eq_equiv}
 use Rattle.std.specs.Prelude.{flat_map}
 use Rattle.std.specs.Option.{option_and_then, option_map}
 use Rattle.std.specs.Ordering.{nat_cmp, is_eq, eq_by_cmp}
-use Rattle.std.specs.Cmp.{nat_cmp_total, unsigned_tied, tied_itself}
+use Rattle.std.specs.Cmp.{Equal-is, nat_cmp_total, unsigned_tied, tied_itself}
 use Rattle.std.specs.Cmp.Lexicographic.{slice_cmp, nat_list_cmp_total}
 use Rattle.std.specs.FinMap as finite
 use Rattle.osm_base.specs.declared.key.Kind.{Kind}
@@ -16,19 +16,19 @@ use Rattle.osm_base.specs.declared.object.Entry.{Entry}
 use Rattle.osm_base.specs.declared.object.Object.{Object}
 use Rattle.osm_base.specs.declared.object.Object.TheVariants.{Node, Way, Relation}
 use Rattle.osm_base.specs.Key.{KeyOf}
-use Rattle.osm_base.specs.KeyOrder.{key_cmp}
+use Rattle.osm_base.specs.KeyOrder.{key_cmp, key_cmp-IsAntisymmetric}
 use Rattle.osm_base.specs.Place.{PlaceOf}
 use Rattle.piece_ends.specs.Pieces.{Line}
 use Rattle.line_build.specs.Points.{line}
 use Rattle.object_fold.specs.Fold.{ObjectSet, folded, folded_all, place_in}
-use Rattle.object_fold.specs.FoldLaws.{Untouched, get-with_object, get-untouched}
+use Rattle.object_fold.specs.FoldLaws.{get-with_object}
 use Rattle.object_fold.specs.Index.{is_kind, known_of}
 use Rattle.object_fold.specs.RisingIds.{has}
 use Rattle.dep_closure.specs.Ways.{line_of, Leaves}
 use Rattle.updater_main.specs.KeptChange.{kept_object, kept_entry, with_entry}
 use Rattle.updater_main.specs.LinesById.{LineMap, set_line, text_of}
 use Rattle.updater_main.specs.LinesText.{way_row, object_row, of_way, lines_text}
-use Rattle.updater_main.specs.WayLines.{some_line, way_key, row_at, AreRows, AreLines, after_way, is_way_in}
+use Rattle.updater_main.specs.WayLines.{some_line, way_key, row_at, AreRows, AreLines, after_way}
 use Rattle.updater_main.proofs.KindLines.{same_id, text-entries, lines_in, get-lines_in}
 
 of_way-cond : (kind : Kind) (text : List ℕ) → cond (is_kind kinds.Way kind) text [] ≡ of_way kind text
@@ -80,27 +80,33 @@ renewed-rows key objects change due old new rows others set id =
       | false ↦ λ not. rows id ∙ ap some_line (sym (row-left key change objects id (others id not)))
     ] refl
 
--- a way that is not in an import is in no objects
-left_false : (a b : Bool) → (a || b) ≡ false → a ≡ false
-left_false true b is = absurd (false≢true (sym is))
-left_false false b is = refl
+-- an object more of an import, whose way, if it makes one, is among the ids
+pub more-held : (objects : ObjectSet) (before after : List ℕ) (entry : Entry) → ((way : ℕ) → has before way ≡ false → finite.get objects (way_key way) ≡ None)
+    → ((way : ℕ) → has after way ≡ false → has before way ≡ false) → ((way : ℕ) → has after way ≡ false → entry.key ≡ way_key way → entry.object ≡ None)
+    → (way : ℕ) → has after way ≡ false → finite.get (folded objects entry) (way_key way) ≡ None
+more-held objects before after entry held more added way not =
+    get-with_object objects entry.key entry.object (way_key way)
+    ∙ elim (eq_by_cmp key_cmp (way_key way) entry.key) as (λ b. eq_by_cmp key_cmp (way_key way) entry.key ≡ b → cond b entry.object (finite.get objects (way_key way)) ≡ None) [
+      | true ↦ λ same. added way not (sym (key_cmp-IsAntisymmetric (way_key way) entry.key ((Equal-is (key_cmp (way_key way) entry.key)).0 same)))
+      | false ↦ λ _. held way (more way not)
+    ] refl
 
-right_false : (a b : Bool) → (a || b) ≡ false → b ≡ false
-right_false true b is = absurd (false≢true (sym is))
-right_false false b is = is
+-- the lines of all ways of an import
+pub import-rows : (key : List ℕ) (objects : ObjectSet) (ways : List ℕ) (none lines : LineMap) → none ≡ finite.empty
+    → ((way : ℕ) → has ways way ≡ false → finite.get objects (way_key way) ≡ None)
+    → ((id : ℕ) → finite.get lines id ≡ cond (has ways id) (some_line (row_at key objects id)) (finite.get none id)) → AreRows key objects lines
+import-rows key objects ways none lines no_line held set id =
+    set id
+    ∙ elim (has ways id) as (λ b. has ways id ≡ b → cond b (some_line (row_at key objects id)) (finite.get none id) ≡ some_line (row_at key objects id)) [
+      | true ↦ λ _. refl
+      | false ↦ λ not.
+          ap (λ (own : LineMap). finite.get own id) no_line ∙ finite.get-empty nat_cmp id
+          ∙ sym (ap (λ found. some_line (object_row key (known_of objects).place id found)) (held id not))
+    ] refl
 
-untouched_way : (change : List Entry) (way : ℕ) → is_way_in change way ≡ false → Untouched (way_key way) change
-untouched_way [] way none = tt
-untouched_way (entry ∷ change) way none = (left_false _ _ none, untouched_way change way (right_false _ _ none))
-
-pub import-left : (objects : ObjectSet) (change : List Entry) (way : ℕ) → objects ≡ finite.empty → is_way_in change way ≡ false → Leaves change objects way
-import-left objects change way none not =
-    let before : finite.get objects (way_key way) ≡ None = ap (λ (own : ObjectSet). finite.get own (way_key way)) none ∙ finite.get-empty key_cmp (way_key way) in
-    let same = get-untouched objects change (way_key way) (untouched_way change way not) in
-    record {
-      object = same;
-      line = ap (line_of (known_of (folded_all objects change)).place) (same ∙ before) ∙ sym (ap (line_of (known_of objects).place) before);
-    }
+-- no way is among no objects
+pub none-held : (objects : ObjectSet) → objects ≡ finite.empty → (way : ℕ) → finite.get objects (way_key way) ≡ None
+none-held objects none way = ap (λ (own : ObjectSet). finite.get own (way_key way)) none ∙ finite.get-empty key_cmp (way_key way)
 
 -- one line more is built
 get-set_line : (lines : LineMap) (id : ℕ) (text : List ℕ) (other : ℕ) → finite.get (set_line lines id text) other ≡ cond (eq_by_cmp nat_cmp other id) (some_line text) (finite.get lines other)

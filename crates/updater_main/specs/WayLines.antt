@@ -2,16 +2,16 @@
 use Rattle.std.specs.Prelude.{◌≡◌, ℕ, List, [], ◌∷◌, false, Bool, Option, None, Some, refl}
 use Rattle.std.specs.Coded.{Coded, code_by, coded×, coded_list, coded_ℕ}
 use Rattle.std.specs.FinMap as finite
-use Rattle.std.specs.List.{list_any}
-use Rattle.std.specs.Ordering.{eq_by_cmp}
+use Rattle.std.specs.List.{AllByRecursion}
 use Rattle.osm_base.specs.declared.key.Kind.TheVariants as kinds
 use Rattle.osm_base.specs.declared.object.Entry.{Entry}
-use Rattle.osm_base.specs.Key.{KeyOf}
+use Rattle.osm_base.specs.Key.{KeyOf, IsId}
 use Rattle.osm_base.specs.KeyOrder.{key_cmp}
 use Rattle.osm_base.specs.contracts.key.Key as key
 use Rattle.osm_base.specs.contracts.object.Object as object
 use Rattle.object_fold.specs.Fold.{ObjectSet, folded}
 use Rattle.object_fold.specs.Index.{known_of}
+use Rattle.object_fold.specs.RisingIds.{has}
 use Rattle.updater_main.specs.KeptChange.{kept_entry}
 use Rattle.updater_main.specs.LinesById.{LineMap}
 use Rattle.updater_main.specs.LinesText.{object_row}
@@ -56,6 +56,7 @@ pub record AreLines (key : List ℕ) (objects : ObjectSet) (lines : LineMap) (im
   pub rows : AreRows key objects lines
   pub first : imported ≡ false → objects ≡ finite.empty
 
--- whether an entry is of this way
-abbrev pub is_way_in : List Entry → ℕ → Bool
-is_way_in entries way = list_any (λ (next : Entry). eq_by_cmp key_cmp (way_key way) next.key) entries
+-- ids among which that of each way of these objects is
+pub record HoldWays (objects : ObjectSet) (ways : List ℕ) : Type 0 where
+  pub ids : AllByRecursion IsId ways
+  pub others : (way : ℕ) → has ways way ≡ false → finite.get objects (way_key way) ≡ None

@@ -5,7 +5,7 @@ ghost use Rattle.std.specs.Option.{option_map};
 ghost use Rattle.std.specs.Str.{chars};
 ghost use Rattle.osm_base.specs.declared.object.Object.TheVariants.{Node, Way};
 ghost use Rattle.object_fold.specs.Change.{Follows, last_key};
-ghost use Rattle.updater_main.specs.KeptChange.{kept_object, with_entry};
+ghost use Rattle.updater_main.specs.KeptChange.{kept_entry, kept_object, with_entry};
 
 use object_fold::{Change, Keeper};
 use osm_base::{Entry, Ids, Object, OutOfMemory, Place, Tags};
@@ -58,13 +58,27 @@ impl Keeper for KeptChange<'_> {
     ghost after = { with_entry };
 
     fn keep(&mut self, entry: Entry) -> Result<(), OutOfMemory> {
-        let Entry { key, object } = entry;
-        let object = match object {
-            Some(object) => kept(self.alloc, self.key, object)?,
-            None => None,
-        };
-        self.change.keep(Entry { key, object })
+        let entry = kept_entry(self.alloc, self.key, entry)?;
+        self.change.keep(entry)
     }
+}
+
+/// The entry of what is kept of an object.
+pub fn kept_entry(alloc: Global, key: &str, entry: Entry) -> Result<Entry, OutOfMemory>
+    ensures kept { IfOk result (λ kept. kept ≡ kept_entry (chars key.now) entry) }
+{
+    let Entry {
+        key: own_key,
+        object,
+    } = entry;
+    let object = match object {
+        Some(object) => kept(alloc, key, object)?,
+        None => None,
+    };
+    Ok(Entry {
+        key: own_key,
+        object,
+    })
 }
 
 /// What is kept of an object: the place of a node, and the nodes and the one tag of a way.

@@ -1,5 +1,5 @@
 //! The lines of the ways with a tag, while files are read.
-ghost use Rattle.std.specs.Prelude.{◌≡◌, ℕ, [], false, cond, IfOk, OnOk};
+ghost use Rattle.std.specs.Prelude.{◌≡◌, ℕ, [], None, false, cond, IfOk, OnOk, OnErr};
 ghost use Rattle.std.specs.FinMap as map;
 ghost use Rattle.std.specs.List.{AllByRecursion};
 ghost use Rattle.std.specs.Ordering.{eq_by_cmp};
@@ -9,13 +9,13 @@ ghost use Rattle.object_fold.specs.Fold.{folded_all};
 ghost use Rattle.object_fold.specs.RisingIds.{has};
 ghost use Rattle.dep_closure.specs.Ways.{Leaves};
 ghost use Rattle.updater_main.specs.LinesText.{lines_text};
-ghost use Rattle.updater_main.specs.WayLines.{no_ways, row_at, some_line, is_way_in};
+ghost use Rattle.updater_main.specs.WayLines.{after_way, no_ways, row_at, some_line, way_key};
 
-use crate::kept_change::KeptChange;
+use crate::kept_change::{KeptChange, kept_entry};
 use crate::lines_by_id::LinesById;
 use crate::way_row::push_row;
 use dep_closure::ways_due;
-use object_fold::{Change, ObjectIndex, Objects};
+use object_fold::{Change, Keeper, ObjectIndex, Objects};
 use osm_base::{Entry, Ids, Kind, OutOfMemory, TryCopy};
 use std::alloc::Global;
 use std::marker::Model;
@@ -59,7 +59,35 @@ impl<'k> WayLines<'k> {
         }
     }
 
-    /// What a file of entries is read into, for the key that is asked for.
+    /// Whether the first file was taken.
+    pub fn is_imported(&self) -> bool
+        ensures none { result ≡ false → self.now ≡ no_ways self.now.key }
+    {
+        self.imported
+    }
+
+    /// What the first file is read into, for the key that is asked for.
+    pub fn begin_import(&self) -> WayImport<'k>
+        ensures start { result ≡ no_ways self.now.key }
+    {
+        WayImport {
+            alloc: self.alloc,
+            key: self.key,
+            objects: Objects::new(self.alloc),
+            ways: Vec::new(self.alloc),
+        }
+    }
+
+    /// Takes what was kept of the first file. After `Err` nothing has changed.
+    pub fn take_import(&mut self, import: WayImport<'k>) -> Result<(), OutOfMemory>
+        ensures ok { OnOk result (self.new ≡ import.entry) }
+        ensures err { OnErr result (self.new ≡ self.old) }
+    {
+        *self = import.into_lines()?;
+        Ok(())
+    }
+
+    /// What a file of changes is read into, for the key that is asked for.
     pub fn begin(&self) -> KeptChange<'k>
         ensures empty { result ≡ record { key = self.now.key; entries = [] } }
     {
@@ -85,13 +113,9 @@ impl<'k> WayLines<'k> {
             key,
             mut objects,
             mut lines,
-            imported,
+            ..
         } = self;
-        let due = if imported {
-            fold_change(alloc, &mut objects, change)?
-        } else {
-            fold_import(alloc, &mut objects, change)?
-        };
+        let due = fold_change(alloc, &mut objects, change)?;
         set_rows(alloc, key, &objects, due.as_slice(), &mut lines)?;
         Ok(Self {
             alloc,
@@ -110,6 +134,78 @@ impl<'k> WayLines<'k> {
     }
 }
 
+/// What is kept of the first file for the lines of the ways with a tag: each entry becomes an object at once.
+#[derive(Drop)]
+pub struct WayImport<'k> {
+    alloc: Global,
+    key: &'k str,
+    objects: Objects,
+    /// The ids of the ways.
+    ways: Vec<u64>,
+}
+
+impl<'k> Model for WayImport<'k> {
+    ghost use Rattle.std.specs.Str.{chars};
+    ghost use Rattle.updater_main.specs.WayLines.{WaysRead, ways_code, HoldWays};
+
+    ghost Value = { WaysRead };
+
+    ghost coded = { ways_code };
+
+    ghost view = { λ own. record { key = chars own.key.now; objects = own.objects } };
+
+    ghost invariant = { λ own. HoldWays own.objects own.ways.items };
+}
+
+impl<'k> WayImport<'k> {
+    /// The lines of the ways that were kept.
+    fn into_lines(self) -> Result<WayLines<'k>, OutOfMemory>
+        ensures same { IfOk result (λ lines. lines ≡ self.entry) }
+    {
+        let Self {
+            alloc,
+            key,
+            objects,
+            ways,
+        } = self;
+        let mut lines = LinesById::new(alloc);
+        set_rows(alloc, key, &objects, &ways, &mut lines)?;
+        Ok(WayLines {
+            alloc,
+            key,
+            objects,
+            lines,
+            imported: true,
+        })
+    }
+}
+
+impl Keeper for WayImport<'_> {
+    ghost takes = { λ _ _. Unit {0} };
+
+    ghost after = { after_way };
+
+    fn keep(&mut self, entry: Entry) -> Result<(), OutOfMemory> {
+        let entry = kept_entry(self.alloc, self.key, entry)?;
+        add_way(&entry, &mut self.ways)?;
+        self.objects.apply(entry)?;
+        Ok(())
+    }
+}
+
+/// Adds the id of an entry that makes a way.
+fn add_way(entry: &Entry, ways: &mut Vec<u64>) -> Result<(), OutOfMemory>
+    ensures ids { AllByRecursion IsId ways.old.items → AllByRecursion IsId ways.new.items }
+    ensures more { (way : ℕ) → has ways.new.items way ≡ false → has ways.old.items way ≡ false }
+    ensures added { OnOk result ((way : ℕ) → has ways.new.items way ≡ false → entry.now.key ≡ way_key way → entry.now.object ≡ None) }
+{
+    let key = entry.key;
+    if key.kind == Kind::Way && entry.object.is_some() {
+        ways.push(key.id)?;
+    }
+    Ok(())
+}
+
 /// Folds a change into objects, and answers the ways that it makes due.
 fn fold_change(alloc: Global, objects: &mut Objects, change: Change) -> Result<Ids, OutOfMemory>
     ensures folded { OnOk result (objects.new ≡ folded_all objects.old change) }
@@ -122,33 +218,6 @@ fn fold_change(alloc: Global, objects: &mut Objects, change: Change) -> Result<I
         Ok(due) => Ok(due),
         Err(_) => Err(OutOfMemory),
     }
-}
-
-/// Folds an import into no objects, and answers its ways.
-fn fold_import(alloc: Global, objects: &mut Objects, change: Change) -> Result<Ids, OutOfMemory>
-    requires { objects.old ≡ map.empty }
-    ensures folded { OnOk result (objects.new ≡ folded_all objects.old change) }
-    ensures ids { IfOk result (AllByRecursion IsId) }
-    ensures others { IfOk result (λ due. (way : ℕ) → has due way ≡ false → Leaves change objects.old way) }
-{
-    let due = ways_in(alloc, change.entries())?;
-    objects.fold(change)?;
-    Ok(due)
-}
-
-/// The ids of the ways of entries.
-fn ways_in(alloc: Global, entries: &[Entry]) -> Result<Ids, OutOfMemory>
-    ensures ways { IfOk result (λ ids. (way : ℕ) → has ids way ≡ is_way_in entries.now way) }
-    ensures ids { IfOk result (AllByRecursion IsId) }
-{
-    let mut ids = Vec::new(alloc);
-    for entry in entries {
-        let key = entry.key;
-        if key.kind == Kind::Way {
-            ids.push(key.id)?;
-        }
-    }
-    Ok(Ids::from_vec(ids))
 }
 
 /// Builds the lines of these ways anew.

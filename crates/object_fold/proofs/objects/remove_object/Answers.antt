@@ -1,0 +1,11 @@
+use Rattle.std.proofs.Common.{None, subst}
+use Rattle.std.specs.BTreeMap.{Updates}
+use Rattle.osm_base.specs.KeyOrder.{key_cmp, key_cmp_total, key_cmp-IsAntisymmetric}
+use Rattle.object_fold.proofs.Found.{removed}
+use Rattle.object_fold.proofs.KeyTree.{tree_cmp-key_cmp}
+use Rattle.object_fold.proofs.objects.remove_object.Goals as goal
+
+pub returns : goal.returns
+returns c =
+    removed key_cmp key_cmp_total key_cmp-IsAntisymmetric c.args.objects.now c.remove.new.self c.args.key
+    (subst (λ cmp. Updates cmp c.args.objects.now c.remove.new.self c.args.key None) tree_cmp-key_cmp c.remove.ensures.updates)

@@ -1,0 +1,11 @@
+use Rattle.std.proofs.Common.{Some, subst}
+use Rattle.std.specs.BTreeMap.{Updates}
+use Rattle.osm_base.specs.KeyOrder.{key_cmp, key_cmp_total, key_cmp-IsAntisymmetric}
+use Rattle.object_fold.proofs.Found.{inserted}
+use Rattle.object_fold.proofs.KeyTree.{tree_cmp-key_cmp}
+use Rattle.object_fold.proofs.objects.set_object.Goals as goal
+
+pub returns-clause-ok : goal.returns-clause-ok
+returns-clause-ok c =
+    inserted key_cmp key_cmp_total key_cmp-IsAntisymmetric c.args.objects.now c.insert.new.self c.args.key c.args.object
+    (subst (λ cmp. Updates cmp c.args.objects.now c.insert.new.self c.args.key (Some c.args.object)) tree_cmp-key_cmp c.in_ok-insert.ensures.updates)
