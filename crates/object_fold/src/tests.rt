@@ -3,7 +3,9 @@ ghost use Rattle.osm_base.specs.Limits.{IsWithinStandard};
 
 use crate::{Change, FileFault, Objects, WholeFault, read_all, read_file};
 use opl_object::Why;
-use osm_base::{Back, Bytes, FileList, Ids, Key, Kind, LimitKind, Limits, Lookup, Object, Place};
+use osm_base::{
+    Back, Bytes, Entry, FileList, Ids, Key, Kind, LimitKind, Limits, Lookup, Object, Place,
+};
 use outside::{Fails, MemInputs};
 use std::alloc::Global;
 use std::test::Fail;
@@ -178,6 +180,11 @@ fn later_objects_take_the_place_of_earlier_ones(rt: HostRuntime) -> Result<(), F
     assert!(rt; objects.object_of(node(2)).is_none());
     assert!(rt; objects.object_of(node(3)).is_some());
     assert!(rt; objects.object_of(Key::new(Kind::Way, 1)).is_some());
+    objects.apply(Entry {
+        key: node(3),
+        object: None,
+    })?;
+    assert!(rt; objects.object_of(node(3)).is_none());
     Ok(())
 }
 
