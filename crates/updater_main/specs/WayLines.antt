@@ -6,7 +6,6 @@ use Rattle.std.specs.List.{AllByRecursion}
 use Rattle.osm_base.specs.declared.key.Kind.TheVariants as kinds
 use Rattle.osm_base.specs.declared.object.Entry.{Entry}
 use Rattle.osm_base.specs.Key.{KeyOf, IsId}
-use Rattle.osm_base.specs.KeyOrder.{key_cmp}
 use Rattle.osm_base.specs.contracts.key.Key as key
 use Rattle.osm_base.specs.contracts.object.Object as object
 use Rattle.object_fold.specs.Fold.{ObjectSet, folded}
