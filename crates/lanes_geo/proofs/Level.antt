@@ -1,59 +1,17 @@
 -- Places that are all north of a latitude, or all not, and what is left of a ring.
-use Rattle.std.proofs.Common.{◌≡◌, ℕ, ◌+◌, ◌<◌, ◌≤◌, ◌-◌, ◌^◌, ◌%◌, suc, zero, refl, sym, ap, ◌∙◌, arith, nat_lt, int_lt, Bool, true, false, cond, List, [], ◌∷◌, ◌++◌, map, length, take, drop, get_or, length-drop, count_by, slice_range, add_comm, replicate, not, nat_eq, w32}
-use lib.Lanes.{mask_l, top, zip2}
-use Rattle.std.specs.Bool.{IsFalse}
+use Rattle.std.proofs.Common.{◌≡◌, ℕ, ◌+◌, ◌<◌, ◌≤◌, ◌-◌, suc, zero, refl, ap, arith, int_lt, Bool, true, false, cond, List, [], ◌∷◌, ◌++◌, length, take, drop, get_or, length-drop, count_by, slice_range, add_comm}
 use Rattle.std.specs.List.{AllByRecursion}
-use Rattle.std.proofs.Math.Nat.{two-pow-succ}
-use Rattle.std.proofs.lemmas.Bool.Decides.{nat_tests}
+use Rattle.std.proofs.Math.Seq.{take-add}
 use Rattle.std.proofs.lemmas.Grind.{common_steps}
-use Rattle.std.proofs.lemmas.List.{drop-drop, length-map}
-use Rattle.std.proofs.lemmas.Simd.{map-map, mask_l-mod, tops_compared, zip2_splat_left}
+use Rattle.std.proofs.lemmas.List.{drop-drop}
 use Rattle.std.proofs.lemmas.List.Sums.{sum_by-cons, sum_by-append, count_by-le-length}
 use Rattle.osm_base.specs.Place.{PlaceOf}
 use Rattle.lanes_geo.specs.Crossing.{Segment, segments, segments_from, crosses, crossings}
-use Rattle.lanes_geo.specs.Grid.{IsPlace, north_of}
-use Rattle.lanes_geo.proofs.Crossed.{south_is}
-use Rattle.lanes_geo.proofs.Lanes.{below32}
-use Rattle.lanes_geo.proofs.Segments.{rest_at, length-segments_from}
-
-some_power : (n : ℕ) → 1 ≤ 2 ^ n
-some_power zero = omega arith
-some_power (suc n) = rw two-pow-succ (let h = some_power n in omega arith)
-
--- each bit of a mask that is all ones, or none
-pub mask_all : (b : Bool) (ms : List Bool) → mask_l ms ≡ cond b (2 ^ length ms - 1) 0 → AllByRecursion (λ m. m ≡ b) ms
-mask_all b [] e = tt
-mask_all true (true ∷ ms) e =
-    let p = two-pow-succ (length ms) in
-    let more : mask_l ms ≡ 2 ^ length ms - 1 = omega (arith, p, e) in
-    (refl, mask_all true ms more)
-mask_all true (false ∷ ms) e =
-    let p = two-pow-succ (length ms) in
-    let q = some_power (length ms) in
-    absurd (omega (arith, p, q, e))
-mask_all false (true ∷ ms) e = absurd (omega (arith, e))
-mask_all false (false ∷ ms) e =
-    let more : mask_l ms ≡ 0 = omega (arith, e) in
-    (refl, mask_all false ms more)
+use Rattle.lanes_geo.proofs.Segments.{rest_at, next_place, length-segments_from}
 
 -- a place is north of a latitude, or not
 abbrev pub IsOnSide : PlaceOf → Bool → PlaceOf → Type 0
 IsOnSide place side other = int_lt place.lat other.lat ≡ side
-
-pub all_on_side : (place : PlaceOf) (side : Bool) (xs : List PlaceOf) → IsPlace place → AllByRecursion IsPlace xs
-    → AllByRecursion (λ m. m ≡ side) (map (λ p. nat_lt (north_of place) (north_of p)) xs) → AllByRecursion (IsOnSide place side) xs
-all_on_side place side [] here others tests = tt
-all_on_side place side (x ∷ xs) here others tests =
-    (south_is place x here others.0 ∙ tests.0, all_on_side place side xs here others.1 tests.1)
-
--- one more
-pub all_more : (P : PlaceOf → Type 0) (n : ℕ) (xs : List PlaceOf) (d : PlaceOf) → AllByRecursion P (take n xs) → P (get_or xs n d) → length xs ≡ suc n
-    → AllByRecursion P xs
-all_more P zero [] d all one long = absurd (omega arith)
-all_more P zero (x ∷ []) d all one long = (one, tt)
-all_more P zero (x ∷ y ∷ xs) d all one long = absurd (omega arith)
-all_more P (suc n) [] d all one long = absurd (omega arith)
-all_more P (suc n) (x ∷ xs) d all one long = (all.0, all_more P n xs d all.1 one (omega arith))
 
 same_side : (side : Bool) (place : PlaceOf) (s : Segment) → IsOnSide place side s.start → IsOnSide place side s.end → crosses place s ≡ false
 same_side true place s e f = rw (e, f)
@@ -80,14 +38,28 @@ one_if place s = cond (crosses place s) 1 0
 drop_again : (n at to : ℕ) (xs : List PlaceOf) → to ≡ n + at → drop n (drop at xs) ≡ drop to xs
 drop_again n at to xs e = rw (e, add_comm n at) (drop-drop n at xs)
 
--- the crossings of seventeen places, and of what is left
-pub sixteen_more : (ring : List PlaceOf) (place : PlaceOf) (at : ℕ) → at + 17 ≤ length ring
-    → crossings (drop at ring) place ≡ crossings (slice_range ring at (at + 17)) place + crossings (drop (at + 16) ring) place
-sixteen_more ring place at h =
+-- the crossings of some places, and of what is left
+more_from : (n : ℕ) (ring : List PlaceOf) (place : PlaceOf) (at : ℕ) → at + suc (suc n) ≤ length ring
+    → crossings (drop at ring) place ≡ crossings (slice_range ring at (at + suc (suc n))) place + crossings (drop (at + suc n) ring) place
+more_from n ring place at h =
     let r = rest_at at ring (omega arith) in
-    let room : 15 < length (drop (at + 1) ring) = rw length-drop (omega arith) in
-    let cut : (at + 17) - at ≡ 17 = omega arith in
-    rw (cut, r.1, split_at 15 r.0 (drop (at + 1) ring) room, sum_by-append (one_if place) (segments_from r.0 (take 16 (drop (at + 1) ring))) (segments (drop 15 (drop (at + 1) ring))), drop_again 15 (at + 1) (at + 16) ring (omega arith))
+    let room : n < length (drop (at + 1) ring) = rw length-drop (omega arith) in
+    let cut : (at + suc (suc n)) - at ≡ suc (suc n) = omega arith in
+    rw (cut, r.1, split_at n r.0 (drop (at + 1) ring) room, sum_by-append (one_if place) (segments_from r.0 (take (suc n) (drop (at + 1) ring))) (segments (drop n (drop (at + 1) ring))), drop_again n (at + 1) (at + suc n) ring (omega arith))
+
+pub thirty_two_more : (ring : List PlaceOf) (place : PlaceOf) (at : ℕ) → at + 33 ≤ length ring
+    → crossings (drop at ring) place ≡ crossings (slice_range ring at (at + 33)) place + crossings (drop (at + 32) ring) place
+thirty_two_more ring place at h = more_from 31 ring place at h
+
+-- the crossings of thirty-three places, in two parts
+pub two_parts : (ring : List PlaceOf) (place : PlaceOf) (at : ℕ) → at + 33 ≤ length ring
+    → crossings (slice_range ring at (at + 17)) place + crossings (slice_range ring (at + 16) (at + 16 + 17)) place ≡ crossings (slice_range ring at (at + 33)) place
+two_parts ring place at h =
+    let first = more_from 15 ring place at (omega arith) in
+    let end : (at + 16) + 16 ≡ at + 32 = omega arith in
+    let second = rw end at (more_from 15 ring place (at + 16) (omega arith)) in
+    let whole = more_from 31 ring place at h in
+    omega (arith, first, second, whole)
 
 -- the crossing of one segment, and those of what is left
 pub one_more : (ring : List PlaceOf) (place start end : PlaceOf) (at : ℕ) → at + 2 ≤ length ring → start ≡ get_or ring at start → end ≡ get_or ring (at + 1) end
@@ -109,21 +81,26 @@ no_segment [] place h = refl
 no_segment (x ∷ []) place h = refl
 no_segment (x ∷ y ∷ xs) place h = absurd (omega arith)
 
-same_number : (a b : ℕ) → IsFalse (not (nat_eq a b)) → a ≡ b
-same_number a b h = grind (arith, nat_tests)
+-- places one after the other, and one more
+pub all_append : (P : PlaceOf → Type 0) (xs ys : List PlaceOf) → AllByRecursion P xs → AllByRecursion P ys → AllByRecursion P (xs ++ ys)
+all_append P [] ys e f = f
+all_append P (x ∷ xs) ys e f = (e.0, all_append P xs ys e.1 f)
 
--- sixteen places that the mask tells to be on one side
-pub level : (place : PlaceOf) (side : Bool) (ps : List PlaceOf) (heres norths : List ℕ) (bits : ℕ) → length ps ≡ 16
-    → heres ≡ replicate 16 (north_of place) → norths ≡ map north_of ps → bits ≡ cond side (2 ^ 16 - 1) 0
-    → IsFalse (not (nat_eq (mask_l (map (top 31) (zip2 below32 heres norths)) % 2 ^ 64) bits))
-    → AllByRecursion (λ m. m ≡ side) (map (λ p. nat_lt (north_of place) (north_of p)) ps)
-level place side ps heres norths bits long e f g h =
-    let tests = map (λ p. nat_lt (north_of place) (north_of p)) ps in
-    let many : length (map north_of ps) ≡ 16 = length-map ps north_of ∙ long in
-    let lanes : map (top 31) (zip2 below32 heres norths) ≡ tests =
-    tops_compared w32 nat_lt heres norths ∙ (rw (e, f) (zip2_splat_left nat_lt (north_of place) 16 (map north_of ps) many
-    ∙ map-map (λ n. nat_lt (north_of place) n) north_of ps)) in
-    let few : length tests ≡ 16 = length-map ps (λ p. nat_lt (north_of place) (north_of p)) ∙ long in
-    let fits : length tests ≤ 64 = rw few (omega arith) in
-    let value : mask_l tests ≡ bits = sym (mask_l-mod tests 64 fits) ∙ (rw (← lanes) (same_number _ bits h)) in
-    mask_all side tests (value ∙ g ∙ (rw few))
+pub all_joined : (P : PlaceOf → Type 0) (m n at next : ℕ) (xs : List PlaceOf) → next ≡ m + at → AllByRecursion P (take m (drop at xs)) → AllByRecursion P (take n (drop next xs))
+    → AllByRecursion P (take (m + n) (drop at xs))
+all_joined P m n at next xs e f g =
+    rw (take-add m n (drop at xs), drop_again m at next xs e) (all_append P _ _ f g)
+
+none_at : (side : Bool) (place : PlaceOf) (xs : List PlaceOf) → AllByRecursion (IsOnSide place side) xs → crossings xs place ≡ 0
+none_at side place [] all = refl
+none_at side place (x ∷ xs) all = none_crossed side place x xs all.0 all.1
+
+-- thirty-two places on one side, and the next one on it too
+pub none_level : (side : Bool) (place last : PlaceOf) (ring : List PlaceOf) (at : ℕ) → at + 33 ≤ length ring
+    → AllByRecursion (IsOnSide place side) (take 32 (drop at ring)) → last ≡ get_or ring (at + 32) last → IsOnSide place side last
+    → crossings (slice_range ring at (at + 33)) place ≡ 0
+none_level side place last ring at h all e one =
+    let cut : (at + 33) - at ≡ 32 + 1 = omega arith in
+    let next = next_place ring (at + 32) (at + 33) last (omega arith) (omega arith) e in
+    rw (cut, take-add 32 1 (drop at ring), drop_again 32 at (at + 32) ring (omega arith), next)
+    (none_at side place _ (all_append (IsOnSide place side) (take 32 (drop at ring)) (last ∷ []) all (one, tt)))

@@ -2,7 +2,9 @@ pub mod Sides
 pub mod Crossed
 pub mod Lanes
 pub mod Segments
+pub mod Halves
 pub mod Level
+pub mod Eight
 pub mod Marks
 pub mod Extremes
 pub mod Around

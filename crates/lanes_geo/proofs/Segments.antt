@@ -1,9 +1,8 @@
 -- Segments, and the places that they join.
-use Rattle.std.proofs.Common.{◌≡◌, ℕ, ◌+◌, ◌<◌, ◌≤◌, ◌-◌, suc, pos, refl, sym, ap, ◌∙◌, arith, List, [], ◌∷◌, map, length, take, drop, get_or, slice_range}
+use Rattle.std.proofs.Common.{◌≡◌, ℕ, ◌+◌, ◌<◌, ◌≤◌, ◌-◌, suc, pos, refl, ap, arith, List, [], ◌∷◌, map, length, take, drop, get_or, slice_range}
 use lib.Lanes.{chunk}
 use Rattle.std.specs.List.{AllByRecursion}
 use Rattle.std.proofs.lemmas.Grind.{common_steps}
-use Rattle.std.proofs.lemmas.List.{get_or-take, get_or-drop}
 use Rattle.osm_base.specs.Place.{PlaceOf}
 use Rattle.lanes_geo.specs.Crossing.{segments_from}
 use Rattle.lanes_geo.specs.Grid.{IsPlace}
@@ -32,6 +31,9 @@ south_west = record { lon = pos 0; lat = pos 0 }
 pub rest_at : (i : ℕ) (xs : List PlaceOf) → i < length xs → (p : PlaceOf) × (drop i xs ≡ p ∷ drop (i + 1) xs)
 rest_at i xs h = (get_or xs i south_west, grind (arith, common_steps))
 
+pub next_place : (xs : List PlaceOf) (i j : ℕ) (p : PlaceOf) → j ≡ i + 1 → i < length xs → p ≡ get_or xs i p → drop i xs ≡ p ∷ drop j xs
+next_place xs i j p e h f = grind (arith, common_steps)
+
 -- seventeen places, and the sixteen from the first and from the second on
 pub record Window (ring : List PlaceOf) (at : ℕ) : Type 0 where
   pub first : PlaceOf
@@ -40,7 +42,6 @@ pub record Window (ring : List PlaceOf) (at : ℕ) : Type 0 where
   pub all : slice_range ring at (at + 17) ≡ first ∷ others
   pub starts : chunk at 16 ring ≡ take (length others) (first ∷ others)
   pub ends : chunk (at + 1) 16 ring ≡ others
-  pub last : (d : PlaceOf) → get_or ring (at + 16) d ≡ get_or (first ∷ others) 16 d
 
 long_enough : (at : ℕ) (ring : List PlaceOf) → at + 17 ≤ length ring → length (take 16 (drop (at + 1) ring)) ≡ 16
 long_enough at ring h = grind (arith, common_steps)
@@ -50,9 +51,6 @@ shorter p ys = grind (arith, common_steps)
 
 seventeen : (at : ℕ) → (at + 17) - at ≡ 17
 seventeen at = omega arith
-
-last_of : (ring : List PlaceOf) (at : ℕ) (d : PlaceOf) → get_or ring (at + 16) d ≡ get_or (take 17 (drop at ring)) 16 d
-last_of ring at d = sym (get_or-take 17 (drop at ring) 16 d (omega arith) ∙ get_or-drop at ring 16 d)
 
 pub window : (ring : List PlaceOf) (at : ℕ) → at + 17 ≤ length ring → Window ring at
 window ring at h =
@@ -65,5 +63,4 @@ window ring at h =
       all = rw (seventeen at, r.1);
       starts = rw (long, r.1) (shorter r.0 (drop (at + 1) ring));
       ends = refl;
-      last = λ d. last_of ring at d ∙ (rw r.1);
     }

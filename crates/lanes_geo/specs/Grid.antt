@@ -1,6 +1,7 @@
 -- Places counted from the south west corner of the world, so that both numbers are natural.
 use mir.Syntax.{w32}
-use Rattle.std.specs.Prelude.{ℕ, ℤ, pos, List, [], ◌∷◌, ◌++◌, FitsSigned, min, max, ◌+◌, ◌-◌, ◌+ℤ◌, unsigned_abs}
+use Rattle.std.specs.Prelude.{ℕ, zero, suc, ℤ, pos, List, [], ◌∷◌, ◌++◌, FitsSigned, min, max, nat_lt, if◌then◌else◌, ◌+◌, ◌-◌, ◌+ℤ◌, unsigned_abs}
+use mathlib.Core.Bool.{beq}
 use Rattle.osm_base.specs.declared.place.GeoBox.{GeoBox}
 use Rattle.osm_base.specs.Place.{PlaceOf, IsOnEarth}
 use Rattle.osm_base.specs.declared.place.TheConstants.{MAX_LON, MAX_LAT}
@@ -20,6 +21,10 @@ north_of place = unsigned_abs (place.lat +ℤ MAX_LAT)
 -- how far two numbers are apart
 abbrev pub apart : ℕ → ℕ → ℕ
 apart here number = (number - here) + (here - number)
+
+-- the same of an end of a segment, and 0 where both ends are above `here`, or none
+abbrev pub kept : ℕ → ℕ → ℕ → ℕ → ℕ
+kept here start end number = if beq (nat_lt here start) (nat_lt here end) then 0 else apart here number
 
 -- a number of 32 bits with its order kept, from 0 on
 abbrev pub raised : ℤ → ℕ
@@ -55,3 +60,24 @@ least_of (number ∷ numbers) = min number (least_of numbers)
 abbrev pub greatest_of : List ℕ → ℕ
 greatest_of [] = 0
 greatest_of (number ∷ numbers) = max number (greatest_of numbers)
+
+-- the numbers in even places, and in odd ones, counted from 0
+abbrev pub evens_of : {A : Type 0} → List A → List A
+evens_of [] = []
+evens_of (x ∷ []) = x ∷ []
+evens_of (x ∷ y ∷ xs) = x ∷ evens_of xs
+
+abbrev pub odds_of : {A : Type 0} → List A → List A
+odds_of [] = []
+odds_of (x ∷ []) = []
+odds_of (x ∷ y ∷ xs) = y ∷ odds_of xs
+
+-- the longitude and the latitude of each place
+abbrev pub coordinates_of : List PlaceOf → List ℤ
+coordinates_of [] = []
+coordinates_of (place ∷ places) = place.lon ∷ (place.lat ∷ coordinates_of places)
+
+-- what the latitude of a place north of this one is above, and no longitude is, some times
+abbrev pub bounds_of : PlaceOf → ℕ → List ℤ
+bounds_of place zero = []
+bounds_of place (suc n) = MAX_LON ∷ (place.lat ∷ bounds_of place n)

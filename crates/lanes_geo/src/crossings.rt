@@ -1,11 +1,17 @@
-//! The crossings of a ring by the half line east of a place, sixteen segments at a time.
-ghost use Rattle.std.specs.Prelude.{◌≡◌, ◌+◌, ◌≤◌, length, map, slice_range, IsFalse, unsigned_abs, int_lt, if◌then◌else◌, ◌^◌, ◌-◌, ◌-ℤ◌, ◌*ℤ◌};
+//! The crossings of a ring by the half line east of a place, thirty-two segments at a time.
+ghost use Rattle.std.specs.Prelude.{◌≡◌, ◌+◌, ◌≤◌, length, map, slice_range, IsTrue, unsigned_abs, int_lt, if◌then◌else◌, ◌^◌, ◌-◌, ◌-ℤ◌, ◌*ℤ◌};
 ghost use Rattle.lanes_geo.specs.Crossing.{Segment, across as across_of, along as along_of, crosses, crossings, odd};
-ghost use Rattle.lanes_geo.specs.Grid.{apart};
+ghost use Rattle.lanes_geo.specs.Grid.{kept};
+ghost use lib.Lanes.{zip2};
 
-use crate::grid::{all_lanes, east, easts, north, norths, wide_lanes, widen};
+use crate::grid::{
+    all_lanes, bounds, coordinates, east, easts, even_lanes, north, norths, odd_lanes, wide_lanes,
+};
 use osm_base::Place;
 use std::simd::prelude::*;
+
+/// A bit for each odd one of sixteen lanes.
+const ODD_LANES: u64 = 0b1010_1010_1010_1010;
 
 /// How far a number is above another one.
 #[inline(always)]
@@ -72,69 +78,72 @@ fn is_crossed(start: Place, end: Place, place: Place) -> bool
     }
 }
 
-/// How far apart each of sixteen numbers and `here` are.
+/// How far the starts and the ends of sixteen segments are from a latitude, and 0 where both are north of it, or none.
 #[inline(always)]
-fn distances(numbers: u32x16, here: u32) -> u64x16
-    requires { length numbers ≡ 16 }
-    ensures { result ≡ map (apart here) numbers }
+fn distances(starts: u32x16, ends: u32x16, here: u32) -> (u32x16, u32x16)
+    requires { length starts ≡ 16 × length ends ≡ 16 }
+    ensures from { result.0 ≡ zip2 (λ start end. kept here start end start) starts ends }
+    ensures to { result.1 ≡ zip2 (λ start end. kept here start end end) starts ends }
+    ensures lanes { length result.0 ≡ 16 × length result.1 ≡ 16 }
 {
     let heres = all_lanes(here);
-    numbers.abs_diff(heres).cast::<u64>()
+    let zeros = all_lanes(0);
+    let straddles = starts.simd_gt(heres) ^ ends.simd_gt(heres);
+    let from = straddles.select(starts.abs_diff(heres), zeros);
+    let to = straddles.select(ends.abs_diff(heres), zeros);
+    (from, to)
 }
 
-/// How many of the sixteen segments from `at` on cross the latitude of a place strictly east of it.
+/// How many of the sixteen segments from `at` on cross the latitude of a place strictly east of it. Where a segment
+/// does not straddle the latitude, its ends count as 0 away from it, and no product is above another.
 #[inline(always)]
-fn crossings_in(ring: &[Place], at: usize, place: Place) -> u32
+fn crossings_in(ring: &[Place], at: usize, place: Place) -> usize
     requires { at + 17 ≤ length ring.now }
     ensures { result ≡ crossings (slice_range ring.now at (at + 17)) place }
 {
-    let here = north(place);
-    let starts = norths(ring, at);
-    let ends = norths(ring, at + 1);
-    let from = distances(starts, here);
-    let to = distances(ends, here);
-    let start_easts = widen(easts(ring, at));
-    let end_easts = widen(easts(ring, at + 1));
-    let heres = all_lanes(here);
+    let (from, to) = distances(norths(ring, at), norths(ring, at + 1), north(place));
+    let both = from + to;
+    let start_easts = easts(ring, at);
+    let end_easts = easts(ring, at + 1);
     let east = wide_lanes(east(place));
-    let straddles = starts.simd_gt(heres) ^ ends.simd_gt(heres);
-    let crossed = (east * (from + to)).simd_lt(from * end_easts + to * start_easts);
-    (straddles.cast::<i64>() & crossed)
-        .to_bitmask()
-        .count_ones()
+    let even_sums = even_lanes(from) * even_lanes(end_easts)
+        + even_lanes(to) * even_lanes(start_easts);
+    let odd_sums = odd_lanes(from) * odd_lanes(end_easts) + odd_lanes(to) * odd_lanes(start_easts);
+    let even = (east * even_lanes(both)).simd_lt(even_sums).to_bitmask();
+    let odd = (east * odd_lanes(both)).simd_lt(odd_sums).to_bitmask();
+    even.count_ones() as usize + odd.count_ones() as usize
 }
 
-/// Sixteen bits, each of them `bit`.
+/// Whether the places from `at` on up to the thirty-third are all north of a place, or all not. Then none of the
+/// segments between them crosses its latitude.
 #[inline(always)]
-fn sixteen_bits(bit: bool) -> u64
-    ensures { result ≡ (if bit then 2 ^ 16 - 1 else 0) }
+fn is_level(ring: &[Place], at: usize, place: Place) -> bool
+    requires { at + 33 ≤ length ring.now }
+    ensures { IsTrue result → crossings (slice_range ring.now at (at + 33)) place ≡ 0 }
 {
-    if bit { 65535 } else { 0 }
+    let bounds = bounds(place);
+    let first = coordinates(ring, at).simd_gt(bounds);
+    let second = coordinates(ring, at + 8).simd_gt(bounds);
+    let third = coordinates(ring, at + 16).simd_gt(bounds);
+    let fourth = coordinates(ring, at + 24).simd_gt(bounds);
+    if is_south(place, ring[at + 32]) {
+        (first & second & third & fourth).to_bitmask() == ODD_LANES
+    } else {
+        (first | second | third | fourth).to_bitmask() == 0
+    }
 }
 
-/// Whether one of the sixteen segments from `at` on has one end north of a place and one not.
-#[inline(always)]
-fn some_straddle(ring: &[Place], at: usize, place: Place) -> bool
-    requires { at + 17 ≤ length ring.now }
-    ensures { IsFalse result → crossings (slice_range ring.now at (at + 17)) place ≡ 0 }
-{
-    let starts = norths(ring, at);
-    let heres = all_lanes(north(place));
-    let above = starts.simd_gt(heres).to_bitmask();
-    above != sixteen_bits(is_south(place, ring[at + 16]))
-}
-
-/// How many of the sixteen segments from `at` on cross the latitude of a place strictly east of it, and at once where none
-/// has one end north of the place and one not.
+/// How many of the thirty-two segments from `at` on cross the latitude of a place strictly east of it, and at once
+/// where their places are all on one side of it.
 #[inline(always)]
 fn crossings_at(ring: &[Place], at: usize, place: Place) -> usize
-    requires { at + 17 ≤ length ring.now }
-    ensures { result ≡ crossings (slice_range ring.now at (at + 17)) place }
+    requires { at + 33 ≤ length ring.now }
+    ensures { result ≡ crossings (slice_range ring.now at (at + 33)) place }
 {
-    if some_straddle(ring, at, place) {
-        crossings_in(ring, at, place) as usize
-    } else {
+    if is_level(ring, at, place) {
         0
+    } else {
+        crossings_in(ring, at, place) + crossings_in(ring, at + 16, place)
     }
 }
 
@@ -165,9 +174,9 @@ pub fn odd_crossings(ring: &[Place], place: Place) -> bool
 {
     let mut at = 0;
     let mut count = 0;
-    while ring.len() - at > 16 {
+    while ring.len() - at > 32 {
         count += crossings_at(ring, at, place);
-        at += 16;
+        at += 32;
     }
     let (_, rest) = ring.split_at(at);
     (count + plain_crossings(rest, place)) % 2 == 1
