@@ -61,10 +61,6 @@ pub greatest-append : (xs ys : List ℕ) → greatest_of (xs ++ ys) ≡ max (gre
 greatest-append [] ys = omega arith
 greatest-append (x ∷ xs) ys = let more = greatest-append xs ys in omega (arith, more)
 
-pub all-append : (xs ys : List PlaceOf) → AllByRecursion IsPlace xs → AllByRecursion IsPlace ys → AllByRecursion IsPlace (xs ++ ys)
-all-append [] ys e f = f
-all-append (x ∷ xs) ys e f = (e.0, all-append xs ys e.1 f)
-
 -- a coordinate, and the natural number that stands for it
 abbrev pub StandsFor : (PlaceOf → ℤ) → (PlaceOf → ℕ) → ℕ → Type 0
 StandsFor f g least = (p : PlaceOf) → IsPlace p → (f p ≡ pos (g p) -ℤ pos least) × (g p ≤ 2 * least)

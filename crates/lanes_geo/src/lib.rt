@@ -4,8 +4,8 @@
 //! nested, tiles met and boxes queried by these three calls, and none of them takes memory.
 //!
 //! `odd_crossings` tells whether an odd number of a ring's segments cross the latitude of a place
-//! strictly east of it. Sixteen segments with all ends on one side of the latitude are passed over
-//! by one comparison. For others the two products of the definition are told by natural numbers of
+//! strictly east of it. Thirty-two segments with all ends on one side of the latitude are passed
+//! over by one test. For others the two products of the definition are told by natural numbers of
 //! 64 bits, at most 6480000000000000000, which are added and compared and never subtracted.
 //! `box_of` is the box of places, and `boxes_meet` marks the boxes that have a place in common with
 //! an asked one, sides included. Each is equal to its plain definition for every length.

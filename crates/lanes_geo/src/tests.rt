@@ -6,7 +6,7 @@ use osm_base::{GeoBox, Place};
 use std::alloc::{AllocError, Global};
 use std::test::Fail;
 
-const LONGEST: usize = 40;
+const LONGEST: usize = 80;
 
 /// The four corners of the world as a ring.
 fn world(alloc: Global) -> Result<Vec<Place>, AllocError> {
@@ -83,6 +83,48 @@ fn a_box_has_the_outermost_units(rt: HostRuntime) -> Result<(), Fail> {
     Ok(())
 }
 
+/// Places that go west to east, and only once across each latitude.
+fn climbing(alloc: Global) -> Result<Vec<Place>, AllocError> {
+    let mut places = Vec::new(alloc);
+    for step in 0..80u8 {
+        let units = i32::from(step) * 50;
+        places.push(Place::new(units * 7 % 200 - 100, units - 2_000))?;
+    }
+    Ok(places)
+}
+
+/// Whether the lanes tell the same of a ring and a latitude as one segment after the other does.
+fn is_told_alike(ring: &[Place], place: Place) -> bool {
+    odd_crossings(ring, place) == (plain_crossings(ring, place) % 2 == 1)
+}
+
+/// Places below, among and above those of `scattered` and `climbing`.
+fn asked_places(alloc: Global) -> Result<Vec<Place>, AllocError> {
+    let mut places = Vec::new(alloc);
+    places.push(Place::new(7, -3_000))?;
+    places.push(Place::new(7, -2_000))?;
+    places.push(Place::new(7, -401))?;
+    places.push(Place::new(7, 9))?;
+    places.push(Place::new(7, 1_199))?;
+    places.push(Place::new(7, 3_000))?;
+    Ok(places)
+}
+
+#[test]
+fn lanes_count_as_one_segment_after_the_other(rt: HostRuntime) -> Result<(), Fail> {
+    let scattered = scattered(rt.alloc())?;
+    let climbing = climbing(rt.alloc())?;
+    for place in asked_places(rt.alloc())? {
+        for length in 0..=scattered.len() {
+            assert!(rt; is_told_alike(&scattered[..length], place));
+        }
+        for length in 0..=climbing.len() {
+            assert!(rt; is_told_alike(&climbing[..length], place));
+        }
+    }
+    Ok(())
+}
+
 /// The box of places, one place after the other.
 fn plain_box(places: &[Place]) -> Option<GeoBox> {
     let first = *places.first()?;
@@ -114,8 +156,6 @@ fn each_kernel_is_its_plain_loop(rt: HostRuntime) -> Result<(), Fail> {
     };
     for length in 0..=places.len() {
         let some = &places[..length];
-        let is_odd = plain_crossings(some, Place::new(7, 9)) % 2 == 1;
-        assert_eq!(rt; odd_crossings(some, Place::new(7, 9)), is_odd);
         assert_eq!(rt; box_of(some), plain_box(some));
         let mut boxes = Vec::new(alloc);
         let mut plain = Vec::new(alloc);

@@ -1,7 +1,8 @@
 use Rattle.std.proofs.Common.{◌∙◌, arith}
 use Rattle.std.proofs.Math.Seq.{take-add}
-use Rattle.lanes_geo.specs.Grid.{east_of, north_of}
-use Rattle.lanes_geo.proofs.Extremes.{least_more, greatest_more, least_end, greatest_end, all-append}
+use Rattle.lanes_geo.specs.Grid.{IsPlace, east_of, north_of}
+use Rattle.lanes_geo.proofs.Extremes.{least_more, greatest_more, least_end, greatest_end}
+use Rattle.lanes_geo.proofs.Level.{all_append}
 use Rattle.lanes_geo.proofs.spans.sides_of.Goals as goal
 
 pub loop-at-preserved : goal.loop-at-preserved
@@ -20,7 +21,7 @@ loop-at-preserved c =
       south = south.1;
       east = east.1;
       north = north.1;
-      on_earth = rw (take-add at 16 ps) (all-append _ _ c.loop-at.invariant.on_earth c.easts-easts.ensures.on_earth);
+      on_earth = rw (take-add at 16 ps) (all_append IsPlace _ _ c.loop-at.invariant.on_earth c.easts-easts.ensures.on_earth);
     }
 
 pub returns-clause-west : goal.returns-clause-west
