@@ -1,11 +1,10 @@
 -- Inner rings that are added to polygons one after the other.
-use Rattle.std.proofs.Common.{◌≡◌, ◌≢◌, ℕ, ◌+◌, ◌<◌, ◌≤◌, ◌-◌, ◌%◌, ◌==◌, suc, zero, refl, ap, ◌∙◌, arith, List, [], ◌∷◌, ◌++◌, length, map, take, drop, get_or, set, Bool, true, false, not, cond, ◌&&◌, if◌then◌else◌, Some, None, add-zero, zero-add}
+use Rattle.std.proofs.Common.{◌≡◌, ◌≢◌, ℕ, ◌+◌, ◌<◌, ◌≤◌, ◌-◌, ◌%◌, ◌==◌, suc, zero, refl, ap, ◌∙◌, arith, List, [], ◌∷◌, ◌++◌, length, map, take, get_or, set, Bool, true, false, not, cond, ◌&&◌, if◌then◌else◌, Some, add-zero, zero-add}
 use Rattle.std.specs.List.{filter, list_all}
 use Rattle.std.proofs.lemmas.Bool.Decides.{nat_tests}
 use Rattle.std.proofs.lemmas.List.{append-nil, length-map}
-use Rattle.std.proofs.lemmas.Grind.{common_steps}
 use Rattle.ring_nest.specs.Nesting.{Ring, depth, holds, is_outer, owns, owner, owner_from, belongs, polygons_from, slots_from}
-use Rattle.ring_nest.proofs.Held.{first_of, next_of}
+use Rattle.ring_nest.proofs.Held.{next_of}
 
 -- what a function gives for a member
 pub mapped_at : {A : Type 0} (f : Ring → A) (rings : List Ring) (values : List A) (at : ℕ) (ring : Ring) (d : A) → values ≡ map f rings
@@ -13,16 +12,6 @@ pub mapped_at : {A : Type 0} (f : Ring → A) (rings : List Ring) (values : List
 mapped_at f [] values at ring d e h g = absurd (omega arith)
 mapped_at f (other ∷ rings) values zero ring d e h g = rw (e, g)
 mapped_at f (other ∷ rings) values (suc at) ring d e h g = rw e (mapped_at f rings (map f rings) at ring d refl (omega arith) g)
-
--- one ring less to look at
-pub owner_step : (rings : List Ring) (at : ℕ) (other ring : Ring) → at < length rings → other ≡ get_or rings at other
-    → owner_from rings at (drop at rings) ring ≡ (if owns rings other ring then Some at else owner_from rings (at + 1) (drop (at + 1) rings) ring)
-owner_step rings at other ring h e = rw (first_of rings at other h, ← e)
-
-pub owner_end : (rings : List Ring) (at : ℕ) (ring : Ring) → length rings ≤ at → owner_from rings at (drop at rings) ring ≡ None
-owner_end rings at ring h =
-    let none : drop at rings ≡ [] = grind (arith, common_steps) in
-    rw none
 
 never : (b : Bool) → (b && false) ≡ false
 never true = refl

@@ -1,5 +1,5 @@
 -- A ring does not hold itself.
-use Rattle.std.proofs.Common.{◌≡◌, ℕ, refl, sym, ap, ◌∙◌, arith, List, [], ◌∷◌, Bool, true, false, ◌||◌, None, ℤ, ◌-ℤ◌, ◌*ℤ◌, int_le, pos}
+use Rattle.std.proofs.Common.{◌≡◌, refl, arith, List, [], ◌∷◌, Bool, true, false, ◌||◌, None, ℤ, ◌-ℤ◌, ◌*ℤ◌, int_le, pos}
 use Rattle.std.specs.List.{AllByRecursion, list_any}
 use Rattle.std.proofs.lemmas.Int.{ints}
 use Rattle.std.proofs.Math.IntN.{*ℤ-zero, zero-*ℤ}

@@ -1,11 +1,10 @@
--- The boxes of rings, and of blocks of rings, by which pairs are passed over.
-use Rattle.std.specs.Prelude.{◌≡◌, ◌≤ℤ◌, pos, List, [], ◌∷◌, take, drop, length, Option, Some, None}
+-- The boxes of rings, by which pairs are passed over.
+use Rattle.std.specs.Prelude.{◌≤ℤ◌, pos, Option, Some, None}
 use Rattle.std.specs.List.{AllByRecursion}
 use Rattle.osm_base.specs.declared.place.GeoBox.{GeoBox}
 use Rattle.lanes_geo.specs.Box.{IsWithin, box_of}
 use Rattle.lanes_geo.specs.Grid.{IsPlace}
 use Rattle.ring_nest.specs.Nesting.{Ring, IsClosed}
-use Rattle.ring_nest.specs.declared.depths.TheConstants.{BLOCK}
 
 -- a box, where there is one
 abbrev pub some_box : Option GeoBox → GeoBox
@@ -28,8 +27,3 @@ pub record Covers (box other : GeoBox) : Type 0 where
   pub south : box.south ≤ℤ other.south
   pub east : other.east ≤ℤ box.east
   pub north : other.north ≤ℤ box.north
-
--- boxes each of which covers the next so many boxes
-abbrev pub AreBlocks : List GeoBox → List GeoBox → Type 0
-AreBlocks [] boxes = length boxes ≡ 0
-AreBlocks (block ∷ blocks) boxes = AllByRecursion (Covers block) (take BLOCK boxes) × AreBlocks blocks (drop BLOCK boxes)

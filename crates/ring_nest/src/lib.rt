@@ -8,16 +8,20 @@
 //! it and is held by one less. `nest` gives the outer rings in order, each followed by its inner rings
 //! in order, and None exactly where an inner ring belongs to none. The definition counts over all pairs
 //! of rings; the code asks only pairs whose boxes meet, since a ring holds none whose box does not meet
-//! its own, and passes over blocks of rings by the box of the block. `lies_on` and `crosses_odd` are
+//! its own. A tree of boxes over the rings, put in an order that keeps neighbours together, finds these in
+//! few steps. `lies_on` and `crosses_odd` are
 //! exact in whole numbers of 64 bits. The answer has its own copy of each ring.
 #![tactic(auto)]
 
-mod depths;
+mod boxes;
+mod holders;
+mod order;
 mod polygons;
 mod rings;
 mod segment;
 #[cfg(test)]
 mod tests;
+mod tree;
 
 pub use polygons::nest;
 pub use rings::{crosses_odd, lies_on};

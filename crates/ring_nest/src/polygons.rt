@@ -3,69 +3,13 @@ ghost use Rattle.std.specs.Prelude.{◌≡◌, ◌+◌, ◌<◌, true, take, ◌
 ghost use Rattle.std.specs.List.{AllByRecursion, list_all};
 ghost use Rattle.std.specs.Option.{option_map};
 ghost use Rattle.osm_base.specs.Place.{PlaceOf};
-ghost use Rattle.ring_nest.specs.Around.{IsBoxed, around};
-ghost use Rattle.ring_nest.specs.Nesting.{IsRing, has_place, depth as depth_of_ring, holds as holds_ring, nested, owner, owns, polygons_from, slots_from};
+ghost use Rattle.ring_nest.specs.Holders.{AreHolders};
+ghost use Rattle.ring_nest.specs.Nesting.{IsRing, has_place, depth as depth_of_ring, nested, polygons_from, slots_from};
 
-use crate::depths::{boxes_of, depths_of, is_met};
-use crate::rings::holds;
-use osm_base::{GeoBox, LineList, OutOfMemory, Place, Places, Polygons, TryCopy};
+use crate::boxes::boxes_of;
+use crate::holders::{depths_of, holders_of_all, owner_of};
+use osm_base::{Items, LineList, OutOfMemory, Places, Polygons, TryCopy};
 use std::alloc::Global;
-
-/// Whether a ring of this depth holds another one, whose depth is one more.
-fn is_owner(
-    other: &[Place],
-    other_box: GeoBox,
-    other_depth: usize,
-    ring: &[Place],
-    asked: GeoBox,
-    depth: usize,
-) -> bool
-    requires other { IsBoxed other.now }
-    requires other_box { other_box ≡ around other.now }
-    requires ring { IsBoxed ring.now }
-    requires asked { asked ≡ around ring.now }
-    requires held { 0 < depth }
-    ensures { result ≡ (holds_ring other.now ring.now && (other_depth + 1 == depth)) }
-{
-    if other_depth == depth - 1 {
-        if is_met(asked, other_box) {
-            holds(other, ring)
-        } else {
-            false
-        }
-    } else {
-        false
-    }
-}
-
-/// The number of the ring that an inner ring belongs to.
-fn owner_of(
-    rings: &[Places],
-    boxes: &[GeoBox],
-    depths: &[usize],
-    ring: &[Place],
-    asked: GeoBox,
-    depth: usize,
-) -> Option<usize>
-    requires boxes { boxes.now ≡ map around rings.now }
-    requires depths { depths.now ≡ map (depth_of_ring rings.now) rings.now }
-    requires boxed { AllByRecursion IsBoxed rings.now }
-    requires ring { IsBoxed ring.now }
-    requires asked { asked ≡ around ring.now }
-    requires depth { depth ≡ depth_of_ring rings.now ring.now }
-    requires held { 0 < depth }
-    ensures { result ≡ owner rings.now ring.now }
-{
-    let mut at = 0;
-    while rings.len() - at > 0 {
-        let other = &rings[at];
-        if is_owner(other.as_slice(), boxes[at], depths[at], ring, asked, depth) {
-            return Some(at);
-        }
-        at += 1;
-    }
-    None
-}
 
 /// The place of each ring's polygon among the polygons.
 fn slots_of(alloc: Global, depths: &[usize]) -> Result<Vec<usize>, OutOfMemory>
@@ -147,15 +91,14 @@ fn slot_at(slots: &[usize], number: usize) -> usize
 fn add_ring(
     alloc: Global,
     rings: &[Places],
-    boxes: &[GeoBox],
+    holders: &[Items<usize>],
     depths: &[usize],
     slots: &[usize],
     at: usize,
     polygons: &mut Vec<LineList>,
 ) -> Result<bool, OutOfMemory>
-    requires boxes { boxes.now ≡ map around rings.now }
+    requires holders { AreHolders rings.now holders.now }
     requires depths { depths.now ≡ map (depth_of_ring rings.now) rings.now }
-    requires boxed { AllByRecursion IsBoxed rings.now }
     requires slots { slots.now ≡ slots_from 0 depths.now }
     requires at { at < length rings.now }
     requires so_far { polygons.old.items ≡ polygons_from rings.now (take at rings.now) 0 rings.now }
@@ -167,7 +110,7 @@ fn add_ring(
     if depth % 2 == 0 {
         return Ok(true);
     }
-    match owner_of(rings, boxes, depths, ring.as_slice(), boxes[at], depth) {
+    match owner_of(holders[at].as_slice(), depths, depth) {
         None => Ok(false),
         Some(number) => {
             add_inner(polygons, slot_at(slots, number), ring.copy(alloc)?)?;
@@ -180,13 +123,12 @@ fn add_ring(
 fn with_inners(
     alloc: Global,
     rings: &[Places],
-    boxes: &[GeoBox],
+    holders: &[Items<usize>],
     depths: &[usize],
     outers: Vec<LineList>,
 ) -> Result<Option<Vec<LineList>>, OutOfMemory>
-    requires boxes { boxes.now ≡ map around rings.now }
+    requires holders { AreHolders rings.now holders.now }
     requires depths { depths.now ≡ map (depth_of_ring rings.now) rings.now }
-    requires boxed { AllByRecursion IsBoxed rings.now }
     requires outers { outers.items ≡ polygons_from rings.now [] 0 rings.now }
     ensures { IfOk result (λ polygons. option_map (λ some. some.items) polygons ≡ nested rings.now) }
 {
@@ -194,7 +136,7 @@ fn with_inners(
     let mut polygons = outers;
     let mut at = 0;
     while rings.len() - at > 0 {
-        if !add_ring(alloc, rings, boxes, depths, &slots, at, &mut polygons)? {
+        if !add_ring(alloc, rings, holders, depths, &slots, at, &mut polygons)? {
             return Ok(None);
         }
         at += 1;
@@ -210,9 +152,10 @@ pub fn nest(alloc: Global, rings: &LineList) -> Result<Option<Polygons>, OutOfMe
 {
     let rings = rings.as_slice();
     let boxes = boxes_of(alloc, rings)?;
-    let depths = depths_of(alloc, rings, &boxes)?;
+    let holders = holders_of_all(alloc, rings, &boxes)?;
+    let depths = depths_of(alloc, &holders)?;
     let outers = outers_of(alloc, rings, &depths)?;
-    match with_inners(alloc, rings, &boxes, &depths, outers)? {
+    match with_inners(alloc, rings, &holders, &depths, outers)? {
         None => Ok(None),
         Some(polygons) => Ok(Some(Polygons::from_vec(polygons))),
     }

@@ -1,0 +1,309 @@
+-- Depths and owners, by the numbers of the rings that hold each ring.
+use Rattle.std.proofs.Common.{◌≡◌, ◌≢◌, ℕ, ◌+◌, ◌-◌, ◌<◌, ◌≤◌, ◌==◌, suc, zero, refl, sym, ap, ◌∙◌, arith, List, [], ◌∷◌, ◌++◌, length, map, take, get_or, Bool, true, false, cond, not, ◌&&◌, ◌||◌, if◌then◌else◌, nat_lt, Option, Some, None, zero-add, add-zero, count_by}
+use Rattle.std.specs.List.{AllByRecursion, filter, list_any, range_with_len}
+use Rattle.std.specs.List.Sorted.{IsPermutation}
+use Rattle.std.proofs.lemmas.Bool.Decides.{nat_tests}
+use Rattle.std.proofs.lemmas.List.{ext_get_or, get_or-map}
+use Rattle.std.proofs.lemmas.List.FromFn.{get_or-map-range_with_len, length-map-range_with_len}
+use Rattle.std.proofs.lemmas.List.Sorted.{list_any-IsPermutation, sum_by-IsPermutation}
+use Rattle.std.proofs.lemmas.List.Folds.{list_any-append}
+use Rattle.std.proofs.lemmas.List.Sums.{length-filter, sum_by-cons}
+use Rattle.ring_nest.specs.Holders.{AreHolders, IsLeast, is_above, is_holder, lesser_of, ring_at}
+use Rattle.ring_nest.specs.Nesting.{Ring, depth, holds, owner, owner_from, owns}
+use Rattle.ring_nest.proofs.Held.{next_of}
+use Rattle.ring_nest.proofs.Walked.{ring_is}
+
+-- one number more
+pub range_more : (from some : ℕ) → range_with_len from (suc some) ≡ range_with_len from some ++ (from + some) ∷ []
+range_more from zero = rw add-zero
+range_more from (suc some) =
+    let same : (from + 1) + some ≡ from + suc some = omega arith in
+    rw (range_more (from + 1) some, same)
+
+-- the rings by their numbers are the rings
+pub rings_are : (rings : List Ring) → map (ring_at rings) (range_with_len 0 (length rings)) ≡ rings
+rings_are rings =
+    let same = length-map-range_with_len (ring_at rings) 0 (length rings) in
+    ext_get_or [] (map (ring_at rings) (range_with_len 0 (length rings))) rings same
+    (λ i h. get_or-map-range_with_len (ring_at rings) 0 (length rings) i i [] (omega (arith, h, same)) (zero-add i))
+
+count_map : (f : ℕ → Ring) (p : Ring → Bool) (numbers : List ℕ) → count_by (λ number. p (f number)) numbers ≡ count_by p (map f numbers)
+count_map f p [] = refl
+count_map f p (number ∷ numbers) = rw (sum_by-cons (λ n. cond (p (f n)) 1 0) number numbers, sum_by-cons (λ ring. cond (p ring) 1 0) (f number) (map f numbers), count_map f p numbers)
+
+-- a ring is as deep as it has holders
+depth_is : (rings : List Ring) (order : List ℕ) (ring : Ring) → IsPermutation (range_with_len 0 (length rings)) order
+    → length (filter (is_holder rings ring) order) ≡ depth rings ring
+depth_is rings order ring permutation =
+    length-filter (is_holder rings ring) order ∙ sum_by-IsPermutation (λ number. cond (is_holder rings ring number) 1 0) (range_with_len 0 (length rings)) order permutation
+    ∙ count_map (ring_at rings) (λ other. holds other ring) (range_with_len 0 (length rings)) ∙ ap (λ all. depth all ring) (rings_are rings)
+
+depths_from : (rings some : List Ring) (order : List ℕ) → IsPermutation (range_with_len 0 (length rings)) order
+    → map length (map (λ ring. filter (is_holder rings ring) order) some) ≡ map (depth rings) some
+depths_from rings [] order permutation = refl
+depths_from rings (ring ∷ some) order permutation = rw (depth_is rings order ring permutation, depths_from rings some order permutation)
+
+pub depths_are : (rings : List Ring) (holders : List (List ℕ)) → AreHolders rings holders → map length holders ≡ map (depth rings) rings
+depths_are rings holders h = rw h.are (depths_from rings rings h.order h.permutation)
+
+always : (b : Bool) → (b || true) ≡ false → ⊥
+always true e = cc
+always false e = cc
+
+any_filter_next : (p q : ℕ → Bool) (number : ℕ) (numbers : List ℕ) (b : Bool) → list_any q (filter p numbers) ≡ list_any (λ n. p n && q n) numbers
+    → list_any q (cond b (number ∷ filter p numbers) (filter p numbers)) ≡ ((b && q number) || list_any (λ n. p n && q n) numbers)
+any_filter_next p q number numbers true e = ap (λ b. q number || b) e
+any_filter_next p q number numbers false e = e
+
+any_filter : (p q : ℕ → Bool) (numbers : List ℕ) → list_any q (filter p numbers) ≡ list_any (λ number. p number && q number) numbers
+any_filter p q [] = refl
+any_filter p q (number ∷ numbers) = any_filter_next p q number numbers (p number) (any_filter p q numbers)
+
+any_same : (p q : ℕ → Bool) (from count : ℕ) → ((number : ℕ) → number < from + count → p number ≡ q number)
+    → list_any p (range_with_len from count) ≡ list_any q (range_with_len from count)
+any_same p q from zero same = refl
+any_same p q from (suc count) same = rw (same from (omega arith), any_same p q (from + 1) count (λ number h. same number (omega arith)))
+
+-- a test of the holders of a ring, as one of all numbers
+any_holder : (rings : List Ring) (order : List ℕ) (ring : Ring) (q : ℕ → Bool) → IsPermutation (range_with_len 0 (length rings)) order
+    → list_any q (filter (is_holder rings ring) order) ≡ list_any (λ number. is_holder rings ring number && q number) (range_with_len 0 (length rings))
+any_holder rings order ring q permutation =
+    any_filter (is_holder rings ring) q order ∙ sym (list_any-IsPermutation (λ number. is_holder rings ring number && q number) (range_with_len 0 (length rings)) order permutation)
+
+-- a number that passes stands in the range
+pub record StandsIn (p : ℕ → Bool) (number from count : ℕ) : Type 0 where
+  pub low : from ≤ number
+  pub high : number < from + count
+  pub passes : p number ≡ true
+
+is_this_next : (b : Bool) (one number : ℕ) → (b && (one == number)) ≡ true → (one ≡ number) × (b ≡ true)
+is_this_next true one number e = (grind (arith, nat_tests), refl)
+is_this_next false one number e = absurd (cc)
+
+is_this : (p : ℕ → Bool) (one number : ℕ) → (p one && (one == number)) ≡ true → (one ≡ number) × (p one ≡ true)
+is_this p one number e = is_this_next (p one) one number e
+
+stands_next : (p : ℕ → Bool) (number from count : ℕ) (b : Bool) → (p from && (from == number)) ≡ b → (b || list_any (λ n. p n && (n == number)) (range_with_len (from + 1) count)) ≡ true
+    → (list_any (λ n. p n && (n == number)) (range_with_len (from + 1) count) ≡ true → StandsIn p number (from + 1) count) → StandsIn p number from (suc count)
+stands_next p number from count true o e more =
+    let is = is_this p from number o in
+    let same = is.0 in
+    record { low = omega (arith, same); high = omega (arith, same); passes = rw same at is.1 }
+stands_next p number from count false o e more =
+    let next = more e in
+    let low = next.low in
+    let high = next.high in
+    record { low = omega (arith, low); high = omega (arith, high); passes = next.passes }
+
+stands : (p : ℕ → Bool) (number from count : ℕ) → list_any (λ n. p n && (n == number)) (range_with_len from count) ≡ true → StandsIn p number from count
+stands p number from zero e = absurd (cc)
+stands p number from (suc count) e = stands_next p number from count (p from && (from == number)) refl e (stands p number (from + 1) count)
+
+none_next : (rings : List Ring) (ring : Ring) (from : ℕ) (rest : Option ℕ) (b any : Bool) → (b || any) ≡ false → (any ≡ false → rest ≡ None) → (if b then Some from else rest) ≡ None
+none_next rings ring from rest true any e more = absurd (cc)
+none_next rings ring from rest false any e more = more e
+
+-- where no number passes, there is no owner
+owner_none : (rings : List Ring) (ring : Ring) (from count : ℕ) → list_any (λ number. owns rings (ring_at rings number) ring) (range_with_len from count) ≡ false
+    → owner_from rings from (map (ring_at rings) (range_with_len from count)) ring ≡ None
+owner_none rings ring from zero e = refl
+owner_none rings ring from (suc count) e =
+    none_next rings ring from (owner_from rings (from + 1) (map (ring_at rings) (range_with_len (from + 1) count)) ring) (owns rings (ring_at rings from) ring)
+    (list_any (λ number. owns rings (ring_at rings number) ring) (range_with_len (from + 1) count)) e (owner_none rings ring (from + 1) count)
+
+first_is : (from least : ℕ) (any : Bool) → from ≤ least → (nat_lt from least || any) ≡ false → from ≡ least
+first_is from least any low e = grind (arith, nat_tests)
+
+after : (own : ℕ → Bool) (from least : ℕ) → own from ≡ false → own least ≡ true → from ≤ least → from + 1 ≤ least
+after own from least o found low =
+    let other : from ≢ least = λ same. absurd (cc) in
+    omega arith
+
+some_next : (own : ℕ → Bool) (from least : ℕ) (rest : Option ℕ) (b any : Bool) → own from ≡ b → own least ≡ true → from ≤ least → ((b && nat_lt from least) || any) ≡ false
+    → (from + 1 ≤ least → any ≡ false → rest ≡ Some least) → (if b then Some from else rest) ≡ Some least
+some_next own from least rest true any o found low e more =
+    let same : from ≡ least = first_is from least any low e in
+    ap Some same
+some_next own from least rest false any o found low e more = more (after own from least o found low) e
+
+-- the least number that passes is the owner
+owner_some : (rings : List Ring) (ring : Ring) (least from count : ℕ) → owns rings (ring_at rings least) ring ≡ true → from ≤ least → least < from + count
+    → list_any (λ number. owns rings (ring_at rings number) ring && nat_lt number least) (range_with_len from count) ≡ false
+    → owner_from rings from (map (ring_at rings) (range_with_len from count)) ring ≡ Some least
+owner_some rings ring least from zero found low high e = absurd (omega arith)
+owner_some rings ring least from (suc count) found low high e =
+    some_next (λ number. owns rings (ring_at rings number) ring) from least (owner_from rings (from + 1) (map (ring_at rings) (range_with_len (from + 1) count)) ring)
+    (owns rings (ring_at rings from) ring) (list_any (λ number. owns rings (ring_at rings number) ring && nat_lt number least) (range_with_len (from + 1) count)) refl found low e
+    (λ next none. owner_some rings ring least (from + 1) count found next (omega arith) none)
+
+owns_is : (rings : List Ring) (depths : List ℕ) (ring : Ring) (number : ℕ) → depths ≡ map (depth rings) rings → number < length rings
+    → (is_holder rings ring number && is_above depths (depth rings ring) number) ≡ owns rings (ring_at rings number) ring
+owns_is rings depths ring number e h =
+    let deep : get_or depths number 0 ≡ depth rings (ring_at rings number) = rw e (get_or-map (depth rings) rings number [] 0 h) in
+    rw deep
+
+swap_tests : (a b c : Bool) → (a && (b && c)) ≡ ((a && b) && c)
+swap_tests true b c = refl
+swap_tests false b c = refl
+
+owner_least : (rings : List Ring) (depths order : List ℕ) (ring : Ring) → depths ≡ map (depth rings) rings → IsPermutation (range_with_len 0 (length rings)) order
+    → (r : Option ℕ) → IsLeast (is_above depths (depth rings ring)) (filter (is_holder rings ring) order) r
+    → owner_from rings 0 (map (ring_at rings) (range_with_len 0 (length rings))) ring ≡ r
+owner_least rings depths order ring e permutation None least =
+    let none = sym (any_holder rings order ring (is_above depths (depth rings ring)) permutation) ∙ least in
+    let same = any_same (λ number. is_holder rings ring number && is_above depths (depth rings ring) number) (λ number. owns rings (ring_at rings number) ring) 0 (length rings)
+    (λ number h. owns_is rings depths ring number e (omega arith)) in
+    owner_none rings ring 0 (length rings) (sym same ∙ none)
+owner_least rings depths order ring e permutation (Some found) least =
+    let in_range = stands (is_holder rings ring) found 0 (length rings) (sym (any_holder rings order ring (λ number. number == found) permutation) ∙ least.1) in
+    let high = in_range.high in
+    let within : found < length rings = omega (arith, high) in
+    let owned : owns rings (ring_at rings found) ring ≡ true = sym (owns_is rings depths ring found e within) ∙ (rw (in_range.passes, least.0)) in
+    let none = sym (any_holder rings order ring (λ number. is_above depths (depth rings ring) number && nat_lt number found) permutation) ∙ least.2 in
+    let same = any_same (λ number. is_holder rings ring number && (is_above depths (depth rings ring) number && nat_lt number found))
+    (λ number. owns rings (ring_at rings number) ring && nat_lt number found) 0 (length rings)
+    (λ number h. swap_tests (is_holder rings ring number) (is_above depths (depth rings ring) number) (nat_lt number found)
+    ∙ ap (λ b. b && nat_lt number found) (owns_is rings depths ring number e (omega arith))) in
+    owner_some rings ring found 0 (length rings) owned (omega arith) high (sym same ∙ none)
+
+-- the numbers that hold a ring
+pub holders_at : (rings : List Ring) (holders : List (List ℕ)) (at : ℕ) (ring : Ring) (own : List ℕ) → (h : AreHolders rings holders) → at < length rings
+    → ring ≡ get_or rings at ring → own ≡ get_or holders at own → own ≡ filter (is_holder rings ring) h.order
+holders_at rings holders at ring own h low e f =
+    let one = get_or-map (λ some. filter (is_holder rings some) h.order) rings at [] own low in
+    f ∙ ap (λ all. get_or all at own) h.are ∙ one ∙ ap (λ some. filter (is_holder rings some) h.order) (ring_is rings at ring low e)
+
+-- the owner of a ring is the least of its holders that are one less deep
+pub owner_is : (rings : List Ring) (holders : List (List ℕ)) (depths : List ℕ) (at : ℕ) (ring : Ring) (own : List ℕ) (r : Option ℕ) → AreHolders rings holders
+    → depths ≡ map (depth rings) rings → at < length rings → ring ≡ get_or rings at ring → own ≡ get_or holders at own
+    → IsLeast (is_above depths (get_or depths at 0)) own r → owner rings ring ≡ r
+owner_is rings holders depths at ring own r h e low f g least =
+    let deep : get_or depths at 0 ≡ depth rings ring = rw e (get_or-map (depth rings) rings at [] 0 low ∙ ap (depth rings) (ring_is rings at ring low f)) in
+    let here = rw (deep, holders_at rings holders at ring own h low f g) at least in
+    ap (λ all. owner_from rings 0 all ring) (sym (rings_are rings)) ∙ owner_least rings depths h.order ring e h.permutation r here
+
+all_below_next : (number count : ℕ) (any : Bool) → (not (nat_lt number count) || any) ≡ false → (number < count) × (any ≡ false)
+all_below_next number count true e = absurd (always (not (nat_lt number count)) e)
+all_below_next number count false e = (grind (arith, nat_tests), refl)
+
+all_below : (numbers : List ℕ) (count : ℕ) → list_any (λ number. not (nat_lt number count)) numbers ≡ false → AllByRecursion (λ number. number < count) numbers
+all_below [] count e = tt
+all_below (number ∷ numbers) count e =
+    let both = all_below_next number count (list_any (λ n. not (nat_lt n count)) numbers) e in
+    (both.0, all_below numbers count both.1)
+
+is_below : (number count : ℕ) → number < count → not (nat_lt number count) ≡ false
+is_below number count h = grind (arith, nat_tests)
+
+range_below : (from some count : ℕ) → from + some ≤ count → list_any (λ number. not (nat_lt number count)) (range_with_len from some) ≡ false
+range_below from zero count h = refl
+range_below from (suc some) count h = rw (is_below from count (omega arith)) (range_below (from + 1) some count (omega arith))
+
+-- numbers in another order are the same numbers
+pub order_below : (count : ℕ) (order : List ℕ) → IsPermutation (range_with_len 0 count) order → AllByRecursion (λ number. number < count) order
+order_below count order permutation =
+    all_below order count (sym (list_any-IsPermutation (λ number. not (nat_lt number count)) (range_with_len 0 count) order permutation) ∙ range_below 0 count count (omega arith))
+
+all_filter_next : {A : Type 0} (P : A → Type 0) (b : Bool) (x : A) (xs : List A) → P x → AllByRecursion P xs → AllByRecursion P (cond b (x ∷ xs) xs)
+all_filter_next P true x xs one all = (one, all)
+all_filter_next P false x xs one all = all
+
+all_filter : {A : Type 0} (P : A → Type 0) (p : A → Bool) (xs : List A) → AllByRecursion P xs → AllByRecursion P (filter p xs)
+all_filter P p [] all = tt
+all_filter P p (x ∷ xs) all = all_filter_next P (p x) x (filter p xs) all.0 (all_filter P p xs all.1)
+
+-- the numbers that hold a ring are numbers of rings
+pub holders_below : (rings : List Ring) (holders : List (List ℕ)) (at : ℕ) (ring : Ring) (own : List ℕ) → AreHolders rings holders → at < length rings
+    → ring ≡ get_or rings at ring → own ≡ get_or holders at own → AllByRecursion (λ number. number < length rings) own
+holders_below rings holders at ring own h low e f =
+    rw (holders_at rings holders at ring own h low e f)
+    (all_filter (λ number. number < length rings) (is_holder rings ring) h.order (order_below (length rings) h.order h.permutation))
+
+least_next : (p : ℕ → Bool) (numbers : List ℕ) (number : ℕ) (r : Option ℕ) → p number ≡ false → IsLeast p numbers r → IsLeast p (numbers ++ number ∷ []) r
+least_next p numbers number None e least = list_any-append p numbers (number ∷ []) ∙ (rw (least, e))
+least_next p numbers number (Some found) e least = (
+  least.0,
+  list_any-append (λ n. n == found) numbers (number ∷ []) ∙ (rw least.1),
+  list_any-append (λ n. p n && nat_lt n found) numbers (number ∷ []) ∙ (rw (least.2, e)),
+)
+
+-- a number that does not pass changes nothing
+pub least_same : (p : ℕ → Bool) (numbers : List ℕ) (at : ℕ) (r : Option ℕ) → at < length numbers → p (get_or numbers at 0) ≡ false
+    → IsLeast p (take at numbers) r → IsLeast p (take (at + 1) numbers) r
+least_same p numbers at r h e least = rw (next_of numbers at 0 h) (least_next p (take at numbers) (get_or numbers at 0) r e least)
+
+is_less : (m n : ℕ) → nat_lt m n ≡ true → m ≤ n
+is_less m n e = grind (arith, nat_tests)
+
+itself : (n : ℕ) → (n == n) ≡ true
+itself n = grind (arith, nat_tests)
+
+not_less : (m n : ℕ) → n ≤ m → nat_lt m n ≡ false
+not_less m n h = grind (arith, nat_tests)
+
+or_true : (b : Bool) → (b || true) ≡ true
+or_true true = refl
+or_true false = refl
+
+-- where none passed, none that passes is less
+none_less_next : (a b any all : Bool) → (a || any) ≡ false → (any ≡ false → all ≡ false) → ((a && b) || all) ≡ false
+none_less_next true b any all e more = absurd (cc)
+none_less_next false b any all e more = more e
+
+none_less : (p q : ℕ → Bool) (numbers : List ℕ) → list_any p numbers ≡ false → list_any (λ n. p n && q n) numbers ≡ false
+none_less p q [] e = refl
+none_less p q (number ∷ numbers) e = none_less_next (p number) (q number) (list_any p numbers) (list_any (λ n. p n && q n) numbers) e (none_less p q numbers)
+
+still_not_less : (number less more : ℕ) → less ≤ more → (nat_lt number more || false) ≡ false → (nat_lt number less || false) ≡ false
+still_not_less number less more h e = grind (arith, nat_tests)
+
+not_less_next : (number less more : ℕ) (any all : Bool) → less ≤ more → (nat_lt number more || any) ≡ false → (any ≡ false → all ≡ false)
+    → (nat_lt number less || all) ≡ false
+not_less_next number less more true all h e next = absurd (always (nat_lt number more) e)
+not_less_next number less more false all h e next = rw (next refl) (still_not_less number less more h e)
+
+fewer_less_next : (a : Bool) (number less more : ℕ) (any all : Bool) → less ≤ more → ((a && nat_lt number more) || any) ≡ false → (any ≡ false → all ≡ false)
+    → ((a && nat_lt number less) || all) ≡ false
+fewer_less_next true number less more any all h e next = not_less_next number less more any all h e next
+fewer_less_next false number less more any all h e next = next e
+
+fewer_less : (p : ℕ → Bool) (numbers : List ℕ) (less more : ℕ) → less ≤ more → list_any (λ n. p n && nat_lt n more) numbers ≡ false
+    → list_any (λ n. p n && nat_lt n less) numbers ≡ false
+fewer_less p [] less more h e = refl
+fewer_less p (number ∷ numbers) less more h e =
+    fewer_less_next (p number) number less more (list_any (λ n. p n && nat_lt n more) numbers) (list_any (λ n. p n && nat_lt n less) numbers) h e (fewer_less p numbers less more h)
+
+least_cases : (p : ℕ → Bool) (numbers : List ℕ) (number found : ℕ) (b : Bool) → nat_lt number found ≡ b → p number ≡ true → IsLeast p numbers (Some found)
+    → IsLeast p (numbers ++ number ∷ []) (Some (if b then number else found))
+least_cases p numbers number found true o e least =
+    let before = fewer_less p numbers number found (is_less number found o) least.2 in (
+      e,
+      list_any-append (λ n. n == number) numbers (number ∷ []) ∙ (rw (itself number) (or_true (list_any (λ n. n == number) numbers))),
+      list_any-append (λ n. p n && nat_lt n number) numbers (number ∷ []) ∙ (rw (before, e, not_less number number (omega arith))),
+    )
+least_cases p numbers number found false o e least = (
+  least.0,
+  list_any-append (λ n. n == found) numbers (number ∷ []) ∙ (rw least.1),
+  list_any-append (λ n. p n && nat_lt n found) numbers (number ∷ []) ∙ (rw (least.2, e, o)),
+)
+
+least_one : (p : ℕ → Bool) (numbers : List ℕ) (number : ℕ) (r : Option ℕ) → p number ≡ true → IsLeast p numbers r
+    → IsLeast p (numbers ++ number ∷ []) (Some (lesser_of r number))
+least_one p numbers number None e least =
+    let before = none_less p (λ n. nat_lt n number) numbers least in (
+      e,
+      list_any-append (λ n. n == number) numbers (number ∷ []) ∙ (rw (itself number) (or_true (list_any (λ n. n == number) numbers))),
+      list_any-append (λ n. p n && nat_lt n number) numbers (number ∷ []) ∙ (rw (before, e, not_less number number (omega arith))),
+    )
+least_one p numbers number (Some found) e least = least_cases p numbers number found (nat_lt number found) refl e least
+
+-- a number that passes may be the least
+pub least_more : (p : ℕ → Bool) (numbers : List ℕ) (at : ℕ) (r : Option ℕ) → at < length numbers → p (get_or numbers at 0) ≡ true
+    → IsLeast p (take at numbers) r → IsLeast p (take (at + 1) numbers) (Some (lesser_of r (get_or numbers at 0)))
+least_more p numbers at r h e least = rw (next_of numbers at 0 h) (least_one p (take at numbers) (get_or numbers at 0) r e least)
+
+pub one_above : (deep depth : ℕ) → deep ≡ depth - 1 → 0 < depth → (deep + 1 == depth) ≡ true
+one_above deep depth e h = grind (arith, nat_tests)
+
+pub not_above : (deep depth : ℕ) → deep ≢ depth - 1 → 0 < depth → (deep + 1 == depth) ≡ false
+not_above deep depth e h = grind (arith, nat_tests)

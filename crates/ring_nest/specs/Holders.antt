@@ -1,0 +1,77 @@
+-- Rings by their numbers: a tree of boxes, the rings that hold a ring, and the one that it belongs to.
+use Rattle.std.specs.Prelude.{◌≡◌, ◌<◌, ◌≤◌, ◌++◌, ◌==◌, ◌&&◌, ◌+◌, ℕ, Bool, true, false, List, length, map, Option, Some, None, [], nat_lt, if◌then◌else◌, slice_index_or}
+use Rattle.std.specs.List.{AllByRecursion, filter, list_any, range_with_len}
+use Rattle.std.specs.List.Sorted.{IsPermutation}
+use Rattle.osm_base.specs.declared.place.GeoBox.{GeoBox}
+use Rattle.ring_nest.specs.declared.tree.Leaf.{Leaf}
+use Rattle.ring_nest.specs.declared.tree.Tree.{Tree}
+use Rattle.ring_nest.specs.declared.tree.Tree.TheVariants.{Few, Halves'}
+use Rattle.ring_nest.specs.declared.tree.TheConstants.{LEAF}
+use Rattle.ring_nest.specs.Around.{Covers, IsBoxed, around, some_box}
+use Rattle.ring_nest.specs.Nesting.{Ring, holds}
+
+-- the ring with a number
+abbrev pub ring_at : List Ring → ℕ → Ring
+ring_at rings number = slice_index_or rings number []
+
+-- whether the ring with a number holds a ring
+abbrev pub is_holder : List Ring → Ring → ℕ → Bool
+is_holder rings ring number = holds (ring_at rings number) ring
+
+-- a ring that is asked for, with its box
+pub record IsAsked (rings : List Ring) (number : ℕ) (asked : GeoBox) : Type 0 where
+  pub boxed : AllByRecursion IsBoxed rings
+  pub within : number < length rings
+  pub around_it : asked ≡ around (ring_at rings number)
+
+-- the box with a number
+abbrev pub box_at : List GeoBox → ℕ → GeoBox
+box_at boxes number = slice_index_or boxes number (some_box None)
+
+-- the number of a box that lies within another one
+pub record IsCovered (boxes : List GeoBox) (box : GeoBox) (number : ℕ) : Type 0 where
+  pub within : number < length boxes
+  pub covered : Covers box (box_at boxes number)
+
+-- a leaf has the box of each of its numbers, and one around these
+pub record IsLeaf (boxes : List GeoBox) (leaf : Leaf) : Type 0 where
+  pub few : length leaf.numbers.items ≤ LEAF
+  pub own : leaf.boxes.items ≡ map (box_at boxes) leaf.numbers.items
+  pub covers : AllByRecursion (IsCovered boxes leaf.around) leaf.numbers.items
+
+-- the numbers in a tree
+abbrev pub numbers_of : Tree → List ℕ
+numbers_of (Few leaf) = leaf.numbers.items
+numbers_of (Halves' box p left q right) = numbers_of left ++ numbers_of right
+
+-- the box of a tree
+abbrev pub box_of_tree : Tree → GeoBox
+box_of_tree (Few leaf) = leaf.around
+box_of_tree (Halves' box p left q right) = box
+
+-- a tree of numbers of boxes, each part of which has a box around these
+abbrev pub IsTree : List GeoBox → Tree → Type 0
+IsTree boxes (Few leaf) = IsLeaf boxes leaf
+IsTree boxes (Halves' box p left q right) =
+    IsTree boxes left × IsTree boxes right × AllByRecursion (IsCovered boxes box) (numbers_of left ++ numbers_of right)
+
+-- the numbers of the rings that hold each ring, in some order that is the same for all
+pub record AreHolders (rings : List Ring) (holders : List (List ℕ)) : Type 0 where
+  pub order : List ℕ
+  pub permutation : IsPermutation (range_with_len 0 (length rings)) order
+  pub are : holders ≡ map (λ ring. filter (is_holder rings ring) order) rings
+
+-- whether the ring with a number has a depth one less than another one
+abbrev pub is_above : List ℕ → ℕ → ℕ → Bool
+is_above depths depth number = slice_index_or depths number 0 + 1 == depth
+
+-- the lesser of a number so far, if there is one, and another one
+abbrev pub lesser_of : Option ℕ → ℕ → ℕ
+lesser_of None number = number
+lesser_of (Some least) number = if nat_lt number least then number else least
+
+-- the least of the numbers that pass a test, where one does
+abbrev pub IsLeast : (ℕ → Bool) → List ℕ → Option ℕ → Type 0
+IsLeast test numbers None = list_any test numbers ≡ false
+IsLeast test numbers (Some least) = (test least ≡ true) × (list_any (λ number. number == least) numbers ≡ true)
+    × (list_any (λ number. test number && nat_lt number least) numbers ≡ false)

@@ -1,0 +1,98 @@
+//! The boxes of rings, and boxes around boxes.
+ghost use Rattle.std.specs.Prelude.{◌≡◌, ◌≤ℤ◌, map, IfOk};
+ghost use Rattle.std.specs.List.{AllByRecursion};
+ghost use Rattle.lanes_geo.specs.Box.{meets, overlap};
+ghost use Rattle.ring_nest.specs.Around.{Covers, IsBoxed, around};
+ghost use Rattle.ring_nest.specs.Nesting.{IsClosed};
+
+use lanes_geo::box_of;
+use osm_base::{GeoBox, OutOfMemory, Place, Places};
+use std::alloc::Global;
+
+/// The box of a ring.
+fn box_around(ring: &[Place]) -> GeoBox
+    requires { IsClosed ring.now }
+    ensures around { result ≡ around ring.now }
+    ensures boxed { IsBoxed ring.now }
+{
+    box_of(ring).unwrap_or(GeoBox {
+        west: 0,
+        south: 0,
+        east: 0,
+        north: 0,
+    })
+}
+
+/// Whether two spans, their ends included, have a number in common.
+fn is_overlap(low: i32, high: i32, other_low: i32, other_high: i32) -> bool
+    ensures { result ≡ overlap low high other_low other_high }
+{
+    (other_low <= high) & (low <= other_high)
+}
+
+/// Whether two boxes have a place in common.
+pub(crate) fn is_met(asked: GeoBox, other: GeoBox) -> bool
+    ensures { result ≡ meets asked other }
+{
+    let across = is_overlap(asked.west, asked.east, other.west, other.east);
+    let along = is_overlap(asked.south, asked.north, other.south, other.north);
+    across & along
+}
+
+/// The lesser of two numbers.
+fn lesser(one: i32, other: i32) -> i32
+    ensures one { result ≤ℤ one }
+    ensures other { result ≤ℤ other }
+{
+    if one <= other { one } else { other }
+}
+
+/// The greater of two numbers.
+fn greater(one: i32, other: i32) -> i32
+    ensures one { one ≤ℤ result }
+    ensures other { other ≤ℤ result }
+{
+    if one <= other { other } else { one }
+}
+
+/// The box around two boxes.
+pub(crate) fn widened(box_so_far: GeoBox, other: GeoBox) -> GeoBox
+    ensures so_far { Covers result box_so_far }
+    ensures other { Covers result other }
+{
+    GeoBox {
+        west: lesser(box_so_far.west, other.west),
+        south: lesser(box_so_far.south, other.south),
+        east: greater(box_so_far.east, other.east),
+        north: greater(box_so_far.north, other.north),
+    }
+}
+
+/// A box around boxes.
+pub(crate) fn box_around_all(boxes: &[GeoBox]) -> GeoBox
+    ensures { AllByRecursion (Covers result) boxes.now }
+{
+    let mut around = GeoBox {
+        west: i32::MAX,
+        south: i32::MAX,
+        east: i32::MIN,
+        north: i32::MIN,
+    };
+    for other in boxes {
+        around = widened(around, *other);
+    }
+    around
+}
+
+/// The boxes of rings.
+pub(crate) fn boxes_of(alloc: Global, rings: &[Places]) -> Result<Vec<GeoBox>, OutOfMemory>
+    requires { AllByRecursion IsClosed rings.now }
+    ensures boxes { IfOk result (λ boxes. boxes.items ≡ map around rings.now) }
+    ensures boxed { IfOk result (λ _. AllByRecursion IsBoxed rings.now) }
+{
+    let mut boxes = Vec::with_capacity(alloc, rings.len())?;
+    for ring in rings {
+        boxes.push(box_around(ring.as_slice()))?;
+    }
+    Ok(boxes)
+}

@@ -1,0 +1,160 @@
+//! A tree of boxes around rings: what meets a ring's box is found by few steps, however many rings there are.
+ghost use Rattle.std.specs.Prelude.{◌≡◌, ◌≤◌, ◌<◌, ◌++◌, ◌∷◌, [], length, map, IfOk, OnOk};
+ghost use Rattle.std.specs.List.{AllByRecursion, filter};
+ghost use Rattle.lanes_geo.specs.Box.{meets};
+ghost use Rattle.ring_nest.specs.Around.{IsBoxed, around};
+ghost use Rattle.ring_nest.specs.Holders.{IsAsked, IsLeaf, IsTree, box_of_tree, is_holder, numbers_of, ring_at};
+
+use crate::boxes::{box_around_all, is_met, widened};
+use crate::rings::holds;
+use lanes_geo::boxes_meet;
+use osm_base::{GeoBox, OutOfMemory, Places};
+use std::alloc::Global;
+
+/// How many rings a leaf has at most.
+pub(crate) const LEAF: usize = 16;
+
+/// The numbers of a few rings, with their boxes and a box around these.
+#[derive(Drop)]
+pub(crate) struct Leaf {
+    around: GeoBox,
+    numbers: Vec<usize>,
+    boxes: Vec<GeoBox>,
+}
+
+/// The numbers of rings in halves, down to a few, with a box around the rings of each half.
+#[derive(Drop)]
+pub(crate) enum Tree {
+    Few(Leaf),
+    Halves(GeoBox, Box<Tree>, Box<Tree>),
+}
+
+/// The box around the rings of a tree.
+fn around_of(tree: &Tree) -> GeoBox
+    ensures { result ≡ box_of_tree tree.now }
+{
+    match tree {
+        Tree::Few(leaf) => leaf.around,
+        Tree::Halves(around, _, _) => *around,
+    }
+}
+
+/// The leaf of a few boxes with these numbers.
+fn leaf_of(alloc: Global, boxes: &[GeoBox], numbers: &[usize]) -> Result<Leaf, OutOfMemory>
+    requires few { length numbers.now ≤ LEAF }
+    requires within { AllByRecursion (λ number. number < length boxes.now) numbers.now }
+    ensures numbers { IfOk result (λ leaf. leaf.numbers.items ≡ numbers.now) }
+    ensures is_leaf { IfOk result (λ leaf. IsLeaf boxes.now leaf) }
+{
+    let mut own_numbers = Vec::with_capacity(alloc, numbers.len())?;
+    let mut own_boxes = Vec::with_capacity(alloc, numbers.len())?;
+    for number in numbers {
+        own_numbers.push(*number)?;
+        own_boxes.push(boxes[*number])?;
+    }
+    let around = box_around_all(&own_boxes);
+    Ok(Leaf {
+        around,
+        numbers: own_numbers,
+        boxes: own_boxes,
+    })
+}
+
+/// The tree of the boxes with these numbers, of which those that follow one another are put together.
+pub(crate) fn tree_of(
+    alloc: Global,
+    boxes: &[GeoBox],
+    numbers: &[usize],
+) -> Result<Tree, OutOfMemory>
+    requires within { AllByRecursion (λ number. number < length boxes.now) numbers.now }
+    ensures numbers { IfOk result (λ tree. numbers_of tree ≡ numbers.now) }
+    ensures is_tree { IfOk result (λ tree. IsTree boxes.now tree) }
+{
+    if numbers.len() <= LEAF {
+        return Ok(Tree::Few(leaf_of(alloc, boxes, numbers)?));
+    }
+    let (front, back) = numbers.split_at(numbers.len() / 2);
+    let left = tree_of(alloc, boxes, front)?;
+    let right = tree_of(alloc, boxes, back)?;
+    let around = widened(around_of(&left), around_of(&right));
+    Ok(Tree::Halves(around, Box::new(alloc, left)?, Box::new(alloc, right)?))
+}
+
+/// Adds the number of a ring where it holds the asked one. It is told whether their boxes meet; no ring holds itself.
+fn add_if_holder(
+    is_met: bool,
+    rings: &[Places],
+    other: usize,
+    number: usize,
+    found: &mut Vec<usize>,
+) -> Result<(), OutOfMemory>
+    requires boxed { AllByRecursion IsBoxed rings.now }
+    requires other { other < length rings.now }
+    requires number { number < length rings.now }
+    requires met { is_met ≡ meets (around (ring_at rings.now number)) (around (ring_at rings.now other)) }
+    ensures { OnOk result (found.new.items ≡ found.old.items ++ filter (is_holder rings.now (ring_at rings.now number)) (other ∷ [])) }
+{
+    if !is_met {
+        return Ok(());
+    }
+    if other == number {
+        return Ok(());
+    }
+    if holds(rings[other].as_slice(), rings[number].as_slice()) {
+        found.push(other)?;
+        Ok(())
+    } else {
+        Ok(())
+    }
+}
+
+/// Adds the numbers of a leaf's rings that hold a ring. Those whose boxes do not meet its box are passed over.
+fn add_of_leaf(
+    leaf: &Leaf,
+    rings: &[Places],
+    number: usize,
+    asked: GeoBox,
+    mask: &mut [bool],
+    found: &mut Vec<usize>,
+) -> Result<(), OutOfMemory>
+    requires is_leaf { IsLeaf (map around rings.now) leaf.now }
+    requires asked { IsAsked rings.now number asked }
+    requires mask { length mask.old ≡ LEAF }
+    ensures { OnOk result (found.new.items ≡ found.old.items ++ filter (is_holder rings.now (ring_at rings.now number)) leaf.now.numbers.items) }
+{
+    let (marks, _) = mask.split_at_mut(leaf.boxes.len());
+    boxes_meet(&leaf.boxes, asked, marks);
+    let mut at = 0;
+    while leaf.numbers.len() - at > 0 {
+        add_if_holder(marks[at], rings, leaf.numbers[at], number, found)?;
+        at += 1;
+    }
+    Ok(())
+}
+
+/// Adds the numbers of a tree's rings that hold a ring. What lies in a box that does not meet its box is passed over.
+pub(crate) fn add_holders(
+    tree: &Tree,
+    rings: &[Places],
+    number: usize,
+    asked: GeoBox,
+    mask: &mut [bool],
+    found: &mut Vec<usize>,
+) -> Result<(), OutOfMemory>
+    requires is_tree { IsTree (map around rings.now) tree.now }
+    requires asked { IsAsked rings.now number asked }
+    requires mask { length mask.old ≡ LEAF }
+    ensures { OnOk result (found.new.items ≡ found.old.items ++ filter (is_holder rings.now (ring_at rings.now number)) (numbers_of tree.now)) }
+{
+    if !is_met(asked, around_of(tree)) {
+        return Ok(());
+    }
+    match tree {
+        Tree::Few(leaf) => add_of_leaf(leaf, rings, number, asked, mask, found),
+        Tree::Halves(_, left, right) => {
+            add_holders(left, rings, number, asked, mask, found)?;
+            add_holders(right, rings, number, asked, mask, found)?;
+            Ok(())
+        }
+    }
+}
