@@ -1,11 +1,11 @@
 -- Depths and owners, by the numbers of the rings that hold each ring.
-use Rattle.std.proofs.Common.{◌≡◌, ◌≢◌, ℕ, ◌+◌, ◌-◌, ◌<◌, ◌≤◌, ◌==◌, suc, zero, refl, sym, ap, ◌∙◌, arith, List, [], ◌∷◌, ◌++◌, length, map, take, get_or, Bool, true, false, cond, not, ◌&&◌, ◌||◌, if◌then◌else◌, nat_lt, Option, Some, None, zero-add, add-zero, count_by}
+use Rattle.std.proofs.Common.{length-append, ◌≡◌, ◌≢◌, ℕ, ◌+◌, ◌-◌, ◌<◌, ◌≤◌, ◌==◌, suc, zero, refl, sym, ap, ◌∙◌, arith, List, [], ◌∷◌, ◌++◌, length, map, take, get_or, Bool, true, false, cond, not, ◌&&◌, ◌||◌, if◌then◌else◌, nat_lt, Option, Some, None, zero-add, add-zero, count_by}
 use Rattle.std.specs.List.{AllByRecursion, filter, list_any, range_with_len}
 use Rattle.std.specs.List.Sorted.{IsPermutation}
 use Rattle.std.proofs.lemmas.Bool.Decides.{nat_tests}
 use Rattle.std.proofs.lemmas.List.{ext_get_or, get_or-map}
 use Rattle.std.proofs.lemmas.List.FromFn.{get_or-map-range_with_len, length-map-range_with_len}
-use Rattle.std.proofs.lemmas.List.Sorted.{list_any-IsPermutation, sum_by-IsPermutation}
+use Rattle.std.proofs.lemmas.List.Sorted.{IsPermutation-append, IsPermutation-trans, length_permutation, list_any-IsPermutation, sum_by-IsPermutation}
 use Rattle.std.proofs.lemmas.List.Folds.{list_any-append}
 use Rattle.std.proofs.lemmas.List.Sums.{length-filter, sum_by-cons}
 use Rattle.ring_nest.specs.Holders.{AreHolders, IsLeast, is_above, is_holder, lesser_of, ring_at}
@@ -195,14 +195,37 @@ all_below (number ∷ numbers) count e =
 is_below : (number count : ℕ) → number < count → not (nat_lt number count) ≡ false
 is_below number count h = grind (arith, nat_tests)
 
-range_below : (from some count : ℕ) → from + some ≤ count → list_any (λ number. not (nat_lt number count)) (range_with_len from some) ≡ false
-range_below from zero count h = refl
-range_below from (suc some) count h = rw (is_below from count (omega arith)) (range_below (from + 1) some count (omega arith))
+none_above : (numbers : List ℕ) (count : ℕ) → AllByRecursion (λ number. number < count) numbers → list_any (λ number. not (nat_lt number count)) numbers ≡ false
+none_above [] count all = refl
+none_above (number ∷ numbers) count all = rw (is_below number count all.0) (none_above numbers count all.1)
 
 -- numbers in another order are the same numbers
-pub order_below : (count : ℕ) (order : List ℕ) → IsPermutation (range_with_len 0 count) order → AllByRecursion (λ number. number < count) order
-order_below count order permutation =
-    all_below order count (sym (list_any-IsPermutation (λ number. not (nat_lt number count)) (range_with_len 0 count) order permutation) ∙ range_below 0 count count (omega arith))
+pub order_below : (count : ℕ) (numbers order : List ℕ) → IsPermutation numbers order → AllByRecursion (λ number. number < count) numbers
+    → AllByRecursion (λ number. number < count) order
+order_below count numbers order permutation all =
+    all_below order count (sym (list_any-IsPermutation (λ number. not (nat_lt number count)) numbers order permutation) ∙ none_above numbers count all)
+
+pub range_below : (from some count : ℕ) → from + some ≤ count → AllByRecursion (λ number. number < count) (range_with_len from some)
+range_below from zero count h = tt
+range_below from (suc some) count h = (omega arith, range_below (from + 1) some count (omega arith))
+
+all_part : {A : Type 0} (P : A → Type 0) (xs ys : List A) → AllByRecursion P (xs ++ ys) → AllByRecursion P xs × AllByRecursion P ys
+all_part P [] ys all = (tt, all)
+all_part P (x ∷ xs) ys all = let parts = all_part P xs ys all.1 in ((all.0, parts.0), parts.1)
+
+-- the numbers of two halves
+pub halves_below : (count : ℕ) (numbers front back : List ℕ) → IsPermutation numbers (front ++ back) → AllByRecursion (λ number. number < count) numbers
+    → AllByRecursion (λ number. number < count) front × AllByRecursion (λ number. number < count) back
+halves_below count numbers front back permutation all = all_part (λ number. number < count) front back (order_below count numbers (front ++ back) permutation all)
+
+pub halves_long : (numbers front back : List ℕ) → IsPermutation numbers (front ++ back) → length front + length back ≡ length numbers
+halves_long numbers front back permutation = sym (length-append front back) ∙ length_permutation numbers (front ++ back) permutation
+
+-- the numbers of two halves in other orders
+pub halves_join : (numbers front back left right : List ℕ) → IsPermutation numbers (front ++ back) → IsPermutation front left → IsPermutation back right
+    → IsPermutation numbers (left ++ right)
+halves_join numbers front back left right permutation one other =
+    IsPermutation-trans numbers (front ++ back) (left ++ right) permutation (IsPermutation-append front left back right one other)
 
 all_filter_next : {A : Type 0} (P : A → Type 0) (b : Bool) (x : A) (xs : List A) → P x → AllByRecursion P xs → AllByRecursion P (cond b (x ∷ xs) xs)
 all_filter_next P true x xs one all = (one, all)
@@ -217,7 +240,7 @@ pub holders_below : (rings : List Ring) (holders : List (List ℕ)) (at : ℕ) (
     → ring ≡ get_or rings at ring → own ≡ get_or holders at own → AllByRecursion (λ number. number < length rings) own
 holders_below rings holders at ring own h low e f =
     rw (holders_at rings holders at ring own h low e f)
-    (all_filter (λ number. number < length rings) (is_holder rings ring) h.order (order_below (length rings) h.order h.permutation))
+    (all_filter (λ number. number < length rings) (is_holder rings ring) h.order (order_below (length rings) (range_with_len 0 (length rings)) h.order h.permutation (range_below 0 (length rings) (length rings) (omega arith))))
 
 least_next : (p : ℕ → Bool) (numbers : List ℕ) (number : ℕ) (r : Option ℕ) → p number ≡ false → IsLeast p numbers r → IsLeast p (numbers ++ number ∷ []) r
 least_next p numbers number None e least = list_any-append p numbers (number ∷ []) ∙ (rw (least, e))

@@ -1,10 +1,9 @@
 //! The rings that hold each ring, and what follows from them: its depth, and the ring that it belongs to.
 ghost use Rattle.std.specs.Prelude.{◌≡◌, ◌<◌, length, map, IfOk};
-ghost use Rattle.std.specs.List.{AllByRecursion, filter};
+ghost use Rattle.std.specs.List.{AllByRecursion, filter, range_with_len};
 ghost use Rattle.ring_nest.specs.Around.{IsBoxed, around};
 ghost use Rattle.ring_nest.specs.Holders.{AreHolders, IsAsked, IsLeast, IsTree, is_above, is_holder, lesser_of, numbers_of, ring_at};
 
-use crate::order::numbers_in_order;
 use crate::tree::{LEAF, Tree, add_holders, tree_of};
 use osm_base::{GeoBox, Items, OutOfMemory, Places};
 use std::alloc::Global;
@@ -50,6 +49,17 @@ fn holders_of_each(
     Ok(holders)
 }
 
+/// The numbers below another one, in order.
+fn numbers_below(alloc: Global, count: usize) -> Result<Vec<usize>, OutOfMemory>
+    ensures { IfOk result (λ numbers. numbers.items ≡ range_with_len 0 count) }
+{
+    let mut numbers = Vec::with_capacity(alloc, count)?;
+    for number in 0..count {
+        numbers.push(number)?;
+    }
+    Ok(numbers)
+}
+
 /// The numbers of the rings that hold each ring.
 pub(crate) fn holders_of_all(
     alloc: Global,
@@ -60,8 +70,7 @@ pub(crate) fn holders_of_all(
     requires boxed { AllByRecursion IsBoxed rings.now }
     ensures { IfOk result (λ holders. AreHolders rings.now holders.items) }
 {
-    let numbers = numbers_in_order(alloc, boxes)?;
-    let tree = tree_of(alloc, boxes, &numbers)?;
+    let tree = tree_of(alloc, boxes, numbers_below(alloc, rings.len())?)?;
     Ok(holders_of_each(alloc, &tree, rings, boxes)?)
 }
 

@@ -15,7 +15,6 @@
 
 mod boxes;
 mod holders;
-mod order;
 mod polygons;
 mod rings;
 mod segment;

@@ -1,6 +1,7 @@
 //! A tree of boxes around rings: what meets a ring's box is found by few steps, however many rings there are.
-ghost use Rattle.std.specs.Prelude.{◌≡◌, ◌≤◌, ◌<◌, ◌++◌, ◌∷◌, [], length, map, IfOk, OnOk};
+ghost use Rattle.std.specs.Prelude.{◌≡◌, ◌≤◌, ◌<◌, ◌++◌, ◌∷◌, [], ◌/◌, length, map, IfOk, OnOk};
 ghost use Rattle.std.specs.List.{AllByRecursion, filter};
+ghost use Rattle.std.specs.List.Sorted.{IsPermutation};
 ghost use Rattle.lanes_geo.specs.Box.{meets};
 ghost use Rattle.ring_nest.specs.Around.{IsBoxed, around};
 ghost use Rattle.ring_nest.specs.Holders.{IsAsked, IsLeaf, IsTree, box_of_tree, is_holder, numbers_of, ring_at};
@@ -40,40 +41,88 @@ fn around_of(tree: &Tree) -> GeoBox
 }
 
 /// The leaf of a few boxes with these numbers.
-fn leaf_of(alloc: Global, boxes: &[GeoBox], numbers: &[usize]) -> Result<Leaf, OutOfMemory>
-    requires few { length numbers.now ≤ LEAF }
-    requires within { AllByRecursion (λ number. number < length boxes.now) numbers.now }
-    ensures numbers { IfOk result (λ leaf. leaf.numbers.items ≡ numbers.now) }
+fn leaf_of(alloc: Global, boxes: &[GeoBox], numbers: Vec<usize>) -> Result<Leaf, OutOfMemory>
+    requires few { length numbers.items ≤ LEAF }
+    requires within { AllByRecursion (λ number. number < length boxes.now) numbers.items }
+    ensures numbers { IfOk result (λ leaf. leaf.numbers.items ≡ numbers.items) }
     ensures is_leaf { IfOk result (λ leaf. IsLeaf boxes.now leaf) }
 {
-    let mut own_numbers = Vec::with_capacity(alloc, numbers.len())?;
     let mut own_boxes = Vec::with_capacity(alloc, numbers.len())?;
-    for number in numbers {
-        own_numbers.push(*number)?;
+    for number in &numbers {
         own_boxes.push(boxes[*number])?;
     }
     let around = box_around_all(&own_boxes);
     Ok(Leaf {
         around,
-        numbers: own_numbers,
+        numbers,
         boxes: own_boxes,
     })
 }
 
-/// The tree of the boxes with these numbers, of which those that follow one another are put together.
+/// The west or the south side of the box with a number.
+fn side_of(boxes: &[GeoBox], number: usize, is_west: bool) -> i32 {
+    match boxes.get(number) {
+        None => 0,
+        Some(around) => { if is_west { around.west } else { around.south } }
+    }
+}
+
+/// Whether the west sides of the boxes with these numbers lie farther apart than their south sides. Either answer is right.
+fn is_wide(boxes: &[GeoBox], numbers: &[usize]) -> bool {
+    let mut west = i32::MAX;
+    let mut south = i32::MAX;
+    let mut east = i32::MIN;
+    let mut north = i32::MIN;
+    for number in numbers {
+        let lon = side_of(boxes, *number, true);
+        let lat = side_of(boxes, *number, false);
+        west = west.min(lon);
+        south = south.min(lat);
+        east = east.max(lon);
+        north = north.max(lat);
+    }
+    i64::from(east) - i64::from(west) > i64::from(north) - i64::from(south)
+}
+
+/// The numbers of boxes in two halves: those with the lesser sides, and those with the greater ones.
+fn halves_of(
+    alloc: Global,
+    boxes: &[GeoBox],
+    numbers: Vec<usize>,
+) -> Result<(Vec<usize>, Vec<usize>), OutOfMemory>
+    requires { 0 < length numbers.items }
+    ensures same { IfOk result (λ (front, back). IsPermutation numbers.items (front.items ++ back.items)) }
+    ensures half { IfOk result (λ (front, back). length front.items ≡ length numbers.items / 2) }
+{
+    let mut numbers = numbers;
+    let middle = numbers.len() / 2;
+    let is_wide = is_wide(boxes, &numbers);
+    let (lesser, one, greater) = numbers.select_nth_unstable_by_key(
+        middle,
+        |number: &usize| side_of(boxes, *number, is_wide),
+    );
+    let mut front = Vec::with_capacity(alloc, middle)?;
+    front.extend_from_slice(lesser)?;
+    let mut back = Vec::with_capacity(alloc, middle + 1)?;
+    back.push(*one)?;
+    back.extend_from_slice(greater)?;
+    Ok((front, back))
+}
+
+/// The tree of the boxes with these numbers, in an order in which each half has neighbours.
 pub(crate) fn tree_of(
     alloc: Global,
     boxes: &[GeoBox],
-    numbers: &[usize],
+    numbers: Vec<usize>,
 ) -> Result<Tree, OutOfMemory>
-    requires within { AllByRecursion (λ number. number < length boxes.now) numbers.now }
-    ensures numbers { IfOk result (λ tree. numbers_of tree ≡ numbers.now) }
+    requires within { AllByRecursion (λ number. number < length boxes.now) numbers.items }
+    ensures numbers { IfOk result (λ tree. IsPermutation numbers.items (numbers_of tree)) }
     ensures is_tree { IfOk result (λ tree. IsTree boxes.now tree) }
 {
     if numbers.len() <= LEAF {
         return Ok(Tree::Few(leaf_of(alloc, boxes, numbers)?));
     }
-    let (front, back) = numbers.split_at(numbers.len() / 2);
+    let (front, back) = halves_of(alloc, boxes, numbers)?;
     let left = tree_of(alloc, boxes, front)?;
     let right = tree_of(alloc, boxes, back)?;
     let around = widened(around_of(&left), around_of(&right));

@@ -2,4 +2,4 @@ use Rattle.std.proofs.Common.{length}
 use Rattle.ring_nest.proofs.tree.+tree_of.Given as goal
 
 abbrev pub decreases-tree_of : goal.decreases-tree_of
-decreases-tree_of l = length l.numbers.now
+decreases-tree_of l = length l.numbers.items
