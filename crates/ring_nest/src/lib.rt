@@ -8,9 +8,10 @@
 //! it and is held by one less. `nest` gives the outer rings in order, each followed by its inner rings
 //! in order, and None exactly where an inner ring belongs to none. The definition counts over all pairs
 //! of rings; the code asks only pairs whose boxes meet, since a ring holds none whose box does not meet
-//! its own. A tree of boxes over the rings, put in an order that keeps neighbours together, finds these in
-//! few steps. `lies_on` and `crosses_odd` are
-//! exact in whole numbers of 64 bits. The answer has its own copy of each ring.
+//! its own, and asks each such pair once. A tree of boxes over the rings, split at the middle of their
+//! west or south sides down to few rings, leads to these: where few boxes meet, n rings take n log n
+//! steps. `lies_on` and `crosses_odd` are exact in whole numbers of 64 bits. The answer has its own
+//! copy of each ring.
 #![tactic(auto)]
 
 mod boxes;

@@ -1,5 +1,6 @@
 //! Rings, and the polygons that they make by the rule of exterior and interior boundaries.
-ghost use Rattle.std.specs.Prelude.{IfOk};
+ghost use Rattle.std.specs.Prelude.{◌<◌, ◌≤◌, IfOk};
+ghost use Rattle.std.specs.List.{AllByRecursion};
 ghost use Rattle.ring_nest.specs.Nesting.{IsRing};
 
 use crate::{crosses_odd, lies_on, nest};
@@ -9,6 +10,9 @@ use std::test::Fail;
 
 // What ends a polygon where polygons are told by the first longitudes of their rings.
 const END: i32 = 999;
+
+// How many outer rings the long list has.
+const CELLS: u16 = 180;
 
 fn place(corner: (i16, i16)) -> Place {
     Place::new(i32::from(corner.0), i32::from(corner.1))
@@ -54,6 +58,45 @@ fn square(
     )
 }
 
+/// A square in one of many cells that lie apart, each at a longitude of its own.
+fn square_in_cell(alloc: Global, cell: u16, inset: u16) -> Result<Places, OutOfMemory>
+    requires cell { cell < CELLS }
+    requires inset { inset ≤ 3 }
+    ensures { IfOk result IsRing }
+{
+    let west = cell * 10;
+    let south = cell % 13 * 10;
+    square(
+        alloc,
+        (west + inset) as i16,
+        (south + inset) as i16,
+        (west + 8 - inset) as i16,
+        (south + 8 - inset) as i16,
+    )
+}
+
+/// The cell of the ring with a number, so that neighbours stand apart in the list.
+fn cell_of(number: u16) -> u16
+    requires { number < CELLS }
+    ensures { result < CELLS }
+{
+    number * 71 % CELLS
+}
+
+/// An outer ring in each cell, and then an inner one in each.
+fn many_rings(alloc: Global) -> Result<LineList, OutOfMemory>
+    ensures { IfOk result (λ rings. AllByRecursion IsRing rings) }
+{
+    let mut rings = LineList::new(alloc);
+    for outer in 0..CELLS {
+        rings.push(square_in_cell(alloc, cell_of(outer), 0)?)?;
+    }
+    for inner in 0..CELLS {
+        rings.push(square_in_cell(alloc, cell_of(CELLS - 1 - inner), 2)?)?;
+    }
+    Ok(rings)
+}
+
 /// The first longitudes of the rings of each polygon of three rings.
 fn told(
     alloc: Global,
@@ -69,7 +112,14 @@ fn told(
     rings.push(first)?;
     rings.push(second)?;
     rings.push(third)?;
-    let Some(polygons) = nest(alloc, &rings)? else {
+    told_of(alloc, &rings)
+}
+
+/// The first longitudes of the rings of each polygon.
+fn told_of(alloc: Global, rings: &LineList) -> Result<Option<Vec<i32>>, OutOfMemory>
+    requires { AllByRecursion IsRing rings.now }
+{
+    let Some(polygons) = nest(alloc, rings)? else {
         return Ok(None);
     };
     let mut lons = Vec::new(alloc);
@@ -171,6 +221,21 @@ fn an_inner_ring_of_an_inner_ring_has_no_place(rt: HostRuntime) -> Result<(), Fa
     let lower = square(alloc, 0, 0, 10, 10)?;
     let upper = square(alloc, 5, 5, 20, 20)?;
     assert!(rt; told(alloc, lower, upper, square(alloc, 15, 15, 18, 18)?)?.is_none());
+    Ok(())
+}
+
+#[test]
+fn each_of_many_scattered_rings_has_its_own_inner_ring(rt: HostRuntime) -> Result<(), Fail> {
+    let alloc = rt.alloc();
+    let mut expected = Vec::new(alloc);
+    for outer in 0..CELLS {
+        let west = i32::from(cell_of(outer) * 10);
+        expected.push(west)?;
+        expected.push(west + 2)?;
+        expected.push(END)?;
+    }
+    let lons = told_of(alloc, &many_rings(alloc)?)?.unwrap_or(Vec::new(alloc));
+    assert_eq!(rt; lons.as_slice(), expected.as_slice());
     Ok(())
 }
 

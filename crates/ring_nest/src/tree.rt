@@ -158,6 +158,8 @@ fn add_if_holder(
 }
 
 /// Adds the numbers of a leaf's rings that hold a ring. Those whose boxes do not meet its box are passed over.
+/// It is never a part of the walk's code, which stays short.
+#[inline(never)]
 fn add_of_leaf(
     leaf: &Leaf,
     rings: &[Places],
