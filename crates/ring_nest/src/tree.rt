@@ -67,7 +67,8 @@ fn side_of(boxes: &[GeoBox], number: usize, is_west: bool) -> i32 {
     }
 }
 
-/// Whether the west sides of the boxes with these numbers lie farther apart than their south sides. Either answer is right.
+/// Whether the west sides of the boxes with these numbers lie farther apart than their south sides.
+/// Either answer is right, and so is any side: they only tell which half a number goes to.
 fn is_wide(boxes: &[GeoBox], numbers: &[usize]) -> bool {
     let mut west = i32::MAX;
     let mut south = i32::MAX;
@@ -158,7 +159,7 @@ fn add_if_holder(
 }
 
 /// Adds the numbers of a leaf's rings that hold a ring. Those whose boxes do not meet its box are passed over.
-/// It is never a part of the walk's code, which stays short.
+/// Not inlined, so that the walk to the leaf stays short.
 #[inline(never)]
 fn add_of_leaf(
     leaf: &Leaf,
