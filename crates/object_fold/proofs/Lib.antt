@@ -1,4 +1,4 @@
-mod Found
+pub mod Found
 mod IndexOf
 mod KeyTree
 mod Lines

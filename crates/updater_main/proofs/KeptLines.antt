@@ -14,7 +14,7 @@ use Rattle.std.specs.FinMap.{is_sorted, entries, from_entries, from_sorted, entr
 use Rattle.std.specs.FinMap.Entries.{below_all}
 use Rattle.std.specs.FinMap as finite
 use Rattle.std.specs.BTreeMap.{BTreeMap, Updates}
-use Rattle.updater_main.proofs.Found.{inserted, removed}
+use Rattle.object_fold.proofs.Found.{inserted, removed}
 use Rattle.updater_main.specs.LinesById.{LineMap, set_line, text_of}
 
 -- a sorted list of entries is that of its map

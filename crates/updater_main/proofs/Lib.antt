@@ -7,6 +7,5 @@ pub mod PointLaw
 pub mod FilesLaws
 pub mod RunLaws
 pub mod KeptLines
-pub mod Found
 pub mod WayLaws
 pub mod KeptLaws

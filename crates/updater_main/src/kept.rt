@@ -5,7 +5,7 @@ ghost use Rattle.outside.specs.Causes.{Rose};
 ghost use Rattle.object_fold.specs.Reading.{ReadsAll, IsFaultOf};
 ghost use Rattle.object_fold.specs.Stops.{Stops};
 ghost use Rattle.updater_main.specs.Kept.{after_kept, kept_text};
-ghost use Rattle.updater_main.specs.WayLines.{after_way, no_ways};
+ghost use Rattle.updater_main.specs.WayLines.{after_way};
 
 use crate::point_lines::PointLines;
 use crate::way_lines::WayLines;
@@ -53,7 +53,7 @@ pub fn take_file<I: Inputs>(
     }
 }
 
-/// The same for the lines of ways.
+/// The same for the lines of ways. The first file becomes objects while it is read; a change is taken whole at its end.
 fn take_ways<I: Inputs>(
     alloc: Global,
     inputs: &mut I,
@@ -68,49 +68,13 @@ fn take_ways<I: Inputs>(
     ensures others { (other : ℕ) → other ≢ file → I.left inputs.new other ≡ I.left inputs.old other }
 {
     if lines.is_imported() {
-        change_ways(alloc, inputs, file, limits, lines)
-    } else {
-        import_ways(alloc, inputs, file, limits, lines)
+        let mut change = lines.begin();
+        scan_file(alloc, inputs, file, limits, &mut change)?;
+        lines.take(change.into_change())?;
+        return Ok(());
     }
-}
-
-/// The same for the first file.
-fn import_ways<I: Inputs>(
-    alloc: Global,
-    inputs: &mut I,
-    file: u32,
-    limits: &Limits,
-    lines: &mut WayLines,
-) -> Result<(), FileFault>
-    requires limits { IsWithinStandard limits.now }
-    requires first { lines.old ≡ no_ways lines.old.key }
-    ensures ok { OnOk result (ReadsAll after_way limits.now lines.old lines.new (I.left inputs.old file) (I.left inputs.new file)) }
-    ensures stopped { IfErr result (Stops (IsFaultOf limits.now (I.left inputs.old file)) (Rose (I.faults inputs.old) (I.faults inputs.new))) }
-    ensures later { I.faults inputs.old ≤ I.faults inputs.new }
-    ensures others { (other : ℕ) → other ≢ file → I.left inputs.new other ≡ I.left inputs.old other }
-{
     let mut import = lines.begin_import();
     scan_file(alloc, inputs, file, limits, &mut import)?;
     lines.take_import(import)?;
-    Ok(())
-}
-
-/// The same for a file of changes.
-fn change_ways<I: Inputs>(
-    alloc: Global,
-    inputs: &mut I,
-    file: u32,
-    limits: &Limits,
-    lines: &mut WayLines,
-) -> Result<(), FileFault>
-    requires limits { IsWithinStandard limits.now }
-    ensures ok { OnOk result (ReadsAll after_way limits.now lines.old lines.new (I.left inputs.old file) (I.left inputs.new file)) }
-    ensures stopped { IfErr result (Stops (IsFaultOf limits.now (I.left inputs.old file)) (Rose (I.faults inputs.old) (I.faults inputs.new))) }
-    ensures later { I.faults inputs.old ≤ I.faults inputs.new }
-    ensures others { (other : ℕ) → other ≢ file → I.left inputs.new other ≡ I.left inputs.old other }
-{
-    let mut change = lines.begin();
-    scan_file(alloc, inputs, file, limits, &mut change)?;
-    lines.take(change.into_change())?;
     Ok(())
 }

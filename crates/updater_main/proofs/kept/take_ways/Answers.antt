@@ -4,10 +4,10 @@ use Rattle.object_fold.specs.Fold.{folded_all}
 use Rattle.object_fold.specs.Reading.{ReadsAll}
 use Rattle.updater_main.specs.KeptChange.{KeptEntries, with_entry}
 use Rattle.updater_main.proofs.KeptLaws.{taken-reads}
-use Rattle.updater_main.proofs.kept.change_ways.Goals as goal
+use Rattle.updater_main.proofs.kept.take_ways.Goals as goal
 
-pub returns-clause-ok : goal.returns-clause-ok
-returns-clause-ok g c =
+pub returns-then-is_imported-clause-ok : goal.returns-then-is_imported-clause-ok
+returns-then-is_imported-clause-ok g c =
     let old = c.args.lines.now in
     let change = c.scan_file.new.keeper in
     let left = g.I.Inputs.left c.args.inputs.now c.args.file in
