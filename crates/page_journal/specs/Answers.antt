@@ -50,6 +50,14 @@ Opens bytes (Err (BadStore page)) = JournalRefused bytes page ⊎ HomeRefused by
 Opens bytes (Err DiskFault) = Unit {0}
 Opens bytes (Err _) = ⊥
 
+-- and whatever the disk tells, it gives no other answer than these
+abbrev pub IsOpenAnswer : {T : Type 0} → Result T StoreFault → Type 0
+IsOpenAnswer (Ok value) = Unit {0}
+IsOpenAnswer (Err NotFormatted) = Unit {0}
+IsOpenAnswer (Err (BadStore page)) = page < 2
+IsOpenAnswer (Err DiskFault) = Unit {0}
+IsOpenAnswer (Err _) = ⊥
+
 -- finishing the journal of these bytes, if it is open, may give this answer
 abbrev pub Finishes : List ℕ → Result (Unit {0}) StoreFault → Type 0
 Finishes bytes (Ok done) = gate bytes ≡ OPEN → IsWellFormed bytes

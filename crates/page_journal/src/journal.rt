@@ -3,7 +3,7 @@ ghost use Rattle.std.specs.Prelude.{◌≡◌, ◌⊎◌, ◌+◌, ◌*◌, ◌^
 ghost use Rattle.osm_base.specs.Limits.{IsWithinStandard};
 ghost use Rattle.outside.specs.Calls.{one_more};
 ghost use Rattle.outside.specs.Disk.{Tells};
-ghost use Rattle.page_journal.specs.Answers.{Commits, HasDiskCause, Opens, Reads, ReadsFrom, answers_disk_fault};
+ghost use Rattle.page_journal.specs.Answers.{Commits, HasDiskCause, IsOpenAnswer, Opens, Reads, ReadsFrom, answers_disk_fault};
 ghost use Rattle.page_journal.specs.Crash.{AllHome, Goes, IsLikeOne, IsSettled, Stays};
 ghost use Rattle.page_journal.specs.Home.{Home};
 ghost use Rattle.page_journal.specs.PageSet.{CanCommit, overwritten};
@@ -38,6 +38,7 @@ impl<'d, D: Disk> Journal<'d, D> {
         ensures same_disk { IfOk result (λ journal. journal.disk.ghost_name ≡ disk.entry.ghost_name) }
         ensures answers { (bytes : List ℕ) → Tells (D.view disk.entry.now) bytes
             → MatchResult result (λ journal. Opens bytes (Ok (home_count journal))) (λ fault. Opens bytes (Err fault)) }
+        ensures alone { IsOpenAnswer result }
         ensures done { IfOk result (λ journal. (bytes : List ℕ) → Tells (D.view disk.entry.now) bytes
             → (pages : List (List ℕ)) × Home pages bytes × (length pages + 1 ≡ home_count journal)
             × ((now : List ℕ) × IsSettled pages now (D.view journal.disk.now))) }

@@ -2,7 +2,7 @@
 ghost use Rattle.std.specs.Prelude.{◌≡◌, ◌≢◌, ◌⊎◌, ◌↔◌, ◌+◌, ◌*◌, ◌^◌, ◌<◌, ◌≤◌, List, ℕ, length, IfOk, IfSome, OnOk, IsErrOf, IsTrue};
 ghost use Rattle.outside.specs.Causes.{HasCause};
 ghost use Rattle.outside.specs.Disk.{Elapses, Follows, Only, Tells, Torn, overlaid};
-ghost use Rattle.page_journal.specs.Answers.{Counts, Finishes, HasDiskCause, Looks, Opens, Prepares};
+ghost use Rattle.page_journal.specs.Answers.{Counts, Finishes, HasDiskCause, IsOpenAnswer, Looks, Opens, Prepares};
 ghost use Rattle.page_journal.specs.Crash.{AllHome, BesidePages, Goes, IsLikeOne, IsSettled, Spares, Stays, Within};
 ghost use Rattle.page_journal.specs.Home.{AreRising, Home, IsFormatted, IsWellFormed};
 ghost use Rattle.page_journal.specs.Pages.{body_at, entry, first_page, gate, number_pages, page_count, page_from};
@@ -22,6 +22,7 @@ use outside::{Disk, Failed};
 /// open is finished. It begins with a sync, so that nothing older is pending from then on.
 pub fn open<D: Disk>(disk: &mut D) -> Result<u64, StoreFault>
     ensures answers { (bytes : List ℕ) → Tells (D.view disk.old) bytes → Opens bytes result }
+    ensures alone { IsOpenAnswer result }
     ensures done { IfOk result (λ home. (bytes : List ℕ) → Tells (D.view disk.old) bytes
         → (pages : List (List ℕ)) × Home pages bytes × (length pages + 1 ≡ home)
         × ((now : List ℕ) × IsSettled pages now (D.view disk.new))) }
@@ -51,6 +52,7 @@ pub fn open<D: Disk>(disk: &mut D) -> Result<u64, StoreFault>
 #[tactic(auto, using(crate::proofs::Moments::looks))]
 fn prepare<D: Disk>(disk: &mut D) -> Result<u64, StoreFault>
     ensures answers { (bytes : List ℕ) → Tells (D.view disk.old) bytes → Prepares bytes result }
+    ensures alone { IsOpenAnswer result }
     ensures durable { OnOk result ((bytes : List ℕ) → Tells (D.view disk.old) bytes → Only bytes (D.view disk.new).crashes) }
     ensures small { IfOk result (λ len. len ≤ 2 ^ 62) }
     ensures stays { Stays (D.view disk.old) (D.view disk.new) }
@@ -73,6 +75,7 @@ fn prepare<D: Disk>(disk: &mut D) -> Result<u64, StoreFault>
 fn count_home<D: Disk>(disk: &mut D, len: u64) -> Result<u64, StoreFault>
     requires { len ≤ 2 ^ 62 }
     ensures answers { (bytes : List ℕ) → Tells (D.view disk.old) bytes → 8192 ≤ length bytes → Counts bytes len result }
+    ensures alone { IsOpenAnswer result }
     ensures small { IfOk result (λ home. (2 ≤ home) × (4096 * home ≤ len)) }
     ensures stays { Stays (D.view disk.old) (D.view disk.new) }
     ensures formatted { IsErrOf result NotFormatted → ⊥ }
@@ -98,6 +101,7 @@ fn finish<D: Disk>(disk: &mut D, len: u64) -> Result<(), StoreFault>
     requires { len ≤ 2 ^ 62 }
     ensures answers { (bytes : List ℕ) → Tells (D.view disk.old) bytes → IsFormatted bytes → len ≡ length bytes
         → Finishes bytes result }
+    ensures alone { IsOpenAnswer result }
     ensures done { OnOk result ((bytes : List ℕ) → Tells (D.view disk.old) bytes → Only bytes (D.view disk.old).crashes
         → IsFormatted bytes → len ≡ length bytes
         → (now : List ℕ) × Tells (D.view disk.new) now × Only now (D.view disk.new).crashes × Finished bytes now) }
@@ -123,6 +127,7 @@ fn look<D: Disk>(disk: &mut D, len: u64) -> Result<Option<(u64, u64)>, StoreFaul
     requires { len ≤ 2 ^ 62 }
     ensures answers { (bytes : List ℕ) → Tells (D.view disk.old) bytes → IsFormatted bytes → len ≡ length bytes
         → Looks bytes result }
+    ensures alone { IsOpenAnswer result }
     ensures room { IfOk result (λ found. IfSome found (λ (first, count). 4096 * (first + number_pages count + count) ≤ 2 ^ 62)) }
     ensures stays { Stays (D.view disk.old) (D.view disk.new) }
     ensures formatted { IsErrOf result NotFormatted → ⊥ }

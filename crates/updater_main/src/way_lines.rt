@@ -97,6 +97,7 @@ impl<'k> WayLines<'k> {
     /// Takes a change whole. After `Err` nothing is kept.
     pub fn take(&mut self, change: Change) -> Result<(), OutOfMemory>
         ensures ok { OnOk result (self.new ≡ record { key = self.old.key; objects = folded_all self.old.objects change }) }
+        ensures err { OnErr result (self.new ≡ no_ways self.old.key) }
     {
         let fresh = Self::new(self.alloc, self.key);
         let old = mem::replace(self, fresh);
