@@ -88,9 +88,9 @@ fn is_overlap(low: i32, high: i32, other_low: i32, other_high: i32) -> bool
     other_low <= high && low <= other_high
 }
 
-/// Whether two boxes have a place in common.
+/// Whether two boxes have a place in common, their sides included: `boxes_meet` of one box.
 #[inline(always)]
-pub(crate) fn is_met(asked: GeoBox, other: GeoBox) -> bool
+pub fn is_met(asked: GeoBox, other: GeoBox) -> bool
     ensures { result ≡ meets asked other }
 {
     let across = is_overlap(asked.west, asked.east, other.west, other.east);

@@ -32,9 +32,9 @@ fn product(lon: i64, lat: i64) -> i64
     lon * lat
 }
 
-/// How far a place is east of the start of a segment, times the segment's height.
+/// How far a place is east of the start of a segment, times the segment's height, in units of 1e-7 degree squared.
 #[inline(always)]
-fn across(start: Place, end: Place, place: Place) -> i64
+pub fn across(start: Place, end: Place, place: Place) -> i64
     ensures { result ≡ across_of place (record { start = start; end = end }) }
 {
     product(
@@ -43,9 +43,10 @@ fn across(start: Place, end: Place, place: Place) -> i64
     )
 }
 
-/// The width of a segment, times how far a place is north of its start.
+/// The width of a segment, times how far a place is north of its start. It is `across` where the place lies in line
+/// with the segment.
 #[inline(always)]
-fn along(start: Place, end: Place, place: Place) -> i64
+pub fn along(start: Place, end: Place, place: Place) -> i64
     ensures { result ≡ along_of place (record { start = start; end = end }) }
 {
     product(

@@ -1,6 +1,6 @@
 //! Boxes and rings with known answers, and each kernel against its plain loop.
 use crate::boxes::{boxes_meet, is_met};
-use crate::crossings::{odd_crossings, plain_crossings};
+use crate::crossings::{across, along, odd_crossings, plain_crossings};
 use crate::spans::box_of;
 use osm_base::{GeoBox, Place};
 use std::alloc::{AllocError, Global};
@@ -168,5 +168,30 @@ fn each_kernel_is_its_plain_loop(rt: HostRuntime) -> Result<(), Fail> {
         boxes_meet(&boxes, asked, &mut mask);
         assert_eq!(rt; mask, plain);
     }
+    Ok(())
+}
+
+#[test]
+fn the_products_of_a_place_in_line_are_equal(rt: HostRuntime) -> Result<(), Fail> {
+    let west = Place::new(-1_800_000_000, -900_000_000);
+    let east = Place::new(1_800_000_000, 900_000_000);
+    assert_eq!(rt;
+        across(west, east, Place::new(0, 0)),
+        3_240_000_000_000_000_000
+    );
+    assert_eq!(rt;
+        along(west, east, Place::new(0, 0)),
+        3_240_000_000_000_000_000
+    );
+    assert_eq!(rt; across(west, east, east), 6_480_000_000_000_000_000);
+    assert_eq!(rt; along(east, west, west), 6_480_000_000_000_000_000);
+    assert_eq!(rt;
+        across(west, east, Place::new(1, 0)),
+        3_240_000_001_800_000_000
+    );
+    assert_eq!(rt;
+        along(west, east, Place::new(1, 0)),
+        3_240_000_000_000_000_000
+    );
     Ok(())
 }

@@ -1,7 +1,6 @@
 //! The boxes of rings, and boxes around boxes.
 ghost use Rattle.std.specs.Prelude.{◌≡◌, ◌≤ℤ◌, map, IfOk};
 ghost use Rattle.std.specs.List.{AllByRecursion};
-ghost use Rattle.lanes_geo.specs.Box.{meets, overlap};
 ghost use Rattle.ring_nest.specs.Around.{Covers, IsBoxed, around};
 ghost use Rattle.ring_nest.specs.Nesting.{IsClosed};
 
@@ -21,22 +20,6 @@ fn box_around(ring: &[Place]) -> GeoBox
         east: 0,
         north: 0,
     })
-}
-
-/// Whether two spans, their ends included, have a number in common.
-fn is_overlap(low: i32, high: i32, other_low: i32, other_high: i32) -> bool
-    ensures { result ≡ overlap low high other_low other_high }
-{
-    (other_low <= high) & (low <= other_high)
-}
-
-/// Whether two boxes have a place in common.
-pub(crate) fn is_met(asked: GeoBox, other: GeoBox) -> bool
-    ensures { result ≡ meets asked other }
-{
-    let across = is_overlap(asked.west, asked.east, other.west, other.east);
-    let along = is_overlap(asked.south, asked.north, other.south, other.north);
-    across & along
 }
 
 /// The lesser of two numbers.

@@ -1,45 +1,10 @@
 //! One segment and one place, exact in whole numbers.
-ghost use Rattle.std.specs.Prelude.{◌≡◌, ◌≤◌, ◌&&◌, ◌-ℤ◌, ◌*ℤ◌, unsigned_abs};
+ghost use Rattle.std.specs.Prelude.{◌≡◌, ◌&&◌};
 ghost use Rattle.lanes_geo.specs.Crossing.{Segment, across as across_of, along as along_of};
 ghost use Rattle.ring_nest.specs.Nesting.{are_equal, is_between as is_between_both, lies_within};
 
+use lanes_geo::{across, along};
 use osm_base::Place;
-
-/// How far a number is above another one.
-fn difference(number: i32, other: i32) -> i64
-    ensures { result ≡ number -ℤ other }
-{
-    i64::from(number) - i64::from(other)
-}
-
-/// The product of a difference of longitudes and one of latitudes.
-fn product(lon: i64, lat: i64) -> i64
-    requires lon { unsigned_abs lon ≤ 3600000000 }
-    requires lat { unsigned_abs lat ≤ 1800000000 }
-    ensures { result ≡ lon *ℤ lat }
-{
-    lon * lat
-}
-
-/// How far a place is east of the start of a segment, times the segment's height.
-fn across(start: Place, end: Place, place: Place) -> i64
-    ensures { result ≡ across_of place (record { start = start; end = end }) }
-{
-    product(
-        difference(place.lon, start.lon),
-        difference(end.lat, start.lat),
-    )
-}
-
-/// The width of a segment, times how far a place is north of its start.
-fn along(start: Place, end: Place, place: Place) -> i64
-    ensures { result ≡ along_of place (record { start = start; end = end }) }
-{
-    product(
-        difference(end.lon, start.lon),
-        difference(place.lat, start.lat),
-    )
-}
 
 /// Whether a number lies between two others, in whichever order they are.
 fn is_between(first: i32, last: i32, number: i32) -> bool

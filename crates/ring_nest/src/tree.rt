@@ -6,9 +6,9 @@ ghost use Rattle.lanes_geo.specs.Box.{meets};
 ghost use Rattle.ring_nest.specs.Around.{IsBoxed, around};
 ghost use Rattle.ring_nest.specs.Holders.{IsAsked, IsLeaf, IsTree, box_of_tree, is_holder, numbers_of, ring_at};
 
-use crate::boxes::{box_around_all, is_met, widened};
+use crate::boxes::{box_around_all, widened};
 use crate::rings::holds;
-use lanes_geo::boxes_meet;
+use lanes_geo::{boxes_meet, is_met};
 use osm_base::{GeoBox, OutOfMemory, Places};
 use std::alloc::Global;
 
