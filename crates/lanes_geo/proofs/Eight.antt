@@ -207,47 +207,40 @@ from_bits side place bounds ks bs cs ds ps qs rs ss tests a b c d is e =
     let value = sym (mask_l-mod tests 64 (omega (arith, long))) ∙ e in
     four_sides side place 8 ps qs rs ss a.long b.long c.long d.long (ap mask_l (sym is) ∙ value)
 
+-- four vectors whose lanes, put together by a bit operation, are all on one side
+module _ (side : Bool) (op : ℕ → ℕ → ℕ) (lanes : (xs ys : List Bool) → zip2 (λ x y. op x y) (map full xs) (map full ys) ≡ map full (zip2 (joined side) xs ys)) where
+  all_side : (place : PlaceOf) (bounds ks bs cs ds : List ℤ) (ps qs rs ss : List PlaceOf) → IsPlace place → bounds ≡ bounds_of place 8 → EightPlaces ks ps
+      → EightPlaces bs qs → EightPlaces cs rs → EightPlaces ds ss
+      → mask_l (map (top 31) (zip2 (λ x y. op x y) (zip2 (λ x y. op x y) (zip2 (λ x y. op x y) (above_in bounds ks) (above_in bounds bs)) (above_in bounds cs)) (above_in bounds ds))) % 2 ^ 64 ≡ second_bits side 8
+      → AllOnSide place side ps × (AllOnSide place side qs × (AllOnSide place side rs × AllOnSide place side ss))
+  all_side place bounds ks bs cs ds ps qs rs ss here e a b c d bits =
+      let xs = sides_of place ps in
+      let ys = sides_of place qs in
+      let zs = sides_of place rs in
+      let us = sides_of place ss in
+      from_bits side place bounds ks bs cs ds ps qs rs ss _ a b c d
+      (rw (
+        eight_lanes place bounds ks ps here e a,
+        eight_lanes place bounds bs qs here e b,
+        eight_lanes place bounds cs rs here e c,
+        eight_lanes place bounds ds ss here e d,
+        lanes xs ys,
+        lanes (zip2 (joined side) xs ys) zs,
+        lanes (zip2 (joined side) (zip2 (joined side) xs ys) zs) us,
+      ) (tops (four side xs ys zs us)))
+      bits
+
 pub north_level : (place : PlaceOf) (bounds ks bs cs ds : List ℤ) (ps qs rs ss : List PlaceOf) → IsPlace place → bounds ≡ bounds_of place 8 → EightPlaces ks ps
     → EightPlaces bs qs → EightPlaces cs rs → EightPlaces ds ss
     → mask_l (map (top 31) (zip2 (λ x y. bit_and x y) (zip2 (λ x y. bit_and x y) (zip2 (λ x y. bit_and x y) (above_in bounds ks) (above_in bounds bs)) (above_in bounds cs)) (above_in bounds ds))) % 2 ^ 64 ≡ 43690
     → AllOnSide place true ps × (AllOnSide place true qs × (AllOnSide place true rs × AllOnSide place true ss))
-north_level place bounds ks bs cs ds ps qs rs ss here e a b c d bits =
-    let xs = sides_of place ps in
-    let ys = sides_of place qs in
-    let zs = sides_of place rs in
-    let us = sides_of place ss in
-    from_bits true place bounds ks bs cs ds ps qs rs ss _ a b c d
-    (rw (
-      eight_lanes place bounds ks ps here e a,
-      eight_lanes place bounds bs qs here e b,
-      eight_lanes place bounds cs rs here e c,
-      eight_lanes place bounds ds ss here e d,
-      and_lanes xs ys,
-      and_lanes (zip2 (joined true) xs ys) zs,
-      and_lanes (zip2 (joined true) (zip2 (joined true) xs ys) zs) us,
-    ) (tops (four true xs ys zs us)))
-    bits
+north_level = all_side true bit_and and_lanes
 
 pub south_level : (place : PlaceOf) (bounds ks bs cs ds : List ℤ) (ps qs rs ss : List PlaceOf) → IsPlace place → bounds ≡ bounds_of place 8 → EightPlaces ks ps
     → EightPlaces bs qs → EightPlaces cs rs → EightPlaces ds ss
     → mask_l (map (top 31) (zip2 (λ x y. bit_or x y) (zip2 (λ x y. bit_or x y) (zip2 (λ x y. bit_or x y) (above_in bounds ks) (above_in bounds bs)) (above_in bounds cs)) (above_in bounds ds))) % 2 ^ 64 ≡ 0
     → AllOnSide place false ps × (AllOnSide place false qs × (AllOnSide place false rs × AllOnSide place false ss))
-south_level place bounds ks bs cs ds ps qs rs ss here e a b c d bits =
-    let xs = sides_of place ps in
-    let ys = sides_of place qs in
-    let zs = sides_of place rs in
-    let us = sides_of place ss in
-    from_bits false place bounds ks bs cs ds ps qs rs ss _ a b c d
-    (rw (
-      eight_lanes place bounds ks ps here e a,
-      eight_lanes place bounds bs qs here e b,
-      eight_lanes place bounds cs rs here e c,
-      eight_lanes place bounds ds ss here e d,
-      or_lanes xs ys,
-      or_lanes (zip2 (joined false) xs ys) zs,
-      or_lanes (zip2 (joined false) (zip2 (joined false) xs ys) zs) us,
-    ) (tops (four false xs ys zs us)))
-    bits
+south_level = all_side false bit_or or_lanes
 
 -- the places of four vectors, and the one after them
 pub all_level : (side : Bool) (place last : PlaceOf) (ring : List PlaceOf) (at : ℕ) → at + 33 ≤ length ring
