@@ -3,7 +3,7 @@ use Rattle.std.proofs.Common.{◌≡◌, ℕ, suc, ◌+◌, ◌<◌, ◌≤◌, 
 use Rattle.std.proofs.lemmas.List.{append-nil}
 use Rattle.std.proofs.lemmas.Bool.{le-leb, le-ltb, lt-leb}
 use Rattle.std.specs.Prelude.{Result, Ok, Err}
-use Rattle.osm_base.specs.declared.limits.Limits.{Limits}
+use Rattle.osm_base.specs.declared.limits.LimitNumbers.{LimitNumbers}
 use Rattle.osm_base.specs.declared.limits.LimitKind.TheVariants as kinds
 use Rattle.osm_base.specs.declared.object.Entry.{Entry}
 use Rattle.opl_lines.specs.Lines.{lines_of, first_of}
@@ -23,7 +23,7 @@ use Rattle.object_fold.specs.Stops.{StopsAt}
 
 -- the fault of one line
 
-module _ (limits : Limits) (passed : Passed) (line : List ℕ) where
+module _ (limits : LimitNumbers) (passed : Passed) (line : List ℕ) where
   pub line_fault-text : passed.lines < limits.lines → length line ≤ limits.line_bytes → line_fault limits passed line ≡ text_fault limits passed line
   unfolding line_fault
   line_fault-text counted short =
@@ -46,17 +46,17 @@ module _ (limits : Limits) (passed : Passed) (line : List ℕ) where
 
 -- the first of the lines that are left
 
-entries_from-next : (limits : Limits) (passed : Passed) (line : List ℕ) (lines : List (List ℕ)) → line_fault limits passed line ≡ None
+entries_from-next : (limits : LimitNumbers) (passed : Passed) (line : List ℕ) (lines : List (List ℕ)) → line_fault limits passed line ≡ None
     → entries_from limits passed (line ∷ lines) ≡ in_front (spelled line) (entries_from limits (passed_line passed (spelled line)) lines)
 unfolding entries_from
 entries_from-next limits passed line lines e = ap (λ fault. unless fault (in_front (spelled line) (entries_from limits (passed_line passed (spelled line)) lines))) e
 
-entries_from-stop : (limits : Limits) (passed : Passed) (line : List ℕ) (lines : List (List ℕ)) (fault : FileFault) → line_fault limits passed line ≡ Some fault
+entries_from-stop : (limits : LimitNumbers) (passed : Passed) (line : List ℕ) (lines : List (List ℕ)) (fault : FileFault) → line_fault limits passed line ≡ Some fault
     → entries_from limits passed (line ∷ lines) ≡ Err fault
 unfolding entries_from
 entries_from-stop limits passed line lines fault e = ap (λ own. unless own (in_front (spelled line) (entries_from limits (passed_line passed (spelled line)) lines))) e
 
-stop_first : (limits : Limits) (passed : Passed) (lines : List (List ℕ)) (fault : FileFault) → 0 < length lines
+stop_first : (limits : LimitNumbers) (passed : Passed) (lines : List (List ℕ)) (fault : FileFault) → 0 < length lines
     → line_fault limits passed (first_of lines) ≡ Some fault → entries_from limits passed lines ≡ Err fault
 stop_first limits passed [] fault some e = absurd (omega arith)
 stop_first limits passed (line ∷ lines) fault some e = entries_from-stop limits passed line lines fault e
@@ -65,7 +65,7 @@ some_lines : (lines : List (List ℕ)) → 0 < length (first_of lines) → 0 < l
 some_lines [] h = absurd (omega arith)
 some_lines (line ∷ lines) h = omega arith
 
-pub entries_from-none : (limits : Limits) (passed : Passed) → entries_from limits passed [] ≡ Ok []
+pub entries_from-none : (limits : LimitNumbers) (passed : Passed) → entries_from limits passed [] ≡ Ok []
 unfolding entries_from
 entries_from-none limits passed = refl
 
@@ -84,7 +84,7 @@ module _ {K : Type 0} (after : K → Entry → K) (keeper : K) where
   kept_all-in_front (Some entry) (Ok entries) = refl
   kept_all-in_front (Some entry) (Err fault) = refl
 
-  module _ (limits : Limits) (passed : Passed) (line : List ℕ) (lines : List (List ℕ)) (counted : passed.lines < limits.lines) (short : length line ≤ limits.line_bytes) where
+  module _ (limits : LimitNumbers) (passed : Passed) (line : List ℕ) (lines : List (List ℕ)) (counted : passed.lines < limits.lines) (short : length line ≤ limits.line_bytes) where
     -- a line that is read
     kept-line : text_fault limits passed line ≡ None
         → kept_all after keeper (entries_from limits passed (line ∷ lines)) ≡ kept_all after (kept after keeper (spelled line)) (entries_from limits (passed_line passed (spelled line)) lines)
@@ -96,7 +96,7 @@ module _ {K : Type 0} (after : K → Entry → K) (keeper : K) where
     kept-stop : (fault : FileFault) → text_fault limits passed line ≡ Some fault → kept_all after keeper (entries_from limits passed (line ∷ lines)) ≡ Err fault
     kept-stop fault read = ap (kept_all after keeper) (entries_from-stop limits passed line lines fault (line_fault-text limits passed line counted short ∙ read))
 
-  module _ (limits : Limits) (old : Progress) (ready : IsReady limits old) where
+  module _ (limits : LimitNumbers) (old : Progress) (ready : IsReady limits old) where
     module _ (new : Reading) (piece : List ℕ) (used : ℕ) where
       -- no line ended
       pub took_part : Takes old.reader new piece used None → (later : List ℕ)

@@ -5,7 +5,7 @@ use Rattle.std.proofs.lemmas.List.{append-nil}
 use Rattle.std.specs.Prelude.{Result, Ok, Err, fold}
 use Rattle.std.specs.List.{cons_option}
 use Rattle.std.specs.Option.{option_len, option_or}
-use Rattle.osm_base.specs.declared.limits.Limits.{Limits}
+use Rattle.osm_base.specs.declared.limits.LimitNumbers.{LimitNumbers}
 use Rattle.osm_base.specs.declared.object.Entry.{Entry}
 use Rattle.osm_base.specs.Key.{KeyOf}
 use Rattle.opl_lines.specs.Lines.{lines_of}
@@ -47,7 +47,7 @@ in_front-unless : (entry : Option Entry) (fault : Option FileFault) (entries : L
 in_front-unless entry None entries = refl
 in_front-unless entry (Some fault) entries = refl
 
-entries_from-is : (limits : Limits) (before lines : List (List ℕ)) → entries_from limits (passed_by before) lines ≡ unless (first_fault limits before lines) (Ok (spelled_by lines))
+entries_from-is : (limits : LimitNumbers) (before lines : List (List ℕ)) → entries_from limits (passed_by before) lines ≡ unless (first_fault limits before lines) (Ok (spelled_by lines))
 unfolding entries_from first_fault
 entries_from-is limits before [] = refl
 entries_from-is limits before (line ∷ lines) =
@@ -63,7 +63,7 @@ entries_from-is limits before (line ∷ lines) =
     ]
 
 -- from the start of the file
-pub entries_of-start : (limits : Limits) (passed : Passed) (bytes : List ℕ) → passed ≡ record { lines = 0; entries = 0; last = None }
+pub entries_of-start : (limits : LimitNumbers) (passed : Passed) (bytes : List ℕ) → passed ≡ record { lines = 0; entries = 0; last = None }
     → entries_from limits passed (lines_of bytes) ≡ entries_of limits bytes
 unfolding entries_of passed_by
 entries_of-start limits passed bytes e = ap (λ own. entries_from limits own (lines_of bytes)) e ∙ entries_from-is limits [] (lines_of bytes)
@@ -82,7 +82,7 @@ pub kept_all-pushed : (read : Result (List Entry) FileFault) (entries : List Ent
 kept_all-pushed (Ok own) entries e = let same : fold pushed [] own ≡ entries = cc in ap Ok (sym (fold-pushed [] own) ∙ same)
 kept_all-pushed (Err fault) entries e = absurd (cc)
 
-pub ReadsAll-HasEntries : (limits : Limits) (before now : List Entry) (left rest : Option (List ℕ)) → before ≡ [] → ReadsAll pushed limits before now left rest → HasEntries limits now left rest
+pub ReadsAll-HasEntries : (limits : LimitNumbers) (before now : List Entry) (left rest : Option (List ℕ)) → before ≡ [] → ReadsAll pushed limits before now left rest → HasEntries limits now left rest
 ReadsAll-HasEntries limits before now None rest none h = tt
 ReadsAll-HasEntries limits before now (Some bytes) None none h = h
 ReadsAll-HasEntries limits before now (Some bytes) (Some later) none h =

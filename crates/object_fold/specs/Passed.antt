@@ -3,7 +3,7 @@
 use Rattle.std.specs.Prelude.{ℕ, ◌+◌, List, length, nat_lt, nat_le, if◌then◌else◌, Option, None, Some, Result, Ok, Err}
 use Rattle.std.specs.Option.{option_or}
 use Rattle.std.specs.List.{filter_map}
-use Rattle.osm_base.specs.declared.limits.Limits.{Limits}
+use Rattle.osm_base.specs.declared.limits.LimitNumbers.{LimitNumbers}
 use Rattle.osm_base.specs.declared.limits.LimitKind.TheVariants.{LineBytes, FileLines, FileEntries}
 use Rattle.osm_base.specs.declared.object.Entry.{Entry}
 use Rattle.osm_base.specs.Key.{KeyOf}
@@ -38,26 +38,26 @@ order_fault lines None key = None
 order_fault lines (Some earlier) key = if is_below earlier key then None else Some (Malformed (lines + 1) (Order earlier key))
 
 -- an entry more than a file may have
-abbrev pub count_fault : Limits → ℕ → Option FileFault
+abbrev pub count_fault : LimitNumbers → ℕ → Option FileFault
 count_fault limits entries = if nat_lt entries limits.entries then None else Some (Limit FileEntries (limits.entries + 1))
 
 -- the first fault of an entry with this key in the line after these
-abbrev pub entry_fault : Limits → Passed → KeyOf → Option FileFault
+abbrev pub entry_fault : LimitNumbers → Passed → KeyOf → Option FileFault
 entry_fault limits passed key = option_or (order_fault passed.lines passed.last key) (count_fault limits passed.entries)
 
 -- the first fault of the line after these, which reads so
-abbrev pub said_fault : Limits → Passed → Result (Option Entry) Why → Option FileFault
+abbrev pub said_fault : LimitNumbers → Passed → Result (Option Entry) Why → Option FileFault
 said_fault limits passed (Err why) = Some (Malformed (passed.lines + 1) why)
 said_fault limits passed (Ok None) = None
 said_fault limits passed (Ok (Some entry)) = entry_fault limits passed entry.key
 
 -- the first fault of the line after these, where it keeps the limits of a line
-unfoldable pub text_fault : Limits → Passed → List ℕ → Option FileFault
+unfoldable pub text_fault : LimitNumbers → Passed → List ℕ → Option FileFault
 text_fault limits passed line = said_fault limits passed (reading line)
 
 -- the first fault of the line after these: it is one too many, it is too long, it is not read, its key does not come after the last
 -- one, or it has an entry too many
-unfoldable pub line_fault : Limits → Passed → List ℕ → Option FileFault
+unfoldable pub line_fault : LimitNumbers → Passed → List ℕ → Option FileFault
 line_fault limits passed line =
     if nat_lt passed.lines limits.lines
     then (if nat_le (length line) limits.line_bytes then text_fault limits passed line else Some (Limit LineBytes (limits.line_bytes + 1)))

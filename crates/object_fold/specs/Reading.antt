@@ -2,7 +2,7 @@
 use Rattle.std.specs.Prelude.{◌≡◌, ◌≤◌, ℕ, ◌+◌, List, [], ◌∷◌, ◌++◌, Bool, false, Option, None, Some, Result, Ok, Err, IfSome}
 use Rattle.std.specs.List.{cons_option}
 use Rattle.std.specs.Option.{option_len}
-use Rattle.osm_base.specs.declared.limits.Limits.{Limits}
+use Rattle.osm_base.specs.declared.limits.LimitNumbers.{LimitNumbers}
 use Rattle.osm_base.specs.declared.object.Entry.{Entry}
 use Rattle.osm_base.specs.Key.{KeyOf}
 use Rattle.opl_lines.specs.Lines.{lines_of}
@@ -31,17 +31,17 @@ in_front entry (Ok entries) = Ok (cons_option entry entries)
 in_front entry (Err fault) = Err fault
 
 -- what the lines that are left come to, behind those that were passed
-unfoldable pub entries_from : Limits → Passed → List (List ℕ) → Result (List Entry) FileFault
+unfoldable pub entries_from : LimitNumbers → Passed → List (List ℕ) → Result (List Entry) FileFault
 entries_from limits passed [] = Ok []
 entries_from limits passed (line ∷ lines) =
     unless (line_fault limits passed line) (in_front (spelled line) (entries_from limits (passed_line passed (spelled line)) lines))
 
 -- what the file comes to from here on, where these bytes are left
-abbrev pub entries_left : Limits → Progress → List ℕ → Result (List Entry) FileFault
+abbrev pub entries_left : LimitNumbers → Progress → List ℕ → Result (List Entry) FileFault
 entries_left limits progress later = entries_from limits progress.passed (lines_of (begun progress.reader ++ later))
 
 -- the reader keeps the limits, and has met none of them
-pub record IsReady (limits : Limits) (progress : Progress) : Type 0 where
+pub record IsReady (limits : LimitNumbers) (progress : Progress) : Type 0 where
   pub line_bytes : progress.reader.line_bytes ≡ limits.line_bytes
   pub lines : progress.reader.lines ≡ limits.lines
   pub counted : progress.passed.lines ≡ progress.reader.number
@@ -54,24 +54,24 @@ abbrev pub TakesNext : {K : Type 0} → (K → KeyOf → Type 0) → Option KeyO
 TakesNext takes last keeper = (next : KeyOf) → Follows last next → takes keeper next
 
 -- one read, and what was made of it: what is left makes the same of the keeper as what was left, and at the end of the file none is
-abbrev pub ReadsOn : {K : Type 0} → (K → Entry → K) → Limits → Progress → K → Progress → K → Bool → Option (List ℕ) → Option (List ℕ) → Type 0
+abbrev pub ReadsOn : {K : Type 0} → (K → Entry → K) → LimitNumbers → Progress → K → Progress → K → Bool → Option (List ℕ) → Option (List ℕ) → Type 0
 ReadsOn after limits old before new now more left rest =
     BothKnown left rest (λ bytes later. (kept_all after before (entries_left limits old bytes) ≡ kept_all after now (entries_left limits new later))
     × (more ≡ false → later ≡ []))
 
 -- the whole file was read, to its end, and this is made of the keeper
-abbrev pub ReadsAll : {K : Type 0} → (K → Entry → K) → Limits → K → K → Option (List ℕ) → Option (List ℕ) → Type 0
+abbrev pub ReadsAll : {K : Type 0} → (K → Entry → K) → LimitNumbers → K → K → Option (List ℕ) → Option (List ℕ) → Type 0
 ReadsAll after limits before now left rest =
     BothKnown left rest (λ bytes later. (kept_all after before (entries_of limits bytes) ≡ Ok now) × (later ≡ []))
 
 -- the whole file was read, to its end, and these are its entries
-abbrev pub HasEntries : Limits → List Entry → Option (List ℕ) → Option (List ℕ) → Type 0
+abbrev pub HasEntries : LimitNumbers → List Entry → Option (List ℕ) → Option (List ℕ) → Type 0
 HasEntries limits entries left rest = BothKnown left rest (λ bytes later. (entries_of limits bytes ≡ Ok entries) × (later ≡ []))
 
 -- this is the fault of a file with these bytes, where they are told
-abbrev pub IsFaultOf : Limits → Option (List ℕ) → FileFault → Type 0
+abbrev pub IsFaultOf : LimitNumbers → Option (List ℕ) → FileFault → Type 0
 IsFaultOf limits left fault = IfSome left (λ bytes. entries_of limits bytes ≡ Err fault)
 
 -- and of a file of which these bytes are left
-abbrev pub IsKeptFault : {K : Type 0} → (K → Entry → K) → Limits → Progress → K → Option (List ℕ) → FileFault → Type 0
+abbrev pub IsKeptFault : {K : Type 0} → (K → Entry → K) → LimitNumbers → Progress → K → Option (List ℕ) → FileFault → Type 0
 IsKeptFault after limits progress keeper left fault = IfSome left (λ bytes. kept_all after keeper (entries_left limits progress bytes) ≡ Err fault)

@@ -1,6 +1,5 @@
 //! A line in its place in a file.
 ghost use Rattle.std.specs.Prelude.{◌≡◌, ◌<◌, ◌≤◌, ◌+◌, ℕ, None, Some, IfOk, IfErr, OnOk, IfSome};
-ghost use Rattle.osm_base.specs.Limits.{IsWithinStandard};
 ghost use Rattle.osm_base.specs.Key.{KeyOf};
 ghost use Rattle.object_fold.specs.Change.{Follows, IsProper};
 ghost use Rattle.object_fold.specs.Passed.{spelled, entry_fault, text_fault};
@@ -33,10 +32,12 @@ impl Passed {
     }
 
     /// The fault of the next line, which has this cause.
-    fn malformed(&self, why: Why) -> FileFault
-        requires { self.now.lines ≤ 16777216 }
+    fn malformed(&self, limits: &Limits, why: Why) -> FileFault
+        requires { self.now.lines < limits.now.lines }
         ensures fault { result ≡ FileFault.Malformed (self.now.lines + 1) why }
     {
+        // No limit is above that of the program, so the number of the line fits.
+        let _lines = limits.lines();
         FileFault::Malformed {
             line: (self.lines + 1) as u32,
             why,
@@ -45,8 +46,7 @@ impl Passed {
 
     /// Tests that an entry with this key may come next.
     fn admit(&self, limits: &Limits, key: Key) -> Result<(), FileFault>
-        requires lines { self.now.lines ≤ 16777216 }
-        requires limits { IsWithinStandard limits.now }
+        requires counted { self.now.lines < limits.now.lines }
         ensures ok { OnOk result (entry_fault limits.now self.now key ≡ None) }
         ensures follows { OnOk result (Follows self.now.last key) }
         ensures less { OnOk result (self.now.entries < limits.now.entries) }
@@ -54,16 +54,20 @@ impl Passed {
     {
         if let Some(earlier) = self.last {
             if earlier >= key {
-                return Err(self.malformed(Why::Order {
-                    earlier,
-                    later: key,
-                }));
+                return Err(self.malformed(
+                    limits,
+                    Why::Order {
+                        earlier,
+                        later: key,
+                    },
+                ));
             }
         }
-        if self.entries >= limits.entries {
+        let most = limits.entries();
+        if self.entries >= most {
             return Err(FileFault::Limit {
                 which: LimitKind::FileEntries,
-                value: limits.entries + 1,
+                value: most + 1,
             });
         }
         Ok(())
@@ -77,8 +81,7 @@ impl Passed {
         limits: &Limits,
         line: &[u8],
     ) -> Result<Option<Entry>, FileFault>
-        requires lines { self.now.lines ≤ 16777216 }
-        requires limits { IsWithinStandard limits.now }
+        requires counted { self.now.lines < limits.now.lines }
         ensures ok { OnOk result (text_fault limits.now self.now line.now ≡ None) }
         ensures entry { IfOk result (λ entry. entry ≡ spelled line.now) }
         ensures follows { IfOk result (λ entry. IfSome entry (λ entry. Follows self.now.last entry.key)) }
@@ -89,7 +92,7 @@ impl Passed {
         let entry = match read_line(alloc, line) {
             Ok(Some(entry)) => entry,
             Ok(None) => return Ok(None),
-            Err(LineRefused::Bad(why)) => return Err(self.malformed(why)),
+            Err(LineRefused::Bad(why)) => return Err(self.malformed(limits, why)),
             Err(LineRefused::OutOfMemory) => return Err(FileFault::OutOfMemory),
         };
         self.admit(limits, entry.key)?;

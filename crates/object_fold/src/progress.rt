@@ -1,6 +1,5 @@
 //! The entries of a file, while it is read piece by piece.
 ghost use Rattle.std.specs.Prelude.{◌≡◌, ◌≢◌, ◌<◌, ◌≤◌, ◌+◌, ◌++◌, ℕ, List, [], Ok, Err, None, Some, length, drop, IfOk, IfErr, OnOk};
-ghost use Rattle.osm_base.specs.Limits.{IsWithinStandard};
 ghost use Rattle.opl_lines.specs.Reading.{room};
 ghost use Rattle.object_fold.specs.Entries.{entries_of};
 ghost use Rattle.object_fold.specs.Keeps.{kept, kept_all};
@@ -23,7 +22,6 @@ pub struct Progress {
 
 /// The fault of a limit of lines.
 fn limit_fault(limits: &Limits, fault: LineFault) -> FileFault
-    requires { IsWithinStandard limits.now }
     ensures line_bytes { fault ≡ LineFault.LineBytes → result ≡ FileFault.Limit LimitKind.LineBytes (limits.now.line_bytes + 1) }
     ensures file_lines { fault ≡ LineFault.FileLines → result ≡ FileFault.Limit LimitKind.FileLines (limits.now.lines + 1) }
     ensures memory { fault ≡ LineFault.OutOfMemory → result ≡ FileFault.OutOfMemory }
@@ -31,11 +29,11 @@ fn limit_fault(limits: &Limits, fault: LineFault) -> FileFault
     match fault {
         LineFault::LineBytes => FileFault::Limit {
             which: LimitKind::LineBytes,
-            value: limits.line_bytes + 1,
+            value: limits.line_bytes() + 1,
         },
         LineFault::FileLines => FileFault::Limit {
             which: LimitKind::FileLines,
-            value: limits.lines + 1,
+            value: limits.lines() + 1,
         },
         LineFault::OutOfMemory => FileFault::OutOfMemory,
     }
@@ -49,7 +47,6 @@ fn add_line<K: Keeper>(
     keeper: &mut K,
     line: &[u8],
 ) -> Result<(), FileFault>
-    requires limits { IsWithinStandard limits.now }
     requires counted { passed.old.lines < limits.now.lines }
     requires takes { TakesNext K.takes passed.old.last keeper.old }
     ensures ok { OnOk result (text_fault limits.now passed.old line.now ≡ None) }
@@ -59,6 +56,8 @@ fn add_line<K: Keeper>(
     ensures entries { OnOk result (passed.old.entries ≤ limits.now.entries → passed.new.entries ≤ limits.now.entries) }
     ensures stopped { IfErr result (StopsAt (λ fault. text_fault limits.now passed.old line.now ≡ Some fault)) }
 {
+    // No limit is above that of the program, so both counts fit.
+    let _numbers = limits.numbers();
     if let Some(entry) = passed.read(alloc, limits, line)? {
         let key = entry.key;
         keeper.keep(entry)?;
@@ -90,7 +89,6 @@ impl Progress {
         keeper: &mut K,
         piece: &[u8],
     ) -> Result<usize, FileFault>
-        requires limits { IsWithinStandard limits.now }
         requires some { 0 < length piece.now }
         requires ready { IsReady limits.now self.old }
         requires takes { TakesNext K.takes self.old.passed.last keeper.old }
@@ -123,7 +121,6 @@ impl Progress {
         keeper: &mut K,
         piece: &[u8],
     ) -> Result<(), FileFault>
-        requires limits { IsWithinStandard limits.now }
         requires ready { IsReady limits.now self.old }
         requires takes { TakesNext K.takes self.old.passed.last keeper.old }
         ensures ready { OnOk result (IsReady limits.now self.new) }
@@ -151,7 +148,6 @@ impl Progress {
         limits: &Limits,
         keeper: &mut K,
     ) -> Result<(), FileFault>
-        requires limits { IsWithinStandard limits.now }
         requires ready { IsReady limits.now self }
         requires takes { TakesNext K.takes self.passed.last keeper.old }
         ensures kept { OnOk result (kept_all K.after keeper.old (entries_left limits.now self []) ≡ Ok keeper.new) }

@@ -1,6 +1,5 @@
 //! A file of entries, read piece by piece to its end.
 ghost use Rattle.std.specs.Prelude.{◌≡◌, ◌≢◌, ◌≤◌, ◌<◌, ℕ, None, true, length, IfOk, IfErr, OnOk};
-ghost use Rattle.osm_base.specs.Limits.{IsWithinStandard};
 ghost use Rattle.opl_lines.specs.Reading.{room};
 ghost use Rattle.outside.specs.Causes.{Rose};
 ghost use Rattle.object_fold.specs.Reading.{IsReady, TakesNext, ReadsOn, ReadsAll, IsKeptFault, IsFaultOf, HasEntries};
@@ -32,7 +31,6 @@ fn read_on<I: Inputs, K: Keeper>(
     progress: &mut Progress,
     keeper: &mut K,
 ) -> Result<bool, FileFault>
-    requires limits { IsWithinStandard limits.now }
     requires some { 0 < length buffer.old }
     requires ready { IsReady limits.now progress.old }
     requires takes { TakesNext K.takes progress.old.passed.last keeper.old }
@@ -64,7 +62,6 @@ pub fn scan_file<I: Inputs, K: Keeper>(
     limits: &Limits,
     keeper: &mut K,
 ) -> Result<(), FileFault>
-    requires limits { IsWithinStandard limits.now }
     requires takes { TakesNext K.takes None keeper.old }
     ensures ok { OnOk result (ReadsAll K.after limits.now keeper.old keeper.new (I.left inputs.old file) (I.left inputs.new file)) }
     ensures stopped { IfErr result (Stops (IsFaultOf limits.now (I.left inputs.old file)) (Rose (I.faults inputs.old) (I.faults inputs.new))) }
@@ -92,7 +89,6 @@ pub fn read_file<I: Inputs>(
     file: u32,
     limits: &Limits,
 ) -> Result<Change, FileFault>
-    requires limits { IsWithinStandard limits.now }
     ensures ok { IfOk result (λ change. HasEntries limits.now change (I.left inputs.old file) (I.left inputs.new file)) }
     ensures stopped { IfErr result (Stops (IsFaultOf limits.now (I.left inputs.old file)) (Rose (I.faults inputs.old) (I.faults inputs.new))) }
     ensures later { I.faults inputs.old ≤ I.faults inputs.new }

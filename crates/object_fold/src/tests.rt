@@ -1,10 +1,10 @@
 ghost use Rattle.osm_base.specs.Key.{IsId};
-ghost use Rattle.osm_base.specs.Limits.{IsWithinStandard};
 
 use crate::{Change, FileFault, Objects, WholeFault, read_all, read_file};
 use opl_object::Why;
 use osm_base::{
-    Back, Bytes, Entry, FileList, Ids, Key, Kind, LimitKind, Limits, Lookup, Object, Place,
+    Back, Bytes, Entry, FileList, Ids, Key, Kind, LimitKind, LimitNumbers, Limits, Lookup, Object,
+    Place,
 };
 use outside::{Fails, MemInputs};
 use std::alloc::Global;
@@ -17,28 +17,23 @@ fn inputs(alloc: Global, text: &[u8], fails: Fails) -> Result<MemInputs, Fail> {
     Ok(MemInputs::new(files, fails))
 }
 
-fn small() -> Limits
-    ensures within { IsWithinStandard result }
-{
-    Limits {
+fn small() -> Result<Limits, Fail> {
+    let numbers = LimitNumbers {
         line_bytes: 8,
         lines: 2,
         entries: 1,
         pages: 0,
         pending: 0,
-    }
+    };
+    Limits::new(numbers).ok_or(Fail::from("above the limits of the program"))
 }
 
-fn read(alloc: Global, text: &[u8], limits: &Limits) -> Result<Result<Change, FileFault>, Fail>
-    requires { IsWithinStandard limits.now }
-{
+fn read(alloc: Global, text: &[u8], limits: &Limits) -> Result<Result<Change, FileFault>, Fail> {
     let mut inputs = inputs(alloc, text, Fails::never(alloc))?;
     Ok(read_file(alloc, &mut inputs, 0, limits))
 }
 
-fn fault(alloc: Global, text: &[u8], limits: &Limits) -> Result<Option<FileFault>, Fail>
-    requires { IsWithinStandard limits.now }
-{
+fn fault(alloc: Global, text: &[u8], limits: &Limits) -> Result<Option<FileFault>, Fail> {
     Ok(read(alloc, text, limits)?.err())
 }
 
@@ -108,7 +103,7 @@ fn the_first_line_with_a_fault_decides(rt: HostRuntime) -> Result<(), Fail> {
 // A limit of 8 bytes a line, 2 lines and 1 entry.
 #[test]
 fn limits_are_passed_by_one(rt: HostRuntime) -> Result<(), Fail> {
-    let limits = small();
+    let limits = small()?;
     assert!(rt; read(rt.alloc(), b"n1 x1 y1", &limits)?.is_ok());
     let passed: [(&[u8], LimitKind, u64); 4] = [
         (b"n1 x10 y1", LimitKind::LineBytes, 9),

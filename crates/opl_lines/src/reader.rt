@@ -128,8 +128,8 @@ impl LineReader {
             line: Vec::new(alloc),
             whole: true,
             number: 0,
-            line_bytes: limits.line_bytes,
-            lines: limits.lines,
+            line_bytes: limits.line_bytes(),
+            lines: limits.lines(),
             failed: None,
         }
     }

@@ -3,7 +3,7 @@ ghost use Rattle.std.specs.Prelude.{◌≡◌, ◌<◌, IfOk, map};
 ghost use Rattle.opl_lines.specs.Lines.{lines_of};
 
 use crate::{LineFault, LineReader};
-use osm_base::Limits;
+use osm_base::{LimitNumbers, Limits};
 use std::alloc::Global;
 use std::test::Fail;
 
@@ -117,29 +117,32 @@ fn a_file_has_its_lines_in_pieces_of_every_size(rt: HostRuntime) -> Result<(), F
     Ok(())
 }
 
-#[test]
-fn a_limit_is_passed_in_pieces_of_every_size(rt: HostRuntime) {
-    let alloc = rt.alloc();
-    let limits = Limits {
+/// Limits of 3 bytes a line and of so many lines.
+fn limits(lines: u64) -> Result<Limits, Fail> {
+    let numbers = LimitNumbers {
         line_bytes: 3,
-        lines: 2,
-        ..Limits::standard()
+        lines,
+        ..Limits::standard().numbers()
     };
+    Limits::new(numbers).ok_or(Fail::from("above the limits of the program"))
+}
+
+#[test]
+fn a_limit_is_passed_in_pieces_of_every_size(rt: HostRuntime) -> Result<(), Fail> {
+    let alloc = rt.alloc();
+    let limits = limits(2)?;
     for (file, fault) in LIMITED {
         for size in 1..=LONGEST_PIECE {
             assert_eq!(rt; lines_copied(alloc, &limits, size, file).err(), fault);
             assert_eq!(rt; lines_lent(alloc, &limits, size, file).err(), fault);
         }
     }
+    Ok(())
 }
 
 #[test]
-fn a_limit_that_was_passed_stays_passed(rt: HostRuntime) {
-    let limits = Limits {
-        line_bytes: 3,
-        lines: 1,
-        ..Limits::standard()
-    };
+fn a_limit_that_was_passed_stays_passed(rt: HostRuntime) -> Result<(), Fail> {
+    let limits = limits(1)?;
     for (text, fault, whole_lines) in [
         (b"abcd", LineFault::LineBytes, 0),
         (b"a\nbc", LineFault::FileLines, 1),
@@ -153,4 +156,5 @@ fn a_limit_that_was_passed_stays_passed(rt: HostRuntime) {
         assert_eq!(rt; reader.take_line(b"a").err(), Some(fault));
         assert_eq!(rt; reader.number(), whole_lines);
     }
+    Ok(())
 }

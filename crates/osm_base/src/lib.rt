@@ -25,7 +25,9 @@ pub use back::Back;
 pub use degrees::DegreesBuffer;
 pub use items::{Bytes, FileList, Ids, Items, LineList, Places, Polygons, TryCopy};
 pub use key::{Key, Kind, MAX_ID};
-pub use limits::{LimitKind, Limits};
+pub use limits::{
+    LimitKind, LimitNumbers, Limits, MAX_ENTRIES, MAX_LINE_BYTES, MAX_LINES, MAX_PAGES, MAX_PENDING,
+};
 pub use lookup::Lookup;
 pub use memory::OutOfMemory;
 pub use object::{Entry, Member, Members, Object};

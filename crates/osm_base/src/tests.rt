@@ -136,7 +136,7 @@ fn keys_are_ordered_by_kind_and_id(rt: HostRuntime) {
     assert!(rt; Key::new(Kind::Node, 9) < Key::new(Kind::Way, 1));
     assert!(rt; Key::new(Kind::Way, 2) < Key::new(Kind::Way, 10));
     assert!(rt; Key::new(Kind::Way, 10) < Key::new(Kind::Relation, 1));
-    assert_eq!(rt; Limits::standard().line_bytes, 4_194_304);
+    assert_eq!(rt; Limits::standard().line_bytes(), 4_194_304);
 }
 
 #[test]

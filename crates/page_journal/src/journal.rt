@@ -1,6 +1,5 @@
 //! The home pages of an open store.
 ghost use Rattle.std.specs.Prelude.{◌≡◌, ◌⊎◌, ◌+◌, ◌*◌, ◌^◌, ◌<◌, ◌≤◌, ◌||◌, List, ℕ, false, length, option_map, is_ok, MatchResult, Ok, Err, IfOk, OnOk, IsErr, if◌then◌else◌};
-ghost use Rattle.osm_base.specs.Limits.{IsWithinStandard};
 ghost use Rattle.outside.specs.Calls.{one_more};
 ghost use Rattle.outside.specs.Disk.{Tells};
 ghost use Rattle.page_journal.specs.Answers.{Commits, HasDiskCause, IsOpenAnswer, Opens, Reads, ReadsFrom, answers_disk_fault};
@@ -34,7 +33,6 @@ impl<'d, D: Disk> Journal<'d, D> {
     /// Opens the store on this disk. It is the call of `open`, which says what a refusal leaves on the
     /// disk, and then `over`.
     pub fn attach(disk: &'d mut D, limits: &Limits) -> Result<Self, StoreFault>
-        requires { IsWithinStandard limits.now }
         ensures same_disk { IfOk result (λ journal. journal.disk.ghost_name ≡ disk.entry.ghost_name) }
         ensures answers { (bytes : List ℕ) → Tells (D.view disk.entry.now) bytes
             → MatchResult result (λ journal. Opens bytes (Ok (home_count journal))) (λ fault. Opens bytes (Err fault)) }
@@ -56,7 +54,6 @@ impl<'d, D: Disk> Journal<'d, D> {
 
     /// The journal of a disk that `open` has opened, which answered so many home pages.
     pub fn over(disk: &'d mut D, pages: u64, limits: &Limits) -> Self
-        requires limits { IsWithinStandard limits.now }
         requires some { 2 ≤ pages }
         requires small { 4096 * pages ≤ 2 ^ 62 }
         ensures same_disk { result.disk.ghost_name ≡ disk.entry.ghost_name }
@@ -68,7 +65,7 @@ impl<'d, D: Disk> Journal<'d, D> {
         Journal {
             disk,
             pages,
-            limit: limits.pages,
+            limit: limits.pages(),
             broken: false,
         }
     }

@@ -4,7 +4,7 @@ ghost use Rattle.page_journal.specs.Pages.{number};
 
 use crate::formatting::put_field;
 use crate::{Journal, PageSet, StoreFault, format, open};
-use osm_base::{Bytes, Ids, Limits};
+use osm_base::{Bytes, Ids, LimitNumbers, Limits};
 use outside::{CrashPick, Disk, Fails, MemDisk};
 use std::alloc::Global;
 use std::process::Abort;
@@ -51,8 +51,11 @@ fn commit<D: Disk>(
     disk: &mut D,
     limit: u64,
 ) -> Result<Result<(), StoreFault>, Fail> {
-    let mut limits = Limits::standard();
-    limits.pages = limits.pages.min(limit);
+    let numbers = LimitNumbers {
+        pages: limit,
+        ..Limits::standard().numbers()
+    };
+    let limits = Limits::new(numbers).ok_or(Fail::from("above the limits of the program"))?;
     let pages = match open(disk) {
         Ok(pages) => pages,
         Err(fault) => return Ok(Err(fault)),

@@ -2,7 +2,7 @@
 use Rattle.std.proofs.Common.{fold, ◌≡◌, ◌≤◌, ◌<◌, ◌+◌, ◌-◌, ℕ, suc, Option, Some, None, List, [], Result, Ok, Err, refl, ◌∙◌, ap, subst, arith, ⊎_elim}
 use Rattle.std.proofs.lemmas.List.Sums.{fold-append}
 use Rattle.std.proofs.lemmas.Bool.{cases_lt}
-use Rattle.osm_base.specs.declared.limits.Limits.{Limits}
+use Rattle.osm_base.specs.declared.limits.LimitNumbers.{LimitNumbers}
 use Rattle.osm_base.specs.declared.object.Entry.{Entry}
 use Rattle.outside.specs.Causes.{Rose}
 use Rattle.object_fold.specs.declared.fault.FileFault.{FileFault}
@@ -31,7 +31,7 @@ module _ {K : Type 0} (after : K → Entry → K) where
   made-refused keeper (Ok entries) fault e = absurd (cc)
   made-refused keeper (Err own) fault e = let same : own ≡ fault = cc in ap Err same
 
-  module _ (limits : Limits) (texts : ℕ → List ℕ) where
+  module _ (limits : LimitNumbers) (texts : ℕ → List ℕ) where
     joined-step : (file count left : ℕ) → left ≡ suc count
         → entries_in limits texts file left ≡ joined file (entries_of limits (texts file)) (entries_in limits texts (file + 1) count)
     unfolding entries_in
@@ -58,7 +58,7 @@ module _ {K : Type 0} (after : K → Entry → K) where
         none file end h = omega (arith, h)
 
   -- what reading one file says of bytes that are told
-  pub told_all : (limits : Limits) (keeper now : K) (left rest : Option (List ℕ)) (bytes : List ℕ) → ReadsAll after limits keeper now left rest → left ≡ Some bytes
+  pub told_all : (limits : LimitNumbers) (keeper now : K) (left rest : Option (List ℕ)) (bytes : List ℕ) → ReadsAll after limits keeper now left rest → left ≡ Some bytes
       → (kept_all after keeper (entries_of limits bytes) ≡ Ok now) × (rest ≡ Some [])
   told_all limits keeper now None rest bytes h e = absurd (cc)
   told_all limits keeper now (Some known) None bytes h e = absurd h
@@ -67,7 +67,7 @@ module _ {K : Type 0} (after : K → Entry → K) where
       (subst (λ (own : List ℕ). kept_all after keeper (entries_of limits own) ≡ Ok now) same h.0, ap Some h.1)
 
 -- a fault of told bytes
-pub told_fault : (limits : Limits) (left : Option (List ℕ)) (bytes : List ℕ) (fault : FileFault) → IsFaultOf limits left fault → left ≡ Some bytes → entries_of limits bytes ≡ Err fault
+pub told_fault : (limits : LimitNumbers) (left : Option (List ℕ)) (bytes : List ℕ) (fault : FileFault) → IsFaultOf limits left fault → left ≡ Some bytes → entries_of limits bytes ≡ Err fault
 told_fault limits None bytes fault h e = absurd (cc)
 told_fault limits (Some known) bytes fault h e =
     let same : known ≡ bytes = cc in

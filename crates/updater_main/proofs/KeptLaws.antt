@@ -2,7 +2,7 @@
 use Rattle.std.proofs.Common.{◌≡◌, ℕ, List, [], ◌∷◌, map, fold, Option, Some, None, Result, Ok, Err, OnOk, refl, sym, ap, ◌∙◌}
 use Rattle.std.specs.FinMap as finite
 use Rattle.std.specs.Str.{chars}
-use Rattle.osm_base.specs.declared.limits.Limits.{Limits}
+use Rattle.osm_base.specs.declared.limits.LimitNumbers.{LimitNumbers}
 use Rattle.osm_base.specs.declared.object.Entry.{Entry}
 use Rattle.object_fold.specs.declared.fault.FileFault.{FileFault}
 use Rattle.object_fold.specs.Entries.{entries_of}
@@ -28,12 +28,12 @@ module _ {K : Type 0} (after : K → Entry → K) (wrap : K → Kept) (steps : (
   all-wrapped old new (Ok entries) is = let same : fold after old entries ≡ new = cc in ap Ok (fold-wrapped old entries ∙ ap wrap same)
   all-wrapped old new (Err fault) is = absurd (cc)
 
-  reads-wrapped : (limits : Limits) (old new : K) (left rest : Option (List ℕ)) → ReadsAll after limits old new left rest → ReadsAll after_kept limits (wrap old) (wrap new) left rest
+  reads-wrapped : (limits : LimitNumbers) (old new : K) (left rest : Option (List ℕ)) → ReadsAll after limits old new left rest → ReadsAll after_kept limits (wrap old) (wrap new) left rest
   reads-wrapped limits old new None rest reads = tt
   reads-wrapped limits old new (Some bytes) None reads = reads
   reads-wrapped limits old new (Some bytes) (Some later) reads = (all-wrapped old new (entries_of limits bytes) reads.0, reads.1)
 
-  pub ok-wrapped : {E : Type 0} (limits : Limits) (old new : K) (left rest : Option (List ℕ)) (result : Result (Unit {0}) E) → OnOk result (ReadsAll after limits old new left rest)
+  pub ok-wrapped : {E : Type 0} (limits : LimitNumbers) (old new : K) (left rest : Option (List ℕ)) (result : Result (Unit {0}) E) → OnOk result (ReadsAll after limits old new left rest)
       → OnOk result (ReadsAll after_kept limits (wrap old) (wrap new) left rest)
   ok-wrapped limits old new left rest (Ok value) reads = reads-wrapped limits old new left rest reads
   ok-wrapped limits old new left rest (Err fault) reads = tt
@@ -53,7 +53,7 @@ taken-all old new change (Ok entries) took is =
     ap Ok (fold-after_way old.key old.objects entries ∙ ap (λ own. record { key = old.key; objects = folded_all old.objects own }) kept ∙ sym took)
 taken-all old new change (Err fault) took is = absurd (cc)
 
-pub taken-reads : (limits : Limits) (old new : WaysRead) (change : KeptEntries) (left rest : Option (List ℕ)) → new ≡ record { key = old.key; objects = folded_all old.objects change.entries }
+pub taken-reads : (limits : LimitNumbers) (old new : WaysRead) (change : KeptEntries) (left rest : Option (List ℕ)) → new ≡ record { key = old.key; objects = folded_all old.objects change.entries }
     → ReadsAll with_entry limits (record { key = old.key; entries = [] }) change left rest → ReadsAll after_way limits old new left rest
 taken-reads limits old new change None rest took reads = tt
 taken-reads limits old new change (Some bytes) None took reads = reads

@@ -1,6 +1,6 @@
 -- The entries of several files, which are read one after another and are numbered by the places of their words.
 use Rattle.std.specs.Prelude.{◌≡◌, ◌≤◌, ◌<◌, ◌+◌, ℕ, zero, suc, List, [], ◌++◌, fold, Option, Some, Result, Ok, Err}
-use Rattle.osm_base.specs.declared.limits.Limits.{Limits}
+use Rattle.osm_base.specs.declared.limits.LimitNumbers.{LimitNumbers}
 use Rattle.osm_base.specs.declared.object.Entry.{Entry}
 use Rattle.object_fold.specs.Entries.{entries_of}
 use Rattle.object_fold.specs.declared.fault.FileFault.{FileFault}
@@ -23,7 +23,7 @@ joined file (Ok entries) (Err fault) = Err fault
 joined file (Ok entries) (Ok later) = Ok (entries ++ later)
 
 -- the entries of so many files with these bytes, from this file on, or the fault of the first that has one
-unfoldable pub entries_in : Limits → (texts : ℕ → List ℕ) → (file count : ℕ) → Result (List Entry) Fault
+unfoldable pub entries_in : LimitNumbers → (texts : ℕ → List ℕ) → (file count : ℕ) → Result (List Entry) Fault
 entries_in limits texts file zero = Ok []
 entries_in limits texts file (suc count) = joined file (entries_of limits (texts file)) (entries_in limits texts (file + 1) count)
 

@@ -5,7 +5,7 @@ use Rattle.std.specs.Result.{IsOkAnd, result_err}
 use Rattle.std.specs.Io.KnownBytes.{Appends, Keeps}
 use Rattle.std.specs.FinMap as map
 use Rattle.std.specs.Str.{chars}
-use Rattle.osm_base.specs.declared.limits.Limits.{Limits}
+use Rattle.osm_base.specs.Limits.{standard}
 use Rattle.osm_base.specs.declared.object.Entry.{Entry}
 use Rattle.object_fold.specs.Fold.{folded_all}
 use Rattle.outside.specs.Bytes.{AppendsPrefix}
@@ -17,10 +17,6 @@ use Rattle.updater_main.specs.Causes.{Ends}
 use Rattle.updater_main.specs.Files.{Hold, AreRead, entries_in}
 use Rattle.updater_main.specs.LinesText.{lines_text}
 use Rattle.updater_main.specs.PointsText.{points_text}
-
--- the limits of the program
-abbrev pub standard : Limits
-standard = record { line_bytes = 4194304; lines = 16777216; entries = 4194304; pages = 268435456; pending = 16777216 }
 
 -- the text of the points with this key of the objects that these entries make
 abbrev pub points_text_of : List ℕ → List Entry → List ℕ

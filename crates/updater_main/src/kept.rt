@@ -1,6 +1,5 @@
 //! What is kept of the files of a command that writes a text.
 ghost use Rattle.std.specs.Prelude.{◌≡◌, ◌≢◌, ◌≤◌, ℕ, IfOk, OnOk, IfErr};
-ghost use Rattle.osm_base.specs.Limits.{IsWithinStandard};
 ghost use Rattle.outside.specs.Causes.{Rose};
 ghost use Rattle.object_fold.specs.Reading.{ReadsAll, IsFaultOf};
 ghost use Rattle.object_fold.specs.Stops.{Stops};
@@ -41,7 +40,6 @@ pub fn take_file<I: Inputs>(
     limits: &Limits,
     kept: &mut Kept,
 ) -> Result<(), FileFault>
-    requires limits { IsWithinStandard limits.now }
     ensures ok { OnOk result (ReadsAll after_kept limits.now kept.old kept.new (I.left inputs.old file) (I.left inputs.new file)) }
     ensures stopped { IfErr result (Stops (IsFaultOf limits.now (I.left inputs.old file)) (Rose (I.faults inputs.old) (I.faults inputs.new))) }
     ensures later { I.faults inputs.old ≤ I.faults inputs.new }
@@ -61,7 +59,6 @@ fn take_ways<I: Inputs>(
     limits: &Limits,
     lines: &mut WayLines,
 ) -> Result<(), FileFault>
-    requires limits { IsWithinStandard limits.now }
     ensures ok { OnOk result (ReadsAll after_way limits.now lines.old lines.new (I.left inputs.old file) (I.left inputs.new file)) }
     ensures stopped { IfErr result (Stops (IsFaultOf limits.now (I.left inputs.old file)) (Rose (I.faults inputs.old) (I.faults inputs.new))) }
     ensures later { I.faults inputs.old ≤ I.faults inputs.new }

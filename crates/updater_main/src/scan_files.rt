@@ -1,6 +1,5 @@
 //! Several files of entries, read one after another.
 ghost use Rattle.std.specs.Prelude.{◌≡◌, ◌≤◌, ◌<◌, ◌+◌, ℕ, List, OnOk, IfErr, Some};
-ghost use Rattle.osm_base.specs.Limits.{IsWithinStandard};
 ghost use Rattle.outside.specs.Causes.{Rose};
 ghost use Rattle.updater_main.specs.Files.{Hold, AreRead, made, entries_in};
 ghost use Rattle.updater_main.specs.Causes.{StopsFiles};
@@ -21,7 +20,6 @@ pub fn scan_files<I: Inputs>(
     limits: &Limits,
     kept: &mut Kept,
 ) -> Result<(), Fault>
-    requires limits { IsWithinStandard limits.now }
     requires fits { files.first + files.count ≤ 8192 }
     ensures made { OnOk result ((texts : ℕ → List ℕ) → Hold (I.left inputs.old) texts files →
         made after_kept kept.old (entries_in limits.now texts files.first files.count) ≡ Ok kept.new) }
