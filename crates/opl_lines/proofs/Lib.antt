@@ -1,4 +1,4 @@
-mod Examples
 pub mod LineLemmas
+mod Manual
 pub mod TakeLemmas
 pub mod Walk

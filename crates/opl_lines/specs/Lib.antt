@@ -2,3 +2,4 @@ pub mod Lines
 pub mod Reading
 pub mod Steps
 pub mod Takes
+pub mod Whole

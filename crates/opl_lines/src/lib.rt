@@ -14,8 +14,8 @@
 
 mod fault;
 mod reader;
-#[cfg(test)]
-mod tests;
+mod whole;
 
 pub use fault::LineFault;
-pub use reader::{Cut, Line, LineReader, NEWLINE, Taken};
+pub use reader::{Cut, Line, LineReader, NEWLINE, Taken, shared_numbers};
+pub use whole::lines_in;

@@ -16,6 +16,11 @@ use std::marker::Model;
 /// The byte that ends a line.
 pub const NEWLINE: u8 = b'\n';
 
+/// The number that code and definitions share is the one that ASCII has for a newline.
+pub fn shared_numbers()
+    ensures newline { NEWLINE ≡ 10 }
+{}
+
 /// What `take` did with a piece.
 #[derive(Clone, Copy, Debug, PartialEq, Eq)]
 pub struct Taken {
