@@ -1,0 +1,31 @@
+-- Examples written out by hand.
+use Rattle.std.proofs.Common.{◌≡◌, Some, None, [], ◌∷◌, refl}
+use Rattle.std.specs.Prelude.{codes, pos}
+use Rattle.std.specs.Fmt.{digits}
+use Rattle.std.proofs.Math.Utf8.{encode}
+use Rattle.updater.specs.Command.{command, points_of}
+use Rattle.updater.specs.CopyText.{escape_letter}
+use Rattle.osm_base.specs.Degrees.{degrees, fraction}
+use Rattle.updater.specs.PointsText.{point_line}
+
+-- a line of points
+pub point_line-cafe : point_line 1 (codes "cafe") (record { lon = pos 133777000; lat = pos 525163000 }) ≡ codes "1\tcafe\tPOINT(13.3777 52.5163)\n"
+unfolding point_line escape_letter degrees fraction digits encode
+point_line-cafe = refl
+
+-- words
+pub command-plain : command (codes "points" ∷ codes "k" ∷ codes "f" ∷ []) ≡ Some (points_of (codes "k") (record { first = 2; count = 1 }))
+unfolding command
+command-plain = refl
+
+pub command-dashes : command (codes "points" ∷ codes "--" ∷ codes "a=b" ∷ codes "f" ∷ []) ≡ Some (points_of (codes "a=b") (record { first = 3; count = 1 }))
+unfolding command
+command-dashes = refl
+
+pub command-option : command (codes "points" ∷ codes "a=b" ∷ codes "f" ∷ []) ≡ None
+unfolding command
+command-option = refl
+
+pub command-no_option : command (codes "points" ∷ codes "A=b" ∷ codes "f" ∷ []) ≡ Some (points_of (codes "A=b") (record { first = 2; count = 1 }))
+unfolding command
+command-no_option = refl

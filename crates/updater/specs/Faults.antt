@@ -1,0 +1,63 @@
+-- How each fault is told: by the status that the process ends with, and by a line of text.
+use Rattle.std.specs.Prelude.{ℕ, Option, Some, None, List, [], ◌++◌, codes, decimal}
+use Rattle.osm_base.specs.declared.key.Kind.{Kind}
+use Rattle.osm_base.specs.declared.key.Kind.TheVariants.{Node, Way, Relation}
+use Rattle.osm_base.specs.declared.limits.LimitKind.{LimitKind}
+use Rattle.osm_base.specs.declared.limits.LimitKind.TheVariants as kinds
+use Rattle.osm_base.specs.Key.{KeyOf}
+use Rattle.opl_object.specs.declared.why.Why.{Why}
+use Rattle.opl_object.specs.declared.why.Why.TheVariants.{Order}
+use Rattle.opl_object.specs.Why.{number_of}
+use Rattle.updater.specs.declared.fault.Fault.{Fault}
+use Rattle.updater.specs.declared.fault.Fault.TheVariants.{Usage, Malformed, Limit, ReadFault, NotEmpty, WriteFault, DiskFault, OutOfMemory}
+
+-- the status of a run with this fault, or with none
+abbrev pub status_of : Option Fault → ℕ
+status_of None = 0
+status_of (Some Usage) = 2
+status_of (Some (Malformed _ _ _)) = 3
+status_of (Some NotEmpty) = 6
+status_of (Some (ReadFault _)) = 7
+status_of (Some WriteFault) = 8
+status_of (Some DiskFault) = 9
+status_of (Some (Limit _ _)) = 10
+status_of (Some OutOfMemory) = 11
+
+-- the letter of a kind
+abbrev pub kind_text : Kind → List ℕ
+kind_text Node = codes "n"
+kind_text Way = codes "w"
+kind_text Relation = codes "r"
+
+-- a key: the letter of its kind and its id
+abbrev pub key_text : KeyOf → List ℕ
+key_text key = kind_text key.kind ++ decimal key.id
+
+-- the two keys whose order is wrong
+abbrev pub order_text : Why → List ℕ
+order_text (Order earlier later) = codes " " ++ key_text earlier ++ codes " " ++ key_text later
+order_text _ = []
+
+-- the name of a limit
+abbrev pub limit_text : LimitKind → List ℕ
+limit_text kinds.LineBytes = codes "line-bytes"
+limit_text kinds.FileLines = codes "file-lines"
+limit_text kinds.FileEntries = codes "file-entries"
+limit_text kinds.StyleBytes = codes "style-bytes"
+limit_text kinds.BoundsBytes = codes "bounds-bytes"
+limit_text kinds.QueryBytes = codes "query-bytes"
+limit_text kinds.Pages = codes "pages"
+limit_text kinds.Pending = codes "pending"
+limit_text kinds.Changes = codes "changes"
+
+-- the line of a fault, without a newline
+abbrev pub fault_text : Fault → List ℕ
+fault_text Usage = codes "usage"
+fault_text (Malformed file line why) =
+    codes "malformed file " ++ decimal file ++ codes " line " ++ decimal line ++ codes " cause " ++ decimal (number_of why) ++ order_text why
+fault_text (Limit which value) = codes "limit " ++ limit_text which ++ codes " value " ++ decimal value
+fault_text (ReadFault file) = codes "read fault file " ++ decimal file
+fault_text NotEmpty = codes "not empty"
+fault_text WriteFault = codes "write fault"
+fault_text DiskFault = codes "disk fault"
+fault_text OutOfMemory = codes "out of memory"

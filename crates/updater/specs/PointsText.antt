@@ -1,0 +1,42 @@
+-- The text of points: a line for each node with a place and with a tag of the key, by rising id.
+-- A line is the id, the value of the key and the place as `POINT(x y)`, longitude first, separated by tabs and ended by
+-- a newline. The value has the escapes of PostgreSQL's COPY text format.
+use Rattle.std.specs.Prelude.{ℕ, Option, Some, List, [], ◌++◌, codes, decimal, encode_utf8_all, flat_map}
+use Rattle.std.specs.Option.{option_map_or}
+use Rattle.std.specs.FinMap as map
+use Rattle.osm_base.specs.Place.{PlaceOf}
+use Rattle.osm_base.specs.declared.key.Kind.{Kind}
+use Rattle.osm_base.specs.declared.key.Kind.TheVariants as kinds
+use Rattle.osm_base.specs.declared.object.Object.{Object}
+use Rattle.osm_base.specs.declared.object.Object.TheVariants.{Node}
+use Rattle.osm_base.specs.declared.object.Entry.{Entry}
+use Rattle.object_fold.specs.Fold.{ObjectSet}
+use Rattle.updater.specs.CopyText.{copy_text}
+use Rattle.osm_base.specs.Degrees.{degrees}
+
+-- a place as a geometry
+abbrev pub point_text : PlaceOf → List ℕ
+point_text place = codes "POINT(" ++ degrees place.lon ++ codes " " ++ degrees place.lat ++ codes ")"
+
+-- the line of a node with this id, this value of the key and this place
+unfoldable pub point_line : (id : ℕ) → (value : List ℕ) → PlaceOf → List ℕ
+point_line id value place = decimal id ++ codes "\t" ++ copy_text (encode_utf8_all value) ++ codes "\t" ++ point_text place ++ codes "\n"
+
+-- the line of an object with this id, where it is a node with a place and the tag
+abbrev pub object_line : (key : List ℕ) → (id : ℕ) → Option Object → List ℕ
+object_line key id (Some (Node (Some place) tags)) = option_map_or (λ value. point_line id value place) (map.get tags key) []
+object_line key id _ = []
+
+-- the line of an entry, where it has one
+unfoldable pub line_of : (key : List ℕ) → Entry → List ℕ
+line_of key entry = object_line key entry.key.id entry.object
+
+-- this line, where a key of this kind is that of a node
+abbrev pub of_node : Kind → List ℕ → List ℕ
+of_node kinds.Node line = line
+of_node kinds.Way line = []
+of_node kinds.Relation line = []
+
+-- the lines of all nodes, by rising id
+abbrev pub points_text : (key : List ℕ) → ObjectSet → List ℕ
+points_text key objects = flat_map (λ (at, object). of_node at.kind (object_line key at.id (Some object))) (map.entries objects)

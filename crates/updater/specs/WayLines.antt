@@ -1,0 +1,61 @@
+-- The lines of the ways of the objects so far.
+use Rattle.std.specs.Prelude.{◌≡◌, ℕ, List, [], ◌∷◌, false, Bool, Option, None, Some, refl}
+use Rattle.std.specs.Coded.{Coded, code_by, coded×, coded_list, coded_ℕ}
+use Rattle.std.specs.FinMap as finite
+use Rattle.std.specs.List.{AllByRecursion}
+use Rattle.osm_base.specs.declared.key.Kind.TheVariants as kinds
+use Rattle.osm_base.specs.declared.object.Entry.{Entry}
+use Rattle.osm_base.specs.Key.{KeyOf, IsId}
+use Rattle.osm_base.specs.contracts.key.Key as key
+use Rattle.osm_base.specs.contracts.object.Object as object
+use Rattle.object_fold.specs.Fold.{ObjectSet, folded}
+use Rattle.object_fold.specs.Index.{known_of}
+use Rattle.object_fold.specs.RisingIds.{has}
+use Rattle.updater.specs.KeptChange.{kept_entry}
+use Rattle.updater.specs.LinesById.{LineMap}
+use Rattle.updater.specs.LinesText.{object_row}
+
+-- a line, where it is not empty
+abbrev pub some_line : List ℕ → Option (List ℕ)
+some_line [] = None
+some_line (byte ∷ bytes) = Some (byte ∷ bytes)
+
+abbrev pub way_key : ℕ → KeyOf
+way_key id = record { kind = kinds.Way; id = id }
+
+-- the line of text of a way of these objects, or nothing
+abbrev pub row_at : List ℕ → ObjectSet → ℕ → List ℕ
+row_at key objects id = object_row key (known_of objects).place id (finite.get objects (way_key id))
+
+-- the lines of text are those of the ways of these objects that have one, and no other
+abbrev pub AreRows : List ℕ → ObjectSet → LineMap → Type 0
+AreRows key objects lines = (id : ℕ) → finite.get lines id ≡ some_line (row_at key objects id)
+
+-- the key that is asked for, and what is kept of the objects
+pub record WaysRead : Type 0 where
+  pub key : List ℕ
+  pub objects : ObjectSet
+
+-- these are stored as the pair of their fields
+abbrev pub ways_code : Coded WaysRead
+ways_code =
+    code_by (List ℕ × ObjectSet) (coded× (coded_list coded_ℕ) (finite.code key.the_row.coded object.the_row.coded)) (λ own. (own.key, own.objects))
+    (λ pair. record { key = pair.0; objects = pair.1 }) (λ _. refl)
+
+-- no object yet
+abbrev pub no_ways : List ℕ → WaysRead
+no_ways key = record { key = key; objects = finite.empty }
+
+-- after one entry
+abbrev pub after_way : WaysRead → Entry → WaysRead
+after_way own next = record { key = own.key; objects = folded own.objects (kept_entry own.key next) }
+
+-- the lines of text are right, and nothing is kept before the first file
+pub record AreLines (key : List ℕ) (objects : ObjectSet) (lines : LineMap) (imported : Bool) : Type 0 where
+  pub rows : AreRows key objects lines
+  pub first : imported ≡ false → objects ≡ finite.empty
+
+-- ids among which that of each way of these objects is
+pub record HoldWays (objects : ObjectSet) (ways : List ℕ) : Type 0 where
+  pub ids : AllByRecursion IsId ways
+  pub others : (way : ℕ) → has ways way ≡ false → finite.get objects (way_key way) ≡ None

@@ -1,0 +1,151 @@
+//! Why a run ended early, with its status and its line of text.
+ghost use Rattle.std.specs.Prelude.{◌≡◌, IfOk, [], ◌∷◌};
+ghost use Rattle.updater.specs.Faults.{fault_text, kind_text, status_of};
+ghost use Rattle.updater.specs.Files.{fault_in};
+
+use object_fold::FileFault;
+use opl_object::Why;
+use osm_base::{Kind, LimitKind, OutOfMemory, Text};
+use std::alloc::Global;
+use std::error::Error;
+use std::fmt;
+
+/// Why a run did not do all that it was asked to. A file is told by the place of its word.
+#[derive(Clone, Copy, Debug, PartialEq, Eq)]
+pub enum Fault {
+    /// The words are no command.
+    Usage,
+    /// A line of a file is not in its form or not in its place.
+    Malformed { file: u32, line: u32, why: Why },
+    /// There is more of something than there may be.
+    Limit { which: LimitKind, value: u64 },
+    /// A file could not be read.
+    ReadFault { file: u32 },
+    /// The store is to be made on a disk that holds bytes.
+    NotEmpty,
+    /// The output took no more bytes.
+    WriteFault,
+    /// The disk of the store failed.
+    DiskFault,
+    /// There was no memory.
+    OutOfMemory,
+}
+
+impl Fault {
+    /// The fault of this file.
+    pub fn in_file(file: u32, fault: FileFault) -> Self
+        ensures fault { result ≡ fault_in file fault }
+    {
+        match fault {
+            FileFault::Malformed { line, why } => Fault::Malformed { file, line, why },
+            FileFault::Limit { which, value } => Fault::Limit { which, value },
+            FileFault::ReadFault => Fault::ReadFault { file },
+            FileFault::OutOfMemory => Fault::OutOfMemory,
+        }
+    }
+}
+
+/// The letter of a kind.
+fn kind_letter(kind: Kind) -> char
+    ensures letter { result ∷ [] ≡ kind_text kind }
+{
+    match kind {
+        Kind::Node => 'n',
+        Kind::Way => 'w',
+        Kind::Relation => 'r',
+    }
+}
+
+/// How a run ended.
+#[derive(Clone, Copy, Debug, PartialEq, Eq)]
+pub struct Outcome {
+    /// The status that the process ends with.
+    pub status: u8,
+    /// `None`: the run did all that it was asked to.
+    pub fault: Option<Fault>,
+}
+
+impl Outcome {
+    /// The outcome with this fault.
+    pub fn of(fault: Option<Fault>) -> Self
+        ensures status { result ≡ record { status = status_of fault; fault = fault } }
+    {
+        let status = match fault {
+            None => 0,
+            Some(Fault::Usage) => 2,
+            Some(Fault::Malformed { .. }) => 3,
+            Some(Fault::NotEmpty) => 6,
+            Some(Fault::ReadFault { .. }) => 7,
+            Some(Fault::WriteFault) => 8,
+            Some(Fault::DiskFault) => 9,
+            Some(Fault::Limit { .. }) => 10,
+            Some(Fault::OutOfMemory) => 11,
+        };
+        Self { status, fault }
+    }
+}
+
+/// The line that tells a fault, without a newline.
+pub fn fault_line(alloc: Global, fault: &Fault) -> Result<Text, OutOfMemory>
+    ensures line { IfOk result (λ line. line ≡ fault_text fault.now) }
+{
+    Ok(Text::from_string(fault.to_string(alloc)?))
+}
+
+impl fmt::Display for Fault {
+    ghost use Rattle.std.specs.Prelude.{Some};
+    ghost use Rattle.updater.specs.Faults.{fault_text};
+
+    ghost output = { λ fault. Some (fault_text fault) };
+
+    fn fmt<W: fmt::Write>(&self, f: &mut fmt::Formatter<W>) -> fmt::Result {
+        match self {
+            Fault::Usage => write!(f, "usage"),
+            Fault::Malformed { file, line, why } => match why {
+                Why::Order { earlier, later } => write!(
+                    f,
+                    "malformed file {file} line {line} cause {} {}{} {}{}",
+                    why.number(),
+                    kind_letter(earlier.kind),
+                    earlier.id,
+                    kind_letter(later.kind),
+                    later.id
+                ),
+                _ => write!(
+                    f,
+                    "malformed file {file} line {line} cause {}",
+                    why.number()
+                ),
+            },
+            Fault::Limit { which, value } => match which {
+                LimitKind::LineBytes => write!(f, "limit line-bytes value {value}"),
+                LimitKind::FileLines => write!(f, "limit file-lines value {value}"),
+                LimitKind::FileEntries => write!(f, "limit file-entries value {value}"),
+                LimitKind::StyleBytes => write!(f, "limit style-bytes value {value}"),
+                LimitKind::BoundsBytes => write!(f, "limit bounds-bytes value {value}"),
+                LimitKind::QueryBytes => write!(f, "limit query-bytes value {value}"),
+                LimitKind::Pages => write!(f, "limit pages value {value}"),
+                LimitKind::Pending => write!(f, "limit pending value {value}"),
+                LimitKind::Changes => write!(f, "limit changes value {value}"),
+            },
+            Fault::ReadFault { file } => write!(f, "read fault file {file}"),
+            Fault::NotEmpty => write!(f, "not empty"),
+            Fault::WriteFault => write!(f, "write fault"),
+            Fault::DiskFault => write!(f, "disk fault"),
+            Fault::OutOfMemory => write!(f, "out of memory"),
+        }
+    }
+}
+
+impl Error for Fault {}
+
+impl From<OutOfMemory> for Fault {
+    ghost use Rattle.std.specs.Prelude.{◌≡◌};
+    ghost use Rattle.updater.specs.declared.fault.Fault.TheVariants.{OutOfMemory};
+
+    ghost from_gives = { λ _ fault. fault ≡ OutOfMemory };
+
+    fn from(_: OutOfMemory) -> Self {
+        Fault::OutOfMemory
+    }
+}

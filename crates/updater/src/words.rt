@@ -1,0 +1,150 @@
+//! The words of the command line.
+ghost use Rattle.std.specs.Prelude.{◌≡◌, ◌≤◌, ◌+◌, ℕ, List, map, length, IfSome};
+ghost use Rattle.std.specs.List.{prefix_len};
+ghost use Rattle.std.specs.Option.{option_map};
+ghost use Rattle.std.specs.String.{string_bytes};
+ghost use Rattle.updater.specs.Command as spec;
+ghost use Rattle.updater.specs.declared.files.Files.{Files as FilesOf};
+
+use crate::files::Files;
+
+/// The most words that a command line may have, the command word counted.
+pub const MAX_WORDS: usize = 4_096;
+
+/// The most bytes that a KEY may have.
+pub const MAX_KEY: usize = 255;
+
+/// What the words of a command line ask for. A file is told by the place of its word.
+#[derive(Clone, Copy, Debug, PartialEq, Eq)]
+pub enum Command<'a> {
+    /// The nodes of the files that have the tag KEY and a place.
+    Points { key: &'a str, files: Files },
+    /// The ways of the files that have the tag KEY and a line.
+    Lines { key: &'a str, files: Files },
+    /// An empty store on an empty disk.
+    Init { store: &'a str },
+}
+
+/// The path of the store that the words of a command name.
+pub fn store_of(words: &[String]) -> Option<&str>
+    ensures store { option_map (λ store. store.now) result ≡ spec.store_of (spec.command (map string_bytes words.now)) }
+{
+    match command_of(words)? {
+        Command::Init { store } => Some(store),
+        Command::Points { .. } | Command::Lines { .. } => None,
+    }
+}
+
+/// The command that the words behind the program's name ask for.
+/// `None`: they are no command of this program.
+///
+/// The first word names the command. Words behind it that begin with letters a to z and `=` are
+/// its options, up to the first word that does not. One `--` in that place is dropped, so that a
+/// KEY may look like an option. The words that remain fill the command's form.
+#[tactic(auto, unfolding(crate::specs::Command::command))]
+pub fn command_of(words: &[String]) -> Option<Command<'_>>
+    ensures command { option_map spec.seen result ≡ spec.command (map string_bytes words.now) }
+    ensures fits { IfSome result (λ command. spec.FilesFit (spec.seen command)) }
+{
+    let (name, later) = words.split_first()?;
+    if words.len() > MAX_WORDS {
+        return None;
+    }
+    let (options, rest) = later.split_at(count_options(later));
+    let form = without_dashes(rest);
+    let place = (words.len() - form.len()) as u32;
+    row(name, options, form, place)
+}
+
+/// The command of this name with these words.
+fn row<'a>(name: &str, options: &[String], form: &'a [String], place: u32) -> Option<Command<'a>>
+    requires place { place ≤ MAX_WORDS }
+    requires form { length form.now ≤ MAX_WORDS }
+    ensures row { option_map spec.seen result
+        ≡ spec.row name.now (map string_bytes options.now) (map string_bytes form.now) place }
+    ensures fits { IfSome result (λ command. spec.FilesFit (spec.seen command)) }
+{
+    match name {
+        "points" => {
+            let (key, files) = keyed(options, form, place)?;
+            Some(Command::Points { key, files })
+        }
+        "lines" => {
+            let (key, files) = keyed(options, form, place)?;
+            Some(Command::Lines { key, files })
+        }
+        "init" => Some(Command::Init {
+            store: stored(options, form)?,
+        }),
+        _ => None,
+    }
+}
+
+/// How many options the words begin with.
+fn count_options(words: &[String]) -> usize
+    ensures count { result ≡ prefix_len (λ word. spec.is_option (string_bytes word)) words.now }
+    ensures within { result ≤ length words.now }
+{
+    words.iter().take_while(|word| is_option(word)).count()
+}
+
+/// Whether a word begins with one or more letters a to z and then `=`.
+fn is_option(word: &str) -> bool
+    ensures option { result ≡ spec.is_option word.now }
+{
+    let bytes = word.as_bytes();
+    let letters = count_letters(bytes);
+    0 < letters && bytes[letters..].starts_with(b"=")
+}
+
+/// How many letters a to z the bytes begin with.
+fn count_letters(bytes: &[u8]) -> usize
+    ensures count { result ≡ prefix_len spec.is_letter bytes.now }
+    ensures within { result ≤ length bytes.now }
+{
+    bytes
+        .iter()
+        .take_while(|byte| byte.is_ascii_lowercase())
+        .count()
+}
+
+/// The words without `--` at their front.
+fn without_dashes(words: &[String]) -> &[String]
+    ensures words { map string_bytes result.now ≡ spec.without_dashes (map string_bytes words.now) }
+    ensures fewer { length result.now ≤ length words.now }
+{
+    match words {
+        [dashes, form @ ..] if dashes.as_str() == "--" => form,
+        _ => words,
+    }
+}
+
+/// `STORE`.
+fn stored<'a>(options: &[String], form: &'a [String]) -> Option<&'a str>
+    ensures stored { option_map (λ store. spec.init_of store.now) result
+        ≡ spec.stored (map string_bytes options.now) (map string_bytes form.now) }
+{
+    match form {
+        [store] if options.is_empty() => Some(store.as_str()),
+        _ => None,
+    }
+}
+
+/// `KEY INPUT CHANGE*`, whose first word has this place.
+fn keyed<'a>(options: &[String], form: &'a [String], place: u32) -> Option<(&'a str, Files)>
+    requires place { place ≤ MAX_WORDS }
+    requires form { length form.now ≤ MAX_WORDS }
+    ensures keyed { (command : List ℕ → FilesOf → spec.CommandOf) → option_map (λ (key, files). command key.now files) result
+        ≡ spec.keyed command (map string_bytes options.now) (map string_bytes form.now) place }
+    ensures fits { IfSome result (λ (_, files). files.first + files.count ≤ 8192) }
+{
+    let (key, files) = form.split_first()?;
+    if !options.is_empty() || files.is_empty() || key.is_empty() || key.len() > MAX_KEY {
+        return None;
+    }
+    let files = Files {
+        first: place + 1,
+        count: files.len() as u32,
+    };
+    Some((key.as_str(), files))
+}
