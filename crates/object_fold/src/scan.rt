@@ -37,12 +37,12 @@ fn read_on<I: Inputs, K: Keeper>(
     ensures ready { OnOk result (IsReady limits.now progress.new) }
     ensures takes { OnOk result (TakesNext K.takes progress.new.passed.last keeper.new) }
     ensures bytes { IfOk result (λ more. ReadsOn K.after limits.now progress.old keeper.old progress.new keeper.new more
-        (I.left inputs.old file) (I.left inputs.new file)) }
+        ((I.view inputs.old).left file) ((I.view inputs.new).left file)) }
     ensures room { IfOk result (λ more. more ≡ true → room progress.new.reader < room progress.old.reader) }
-    ensures stopped { IfErr result (Stops (IsKeptFault K.after limits.now progress.old keeper.old (I.left inputs.old file))
-        (Rose (I.faults inputs.old) (I.faults inputs.new))) }
-    ensures later { I.faults inputs.old ≤ I.faults inputs.new }
-    ensures others { (other : ℕ) → other ≢ file → I.left inputs.new other ≡ I.left inputs.old other }
+    ensures stopped { IfErr result (Stops (IsKeptFault K.after limits.now progress.old keeper.old ((I.view inputs.old).left file))
+        (Rose (I.view inputs.old).faults (I.view inputs.new).faults)) }
+    ensures later { (I.view inputs.old).faults ≤ (I.view inputs.new).faults }
+    ensures others { (other : ℕ) → other ≢ file → (I.view inputs.new).left other ≡ (I.view inputs.old).left other }
 {
     let Ok(count) = inputs.next(file, buffer) else {
         return Err(FileFault::ReadFault);
@@ -63,10 +63,10 @@ pub fn scan_file<I: Inputs, K: Keeper>(
     keeper: &mut K,
 ) -> Result<(), FileFault>
     requires takes { TakesNext K.takes None keeper.old }
-    ensures ok { OnOk result (ReadsAll K.after limits.now keeper.old keeper.new (I.left inputs.old file) (I.left inputs.new file)) }
-    ensures stopped { IfErr result (Stops (IsFaultOf limits.now (I.left inputs.old file)) (Rose (I.faults inputs.old) (I.faults inputs.new))) }
-    ensures later { I.faults inputs.old ≤ I.faults inputs.new }
-    ensures others { (other : ℕ) → other ≢ file → I.left inputs.new other ≡ I.left inputs.old other }
+    ensures ok { OnOk result (ReadsAll K.after limits.now keeper.old keeper.new ((I.view inputs.old).left file) ((I.view inputs.new).left file)) }
+    ensures stopped { IfErr result (Stops (IsFaultOf limits.now ((I.view inputs.old).left file)) (Rose (I.view inputs.old).faults (I.view inputs.new).faults)) }
+    ensures later { (I.view inputs.old).faults ≤ (I.view inputs.new).faults }
+    ensures others { (other : ℕ) → other ≢ file → (I.view inputs.new).left other ≡ (I.view inputs.old).left other }
 {
     let mut buffer = piece_buffer(alloc)?;
     let mut progress = Progress::new(alloc, limits);
@@ -89,10 +89,10 @@ pub fn read_file<I: Inputs>(
     file: u32,
     limits: &Limits,
 ) -> Result<Change, FileFault>
-    ensures ok { IfOk result (λ change. HasEntries limits.now change (I.left inputs.old file) (I.left inputs.new file)) }
-    ensures stopped { IfErr result (Stops (IsFaultOf limits.now (I.left inputs.old file)) (Rose (I.faults inputs.old) (I.faults inputs.new))) }
-    ensures later { I.faults inputs.old ≤ I.faults inputs.new }
-    ensures others { (other : ℕ) → other ≢ file → I.left inputs.new other ≡ I.left inputs.old other }
+    ensures ok { IfOk result (λ change. HasEntries limits.now change ((I.view inputs.old).left file) ((I.view inputs.new).left file)) }
+    ensures stopped { IfErr result (Stops (IsFaultOf limits.now ((I.view inputs.old).left file)) (Rose (I.view inputs.old).faults (I.view inputs.new).faults)) }
+    ensures later { (I.view inputs.old).faults ≤ (I.view inputs.new).faults }
+    ensures others { (other : ℕ) → other ≢ file → (I.view inputs.new).left other ≡ (I.view inputs.old).left other }
 {
     let mut change = Change::new(alloc);
     scan_file(alloc, inputs, file, limits, &mut change)?;

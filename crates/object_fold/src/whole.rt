@@ -48,11 +48,11 @@ fn add_piece<I: Inputs>(
     requires some { 0 < length buffer.old }
     requires within { length bytes.old.items ≤ max }
     ensures within { OnOk result (length bytes.new.items ≤ max) }
-    ensures bytes { IfOk result (λ more. MovesBytes bytes.old.items bytes.new.items more (I.left inputs.old file) (I.left inputs.new file)) }
+    ensures bytes { IfOk result (λ more. MovesBytes bytes.old.items bytes.new.items more ((I.view inputs.old).left file) ((I.view inputs.new).left file)) }
     ensures grows { IfOk result (λ more. more ≡ true → length bytes.old.items < length bytes.new.items) }
-    ensures stopped { IfErr result (StopsWhole (IsOver max (length bytes.old.items) (I.left inputs.old file)) (Rose (I.faults inputs.old) (I.faults inputs.new))) }
-    ensures later { I.faults inputs.old ≤ I.faults inputs.new }
-    ensures others { (other : ℕ) → other ≢ file → I.left inputs.new other ≡ I.left inputs.old other }
+    ensures stopped { IfErr result (StopsWhole (IsOver max (length bytes.old.items) ((I.view inputs.old).left file)) (Rose (I.view inputs.old).faults (I.view inputs.new).faults)) }
+    ensures later { (I.view inputs.old).faults ≤ (I.view inputs.new).faults }
+    ensures others { (other : ℕ) → other ≢ file → (I.view inputs.new).left other ≡ (I.view inputs.old).left other }
 {
     let Ok(count) = inputs.next(file, buffer) else {
         return Err(WholeFault::ReadFault);
@@ -74,11 +74,11 @@ pub fn read_all<I: Inputs>(
     file: u32,
     max: u64,
 ) -> Result<Bytes, WholeFault>
-    ensures whole { IfOk result (λ bytes. IsWhole bytes (I.left inputs.old file) (I.left inputs.new file)) }
+    ensures whole { IfOk result (λ bytes. IsWhole bytes ((I.view inputs.old).left file) ((I.view inputs.new).left file)) }
     ensures within { IfOk result (λ bytes. length bytes ≤ max) }
-    ensures stopped { IfErr result (StopsWhole (IsOver max 0 (I.left inputs.old file)) (Rose (I.faults inputs.old) (I.faults inputs.new))) }
-    ensures later { I.faults inputs.old ≤ I.faults inputs.new }
-    ensures others { (other : ℕ) → other ≢ file → I.left inputs.new other ≡ I.left inputs.old other }
+    ensures stopped { IfErr result (StopsWhole (IsOver max 0 ((I.view inputs.old).left file)) (Rose (I.view inputs.old).faults (I.view inputs.new).faults)) }
+    ensures later { (I.view inputs.old).faults ≤ (I.view inputs.new).faults }
+    ensures others { (other : ℕ) → other ≢ file → (I.view inputs.new).left other ≡ (I.view inputs.old).left other }
 {
     let mut buffer = piece_buffer(alloc)?;
     let mut bytes = Vec::new(alloc);

@@ -15,9 +15,9 @@ const LONGEST: usize = 8;
 
 /// Puts a text: what may stand as it is in one piece up to the next escape.
 pub(crate) fn put_text<S: Sink>(out: &mut S, text: &str) -> Result<(), Failed>
-    ensures ok { OnOk result (Appends (S.taken out.old) (S.taken out.new) (written_text (chars text.now))) }
-    ensures err { OnErr result (AppendsPrefix (S.taken out.old) (S.taken out.new) (written_text (chars text.now))) }
-    ensures cause { HasCause (S.faults out.old) (S.faults out.new) result }
+    ensures ok { OnOk result (Appends (S.view out.old).taken (S.view out.new).taken (written_text (chars text.now))) }
+    ensures err { OnErr result (AppendsPrefix (S.view out.old).taken (S.view out.new).taken (written_text (chars text.now))) }
+    ensures cause { HasCause (S.view out.old).faults (S.view out.new).faults result }
     ensures text { IsText (chars text.now) }
 {
     let mut rest = text;
@@ -77,9 +77,9 @@ fn first_char(text: &str) -> Option<(char, &str)>
 
 /// Puts the escape of a character.
 fn put_escape<S: Sink>(out: &mut S, code: char) -> Result<(), Failed>
-    ensures ok { OnOk result (Appends (S.taken out.old) (S.taken out.new) (escape_text code)) }
-    ensures err { OnErr result (AppendsPrefix (S.taken out.old) (S.taken out.new) (escape_text code)) }
-    ensures cause { HasCause (S.faults out.old) (S.faults out.new) result }
+    ensures ok { OnOk result (Appends (S.view out.old).taken (S.view out.new).taken (escape_text code)) }
+    ensures err { OnErr result (AppendsPrefix (S.view out.old).taken (S.view out.new).taken (escape_text code)) }
+    ensures cause { HasCause (S.view out.old).faults (S.view out.new).faults result }
 {
     let mut text = [0; LONGEST];
     let start = write_escape(u32::from(code), &mut text);

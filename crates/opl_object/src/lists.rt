@@ -16,9 +16,9 @@ use outside::{Failed, Sink, put_all};
 
 /// Puts the letter of a kind and an id.
 pub(crate) fn put_key<S: Sink>(out: &mut S, key: Key) -> Result<(), Failed>
-    ensures ok { OnOk result (Appends (S.taken out.old) (S.taken out.new) (key_text key)) }
-    ensures err { OnErr result (AppendsPrefix (S.taken out.old) (S.taken out.new) (key_text key)) }
-    ensures cause { HasCause (S.faults out.old) (S.faults out.new) result }
+    ensures ok { OnOk result (Appends (S.view out.old).taken (S.view out.new).taken (key_text key)) }
+    ensures err { OnErr result (AppendsPrefix (S.view out.old).taken (S.view out.new).taken (key_text key)) }
+    ensures cause { HasCause (S.view out.old).faults (S.view out.new).faults result }
     ensures id { IsId key.id }
 {
     let letter = [kind_byte(key.kind)];
@@ -41,9 +41,9 @@ fn kind_byte(kind: Kind) -> u8
 
 /// Puts a comma, but not before the first item.
 fn put_comma<S: Sink>(out: &mut S, index: usize) -> Result<(), Failed>
-    ensures ok { OnOk result (Appends (S.taken out.old) (S.taken out.new) (comma_before index)) }
-    ensures err { OnErr result (AppendsPrefix (S.taken out.old) (S.taken out.new) (comma_before index)) }
-    ensures cause { HasCause (S.faults out.old) (S.faults out.new) result }
+    ensures ok { OnOk result (Appends (S.view out.old).taken (S.view out.new).taken (comma_before index)) }
+    ensures err { OnErr result (AppendsPrefix (S.view out.old).taken (S.view out.new).taken (comma_before index)) }
+    ensures cause { HasCause (S.view out.old).faults (S.view out.new).faults result }
 {
     if index == 0 {
         return Ok(());
@@ -54,9 +54,9 @@ fn put_comma<S: Sink>(out: &mut S, index: usize) -> Result<(), Failed>
 
 /// Puts a key and its value.
 fn put_tag<S: Sink>(out: &mut S, key: &str, value: &str) -> Result<(), Failed>
-    ensures ok { OnOk result (Appends (S.taken out.old) (S.taken out.new) (tag_text (chars key.now, chars value.now))) }
-    ensures err { OnErr result (AppendsPrefix (S.taken out.old) (S.taken out.new) (tag_text (chars key.now, chars value.now))) }
-    ensures cause { HasCause (S.faults out.old) (S.faults out.new) result }
+    ensures ok { OnOk result (Appends (S.view out.old).taken (S.view out.new).taken (tag_text (chars key.now, chars value.now))) }
+    ensures err { OnErr result (AppendsPrefix (S.view out.old).taken (S.view out.new).taken (tag_text (chars key.now, chars value.now))) }
+    ensures cause { HasCause (S.view out.old).faults (S.view out.new).faults result }
     ensures texts { OnOk result (OfTag IsText (chars key.now, chars value.now)) }
 {
     put_text(out, key)?;
@@ -67,9 +67,9 @@ fn put_tag<S: Sink>(out: &mut S, key: &str, value: &str) -> Result<(), Failed>
 
 /// Puts tags.
 pub(crate) fn put_tags<S: Sink>(out: &mut S, tags: &Tags) -> Result<(), Failed>
-    ensures ok { OnOk result (Appends (S.taken out.old) (S.taken out.new) (tags_text tags.now)) }
-    ensures err { OnErr result (AppendsPrefix (S.taken out.old) (S.taken out.new) (tags_text tags.now)) }
-    ensures cause { HasCause (S.faults out.old) (S.faults out.new) result }
+    ensures ok { OnOk result (Appends (S.view out.old).taken (S.view out.new).taken (tags_text tags.now)) }
+    ensures err { OnErr result (AppendsPrefix (S.view out.old).taken (S.view out.new).taken (tags_text tags.now)) }
+    ensures cause { HasCause (S.view out.old).faults (S.view out.new).faults result }
     ensures texts { OnOk result (OfTags IsText tags.now) }
 {
     for index in 0..tags.len() {
@@ -83,9 +83,9 @@ pub(crate) fn put_tags<S: Sink>(out: &mut S, tags: &Tags) -> Result<(), Failed>
 /// Puts node references.
 pub(crate) fn put_nodes<S: Sink>(out: &mut S, nodes: &[u64]) -> Result<(), Failed>
     requires { AllByRecursion IsId nodes.now }
-    ensures ok { OnOk result (Appends (S.taken out.old) (S.taken out.new) (nodes_text nodes.now)) }
-    ensures err { OnErr result (AppendsPrefix (S.taken out.old) (S.taken out.new) (nodes_text nodes.now)) }
-    ensures cause { HasCause (S.faults out.old) (S.faults out.new) result }
+    ensures ok { OnOk result (Appends (S.view out.old).taken (S.view out.new).taken (nodes_text nodes.now)) }
+    ensures err { OnErr result (AppendsPrefix (S.view out.old).taken (S.view out.new).taken (nodes_text nodes.now)) }
+    ensures cause { HasCause (S.view out.old).faults (S.view out.new).faults result }
 {
     for (index, &id) in nodes.iter().enumerate() {
         put_comma(out, index)?;
@@ -96,9 +96,9 @@ pub(crate) fn put_nodes<S: Sink>(out: &mut S, nodes: &[u64]) -> Result<(), Faile
 
 /// Puts a member.
 fn put_member<S: Sink>(out: &mut S, member: &Member) -> Result<(), Failed>
-    ensures ok { OnOk result (Appends (S.taken out.old) (S.taken out.new) (member_text member.now)) }
-    ensures err { OnErr result (AppendsPrefix (S.taken out.old) (S.taken out.new) (member_text member.now)) }
-    ensures cause { HasCause (S.faults out.old) (S.faults out.new) result }
+    ensures ok { OnOk result (Appends (S.view out.old).taken (S.view out.new).taken (member_text member.now)) }
+    ensures err { OnErr result (AppendsPrefix (S.view out.old).taken (S.view out.new).taken (member_text member.now)) }
+    ensures cause { HasCause (S.view out.old).faults (S.view out.new).faults result }
     ensures member { OnOk result (IsMember member.now) }
 {
     put_key(out, member.key)?;
@@ -109,9 +109,9 @@ fn put_member<S: Sink>(out: &mut S, member: &Member) -> Result<(), Failed>
 
 /// Puts members.
 pub(crate) fn put_members<S: Sink>(out: &mut S, members: &[Member]) -> Result<(), Failed>
-    ensures ok { OnOk result (Appends (S.taken out.old) (S.taken out.new) (members_text members.now)) }
-    ensures err { OnErr result (AppendsPrefix (S.taken out.old) (S.taken out.new) (members_text members.now)) }
-    ensures cause { HasCause (S.faults out.old) (S.faults out.new) result }
+    ensures ok { OnOk result (Appends (S.view out.old).taken (S.view out.new).taken (members_text members.now)) }
+    ensures err { OnErr result (AppendsPrefix (S.view out.old).taken (S.view out.new).taken (members_text members.now)) }
+    ensures cause { HasCause (S.view out.old).faults (S.view out.new).faults result }
     ensures members { OnOk result (AllByRecursion IsMember members.now) }
 {
     for (index, member) in members.iter().enumerate() {

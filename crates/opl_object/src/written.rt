@@ -16,9 +16,9 @@ use outside::{Failed, Sink, put_all};
 /// some front of it.
 pub fn write_entry<S: Sink>(entry: &Entry, out: &mut S) -> Result<(), Failed>
     requires { IsWritable entry.now }
-    ensures ok { OnOk result (Appends (S.taken out.old) (S.taken out.new) (entry_text entry.now)) }
-    ensures err { OnErr result (AppendsPrefix (S.taken out.old) (S.taken out.new) (entry_text entry.now)) }
-    ensures cause { HasCause (S.faults out.old) (S.faults out.new) result }
+    ensures ok { OnOk result (Appends (S.view out.old).taken (S.view out.new).taken (entry_text entry.now)) }
+    ensures err { OnErr result (AppendsPrefix (S.view out.old).taken (S.view out.new).taken (entry_text entry.now)) }
+    ensures cause { HasCause (S.view out.old).faults (S.view out.new).faults result }
 
     // What was written, without its newline, spells the entry.
     ensures spelled { OnOk result (Spells (line_text entry.now) entry.now) }
@@ -32,9 +32,9 @@ pub fn write_entry<S: Sink>(entry: &Entry, out: &mut S) -> Result<(), Failed>
 /// Puts the fields of an object, or that it is deleted.
 fn put_fields<S: Sink>(out: &mut S, object: &Option<Object>) -> Result<(), Failed>
     requires { IfSome object.now HasIds }
-    ensures ok { OnOk result (Appends (S.taken out.old) (S.taken out.new) (fields_text object.now)) }
-    ensures err { OnErr result (AppendsPrefix (S.taken out.old) (S.taken out.new) (fields_text object.now)) }
-    ensures cause { HasCause (S.faults out.old) (S.faults out.new) result }
+    ensures ok { OnOk result (Appends (S.view out.old).taken (S.view out.new).taken (fields_text object.now)) }
+    ensures err { OnErr result (AppendsPrefix (S.view out.old).taken (S.view out.new).taken (fields_text object.now)) }
+    ensures cause { HasCause (S.view out.old).faults (S.view out.new).faults result }
     ensures sound { OnOk result (IfSome object.now IsSound) }
 {
     match object {
@@ -47,9 +47,9 @@ fn put_fields<S: Sink>(out: &mut S, object: &Option<Object>) -> Result<(), Faile
 /// Puts the fields of an object.
 fn put_object<S: Sink>(out: &mut S, object: &Object) -> Result<(), Failed>
     requires { HasIds object.now }
-    ensures ok { OnOk result (Appends (S.taken out.old) (S.taken out.new) (object_text object.now)) }
-    ensures err { OnErr result (AppendsPrefix (S.taken out.old) (S.taken out.new) (object_text object.now)) }
-    ensures cause { HasCause (S.faults out.old) (S.faults out.new) result }
+    ensures ok { OnOk result (Appends (S.view out.old).taken (S.view out.new).taken (object_text object.now)) }
+    ensures err { OnErr result (AppendsPrefix (S.view out.old).taken (S.view out.new).taken (object_text object.now)) }
+    ensures cause { HasCause (S.view out.old).faults (S.view out.new).faults result }
     ensures sound { OnOk result (IsSound object.now) }
 {
     put_all(out, b" T")?;
@@ -76,9 +76,9 @@ fn put_object<S: Sink>(out: &mut S, object: &Object) -> Result<(), Failed>
 
 /// Puts a longitude and a latitude, or their letters alone.
 fn put_place<S: Sink>(out: &mut S, place: Option<Place>) -> Result<(), Failed>
-    ensures ok { OnOk result (Appends (S.taken out.old) (S.taken out.new) (place_text place)) }
-    ensures err { OnErr result (AppendsPrefix (S.taken out.old) (S.taken out.new) (place_text place)) }
-    ensures cause { HasCause (S.faults out.old) (S.faults out.new) result }
+    ensures ok { OnOk result (Appends (S.view out.old).taken (S.view out.new).taken (place_text place)) }
+    ensures err { OnErr result (AppendsPrefix (S.view out.old).taken (S.view out.new).taken (place_text place)) }
+    ensures cause { HasCause (S.view out.old).faults (S.view out.new).faults result }
     ensures earth { OnOk result (IfSome place (λ place. IsOnEarth place.lon place.lat)) }
 {
     let Some(place) = place else {
@@ -92,9 +92,9 @@ fn put_place<S: Sink>(out: &mut S, place: Option<Place>) -> Result<(), Failed>
 
 /// Puts a letter and a coordinate.
 fn put_degrees<S: Sink>(out: &mut S, letter: &[u8], units: i32) -> Result<(), Failed>
-    ensures ok { OnOk result (Appends (S.taken out.old) (S.taken out.new) (letter.now ++ degrees units)) }
-    ensures err { OnErr result (AppendsPrefix (S.taken out.old) (S.taken out.new) (letter.now ++ degrees units)) }
-    ensures cause { HasCause (S.faults out.old) (S.faults out.new) result }
+    ensures ok { OnOk result (Appends (S.view out.old).taken (S.view out.new).taken (letter.now ++ degrees units)) }
+    ensures err { OnErr result (AppendsPrefix (S.view out.old).taken (S.view out.new).taken (letter.now ++ degrees units)) }
+    ensures cause { HasCause (S.view out.old).faults (S.view out.new).faults result }
 {
     let mut text = DegreesBuffer::new();
     put_all(out, letter)?;

@@ -1,6 +1,14 @@
 -- What a call does to the bytes that an object tells, beside the words of `Rattle.std.specs.Io.KnownBytes`.
 use Rattle.std.specs.Prelude.{◌≡◌, List, ℕ, ◌++◌, Option, Some, None, ⊤}
 
+-- where bytes are told, this holds of them
+abbrev pub IfTold : Option (List ℕ) → (List ℕ → Type 0) → Type 0
+IfTold told P = (bytes : List ℕ) → told ≡ Some bytes → P bytes
+
+-- bytes are told
+abbrev pub IsTold : Option (List ℕ) → Type 0
+IsTold told = (bytes : List ℕ) × (told ≡ Some bytes)
+
 -- where bytes are told before, bytes are told after, and this holds of the two
 abbrev pub BothKnown : Option (List ℕ) → Option (List ℕ) → (List ℕ → List ℕ → Type 0) → Type 0
 BothKnown None after P = ⊤

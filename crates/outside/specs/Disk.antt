@@ -51,6 +51,10 @@ NoneNew old new = (left : List ℕ) → new.outcomes left → old.outcomes left
 abbrev pub Only : List ℕ → Crashes → Type 0
 Only content crashes = (left : List ℕ) → crashes.outcomes left → left ≡ content
 
+-- each outcome of a crash now is such a content
+abbrev pub Within : (List ℕ → Type 0) → Crashes → Type 0
+Within P crashes = (left : List ℕ) → crashes.outcomes left → P left
+
 -- time goes on: a crash since a moment might have left what it might have left before, or what it may leave now
 pub record Elapses (old new : Crashes) : Type 0 where
   pub later : old.moment ≤ new.moment
@@ -58,6 +62,18 @@ pub record Elapses (old new : Crashes) : Type 0 where
       → old.outcomes_since since left ⊎ new.outcomes left
   pub keeps : (since : ℕ) (left : List ℕ) → since ≤ old.moment → old.outcomes_since since left
       → new.outcomes_since since left
+
+-- time went on, and each outcome of a crash at a moment since then is one from before or such a content
+pub record Goes (P : List ℕ → Type 0) (old new : Crashes) : Type 0 where
+  pub later : old.moment ≤ new.moment
+  pub each : (since : ℕ) (left : List ℕ) → since ≤ old.moment → new.outcomes_since since left
+      → old.outcomes_since since left ⊎ P left
+  pub now : Within P new
+
+-- only looks were made: what a read gives is as before, and no crash leaves anything new
+pub record Stays (old new : DiskView) : Type 0 where
+  pub content : new.content ≡ old.content
+  pub runs : Goes old.crashes.outcomes old.crashes new.crashes
 
 -- so many bytes of a content from here on stand at the front of the buffer, whose rest is as it was
 pub record ReadsFrom (at count : ℕ) (content old new : List ℕ) : Type 0 where

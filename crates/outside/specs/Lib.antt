@@ -5,10 +5,12 @@ pub mod CrashPick
 pub mod Disk
 pub mod Fails
 pub mod FileDisk
+pub mod Inputs
 pub mod MemDisk
 pub mod MemInputs
 pub mod MemSink
 pub mod Recorded
 pub mod RecordedView
+pub mod Sink
 pub mod StdSink
 pub mod Tape

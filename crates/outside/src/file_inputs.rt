@@ -93,9 +93,7 @@ impl<R: Files + Drop + Send> Inputs for FileInputs<'_, R>
 where
     R::File: Send,
 {
-    ghost left = { λ _ _. None };
-
-    ghost faults = { λ faults. faults };
+    ghost view = { λ faults. record { left = λ _. None; faults = faults } };
 
     fn next(&mut self, file: u32, buf: &mut [u8]) -> Result<usize, Failed> {
         self.read(file, buf)

@@ -39,9 +39,7 @@ impl MemInputs {
 }
 
 impl Inputs for MemInputs {
-    ghost left = { λ inputs file. slice_get inputs.left file };
-
-    ghost faults = { λ inputs. inputs.calls.failed };
+    ghost view = { λ inputs. record { left = λ file. slice_get inputs.left file; faults = inputs.calls.failed } };
 
     fn next(&mut self, file: u32, buf: &mut [u8]) -> Result<usize, Failed>
         requires { 0 < length buf.old }

@@ -54,9 +54,7 @@ impl MemSink {
 }
 
 impl Sink for MemSink {
-    ghost taken = { λ sink. Some sink.taken };
-
-    ghost faults = { λ sink. sink.calls.failed };
+    ghost view = { λ sink. record { taken = Some sink.taken; faults = sink.calls.failed } };
 
     fn put(&mut self, piece: &[u8]) -> Result<usize, Failed>
         requires { 0 < length piece.now }

@@ -35,9 +35,7 @@ impl<W: Write> StdSink<W> {
 }
 
 impl<W: Write + Drop + Send> Sink for StdSink<W> {
-    ghost taken = { λ _. None };
-
-    ghost faults = { λ sink. sink.faults };
+    ghost view = { λ sink. record { taken = None; faults = sink.faults } };
 
     fn put(&mut self, piece: &[u8]) -> Result<usize, Failed>
         requires { 0 < length piece.now }

@@ -1,9 +1,9 @@
 -- A journal that a crash has left open is copied home, and its gate is shut.
 use Rattle.std.proofs.Common.{◌≡◌, ◌≢◌, inl, inr, ⊎_elim, Err, ℕ, zero, suc, ◌+◌, ◌-◌, ◌*◌, ◌<◌, ◌≤◌, ◌⊎◌, List, [], length, min, slice_index_or, sym, ap, ◌∙◌, subst, arith}
 use Rattle.std.proofs.lemmas.Bool.{cases_eq, cases_lt}
-use Rattle.outside.specs.Disk.{Crashes, Only}
+use Rattle.outside.specs.Disk.{Crashes, Only, Within, Goes}
 use Rattle.page_journal.specs.Answers.{CanFinish, SaysHome, Counts, Opens}
-use Rattle.page_journal.specs.Crash.{Spares, Within, Goes, AllHome, IsLikeOne, BesideGate, BesidePages}
+use Rattle.page_journal.specs.Crash.{Spares, AllHome, IsLikeOne, BesideGate, BesidePages}
 use Rattle.page_journal.specs.Home.{IsFormatted, AreRising, IsWellFormed, IsHomePage, Home}
 use Rattle.page_journal.specs.Pages.{number, page_from, gate, first_page, page_count, number_pages, entry, body_at}
 use Rattle.page_journal.specs.PageSet.{up_to}

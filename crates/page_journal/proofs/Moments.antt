@@ -1,7 +1,7 @@
 -- How a run of disk calls goes on.
 use Rattle.std.proofs.Common.{◌≡◌, inl, inr, ⊎_elim, ℕ, List, Option, Some, option_map, ap, ◌∙◌, arith}
-use Rattle.outside.specs.Disk.{Crashes, DiskView, Elapses, NoneNew}
-use Rattle.page_journal.specs.Crash.{Goes, IsSettled, Stays, Within}
+use Rattle.outside.specs.Disk.{Crashes, DiskView, Elapses, NoneNew, Goes, Stays, Within}
+use Rattle.page_journal.specs.Crash.{IsSettled}
 
 -- before the first call
 pub started : (P : List ℕ → Type 0) (old : Crashes) → Within P old → Goes P old old

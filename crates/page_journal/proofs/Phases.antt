@@ -1,8 +1,8 @@
 -- The four parts of a commit: the journal, its gate opened, the pages copied home, the gate shut.
 use Rattle.std.proofs.Common.{◌≡◌, ◌≢◌, inl, inr, ℕ, ◌+◌, ◌*◌, ◌<◌, ◌≤◌, ◌⊎◌, List, length, sym, ap, ◌∙◌, arith}
 use Rattle.std.proofs.lemmas.Bool.{cases_eq}
-use Rattle.outside.specs.Disk.{Crashes, DiskView, Only, Tells}
-use Rattle.page_journal.specs.Crash.{Spares, Within, Goes, IsSettled, BesideGate, BesideJournal, BesidePages}
+use Rattle.outside.specs.Disk.{Crashes, DiskView, Only, Tells, Within, Goes}
+use Rattle.page_journal.specs.Crash.{Spares, IsSettled, BesideGate, BesideJournal, BesidePages}
 use Rattle.page_journal.specs.Home.{IsFormatted, Home}
 use Rattle.page_journal.specs.Pages.{page_from, gate, number_pages}
 use Rattle.page_journal.specs.PageSet.{number_at, page_at}

@@ -1,8 +1,8 @@
 -- The places that a run of writes spares.
 use Rattle.std.proofs.Common.{◌≡◌, inl, inr, ℕ, ◌+◌, ◌<◌, ◌≤◌, ◌⊎◌, List, length, get_or, sym, ◌∙◌, subst, arith}
-use Rattle.outside.specs.Disk.{Crashes, Elapses, Follows, Only, Torn, overlaid}
+use Rattle.outside.specs.Disk.{Crashes, Elapses, Follows, Only, Torn, overlaid, Goes, Within}
 use Rattle.outside.proofs.Overlay.{length-overlaid, overlaid-beside}
-use Rattle.page_journal.specs.Crash.{Goes, Within, Spares}
+use Rattle.page_journal.specs.Crash.{Spares}
 use Rattle.page_journal.specs.Pages.{number, page_from}
 use Rattle.page_journal.proofs.Bytes.{number_same, page_same}
 use Rattle.page_journal.proofs.Moments.{goes_on}

@@ -5,17 +5,6 @@ use Rattle.page_journal.specs.Home.{Home}
 use Rattle.page_journal.specs.Pages.{gate}
 use Rattle.page_journal.specs.declared.layout.TheConstants.{OPEN, FIRST_AT, FIELDS_END, GATE_AT}
 
--- each outcome of a crash now is such a content
-abbrev pub Within : (List ℕ → Type 0) → Crashes → Type 0
-Within P crashes = (left : List ℕ) → crashes.outcomes left → P left
-
--- time went on, and each outcome of a crash at a moment since then is one from before or such a content
-pub record Goes (P : List ℕ → Type 0) (old new : Crashes) : Type 0 where
-  pub later : old.moment ≤ new.moment
-  pub each : (since : ℕ) (left : List ℕ) → since ≤ old.moment → new.outcomes_since since left
-      → old.outcomes_since since left ⊎ P left
-  pub now : Within P new
-
 -- the new content has the old one's bytes at these places
 pub record Spares (K : ℕ → Type 0) (old new : List ℕ) : Type 0 where
   pub no_shorter : length old ≤ length new
@@ -40,11 +29,6 @@ BesideGate i = i ≢ GATE_AT
 -- the places outside of these pages
 abbrev pub BesidePages : ℕ → (ℕ → ℕ) → ℕ → Type 0
 BesidePages count numbers i = (place : ℕ) → place < count → (i < 4096 * numbers place) ⊎ (4096 * numbers place + 4096 ≤ i)
-
--- only looks were made: what a read gives is as before, and no crash leaves anything new
-pub record Stays (old new : DiskView) : Type 0 where
-  pub content : new.content ≡ old.content
-  pub runs : Goes old.crashes.outcomes old.crashes new.crashes
 
 -- each outcome of a crash has home pages
 abbrev pub AllHome : Crashes → Type 0

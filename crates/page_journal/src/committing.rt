@@ -1,8 +1,8 @@
 //! The writes of a commit.
 ghost use Rattle.std.specs.Prelude.{◌≡◌, ◌⊎◌, ◌+◌, ◌*◌, ◌^◌, ◌<◌, ◌≤◌, List, ℕ, length, OnOk};
 ghost use Rattle.outside.specs.Causes.{HasCause};
-ghost use Rattle.outside.specs.Disk.{Only, Tells};
-ghost use Rattle.page_journal.specs.Crash.{BesideJournal, Goes, IsSettled, Spares, Within};
+ghost use Rattle.outside.specs.Disk.{Only, Tells, Goes, Within};
+ghost use Rattle.page_journal.specs.Crash.{BesideJournal, IsSettled, Spares};
 ghost use Rattle.page_journal.specs.Home.{Home};
 ghost use Rattle.page_journal.specs.PageSet.{number_at, page_at, plain};
 ghost use Rattle.page_journal.specs.Pages.{number_pages};

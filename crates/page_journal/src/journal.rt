@@ -1,9 +1,9 @@
 //! The home pages of an open store.
 ghost use Rattle.std.specs.Prelude.{◌≡◌, ◌⊎◌, ◌+◌, ◌*◌, ◌^◌, ◌<◌, ◌≤◌, ◌||◌, List, ℕ, false, length, option_map, is_ok, MatchResult, Ok, Err, IfOk, OnOk, IsErr, if◌then◌else◌};
 ghost use Rattle.outside.specs.Calls.{one_more};
-ghost use Rattle.outside.specs.Disk.{Tells};
+ghost use Rattle.outside.specs.Disk.{Tells, Goes, Stays};
 ghost use Rattle.page_journal.specs.Answers.{Commits, HasDiskCause, IsOpenAnswer, Opens, Reads, ReadsFrom, answers_disk_fault};
-ghost use Rattle.page_journal.specs.Crash.{AllHome, Goes, IsLikeOne, IsSettled, Stays};
+ghost use Rattle.page_journal.specs.Crash.{AllHome, IsLikeOne, IsSettled};
 ghost use Rattle.page_journal.specs.Home.{Home};
 ghost use Rattle.page_journal.specs.PageSet.{CanCommit, overwritten};
 ghost use Rattle.page_journal.specs.Pages.{page_from};

@@ -1,8 +1,8 @@
 //! The numbers of the pages in a journal, which are written a page at a time.
 ghost use Rattle.std.specs.Prelude.{◌≡◌, ◌≢◌, ◌+◌, ◌*◌, ◌^◌, ◌<◌, ◌≤◌, List, ℕ, length, option_map, OnOk, EachIndex, slice_index};
 ghost use Rattle.outside.specs.Causes.{HasCause};
-ghost use Rattle.outside.specs.Disk.{Tells, overlaid};
-ghost use Rattle.page_journal.specs.Crash.{BesideJournal, Goes, Spares, Within};
+ghost use Rattle.outside.specs.Disk.{Tells, overlaid, Goes, Within};
+ghost use Rattle.page_journal.specs.Crash.{BesideJournal, Spares};
 ghost use Rattle.page_journal.specs.PageSet.{number_at, plain};
 ghost use Rattle.page_journal.specs.Pages.{number};
 ghost use Rattle.page_journal.specs.Written.{NumbersHeld, NumbersPut};

@@ -1,9 +1,9 @@
 //! A store is opened: a journal that a crash has left open is finished.
 ghost use Rattle.std.specs.Prelude.{◌≡◌, ◌≢◌, ◌⊎◌, ◌↔◌, ◌+◌, ◌*◌, ◌^◌, ◌<◌, ◌≤◌, List, ℕ, length, IfOk, IfSome, OnOk, IsErrOf, IsTrue};
 ghost use Rattle.outside.specs.Causes.{HasCause};
-ghost use Rattle.outside.specs.Disk.{Elapses, Follows, Only, Tells, Torn, overlaid};
+ghost use Rattle.outside.specs.Disk.{Elapses, Follows, Only, Tells, Torn, overlaid, Goes, Stays, Within};
 ghost use Rattle.page_journal.specs.Answers.{Counts, Finishes, HasDiskCause, IsOpenAnswer, Looks, Opens, Prepares};
-ghost use Rattle.page_journal.specs.Crash.{AllHome, BesidePages, Goes, IsLikeOne, IsSettled, Spares, Stays, Within};
+ghost use Rattle.page_journal.specs.Crash.{AllHome, BesidePages, IsLikeOne, IsSettled, Spares};
 ghost use Rattle.page_journal.specs.Home.{AreRising, Home, IsFormatted, IsWellFormed};
 ghost use Rattle.page_journal.specs.Pages.{body_at, entry, first_page, gate, number_pages, page_count, page_from};
 ghost use Rattle.page_journal.specs.Written.{Finished, HomePut};

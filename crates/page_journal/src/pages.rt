@@ -1,8 +1,8 @@
 //! The parts of a commit that write pages, fields and the gate.
 ghost use Rattle.std.specs.Prelude.{◌≡◌, ◌≢◌, ◌+◌, ◌*◌, ◌^◌, ◌<◌, ◌≤◌, List, ℕ, length, option_map, OnOk};
 ghost use Rattle.outside.specs.Causes.{HasCause};
-ghost use Rattle.outside.specs.Disk.{Only, Tells};
-ghost use Rattle.page_journal.specs.Crash.{BesideGate, BesideJournal, BesidePages, Goes, Spares, Within};
+ghost use Rattle.outside.specs.Disk.{Only, Tells, Goes, Within};
+ghost use Rattle.page_journal.specs.Crash.{BesideGate, BesideJournal, BesidePages, Spares};
 ghost use Rattle.page_journal.specs.PageSet.{number_at, page_at, plain};
 ghost use Rattle.page_journal.specs.Written.{FieldsPut, GatePut, HomePut, NumberPut, PagesPut};
 

@@ -1,8 +1,7 @@
 //! Numbers and the gate, read from the disk.
 ghost use Rattle.std.specs.Prelude.{◌≡◌, ◌+◌, ◌*◌, ◌^◌, ◌<◌, ◌≤◌, List, ℕ, length, IfOk};
 ghost use Rattle.outside.specs.Causes.{HasCause};
-ghost use Rattle.outside.specs.Disk.{Tells};
-ghost use Rattle.page_journal.specs.Crash.{Stays};
+ghost use Rattle.outside.specs.Disk.{Tells, Stays};
 ghost use Rattle.page_journal.specs.Pages.{gate, number, page_from};
 
 use crate::layout::GATE_AT;

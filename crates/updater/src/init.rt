@@ -12,7 +12,7 @@ const FORMATTED: &str = "formatted\n";
 /// Makes an empty store on an empty disk, and tells so.
 pub fn init<D: Disk, S: Sink>(disk: &mut D, out: &mut S) -> Result<(), Fault>
     ensures runs { RunsInit (D.view disk.old) (D.view disk.new)
-        (record { bytes = S.taken out.old; bytes_after = S.taken out.new; faults = S.faults out.old; faults_after = S.faults out.new })
+        (record { bytes = (S.view out.old).taken; bytes_after = (S.view out.new).taken; faults = (S.view out.old).faults; faults_after = (S.view out.new).faults })
         (result_err result) }
 {
     match format(disk) {

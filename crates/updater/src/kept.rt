@@ -40,10 +40,10 @@ pub fn take_file<I: Inputs>(
     limits: &Limits,
     kept: &mut Kept,
 ) -> Result<(), FileFault>
-    ensures ok { OnOk result (ReadsAll after_kept limits.now kept.old kept.new (I.left inputs.old file) (I.left inputs.new file)) }
-    ensures stopped { IfErr result (Stops (IsFaultOf limits.now (I.left inputs.old file)) (Rose (I.faults inputs.old) (I.faults inputs.new))) }
-    ensures later { I.faults inputs.old ≤ I.faults inputs.new }
-    ensures others { (other : ℕ) → other ≢ file → I.left inputs.new other ≡ I.left inputs.old other }
+    ensures ok { OnOk result (ReadsAll after_kept limits.now kept.old kept.new ((I.view inputs.old).left file) ((I.view inputs.new).left file)) }
+    ensures stopped { IfErr result (Stops (IsFaultOf limits.now ((I.view inputs.old).left file)) (Rose (I.view inputs.old).faults (I.view inputs.new).faults)) }
+    ensures later { (I.view inputs.old).faults ≤ (I.view inputs.new).faults }
+    ensures others { (other : ℕ) → other ≢ file → (I.view inputs.new).left other ≡ (I.view inputs.old).left other }
 {
     match kept {
         Kept::Points(lines) => scan_file(alloc, inputs, file, limits, lines),
@@ -59,10 +59,10 @@ fn take_ways<I: Inputs>(
     limits: &Limits,
     lines: &mut WayLines,
 ) -> Result<(), FileFault>
-    ensures ok { OnOk result (ReadsAll after_way limits.now lines.old lines.new (I.left inputs.old file) (I.left inputs.new file)) }
-    ensures stopped { IfErr result (Stops (IsFaultOf limits.now (I.left inputs.old file)) (Rose (I.faults inputs.old) (I.faults inputs.new))) }
-    ensures later { I.faults inputs.old ≤ I.faults inputs.new }
-    ensures others { (other : ℕ) → other ≢ file → I.left inputs.new other ≡ I.left inputs.old other }
+    ensures ok { OnOk result (ReadsAll after_way limits.now lines.old lines.new ((I.view inputs.old).left file) ((I.view inputs.new).left file)) }
+    ensures stopped { IfErr result (Stops (IsFaultOf limits.now ((I.view inputs.old).left file)) (Rose (I.view inputs.old).faults (I.view inputs.new).faults)) }
+    ensures later { (I.view inputs.old).faults ≤ (I.view inputs.new).faults }
+    ensures others { (other : ℕ) → other ≢ file → (I.view inputs.new).left other ≡ (I.view inputs.old).left other }
 {
     if lines.is_imported() {
         let mut change = lines.begin();

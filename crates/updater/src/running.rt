@@ -34,8 +34,8 @@ fn write_text<I: Inputs, S: Sink>(
 ) -> Result<(), Fault>
     requires fits { files.first + files.count ≤ 8192 }
     ensures runs { RunsText (λ entries. kept_text (fold after_kept start.entry entries)) files
-        (record { bytes = I.left inputs.old; bytes_after = I.left inputs.new; faults = I.faults inputs.old; faults_after = I.faults inputs.new })
-        (record { bytes = S.taken out.old; bytes_after = S.taken out.new; faults = S.faults out.old; faults_after = S.faults out.new })
+        (record { bytes = (I.view inputs.old).left; bytes_after = (I.view inputs.new).left; faults = (I.view inputs.old).faults; faults_after = (I.view inputs.new).faults })
+        (record { bytes = (S.view out.old).taken; bytes_after = (S.view out.new).taken; faults = (S.view out.old).faults; faults_after = (S.view out.new).faults })
         (result_err result) }
 {
     let mut kept = start;
@@ -57,8 +57,8 @@ fn points<I: Inputs, S: Sink>(
 ) -> Result<(), Fault>
     requires fits { files.first + files.count ≤ 8192 }
     ensures runs { RunsText (points_text_of key.now) files
-        (record { bytes = I.left inputs.old; bytes_after = I.left inputs.new; faults = I.faults inputs.old; faults_after = I.faults inputs.new })
-        (record { bytes = S.taken out.old; bytes_after = S.taken out.new; faults = S.faults out.old; faults_after = S.faults out.new })
+        (record { bytes = (I.view inputs.old).left; bytes_after = (I.view inputs.new).left; faults = (I.view inputs.old).faults; faults_after = (I.view inputs.new).faults })
+        (record { bytes = (S.view out.old).taken; bytes_after = (S.view out.new).taken; faults = (S.view out.old).faults; faults_after = (S.view out.new).faults })
         (result_err result) }
 {
     let start = Kept::Points(PointLines::new(alloc, key));
@@ -75,8 +75,8 @@ fn lines<I: Inputs, S: Sink>(
 ) -> Result<(), Fault>
     requires fits { files.first + files.count ≤ 8192 }
     ensures runs { RunsText (lines_text_of key.now) files
-        (record { bytes = I.left inputs.old; bytes_after = I.left inputs.new; faults = I.faults inputs.old; faults_after = I.faults inputs.new })
-        (record { bytes = S.taken out.old; bytes_after = S.taken out.new; faults = S.faults out.old; faults_after = S.faults out.new })
+        (record { bytes = (I.view inputs.old).left; bytes_after = (I.view inputs.new).left; faults = (I.view inputs.old).faults; faults_after = (I.view inputs.new).faults })
+        (record { bytes = (S.view out.old).taken; bytes_after = (S.view out.new).taken; faults = (S.view out.old).faults; faults_after = (S.view out.new).faults })
         (result_err result) }
 {
     let start = Kept::Ways(WayLines::new(alloc, key));
@@ -97,26 +97,26 @@ pub fn run<R: Threads + Wait + Sync, I: Inputs, D: Disk, S: Sink>(
 
     // Words that are no command are a wrong use, and nothing is written.
     ensures usage { command (map string_bytes words.now) ≡ None → result.fault ≡ Some Fault.Usage }
-    ensures unwritten { command (map string_bytes words.now) ≡ None → Keeps (S.taken out.old) (S.taken out.new) }
+    ensures unwritten { command (map string_bytes words.now) ≡ None → Keeps (S.view out.old).taken (S.view out.new).taken }
 
     // Words that name no store leave the disk as it was.
     ensures spared { store_of (command (map string_bytes words.now)) ≡ None → IsSpared (D.view disk.old) (D.view disk.new) }
 
     // A new store.
     ensures init { (store : List ℕ) → command (map string_bytes words.now) ≡ Some (init_of store) → RunsInit (D.view disk.old) (D.view disk.new)
-        (record { bytes = S.taken out.old; bytes_after = S.taken out.new; faults = S.faults out.old; faults_after = S.faults out.new })
+        (record { bytes = (S.view out.old).taken; bytes_after = (S.view out.new).taken; faults = (S.view out.old).faults; faults_after = (S.view out.new).faults })
         result.fault }
 
     // The points of files.
     ensures points { (key : List ℕ) (files : FilesOf) → command (map string_bytes words.now) ≡ Some (points_of key files) → RunsText (points_text_of key) files
-        (record { bytes = I.left inputs.old; bytes_after = I.left inputs.new; faults = I.faults inputs.old; faults_after = I.faults inputs.new })
-        (record { bytes = S.taken out.old; bytes_after = S.taken out.new; faults = S.faults out.old; faults_after = S.faults out.new })
+        (record { bytes = (I.view inputs.old).left; bytes_after = (I.view inputs.new).left; faults = (I.view inputs.old).faults; faults_after = (I.view inputs.new).faults })
+        (record { bytes = (S.view out.old).taken; bytes_after = (S.view out.new).taken; faults = (S.view out.old).faults; faults_after = (S.view out.new).faults })
         result.fault }
 
     // The lines of the ways of files.
     ensures lines { (key : List ℕ) (files : FilesOf) → command (map string_bytes words.now) ≡ Some (lines_of key files) → RunsText (lines_text_of key) files
-        (record { bytes = I.left inputs.old; bytes_after = I.left inputs.new; faults = I.faults inputs.old; faults_after = I.faults inputs.new })
-        (record { bytes = S.taken out.old; bytes_after = S.taken out.new; faults = S.faults out.old; faults_after = S.faults out.new })
+        (record { bytes = (I.view inputs.old).left; bytes_after = (I.view inputs.new).left; faults = (I.view inputs.old).faults; faults_after = (I.view inputs.new).faults })
+        (record { bytes = (S.view out.old).taken; bytes_after = (S.view out.new).taken; faults = (S.view out.old).faults; faults_after = (S.view out.new).faults })
         result.fault }
 {
     match command_of(words) {

@@ -21,13 +21,13 @@ pub fn scan_files<I: Inputs>(
     kept: &mut Kept,
 ) -> Result<(), Fault>
     requires fits { files.first + files.count ≤ 8192 }
-    ensures made { OnOk result ((texts : ℕ → List ℕ) → Hold (I.left inputs.old) texts files →
+    ensures made { OnOk result ((texts : ℕ → List ℕ) → Hold (I.view inputs.old).left texts files →
         made after_kept kept.old (entries_in limits.now texts files.first files.count) ≡ Ok kept.new) }
-    ensures read { OnOk result ((texts : ℕ → List ℕ) → Hold (I.left inputs.old) texts files → AreRead (I.left inputs.new) files) }
+    ensures read { OnOk result ((texts : ℕ → List ℕ) → Hold (I.view inputs.old).left texts files → AreRead (I.view inputs.new).left files) }
     ensures stopped { IfErr result (StopsFiles files
-        (λ fault. (texts : ℕ → List ℕ) → Hold (I.left inputs.old) texts files → entries_in limits.now texts files.first files.count ≡ Err fault)
-        (Rose (I.faults inputs.old) (I.faults inputs.new))) }
-    ensures later { I.faults inputs.old ≤ I.faults inputs.new }
+        (λ fault. (texts : ℕ → List ℕ) → Hold (I.view inputs.old).left texts files → entries_in limits.now texts files.first files.count ≡ Err fault)
+        (Rose (I.view inputs.old).faults (I.view inputs.new).faults)) }
+    ensures later { (I.view inputs.old).faults ≤ (I.view inputs.new).faults }
 {
     let end = files.first + files.count;
     let mut file = files.first;

@@ -12,10 +12,10 @@ invariant-loop-progress g l = record {
   ready : IsReady l.limits l.progress;
   some : 0 < length l.buffer.items;
   takes : TakesNext g.K.Keeper.takes l.progress.passed.last l.keeper;
-  entries : BothKnown (g.I.Inputs.left l.fn.inputs l.file) (g.I.Inputs.left l.inputs l.file)
+  entries : BothKnown ((g.I.Inputs.view l.fn.inputs).left l.file) ((g.I.Inputs.view l.inputs).left l.file)
       (λ bytes rest. kept_all g.K.Keeper.after l.fn.keeper (entries_of l.limits bytes) ≡ kept_all g.K.Keeper.after l.keeper (entries_left l.limits l.progress rest));
-  later : g.I.Inputs.faults l.fn.inputs ≤ g.I.Inputs.faults l.inputs;
-  others : (other : ℕ) → other ≢ l.file → g.I.Inputs.left l.inputs other ≡ g.I.Inputs.left l.fn.inputs other;
+  later : (g.I.Inputs.view l.fn.inputs).faults ≤ (g.I.Inputs.view l.inputs).faults;
+  others : (other : ℕ) → other ≢ l.file → (g.I.Inputs.view l.inputs).left other ≡ (g.I.Inputs.view l.fn.inputs).left other;
 }
 
 abbrev pub decreases-loop-progress : goal.decreases-loop-progress

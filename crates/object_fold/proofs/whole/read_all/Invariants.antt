@@ -7,9 +7,9 @@ abbrev pub invariant-loop-bytes : goal.invariant-loop-bytes
 invariant-loop-bytes g l = record {
   some : 0 < length l.buffer.items;
   within : length l.bytes.items ≤ l.max;
-  whole : BothKnown (g.I.Inputs.left l.fn.inputs l.file) (g.I.Inputs.left l.inputs l.file) (λ before after. before ≡ l.bytes.items ++ after);
-  later : g.I.Inputs.faults l.fn.inputs ≤ g.I.Inputs.faults l.inputs;
-  others : (other : ℕ) → other ≢ l.file → g.I.Inputs.left l.inputs other ≡ g.I.Inputs.left l.fn.inputs other;
+  whole : BothKnown ((g.I.Inputs.view l.fn.inputs).left l.file) ((g.I.Inputs.view l.inputs).left l.file) (λ before after. before ≡ l.bytes.items ++ after);
+  later : (g.I.Inputs.view l.fn.inputs).faults ≤ (g.I.Inputs.view l.inputs).faults;
+  others : (other : ℕ) → other ≢ l.file → (g.I.Inputs.view l.inputs).left other ≡ (g.I.Inputs.view l.fn.inputs).left other;
 }
 
 abbrev pub decreases-loop-bytes : goal.decreases-loop-bytes

@@ -10,11 +10,10 @@ use Rattle.opl_object.proofs.escapes.put_text.Given as goal
 -- whoever takes what is left takes all, a front of what is left is a front of all, and no fault is forgotten
 abbrev pub invariant-loop-code : goal.invariant-loop-code
 invariant-loop-code g l =
-    let taken = g.S.Sink.taken in
     shadow (Utf8 l.rest)
-    × ((after : Option (List ℕ)) → Appends (taken l.out) after (written_text (chars l.rest)) → Appends (taken l.initial.out) after (written_text (chars l.text)))
-    × ((after : Option (List ℕ)) → AppendsPrefix (taken l.out) after (written_text (chars l.rest)) → AppendsPrefix (taken l.initial.out) after (written_text (chars l.text)))
-    × (g.S.Sink.faults l.initial.out ≤ g.S.Sink.faults l.out)
+    × ((after : Option (List ℕ)) → Appends (g.S.Sink.view l.out).taken after (written_text (chars l.rest)) → Appends (g.S.Sink.view l.initial.out).taken after (written_text (chars l.text)))
+    × ((after : Option (List ℕ)) → AppendsPrefix (g.S.Sink.view l.out).taken after (written_text (chars l.rest)) → AppendsPrefix (g.S.Sink.view l.initial.out).taken after (written_text (chars l.text)))
+    × ((g.S.Sink.view l.initial.out).faults ≤ (g.S.Sink.view l.out).faults)
 
 abbrev pub decreases-loop-code : goal.decreases-loop-code
 decreases-loop-code g l = length l.rest

@@ -1,6 +1,6 @@
 use Rattle.std.proofs.Common.{◌≡◌, ◌≤◌, List, ℕ}
-use Rattle.outside.specs.Disk.{Tells}
-use Rattle.page_journal.specs.Crash.{BesidePages, Goes, Spares, Within}
+use Rattle.outside.specs.Disk.{Tells, Goes, Within}
+use Rattle.page_journal.specs.Crash.{BesidePages, Spares}
 use Rattle.page_journal.specs.Home.{IsWellFormed}
 use Rattle.page_journal.specs.Pages.{entry, body_at, first_page, page_count, page_from}
 use Rattle.page_journal.specs.Written.{HomePut}

@@ -1,6 +1,5 @@
 use Rattle.std.proofs.Common.{◌≡◌, ◌+◌, ◌-◌, ◌*◌, ◌<◌, ◌≤◌, List, ℕ, length}
-use Rattle.outside.specs.Disk.{Tells}
-use Rattle.page_journal.specs.Crash.{Stays}
+use Rattle.outside.specs.Disk.{Tells, Stays}
 use Rattle.page_journal.specs.Home.{AreRising}
 use Rattle.page_journal.specs.Pages.{number, number_pages}
 use Rattle.page_journal.proofs.opening.rises.Given as goal

@@ -1,6 +1,6 @@
 use Rattle.std.proofs.Common.{◌≡◌, ◌+◌, ◌*◌, ◌≤◌, List, ℕ, length}
-use Rattle.outside.specs.Disk.{Tells}
-use Rattle.page_journal.specs.Crash.{BesideJournal, Goes, Spares, Within}
+use Rattle.outside.specs.Disk.{Tells, Goes, Within}
+use Rattle.page_journal.specs.Crash.{BesideJournal, Spares}
 use Rattle.page_journal.specs.PageSet.{plain}
 use Rattle.page_journal.specs.Written.{PagesPut}
 use Rattle.page_journal.proofs.pages.write_bodies.Given as goal

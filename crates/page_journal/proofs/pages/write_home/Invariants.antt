@@ -1,6 +1,6 @@
 use Rattle.std.proofs.Common.{◌≡◌, ◌≤◌, List, ℕ, length}
-use Rattle.outside.specs.Disk.{Tells}
-use Rattle.page_journal.specs.Crash.{BesidePages, Goes, Spares, Within}
+use Rattle.outside.specs.Disk.{Tells, Goes, Within}
+use Rattle.page_journal.specs.Crash.{BesidePages, Spares}
 use Rattle.page_journal.specs.PageSet.{plain, number_at, page_at}
 use Rattle.page_journal.specs.Written.{HomePut}
 use Rattle.page_journal.proofs.pages.write_home.Given as goal

@@ -10,8 +10,8 @@ pub returns-then-is_imported-clause-ok : goal.returns-then-is_imported-clause-ok
 returns-then-is_imported-clause-ok g c =
     let old = c.args.lines.now in
     let change = c.scan_file.new.keeper in
-    let left = g.I.Inputs.left c.args.inputs.now c.args.file in
-    let rest = g.I.Inputs.left c.scan_file.new.inputs c.args.file in
+    let left = (g.I.Inputs.view c.args.inputs.now).left c.args.file in
+    let rest = (g.I.Inputs.view c.scan_file.new.inputs).left c.args.file in
     taken-reads c.args.limits.now old c.take.new.self change left rest
     (c.in_ok-take.ensures.ok ∙ ap (λ (entries : List Entry). record { key = old.key; objects = folded_all old.objects entries }) c.into_change.ensures.entries)
     (subst (λ (start : KeptEntries). ReadsAll with_entry c.args.limits.now start change left rest) c.begin-change.ensures.empty c.in_ok-scan_file.ensures.ok)
