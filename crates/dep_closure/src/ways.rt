@@ -1,11 +1,13 @@
 //! The ways that a change makes due.
-ghost use Rattle.std.specs.Prelude.{◌≡◌, ◌≤◌, ◌||◌, ℕ, false, IfOk, IfErr, OnOk};
+ghost use Rattle.std.specs.Prelude.{◌≡◌, ◌≤◌, ◌||◌, ℕ, false, IfOk, IfErr, IsErrOf, OnOk, OnErr};
 ghost use Rattle.std.specs.List.{AllByRecursion};
 ghost use Rattle.osm_base.specs.Ids.{AreRisingIds};
 ghost use Rattle.osm_base.specs.Key.{IsId};
+ghost use Rattle.osm_base.specs.Known.{Index};
 ghost use Rattle.object_fold.specs.Fold.{ObjectSet, folded_all};
 ghost use Rattle.object_fold.specs.Index.{index_of};
 ghost use Rattle.object_fold.specs.RisingIds.{has};
+ghost use Rattle.dep_closure.specs.Questions.{AsksSome, of_entry, of_nodes};
 ghost use Rattle.dep_closure.specs.Stops.{Stops};
 ghost use Rattle.dep_closure.specs.Ways.{is_due, makes_due, Leaves};
 
@@ -22,14 +24,20 @@ pub fn ways_due<B: Back>(
     back: &mut B,
 ) -> Result<Ids, PendingFault<B::Refusal>>
     requires { B.spent back.old ≡ false }
-    ensures due { IfOk result (λ ids. (way : ℕ) → has ids way ≡ is_due (B.index back.old) change.now way) }
+    ensures due { IfOk result (λ ids. (index : Index) → B.knows back.old index
+        → (way : ℕ) → has ids way ≡ is_due index change.now way) }
     ensures rising { IfOk result AreRisingIds }
 
     // A way that is not among them has the same object and the same line before and after.
-    ensures others { IfOk result (λ ids. (objects : ObjectSet) → B.index back.old ≡ index_of (folded_all objects change.now)
+    ensures others { IfOk result (λ ids. (objects : ObjectSet) → B.knows back.old (index_of (folded_all objects change.now))
         → (way : ℕ) → has ids way ≡ false → Leaves change.now objects way) }
-    ensures index { OnOk result (B.index back.new ≡ B.index back.old) }
+
+    // The index is asked of each node of the change, in order, and of nothing else.
+    ensures asked { OnOk result (B.asks back.old (of_nodes change.now) back.new) }
+    ensures asked_some { OnErr result (AsksSome B.asks back.old (of_nodes change.now) back.new) }
+    ensures index { B.spent back.new ≡ false → (index : Index) → B.knows back.old index → B.knows back.new index }
     ensures spent { OnOk result (B.spent back.new ≡ false) }
+    ensures memory { IsErrOf result PendingFault.OutOfMemory → B.spent back.new ≡ false }
     ensures faults { B.faults back.old ≤ B.faults back.new }
     ensures stopped { IfErr result (Stops (B.bears back.new (B.faults back.old)) (λ _. ⊥)) }
 {
@@ -48,10 +56,13 @@ fn add_due<B: Back>(
     ways: &mut Vec<u64>,
 ) -> Result<(), PendingFault<B::Refusal>>
     requires { B.spent back.old ≡ false }
-    ensures due { OnOk result ((way : ℕ) → has ways.new.items way ≡ (makes_due (B.index back.old) way entry.now || has ways.old.items way)) }
+    ensures due { OnOk result ((index : Index) → B.knows back.old index
+        → (way : ℕ) → has ways.new.items way ≡ (makes_due index way entry.now || has ways.old.items way)) }
     ensures ids { OnOk result (AllByRecursion IsId ways.old.items → AllByRecursion IsId ways.new.items) }
-    ensures index { OnOk result (B.index back.new ≡ B.index back.old) }
+    ensures asked { B.asks back.old (of_entry entry.now) back.new }
+    ensures index { B.spent back.new ≡ false → (index : Index) → B.knows back.old index → B.knows back.new index }
     ensures spent { OnOk result (B.spent back.new ≡ false) }
+    ensures memory { IsErrOf result PendingFault.OutOfMemory → B.spent back.new ≡ false }
     ensures faults { B.faults back.old ≤ B.faults back.new }
     ensures stopped { IfErr result (Stops (B.bears back.new (B.faults back.old)) (λ _. ⊥)) }
 {

@@ -1,5 +1,6 @@
 //! The objects of a map, in memory.
 ghost use Rattle.std.specs.Prelude.{◌≡◌, ◌≤◌, ℕ, false, Some, take, IfOk, IfErr, OnOk, OnErr};
+ghost use Rattle.std.proofs.Common.{◌∙◌};
 ghost use Rattle.std.specs.FinMap as map;
 ghost use Rattle.std.specs.Option.{option_copied};
 ghost use Rattle.osm_base.specs.Ids.{AreRisingIds};
@@ -264,13 +265,16 @@ impl Objects {
 impl Back for Objects {
     type Refusal = OutOfMemory;
 
-    ghost index = { index_of };
+    ghost knows = { λ objects index. index ≡ index_of objects };
 
     ghost faults = { λ _. 0 };
 
     ghost spent = { λ _. false };
 
     ghost bears = { λ _ _ _. Unit {0} };
+
+    // Being asked changes nothing.
+    ghost asks = { λ old _ new. new ≡ old };
 
     fn ways_of_node(&mut self, id: u64) -> Result<Ids, OutOfMemory> {
         self.ways_at(id)
@@ -285,6 +289,10 @@ impl Back for Objects {
     }
 
     ghost bears_fewer = { λ _ _ _ _ _ _. tt };
+
+    ghost asks_none = { λ back i. back };
+
+    ghost asks_then = { λ _ _ _ _ _ once again. again ∙ once };
 }
 
 /// The index of objects that are only read.
@@ -319,13 +327,16 @@ impl<'o> ObjectIndex<'o> {
 impl Back for ObjectIndex<'_> {
     type Refusal = OutOfMemory;
 
-    ghost index = { index_of };
+    ghost knows = { λ objects index. index ≡ index_of objects };
 
     ghost faults = { λ _. 0 };
 
     ghost spent = { λ _. false };
 
     ghost bears = { λ _ _ _. Unit {0} };
+
+    // Being asked changes nothing.
+    ghost asks = { λ old _ new. new ≡ old };
 
     fn ways_of_node(&mut self, id: u64) -> Result<Ids, OutOfMemory> {
         self.objects.ways_at(id)
@@ -340,6 +351,10 @@ impl Back for ObjectIndex<'_> {
     }
 
     ghost bears_fewer = { λ _ _ _ _ _ _. tt };
+
+    ghost asks_none = { λ back i. back };
+
+    ghost asks_then = { λ _ _ _ _ _ once again. again ∙ once };
 }
 
 /// A list of these ids.

@@ -19,3 +19,9 @@ pub record Index : Type 0 where
   pub ways_of_node : ℕ → List ℕ
   pub relations_of_node : ℕ → List ℕ
   pub relations_of_way : ℕ → List ℕ
+
+-- a question to an index, and the id that it is about
+pub data Question : Type 0 where
+  WaysOfNode : (id : ℕ) → Question
+  RelationsOfNode : (id : ℕ) → Question
+  RelationsOfWay : (id : ℕ) → Question

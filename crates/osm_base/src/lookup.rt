@@ -1,6 +1,7 @@
 //! What is looked up of the objects of a map, where rows and lines are built.
 ghost use Rattle.std.specs.Prelude.{◌≡◌};
 ghost use Rattle.std.specs.Option.{option_copied};
+ghost use Rattle.osm_base.specs.Ids.{AreRisingIds};
 ghost use Rattle.osm_base.specs.Known.{Known};
 
 use crate::{Key, Object, Place};
@@ -20,9 +21,11 @@ pub trait Lookup: Sync {
 
     /// The rising ids of the relations that have a way as a member.
     fn relations_of_way(&self, id: u64) -> &[u64]
-        ensures relations { result.now ≡ (known self.now).relations_of_way id };
+        ensures relations { result.now ≡ (known self.now).relations_of_way id }
+        ensures rising { AreRisingIds result.now };
 
     /// The rising ids of the relations that have a node as a member.
     fn relations_of_node(&self, id: u64) -> &[u64]
-        ensures relations { result.now ≡ (known self.now).relations_of_node id };
+        ensures relations { result.now ≡ (known self.now).relations_of_node id }
+        ensures rising { AreRisingIds result.now };
 }
