@@ -2,6 +2,7 @@
 use Rattle.std.proofs.Common.{fold, ◌≡◌, ℕ, Option, Some, None, List, Result, Ok, Err, refl, sym, ◌∙◌, ap, subst}
 use Rattle.std.specs.Result.{IsOkAnd, result_err}
 use Rattle.std.specs.Io.KnownBytes.{Appends, Keeps}
+use Rattle.osm_base.specs.Limits.{standard}
 use Rattle.osm_base.specs.declared.object.Entry.{Entry}
 use Rattle.outside.specs.Bytes.{AppendsPrefix}
 use Rattle.updater.specs.declared.fault.Fault.{Fault}
@@ -11,7 +12,7 @@ use Rattle.updater.specs.Causes.{Ends, StopsFiles}
 use Rattle.updater.specs.Files.{Hold, AreRead, made, entries_in}
 use Rattle.updater.specs.declared.kept.Kept.{Kept}
 use Rattle.updater.specs.Kept.{after_kept, kept_text}
-use Rattle.updater.specs.Run.{standard, Sources, Output, ReadFailed, WriteFailed, RunsText}
+use Rattle.updater.specs.Run.{Sources, Output, ReadFailed, WriteFailed, RunsText}
 
 pub keeps_refl : (bytes : Option (List ℕ)) → Keeps bytes bytes
 keeps_refl None = tt
