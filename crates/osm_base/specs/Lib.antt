@@ -4,7 +4,10 @@ pub mod Key
 pub mod KeyOrder
 pub mod Known
 pub mod Limits
+pub mod Pending
 pub mod Place
+pub mod SpotTree
+pub mod Spots
 pub mod TagOrder
 pub mod TagText
 pub mod Tags

@@ -2,7 +2,7 @@
 ghost use Rattle.std.specs.Prelude.{◌≡◌, List, [], ◌∷◌, ◌++◌, length, take, IfOk, OnOk, OnErr, IsTrue, ◌↔◌};
 ghost use Rattle.std.specs.Coded.{coded_list};
 
-use crate::{OutOfMemory, Place};
+use crate::{Key, OutOfMemory, Place};
 use std::alloc::Global;
 use std::marker::Model;
 
@@ -52,6 +52,16 @@ impl TryCopy for u8 {
     }
 }
 
+impl TryCopy for Key {
+    fn copy(&self, _alloc: Global) -> Result<Self, OutOfMemory> {
+        Ok(*self)
+    }
+
+    fn copy_all(items: &[Self], alloc: Global) -> Result<Vec<Self>, OutOfMemory> {
+        Ok(Vec::from_slice(alloc, items)?)
+    }
+}
+
 impl TryCopy for Place {
     fn copy(&self, _alloc: Global) -> Result<Self, OutOfMemory> {
         Ok(*self)
@@ -84,6 +94,9 @@ pub type Bytes = Items<u8>;
 
 /// The bytes of several files, by number.
 pub type FileList = Items<Bytes>;
+
+/// Keys of objects.
+pub type KeyList = Items<Key>;
 
 /// The places of a line, in order.
 pub type Places = Items<Place>;

@@ -15,7 +15,10 @@ mod limits;
 mod lookup;
 mod memory;
 mod object;
+mod pending;
 mod place;
+mod row;
+mod tables;
 mod tags;
 #[cfg(test)]
 mod tests;
@@ -23,7 +26,7 @@ mod text;
 
 pub use back::Back;
 pub use degrees::DegreesBuffer;
-pub use items::{Bytes, FileList, Ids, Items, LineList, Places, Polygons, TryCopy};
+pub use items::{Bytes, FileList, Ids, Items, KeyList, LineList, Places, Polygons, TryCopy};
 pub use key::{Key, Kind, MAX_ID};
 pub use limits::{
     LimitKind, LimitNumbers, Limits, MAX_ENTRIES, MAX_LINE_BYTES, MAX_LINES, MAX_PAGES, MAX_PENDING,
@@ -31,6 +34,12 @@ pub use limits::{
 pub use lookup::Lookup;
 pub use memory::OutOfMemory;
 pub use object::{Entry, Member, Members, Object};
+pub use pending::PendingSet;
 pub use place::{GeoBox, MAX_LAT, MAX_LON, Place};
+pub use row::{
+    Cell, Cells, Delta, Geometry, NumberedRow, Row, RowChange, RowChanges, RowList, RowLists,
+    TableRow, TableRows,
+};
+pub use tables::{Spot, Tables};
 pub use tags::Tags;
 pub use text::Text;

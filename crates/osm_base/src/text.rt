@@ -1,5 +1,7 @@
 //! A text that a contract sees as its characters.
-ghost use Rattle.std.specs.Prelude.{◌≡◌, List, ℕ, IfOk, IsTrue, ◌↔◌};
+ghost use Rattle.std.specs.Prelude.{◌≡◌, ◌++◌, List, ℕ, IfOk, OnOk, OnErr};
+ghost use Rattle.std.specs.Cmp.Lexicographic.{slice_cmp};
+ghost use Rattle.std.specs.Ordering.{eq_by_cmp, nat_cmp};
 ghost use Rattle.std.specs.Str.{chars};
 ghost use Rattle.std.specs.String.{string_bytes};
 
@@ -34,6 +36,23 @@ impl Text {
         ensures characters { result ≡ chars (string_bytes text) }
     {
         Self { text }
+    }
+
+    /// Whether these are its characters.
+    pub fn is(&self, text: &str) -> bool
+        ensures same { result ≡ eq_by_cmp (slice_cmp nat_cmp) self.now (chars text.now) }
+    {
+        text == self.text.as_str()
+    }
+
+    /// Adds the characters of a text at the end.
+    pub fn push_str(&mut self, text: &str) -> Result<(), OutOfMemory>
+        ensures ok { OnOk result (self.new ≡ self.old ++ chars text.now) }
+        ensures err { OnErr result (self.new ≡ self.old) }
+    {
+        let _before = self.text.as_str();
+        self.text.push_str(text)?;
+        Ok(())
     }
 
     /// The characters as Rust's text.
