@@ -158,7 +158,7 @@ fn one_if(test: bool) -> usize
 }
 
 /// How many segments of a ring cross the latitude of a place strictly east of it, one after the other.
-pub(crate) fn plain_crossings(ring: &[Place], place: Place) -> usize
+fn plain_crossings(ring: &[Place], place: Place) -> usize
     ensures { result ≡ crossings ring.now place }
 {
     let mut at = 0;

@@ -16,8 +16,6 @@ mod boxes;
 mod crossings;
 mod grid;
 mod spans;
-#[cfg(test)]
-mod tests;
 
 pub use boxes::{boxes_meet, is_met};
 pub use crossings::{across, along, odd_crossings};

@@ -7,8 +7,6 @@
 
 mod joins;
 mod points;
-#[cfg(test)]
-mod tests;
 
 pub use joins::join_lines;
 pub use points::{line_of, points_of};

@@ -4,6 +4,7 @@ pub mod Key
 pub mod KeyOrder
 pub mod Known
 pub mod Limits
+pub mod Line
 pub mod Pending
 pub mod Place
 pub mod SpotTree

@@ -8,8 +8,6 @@
 mod heads;
 mod index;
 mod piece;
-#[cfg(test)]
-mod tests;
 mod unused;
 mod walk;
 

@@ -58,6 +58,7 @@ impl<'a> UnusedPieces<'a> {
         ensures first { MatchOption result
             (self.old ≡ [])
             (λ piece. self.old ≡ piece.now ∷ self.new) }
+        ensures none_stays { IfNone result (self.new ≡ self.old) }
         ensures points { IfSome result (λ piece. 0 < length piece.now) }
     {
         self.first = next_unused(self.used.as_slice(), self.first);

@@ -34,8 +34,3 @@ rings pieces =
     let closed = lines_by ring_begun pieces in
     if has_odd_place (open_ends pieces) then None else
     if list_all has_four_points closed then Some closed else None
-
--- a line that may bound an area
-pub record IsRing (ring : Line) : Type 0 where
-  pub points : 4 ≤ length ring
-  pub closed : is_closed ring ≡ true

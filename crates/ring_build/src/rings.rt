@@ -1,7 +1,8 @@
 //! Pieces closed to rings at their ends.
 ghost use Rattle.std.specs.Prelude.{◌≡◌, ◌<◌, ◌↔◌, length, IfOk, IfSome, IsTrue, All};
+ghost use Rattle.osm_base.specs.Line.{IsRing};
 ghost use Rattle.piece_ends.specs.Pieces.{ArePieces};
-ghost use Rattle.ring_build.specs.Rings.{rings, ring_begun, IsRing};
+ghost use Rattle.ring_build.specs.Rings.{rings, ring_begun};
 
 use osm_base::{LineList, OutOfMemory, Place, Places};
 use piece_ends::{UnusedPieces, extend, is_closed};
@@ -47,4 +48,11 @@ fn is_ring(line: &[Place]) -> bool
     ensures ring { IsTrue result ↔ IsRing line.now }
 {
     line.len() >= 4 && is_closed(line)
+}
+
+/// Whether each of these lines may bound an area.
+pub fn are_rings(lines: &LineList) -> bool
+    ensures rings { IsTrue result ↔ All IsRing lines.now }
+{
+    lines.as_slice().iter().all(|line| is_ring(line.as_slice()))
 }

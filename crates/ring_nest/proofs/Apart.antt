@@ -5,6 +5,7 @@ use Rattle.std.proofs.lemmas.Int.{ints}
 use Rattle.std.proofs.lemmas.Bool.Decides.{nat_tests}
 use Rattle.std.proofs.lemmas.Nat.{mul-le}
 use Rattle.std.proofs.lemmas.List.Sums.{sum_by-cons}
+use Rattle.osm_base.specs.Line.{is_closed}
 use Rattle.osm_base.specs.Place.{PlaceOf}
 use Rattle.osm_base.specs.declared.place.GeoBox.{GeoBox}
 use Rattle.lanes_geo.specs.Box.{IsWithin, meets}
@@ -12,7 +13,8 @@ use Rattle.lanes_geo.specs.Crossing.{Segment, segments_from, crosses, odd}
 use Rattle.lanes_geo.specs.Grid.{IsPlace, apart, east_of, north_of}
 use Rattle.lanes_geo.proofs.Crossed.{EndsOnEarth, differ, crosses_is}
 use Rattle.lanes_geo.proofs.Level.{IsOnSide, none_crossed}
-use Rattle.ring_nest.specs.Nesting.{is_between, lies_within, lies_on, last_from, IsClosed, holds}
+use Rattle.ring_nest.specs.Nesting.{is_between, lies_within, lies_on, holds}
+use Rattle.ring_nest.proofs.Closed.{last_from, comes_back}
 
 -- why a place is outside a box
 pub data Outside (box : GeoBox) (place : PlaceOf) : Type 0 where
@@ -168,13 +170,13 @@ all_north box place (x ∷ xs) h f = (is_not_less place.lat x.lat (north_of_all 
 even_is : (n : ℕ) → n % 2 ≡ 0 → (n % 2 == 1) ≡ false
 even_is n e = rw e
 
-pub not_odd : (box : GeoBox) (place : PlaceOf) (ring : List PlaceOf) → IsPlace place → AllByRecursion IsPlace ring → AllByRecursion (IsWithin box) ring → IsClosed ring
+pub not_odd : (box : GeoBox) (place : PlaceOf) (ring : List PlaceOf) → IsPlace place → AllByRecursion IsPlace ring → AllByRecursion (IsWithin box) ring → is_closed ring ≡ true
     → Outside box place → odd ring place ≡ false
 not_odd box place [] here on f closed h = refl
 not_odd box place (p ∷ xs) here on f closed (West h) =
     let parity = parity_from box place p xs here h on.0 on.1 f.0 f.1 in
     let same = same_side_parity (side place p) in
-    even_is (count_by (crosses place) (segments_from p xs)) (parity ∙ (rw closed same))
+    even_is (count_by (crosses place) (segments_from p xs)) (parity ∙ (rw (comes_back p xs closed) same))
 not_odd box place (p ∷ xs) here on f closed (East h) = rw (never_from box place p xs here h on.0 on.1 f.0 f.1)
 not_odd box place (p ∷ xs) here on f closed (South h) =
     let all = all_south box place (p ∷ xs) h f in
@@ -193,7 +195,7 @@ outside asked box place true true true false e f g h w none = North (let l = bel
 outside asked box place true true true true e f g h w none = absurd (cc)
 
 -- a ring holds none whose box does not meet its box
-pub holds_none : (ring other : List PlaceOf) (box asked : GeoBox) → IsClosed ring → AllByRecursion IsPlace ring → AllByRecursion IsPlace other
+pub holds_none : (ring other : List PlaceOf) (box asked : GeoBox) → is_closed ring ≡ true → AllByRecursion IsPlace ring → AllByRecursion IsPlace other
     → AllByRecursion (IsWithin box) ring → AllByRecursion (IsWithin asked) other → meets asked box ≡ false → holds ring other ≡ false
 holds_none ring [] box asked closed on other_on f g none = refl
 holds_none ring (p ∷ ps) box asked closed on other_on f g none =

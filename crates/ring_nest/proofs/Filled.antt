@@ -3,7 +3,9 @@ use Rattle.std.proofs.Common.{◌≡◌, ◌≢◌, ℕ, ◌+◌, ◌<◌, ◌�
 use Rattle.std.specs.List.{filter, list_all}
 use Rattle.std.proofs.lemmas.Bool.Decides.{nat_tests}
 use Rattle.std.proofs.lemmas.List.{append-nil, length-map}
-use Rattle.ring_nest.specs.Nesting.{Ring, depth, holds, is_outer, owns, owner, owner_from, belongs, polygons_from, slots_from}
+use Rattle.ring_nest.specs.Nesting.{Ring, depth, holds, is_outer, owns, owner, belongs}
+use Rattle.ring_nest.specs.Polygons.{polygons_from, slots_from}
+use Rattle.ring_nest.proofs.Owned.{owner_from}
 use Rattle.ring_nest.proofs.Held.{next_of}
 
 -- what a function gives for a member

@@ -1,7 +1,9 @@
 pub mod Off
+pub mod Closed
 pub mod Apart
 pub mod Held
 pub mod Itself
 pub mod Walked
 pub mod Owned
 pub mod Filled
+pub mod Outers

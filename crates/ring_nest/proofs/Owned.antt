@@ -1,6 +1,6 @@
 -- Depths and owners, by the numbers of the rings that hold each ring.
 use Rattle.std.proofs.Common.{length-append, ◌≡◌, ◌≢◌, ℕ, ◌+◌, ◌-◌, ◌<◌, ◌≤◌, ◌==◌, suc, zero, refl, sym, ap, ◌∙◌, arith, List, [], ◌∷◌, ◌++◌, length, map, take, get_or, Bool, true, false, cond, not, ◌&&◌, ◌||◌, if◌then◌else◌, nat_lt, Option, Some, None, zero-add, add-zero, count_by}
-use Rattle.std.specs.List.{AllByRecursion, filter, list_any, range_with_len}
+use Rattle.std.specs.List.{AllByRecursion, filter, list_any, position_from, range_with_len}
 use Rattle.std.specs.List.Sorted.{IsPermutation}
 use Rattle.std.proofs.lemmas.Bool.Decides.{nat_tests}
 use Rattle.std.proofs.lemmas.List.{ext_get_or, get_or-map}
@@ -8,8 +8,8 @@ use Rattle.std.proofs.lemmas.List.FromFn.{get_or-map-range_with_len, length-map-
 use Rattle.std.proofs.lemmas.List.Sorted.{IsPermutation-append, IsPermutation-trans, length_permutation, list_any-IsPermutation, sum_by-IsPermutation}
 use Rattle.std.proofs.lemmas.List.Folds.{list_any-append}
 use Rattle.std.proofs.lemmas.List.Sums.{length-filter, sum_by-cons}
-use Rattle.ring_nest.specs.Holders.{AreHolders, IsLeast, is_above, is_holder, lesser_of, ring_at}
-use Rattle.ring_nest.specs.Nesting.{Ring, depth, holds, owner, owner_from, owns}
+use Rattle.ring_nest.specs.Holders.{AreHolders, IsLeast, is_above, is_holder, lesser_of}
+use Rattle.ring_nest.specs.Nesting.{Ring, depth, holds, owner, owns, ring_at}
 use Rattle.ring_nest.proofs.Held.{next_of}
 use Rattle.ring_nest.proofs.Walked.{ring_is}
 
@@ -102,6 +102,10 @@ stands p number from (suc count) e = stands_next p number from count (p from && 
 none_next : (rings : List Ring) (ring : Ring) (from : ℕ) (rest : Option ℕ) (b any : Bool) → (b || any) ≡ false → (any ≡ false → rest ≡ None) → (if b then Some from else rest) ≡ None
 none_next rings ring from rest true any e more = absurd (cc)
 none_next rings ring from rest false any e more = more e
+
+-- the number of the first ring, counted from a number on, that an inner ring belongs to
+abbrev pub owner_from : List Ring → ℕ → List Ring → Ring → Option ℕ
+owner_from rings number rest other = position_from (λ ring. owns rings ring other) number rest
 
 -- where no number passes, there is no owner
 owner_none : (rings : List Ring) (ring : Ring) (from count : ℕ) → list_any (λ number. owns rings (ring_at rings number) ring) (range_with_len from count) ≡ false

@@ -8,8 +8,8 @@ use Rattle.lanes_geo.specs.Box.{meets}
 use Rattle.ring_nest.specs.declared.tree.Tree.{Tree}
 use Rattle.ring_nest.specs.declared.tree.Tree.TheVariants.{Few, Halves'}
 use Rattle.ring_nest.specs.Around.{Covers, IsBoxed, around, some_box}
-use Rattle.ring_nest.specs.Holders.{IsCovered, IsTree, box_at, box_of_tree, is_holder, numbers_of, ring_at}
-use Rattle.ring_nest.specs.Nesting.{Ring}
+use Rattle.ring_nest.specs.Holders.{IsCovered, IsTree, box_at, box_of_tree, is_holder, numbers_of}
+use Rattle.ring_nest.specs.Nesting.{Ring, ring_at}
 use Rattle.ring_nest.proofs.Held.{all_at, covers_more, next_of, not_held, not_met}
 
 -- a member is the ring with its number

@@ -1,10 +1,11 @@
 -- The boxes of rings, by which pairs are passed over.
-use Rattle.std.specs.Prelude.{◌≤ℤ◌, pos, Option, Some, None}
+use Rattle.std.specs.Prelude.{◌≡◌, ◌≤ℤ◌, true, pos, Option, Some, None}
 use Rattle.std.specs.List.{AllByRecursion}
+use Rattle.osm_base.specs.Line.{is_closed}
 use Rattle.osm_base.specs.declared.place.GeoBox.{GeoBox}
 use Rattle.lanes_geo.specs.Box.{IsWithin, box_of}
 use Rattle.lanes_geo.specs.Grid.{IsPlace}
-use Rattle.ring_nest.specs.Nesting.{Ring, IsClosed}
+use Rattle.ring_nest.specs.Nesting.{Ring}
 
 -- a box, where there is one
 abbrev pub some_box : Option GeoBox → GeoBox
@@ -17,7 +18,7 @@ around ring = some_box (box_of ring)
 
 -- a closed ring with all places of the world and within its box
 pub record IsBoxed (ring : Ring) : Type 0 where
-  pub closed : IsClosed ring
+  pub closed : is_closed ring ≡ true
   pub on_earth : AllByRecursion IsPlace ring
   pub within : AllByRecursion (IsWithin (around ring)) ring
 

@@ -8,11 +8,7 @@ use Rattle.ring_nest.specs.declared.tree.Tree.{Tree}
 use Rattle.ring_nest.specs.declared.tree.Tree.TheVariants.{Few, Halves'}
 use Rattle.ring_nest.specs.declared.tree.TheConstants.{LEAF}
 use Rattle.ring_nest.specs.Around.{Covers, IsBoxed, around, some_box}
-use Rattle.ring_nest.specs.Nesting.{Ring, holds}
-
--- the ring with a number
-abbrev pub ring_at : List Ring → ℕ → Ring
-ring_at rings number = slice_index_or rings number []
+use Rattle.ring_nest.specs.Nesting.{Ring, holds, ring_at}
 
 -- whether the ring with a number holds a ring
 abbrev pub is_holder : List Ring → Ring → ℕ → Bool

@@ -1,3 +1,4 @@
 pub mod Nesting
+pub mod Polygons
 pub mod Around
 pub mod Holders

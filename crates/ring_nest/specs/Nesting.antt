@@ -1,28 +1,13 @@
 -- Which rings hold which, and the polygons that they make.
 -- OGC Simple Feature Access, "Polygon": one exterior boundary and none, one or more interior boundaries, each a closed ring.
-use Rattle.std.specs.Prelude.{ℕ, ◌+◌, ◌≤◌, ◌%◌, ◌==◌, ◌≡◌, ℤ, Bool, false, not, ◌&&◌, ◌||◌, if◌then◌else◌, List, [], ◌∷◌, length, Option, Some, None, is_some, int_le, count_by}
-use Rattle.std.specs.List.{filter, list_any, list_all}
+use Rattle.std.specs.Prelude.{ℕ, ◌+◌, ◌%◌, ◌==◌, ℤ, Bool, false, not, ◌&&◌, ◌||◌, if◌then◌else◌, List, [], ◌∷◌, length, map, Option, Some, None, is_some, int_le, count_by, slice_index_or}
+use Rattle.std.specs.List.{filter, list_any, list_all, position_from, range_with_len}
 use Rattle.osm_base.specs.Place.{PlaceOf}
 use Rattle.lanes_geo.specs.Crossing.{Segment, segments, across, along, odd}
 
 -- the places of a ring in order, from its first to its first again
 abbrev pub Ring : Type 0
 Ring = List PlaceOf
-
--- the last of the places from one on
-abbrev pub last_from : PlaceOf → List PlaceOf → PlaceOf
-last_from place [] = place
-last_from place (next ∷ places) = last_from next places
-
--- its last place is its first one
-abbrev pub IsClosed : Ring → Type 0
-IsClosed [] = Unit {0}
-IsClosed (place ∷ places) = last_from place places ≡ place
-
--- a ring that can be nested
-pub record IsRing (ring : Ring) : Type 0 where
-  pub long : 4 ≤ length ring
-  pub closed : IsClosed ring
 
 -- whether a number lies between two others, in whichever order they are
 abbrev pub is_between : ℤ → ℤ → ℤ → Bool
@@ -68,14 +53,9 @@ is_outer rings ring = depth rings ring % 2 == 0
 abbrev pub owns : List Ring → Ring → Ring → Bool
 owns rings ring other = holds ring other && (depth rings ring + 1 == depth rings other)
 
--- the number of the first ring that does, counted from a number on
-abbrev pub owner_from : List Ring → ℕ → List Ring → Ring → Option ℕ
-owner_from rings number [] other = None
-owner_from rings number (ring ∷ rest) other = if owns rings ring other then Some number else owner_from rings (number + 1) rest other
-
--- the ring that an inner ring belongs to
+-- the ring that an inner ring belongs to: the lowest that holds it and has a depth one less, by its number
 abbrev pub owner : List Ring → Ring → Option ℕ
-owner rings other = owner_from rings 0 rings other
+owner rings other = position_from (λ ring. owns rings ring other) 0 rings
 
 -- whether a number is this one
 abbrev pub is_number : ℕ → Option ℕ → Bool
@@ -86,23 +66,22 @@ is_number number (Some other) = other == number
 abbrev pub belongs : List Ring → ℕ → Ring → Bool
 belongs rings number ring = not (is_outer rings ring) && is_number number (owner rings ring)
 
--- the polygons of the rings from a number on: each outer ring, followed by those of the inner rings that belong to it
-abbrev pub polygons_from : List Ring → List Ring → ℕ → List Ring → List (List Ring)
-polygons_from rings inner number [] = []
-polygons_from rings inner number (ring ∷ rest) =
-    if is_outer rings ring
-    then (ring ∷ filter (belongs rings number) inner) ∷ polygons_from rings inner (number + 1) rest
-    else polygons_from rings inner (number + 1) rest
-
 -- whether a ring is an outer one, or belongs to one
 abbrev pub has_place : List Ring → Ring → Bool
 has_place rings ring = is_outer rings ring || is_some (owner rings ring)
 
--- the polygons of rings, where each inner ring belongs to one
-abbrev pub nested : List Ring → Option (List (List Ring))
-nested rings = if list_all (has_place rings) rings then Some (polygons_from rings rings 0 rings) else None
+-- the ring with a number
+abbrev pub ring_at : List Ring → ℕ → Ring
+ring_at rings number = slice_index_or rings number []
 
--- the place of each ring's polygon among the polygons, from a place on, by the depths of the rings
-abbrev pub slots_from : ℕ → List ℕ → List ℕ
-slots_from place [] = []
-slots_from place (depth ∷ depths) = place ∷ slots_from (if depth % 2 == 0 then place + 1 else place) depths
+-- the numbers of the outer rings, in order
+abbrev pub outers : List Ring → List ℕ
+outers rings = filter (λ number. is_outer rings (ring_at rings number)) (range_with_len 0 (length rings))
+
+-- the polygon of an outer ring: it, followed by the rings that belong to it, in order
+abbrev pub polygon : List Ring → ℕ → List Ring
+polygon rings number = ring_at rings number ∷ filter (belongs rings number) rings
+
+-- the polygons of rings: those of the outer rings in order. None where an inner ring belongs to no ring.
+abbrev pub nested : List Ring → Option (List (List Ring))
+nested rings = if list_all (has_place rings) rings then Some (map (polygon rings) (outers rings)) else None

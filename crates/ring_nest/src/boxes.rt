@@ -1,8 +1,8 @@
 //! The boxes of rings, and boxes around boxes.
-ghost use Rattle.std.specs.Prelude.{◌≡◌, ◌≤ℤ◌, map, IfOk};
+ghost use Rattle.std.specs.Prelude.{◌≡◌, ◌≤ℤ◌, true, map, IfOk, All};
 ghost use Rattle.std.specs.List.{AllByRecursion};
+ghost use Rattle.osm_base.specs.Line.{is_closed, IsRing};
 ghost use Rattle.ring_nest.specs.Around.{Covers, IsBoxed, around};
-ghost use Rattle.ring_nest.specs.Nesting.{IsClosed};
 
 use lanes_geo::box_of;
 use osm_base::{GeoBox, OutOfMemory, Place, Places};
@@ -10,7 +10,7 @@ use std::alloc::Global;
 
 /// The box of a ring.
 fn box_around(ring: &[Place]) -> GeoBox
-    requires { IsClosed ring.now }
+    requires { is_closed ring.now ≡ true }
     ensures around { result ≡ around ring.now }
     ensures boxed { IsBoxed ring.now }
 {
@@ -69,7 +69,7 @@ pub(crate) fn box_around_all(boxes: &[GeoBox]) -> GeoBox
 
 /// The boxes of rings.
 pub(crate) fn boxes_of(alloc: Global, rings: &[Places]) -> Result<Vec<GeoBox>, OutOfMemory>
-    requires { AllByRecursion IsClosed rings.now }
+    requires { All IsRing rings.now }
     ensures boxes { IfOk result (λ boxes. boxes.items ≡ map around rings.now) }
     ensures boxed { IfOk result (λ _. AllByRecursion IsBoxed rings.now) }
 {

@@ -1,8 +1,9 @@
 //! The rings that hold each ring, and what follows from them: its depth, and the ring that it belongs to.
 ghost use Rattle.std.specs.Prelude.{◌≡◌, ◌<◌, length, map, IfOk};
 ghost use Rattle.std.specs.List.{AllByRecursion, filter, range_with_len};
+ghost use Rattle.ring_nest.specs.Nesting.{ring_at};
 ghost use Rattle.ring_nest.specs.Around.{IsBoxed, around};
-ghost use Rattle.ring_nest.specs.Holders.{AreHolders, IsAsked, IsLeast, IsTree, is_above, is_holder, lesser_of, numbers_of, ring_at};
+ghost use Rattle.ring_nest.specs.Holders.{AreHolders, IsAsked, IsLeast, IsTree, is_above, is_holder, lesser_of, numbers_of};
 
 use crate::tree::{LEAF, Tree, add_holders, tree_of};
 use osm_base::{GeoBox, Items, OutOfMemory, Places};

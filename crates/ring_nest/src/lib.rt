@@ -19,8 +19,6 @@ mod holders;
 mod polygons;
 mod rings;
 mod segment;
-#[cfg(test)]
-mod tests;
 mod tree;
 
 pub use polygons::nest;

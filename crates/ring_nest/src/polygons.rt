@@ -1,10 +1,11 @@
 //! The polygons of rings.
-ghost use Rattle.std.specs.Prelude.{◌≡◌, ◌+◌, ◌<◌, true, take, ◌%◌, ◌==◌, ◌&&◌, ◌++◌, ◌∷◌, [], List, length, map, IfOk, OnOk, if◌then◌else◌, slice_index_or, slice_set};
-ghost use Rattle.std.specs.List.{AllByRecursion, list_all};
+ghost use Rattle.std.specs.Prelude.{◌≡◌, ◌+◌, ◌<◌, true, take, ◌%◌, ◌==◌, ◌&&◌, ◌++◌, ◌∷◌, [], List, length, map, IfOk, OnOk, if◌then◌else◌, slice_index_or, slice_set, All};
 ghost use Rattle.std.specs.Option.{option_map};
+ghost use Rattle.osm_base.specs.Line.{IsRing};
 ghost use Rattle.osm_base.specs.Place.{PlaceOf};
 ghost use Rattle.ring_nest.specs.Holders.{AreHolders};
-ghost use Rattle.ring_nest.specs.Nesting.{IsRing, has_place, depth as depth_of_ring, nested, polygons_from, slots_from};
+ghost use Rattle.ring_nest.specs.Nesting.{has_place, depth as depth_of_ring, nested};
+ghost use Rattle.ring_nest.specs.Polygons.{filled, polygons_from, slots_from};
 
 use crate::boxes::boxes_of;
 use crate::holders::{depths_of, holders_of_all, owner_of};
@@ -130,7 +131,7 @@ fn with_inners(
     requires holders { AreHolders rings.now holders.now }
     requires depths { depths.now ≡ map (depth_of_ring rings.now) rings.now }
     requires outers { outers.items ≡ polygons_from rings.now [] 0 rings.now }
-    ensures { IfOk result (λ polygons. option_map (λ some. some.items) polygons ≡ nested rings.now) }
+    ensures { IfOk result (λ polygons. option_map (λ some. some.items) polygons ≡ filled rings.now) }
 {
     let slots = slots_of(alloc, depths)?;
     let mut polygons = outers;
@@ -146,8 +147,9 @@ fn with_inners(
 
 /// The polygons of rings: each outer ring in order, followed by its inner rings in order. None where an inner ring belongs
 /// to no outer one.
+#[tactic(auto, using(crate::proofs::Outers::filled_is))]
 pub fn nest(alloc: Global, rings: &LineList) -> Result<Option<Polygons>, OutOfMemory>
-    requires { AllByRecursion IsRing rings.now }
+    requires { All IsRing rings.now }
     ensures { IfOk result (λ polygons. polygons ≡ nested rings.now) }
 {
     let rings = rings.as_slice();

@@ -3,8 +3,9 @@ ghost use Rattle.std.specs.Prelude.{◌≡◌, ◌≤◌, ◌<◌, ◌++◌, ◌
 ghost use Rattle.std.specs.List.{AllByRecursion, filter};
 ghost use Rattle.std.specs.List.Sorted.{IsPermutation};
 ghost use Rattle.lanes_geo.specs.Box.{meets};
+ghost use Rattle.ring_nest.specs.Nesting.{ring_at};
 ghost use Rattle.ring_nest.specs.Around.{IsBoxed, around};
-ghost use Rattle.ring_nest.specs.Holders.{IsAsked, IsLeaf, IsTree, box_of_tree, is_holder, numbers_of, ring_at};
+ghost use Rattle.ring_nest.specs.Holders.{IsAsked, IsLeaf, IsTree, box_of_tree, is_holder, numbers_of};
 
 use crate::boxes::{box_around_all, widened};
 use crate::rings::holds;

@@ -1,5 +1,5 @@
 use Rattle.std.proofs.Common.{◌≡◌, ◌≤◌, ◌-◌, ◌++◌, [], length, drop}
-use Rattle.ring_nest.specs.Nesting.{polygons_from}
+use Rattle.ring_nest.specs.Polygons.{polygons_from}
 use Rattle.ring_nest.proofs.polygons.outers_of.Given as goal
 
 -- the polygons so far, and those of what is left

@@ -1,5 +1,5 @@
 use Rattle.std.proofs.Common.{◌≡◌, ◌≤◌, ◌++◌, drop, vec_len}
-use Rattle.ring_nest.specs.Nesting.{slots_from}
+use Rattle.ring_nest.specs.Polygons.{slots_from}
 use Rattle.ring_nest.proofs.polygons.slots_of.Given as goal
 
 -- the places so far, and those of what is left

@@ -1,8 +1,9 @@
 use Rattle.std.proofs.Common.{◌≡◌, [], map, sym}
 use Rattle.std.specs.List.{filter}
 use Rattle.std.proofs.lemmas.List.{append-nil}
+use Rattle.ring_nest.specs.Nesting.{ring_at}
 use Rattle.ring_nest.specs.Around.{around}
-use Rattle.ring_nest.specs.Holders.{box_of_tree, is_holder, numbers_of, ring_at}
+use Rattle.ring_nest.specs.Holders.{box_of_tree, is_holder, numbers_of}
 use Rattle.ring_nest.proofs.Walked.{boxed_at, none_in, tree_covers}
 use Rattle.ring_nest.proofs.tree.+add_holders.Goals as goal
 

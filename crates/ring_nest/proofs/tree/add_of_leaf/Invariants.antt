@@ -1,6 +1,7 @@
 use Rattle.std.proofs.Common.{◌≡◌, ◌≤◌, ◌-◌, ◌++◌, length, take}
 use Rattle.std.specs.List.{filter}
-use Rattle.ring_nest.specs.Holders.{is_holder, ring_at}
+use Rattle.ring_nest.specs.Nesting.{ring_at}
+use Rattle.ring_nest.specs.Holders.{is_holder}
 use Rattle.ring_nest.proofs.tree.add_of_leaf.Given as goal
 
 -- the holders so far, behind those of before

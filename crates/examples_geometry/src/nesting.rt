@@ -1,0 +1,33 @@
+//! Rings nested to polygons.
+use crate::notation::{lines_of, push_word, word_of_line};
+use osm_base::{LineList, OutOfMemory};
+use ring_build::are_rings;
+use ring_nest::nest;
+use std::alloc::{AllocError, Global};
+
+/// The polygons of rings, with a `/` between them, and `-` where a ring belongs to none.
+pub fn nested(alloc: Global, given: &str) -> Result<Option<String>, OutOfMemory> {
+    let Some(rings) = lines_of(alloc, given)? else {
+        return Ok(None);
+    };
+    if !are_rings(&rings) {
+        return Ok(None);
+    }
+    match nest(alloc, &rings)? {
+        None => Ok(Some(String::from_str(alloc, "-")?)),
+        Some(polygons) => Ok(Some(text_of_polygons(alloc, polygons.as_slice())?)),
+    }
+}
+
+fn text_of_polygons(alloc: Global, polygons: &[LineList]) -> Result<String, AllocError> {
+    let mut text = String::new(alloc);
+    for polygon in polygons {
+        if !text.is_empty() {
+            push_word(&mut text, "/")?;
+        }
+        for ring in polygon.as_slice() {
+            push_word(&mut text, word_of_line(alloc, ring.as_slice())?.as_str())?;
+        }
+    }
+    Ok(text)
+}
