@@ -39,7 +39,7 @@ cut_reaches : (pick : CrashPick) (call : Call) (medium : Medium) (content : List
     → Reaches medium.stable medium.ranges content
     → Reaches (after call medium).stable (after call medium).ranges (cut_short pick call content)
 cut_reaches pick Look medium content quiet reached = reached
-cut_reaches pick (Write at piece done) medium content quiet reached = (content, reached, Torn-half pick at piece.items content)
+cut_reaches pick (Write at piece done) medium content quiet reached = (content, reached, Torn-half pick at piece content)
 cut_reaches pick (Sync true) medium content quiet reached = absurd (cc)
 cut_reaches pick (Sync false) medium content quiet reached = reached
 

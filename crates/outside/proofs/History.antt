@@ -32,7 +32,7 @@ after-adds (Write at piece done) old new start is = λ left may.
       | inl seen ↦ (
         medium.seen,
         inl refl,
-        subst (λ (l : List ℕ). Torn at (length piece.items) medium.seen l) (sym seen) (Torn-written at piece.items medium.seen done),
+        subst (λ (l : List ℕ). Torn at (length piece) medium.seen l) (sym seen) (Torn-written at piece medium.seen done),
       )
       | inr reached ↦ (reached.0, inr reached.1, reached.2)
     ]
@@ -57,7 +57,7 @@ adds_nothing Look start old new is = λ left may. subst (λ (calls : List Call).
 adds_nothing (Write at piece done) start old new is = λ left may. (
   left,
   subst (λ (calls : List Call). MayLeave (run (fresh start) calls) left) is may,
-  Torn-same at (length piece.items) left,
+  Torn-same at (length piece) left,
 )
 adds_nothing (Sync done) start old new is = λ left may. subst (λ (calls : List Call). MayLeave (run (fresh start) calls) left) is may
 

@@ -18,7 +18,7 @@ half_written (Garbage byte) at piece content = overlaid at (replicate (length pi
 -- a content after a call that a crash cut short
 abbrev pub cut_short : CrashPick → Call → List ℕ → List ℕ
 cut_short pick Look content = content
-cut_short pick (Write at piece done) content = half_written pick at piece.items content
+cut_short pick (Write at piece done) content = half_written pick at piece content
 cut_short pick (Sync done) content = content
 
 -- a content after calls that a crash cut short, one after another

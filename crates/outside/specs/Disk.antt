@@ -3,6 +3,7 @@
 -- end may be anywhere from the old one to the new one. Bytes outside the written ranges stay. A write that fails
 -- counts as written. A sync that succeeds leaves what a read gives, and one that fails promises nothing new.
 use Rattle.std.specs.Prelude.{◌≡◌, ℕ, ◌+◌, ◌-◌, ◌<◌, ◌≤◌, ◌⊎◌, min, max, List, ◌++◌, length, take, drop, replicate, slice_index, Option, Some}
+use Rattle.outside.specs.Calls.{one_more}
 
 -- what crashes may leave: of a crash now, and of a crash at some moment from an earlier one on, inside a call or
 -- between two. The clock of moments never goes back.
@@ -11,17 +12,31 @@ pub record Crashes : Type 1 where
   pub outcomes : List ℕ → Type 0
   pub outcomes_since : ℕ → List ℕ → Type 0
 
+-- how many reads there were, and where the furthest of the ranges ended that they asked for
+pub record ReadLog : Type 0 where
+  pub count : ℕ
+  pub reach : ℕ
+
+-- the reads after one more, of so many bytes from this place on
+abbrev pub one_read : ℕ → ℕ → ReadLog → ReadLog
+one_read at len log = record { count = one_more log.count; reach = max log.reach (at + len) }
+
 -- what a disk is: what a read gives, where it tells that; what crashes may leave; how many calls have failed; and
--- how many were reads, where it tells that
+-- the reads, where it tells them
 pub record DiskView : Type 1 where
   pub content : Option (List ℕ)
   pub crashes : Crashes
   pub faults : ℕ
-  pub reads : Option ℕ
+  pub reads : Option ReadLog
 
 -- the disk tells that a read gives this
 abbrev pub Tells : DiskView → List ℕ → Type 0
 Tells view content = view.content ≡ Some content
+
+-- where the reads are told, there were at most so many more, and none of them past this end
+abbrev pub ReadsAtMost : ℕ → ℕ → DiskView → DiskView → Type 0
+ReadsAtMost count end old new = (before : ReadLog) → old.reads ≡ Some before → (now : ReadLog) × (new.reads ≡ Some now)
+    × (now.count ≤ before.count + count) × (now.reach ≤ max before.reach end)
 
 -- the front of a content, made longer by zeros where it is too short
 unfoldable pub padded : ℕ → List ℕ → List ℕ

@@ -3,6 +3,7 @@ use Rattle.std.specs.Prelude.{ℕ, List}
 use Rattle.outside.specs.Disk.{Crashes}
 use Rattle.outside.specs.Recorded.{first_bytes}
 use Rattle.outside.specs.Tape.{crashes_of}
+use Rattle.outside.specs.declared.tape.Call.{Call}
 use Rattle.outside.specs.declared.recorded.Recorded.{Recorded}
 
 abbrev pub bytes_of : Recorded → List ℕ
@@ -10,6 +11,9 @@ bytes_of recorded = recorded.bytes.items
 
 abbrev pub start_of : Recorded → List ℕ
 start_of recorded = first_bytes recorded.start recorded.bytes.items
+
+abbrev pub calls_in : Recorded → List Call
+calls_in recorded = recorded.calls.items
 
 abbrev pub crashes_in : Recorded → Crashes
 crashes_in recorded = crashes_of (start_of recorded) recorded.calls.items

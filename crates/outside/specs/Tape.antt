@@ -21,9 +21,9 @@ fresh content = record { seen = content; stable = content; ranges = [] }
 abbrev pub after : Call → Medium → Medium
 after Look medium = medium
 after (Write at piece done) medium = record {
-  seen = if done then overlaid at piece.items medium.seen else medium.seen;
+  seen = if done then overlaid at piece medium.seen else medium.seen;
   stable = medium.stable;
-  ranges = (at, length piece.items) ∷ medium.ranges;
+  ranges = (at, length piece) ∷ medium.ranges;
 }
 after (Sync done) medium = record {
   seen = medium.seen;
@@ -64,7 +64,7 @@ crashes_of start calls = record {
 
 -- what one call more adds to what crashes may leave
 abbrev pub CallAdds : Call → Crashes → Crashes → Type 0
-CallAdds (Write at piece done) old new = Follows (Torn at (length piece.items)) old new
+CallAdds (Write at piece done) old new = Follows (Torn at (length piece)) old new
 CallAdds _ old new = NoneNew old new
 
 -- now is a moment of those since an earlier one

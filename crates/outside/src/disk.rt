@@ -1,14 +1,14 @@
 //! The disk on which a store lies.
 ghost use Rattle.std.specs.Prelude.{◌≡◌, ℕ, ◌+◌, ◌^◌, ◌≤◌, List, length, option_map, IfOk, OnOk};
-ghost use Rattle.outside.specs.Calls.{one_more};
+ghost use Rattle.outside.specs.Bytes.{IsTold};
 ghost use Rattle.outside.specs.Causes.{HasCause};
-ghost use Rattle.outside.specs.Disk.{DiskView, Tells, Torn, ReadsFrom, Follows, NoneNew, Only, Elapses, overlaid};
+ghost use Rattle.outside.specs.Disk.{DiskView, Tells, Torn, ReadsFrom, Follows, NoneNew, Only, Elapses, overlaid, one_read};
 
 use crate::Failed;
 
 /// Bytes that are read and written at any place, and that a crash may damage until they are synced.
 pub trait Disk: Send {
-    /// What a read gives, what a crash may leave, and the counts of faults and of reads.
+    /// What a read gives, what a crash may leave, the count of faults, and the reads.
     ghost view: { Self → DiskView };
 
     /// How many bytes there are.
@@ -29,7 +29,7 @@ pub trait Disk: Send {
         ensures bytes { IfOk result (λ count. (content : List ℕ) → Tells (view self.old) content
             → ReadsFrom at count content buf.old buf.new) }
         ensures content { (view self.new).content ≡ (view self.old).content }
-        ensures reads { (view self.new).reads ≡ option_map one_more (view self.old).reads }
+        ensures reads { (view self.new).reads ≡ option_map (one_read at (length buf.old)) (view self.old).reads }
         ensures crash { NoneNew (view self.old).crashes (view self.new).crashes }
         ensures time { Elapses (view self.old).crashes (view self.new).crashes }
         ensures cause { HasCause (view self.old).faults (view self.new).faults result };
@@ -39,6 +39,7 @@ pub trait Disk: Send {
     fn write_at(&mut self, at: u64, piece: &[u8]) -> Result<(), Failed>
         requires { at + length piece.now ≤ 2 ^ 62 }
         ensures written { OnOk result ((view self.new).content ≡ option_map (overlaid at piece.now) (view self.old).content) }
+        ensures told { IsTold (view self.old).content → IsTold (view self.new).content }
         ensures reads { (view self.new).reads ≡ (view self.old).reads }
         ensures crash { Follows (Torn at (length piece.now)) (view self.old).crashes (view self.new).crashes }
         ensures time { Elapses (view self.old).crashes (view self.new).crashes }

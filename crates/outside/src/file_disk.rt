@@ -19,6 +19,7 @@ pub struct FileDisk<'p, R: Files> {
     rt: R,
     path: &'p str,
     make: bool,
+    named: bool,
     open: Option<R::File>,
     faults: u64,
 }
@@ -42,6 +43,7 @@ impl<'p, R: Files> FileDisk<'p, R> {
             rt,
             path,
             make,
+            named: !make,
             open: None,
             faults: 0,
         }
@@ -63,16 +65,20 @@ impl<R: Files + Drop> FileDisk<'_, R> {
         Ok(())
     }
 
-    // Makes the name of a file stable that this disk may have made.
-    fn keep_name(&self) -> io::Result<()> {
-        if !self.make {
+    // Makes the name of a file stable that this disk may have made. It stays so, so that once is enough.
+    fn keep_name(&mut self) -> io::Result<()>
+        ensures same { self.new ≡ self.old }
+    {
+        if self.named {
             return Ok(());
         }
         let folder = match Path::new(self.path).parent() {
             Some(folder) if !folder.as_str().is_empty() => folder.as_str(),
             _ => ".",
         };
-        fs::open(&self.rt, folder)?.sync_all()
+        fs::open(&self.rt, folder)?.sync_all()?;
+        self.named = true;
+        Ok(())
     }
 
     fn try_len(&mut self) -> io::Result<u64>

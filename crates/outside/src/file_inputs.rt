@@ -95,6 +95,12 @@ where
 {
     ghost view = { λ faults. record { left = λ _. None; faults = faults } };
 
+    ghost reads = { λ _ _ _. Unit {0} };
+
+    ghost reads_none = { λ _. tt };
+
+    ghost reads_then = { λ _ _ _ _ _ _ _. tt };
+
     fn next(&mut self, file: u32, buf: &mut [u8]) -> Result<usize, Failed> {
         self.read(file, buf)
     }

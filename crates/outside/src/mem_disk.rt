@@ -1,8 +1,10 @@
 //! A disk in memory.
 ghost use Rattle.std.specs.Prelude.{◌≡◌, ◌+◌, ◌-◌, ◌^◌, ◌<◌, ◌≤◌, [], ℕ, List, Some, true, false, if◌then◌else◌, length, option_map, is_err, is_ok, IfOk, OnOk, OnErr, IsErr, IsTrue};
-ghost use Rattle.outside.specs.Calls.{NamesNext, one_more, after_call};
+ghost use Rattle.outside.specs.Bytes.{IsTold};
+ghost use Rattle.outside.specs.Calls.{one_more};
 ghost use Rattle.outside.specs.Causes.{HasCause};
-ghost use Rattle.outside.specs.Disk.{Tells, Torn, ReadsFrom, Follows, NoneNew, Only, Elapses, overlaid, told_is};
+ghost use Rattle.outside.specs.Disk.{Tells, Torn, ReadsFrom, Follows, NoneNew, Only, Elapses, overlaid, one_read, told_is};
+ghost use Rattle.outside.specs.declared.tape.Call.TheVariants.{Look, Sync, Write};
 ghost use Rattle.outside.specs.Tape.{since_counts_now, since_only_now};
 ghost use Rattle.std.proofs.Common.{inl, sym, ◌∙◌};
 
@@ -20,11 +22,12 @@ pub struct MemDisk {
     recorded: Recorded,
     calls: Calls,
     reads: u64,
+    reach: u64,
     short: bool,
 }
 
 impl MemDisk {
-    ghost use Rattle.outside.specs.MemDisk.{disk_bytes, disk_calls, disk_short, disk_view, kept_calls, IsCrashIn, MayBeLeftIn};
+    ghost use Rattle.outside.specs.MemDisk.{disk_bytes, disk_calls, disk_short, disk_view, first_content, kept_calls, IsCrashIn, MayBeLeftIn};
 
     /// A disk with these bytes, all of them stable.
     pub fn new(alloc: Global, bytes: Bytes, fails: Fails) -> Self
@@ -32,14 +35,16 @@ impl MemDisk {
         ensures bytes { disk_bytes result ≡ bytes }
         ensures stable { Only bytes (disk_view result).crashes }
         ensures calls { disk_calls result ≡ record { fails = fails; made = 0; failed = 0 } }
-        ensures none { kept_calls result ≡ 0 }
-        ensures reads { (disk_view result).reads ≡ Some 0 }
+        ensures none { kept_calls result ≡ [] }
+        ensures first { first_content result ≡ bytes }
+        ensures reads { (disk_view result).reads ≡ Some (record { count = 0; reach = 0 }) }
         ensures not_short { disk_short result ≡ false }
     {
         Self {
             recorded: Recorded::new(alloc, bytes.into_vec()),
             calls: Calls::new(fails),
             reads: 0,
+            reach: 0,
             short: false,
         }
     }
@@ -53,7 +58,7 @@ impl MemDisk {
 
     /// How many calls were kept.
     pub fn calls(&self) -> u64
-        ensures { result ≡ kept_calls self.now }
+        ensures { result ≡ length (kept_calls self.now) }
     {
         self.recorded.calls() as u64
     }
@@ -73,13 +78,13 @@ impl MemDisk {
         pick: CrashPick,
     ) -> Result<MemDisk, OutOfMemory>
         requires first { 0 < call }
-        requires last { call ≤ kept_calls self.now }
+        requires last { call ≤ length (kept_calls self.now) }
         ensures left { IfOk result (λ disk. IsCrashIn self.now call pick (disk_bytes disk)) }
         ensures outcome { IfOk result (λ disk. MayBeLeftIn self.now call (disk_bytes disk)) }
         ensures stable { IfOk result (λ disk. Only (disk_bytes disk) (disk_view disk).crashes) }
         ensures calls { IfOk result (λ disk. disk_calls disk ≡ record { fails = record { at = []; from = 0 }; made = 0; failed = 0 }) }
-        ensures none { IfOk result (λ disk. kept_calls disk ≡ 0) }
-        ensures reads { IfOk result (λ disk. (disk_view disk).reads ≡ Some 0) }
+        ensures none { IfOk result (λ disk. kept_calls disk ≡ []) }
+        ensures reads { IfOk result (λ disk. (disk_view disk).reads ≡ Some (record { count = 0; reach = 0 })) }
         ensures not_short { IfOk result (λ disk. disk_short disk ≡ false) }
     {
         let left = self.recorded.after_crash(alloc, call as usize, pick)?;
@@ -112,7 +117,7 @@ fn answer(
 }
 
 impl Disk for MemDisk {
-    ghost use Rattle.outside.specs.MemDisk.{disk_bytes, disk_view, FailsAsPlanned};
+    ghost use Rattle.outside.specs.MemDisk.{disk_bytes, disk_view, Makes};
 
     ghost view = { disk_view };
 
@@ -130,7 +135,7 @@ impl Disk for MemDisk {
         ensures crash { NoneNew (disk_view self.old).crashes (disk_view self.new).crashes }
         ensures time { Elapses (disk_view self.old).crashes (disk_view self.new).crashes }
         ensures cause { HasCause (disk_view self.old).faults (disk_view self.new).faults result }
-        ensures planned { FailsAsPlanned self.old self.new result }
+        ensures made { Makes (λ _. Look) self.old self.new result }
     {
         let begun = self.calls.begin();
         let kept = self.recorded.look();
@@ -144,13 +149,14 @@ impl Disk for MemDisk {
         ensures bytes { IfOk result (λ count. (content : List ℕ) → Tells (disk_view self.old) content
             → ReadsFrom at count content buf.old buf.new) }
         ensures content { (disk_view self.new).content ≡ (disk_view self.old).content }
-        ensures reads { (disk_view self.new).reads ≡ option_map one_more (disk_view self.old).reads }
+        ensures reads { (disk_view self.new).reads ≡ option_map (one_read at (length buf.old)) (disk_view self.old).reads }
         ensures crash { NoneNew (disk_view self.old).crashes (disk_view self.new).crashes }
         ensures time { Elapses (disk_view self.old).crashes (disk_view self.new).crashes }
         ensures cause { HasCause (disk_view self.old).faults (disk_view self.new).faults result }
-        ensures planned { FailsAsPlanned self.old self.new result }
+        ensures made { Makes (λ _. Look) self.old self.new result }
     {
         self.reads = self.reads.saturating_add(1);
+        self.reach = self.reach.max(at + buf.len() as u64);
         let begun = self.calls.begin();
         let kept = self.recorded.look();
         answer(&mut self.calls, &mut self.short, begun, kept)?;
@@ -164,8 +170,9 @@ impl Disk for MemDisk {
         ensures crash { Follows (Torn at (length piece.now)) (disk_view self.old).crashes (disk_view self.new).crashes }
         ensures time { Elapses (disk_view self.old).crashes (disk_view self.new).crashes }
         ensures cause { HasCause (disk_view self.old).faults (disk_view self.new).faults result }
+        ensures told { IsTold (disk_view self.old).content → IsTold (disk_view self.new).content }
         ensures failed { OnErr result ((disk_view self.new).content ≡ (disk_view self.old).content) }
-        ensures planned { FailsAsPlanned self.old self.new result }
+        ensures made { Makes (Write at piece.now) self.old self.new result }
     {
         let begun = self.calls.begin();
         let kept = if begun.is_ok() {
@@ -184,7 +191,7 @@ impl Disk for MemDisk {
         ensures crash { NoneNew (disk_view self.old).crashes (disk_view self.new).crashes }
         ensures time { Elapses (disk_view self.old).crashes (disk_view self.new).crashes }
         ensures cause { HasCause (disk_view self.old).faults (disk_view self.new).faults result }
-        ensures planned { FailsAsPlanned self.old self.new result }
+        ensures made { Makes Sync self.old self.new result }
     {
         let begun = self.calls.begin();
         let kept = self.recorded.sync(begun.is_ok());

@@ -1,8 +1,10 @@
 //! Files in memory, read as `Inputs`.
-ghost use Rattle.std.specs.Prelude.{◌≡◌, ◌≢◌, ◌<◌, ◌≤◌, ◌⊎◌, ◌↔◌, ℕ, [], min, length, slice_get, slice_index_or, IfOk, IsErr, is_err};
+ghost use Rattle.std.specs.Prelude.{◌≡◌, ◌≢◌, ◌<◌, ◌≤◌, ◌⊎◌, ◌↔◌, ℕ, [], ◌∷◌, min, length, slice_get, slice_index_or, IfOk, IsErr, is_err};
 ghost use Rattle.std.specs.Io.KnownBytes.{ReadConsumes};
 ghost use Rattle.outside.specs.Calls.{NamesNext, after_call};
 ghost use Rattle.outside.specs.Causes.{HasCause};
+ghost use Rattle.outside.specs.MemInputs.{Reads, reads_then_reads};
+ghost use Rattle.std.proofs.Common.{refl};
 
 use crate::calls::Calls;
 use crate::files_left::FilesLeft;
@@ -41,12 +43,19 @@ impl MemInputs {
 impl Inputs for MemInputs {
     ghost view = { λ inputs. record { left = λ file. slice_get inputs.left file; faults = inputs.calls.failed } };
 
+    ghost reads = { Reads };
+
+    ghost reads_none = { λ inputs other beside. refl };
+
+    ghost reads_then = { reads_then_reads };
+
     fn next(&mut self, file: u32, buf: &mut [u8]) -> Result<usize, Failed>
         requires { 0 < length buf.old }
         ensures bound { IfOk result (λ count. count ≤ length buf.new) }
         ensures bytes { ReadConsumes (slice_get self.old.left file) (slice_get self.new.left file) result buf.new }
         ensures others { (other : ℕ) → other ≢ file → slice_get self.new.left other ≡ slice_get self.old.left other }
         ensures cause { HasCause self.old.calls.failed self.new.calls.failed result }
+        ensures read { Reads self.old (file ∷ []) self.new }
         ensures failed { IsErr result ↔ (NamesNext self.old.calls ⊎ (length self.old.left ≤ file)) }
         ensures count { IfOk result (λ count. count ≡ min (length buf.old) (length (slice_index_or self.old.left file []))) }
         ensures calls { self.new.calls ≡ after_call self.old.calls (is_err result) }

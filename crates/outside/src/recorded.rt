@@ -1,14 +1,16 @@
 //! Bytes in memory with the calls that made them.
-ghost use Rattle.std.specs.Prelude.{◌≡◌, ◌+◌, ◌-◌, ◌^◌, ◌≤◌, ◌<◌, ◌⊎◌, [], List, ℕ, length, IsTrue, OnOk, OnErr, IfOk, IsSome};
+ghost use Rattle.std.specs.Prelude.{◌≡◌, ◌+◌, ◌-◌, ◌^◌, ◌≤◌, ◌<◌, ◌⊎◌, ◌++◌, ◌∷◌, [], true, false, List, ℕ, length, IsTrue, OnOk, OnErr, IfOk, IsSome};
 ghost use Rattle.outside.specs.CrashPick.{IsLeftIn};
 ghost use Rattle.outside.specs.Disk.{NoneNew, Follows, Torn, Elapses, Only, overlaid};
 ghost use Rattle.outside.specs.Recorded.{first_bytes};
+ghost use Rattle.outside.specs.declared.tape.Call.TheVariants.{Look, Sync, Write};
 ghost use Rattle.outside.specs.Tape.{MayLeaveAfter, crashes_of, fresh, run};
 
 use crate::CrashPick;
 use crate::crash_pick::left_in;
 use crate::overwrite::{grow, put_over};
 use crate::tape::{Call, note};
+use osm_base::Bytes;
 use std::alloc::{AllocError, Global};
 
 /// Bytes in memory, and all calls that made them of those that were there first.
@@ -22,14 +24,14 @@ pub struct Recorded {
 }
 
 impl Recorded {
-    ghost use Rattle.outside.specs.RecordedView.{bytes_of, start_of, crashes_in};
+    ghost use Rattle.outside.specs.RecordedView.{bytes_of, start_of, calls_in, crashes_in};
 
     /// These bytes, and no call.
     pub fn new(alloc: Global, bytes: Vec<u8>) -> Self
         requires { length bytes.items ≤ 2 ^ 62 }
         ensures bytes { bytes_of result ≡ bytes.items }
         ensures start { start_of result ≡ bytes.items }
-        ensures calls { result.calls.items ≡ [] }
+        ensures calls { calls_in result ≡ [] }
     {
         Self {
             start: None,
@@ -56,7 +58,9 @@ impl Recorded {
         ensures bytes { bytes_of self.new ≡ bytes_of self.old }
         ensures crash { NoneNew (crashes_in self.old) (crashes_in self.new) }
         ensures time { Elapses (crashes_in self.old) (crashes_in self.new) }
-        ensures noted { OnOk result ((crashes_in self.new).moment ≡ (crashes_in self.old).moment + 1) }
+        ensures start { start_of self.new ≡ start_of self.old }
+        ensures kept { OnOk result (calls_in self.new ≡ calls_in self.old ++ Look ∷ []) }
+        ensures lost { OnErr result (calls_in self.new ≡ calls_in self.old) }
     {
         note(&mut self.calls, Call::Look)?;
         Ok(())
@@ -68,7 +72,9 @@ impl Recorded {
         ensures bytes { bytes_of self.new ≡ bytes_of self.old }
         ensures crash { NoneNew (crashes_in self.old) (crashes_in self.new) }
         ensures time { Elapses (crashes_in self.old) (crashes_in self.new) }
-        ensures noted { OnOk result ((crashes_in self.new).moment ≡ (crashes_in self.old).moment + 1) }
+        ensures start { start_of self.new ≡ start_of self.old }
+        ensures kept { OnOk result (calls_in self.new ≡ calls_in self.old ++ Sync done ∷ []) }
+        ensures lost { OnErr result (calls_in self.new ≡ calls_in self.old) }
     {
         note(&mut self.calls, Call::Sync(done))?;
         Ok(())
@@ -79,9 +85,11 @@ impl Recorded {
         ensures bytes { bytes_of self.new ≡ bytes_of self.old }
         ensures crash { Follows (Torn at (length piece.now)) (crashes_in self.old) (crashes_in self.new) }
         ensures time { Elapses (crashes_in self.old) (crashes_in self.new) }
-        ensures noted { OnOk result ((crashes_in self.new).moment ≡ (crashes_in self.old).moment + 1) }
+        ensures start { start_of self.new ≡ start_of self.old }
+        ensures kept { OnOk result (calls_in self.new ≡ calls_in self.old ++ Write at piece.now false ∷ []) }
+        ensures lost { OnErr result (calls_in self.new ≡ calls_in self.old) }
     {
-        let kept = piece.to_vec(*self.bytes.allocator())?;
+        let kept = Bytes::from_vec(piece.to_vec(*self.bytes.allocator())?);
         note(&mut self.calls, Call::Write(at, kept, false))?;
         Ok(())
     }
@@ -93,7 +101,9 @@ impl Recorded {
         ensures err { OnErr result (bytes_of self.new ≡ bytes_of self.old) }
         ensures crash { Follows (Torn at (length piece.now)) (crashes_in self.old) (crashes_in self.new) }
         ensures time { Elapses (crashes_in self.old) (crashes_in self.new) }
-        ensures noted { OnOk result ((crashes_in self.new).moment ≡ (crashes_in self.old).moment + 1) }
+        ensures start { start_of self.new ≡ start_of self.old }
+        ensures kept { OnOk result (calls_in self.new ≡ calls_in self.old ++ Write at piece.now true ∷ []) }
+        ensures lost { OnErr result (calls_in self.new ≡ calls_in self.old) }
     {
         keep_first(
             *self.bytes.allocator(),
@@ -112,9 +122,9 @@ impl Recorded {
     ) -> Result<Vec<u8>, AllocError>
         requires first { 0 < number }
         requires last { number ≤ (crashes_in self.now).moment }
-        ensures left { IfOk result (λ left. IsLeftIn pick (start_of self.now) self.now.calls.items number left.items) }
-        ensures outcome { IfOk result (λ left. MayLeaveAfter (start_of self.now) self.now.calls.items (number - 1) left.items
-            ⊎ MayLeaveAfter (start_of self.now) self.now.calls.items number left.items) }
+        ensures left { IfOk result (λ left. IsLeftIn pick (start_of self.now) (calls_in self.now) number left.items) }
+        ensures outcome { IfOk result (λ left. MayLeaveAfter (start_of self.now) (calls_in self.now) (number - 1) left.items
+            ⊎ MayLeaveAfter (start_of self.now) (calls_in self.now) number left.items) }
     {
         let start = match &self.start {
             Some(kept) => kept.as_slice(),
@@ -151,9 +161,10 @@ fn write_over(
     ensures crash { (start : List ℕ) → Follows (Torn at (length piece.now)) (crashes_of start calls.old.items)
         (crashes_of start calls.new.items) }
     ensures time { (start : List ℕ) → Elapses (crashes_of start calls.old.items) (crashes_of start calls.new.items) }
-    ensures noted { OnOk result (length calls.new.items ≡ length calls.old.items + 1) }
+    ensures noted { OnOk result (calls.new.items ≡ calls.old.items ++ Write at piece.now true ∷ []) }
+    ensures lost { OnErr result (calls.new.items ≡ calls.old.items) }
 {
-    let kept = piece.to_vec(*bytes.allocator())?;
+    let kept = Bytes::from_vec(piece.to_vec(*bytes.allocator())?);
     let len = bytes.len();
     grow(bytes, at as usize + piece.len())?;
     match note(calls, Call::Write(at, kept, true)) {

@@ -3,13 +3,14 @@ ghost use Rattle.std.specs.Prelude.{◌≡◌, ◌++◌, ◌∷◌, [], ℕ, Lis
 ghost use Rattle.outside.specs.Disk.{Elapses};
 ghost use Rattle.outside.specs.Tape.{Medium, after, fresh, run, crashes_of, CallAdds};
 
+use osm_base::Bytes;
 use std::alloc::AllocError;
 
 /// A call of a disk in memory. The flag says that it was done, and not refused.
 #[derive(Debug, Drop)]
 pub enum Call {
     Look,
-    Write(u64, Vec<u8>, bool),
+    Write(u64, Bytes, bool),
     Sync(bool),
 }
 

@@ -1,5 +1,5 @@
 -- How a run of disk calls goes on.
-use Rattle.std.proofs.Common.{◌≡◌, inl, inr, ⊎_elim, ℕ, List, Option, Some, option_map, ap, ◌∙◌, arith}
+use Rattle.std.proofs.Common.{◌≡◌, ◌≤◌, inl, inr, ⊎_elim, ℕ, List, Option, Some, option_map, ap, ◌∙◌, arith}
 use Rattle.outside.specs.Disk.{Crashes, DiskView, Elapses, NoneNew, Goes, Stays, Within}
 use Rattle.page_journal.specs.Crash.{IsSettled}
 
@@ -19,6 +19,18 @@ goes_on P old mid new so_far time here = record {
 -- one call more, that adds no outcome
 pub goes_quiet : (P : List ℕ → Type 0) (old mid new : Crashes) → Goes P old mid → Elapses mid new → NoneNew mid new → Goes P old new
 goes_quiet P old mid new so_far time none = goes_on P old mid new so_far time (λ left now. so_far.now left (none left now))
+
+-- a call that adds no outcome, and then another
+pub elapses_quiet : (old mid new : Crashes)
+    → ((since : ℕ) (left : List ℕ) → since ≤ old.moment → old.outcomes left → old.outcomes_since since left)
+    → NoneNew old mid → Elapses old mid → Elapses mid new → Elapses old new
+elapses_quiet old mid new counts none first second = record {
+  later = omega (arith, first.later, second.later);
+  each = λ since left le now.
+      ⊎_elim (λ before. ⊎_elim (λ last. inl last) (λ here. inl (counts since left le (none left here))) (first.each since left le before)) (λ here. inr here)
+      (second.each since left (omega (arith, le, first.later)) now);
+  keeps = λ since left le before. second.keeps since left (omega (arith, le, first.later)) (first.keeps since left le before);
+}
 
 -- a run after a run
 pub goes_then : (P : List ℕ → Type 0) (old mid new : Crashes) → Goes P old mid → Goes P mid new → Goes P old new

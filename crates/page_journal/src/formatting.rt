@@ -1,6 +1,7 @@
 //! The first bytes of a store.
 ghost use Rattle.std.specs.Prelude.{◌≡◌, ◌≢◌, ◌+◌, ◌<◌, ◌≤◌, ◌⊎◌, ◌^◌, List, [], ◌∷◌, ℕ, length, OnOk, IsErrOf, EachIndex, slice_index};
-ghost use Rattle.outside.specs.Disk.{Tells};
+ghost use Rattle.outside.specs.Bytes.{IfTold};
+ghost use Rattle.outside.specs.Disk.{Stays, Tells};
 ghost use Rattle.page_journal.specs.Answers.{Formats, HasDiskCause, IsFormatAnswer};
 ghost use Rattle.page_journal.specs.Crash.{IsSettled};
 ghost use Rattle.page_journal.specs.Home.{IsFresh};
@@ -14,12 +15,17 @@ use outside::Disk;
 const FRESH_LEN: usize = 2 * PAGE;
 
 /// Writes an empty store to an empty disk.
+#[tactic(auto, using(crate::proofs::Moments::looks))]
 pub fn format<D: Disk>(disk: &mut D) -> Result<(), StoreFault>
     ensures fresh { OnOk result ((bytes : List ℕ) → Tells (D.view disk.old) bytes
         → (now : List ℕ) × IsFresh now × IsSettled (page_from now 4096 ∷ []) now (D.view disk.new)) }
     ensures answers { (bytes : List ℕ) → Tells (D.view disk.old) bytes → Formats bytes result }
     ensures alone { IsFormatAnswer result }
-    ensures unchanged { IsErrOf result NotEmpty → (D.view disk.new).content ≡ (D.view disk.old).content }
+
+    // A disk that holds bytes is looked at, whatever the answer.
+    ensures looked { IfTold (D.view disk.old).content (λ bytes. length bytes ≢ 0 → Stays (D.view disk.old) (D.view disk.new)) }
+    ensures refused { IsErrOf result NotEmpty → Stays (D.view disk.old) (D.view disk.new) }
+    ensures reads { (D.view disk.new).reads ≡ (D.view disk.old).reads }
     ensures cause { HasDiskCause (D.view disk.old).faults (D.view disk.new).faults result }
 {
     if disk.len()? != 0 {

@@ -1,7 +1,6 @@
 //! The home pages of an open store.
 ghost use Rattle.std.specs.Prelude.{◌≡◌, ◌⊎◌, ◌+◌, ◌*◌, ◌^◌, ◌<◌, ◌≤◌, ◌||◌, List, ℕ, false, length, option_map, is_ok, MatchResult, Ok, Err, IfOk, OnOk, IsErr, if◌then◌else◌};
-ghost use Rattle.outside.specs.Calls.{one_more};
-ghost use Rattle.outside.specs.Disk.{Tells, Goes, Stays};
+ghost use Rattle.outside.specs.Disk.{one_read, Tells, Goes, Stays};
 ghost use Rattle.page_journal.specs.Answers.{Commits, HasDiskCause, IsOpenAnswer, Opens, Reads, ReadsFrom, answers_disk_fault};
 ghost use Rattle.page_journal.specs.Crash.{AllHome, IsLikeOne, IsSettled};
 ghost use Rattle.page_journal.specs.Home.{Home};
@@ -101,7 +100,7 @@ impl<'d, D: Disk> Journal<'d, D> {
         ensures bounds { (bytes : List ℕ) → Tells (D.view self.old.disk.now) bytes → ReadsFrom bytes page result }
         ensures stays { Stays (D.view self.old.disk.now) (D.view self.new.disk.now) }
         ensures reads { (D.view self.new.disk.now).reads ≡ (if is_broken self.old then (D.view self.old.disk.now).reads
-            else option_map one_more (D.view self.old.disk.now).reads) }
+            else option_map (one_read (4096 * page) 4096) (D.view self.old.disk.now).reads) }
         ensures pages { home_count self.new ≡ home_count self.old }
         ensures limit { page_limit self.new ≡ page_limit self.old }
         ensures broken { is_broken self.new ≡ (is_broken self.old || answers_disk_fault result) }

@@ -17,9 +17,9 @@ returns-in-Ok-clause-ok c =
 
 pub returns-in-Ok-clause-kept : goal.returns-in-Ok-clause-kept
 returns-in-Ok-clause-kept c = λ start same.
-    let piece : c.in_ok-kept.kept.items ≡ c.args.piece.now = search rules in
+    let piece : c.from_vec-kept.result ≡ c.args.piece.now = search rules in
     ap (λ (medium : Medium). medium.seen) (c.in-Ok.ensures.runs start)
-    ∙ ap (λ (l : List ℕ). overlaid c.args.at c.in_ok-kept.kept.items l) same
+    ∙ ap (λ (l : List ℕ). overlaid c.args.at c.from_vec-kept.result l) same
     ∙ ap (λ (l : List ℕ). overlaid c.args.at l c.args.bytes.now.items) piece
     ∙ sym (overlaid-padded c.args.at c.args.piece.now c.args.bytes.now.items)
     ∙ sym (ap (λ (l : List ℕ). overlaid c.args.at c.args.piece.now l) c.in_ok-grow.ensures.ok)
@@ -32,7 +32,7 @@ returns-in-Ok-clause-small c = λ small.
 
 pub returns-in-Ok-clause-crash : goal.returns-in-Ok-clause-crash
 returns-in-Ok-clause-crash c = λ start left may.
-    let piece : c.in_ok-kept.kept.items ≡ c.args.piece.now = search rules in
+    let piece : c.from_vec-kept.result ≡ c.args.piece.now = search rules in
     let from = c.note.ensures.crash start left may in
     (from.0, from.1, subst (λ (l : List ℕ). Torn c.args.at (length l) from.0 left) piece from.2)
 

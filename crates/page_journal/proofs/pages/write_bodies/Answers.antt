@@ -66,6 +66,12 @@ loop-page-preserved g c =
       later = omega (arith, so_far.later, c.write_at.ensures.cause.later);
     }
 
+pub returns-in_err-write_at-clause-crash : goal.returns-in_err-write_at-clause-crash
+returns-in_err-write_at-clause-crash g c = λ low base le within.
+    goes_write (BesideJournal low) base c.loop-page.next (length c.as_slice.result.now) _ _ _ (c.loop-page.invariant.crash low base le within)
+    c.write_at.ensures.time c.write_at.ensures.crash
+    (λ i keeps. let below = keeps.1 in inl (omega (arith, below, le, c.loop-page.invariant.place)))
+
 pub returns-clause-put : goal.returns-clause-put
 returns-clause-put g c = λ bytes told.
     let entries = c.args.pages.now.entries in
