@@ -2,7 +2,13 @@ pub mod Causes
 pub mod Cuts
 pub mod Digits
 pub mod Escaping
+pub mod FaultsOfFields
+pub mod FaultsOfItems
+pub mod FaultsOfLines
+pub mod FirstFaults
 pub mod Letters
+mod Manual
+pub mod OneMeaning
 pub mod Passes
 pub mod Pieces
 pub mod Promises

@@ -171,14 +171,14 @@ mapped (Some letter) rest front e = let p : pair letter rest ≡ front = some_is
   pair : Letter → List ℕ → Letter × List ℕ
   pair l r = (l, r)
 
-record IsField (kind : Kind) (field : List ℕ) (front : Letter × List ℕ) : Type 0 where
+pub record IsField (kind : Kind) (field : List ℕ) (front : Letter × List ℕ) : Type 0 where
   pub form : field ≡ field_text front
   pub belongs : Belongs kind front.0
 
 no_zero : (letter : Letter) → 0 ≡ byte_of letter → ⊥
 no_zero letter e = elim letter as (λ l. 0 ≡ byte_of l → ⊥) [ Version ↦ λ z. omega arith | Visible ↦ λ z. omega arith | Changeset ↦ λ z. omega arith | Time ↦ λ z. omega arith | UserId ↦ λ z. omega arith | User ↦ λ z. omega arith | Tags ↦ λ z. omega arith | Lon ↦ λ z. omega arith | Lat ↦ λ z. omega arith | Nodes ↦ λ z. omega arith | Members ↦ λ z. omega arith ] e
 
-letter_at_is : (kind : Kind) (field : List ℕ) (front : Letter × List ℕ) → letter_at kind field ≡ Some front → IsField kind field front
+pub letter_at_is : (kind : Kind) (field : List ℕ) (front : Letter × List ℕ) → letter_at kind field ≡ Some front → IsField kind field front
 letter_at_is kind [] front e =
     let parts = mapped (letter_of kind 0) [] front e in
     absurd (no_zero front.0 (letter_of_is kind 0 front.0 parts.0).byte_is)
@@ -187,7 +187,7 @@ letter_at_is kind (byte ∷ rest) front e =
     let found = letter_of_is kind byte front.0 parts.0 in
     record { form = ap (λ b. b ∷ rest) found.byte_is ∙ ap (λ t. byte_of front.0 ∷ t) parts.1; belongs = found.belongs }
 
-letter_at_again : (kind : Kind) (field : Letter × List ℕ) → Belongs kind field.0 → letter_at kind (field_text field) ≡ Some field
+pub letter_at_again : (kind : Kind) (field : Letter × List ℕ) → Belongs kind field.0 → letter_at kind (field_text field) ≡ Some field
 letter_at_again kind field belongs = ap (option_map (λ letter. (letter, field.1))) (letter_of_again kind field.0 belongs)
 
 -- ---- what a field leaves as it was
@@ -470,7 +470,7 @@ fresh_parts stood letter (field ∷ pairs) h =
     let rest = fresh_parts stood letter pairs h.1 in
     record { apart = (here.0, rest.apart); letters = (here.0, rest.letters); before = (here.1, rest.before) }
 
-not_stood : (stood : Letter → Bool) (front found : Letter × List ℕ) → new_field stood front ≡ Ok found → (stood front.0 ≡ false) × (front ≡ found)
+pub not_stood : (stood : Letter → Bool) (front found : Letter × List ℕ) → new_field stood front ≡ Ok found → (stood front.0 ≡ false) × (front ≡ found)
 not_stood stood front found e = elim (cases_Bool (stood front.0)) [
   | inl held ↦ absurd (let wrong : refused ≡ Ok found = rw held at e in cc)
   | inr clear ↦ (clear, ok_is front found (rw clear at e))

@@ -1,5 +1,5 @@
 -- Lines: what is read is spelled so, what is spelled so is read, and each line has one meaning.
-use Rattle.std.proofs.Common.{◌≡◌, ℕ, Bool, true, false, cond, not, ◌⊎◌, inl, inr, List, [], ◌∷◌, Option, None, Some, Result, Ok, Err, refl, sym, ◌∙◌, ap, subst, map}
+use Rattle.std.proofs.Common.{◌≡◌, ℕ, Bool, true, false, cond, not, inl, inr, List, [], ◌∷◌, Option, None, Some, Result, Ok, Err, refl, sym, ◌∙◌, ap, subst, map}
 use Rattle.std.specs.Prelude.{ℤ}
 use Rattle.std.specs.List.{AllByRecursion, filter, slice_split}
 use Rattle.std.specs.Str.{IsUtf8, is_utf8}
@@ -17,7 +17,6 @@ use Rattle.opl_object.specs.declared.why.Why.{Why}
 use Rattle.opl_object.specs.declared.why.Why.TheVariants as causes
 use Rattle.opl_object.specs.Fields.{is_blank, is_empty, fields_of}
 use Rattle.opl_object.specs.Line.{IsSkipped, is_skipped, utf8_of, key_of, place_of, object_of, entry_of, entry_from, reading}
-use Rattle.opl_object.specs.Meaning.{HasFault, HasOneMeaning}
 use Rattle.opl_object.specs.Members.{kind_at}
 use Rattle.opl_object.specs.Number.{id_of}
 use Rattle.opl_object.specs.Parts.{parts_of}
@@ -40,16 +39,16 @@ kept_utf8 (piece ∷ pieces) all = elim (cases_Bool (is_empty piece)) [
   | inr some ↦ rw some (all.0, kept_utf8 pieces all.1)
 ]
 
-fields_utf8 : (line : List ℕ) → IsUtf8 line → AllByRecursion IsUtf8 (fields_of line)
+pub fields_utf8 : (line : List ℕ) → IsUtf8 line → AllByRecursion IsUtf8 (fields_of line)
 unfolding fields_of
 fields_utf8 line utf8 = kept_utf8 (slice_split is_blank line) (split_utf8 is_blank line blank-ascii utf8)
 
-record IsKey (field : List ℕ) (key : KeyOf) : Type 0 where
+pub record IsKey (field : List ℕ) (key : KeyOf) : Type 0 where
   pub digits : List ℕ
   pub form : field ≡ kind_byte key.kind ∷ digits
   pub number : SpellsId digits key.id
 
-key_spells : (field : List ℕ) (key : KeyOf) → key_of field ≡ Ok key → IsKey field key
+pub key_spells : (field : List ℕ) (key : KeyOf) → key_of field ≡ Ok key → IsKey field key
 unfolding key_of
 key_spells field key e =
     let front = bind_ok (given causes.Kind (kind_at field)) (λ front. id_of front.1 >>= λ id. Ok (record { kind = front.0; id = id })) key e in
@@ -160,49 +159,3 @@ line_again line entry s =
     ap (λ b. cond b (Ok None) (utf8_of line >>= λ text. entry_from (fields_of text) >>= λ entry. Ok (Some entry))) counts
     ∙ ap (λ r. r >>= λ text. entry_from (fields_of text) >>= λ entry. Ok (Some entry)) valid
     ∙ ap (λ r. r >>= λ entry. Ok (Some entry)) own
-
--- ---- each line has one meaning
-
-pub skipped_reads : (line : List ℕ) → IsSkipped line → reading line ≡ Ok None
-unfolding reading
-skipped_reads line s = ap (λ b. cond b (Ok None) (utf8_of line >>= λ text. entry_from (fields_of text) >>= λ entry. Ok (Some entry))) s
-
-none_skipped : (line : List ℕ) → reading line ≡ Ok None → IsSkipped line
-unfolding reading
-none_skipped line e = elim (cases_Bool (is_skipped line)) [
-  | inl skipped ↦ skipped
-  | inr counts ↦ (
-      let read : (utf8_of line >>= λ text. entry_from (fields_of text) >>= λ entry. Ok (Some entry)) ≡ Ok None = rw counts at e in
-      let text = bind_ok (utf8_of line) (λ text. entry_from (fields_of text) >>= λ entry. Ok (Some entry)) None read in
-      let found = bind_ok (entry_from (fields_of text.0)) (λ entry. Ok (Some entry)) None text.2 in
-      absurd (let wrong : some_of found.0 ≡ None = ok_is (some_of found.0) None found.2 in cc))
-] where
-  some_of : Entry → Option Entry
-  some_of x = Some x
-
-abbrev outcome : Result (Option Entry) Why → Result (Option Entry) Why
-outcome r = r
-
-meaning : (line : List ℕ) (read : Result (Option Entry) Why) → reading line ≡ read → IsSkipped line ⊎ (((entry : Entry) × Spells line entry) ⊎ ((why : Why) × HasFault line why))
-meaning line (Ok None) e = inl (none_skipped line e)
-meaning line (Ok (Some entry)) e = inr (inl (entry, line_spells line entry e))
-meaning line (Err why) e = inr (inr (why, e))
-
-entry_is : (a b : Entry) → outcome (Ok (Some a)) ≡ Ok (Some b) → a ≡ b
-entry_is a b e = cc
-
-fault_is : (a b : Why) → outcome (Err a) ≡ Err b → a ≡ b
-fault_is a b e = cc
-
-no_both : (a : Option Entry) (b : Why) → outcome (Ok a) ≡ Err b → ⊥
-no_both a b e = absurd cc
-
-pub each_line : (line : List ℕ) → HasOneMeaning line
-each_line line = record {
-  some = meaning line (reading line) refl;
-  skipped_no_entry = λ entry skipped s. s.counts skipped;
-  skipped_no_fault = λ why skipped fault. no_both None why (sym (skipped_reads line skipped) ∙ fault);
-  entry_no_fault = λ entry why s fault. no_both (Some entry) why (sym (line_again line entry s) ∙ fault);
-  one_entry = λ entry other s t. entry_is entry other (sym (line_again line entry s) ∙ line_again line other t);
-  one_fault = λ why other f g. fault_is why other (sym f ∙ g);
-}

@@ -81,7 +81,7 @@ join_some : (first : List ℕ) (others : List (List ℕ)) → 0 < length first �
 join_some first [] some = some
 join_some first (piece ∷ others) some = omega (arith, length-append first (44 ∷ join_with_byte 44 (piece ∷ others)))
 
-comma-ascii : IsAsciiTest (is 44)
+pub comma-ascii : IsAsciiTest (is 44)
 comma-ascii byte passes = omega (arith, eqb-true byte 44 passes)
 
 module _ {A : Type 0} (Spell : List ℕ → A → Type 0) (read : List ℕ → Result A Why) where
@@ -92,7 +92,7 @@ module _ {A : Type 0} (Spell : List ℕ → A → Type 0) (read : List ℕ → R
   abbrev pub Each : List A → List (List ℕ) → List A → Type 0
   Each front pieces last = (items : List A) × (last ≡ front ++ items) × SpellEach Spell pieces items
 
-  each_spells : ((piece : List ℕ) (item : A) → IsUtf8 piece → read piece ≡ Ok item → Spell piece item) → (front : List A) (pieces : List (List ℕ)) (last : List A)
+  pub each_spells : ((piece : List ℕ) (item : A) → IsUtf8 piece → read piece ≡ Ok item → Spell piece item) → (front : List A) (pieces : List (List ℕ)) (last : List A)
       → AllByRecursion IsUtf8 pieces → each_piece step front pieces ≡ Ok last → Each front pieces last
   unfolding each_piece
   each_spells law front [] last utf8 e = ([], sym (ok_is front last e) ∙ sym (append-nil front), tt)
@@ -102,7 +102,7 @@ module _ {A : Type 0} (Spell : List ℕ → A → Type 0) (read : List ℕ → R
       let rest = each_spells law (front ++ item.0 ∷ []) pieces last utf8.1 (ap (λ items. each_piece step items pieces) (ok_is _ _ item.2) ∙ next.2) in
       (item.0 ∷ rest.0, rest.1 ∙ append_assoc front (item.0 ∷ []) rest.0, (law piece item.0 utf8.0 item.1, rest.2))
 
-  each_again : ((piece : List ℕ) (item : A) → Spell piece item → read piece ≡ Ok item) → (front : List A) (pieces : List (List ℕ)) (items : List A)
+  pub each_again : ((piece : List ℕ) (item : A) → Spell piece item → read piece ≡ Ok item) → (front : List A) (pieces : List (List ℕ)) (items : List A)
       → SpellEach Spell pieces items → each_piece step front pieces ≡ Ok (front ++ items)
   unfolding each_piece
   each_again law front [] [] s = ap (λ items. Ok items) (sym (append-nil front))
@@ -312,7 +312,7 @@ kind_at_is (byte ∷ rest) front e =
 pub kind_at_again : (kind : Kind) (rest : List ℕ) → kind_at (kind_byte kind ∷ rest) ≡ Some (kind, rest)
 kind_at_again kind rest = ap (option_map (λ kind. (kind, rest))) (kind_of-kind_byte kind)
 
-kind_small : (kind : Kind) → kind_byte kind < 128
+pub kind_small : (kind : Kind) → kind_byte kind < 128
 kind_small kinds.Node = omega arith
 kind_small kinds.Way = omega arith
 kind_small kinds.Relation = omega arith
@@ -322,7 +322,7 @@ kind_free kinds.Node = refl
 kind_free kinds.Way = refl
 kind_free kinds.Relation = refl
 
-member_spells : (piece : List ℕ) (member : Member) → IsUtf8 piece → member_of piece ≡ Ok member → SpellsMember piece member
+pub member_spells : (piece : List ℕ) (member : Member) → IsUtf8 piece → member_of piece ≡ Ok member → SpellsMember piece member
 unfolding member_of
 member_spells piece member utf8 e =
     let front = bind_ok (given causes.Member (kind_at piece)) (λ front. numbered front.1 >>= λ found. with_role (record { kind = front.0; id = found.0 }) found.1) member e in
@@ -344,7 +344,7 @@ member_spells piece member utf8 e =
       role_text = text_spells spelled.0 role.0 role_utf8 role.1;
     })
 
-member_again : (piece : List ℕ) (member : Member) → SpellsMember piece member → member_of piece ≡ Ok member
+pub member_again : (piece : List ℕ) (member : Member) → SpellsMember piece member → member_of piece ≡ Ok member
 unfolding member_of
 member_again piece member s =
     ap (λ t. given causes.Member (kind_at t) >>= λ front. numbered front.1 >>= λ found. with_role (record { kind = front.0; id = found.0 }) found.1) s.form

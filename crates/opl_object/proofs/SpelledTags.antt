@@ -7,7 +7,7 @@ use Rattle.std.specs.Ordering.{nat_cmp, eq_by_cmp}
 use Rattle.std.specs.Cmp.Lexicographic.{slice_cmp, texts_ties, nat_list_cmp_total}
 use Rattle.std.specs.FinMap as finite
 use Rattle.std.specs.FinMap.{nat_cmp-IsAntisymmetric, slice_cmp-IsAntisymmetric}
-use Rattle.std.proofs.lemmas.Bool.{cases_Bool, eqb-true, false_from_ne_true}
+use Rattle.std.proofs.lemmas.Bool.{cases_Bool, false_from_ne_true}
 use Rattle.std.proofs.lemmas.List.{append-nil, length-append}
 use Rattle.std.proofs.lemmas.List.Splits.{join_with_byte-slice_split}
 use Rattle.std.proofs.lemmas.Slice.Eq.{bytes_eq-Decides}
@@ -19,21 +19,20 @@ use Rattle.opl_object.specs.Spelling.{AreDistinct, SpellEach, SpellsList, Spells
 use Rattle.opl_object.specs.Tags.{with_tag, with_pair, with_piece, tags_of}
 use Rattle.opl_object.specs.Text.{text_of}
 use Rattle.opl_object.specs.Why.{◌>>=◌, each_piece}
-use Rattle.opl_object.proofs.Cuts.{IsAsciiTest}
-use Rattle.opl_object.proofs.SpelledLists.{nil_is, utf8_sides, list_pieces}
+use Rattle.opl_object.proofs.SpelledLists.{nil_is, utf8_sides, comma-ascii, list_pieces}
 use Rattle.opl_object.proofs.SpelledNumbers.{cut_some, cut_cases}
 use Rattle.opl_object.proofs.SpelledTexts.{IsFree, free_append, split_pieces, split_utf8, text_spells, text_again, text_free}
 use Rattle.opl_object.proofs.Steps.{bind_ok, ok_is}
 
-abbrev Tag : Type 0
+abbrev pub Tag : Type 0
 Tag = List ℕ × List ℕ
 
 -- ---- keys
 
-same_key : (a b : List ℕ) → eq_by_cmp (slice_cmp nat_cmp) a b ≡ true → a ≡ b
+pub same_key : (a b : List ℕ) → eq_by_cmp (slice_cmp nat_cmp) a b ≡ true → a ≡ b
 same_key a b e = (bytes_eq-Decides a b).0 (texts_ties a b ∙ e)
 
-key_itself : (a : List ℕ) → eq_by_cmp (slice_cmp nat_cmp) a a ≡ true
+pub key_itself : (a : List ℕ) → eq_by_cmp (slice_cmp nat_cmp) a a ≡ true
 key_itself a = sym (texts_ties a a) ∙ (bytes_eq-Decides a a).1 refl
 
 -- no tag has the key
@@ -103,14 +102,14 @@ piece_again tags piece tag s new =
 
 -- ---- all tags
 
-abbrev inserted : TagMap → List Tag → TagMap
+abbrev pub inserted : TagMap → List Tag → TagMap
 inserted tags [] = tags
 inserted tags (tag ∷ pairs) = inserted (finite.insert tags tag.0 tag.1) pairs
 
-abbrev AllNew : TagMap → List Tag → Type 0
+abbrev pub AllNew : TagMap → List Tag → Type 0
 AllNew tags pairs = AllByRecursion (λ key. finite.get tags key ≡ None) (map (λ pair. pair.0) pairs)
 
-record Added (tags : TagMap) (pieces : List (List ℕ)) (last : TagMap) : Type 0 where
+pub record Added (tags : TagMap) (pieces : List (List ℕ)) (last : TagMap) : Type 0 where
   pub pairs : List (List ℕ × List ℕ)
   pub spelled : SpellEach SpellsTag pieces pairs
   pub new : AllNew tags pairs
@@ -130,7 +129,7 @@ all_again : (tags : TagMap) (key value : List ℕ) (keys : List (List ℕ)) → 
 all_again tags key value [] apart new = tt
 all_again tags key value (other ∷ keys) apart new = (new_again tags key value other apart.0 new.0, all_again tags key value keys apart.1 new.1)
 
-pieces_add : (tags : TagMap) (pieces : List (List ℕ)) (last : TagMap) → AllByRecursion IsUtf8 pieces → each_piece with_piece tags pieces ≡ Ok last → Added tags pieces last
+pub pieces_add : (tags : TagMap) (pieces : List (List ℕ)) (last : TagMap) → AllByRecursion IsUtf8 pieces → each_piece with_piece tags pieces ≡ Ok last → Added tags pieces last
 unfolding each_piece
 pieces_add tags [] last utf8 e = record { pairs = []; spelled = tt; new = tt; distinct = tt; is = sym (ok_is tags last e) }
 pieces_add tags (piece ∷ pieces) last utf8 e =
@@ -146,7 +145,7 @@ pieces_add tags (piece ∷ pieces) last utf8 e =
       is = rest.is;
     }
 
-pieces_again : (tags : TagMap) (pieces : List (List ℕ)) (pairs : List Tag) → SpellEach SpellsTag pieces pairs → AllNew tags pairs → AreDistinct (map (λ pair. pair.0) pairs)
+pub pieces_again : (tags : TagMap) (pieces : List (List ℕ)) (pairs : List Tag) → SpellEach SpellsTag pieces pairs → AllNew tags pairs → AreDistinct (map (λ pair. pair.0) pairs)
     → each_piece with_piece tags pieces ≡ Ok (inserted tags pairs)
 unfolding each_piece
 pieces_again tags [] [] s new distinct = refl
@@ -168,12 +167,9 @@ inserted-entries front (pair ∷ pairs) new distinct =
     ∙ inserted-entries (front ++ pair ∷ []) pairs (subst (λ t. AllNew t pairs) (sym push) later) distinct.1
     ∙ ap finite.from_entries (append_assoc front (pair ∷ []) pairs)
 
-empty_new : (keys : List (List ℕ)) → AllByRecursion (λ other. finite.get {X = List ℕ} {R = slice_cmp nat_cmp} finite.empty other ≡ None) keys
+pub empty_new : (keys : List (List ℕ)) → AllByRecursion (λ other. finite.get {X = List ℕ} {R = slice_cmp nat_cmp} finite.empty other ≡ None) keys
 empty_new [] = tt
 empty_new (key ∷ keys) = (finite.get-empty (slice_cmp nat_cmp) key, empty_new keys)
-
-comma-ascii : IsAsciiTest (is 44)
-comma-ascii byte passes = omega (arith, eqb-true byte 44 passes)
 
 pub tags_spell : (text : List ℕ) (tags : TagMap) → IsUtf8 text → tags_of text ≡ Ok tags → SpellsTags text tags
 unfolding tags_of

@@ -5,10 +5,11 @@ use Rattle.std.specs.Prelude.{◌≡◌, ℕ, ◌/◌, ◌%◌, ◌<◌, Bool, t
 use Rattle.std.specs.Char.{is_ascii_alphanumeric, digit_char}
 use Rattle.std.specs.List.{prefix_len, AllByRecursion}
 use lib.Utf8.{scalars}
+use Rattle.opl_object.specs.declared.ascii.TheConstants.{PERCENT, MINUS, POINT, SLASH, DIGIT_0, COLON, UNDERSCORE}
 
 -- an ASCII letter or digit, or one of _ - . : /
 abbrev pub is_bare : ℕ → Bool
-is_bare code = is_ascii_alphanumeric code || ((code == 95 || code == 45) || (code == 46 || (code == 58 || code == 47)))
+is_bare code = is_ascii_alphanumeric code || ((code == UNDERSCORE || code == MINUS) || (code == POINT || (code == COLON || code == SLASH)))
 
 -- the six hexadecimal digits of a code point, in lower case
 abbrev pub six_digits : ℕ → List ℕ
@@ -18,7 +19,7 @@ six_digits code =
 
 -- the digit 0
 abbrev pub is_zero : ℕ → Bool
-is_zero digit = digit == 48
+is_zero digit = digit == DIGIT_0
 
 -- digits without the zeros at their front
 abbrev pub without_zeros : List ℕ → List ℕ
@@ -26,7 +27,7 @@ without_zeros digits = drop (prefix_len is_zero digits) digits
 
 -- an escape: its digits between two percent signs
 unfoldable pub escape_text : ℕ → List ℕ
-escape_text code = 37 ∷ (without_zeros (six_digits code) ++ 37 ∷ [])
+escape_text code = PERCENT ∷ (without_zeros (six_digits code) ++ PERCENT ∷ [])
 
 -- a character as it is, or its escape
 abbrev pub code_text : ℕ → List ℕ

@@ -3,6 +3,7 @@
 -- the first character of a field is its letter, and the items of a list are separated by commas.
 use Rattle.std.specs.Prelude.{ℕ, Bool, ◌||◌, not, ◌==◌, nat_lt, if◌then◌else◌, List, [], length, drop, slice_index, Option, None, Some}
 use Rattle.std.specs.List.{slice_split, filter, position_or_len, before_first, after_first}
+use Rattle.opl_object.specs.declared.ascii.TheConstants.{TAB, SPACE}
 
 -- the test that a byte is this one
 abbrev pub is : ℕ → ℕ → Bool
@@ -10,7 +11,7 @@ is byte other = other == byte
 
 -- a space or a tab
 abbrev pub is_blank : ℕ → Bool
-is_blank byte = byte == 32 || byte == 9
+is_blank byte = byte == SPACE || byte == TAB
 
 abbrev pub is_empty : List ℕ → Bool
 is_empty text = length text == 0

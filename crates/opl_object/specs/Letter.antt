@@ -5,25 +5,26 @@ use Rattle.std.specs.Prelude.{ℕ, ◌==◌, if◌then◌else◌, Bool, true, fa
 use Rattle.std.specs.Option.{option_map}
 use Rattle.osm_base.specs.declared.key.Kind.{Kind}
 use Rattle.osm_base.specs.declared.key.Kind.TheVariants as kinds
+use Rattle.opl_object.specs.declared.ascii.TheConstants.{CAPITAL_M, CAPITAL_N, CAPITAL_T, SMALL_C, SMALL_D, SMALL_I, SMALL_T, SMALL_U, SMALL_V, SMALL_X, SMALL_Y}
 use Rattle.opl_object.specs.declared.letter.Letter.{Letter}
 use Rattle.opl_object.specs.declared.letter.Letter.TheVariants.{Version, Visible, Changeset, Time, UserId, User, Tags, Lon, Lat, Nodes, Members}
 
 -- the letters of one kind
 abbrev pub own_letter : Kind → ℕ → Option Letter
-own_letter kinds.Node byte = if byte == 120 then Some Lon else (if byte == 121 then Some Lat else None)
-own_letter kinds.Way byte = if byte == 78 then Some Nodes else None
-own_letter kinds.Relation byte = if byte == 77 then Some Members else None
+own_letter kinds.Node byte = if byte == SMALL_X then Some Lon else (if byte == SMALL_Y then Some Lat else None)
+own_letter kinds.Way byte = if byte == CAPITAL_N then Some Nodes else None
+own_letter kinds.Relation byte = if byte == CAPITAL_M then Some Members else None
 
 -- the letters of all kinds, and those of this one
 unfoldable pub letter_of : Kind → ℕ → Option Letter
 letter_of kind byte =
-    if byte == 118 then Some Version else
-    if byte == 100 then Some Visible else
-    if byte == 99 then Some Changeset else
-    if byte == 116 then Some Time else
-    if byte == 105 then Some UserId else
-    if byte == 117 then Some User else
-    if byte == 84 then Some Tags else own_letter kind byte
+    if byte == SMALL_V then Some Version else
+    if byte == SMALL_D then Some Visible else
+    if byte == SMALL_C then Some Changeset else
+    if byte == SMALL_T then Some Time else
+    if byte == SMALL_I then Some UserId else
+    if byte == SMALL_U then Some User else
+    if byte == CAPITAL_T then Some Tags else own_letter kind byte
 
 -- the letter in front of a field, and the value behind it
 abbrev pub letter_at : Kind → List ℕ → Option (Letter × List ℕ)
@@ -31,17 +32,17 @@ letter_at kind field = option_map (λ letter. (letter, drop 1 field)) (letter_of
 
 -- the byte of a letter
 abbrev pub byte_of : Letter → ℕ
-byte_of Version = 118
-byte_of Visible = 100
-byte_of Changeset = 99
-byte_of Time = 116
-byte_of UserId = 105
-byte_of User = 117
-byte_of Tags = 84
-byte_of Lon = 120
-byte_of Lat = 121
-byte_of Nodes = 78
-byte_of Members = 77
+byte_of Version = SMALL_V
+byte_of Visible = SMALL_D
+byte_of Changeset = SMALL_C
+byte_of Time = SMALL_T
+byte_of UserId = SMALL_I
+byte_of User = SMALL_U
+byte_of Tags = CAPITAL_T
+byte_of Lon = SMALL_X
+byte_of Lat = SMALL_Y
+byte_of Nodes = CAPITAL_N
+byte_of Members = CAPITAL_M
 
 -- the letters that stood already, and this one
 abbrev pub also : (Letter → Bool) → Letter → Letter → Bool

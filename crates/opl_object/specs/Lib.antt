@@ -1,6 +1,7 @@
 pub mod Coordinate
 pub mod Earth
 pub mod Escapes
+pub mod Faults
 pub mod Fields
 pub mod Letter
 pub mod Line

@@ -9,6 +9,7 @@ use Rattle.osm_base.specs.declared.object.Object.{Object}
 use Rattle.osm_base.specs.declared.object.Object.TheVariants.{Node, Way, Relation}
 use Rattle.osm_base.specs.Key.{KeyOf}
 use Rattle.osm_base.specs.Place.{PlaceOf}
+use Rattle.opl_object.specs.declared.ascii.TheConstants.{HASH, SMALL_C}
 use Rattle.opl_object.specs.declared.parts.Parts.{Parts}
 use Rattle.opl_object.specs.declared.why.Why.{Why}
 use Rattle.opl_object.specs.declared.why.Why.TheVariants as causes
@@ -21,7 +22,7 @@ use Rattle.opl_object.specs.Why.{◌>>=◌, given}
 -- whether a line is skipped: it is empty, or begins with # or c
 abbrev pub is_skipped : List ℕ → Bool
 is_skipped [] = true
-is_skipped (byte ∷ rest) = (byte == 35) || (byte == 99)
+is_skipped (byte ∷ rest) = (byte == HASH) || (byte == SMALL_C)
 
 -- a line that is skipped
 abbrev pub IsSkipped : List ℕ → Type 0

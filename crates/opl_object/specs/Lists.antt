@@ -7,6 +7,7 @@ use Rattle.std.specs.FinMap as map
 use Rattle.osm_base.specs.declared.object.Member.{Member}
 use Rattle.osm_base.specs.Key.{KeyOf, IsId}
 use Rattle.osm_base.specs.Tags.{TagMap}
+use Rattle.opl_object.specs.declared.ascii.TheConstants.{SMALL_N}
 use Rattle.opl_object.specs.Escapes.{written_text, IsText}
 use Rattle.opl_object.specs.Spelling.{kind_byte}
 
@@ -28,7 +29,7 @@ tags_text tags = join_by tag_text (codes ",") (map.entries tags)
 
 -- the id of a node, as a reference
 abbrev pub node_text : ℕ → List ℕ
-node_text id = 110 ∷ decimal id
+node_text id = SMALL_N ∷ decimal id
 
 -- the nodes of a way, in order
 unfoldable pub nodes_text : List ℕ → List ℕ

@@ -1,13 +1,17 @@
 -- What a line means: it is skipped, it has a fault, or it spells one entry.
-use Rattle.std.specs.Prelude.{◌≡◌, ◌⊎◌, ℕ, List, Err}
+use Rattle.std.specs.Prelude.{◌≡◌, ◌⊎◌, ℕ, List}
 use Rattle.osm_base.specs.declared.object.Entry.{Entry}
+use Rattle.opl_object.specs.declared.why.LineRefused.{LineRefused}
+use Rattle.opl_object.specs.declared.why.LineRefused.TheVariants.{Bad, OutOfMemory}
 use Rattle.opl_object.specs.declared.why.Why.{Why}
-use Rattle.opl_object.specs.Line.{IsSkipped, reading}
+use Rattle.opl_object.specs.Faults.{HasFault}
+use Rattle.opl_object.specs.Line.{IsSkipped}
 use Rattle.opl_object.specs.Spells.{Spells}
 
--- this cause is the first against the line
-abbrev pub HasFault : List ℕ → Why → Type 0
-HasFault line why = reading line ≡ Err why
+-- a refusal tells the fault of the line, unless memory ran out
+abbrev pub TellsFault : List ℕ → LineRefused → Type 0
+TellsFault line (Bad why) = HasFault line why
+TellsFault line OutOfMemory = Unit {0}
 
 -- a line has one of three meanings, and no other beside it
 pub record HasOneMeaning (line : List ℕ) : Type 0 where

@@ -8,6 +8,7 @@ use Rattle.osm_base.specs.declared.key.Kind.{Kind}
 use Rattle.osm_base.specs.declared.key.Kind.TheVariants.{Node, Way, Relation}
 use Rattle.osm_base.specs.declared.object.Member.{Member}
 use Rattle.osm_base.specs.Key.{KeyOf}
+use Rattle.opl_object.specs.declared.ascii.TheConstants.{COMMA, AT, SMALL_N, SMALL_R, SMALL_W}
 use Rattle.opl_object.specs.declared.why.Why.{Why}
 use Rattle.opl_object.specs.declared.why.Why.TheVariants as causes
 use Rattle.opl_object.specs.Fields.{is, is_empty, behind}
@@ -17,7 +18,7 @@ use Rattle.opl_object.specs.Why.{◌>>=◌, each_piece, given}
 
 -- the kind that a letter stands for
 unfoldable pub kind_of : ℕ → Option Kind
-kind_of byte = if byte == 110 then Some Node else (if byte == 119 then Some Way else (if byte == 114 then Some Relation else None))
+kind_of byte = if byte == SMALL_N then Some Node else (if byte == SMALL_W then Some Way else (if byte == SMALL_R then Some Relation else None))
 
 -- the kind in front of a text, and what stands behind it
 abbrev pub kind_at : List ℕ → Option (Kind × List ℕ)
@@ -25,7 +26,7 @@ kind_at text = option_map (λ kind. (kind, drop 1 text)) (kind_of (slice_index t
 
 -- the role after the at sign
 abbrev pub with_role : KeyOf → List ℕ → Result Member Why
-with_role key text = given causes.Member (behind 64 text) >>= λ spelled. text_of spelled >>= λ role. Ok (record { key = key; role = role })
+with_role key text = given causes.Member (behind AT text) >>= λ spelled. text_of spelled >>= λ role. Ok (record { key = key; role = role })
 
 -- a member with its role
 unfoldable pub member_of : List ℕ → Result Member Why
@@ -38,4 +39,4 @@ with_member members piece = member_of piece >>= λ member. Ok (members ++ member
 
 -- nothing, or members separated by commas
 unfoldable pub members_of : List ℕ → Result (List Member) Why
-members_of text = if is_empty text then Ok [] else each_piece with_member [] (slice_split (is 44) text)
+members_of text = if is_empty text then Ok [] else each_piece with_member [] (slice_split (is COMMA) text)

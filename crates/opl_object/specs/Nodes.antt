@@ -4,6 +4,7 @@ use Rattle.std.specs.Prelude.{ℕ, ◌&&◌, ◌||◌, not, if◌then◌else◌,
 use Rattle.std.specs.List.{slice_split, position_or_len}
 use Rattle.std.specs.Char.{is_ascii_digit}
 use Rattle.osm_base.specs.declared.place.TheConstants.{MAX_LON, MAX_LAT}
+use Rattle.opl_object.specs.declared.ascii.TheConstants.{COMMA, SMALL_N, SMALL_X, SMALL_Y}
 use Rattle.opl_object.specs.declared.why.Why.{Why}
 use Rattle.opl_object.specs.declared.why.Why.TheVariants.{Member, HalfPlace}
 use Rattle.opl_object.specs.Coordinate.{coordinate}
@@ -34,11 +35,11 @@ place_parts (lon, Some lat) = place_pair lon lat
 -- nothing after the id, or a place, which is not used
 unfoldable pub placed : List ℕ → Result (Unit {0}) Why
 placed text = if is_empty text then Ok tt
-    else (given Member (behind 120 text) >>= λ place. place_parts (cut_at (is 121) place))
+    else (given Member (behind SMALL_X text) >>= λ place. place_parts (cut_at (is SMALL_Y) place))
 
 -- the id of a node reference
 unfoldable pub node_of : List ℕ → Result ℕ Why
-node_of piece = given Member (behind 110 piece) >>= λ rest. numbered rest >>= λ found. placed found.1 >>= λ _. Ok found.0
+node_of piece = given Member (behind SMALL_N piece) >>= λ rest. numbered rest >>= λ found. placed found.1 >>= λ _. Ok found.0
 
 -- one node reference more
 abbrev pub with_node : List ℕ → List ℕ → Result (List ℕ) Why
@@ -46,4 +47,4 @@ with_node nodes piece = node_of piece >>= λ id. Ok (nodes ++ id ∷ [])
 
 -- nothing, or node references separated by commas
 unfoldable pub nodes_of : List ℕ → Result (List ℕ) Why
-nodes_of text = if is_empty text then Ok [] else each_piece with_node [] (slice_split (is 44) text)
+nodes_of text = if is_empty text then Ok [] else each_piece with_node [] (slice_split (is COMMA) text)

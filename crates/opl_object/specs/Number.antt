@@ -5,6 +5,7 @@ use Rattle.std.specs.List.{list_all, zip}
 use Rattle.std.specs.Char.{is_ascii_digit}
 use Rattle.std.specs.Str.Parse.{digits_value}
 use Rattle.osm_base.specs.declared.key.TheConstants.{MAX_ID}
+use Rattle.opl_object.specs.declared.ascii.TheConstants.{MINUS}
 use Rattle.opl_object.specs.declared.number.TheConstants.{TIME_FORM}
 use Rattle.opl_object.specs.declared.why.Why.{Why}
 use Rattle.opl_object.specs.declared.why.Why.TheVariants.{Id}
@@ -12,7 +13,7 @@ use Rattle.opl_object.specs.Fields.{is_empty}
 
 -- whether a minus stands in front
 abbrev pub is_negative : List ℕ → Bool
-is_negative text = slice_index text 0 == 45
+is_negative text = slice_index text 0 == MINUS
 
 -- what stands behind a minus, or all
 abbrev pub unsigned : List ℕ → List ℕ

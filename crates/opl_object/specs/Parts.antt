@@ -4,6 +4,7 @@ use Rattle.std.specs.Prelude.{ℕ, ◌==◌, Bool, true, false, if◌then◌else
 use Rattle.std.specs.FinMap as map
 use Rattle.osm_base.specs.declared.key.Kind.{Kind}
 use Rattle.osm_base.specs.declared.place.TheConstants.{MAX_LON, MAX_LAT}
+use Rattle.opl_object.specs.declared.ascii.TheConstants.{CAPITAL_D, CAPITAL_V}
 use Rattle.opl_object.specs.declared.letter.Letter.{Letter}
 use Rattle.opl_object.specs.declared.letter.Letter.TheVariants.{Version, Visible, Changeset, Time, UserId, User, Tags, Lon, Lat, Nodes, Members}
 use Rattle.opl_object.specs.declared.parts.Parts.{Parts}
@@ -30,8 +31,8 @@ checked why fits parts = if fits then Ok parts else Err why
 -- V for an object that is there, D for one that is deleted
 abbrev pub with_visible : List ℕ → Parts → Result Parts Why
 with_visible (byte ∷ []) parts =
-    if byte == 86 then Ok parts
-    else (if byte == 68 then Ok (record parts { deleted = true }) else Err causes.Field)
+    if byte == CAPITAL_V then Ok parts
+    else (if byte == CAPITAL_D then Ok (record parts { deleted = true }) else Err causes.Field)
 with_visible _ parts = Err causes.Field
 
 -- nothing, or a longitude

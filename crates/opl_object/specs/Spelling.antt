@@ -11,6 +11,7 @@ use Rattle.osm_base.specs.declared.object.Member.{Member}
 use Rattle.osm_base.specs.declared.place.TheConstants.{MAX_LON, MAX_LAT}
 use Rattle.osm_base.specs.Key.{IsId}
 use Rattle.osm_base.specs.Tags.{TagMap}
+use Rattle.opl_object.specs.declared.ascii.TheConstants.{PERCENT, COMMA, MINUS, POINT, EQUALS, AT, SMALL_N, SMALL_R, SMALL_W, SMALL_X, SMALL_Y}
 use Rattle.opl_object.specs.Coordinate.{units}
 use Rattle.opl_object.specs.Text.{is_reserved}
 
@@ -28,12 +29,12 @@ SpellEach Spell _ _ = ⊥
 -- a list: nothing, or its items with commas between them
 abbrev pub SpellsList : {A : Type 0} → (List ℕ → A → Type 0) → List ℕ → List A → Type 0
 SpellsList Spell text items = ((text ≡ []) × (items ≡ []))
-    ⊎ ((first : List ℕ) × (others : List (List ℕ)) × (text ≡ join_with_byte 44 (first ∷ others)) × SpellEach Spell (first ∷ others) items)
+    ⊎ ((first : List ℕ) × (others : List (List ℕ)) × (text ≡ join_with_byte COMMA (first ∷ others)) × SpellEach Spell (first ∷ others) items)
 
 -- an escape: from 1 to 6 hexadecimal digits between percent signs, of a Unicode scalar value that is not zero
 pub record SpellsEscape (spelled : List ℕ) (code : ℕ) : Type 0 where
   pub digits : List ℕ
-  pub form : spelled ≡ 37 ∷ (digits ++ 37 ∷ [])
+  pub form : spelled ≡ PERCENT ∷ (digits ++ PERCENT ∷ [])
   pub some : 1 ≤ length digits
   pub few : length digits ≤ 6
   pub hexadecimal : IsTrue (list_all is_ascii_hexdigit digits)
@@ -67,12 +68,12 @@ pub record SpellsId (text : List ℕ) (id : ℕ) : Type 0 where
 
 -- a minus where the number is below zero, or where a zero has one
 abbrev pub sign_text : Bool → List ℕ
-sign_text minus = if minus then 45 ∷ [] else []
+sign_text minus = if minus then MINUS ∷ [] else []
 
 -- a point and decimals, where there are some
 abbrev pub decimals_text : List ℕ → List ℕ
 decimals_text [] = []
-decimals_text (digit ∷ digits) = 46 ∷ (digit ∷ digits)
+decimals_text (digit ∷ digits) = POINT ∷ (digit ∷ digits)
 
 -- a coordinate in units of 1e-7 degree, no further from zero than the greatest
 pub record SpellsCoordinate (greatest : ℕ) (text : List ℕ) (value : ℤ) : Type 0 where
@@ -91,7 +92,7 @@ pub record SpellsCoordinate (greatest : ℕ) (text : List ℕ) (value : ℤ) : T
 pub record SpellsTag (piece : List ℕ) (tag : List ℕ × List ℕ) : Type 0 where
   pub key : List ℕ
   pub value : List ℕ
-  pub form : piece ≡ key ++ 61 ∷ value
+  pub form : piece ≡ key ++ EQUALS ∷ value
   pub key_text : SpellsText key tag.0
   pub value_text : SpellsText value tag.1
 
@@ -106,7 +107,7 @@ pub record SpellsTags (text : List ℕ) (tags : TagMap) : Type 0 where
 pub record SpellsPlace (text : List ℕ) : Type 0 where
   pub lon : List ℕ
   pub lat : List ℕ
-  pub form : text ≡ 120 ∷ (lon ++ 121 ∷ lat)
+  pub form : text ≡ SMALL_X ∷ (lon ++ SMALL_Y ∷ lat)
   pub places : ((lon ≡ []) × (lat ≡ []))
       ⊎ ((east : ℤ) × (north : ℤ) × SpellsCoordinate (nat_abs MAX_LON) lon east × SpellsCoordinate (nat_abs MAX_LAT) lat north)
 
@@ -114,20 +115,20 @@ pub record SpellsPlace (text : List ℕ) : Type 0 where
 pub record SpellsNode (piece : List ℕ) (id : ℕ) : Type 0 where
   pub digits : List ℕ
   pub place : List ℕ
-  pub form : piece ≡ 110 ∷ (digits ++ place)
+  pub form : piece ≡ SMALL_N ∷ (digits ++ place)
   pub number : SpellsId digits id
   pub places : (place ≡ []) ⊎ SpellsPlace place
 
 -- the letter of a kind
 abbrev pub kind_byte : Kind → ℕ
-kind_byte kinds.Node = 110
-kind_byte kinds.Way = 119
-kind_byte kinds.Relation = 114
+kind_byte kinds.Node = SMALL_N
+kind_byte kinds.Way = SMALL_W
+kind_byte kinds.Relation = SMALL_R
 
 -- a member: the letter of its kind, its id, an at sign and its role
 pub record SpellsMember (piece : List ℕ) (member : Member) : Type 0 where
   pub digits : List ℕ
   pub role : List ℕ
-  pub form : piece ≡ kind_byte member.key.kind ∷ (digits ++ 64 ∷ role)
+  pub form : piece ≡ kind_byte member.key.kind ∷ (digits ++ AT ∷ role)
   pub number : SpellsId digits member.key.id
   pub role_text : SpellsText role member.role

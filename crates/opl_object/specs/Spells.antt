@@ -11,6 +11,7 @@ use Rattle.osm_base.specs.declared.object.Object.{Object}
 use Rattle.osm_base.specs.declared.object.Object.TheVariants as objects
 use Rattle.osm_base.specs.declared.place.TheConstants.{MAX_LON, MAX_LAT}
 use Rattle.osm_base.specs.Place.{PlaceOf}
+use Rattle.opl_object.specs.declared.ascii.TheConstants.{CAPITAL_D, CAPITAL_V}
 use Rattle.opl_object.specs.declared.letter.Letter.{Letter}
 use Rattle.opl_object.specs.declared.letter.Letter.TheVariants.{Version, Visible, Changeset, Time, UserId, User, Tags, Lon, Lat, Nodes, Members}
 use Rattle.opl_object.specs.declared.parts.Parts.{Parts}
@@ -35,8 +36,8 @@ SpellsDegrees greatest text (Some value) = SpellsCoordinate greatest text value
 
 -- V for an object that is there, D for one that is deleted
 abbrev pub SpellsVisible : List ℕ → Bool → Type 0
-SpellsVisible text false = text ≡ 86 ∷ []
-SpellsVisible text true = text ≡ 68 ∷ []
+SpellsVisible text false = text ≡ CAPITAL_V ∷ []
+SpellsVisible text true = text ≡ CAPITAL_D ∷ []
 
 -- the value of a letter is in its form, and these parts have what it says
 abbrev pub Says : Letter → List ℕ → Parts → Type 0

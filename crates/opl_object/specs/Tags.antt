@@ -4,6 +4,7 @@ use Rattle.std.specs.Prelude.{ℕ, if◌then◌else◌, List, Option, None, Some
 use Rattle.std.specs.List.{slice_split}
 use Rattle.std.specs.FinMap as map
 use Rattle.osm_base.specs.Tags.{TagMap}
+use Rattle.opl_object.specs.declared.ascii.TheConstants.{COMMA, EQUALS}
 use Rattle.opl_object.specs.declared.why.Why.{Why}
 use Rattle.opl_object.specs.declared.why.Why.TheVariants.{Tag, RepeatedKey}
 use Rattle.opl_object.specs.Fields.{is, is_empty, cut_at}
@@ -21,8 +22,8 @@ with_pair tags (key, Some value) = text_of key >>= λ key. text_of value >>= λ 
 
 -- one piece more
 unfoldable pub with_piece : TagMap → List ℕ → Result TagMap Why
-with_piece tags piece = with_pair tags (cut_at (is 61) piece)
+with_piece tags piece = with_pair tags (cut_at (is EQUALS) piece)
 
 -- nothing, or tags separated by commas
 unfoldable pub tags_of : List ℕ → Result TagMap Why
-tags_of text = if is_empty text then Ok map.empty else each_piece with_piece map.empty (slice_split (is 44) text)
+tags_of text = if is_empty text then Ok map.empty else each_piece with_piece map.empty (slice_split (is COMMA) text)

@@ -7,6 +7,7 @@ use Rattle.std.specs.Char.{is_ascii_hexdigit, encode_utf8}
 use lib.Utf8.{scalar}
 use Rattle.std.specs.Str.{chars}
 use Rattle.std.specs.Str.Parse.{digits_value}
+use Rattle.opl_object.specs.declared.ascii.TheConstants.{TAB, LINE_FEED, SPACE, PERCENT, COMMA, EQUALS, AT}
 use Rattle.opl_object.specs.declared.why.Why.{Why}
 use Rattle.opl_object.specs.declared.why.Why.TheVariants.{Escape}
 use Rattle.opl_object.specs.Fields.{is}
@@ -14,7 +15,7 @@ use Rattle.opl_object.specs.Why.{◌>>=◌}
 
 -- what stands in no text as it is: zero, tab, newline, space, percent, comma, equals sign, at sign
 abbrev pub is_reserved : ℕ → Bool
-is_reserved byte = (((byte == 0) || (byte == 9)) || ((byte == 10) || (byte == 32))) || (((byte == 37) || (byte == 44)) || ((byte == 61) || (byte == 64)))
+is_reserved byte = (((byte == 0) || (byte == TAB)) || ((byte == LINE_FEED) || (byte == SPACE))) || (((byte == PERCENT) || (byte == COMMA)) || ((byte == EQUALS) || (byte == AT)))
 
 -- nothing reserved
 abbrev pub is_plain : List ℕ → Bool
@@ -36,7 +37,7 @@ resolved text (plain ∷ digits ∷ pieces) = if is_plain plain
 
 -- the UTF-8 of a text of a line, its escapes resolved
 unfoldable pub bytes_of : List ℕ → Result (List ℕ) Why
-bytes_of spelled = resolved [] (slice_split (is 37) spelled)
+bytes_of spelled = resolved [] (slice_split (is PERCENT) spelled)
 
 -- and its characters
 unfoldable pub text_of : List ℕ → Result (List ℕ) Why

@@ -7,6 +7,7 @@ ghost use Rattle.std.specs.Str.Parse.{digits_value_after};
 ghost use Rattle.opl_object.specs.Coordinate.{is_decimal, seven, units, decimals_of, coordinate};
 
 use crate::Why;
+use crate::ascii::{DIGIT_0, DIGIT_5, POINT};
 use crate::fields::cut_bytes;
 use crate::number::{are_digits, signed};
 
@@ -31,7 +32,7 @@ pub(crate) fn coordinate(greatest: u32, text: &[u8]) -> Result<i32, Why>
     ensures west { IfOk result (λ value. neg_ℤ (pos greatest) ≤ℤ value) }
 {
     let (minus, size) = signed(text);
-    let (whole, decimals) = cut_bytes(size, b'.');
+    let (whole, decimals) = cut_bytes(size, POINT);
     if !is_decimal(whole, decimals) {
         return Err(Why::Number);
     }
@@ -94,9 +95,9 @@ fn units(whole: &[u8], decimals: &[u8]) -> u64
 
 /// Whether the first decimal that does not count is 5 or more.
 fn rounds_up(decimals: &[u8]) -> bool
-    ensures value { result ≡ nat_le 53 (slice_index decimals.now 7) }
+    ensures value { result ≡ nat_le DIGIT_5 (slice_index decimals.now 7) }
 {
-    DECIMALS < decimals.len() && b'5' <= decimals[DECIMALS]
+    DECIMALS < decimals.len() && DIGIT_5 <= decimals[DECIMALS]
 }
 
 /// The number that digits write behind those of a number, or `CAP` where it is greater.
@@ -107,7 +108,7 @@ fn value_after(front: u64, digits: &[u8]) -> u64
 {
     let mut value = front;
     for &digit in digits {
-        value = (value * 10 + u64::from(digit - b'0')).min(CAP);
+        value = (value * 10 + u64::from(digit - DIGIT_0)).min(CAP);
     }
     value
 }

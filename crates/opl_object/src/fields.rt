@@ -5,6 +5,8 @@ ghost use Rattle.std.specs.List.{slice_split, position_or_len};
 ghost use Rattle.std.specs.Option.{option_map};
 ghost use Rattle.opl_object.specs.Fields.{is, is_blank, fields_of, cut_at, later_pieces, behind};
 
+use crate::ascii::{COMMA, SPACE, TAB};
+
 /// What stands before the first `end` and, where there is one, what stands after it.
 pub(crate) fn cut(text: &str, end: u8) -> (&str, Option<&str>)
     requires { end < 128 }
@@ -68,9 +70,13 @@ pub(crate) fn after_first(text: &str) -> &str
 
 /// How many pieces commas make of the text.
 pub(crate) fn pieces(text: &str) -> usize
-    ensures count { result ≡ count_by (is 44) text.now + 1 }
+    ensures count { result ≡ count_by (is COMMA) text.now + 1 }
 {
-    text.as_bytes().iter().filter(|byte| **byte == b',').count() + 1
+    text.as_bytes()
+        .iter()
+        .filter(|byte| **byte == COMMA)
+        .count()
+        + 1
 }
 
 /// The first field and what stands behind it.
@@ -141,5 +147,5 @@ pub(crate) fn digits_len(text: &[u8]) -> usize
 fn is_blank(byte: u8) -> bool
     ensures value { result ≡ is_blank byte }
 {
-    byte == b' ' || byte == b'\t'
+    byte == SPACE || byte == TAB
 }

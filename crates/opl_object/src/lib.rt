@@ -4,11 +4,12 @@
 //! On the path of the data it stands between the lines of a file and the fold of its entries. A line
 //! comes in as bytes, cut from a file; `osm_base` has the types of what goes out.
 //!
-//! `read_line` keeps three promises, each for every line and unless memory runs out. It gives just
-//! what `reading` of `specs/Line.antt` gives, so the cause of a refusal is the first one in the order
-//! of the checks. What it reads is spelled so, and what is spelled so it reads, by `Spells` of
-//! `specs/Spells.antt`, a relation on whole fields that knows nothing of the order of reading.
-//! `one_meaning` is the law that follows: a line is skipped, or has one fault, or spells one entry.
+//! `read_line` keeps three promises, each for every line and unless memory runs out. What it reads is
+//! spelled so, and what is spelled so it reads, by `Spells` of `specs/Spells.antt`. What it refuses has
+//! that fault, and what has a fault it refuses so, by `HasFault` of `specs/Faults.antt`. Both are
+//! relations on whole fields and lists that know nothing of how a line is read. And it gives just what
+//! `reading` of `specs/Line.antt` gives, from left to right. `one_meaning` is the law that follows: a
+//! line is skipped, or has one fault, or spells one entry.
 //!
 //! `write_entry` is the way back. It puts the line of an entry to a sink and takes no memory, so that
 //! it fails only where the sink does, and then the sink has taken a front of the line. What was written
@@ -19,6 +20,7 @@
 //! checked where they stand, and take no memory; an empty list takes none either.
 #![tactic(auto)]
 
+mod ascii;
 mod coordinate;
 mod escapes;
 mod fields;
@@ -34,6 +36,7 @@ mod text;
 mod why;
 mod written;
 
+pub use ascii::shared_numbers;
 pub use line::{one_meaning, read_line};
 pub use why::{LineRefused, Why};
 pub use written::write_entry;

@@ -1,13 +1,15 @@
 //! A whole line.
-ghost use Rattle.std.specs.Prelude.{◌≡◌, ◌≢◌, ◌↔◌, ◌≤ℤ◌, neg_ℤ, ℕ, List, Option, None, Some, Result, Ok, Err, IsFalse, IsSome, IfSome, IfOk, IsOkAnd};
+ghost use Rattle.std.specs.Prelude.{◌≡◌, ◌≢◌, ◌↔◌, ◌≤ℤ◌, neg_ℤ, ℕ, List, Option, None, Some, Result, Ok, Err, IsFalse, IsSome, IfSome, IfOk, IfErr, IsOkAnd};
 ghost use Rattle.osm_base.specs.declared.object.Entry.{Entry};
 ghost use Rattle.osm_base.specs.Key.{KeyOf};
+ghost use Rattle.opl_object.specs.declared.why.Why.{Why};
 ghost use Rattle.opl_object.specs.declared.why.Why.TheVariants.{Order};
 ghost use Rattle.opl_object.specs.declared.why.LineRefused.TheVariants.{Bad};
-ghost use Rattle.opl_object.specs.Meaning.{HasOneMeaning};
+ghost use Rattle.opl_object.specs.Meaning.{HasOneMeaning, TellsFault};
 ghost use Rattle.opl_object.specs.Spells.{Spells};
 ghost use Rattle.osm_base.specs.declared.place.TheConstants.{MAX_LON, MAX_LAT};
 ghost use Rattle.opl_object.specs.Earth.{AreOnEarth};
+ghost use Rattle.opl_object.specs.Faults.{HasFault};
 ghost use Rattle.opl_object.specs.Fields.{fields_of};
 ghost use Rattle.opl_object.specs.Line.{IsSkipped, is_skipped, utf8_of, key_of, place_of, object_of, entry_of, entry_from, reading};
 ghost use Rattle.opl_object.specs.Why.{Gives, Tells};
@@ -29,6 +31,9 @@ pub fn read_line(alloc: Global, line: &[u8]) -> Result<Option<Entry>, LineRefuse
     // What is read is spelled so, and what is spelled so is read, unless memory ran out.
     ensures spelled { IfOk result (λ found. IfSome found (λ entry. Spells line.now entry)) }
     ensures read { (entry : Entry) → Spells line.now entry → Gives (λ found. found) result (Ok (Some entry)) }
+    // A refusal tells the first fault of the line, and a line with a fault is refused so, unless memory ran out.
+    ensures fault { IfErr result (λ refused. TellsFault line.now refused) }
+    ensures refused { (why : Why) → HasFault line.now why → Gives (λ found. found) result (Err why) }
     // What is read can be written.
     ensures writable { IfOk result (λ found. IfSome found IsWritable) }
     // The order of lines is no fault of one line.

@@ -6,6 +6,7 @@ ghost use Rattle.opl_object.specs.Fields.{is};
 ghost use Rattle.opl_object.specs.Members.{kind_of, kind_at, with_role, member_of, with_member, members_of};
 ghost use Rattle.opl_object.specs.Why.{Gives, each_piece};
 
+use crate::ascii::{AT, COMMA};
 use crate::fields::{after_first, behind, cut, first_byte, pieces};
 use crate::nodes::numbered;
 use crate::text::text_of;
@@ -27,12 +28,12 @@ pub(crate) fn members_of(alloc: Global, text: &str) -> Result<Members, LineRefus
 /// The members of the pieces between commas.
 fn members_between(alloc: Global, text: &str) -> Result<Vec<Member>, LineRefused>
     ensures members { Gives (λ members. members.items) result
-        (each_piece with_member [] (slice_split (is 44) text.now)) }
+        (each_piece with_member [] (slice_split (is COMMA) text.now)) }
 {
     let mut members = Vec::with_capacity(alloc, pieces(text))?;
     let mut left = Some(text);
     while let Some(text) = left {
-        let (piece, later) = cut(text, b',');
+        let (piece, later) = cut(text, COMMA);
         members.push(member_of(alloc, piece)?)?;
         left = later;
     }
@@ -56,7 +57,7 @@ fn member_of(alloc: Global, piece: &str) -> Result<Member, LineRefused>
 fn with_role(alloc: Global, key: Key, text: &str) -> Result<Member, LineRefused>
     ensures member { Gives (λ member. member) result (with_role key text.now) }
 {
-    let Some(spelled) = behind(text, b'@') else {
+    let Some(spelled) = behind(text, AT) else {
         return Err(LineRefused::Bad(Why::Member));
     };
     let role = text_of(alloc, spelled)?;

@@ -7,6 +7,7 @@ ghost use Rattle.opl_object.specs.Nodes.{numbered, placed, place_pair, node_of, 
 ghost use Rattle.opl_object.specs.Why.{Gives, Tells, each_piece};
 ghost use Rattle.std.specs.Option.{option_map};
 
+use crate::ascii::{COMMA, SMALL_N, SMALL_X, SMALL_Y};
 use crate::coordinate::coordinate;
 use crate::fields::{behind, cut, digits_len, pieces};
 use crate::number::id_of;
@@ -32,12 +33,12 @@ pub(crate) fn nodes_of(alloc: Global, text: &str) -> Result<Ids, LineRefused>
 
 /// The node ids of the pieces between commas.
 fn nodes_between(alloc: Global, text: &str) -> Result<Vec<u64>, LineRefused>
-    ensures nodes { Gives (λ nodes. nodes.items) result (each_piece with_node [] (slice_split (is 44) text.now)) }
+    ensures nodes { Gives (λ nodes. nodes.items) result (each_piece with_node [] (slice_split (is COMMA) text.now)) }
 {
     let mut nodes = Vec::with_capacity(alloc, pieces(text))?;
     let mut left = Some(text);
     while let Some(text) = left {
-        let (piece, later) = cut(text, b',');
+        let (piece, later) = cut(text, COMMA);
         nodes.push(node_of(piece)?)?;
         left = later;
     }
@@ -49,7 +50,7 @@ fn nodes_between(alloc: Global, text: &str) -> Result<Vec<u64>, LineRefused>
 fn node_of(piece: &str) -> Result<u64, Why>
     ensures node { result ≡ node_of piece.now }
 {
-    let Some(rest) = behind(piece, b'n') else {
+    let Some(rest) = behind(piece, SMALL_N) else {
         return Err(Why::Member);
     };
     let (id, place) = numbered(rest)?;
@@ -75,10 +76,10 @@ fn placed(text: &str) -> Result<(), Why>
     if text.is_empty() {
         return Ok(());
     }
-    let Some(place) = behind(text, b'x') else {
+    let Some(place) = behind(text, SMALL_X) else {
         return Err(Why::Member);
     };
-    let (lon, lat) = cut(place, b'y');
+    let (lon, lat) = cut(place, SMALL_Y);
     let Some(lat) = lat else {
         return Err(Why::HalfPlace);
     };

@@ -6,6 +6,7 @@ ghost use Rattle.opl_object.specs.Fields.{is};
 ghost use Rattle.opl_object.specs.Tags.{with_piece, tags_of};
 ghost use Rattle.opl_object.specs.Why.{Gives, each_piece};
 
+use crate::ascii::{COMMA, EQUALS};
 use crate::fields::{cut, pieces};
 use crate::text::text_of;
 use crate::{LineRefused, Why};
@@ -25,12 +26,12 @@ pub(crate) fn tags_of(alloc: Global, text: &str) -> Result<Tags, LineRefused>
 
 /// The tags of the pieces between commas.
 fn tags_between(alloc: Global, text: &str) -> Result<Tags, LineRefused>
-    ensures tags { Gives (λ tags. tags) result (each_piece with_piece map.empty (slice_split (is 44) text.now)) }
+    ensures tags { Gives (λ tags. tags) result (each_piece with_piece map.empty (slice_split (is COMMA) text.now)) }
 {
     let mut tags = Tags::with_room(alloc, pieces(text), text.len())?;
     let mut left = Some(text);
     while let Some(text) = left {
-        let (piece, later) = cut(text, b',');
+        let (piece, later) = cut(text, COMMA);
         add_piece(alloc, &mut tags, piece)?;
         left = later;
     }
@@ -42,7 +43,7 @@ fn tags_between(alloc: Global, text: &str) -> Result<Tags, LineRefused>
 fn add_piece(alloc: Global, tags: &mut Tags, piece: &str) -> Result<(), LineRefused>
     ensures tags { Gives (λ _. tags.new) result (with_piece tags.old piece.now) }
 {
-    let (key, value) = cut(piece, b'=');
+    let (key, value) = cut(piece, EQUALS);
     let Some(value) = value else {
         return Err(LineRefused::Bad(Why::Tag));
     };

@@ -10,6 +10,7 @@ ghost use Rattle.opl_object.specs.Spelled.{spelled_bytes};
 ghost use Rattle.opl_object.specs.Text.{is_reserved, is_plain, escaped, resolved, bytes_of, text_of, checked_text};
 ghost use Rattle.opl_object.specs.Why.{Gives};
 
+use crate::ascii::PERCENT;
 use crate::fields::cut;
 use crate::{LineRefused, Why};
 use osm_base::{OutOfMemory, Text};
@@ -65,14 +66,14 @@ pub(crate) fn check_text(spelled: &str) -> Result<(), Why>
 {
     let mut rest = spelled;
     loop {
-        let (plain, escape) = cut(rest, b'%');
+        let (plain, escape) = cut(rest, PERCENT);
         if !is_plain(plain.as_bytes()) {
             return Err(Why::Escape);
         }
         let Some(escape) = escape else {
             return Ok(());
         };
-        let (digits, after) = cut(escape, b'%');
+        let (digits, after) = cut(escape, PERCENT);
         let Some(after) = after else {
             return Err(Why::Escape);
         };
@@ -88,7 +89,7 @@ fn resolve(alloc: Global, spelled: &str) -> Result<String, LineRefused>
     let mut text = String::new(alloc);
     let mut rest = spelled;
     loop {
-        let (plain, escape) = cut(rest, b'%');
+        let (plain, escape) = cut(rest, PERCENT);
         if !is_plain(plain.as_bytes()) {
             return Err(LineRefused::Bad(Why::Escape));
         }
@@ -96,7 +97,7 @@ fn resolve(alloc: Global, spelled: &str) -> Result<String, LineRefused>
         let Some(escape) = escape else {
             return Ok(text);
         };
-        let (digits, after) = cut(escape, b'%');
+        let (digits, after) = cut(escape, PERCENT);
         let Some(after) = after else {
             return Err(LineRefused::Bad(Why::Escape));
         };

@@ -1,4 +1,4 @@
-use Rattle.opl_object.proofs.SpelledLines.{each_line}
+use Rattle.opl_object.proofs.OneMeaning.{each_line}
 use Rattle.opl_object.proofs.line.one_meaning.Goals as goal
 
 pub returns : goal.returns

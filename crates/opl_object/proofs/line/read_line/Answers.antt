@@ -1,6 +1,6 @@
 use Rattle.std.proofs.Common.{◌∙◌, sym}
-use Rattle.opl_object.proofs.Promises.{found_spells, again_gives, never_order}
-use Rattle.opl_object.proofs.SpelledLines.{skipped_reads}
+use Rattle.opl_object.proofs.Promises.{found_spells, again_gives, found_fault, fault_gives, never_order}
+use Rattle.opl_object.proofs.OneMeaning.{skipped_reads}
 use Rattle.opl_object.proofs.Writable.{found_writable}
 use Rattle.opl_object.proofs.line.read_line.Goals as goal
 
@@ -18,3 +18,12 @@ returns-clause-in_order c = λ earlier later e. never_order c.args.line.now earl
 
 pub returns-clause-writable : goal.returns-clause-writable
 returns-clause-writable c = found_writable c.args.line.now c.read_counted.result (found_spells c.args.line.now c.read_counted.result c.read_counted.ensures.exact)
+
+pub returns-then-is_skipped-clause-refused : goal.returns-then-is_skipped-clause-refused
+returns-then-is_skipped-clause-refused c = λ why f. absurd (f.counts (sym c.is_skipped.ensures.value ∙ c.if-is_skipped.true))
+
+pub returns-clause-fault : goal.returns-clause-fault
+returns-clause-fault c = found_fault c.args.line.now c.read_counted.result c.read_counted.ensures.exact
+
+pub returns-clause-refused : goal.returns-clause-refused
+returns-clause-refused c = λ why f. fault_gives c.args.line.now why c.read_counted.result f c.read_counted.ensures.exact
