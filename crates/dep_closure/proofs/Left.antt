@@ -17,9 +17,9 @@ use Rattle.osm_base.specs.Place.{PlaceOf}
 use Rattle.piece_ends.specs.Pieces.{same_place}
 use Rattle.line_build.specs.Points.{line_through}
 use Rattle.object_fold.specs.Fold.{ObjectSet, folded_all, place_in}
-use Rattle.object_fold.specs.FoldLaws.{Untouched, get-untouched}
+use Rattle.object_fold.proofs.FoldLaws.{Untouched, get-untouched}
 use Rattle.object_fold.specs.Index.{is_kind, lists, index_of, known_of}
-use Rattle.object_fold.specs.Listers.{has-ids_of}
+use Rattle.object_fold.proofs.Listers.{has-ids_of}
 use Rattle.object_fold.specs.RisingIds.{has}
 use Rattle.dep_closure.specs.Ways.{way_key, makes_due, is_due, line_of, Leaves}
 

@@ -6,8 +6,6 @@
 #![tactic(auto)]
 
 mod fault;
-#[cfg(test)]
-mod tests;
 mod ways;
 
 pub use fault::PendingFault;

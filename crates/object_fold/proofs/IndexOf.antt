@@ -18,9 +18,9 @@ use Rattle.osm_base.specs.Key.{KeyOf, IsId}
 use Rattle.osm_base.specs.KeyOrder.{key_cmp}
 use Rattle.object_fold.specs.Fold.{ObjectSet}
 use Rattle.object_fold.specs.Index.{is_kind, lists, ids_of}
-use Rattle.object_fold.specs.Listers.{key, kind_same, passing, test, has-ids_of}
+use Rattle.object_fold.proofs.Listers.{key, kind_same, passing, test, has-ids_of}
 use Rattle.object_fold.specs.RisingIds.{IsRising, has}
-use Rattle.object_fold.specs.Rows.{rows_of}
+use Rattle.object_fold.specs.Listings.{told_of}
 use Rattle.object_fold.proofs.SortedIds.{same_rising}
 
 or-true : (b : Bool) → (b || true) ≡ true
@@ -93,8 +93,8 @@ module _ (objects : ObjectSet) (by kind : Kind) (id : ℕ) where
   pub ids_of-rise : IsRising (ids_of by kind id objects)
   ids_of-rise = rise-passing (finite.entries objects) (finite.entries_sorted objects)
 
-  -- rising ids that the rows name are those of the definition
-  pub listers-are : (ids : List ℕ) → IsRising ids → ((own : ℕ) → has ids own ≡ rows_of objects (key by own) kind id) → ids ≡ ids_of by kind id objects
+  -- rising ids that are told are those of the definition
+  pub listers-are : (ids : List ℕ) → IsRising ids → ((own : ℕ) → has ids own ≡ told_of objects (key by own) kind id) → ids ≡ ids_of by kind id objects
   listers-are ids rise same = same_rising ids (ids_of by kind id objects) rise ids_of-rise (λ own. same own ∙ sym (has-ids_of objects by kind id own))
 
 all_ids : (ids : List ℕ) → ((own : ℕ) → has ids own ≡ true → IsId own) → AllByRecursion IsId ids

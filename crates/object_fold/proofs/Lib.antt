@@ -1,12 +1,17 @@
+mod Accepted
+pub mod FoldLaws
 pub mod Found
 mod IndexOf
 mod KeyTree
 mod Lines
+pub mod Listers
 mod ListingSteps
+mod ListingTurns
 mod OfObjects
+mod Pieces
 mod Proper
 mod Relisted
 mod Rising
-mod RowSteps
 mod SortedIds
+mod Undecided
 mod WholeFile

@@ -18,7 +18,7 @@ use Rattle.object_fold.specs.declared.progress.Progress.{Progress}
 use Rattle.object_fold.specs.Entries.{unless}
 use Rattle.object_fold.specs.Keeps.{kept, kept_all}
 use Rattle.object_fold.specs.Passed.{spelled, text_fault, line_fault}
-use Rattle.object_fold.specs.Reading.{passed_line, in_front, entries_from, entries_left, IsReady}
+use Rattle.object_fold.specs.Progress.{passed_line, in_front, entries_from, entries_left, IsReady}
 use Rattle.object_fold.specs.Stops.{StopsAt}
 
 -- the fault of one line
@@ -31,13 +31,13 @@ module _ (limits : LimitNumbers) (passed : Passed) (line : List ℕ) where
       let b : nat_le (length line) limits.line_bytes ≡ true = le-leb (length line) limits.line_bytes short in
       rw (a, b) refl
 
-  line_fault-uncounted : passed.lines ≡ limits.lines → line_fault limits passed line ≡ Some (faults.Limit kinds.FileLines (limits.lines + 1))
+  pub line_fault-uncounted : passed.lines ≡ limits.lines → line_fault limits passed line ≡ Some (faults.Limit kinds.FileLines (limits.lines + 1))
   unfolding line_fault
   line_fault-uncounted same =
       let a : nat_lt passed.lines limits.lines ≡ false = le-ltb passed.lines limits.lines (omega arith) in
       rw a refl
 
-  line_fault-long : passed.lines < limits.lines → limits.line_bytes < length line → line_fault limits passed line ≡ Some (faults.Limit kinds.LineBytes (limits.line_bytes + 1))
+  pub line_fault-long : passed.lines < limits.lines → limits.line_bytes < length line → line_fault limits passed line ≡ Some (faults.Limit kinds.LineBytes (limits.line_bytes + 1))
   unfolding line_fault
   line_fault-long counted long =
       let a : nat_lt passed.lines limits.lines ≡ true = le-leb (suc passed.lines) limits.lines counted in
@@ -46,17 +46,17 @@ module _ (limits : LimitNumbers) (passed : Passed) (line : List ℕ) where
 
 -- the first of the lines that are left
 
-entries_from-next : (limits : LimitNumbers) (passed : Passed) (line : List ℕ) (lines : List (List ℕ)) → line_fault limits passed line ≡ None
+pub entries_from-next : (limits : LimitNumbers) (passed : Passed) (line : List ℕ) (lines : List (List ℕ)) → line_fault limits passed line ≡ None
     → entries_from limits passed (line ∷ lines) ≡ in_front (spelled line) (entries_from limits (passed_line passed (spelled line)) lines)
 unfolding entries_from
 entries_from-next limits passed line lines e = ap (λ fault. unless fault (in_front (spelled line) (entries_from limits (passed_line passed (spelled line)) lines))) e
 
-entries_from-stop : (limits : LimitNumbers) (passed : Passed) (line : List ℕ) (lines : List (List ℕ)) (fault : FileFault) → line_fault limits passed line ≡ Some fault
+pub entries_from-stop : (limits : LimitNumbers) (passed : Passed) (line : List ℕ) (lines : List (List ℕ)) (fault : FileFault) → line_fault limits passed line ≡ Some fault
     → entries_from limits passed (line ∷ lines) ≡ Err fault
 unfolding entries_from
 entries_from-stop limits passed line lines fault e = ap (λ own. unless own (in_front (spelled line) (entries_from limits (passed_line passed (spelled line)) lines))) e
 
-stop_first : (limits : LimitNumbers) (passed : Passed) (lines : List (List ℕ)) (fault : FileFault) → 0 < length lines
+pub stop_first : (limits : LimitNumbers) (passed : Passed) (lines : List (List ℕ)) (fault : FileFault) → 0 < length lines
     → line_fault limits passed (first_of lines) ≡ Some fault → entries_from limits passed lines ≡ Err fault
 stop_first limits passed [] fault some e = absurd (omega arith)
 stop_first limits passed (line ∷ lines) fault some e = entries_from-stop limits passed line lines fault e

@@ -18,7 +18,7 @@ use Rattle.object_fold.specs.Fold.{ObjectSet, objects_in}
 use Rattle.object_fold.specs.Index.{ids_of, lists}
 use Rattle.object_fold.specs.Listing.{ListingOf, listers, is_listed}
 use Rattle.object_fold.specs.RisingIds.{IsRising, has}
-use Rattle.object_fold.specs.Rows.{AreListed, AreListedBy, AreListingsOf}
+use Rattle.object_fold.specs.Listings.{AreListed, AreListedBy, AreListingsOf}
 use Rattle.object_fold.proofs.Found.{found}
 use Rattle.object_fold.proofs.IndexOf.{listers-are, ids_of-ids}
 use Rattle.object_fold.proofs.KeyTree.{tree_cmp, tree_cmp-key_cmp}
@@ -27,17 +27,17 @@ module _ (tree : BTreeMap KeyOf Object) (listings : Listings) (own : ObjectSet) 
   pub ways_of_nodes-are : (ids : List ℕ) → ids ≡ listers listings.ways_of_nodes id → IsRising ids → ids ≡ ids_of Way Node id own
   ways_of_nodes-are ids is rise =
       subst (λ (objects : ObjectSet). ids ≡ ids_of Way Node id objects) view
-      (listers-are (objects_in tree) Way Node id ids rise (λ by. ap (λ ids. has ids by) is ∙ are.rows.ways_of_nodes id by))
+      (listers-are (objects_in tree) Way Node id ids rise (λ by. ap (λ ids. has ids by) is ∙ are.told.ways_of_nodes id by))
 
   pub relations_of_nodes-are : (ids : List ℕ) → ids ≡ listers listings.relations_of_nodes id → IsRising ids → ids ≡ ids_of Relation Node id own
   relations_of_nodes-are ids is rise =
       subst (λ (objects : ObjectSet). ids ≡ ids_of Relation Node id objects) view
-      (listers-are (objects_in tree) Relation Node id ids rise (λ by. ap (λ ids. has ids by) is ∙ are.rows.relations_of_nodes id by))
+      (listers-are (objects_in tree) Relation Node id ids rise (λ by. ap (λ ids. has ids by) is ∙ are.told.relations_of_nodes id by))
 
   pub relations_of_ways-are : (ids : List ℕ) → ids ≡ listers listings.relations_of_ways id → IsRising ids → ids ≡ ids_of Relation Way id own
   relations_of_ways-are ids is rise =
       subst (λ (objects : ObjectSet). ids ≡ ids_of Relation Way id objects) view
-      (listers-are (objects_in tree) Relation Way id ids rise (λ by. ap (λ ids. has ids by) is ∙ are.rows.relations_of_ways id by))
+      (listers-are (objects_in tree) Relation Way id ids rise (λ by. ap (λ ids. has ids by) is ∙ are.told.relations_of_ways id by))
 
   pub ways_of_nodes-ids : AreRisingIds (ids_of Way Node id own)
   ways_of_nodes-ids = subst (λ (objects : ObjectSet). AreRisingIds (ids_of Way Node id objects)) view (ids_of-ids (objects_in tree) are.ids Way Node id)
@@ -79,7 +79,7 @@ pub none-listed : (tree : BTreeMap KeyOf Object) (listings : Listings) → objec
     → listings.relations_of_nodes ≡ finite.empty → listings.relations_of_ways ≡ finite.empty → AreListingsOf (objects_in tree) listings
 none-listed tree listings none ways nodes relations =
     subst (λ (objects : ObjectSet). AreListingsOf objects listings) (sym none) (record {
-      rows = record {
+      told = record {
         ways_of_nodes = λ id by. unlisted listings.ways_of_nodes ways id by ∙ sym (unknown Node id (record { kind = Way; id = by }));
         relations_of_nodes = λ id by. unlisted listings.relations_of_nodes nodes id by ∙ sym (unknown Node id (record { kind = Relation; id = by }));
         relations_of_ways = λ id by. unlisted listings.relations_of_ways relations id by ∙ sym (unknown Way id (record { kind = Relation; id = by }));

@@ -14,10 +14,10 @@ use Rattle.object_fold.specs.declared.listings.Listings.{Listings}
 use Rattle.object_fold.specs.Fold.{ObjectSet}
 use Rattle.object_fold.specs.Index.{listed, lists}
 use Rattle.object_fold.specs.RisingIds.{has}
-use Rattle.object_fold.specs.Rows.{Rows, Answer, way, relation, rows_of, is_key, added, taken, Turns, AddsSome, AreListed, AreListedBy}
+use Rattle.object_fold.specs.Listings.{WhoLists, Answer, way, relation, told_of, is_key, added, taken, Turns, AddsSome, AreListed, AreListedBy}
 
--- rows that say the same of nodes and of ways
-answers-same : (listings : Listings) (one other : Rows) → Answer listings one → ((by : KeyOf) (id : ℕ) → one by Node id ≡ other by Node id)
+-- what says the same of nodes and of ways is answered alike
+answers-same : (listings : Listings) (one other : WhoLists) → Answer listings one → ((by : KeyOf) (id : ℕ) → one by Node id ≡ other by Node id)
     → ((by : KeyOf) (id : ℕ) → one by Way id ≡ other by Way id) → Answer listings other
 answers-same listings one other answer nodes ways = record {
   ways_of_nodes = λ id by. answer.ways_of_nodes id by ∙ nodes (way by) id;
@@ -61,49 +61,49 @@ absent_lists true kind id own = refl
 absent_lists false kind id own = refl
 
 module _ (objects : ObjectSet) (key : KeyOf) (old : Listed) (were : AreListedBy (finite.get objects key) old) where
-  was_nodes : (by : KeyOf) (id : ℕ) → is_key key by ≡ true → rows_of objects by Node id ≡ has old.nodes id
+  was_nodes : (by : KeyOf) (id : ℕ) → is_key key by ≡ true → told_of objects by Node id ≡ has old.nodes id
   was_nodes by id same = ap (λ own. lists Node id (finite.get objects own)) (is_key-same key by same) ∙ sym (were.nodes id)
 
-  was_ways : (by : KeyOf) (id : ℕ) → is_key key by ≡ true → rows_of objects by Way id ≡ has old.ways id
+  was_ways : (by : KeyOf) (id : ℕ) → is_key key by ≡ true → told_of objects by Way id ≡ has old.ways id
   was_ways by id same = ap (λ own. lists Way id (finite.get objects own)) (is_key-same key by same) ∙ sym (were.ways id)
 
   module _ (object : Object) (new : Listed) (are : AreListed object new) (before between after : Listings) where
-    set_rows : (kind : Kind) (ids : List ℕ) → ((id : ℕ) → has ids id ≡ has (listed kind object) id)
-        → (by : KeyOf) (id : ℕ) → cond (is_key key by) (has ids id) (rows_of objects by kind id) ≡ rows_of (finite.insert objects key object) by kind id
-    set_rows kind ids same by id =
-        ap (λ b. cond (is_key key by) b (rows_of objects by kind id)) (same id)
+    set_told : (kind : Kind) (ids : List ℕ) → ((id : ℕ) → has ids id ≡ has (listed kind object) id)
+        → (by : KeyOf) (id : ℕ) → cond (is_key key by) (has ids id) (told_of objects by kind id) ≡ told_of (finite.insert objects key object) by kind id
+    set_told kind ids same by id =
+        ap (λ b. cond (is_key key by) b (told_of objects by kind id)) (same id)
         ∙ sym (chosen_lists (is_key key by) kind id object (finite.get objects by))
         ∙ ap (lists kind id) (sym (finite.get-insert key_cmp_total objects key object by))
 
-    pub set-answers : Answer before (rows_of objects) → Turns (added key new) before between → Turns (taken key old new) between after
-        → Answer after (rows_of (finite.insert objects key object))
+    pub set-answers : Answer before (told_of objects) → Turns (added key new) before between → Turns (taken key old new) between after
+        → Answer after (told_of (finite.insert objects key object))
     set-answers answer adds takes =
-        answers-same after (taken key old new (added key new (rows_of objects))) (rows_of (finite.insert objects key object))
-        (takes (added key new (rows_of objects)) (adds (rows_of objects) answer))
-        (λ by id. set_bits (is_key key by) (has new.nodes id) (has old.nodes id) (rows_of objects by Node id) (was_nodes by id) ∙ set_rows Node new.nodes are.nodes by id)
-        (λ by id. set_bits (is_key key by) (has new.ways id) (has old.ways id) (rows_of objects by Way id) (was_ways by id) ∙ set_rows Way new.ways are.ways by id)
+        answers-same after (taken key old new (added key new (told_of objects))) (told_of (finite.insert objects key object))
+        (takes (added key new (told_of objects)) (adds (told_of objects) answer))
+        (λ by id. set_bits (is_key key by) (has new.nodes id) (has old.nodes id) (told_of objects by Node id) (was_nodes by id) ∙ set_told Node new.nodes are.nodes by id)
+        (λ by id. set_bits (is_key key by) (has new.ways id) (has old.ways id) (told_of objects by Way id) (was_ways by id) ∙ set_told Way new.ways are.ways by id)
 
-  pub undone-answers : (before between after : Listings) (new : Listed) → Answer before (rows_of objects) → AddsSome key new before between → Turns (taken key new old) between after
-      → Answer after (rows_of objects)
+  pub undone-answers : (before between after : Listings) (new : Listed) → Answer before (told_of objects) → AddsSome key new before between → Turns (taken key new old) between after
+      → Answer after (told_of objects)
   undone-answers before between after new answer (some, within, adds) takes =
-      answers-same after (taken key new old (added key some (rows_of objects))) (rows_of objects)
-      (takes (added key some (rows_of objects)) (adds (rows_of objects) answer))
-      (λ by id. undone_bits (is_key key by) (has some.nodes id) (has new.nodes id) (has old.nodes id) (rows_of objects by Node id) (within Node id) (was_nodes by id))
-      (λ by id. undone_bits (is_key key by) (has some.ways id) (has new.ways id) (has old.ways id) (rows_of objects by Way id) (within Way id) (was_ways by id))
+      answers-same after (taken key new old (added key some (told_of objects))) (told_of objects)
+      (takes (added key some (told_of objects)) (adds (told_of objects) answer))
+      (λ by id. undone_bits (is_key key by) (has some.nodes id) (has new.nodes id) (has old.nodes id) (told_of objects by Node id) (within Node id) (was_nodes by id))
+      (λ by id. undone_bits (is_key key by) (has some.ways id) (has new.ways id) (has old.ways id) (told_of objects by Way id) (within Way id) (was_ways by id))
 
   module _ (none : Listed) (nodes : none.nodes ≡ []) (ways : none.ways ≡ []) (before after : Listings) where
-    unset_rows : (kind : Kind) (by : KeyOf) (id : ℕ) → cond (is_key key by) false (rows_of objects by kind id) ≡ rows_of (finite.remove objects key) by kind id
-    unset_rows kind by id =
+    unset_told : (kind : Kind) (by : KeyOf) (id : ℕ) → cond (is_key key by) false (told_of objects by kind id) ≡ told_of (finite.remove objects key) by kind id
+    unset_told kind by id =
         sym (absent_lists (is_key key by) kind id (finite.get objects by))
         ∙ ap (lists kind id) (sym (finite.get-remove key_cmp_total objects key by))
 
-    pub unset-answers : Answer before (rows_of objects) → Turns (taken key old none) before after → Answer after (rows_of (finite.remove objects key))
+    pub unset-answers : Answer before (told_of objects) → Turns (taken key old none) before after → Answer after (told_of (finite.remove objects key))
     unset-answers answer takes =
-        answers-same after (taken key old none (rows_of objects)) (rows_of (finite.remove objects key)) (takes (rows_of objects) answer)
-        (λ by id. ap (λ ids. not (is_key key by && has old.nodes id && not (has ids id)) && rows_of objects by Node id) nodes
-        ∙ unset_bits (is_key key by) (has old.nodes id) (rows_of objects by Node id) (was_nodes by id) ∙ unset_rows Node by id)
-        (λ by id. ap (λ ids. not (is_key key by && has old.ways id && not (has ids id)) && rows_of objects by Way id) ways
-        ∙ unset_bits (is_key key by) (has old.ways id) (rows_of objects by Way id) (was_ways by id) ∙ unset_rows Way by id)
+        answers-same after (taken key old none (told_of objects)) (told_of (finite.remove objects key)) (takes (told_of objects) answer)
+        (λ by id. ap (λ ids. not (is_key key by && has old.nodes id && not (has ids id)) && told_of objects by Node id) nodes
+        ∙ unset_bits (is_key key by) (has old.nodes id) (told_of objects by Node id) (was_nodes by id) ∙ unset_told Node by id)
+        (λ by id. ap (λ ids. not (is_key key by && has old.ways id && not (has ids id)) && told_of objects by Way id) ways
+        ∙ unset_bits (is_key key by) (has old.ways id) (told_of objects by Way id) (was_ways by id) ∙ unset_told Way by id)
 
 -- the keys still have ids
 module _ (objects : ObjectSet) (ids : (key : KeyOf) → IsSome (finite.get objects key) → IsId key.id) (key : KeyOf) where
@@ -137,7 +137,7 @@ module _ (key : KeyOf) (is_node : key.kind ≡ Node) (objects after : ObjectSet)
   same_relation by =
       is (relation by) ∙ ap (λ b. cond b own (finite.get objects (relation by))) (ap (λ kind. is_key (record { kind = kind; id = key.id }) (relation by)) is_node ∙ no_relation key.id by)
 
-  pub node-answers : (listings : Listings) → Answer listings (rows_of objects) → Answer listings (rows_of after)
+  pub node-answers : (listings : Listings) → Answer listings (told_of objects) → Answer listings (told_of after)
   node-answers listings answer = record {
     ways_of_nodes = λ id by. answer.ways_of_nodes id by ∙ ap (lists Node id) (sym (same_way by));
     relations_of_nodes = λ id by. answer.relations_of_nodes id by ∙ ap (lists Node id) (sym (same_relation by));

@@ -15,7 +15,8 @@ use Rattle.object_fold.specs.Change.{last_key}
 use Rattle.object_fold.specs.Entries.{first_fault, unless, entries_of}
 use Rattle.object_fold.specs.Keeps.{kept_all, pushed}
 use Rattle.object_fold.specs.Passed.{spelled, spelled_by, passed_by, line_fault}
-use Rattle.object_fold.specs.Reading.{last_of, passed_line, in_front, entries_from, ReadsAll, HasEntries}
+use Rattle.object_fold.specs.Progress.{last_of, passed_line, in_front, entries_from}
+use Rattle.object_fold.specs.Reading.{ReadsAll, HasEntries}
 
 -- one line more
 

@@ -1,9 +1,12 @@
 -- The entries of a file, or the first fault that one of its lines has.
-use Rattle.std.specs.Prelude.{ℕ, List, [], ◌∷◌, ◌++◌, Option, None, Some, Result, Ok, Err}
+use Rattle.std.specs.Prelude.{◌≡◌, ◌≤◌, ℕ, List, [], ◌∷◌, ◌++◌, length, Option, None, Some, Result, Ok, Err, IsOk}
+use Rattle.std.specs.List.{AllByRecursion}
 use Rattle.std.specs.Option.{option_or}
 use Rattle.osm_base.specs.declared.limits.LimitNumbers.{LimitNumbers}
 use Rattle.osm_base.specs.declared.object.Entry.{Entry}
 use Rattle.opl_lines.specs.Lines.{lines_of}
+use Rattle.opl_object.specs.Line.{reading}
+use Rattle.object_fold.specs.Change.{IsChange}
 use Rattle.object_fold.specs.declared.fault.FileFault.{FileFault}
 use Rattle.object_fold.specs.Passed.{spelled_by, passed_by, line_fault}
 
@@ -20,3 +23,13 @@ unless (Some fault) value = Err fault
 -- the entries of a file with these bytes, or the first fault
 unfoldable pub entries_of : LimitNumbers → List ℕ → Result (List Entry) FileFault
 entries_of limits bytes = unless (first_fault limits [] (lines_of bytes)) (Ok (spelled_by (lines_of bytes)))
+
+-- a file with these bytes is accepted, and these are its entries: its lines are no more and no longer than they may be, each is read, the
+-- entries are those that they spell, in order, no more than they may be, each is proper, and their keys rise
+pub record IsAccepted (limits : LimitNumbers) (bytes : List ℕ) (entries : List Entry) : Type 0 where
+  pub lines : length (lines_of bytes) ≤ limits.lines
+  pub line_bytes : AllByRecursion (λ line. length line ≤ limits.line_bytes) (lines_of bytes)
+  pub read : AllByRecursion (λ line. IsOk (reading line)) (lines_of bytes)
+  pub spelled : entries ≡ spelled_by (lines_of bytes)
+  pub counted : length entries ≤ limits.entries
+  pub rise : IsChange entries

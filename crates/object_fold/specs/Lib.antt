@@ -1,14 +1,13 @@
 pub mod Change
 pub mod Entries
 pub mod Fold
-pub mod FoldLaws
 pub mod Index
 pub mod Keeps
-pub mod Listers
 pub mod Listing
+pub mod Listings
 pub mod Passed
+pub mod Progress
 pub mod Reading
 pub mod RisingIds
-pub mod Rows
 pub mod Stops
 pub mod Whole

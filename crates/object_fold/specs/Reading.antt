@@ -1,63 +1,18 @@
--- What is left to be read of a file, while it is read piece by piece.
-use Rattle.std.specs.Prelude.{◌≡◌, ◌≤◌, ℕ, ◌+◌, List, [], ◌∷◌, ◌++◌, Bool, false, Option, None, Some, Result, Ok, Err, IfSome}
-use Rattle.std.specs.List.{cons_option}
-use Rattle.std.specs.Option.{option_len}
+-- What reading a file comes to: `entries_of` its bytes, or its first fault, and how far it was read.
+use Rattle.std.specs.Prelude.{◌≡◌, ◌≤◌, List, [], ◌++◌, ℕ, length, Option, Ok, Err, IfSome}
 use Rattle.osm_base.specs.declared.limits.LimitNumbers.{LimitNumbers}
 use Rattle.osm_base.specs.declared.object.Entry.{Entry}
 use Rattle.osm_base.specs.Key.{KeyOf}
-use Rattle.opl_lines.specs.Lines.{lines_of}
-use Rattle.opl_lines.specs.Reading.{begun}
 use Rattle.outside.specs.Bytes.{BothKnown}
 use Rattle.object_fold.specs.declared.fault.FileFault.{FileFault}
-use Rattle.object_fold.specs.declared.passed.Passed.{Passed}
-use Rattle.object_fold.specs.declared.progress.Progress.{Progress}
+use Rattle.object_fold.specs.declared.scan.TheConstants.{PIECE}
 use Rattle.object_fold.specs.Change.{Follows}
-use Rattle.object_fold.specs.Entries.{unless, entries_of}
+use Rattle.object_fold.specs.Entries.{entries_of}
 use Rattle.object_fold.specs.Keeps.{kept_all}
-use Rattle.object_fold.specs.Passed.{spelled, line_fault}
-
--- the key of an entry, if there is one, and else this one
-abbrev pub last_of : Option KeyOf → Option Entry → Option KeyOf
-last_of last None = last
-last_of last (Some entry) = Some entry.key
-
--- with one line more, which spells this
-abbrev pub passed_line : Passed → Option Entry → Passed
-passed_line passed entry = record { lines = passed.lines + 1; entries = passed.entries + option_len entry; last = last_of passed.last entry }
-
--- an entry in front of others
-abbrev pub in_front : Option Entry → Result (List Entry) FileFault → Result (List Entry) FileFault
-in_front entry (Ok entries) = Ok (cons_option entry entries)
-in_front entry (Err fault) = Err fault
-
--- what the lines that are left come to, behind those that were passed
-unfoldable pub entries_from : LimitNumbers → Passed → List (List ℕ) → Result (List Entry) FileFault
-entries_from limits passed [] = Ok []
-entries_from limits passed (line ∷ lines) =
-    unless (line_fault limits passed line) (in_front (spelled line) (entries_from limits (passed_line passed (spelled line)) lines))
-
--- what the file comes to from here on, where these bytes are left
-abbrev pub entries_left : LimitNumbers → Progress → List ℕ → Result (List Entry) FileFault
-entries_left limits progress later = entries_from limits progress.passed (lines_of (begun progress.reader ++ later))
-
--- the reader keeps the limits, and has met none of them
-pub record IsReady (limits : LimitNumbers) (progress : Progress) : Type 0 where
-  pub line_bytes : progress.reader.line_bytes ≡ limits.line_bytes
-  pub lines : progress.reader.lines ≡ limits.lines
-  pub counted : progress.passed.lines ≡ progress.reader.number
-  pub within : progress.reader.number ≤ limits.lines
-  pub entries : progress.passed.entries ≤ limits.entries
-  pub no_fault : progress.reader.failed ≡ None
 
 -- one who may be given each entry that comes after the last one
 abbrev pub TakesNext : {K : Type 0} → (K → KeyOf → Type 0) → Option KeyOf → K → Type 0
 TakesNext takes last keeper = (next : KeyOf) → Follows last next → takes keeper next
-
--- one read, and what was made of it: what is left makes the same of the keeper as what was left, and at the end of the file none is
-abbrev pub ReadsOn : {K : Type 0} → (K → Entry → K) → LimitNumbers → Progress → K → Progress → K → Bool → Option (List ℕ) → Option (List ℕ) → Type 0
-ReadsOn after limits old before new now more left rest =
-    BothKnown left rest (λ bytes later. (kept_all after before (entries_left limits old bytes) ≡ kept_all after now (entries_left limits new later))
-    × (more ≡ false → later ≡ []))
 
 -- the whole file was read, to its end, and this is made of the keeper
 abbrev pub ReadsAll : {K : Type 0} → (K → Entry → K) → LimitNumbers → K → K → Option (List ℕ) → Option (List ℕ) → Type 0
@@ -72,6 +27,22 @@ HasEntries limits entries left rest = BothKnown left rest (λ bytes later. (entr
 abbrev pub IsFaultOf : LimitNumbers → Option (List ℕ) → FileFault → Type 0
 IsFaultOf limits left fault = IfSome left (λ bytes. entries_of limits bytes ≡ Err fault)
 
--- and of a file of which these bytes are left
-abbrev pub IsKeptFault : {K : Type 0} → (K → Entry → K) → LimitNumbers → Progress → K → Option (List ℕ) → FileFault → Type 0
-IsKeptFault after limits progress keeper left fault = IfSome left (λ bytes. kept_all after keeper (entries_left limits progress bytes) ≡ Err fault)
+-- no fault is certain yet: none is that of every file that begins with these bytes
+abbrev pub LeavesOpen : LimitNumbers → List ℕ → Type 0
+LeavesOpen limits bytes = (fault : FileFault) → ((later : List ℕ) → entries_of limits (bytes ++ later) ≡ Err fault) → ⊥
+
+-- of these bytes those that come later were not read: one read at most was made behind bytes that left each fault open
+pub record StopsInTime (limits : LimitNumbers) (bytes later : List ℕ) : Type 0 where
+  pub before : List ℕ
+  pub last : List ℕ
+  pub parts : bytes ≡ before ++ (last ++ later)
+  pub undecided : LeavesOpen limits before
+  pub one_read : length last ≤ PIECE
+
+-- the file was read no further than to the read that made its fault certain
+abbrev pub ReadsNoFurther : LimitNumbers → Option (List ℕ) → Option (List ℕ) → Type 0
+ReadsNoFurther limits left rest = BothKnown left rest (λ bytes later. StopsInTime limits bytes later)
+
+-- at most so many bytes were read
+abbrev pub ReadsAtMost : ℕ → Option (List ℕ) → Option (List ℕ) → Type 0
+ReadsAtMost count left rest = BothKnown left rest (λ bytes later. (piece : List ℕ) × (bytes ≡ piece ++ later) × (length piece ≤ count))

@@ -24,8 +24,6 @@ mod passed;
 mod progress;
 mod rising_ids;
 mod scan;
-#[cfg(test)]
-mod tests;
 mod whole;
 
 pub use change::Change;
@@ -33,5 +31,5 @@ pub use fault::FileFault;
 pub use keeper::Keeper;
 pub use objects::{ObjectIndex, Objects};
 pub use rising_ids::RisingIds;
-pub use scan::{read_file, scan_file};
+pub use scan::{PIECE, read_file, scan_file};
 pub use whole::{WholeFault, read_all};

@@ -2,7 +2,7 @@
 ghost use Rattle.std.specs.Prelude.{◌≡◌, ◌++◌, [], take, IfOk};
 ghost use Rattle.osm_base.specs.declared.key.Kind.TheVariants as kinds;
 ghost use Rattle.object_fold.specs.Index.{member_ids};
-ghost use Rattle.object_fold.specs.Rows.{AreListed};
+ghost use Rattle.object_fold.specs.Listings.{AreListed};
 
 use crate::RisingIds;
 use osm_base::{Kind, Member, Object, OutOfMemory};

@@ -1,7 +1,7 @@
 //! The index of the objects of a map, in memory.
 ghost use Rattle.std.specs.Prelude.{◌≡◌, OnOk, OnErr};
 ghost use Rattle.std.specs.FinMap as map;
-ghost use Rattle.object_fold.specs.Rows.{Turns, AddsSome, added, taken};
+ghost use Rattle.object_fold.specs.Listings.{Turns, AddsSome, added, taken};
 
 use crate::listed::Listed;
 use crate::listing::Listing;

@@ -9,7 +9,7 @@ ghost use Rattle.osm_base.specs.declared.memory.OutOfMemory.{OutOfMemory as NoMe
 ghost use Rattle.object_fold.specs.Fold.{folded, folded_all, objects_in, place_in};
 ghost use Rattle.object_fold.specs.Index.{index_of, known_of};
 ghost use Rattle.object_fold.specs.RisingIds.{has};
-ghost use Rattle.object_fold.specs.Rows.{AreListingsOf, AreListedBy, HasIds, AreListed, AddsSome, Turns, added};
+ghost use Rattle.object_fold.specs.Listings.{AreListingsOf, AreListedBy, HasIds, AreListed, AddsSome, Turns, added};
 
 use crate::Change;
 use crate::listed::Listed;
@@ -39,7 +39,7 @@ impl Model for Objects {
     ghost coded = { map.code key.the_row.coded object.the_row.coded };
 
     ghost use Rattle.object_fold.specs.Fold.{objects_in};
-    ghost use Rattle.object_fold.specs.Rows.{AreListingsOf};
+    ghost use Rattle.object_fold.specs.Listings.{AreListingsOf};
 
     ghost view = { λ objects. objects_in objects.objects };
 

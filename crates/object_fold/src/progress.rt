@@ -4,7 +4,8 @@ ghost use Rattle.opl_lines.specs.Reading.{room};
 ghost use Rattle.object_fold.specs.Entries.{entries_of};
 ghost use Rattle.object_fold.specs.Keeps.{kept, kept_all};
 ghost use Rattle.object_fold.specs.Passed.{spelled, text_fault};
-ghost use Rattle.object_fold.specs.Reading.{IsReady, TakesNext, entries_left, passed_line};
+ghost use Rattle.object_fold.specs.Progress.{IsReady, entries_left, passed_line};
+ghost use Rattle.object_fold.specs.Reading.{TakesNext};
 ghost use Rattle.object_fold.specs.Stops.{StopsAt};
 
 use crate::passed::Passed;

@@ -1,8 +1,11 @@
 //! A file of entries, read piece by piece to its end.
-ghost use Rattle.std.specs.Prelude.{◌≡◌, ◌≢◌, ◌≤◌, ◌<◌, ℕ, None, true, length, IfOk, IfErr, OnOk};
+ghost use Rattle.std.specs.Prelude.{◌≡◌, ◌≢◌, ◌≤◌, ◌<◌, ℕ, None, true, length, IfOk, IfErr, OnOk, OnErr};
 ghost use Rattle.opl_lines.specs.Reading.{room};
+ghost use Rattle.outside.specs.Bytes.{IfTold};
 ghost use Rattle.outside.specs.Causes.{Rose};
-ghost use Rattle.object_fold.specs.Reading.{IsReady, TakesNext, ReadsOn, ReadsAll, IsKeptFault, IsFaultOf, HasEntries};
+ghost use Rattle.object_fold.specs.Entries.{IsAccepted};
+ghost use Rattle.object_fold.specs.Progress.{IsReady, ReadsOn, ReadsPiece, IsKeptFault};
+ghost use Rattle.object_fold.specs.Reading.{TakesNext, ReadsAll, ReadsAtMost, ReadsNoFurther, IsFaultOf, HasEntries};
 ghost use Rattle.object_fold.specs.Stops.{Stops};
 
 use crate::progress::Progress;
@@ -12,11 +15,12 @@ use outside::Inputs;
 use std::alloc::Global;
 
 /// How many bytes are asked of a file at a time.
-const PIECE: usize = 65_536;
+pub const PIECE: usize = 65_536;
 
 /// Room for the bytes of one read.
 pub(crate) fn piece_buffer(alloc: Global) -> Result<Vec<u8>, OutOfMemory>
     ensures some { IfOk result (λ buffer. 0 < length buffer.items) }
+    ensures room { IfOk result (λ buffer. length buffer.items ≤ PIECE) }
 {
     Ok(vec![in alloc; 0u8; PIECE]?)
 }
@@ -38,6 +42,9 @@ fn read_on<I: Inputs, K: Keeper>(
     ensures takes { OnOk result (TakesNext K.takes progress.new.passed.last keeper.new) }
     ensures bytes { IfOk result (λ more. ReadsOn K.after limits.now progress.old keeper.old progress.new keeper.new more
         ((I.view inputs.old).left file) ((I.view inputs.new).left file)) }
+    ensures piece { OnOk result (ReadsPiece K.after limits.now progress.old keeper.old progress.new keeper.new
+        ((I.view inputs.old).left file) ((I.view inputs.new).left file)) }
+    ensures left { OnErr result (ReadsAtMost (length buffer.old) ((I.view inputs.old).left file) ((I.view inputs.new).left file)) }
     ensures room { IfOk result (λ more. more ≡ true → room progress.new.reader < room progress.old.reader) }
     ensures stopped { IfErr result (Stops (IsKeptFault K.after limits.now progress.old keeper.old ((I.view inputs.old).left file))
         (Rose (I.view inputs.old).faults (I.view inputs.new).faults)) }
@@ -65,6 +72,7 @@ pub fn scan_file<I: Inputs, K: Keeper>(
     requires takes { TakesNext K.takes None keeper.old }
     ensures ok { OnOk result (ReadsAll K.after limits.now keeper.old keeper.new ((I.view inputs.old).left file) ((I.view inputs.new).left file)) }
     ensures stopped { IfErr result (Stops (IsFaultOf limits.now ((I.view inputs.old).left file)) (Rose (I.view inputs.old).faults (I.view inputs.new).faults)) }
+    ensures left { OnErr result (ReadsNoFurther limits.now ((I.view inputs.old).left file) ((I.view inputs.new).left file)) }
     ensures later { (I.view inputs.old).faults ≤ (I.view inputs.new).faults }
     ensures others { (other : ℕ) → other ≢ file → (I.view inputs.new).left other ≡ (I.view inputs.old).left other }
 {
@@ -90,7 +98,9 @@ pub fn read_file<I: Inputs>(
     limits: &Limits,
 ) -> Result<Change, FileFault>
     ensures ok { IfOk result (λ change. HasEntries limits.now change ((I.view inputs.old).left file) ((I.view inputs.new).left file)) }
+    ensures accepted { IfOk result (λ change. IfTold ((I.view inputs.old).left file) (λ bytes. IsAccepted limits.now bytes change)) }
     ensures stopped { IfErr result (Stops (IsFaultOf limits.now ((I.view inputs.old).left file)) (Rose (I.view inputs.old).faults (I.view inputs.new).faults)) }
+    ensures left { OnErr result (ReadsNoFurther limits.now ((I.view inputs.old).left file) ((I.view inputs.new).left file)) }
     ensures later { (I.view inputs.old).faults ≤ (I.view inputs.new).faults }
     ensures others { (other : ℕ) → other ≢ file → (I.view inputs.new).left other ≡ (I.view inputs.old).left other }
 {

@@ -1,10 +1,11 @@
 //! All bytes of a short file.
-ghost use Rattle.std.specs.Prelude.{◌≡◌, ◌≢◌, ◌≤◌, ◌<◌, ℕ, true, length, IfOk, IfErr, OnOk};
+ghost use Rattle.std.specs.Prelude.{◌≡◌, ◌≢◌, ◌≤◌, ◌<◌, ◌+◌, ℕ, true, length, IfOk, IfErr, OnOk, OnErr};
 ghost use Rattle.outside.specs.Causes.{Rose};
+ghost use Rattle.object_fold.specs.Reading.{ReadsAtMost};
 ghost use Rattle.object_fold.specs.Whole.{IsWhole, MovesBytes, IsOver, StopsWhole};
 ghost use Rattle.object_fold.specs.declared.whole.WholeFault.TheVariants.{OutOfMemory as NoMemory};
 
-use crate::scan::piece_buffer;
+use crate::scan::{PIECE, piece_buffer};
 use osm_base::{Bytes, OutOfMemory};
 use outside::Inputs;
 use std::alloc::{AllocError, Global};
@@ -49,6 +50,7 @@ fn add_piece<I: Inputs>(
     requires within { length bytes.old.items ≤ max }
     ensures within { OnOk result (length bytes.new.items ≤ max) }
     ensures bytes { IfOk result (λ more. MovesBytes bytes.old.items bytes.new.items more ((I.view inputs.old).left file) ((I.view inputs.new).left file)) }
+    ensures left { OnErr result (ReadsAtMost (length buffer.old) ((I.view inputs.old).left file) ((I.view inputs.new).left file)) }
     ensures grows { IfOk result (λ more. more ≡ true → length bytes.old.items < length bytes.new.items) }
     ensures stopped { IfErr result (StopsWhole (IsOver max (length bytes.old.items) ((I.view inputs.old).left file)) (Rose (I.view inputs.old).faults (I.view inputs.new).faults)) }
     ensures later { (I.view inputs.old).faults ≤ (I.view inputs.new).faults }
@@ -77,6 +79,8 @@ pub fn read_all<I: Inputs>(
     ensures whole { IfOk result (λ bytes. IsWhole bytes ((I.view inputs.old).left file) ((I.view inputs.new).left file)) }
     ensures within { IfOk result (λ bytes. length bytes ≤ max) }
     ensures stopped { IfErr result (StopsWhole (IsOver max 0 ((I.view inputs.old).left file)) (Rose (I.view inputs.old).faults (I.view inputs.new).faults)) }
+    // No more is read than the bytes that there may be and one piece.
+    ensures left { OnErr result (ReadsAtMost (max + PIECE) ((I.view inputs.old).left file) ((I.view inputs.new).left file)) }
     ensures later { (I.view inputs.old).faults ≤ (I.view inputs.new).faults }
     ensures others { (other : ℕ) → other ≢ file → (I.view inputs.new).left other ≡ (I.view inputs.old).left other }
 {

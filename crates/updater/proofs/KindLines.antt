@@ -14,7 +14,7 @@ use Rattle.osm_base.specs.declared.key.Kind.TheVariants.{Node, Way, Relation}
 use Rattle.osm_base.specs.declared.object.Object.{Object}
 use Rattle.object_fold.specs.Fold.{ObjectSet}
 use Rattle.object_fold.specs.Index.{is_kind}
-use Rattle.object_fold.specs.Listers.{key, kind_same, tied-ids, untied-kinds}
+use Rattle.object_fold.proofs.Listers.{key, kind_same, tied-ids, untied-kinds}
 use Rattle.updater.specs.LinesById.{LineMap, text_of}
 use Rattle.updater.specs.WayLines.{some_line}
 

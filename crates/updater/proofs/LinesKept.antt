@@ -12,7 +12,7 @@ use Rattle.osm_base.specs.declared.key.Kind.TheVariants.{Node, Way, Relation}
 use Rattle.osm_base.specs.declared.object.Object.{Object}
 use Rattle.osm_base.specs.declared.object.Entry.{Entry}
 use Rattle.object_fold.specs.Fold.{ObjectSet, with_object, folded, folded_all}
-use Rattle.object_fold.specs.FoldLaws.{get-with_object}
+use Rattle.object_fold.proofs.FoldLaws.{get-with_object}
 use Rattle.object_fold.specs.Index.{is_kind}
 use Rattle.updater.specs.PointsText.{object_line, of_node, line_of, points_text}
 use Rattle.updater.specs.PointLines.{Lines, with_line, after_kind, after_entry, after_entries, no_lines, lines_text, line_at, Shows, shown}

@@ -20,7 +20,7 @@ use Rattle.osm_base.specs.Place.{PlaceOf}
 use Rattle.piece_ends.specs.Pieces.{Line}
 use Rattle.line_build.specs.Points.{line}
 use Rattle.object_fold.specs.Fold.{ObjectSet, folded, folded_all, place_in}
-use Rattle.object_fold.specs.FoldLaws.{get-with_object}
+use Rattle.object_fold.proofs.FoldLaws.{get-with_object}
 use Rattle.object_fold.specs.Index.{is_kind, known_of}
 use Rattle.object_fold.specs.RisingIds.{has}
 use Rattle.dep_closure.specs.Ways.{line_of, Leaves}

@@ -1,11 +1,13 @@
 use Rattle.std.proofs.Common.{◌≡◌, ◌≢◌, ◌≤◌, ◌<◌, ◌-◌, ◌++◌, ℕ, length}
 use Rattle.outside.specs.Bytes.{BothKnown}
+use Rattle.object_fold.specs.declared.scan.TheConstants.{PIECE}
 use Rattle.object_fold.proofs.whole.read_all.Given as goal
 
 -- the bytes that are kept, and then those that are left, are the file
 abbrev pub invariant-loop-bytes : goal.invariant-loop-bytes
 invariant-loop-bytes g l = record {
   some : 0 < length l.buffer.items;
+  room : length l.buffer.items ≤ PIECE;
   within : length l.bytes.items ≤ l.max;
   whole : BothKnown ((g.I.Inputs.view l.fn.inputs).left l.file) ((g.I.Inputs.view l.inputs).left l.file) (λ before after. before ≡ l.bytes.items ++ after);
   later : (g.I.Inputs.view l.fn.inputs).faults ≤ (g.I.Inputs.view l.inputs).faults;

@@ -2,7 +2,7 @@ use Rattle.std.proofs.Common.{List, ℕ, sym, ap, ◌∙◌, subst}
 use Rattle.osm_base.specs.Key.{KeyOf}
 use Rattle.object_fold.specs.Listing.{Lists, ListsFront}
 use Rattle.object_fold.proofs.ListingSteps.{on_err, if_err}
-use Rattle.object_fold.proofs.RowSteps.{some_of_way, some_nodes, some_ways}
+use Rattle.object_fold.proofs.ListingTurns.{some_of_way, some_nodes, some_ways}
 use Rattle.object_fold.proofs.listings.Listings.add.Goals as goal
 
 pub returns-in_err-list_all-in-Relation-clause-err : goal.returns-in_err-list_all-in-Relation-clause-err

@@ -1,7 +1,7 @@
 use Rattle.std.proofs.Common.{◌++◌, ◌∙◌, ap}
 use Rattle.opl_lines.specs.Lines.{lines_of}
 use Rattle.opl_lines.specs.Reading.{Reading, begun}
-use Rattle.object_fold.specs.Reading.{entries_from}
+use Rattle.object_fold.specs.Progress.{entries_from}
 use Rattle.object_fold.proofs.WholeFile.{entries_of-start}
 use Rattle.object_fold.proofs.progress.Progress.new.Goals as goal
 

@@ -1,6 +1,6 @@
 use Rattle.std.proofs.Common.{◌++◌, List, ℕ, sym, ◌∙◌, ap, arith}
 use Rattle.object_fold.specs.Keeps.{kept_all}
-use Rattle.object_fold.specs.Reading.{entries_left}
+use Rattle.object_fold.specs.Progress.{entries_left}
 use Rattle.object_fold.proofs.progress.Progress.take.Goals as goal
 
 pub loop-rest-preserved : goal.loop-rest-preserved

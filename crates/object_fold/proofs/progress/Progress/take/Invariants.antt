@@ -1,7 +1,8 @@
 use Rattle.std.proofs.Common.{◌≡◌, ◌≤◌, ◌<◌, ◌++◌, ℕ, List, length}
 use Rattle.opl_lines.specs.Reading.{room}
 use Rattle.object_fold.specs.Keeps.{kept_all}
-use Rattle.object_fold.specs.Reading.{entries_left, IsReady, TakesNext}
+use Rattle.object_fold.specs.Progress.{entries_left, IsReady}
+use Rattle.object_fold.specs.Reading.{TakesNext}
 use Rattle.object_fold.proofs.progress.Progress.take.Given as goal
 
 -- what is left makes of the keeper now what all of it made of it before

@@ -4,7 +4,7 @@ use Rattle.opl_lines.specs.Takes.{Takes}
 use Rattle.object_fold.specs.declared.progress.Progress.{Progress}
 use Rattle.object_fold.specs.Keeps.{kept_all}
 use Rattle.object_fold.specs.Passed.{spelled}
-use Rattle.object_fold.specs.Reading.{entries_left, passed_line}
+use Rattle.object_fold.specs.Progress.{entries_left, passed_line}
 use Rattle.object_fold.proofs.Lines.{took_part, took_line, stopped_at_line, stopped_at_limit, StopsAt-weaker}
 use Rattle.object_fold.proofs.progress.Progress.take_line.Goals as goal
 use Rattle.object_fold.proofs.progress.Progress.take_line.Goals.{in-Some+in_ok-add_line, in_default}

@@ -1,4 +1,4 @@
--- Listings of which some are changed, and the rows that they answer by.
+-- Listings of which some are changed, and what is told of who lists what.
 use Rattle.std.proofs.Common.{◌≡◌, ℕ, Bool, true, false, ◌&&◌, ◌||◌, List, [], ◌++◌, refl, sym, ap, subst, ◌∙◌, nat_eq}
 use Rattle.std.specs.Ordering.{nat_cmp, is_eq, eq_by_cmp, ordering_then}
 use Rattle.std.specs.Cmp.{unsigned_tied}
@@ -12,7 +12,7 @@ use Rattle.object_fold.specs.declared.listed.Listed.{Listed}
 use Rattle.object_fold.specs.declared.listings.Listings.{Listings}
 use Rattle.object_fold.specs.RisingIds.{has}
 use Rattle.object_fold.specs.Listing.{ListingOf, is_listed, Lists, ListsFront}
-use Rattle.object_fold.specs.Rows.{way, relation, ids_in, is_key, AddsSome}
+use Rattle.object_fold.specs.Listings.{way, relation, ids_in, is_key, AddsSome}
 
 and_swap : (a b c : Bool) → ((a && b) || c) ≡ ((b && a) || c)
 and_swap true true c = refl
@@ -62,12 +62,12 @@ module _ (key : KeyOf) (ids : Listed) (old : Listings) where
   some_of_way is new (front, rest, parts, lists) = (
     nodes_only front,
     within_nodes front rest parts,
-    λ rows answer. record {
+    λ told answer. record {
       ways_of_nodes = λ id by.
           lists id by ∙ and_swap (has front id) (nat_eq key.id by) (is_listed old.ways_of_nodes id by)
           ∙ (λ i. (sym (is_key-way key is by) i && has front id) || answer.ways_of_nodes id by i);
-      relations_of_nodes = λ id by. answer.relations_of_nodes id by ∙ ap (λ b. (b && has front id) || rows (relation by) Node id) (sym (is_key-no_relation key is by));
-      relations_of_ways = λ id by. answer.relations_of_ways id by ∙ ap (λ b. (b && false) || rows (relation by) Way id) (sym (is_key-no_relation key is by));
+      relations_of_nodes = λ id by. answer.relations_of_nodes id by ∙ ap (λ b. (b && has front id) || told (relation by) Node id) (sym (is_key-no_relation key is by));
+      relations_of_ways = λ id by. answer.relations_of_ways id by ∙ ap (λ b. (b && false) || told (relation by) Way id) (sym (is_key-no_relation key is by));
     },
   )
 
@@ -75,12 +75,12 @@ module _ (key : KeyOf) (ids : Listed) (old : Listings) where
   some_nodes is new (front, rest, parts, lists) = (
     nodes_only front,
     within_nodes front rest parts,
-    λ rows answer. record {
-      ways_of_nodes = λ id by. answer.ways_of_nodes id by ∙ ap (λ b. (b && has front id) || rows (way by) Node id) (sym (is_key-no_way key is by));
+    λ told answer. record {
+      ways_of_nodes = λ id by. answer.ways_of_nodes id by ∙ ap (λ b. (b && has front id) || told (way by) Node id) (sym (is_key-no_way key is by));
       relations_of_nodes = λ id by.
           lists id by ∙ and_swap (has front id) (nat_eq key.id by) (is_listed old.relations_of_nodes id by)
           ∙ (λ i. (sym (is_key-relation key is by) i && has front id) || answer.relations_of_nodes id by i);
-      relations_of_ways = λ id by. answer.relations_of_ways id by ∙ sym (none_of (is_key key (relation by)) (rows (relation by) Way id));
+      relations_of_ways = λ id by. answer.relations_of_ways id by ∙ sym (none_of (is_key key (relation by)) (told (relation by) Way id));
     },
   )
 
@@ -94,8 +94,8 @@ module _ (key : KeyOf) (ids : Listed) (old : Listings) where
   some_ways is nodes ways all (front, rest, parts, lists) = (
     record ids { ways = front },
     within_ways front rest parts,
-    λ rows answer. record {
-      ways_of_nodes = λ id by. answer.ways_of_nodes id by ∙ ap (λ b. (b && has ids.nodes id) || rows (way by) Node id) (sym (is_key-no_way key is by));
+    λ told answer. record {
+      ways_of_nodes = λ id by. answer.ways_of_nodes id by ∙ ap (λ b. (b && has ids.nodes id) || told (way by) Node id) (sym (is_key-no_way key is by));
       relations_of_nodes = λ id by.
           all id by ∙ and_swap (has ids.nodes id) (nat_eq key.id by) (is_listed old.relations_of_nodes id by)
           ∙ (λ i. (sym (is_key-relation key is by) i && has ids.nodes id) || answer.relations_of_nodes id by i);
