@@ -1,9 +1,5 @@
 //! Boxes, crossings and places on rings.
-ghost use Rattle.std.specs.Prelude.{◌≡◌, length};
-
-use crate::notation::{
-    box_of_field, line_of_word, places_of, push_word, text_of_answers, word_of_box,
-};
+use crate::notation::{box_of_field, line_of_word, places_of, text_of_answers, word_of_box};
 use lanes_geo::{across, along, box_of, boxes_meet, is_met, odd_crossings};
 use osm_base::{GeoBox, OutOfMemory, Place, Places};
 use ring_nest::{crosses_odd, lies_on};

@@ -1,7 +1,7 @@
 -- The points and the line of a way.
 -- OGC Simple Features, "LineString": a line is a sequence of two or more points. osmium manual, "osmium export": a node without a
 -- place gives no point, and a point equal to the one before it is dropped.
-use Rattle.std.specs.Prelude.{ℕ, ◌≤◌, List, length, nat_le, if◌then◌else◌, Option, None, Some}
+use Rattle.std.specs.Prelude.{ℕ, List, length, nat_le, if◌then◌else◌, Option, None, Some}
 use Rattle.std.specs.List.{dedup, filter_map}
 use Rattle.osm_base.specs.Place.{PlaceOf}
 use Rattle.piece_ends.specs.Pieces.{Line, same_place}

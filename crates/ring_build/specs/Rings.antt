@@ -1,7 +1,7 @@
 -- Rings closed out of pieces at their ends.
 -- OGC Simple Features, "LinearRing": a ring is a closed line, so it has at least four points, the
 -- last one counted.
-use Rattle.std.specs.Prelude.{◌≡◌, ◌%◌, ◌≤◌, ◌==◌, nat_le, Bool, true, List, [], ◌∷◌, length, count_by, Option, None, Some, if◌then◌else◌}
+use Rattle.std.specs.Prelude.{◌%◌, ◌==◌, nat_le, Bool, List, [], ◌∷◌, length, count_by, Option, None, Some, if◌then◌else◌}
 use Rattle.std.specs.List.{flat_map, list_any, list_all}
 use Rattle.osm_base.specs.Place.{PlaceOf}
 use Rattle.piece_ends.specs.Pieces.{Line, same_place, first_place, last_place, is_closed}

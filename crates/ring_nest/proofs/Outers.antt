@@ -1,5 +1,5 @@
 -- The polygons made ring by ring are those of the outer rings in order.
-use Rattle.std.proofs.Common.{◌≡◌, ℕ, ◌+◌, ◌<◌, suc, refl, sym, ◌∙◌, ap, arith, List, [], ◌∷◌, length, map, get_or, Bool, true, false, cond, if◌then◌else◌, add-zero}
+use Rattle.std.proofs.Common.{◌≡◌, ℕ, ◌+◌, ◌<◌, suc, refl, sym, ◌∙◌, ap, arith, List, [], ◌∷◌, length, map, get_or, Bool, true, false, cond, if◌then◌else◌}
 use Rattle.std.specs.List.{filter, range_with_len}
 use Rattle.ring_nest.specs.Nesting.{Ring, is_outer, belongs, nested, outers, polygon, ring_at}
 use Rattle.ring_nest.specs.Polygons.{filled, polygons_from}
