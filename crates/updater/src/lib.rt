@@ -13,21 +13,13 @@ mod copy_text;
 mod fault;
 mod files;
 mod init;
-#[cfg(test)]
-mod init_tests;
 mod kept;
 mod kept_change;
 mod lines_by_id;
-#[cfg(test)]
-mod lines_tests;
 mod point_lines;
 mod row;
-#[cfg(test)]
-mod run_tests;
 mod running;
 mod scan_files;
-#[cfg(test)]
-mod tests;
 mod way_lines;
 mod way_row;
 mod words;

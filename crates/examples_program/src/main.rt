@@ -1,0 +1,97 @@
+//! Whole runs of the program, as tables say them.
+//!
+//! `words.txt` has words and what they ask for. `runs.txt` has runs with their words, files, disk and failing
+//! calls, and with what is wanted: the status, the line of the fault, the path of the store, all bytes that
+//! are printed, and those that the disk holds then. Each run is done by `run` of `updater` over files, a disk
+//! and an output in memory, and its name is printed, up to the first that differs.
+#![tactic(auto)]
+
+mod example;
+mod rows;
+mod running;
+mod wanted;
+mod words;
+
+use example::Example;
+use example_table::{is_told, refuse_row, row_of, sides_of};
+use running::difference;
+use std::process::ExitCode;
+use std::sync::Wait;
+use std::thread::Threads;
+use std::{fs, io};
+use words::example_of;
+
+fn main(rt: HostRuntime) -> io::Result<ExitCode> {
+    let words = fs::read_to_string(&rt, "words.txt")?;
+    if !words_pass(&rt, words.as_str())? {
+        return Ok(ExitCode::from(1));
+    }
+    let runs = fs::read_to_string(&rt, "runs.txt")?;
+    let passed = runs_pass(&rt, runs.as_str())?;
+    Ok(ExitCode::from(if passed { 0 } else { 1 }))
+}
+
+/// Whether the words of each row ask for what it says.
+fn words_pass<R: Threads + Wait + Sync + Print + Eprint + AllocGlobal>(
+    rt: &R,
+    table: &str,
+) -> io::Result<bool> {
+    for line in table.lines() {
+        if row_of(line).is_none() {
+            continue;
+        }
+        let passed = match sides_of(line) {
+            Some((given, wanted)) => match example_of(rt.alloc(), given, wanted)? {
+                Some(example) => passes(rt, given, example)?,
+                None => is_refused(rt, line)?,
+            },
+            None => is_refused(rt, line)?,
+        };
+        if !passed {
+            return Ok(false);
+        }
+    }
+    Ok(true)
+}
+
+/// Whether each run of the table ends as it says.
+fn runs_pass<R: Threads + Wait + Sync + Print + Eprint + AllocGlobal>(
+    rt: &R,
+    table: &str,
+) -> io::Result<bool> {
+    let mut name = String::new(rt.alloc());
+    let mut example = Example::new(rt.alloc());
+    for line in table.lines() {
+        let Some((word, text)) = row_of(line) else {
+            continue;
+        };
+        if word == "run" {
+            if !passes(rt, name.as_str(), example)? {
+                return Ok(false);
+            }
+            name = String::from_str(rt.alloc(), text)?;
+            example = Example::new(rt.alloc());
+        } else if !example.set(rt.alloc(), word, text)? {
+            return is_refused(rt, line);
+        }
+    }
+    passes(rt, name.as_str(), example)
+}
+
+/// Does the run of an example that has a name, and tells how it went.
+fn passes<R: Threads + Wait + Sync + Print + Eprint + AllocGlobal>(
+    rt: &R,
+    name: &str,
+    example: Example,
+) -> io::Result<bool> {
+    if name.is_empty() {
+        return Ok(true);
+    }
+    is_told(rt, name, difference(rt, rt.alloc(), example)?)
+}
+
+/// Tells that a line is no row, and passes no further.
+fn is_refused<R: Eprint>(rt: &R, line: &str) -> io::Result<bool> {
+    refuse_row(rt, line)?;
+    Ok(false)
+}

@@ -1,0 +1,131 @@
+//! The run of an example, over files, a disk and an output in memory.
+
+use crate::example::Example;
+use crate::wanted::{Piece, Wanted};
+use osm_base::{Bytes, FileList, Ids};
+use outside::{Fails, MemDisk, MemInputs, MemSink};
+use std::alloc::{AllocError, Global};
+use std::sync::Wait;
+use std::thread::Threads;
+use updater::{Outcome, fault_line, run, store_of};
+
+/// The most bytes that the disk of an example holds at first.
+const MAX_HELD: usize = 1 << 20;
+
+/// What is other than the example says, if anything. All that is owned here is let go at one exit.
+pub fn difference<R: Threads + Wait + Sync>(
+    rt: &R,
+    alloc: Global,
+    example: Example,
+) -> Result<Option<String>, AllocError> {
+    let Example {
+        words,
+        files,
+        held,
+        times,
+        inputs_fail,
+        disk_fails,
+        output_fails,
+        wanted,
+        ..
+    } = example;
+    let files = files_of(alloc, files)?;
+    let mut inputs = MemInputs::new(files, fails_from(alloc, inputs_fail));
+    let mut disk = disk_of(alloc, held, fails_from(alloc, disk_fails));
+    let mut out = MemSink::new(alloc, fails_from(alloc, output_fails));
+    let outcome = outcome_of(rt, alloc, times, &words, &mut inputs, &mut disk, &mut out);
+    compared(alloc, &words, &outcome, out.taken(), disk.bytes(), &wanted)
+}
+
+/// The outcome of the last of so many runs, one after another.
+fn outcome_of<R: Threads + Wait + Sync>(
+    rt: &R,
+    alloc: Global,
+    times: u64,
+    words: &[String],
+    inputs: &mut MemInputs,
+    disk: &mut MemDisk,
+    out: &mut MemSink,
+) -> Outcome {
+    for _ in 1..times {
+        let _ = run(rt, alloc, words, inputs, disk, out);
+    }
+    run(rt, alloc, words, inputs, disk, out)
+}
+
+/// What is other than it is wanted, if anything.
+fn compared(
+    alloc: Global,
+    words: &[String],
+    outcome: &Outcome,
+    printed: &[u8],
+    disk: &[u8],
+    wanted: &Wanted,
+) -> Result<Option<String>, AllocError> {
+    let fault = text_of(alloc, outcome)?;
+    if fault != wanted.fault {
+        return Ok(Some(format!(in alloc; "the fault is {fault}")?));
+    }
+    if outcome.status as u64 != wanted.status {
+        return Ok(Some(format!(in alloc; "the status is {}", outcome.status)?));
+    }
+    let store = store_of(words).unwrap_or("");
+    if store != wanted.store.as_str() {
+        return Ok(Some(format!(in alloc; "the store is {store}")?));
+    }
+    if printed != wanted.printed.as_slice() {
+        return Ok(Some(format!(in alloc; "it prints {printed:?}")?));
+    }
+    if disk.len() as u64 != wanted.disk_bytes {
+        return Ok(Some(format!(in alloc; "the disk has {} bytes", disk.len())?));
+    }
+    for piece in &wanted.pieces {
+        if !stands(disk, piece) {
+            return Ok(Some(format!(in alloc; "the disk has other bytes at {}", piece.at)?));
+        }
+    }
+    Ok(None)
+}
+
+/// Whether the disk holds these bytes at their place.
+fn stands(disk: &[u8], piece: &Piece) -> bool {
+    match disk.get(piece.at..) {
+        Some(rest) => rest.starts_with(&piece.bytes),
+        None => false,
+    }
+}
+
+/// The files, by the numbers of their words.
+fn files_of(alloc: Global, files: Vec<Vec<u8>>) -> Result<FileList, AllocError> {
+    let mut list = Vec::new(alloc);
+    for file in files {
+        list.push(Bytes::from_vec(file))?;
+    }
+    Ok(FileList::from_vec(list))
+}
+
+/// The plan by which all calls fail from this one on, or none for 0.
+fn fails_from(alloc: Global, from: u64) -> Fails {
+    Fails::new(Ids::new(alloc), from)
+}
+
+/// A disk that holds these bytes, where they are not too many.
+fn disk_of(alloc: Global, held: Vec<u8>, fails: Fails) -> MemDisk {
+    let bytes = if held.len() <= MAX_HELD {
+        held
+    } else {
+        Vec::new(alloc)
+    };
+    MemDisk::new(alloc, Bytes::from_vec(bytes), fails)
+}
+
+/// The line of the fault, or nothing.
+fn text_of(alloc: Global, outcome: &Outcome) -> Result<String, AllocError> {
+    match &outcome.fault {
+        None => Ok(String::new(alloc)),
+        Some(fault) => match fault_line(alloc, fault) {
+            Ok(line) => String::from_str(alloc, line.as_str()),
+            Err(_) => String::from_str(alloc, "no line"),
+        },
+    }
+}
