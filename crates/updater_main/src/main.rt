@@ -2,6 +2,12 @@
 //! `run` of `updater`, tells the fault and ends with the status.
 #![tactic(auto)]
 
+ghost use Rattle.std.specs.Prelude.{◌≡◌, [], drop, map, Some, None, is_err, if◌then◌else◌};
+ghost use Rattle.std.specs.String.{string_bytes};
+ghost use Rattle.outside.specs.MemDisk.{disk_bytes};
+ghost use Rattle.updater.specs.Command.{command, store_of};
+ghost use Rattle.updater_main.specs.Asked.{asked, run_of, seen};
+
 use osm_base::Bytes;
 use outside::{Failed, Fails, FileDisk, FileInputs, MemDisk, StdSink, put_all};
 use std::alloc::Global;
@@ -34,19 +40,21 @@ disk of STORE failed; 10: a limit; 11: out of memory.
 const VERSION: &str = "yilgartzu 0.1.0\n";
 
 fn main(rt: HostRuntime) -> ExitCode {
-    let Outcome { status, fault } = match words_of(&rt) {
-        Ok(words) => {
-            let mut inputs = FileInputs::new(&rt, &words);
+    let Outcome { status, fault } = match args_of(&rt) {
+        Ok(args) => {
+            let words = words_behind(&args);
+            let mut inputs = FileInputs::new(&rt, words);
             let mut out = StdSink::new(io::writer(&rt));
-            match asked_of(&words) {
-                Asked::Text(text) => told(put_all(&mut out, text.as_bytes())),
+            match asked_of(words) {
+                Asked::Help => told(put_all(&mut out, HELP.as_bytes())),
+                Asked::Version => told(put_all(&mut out, VERSION.as_bytes())),
                 Asked::Store(path) => {
                     let mut disk = FileDisk::new(&rt, path, true);
-                    run(&rt, rt.alloc(), &words, &mut inputs, &mut disk, &mut out)
+                    run(&rt, rt.alloc(), words, &mut inputs, &mut disk, &mut out)
                 }
                 Asked::Run => {
                     let mut disk = no_disk(rt.alloc());
-                    run(&rt, rt.alloc(), &words, &mut inputs, &mut disk, &mut out)
+                    run(&rt, rt.alloc(), words, &mut inputs, &mut disk, &mut out)
                 }
             }
         }
@@ -60,8 +68,10 @@ fn main(rt: HostRuntime) -> ExitCode {
 
 /// What the words ask for.
 enum Asked<'a> {
-    /// A text of the program.
-    Text(&'static str),
+    /// The text of the forms of words.
+    Help,
+    /// The version.
+    Version,
     /// A run with the store at this path.
     Store(&'a str),
     /// A run without a store.
@@ -69,36 +79,56 @@ enum Asked<'a> {
 }
 
 /// What the words ask for: a text where they begin with `--help` or `--version`.
-fn asked_of(words: &[String]) -> Asked<'_> {
-    match words.first() {
-        Some(word) if word.as_str() == "--help" => Asked::Text(HELP),
-        Some(word) if word.as_str() == "--version" => Asked::Text(VERSION),
-        _ => match store_of(words) {
-            Some(path) => Asked::Store(path),
-            None => Asked::Run,
-        },
+fn asked_of(words: &[String]) -> Asked<'_>
+    ensures asked { seen result ≡ asked (map string_bytes words.now) }
+{
+    match words {
+        [word, ..] if word.as_str() == "--help" => Asked::Help,
+        [word, ..] if word.as_str() == "--version" => Asked::Version,
+        _ => run_for(words),
+    }
+}
+
+/// A run of these words, with the store that they name.
+fn run_for(words: &[String]) -> Asked<'_>
+    ensures run { seen result ≡ run_of (store_of (command (map string_bytes words.now))) }
+{
+    match store_of(words) {
+        Some(path) => Asked::Store(path),
+        None => Asked::Run,
     }
 }
 
 /// The disk of a run without a store: an empty one in memory.
-fn no_disk(alloc: Global) -> MemDisk {
+fn no_disk(alloc: Global) -> MemDisk
+    ensures empty { disk_bytes result ≡ [] }
+{
     MemDisk::new(alloc, Bytes::new(alloc), Fails::never(alloc))
 }
 
-/// The words behind the program's name. Words that are not text are a wrong use.
-fn words_of(rt: &(impl Env + AllocGlobal)) -> Result<Vec<String>, Fault> {
+/// All words of the command line. Words that are not text are a wrong use.
+fn args_of(rt: &(impl Env + AllocGlobal)) -> Result<Vec<String>, Fault> {
     match env::args(rt) {
-        Ok(words) => words
-            .skip(1)
-            .collect(rt.alloc())
-            .map_err(|_| Fault::OutOfMemory),
+        Ok(args) => args.collect(rt.alloc()).map_err(|_| Fault::OutOfMemory),
         Err(error) if error.kind() == io::ErrorKind::OutOfMemory => Err(Fault::OutOfMemory),
         Err(_) => Err(Fault::Usage),
     }
 }
 
+/// The words behind the program's name, which is the first.
+fn words_behind(args: &[String]) -> &[String]
+    ensures words { result.now ≡ drop 1 args.now }
+{
+    match args {
+        [_, words @ ..] => words,
+        [] => args,
+    }
+}
+
 /// The outcome of writing a text.
-fn told(written: Result<(), Failed>) -> Outcome {
+fn told(written: Result<(), Failed>) -> Outcome
+    ensures fault { result.fault ≡ (if is_err written then Some Fault.WriteFault else None) }
+{
     Outcome::of(written.err().map(|_| Fault::WriteFault))
 }
 
