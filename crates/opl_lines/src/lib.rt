@@ -9,7 +9,8 @@
 //! that ended is the first of the lines from there on. A file with a line too long, or with a line too
 //! many, is refused exactly where that is certain, and then for good; such a fault is a fact about the
 //! whole file. Want of memory changes nothing. `room` bounds the bytes that a reader may still take, so
-//! a loop over pieces ends by itself.
+//! a loop over pieces ends by itself. `lines_in` is that loop: for every list of pieces it gives the lines
+//! of the bytes, or the limit that they pass first.
 #![tactic(auto)]
 
 mod fault;

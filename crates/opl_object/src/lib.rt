@@ -40,8 +40,3 @@ pub use ascii::shared_numbers;
 pub use line::{one_meaning, read_line};
 pub use why::{LineRefused, Why};
 pub use written::write_entry;
-
-#[cfg(test)]
-mod tests;
-#[cfg(test)]
-mod written_tests;

@@ -1,0 +1,40 @@
+//! Keys of objects, as a table writes them: the letter of the kind and the id.
+ghost use Rattle.std.specs.Prelude.{IfSome};
+ghost use Rattle.osm_base.specs.Key.{IsId};
+
+use example_table::number_of;
+use osm_base::{Key, Kind, MAX_ID};
+use std::alloc::{AllocError, Global};
+
+/// The text of a key.
+pub fn key_text(alloc: Global, key: Key) -> Result<String, AllocError> {
+    let letter = match key.kind {
+        Kind::Node => 'n',
+        Kind::Way => 'w',
+        Kind::Relation => 'r',
+    };
+    format!(in alloc; "{letter}{}", key.id)
+}
+
+/// The key that a field writes.
+pub fn key_of(field: &str) -> Option<Key> {
+    if let Some(id) = field.strip_prefix('n') {
+        return Some(Key::new(Kind::Node, id_of(id)?));
+    }
+    if let Some(id) = field.strip_prefix('w') {
+        return Some(Key::new(Kind::Way, id_of(id)?));
+    }
+    let id = field.strip_prefix('r')?;
+    Some(Key::new(Kind::Relation, id_of(id)?))
+}
+
+/// The id that a field writes.
+fn id_of(field: &str) -> Option<u64>
+    ensures id { IfSome result IsId }
+{
+    let id = number_of(field)?;
+    if id < 1 || id > MAX_ID {
+        return None;
+    }
+    Some(id)
+}
