@@ -6,6 +6,7 @@ pub mod FaultsOfFields
 pub mod FaultsOfItems
 pub mod FaultsOfLines
 pub mod FirstFaults
+pub mod GatheredTags
 pub mod Letters
 mod Manual
 pub mod OneMeaning

@@ -1,8 +1,10 @@
 pub mod CharacterOrder
 pub mod Digits
 pub mod Found
+pub mod KeyLaws
 pub mod Manual
 pub mod SpotOrder
+pub mod TagLists
 pub mod TagPairs
 pub mod TagPlaces
 pub mod TagSearch

@@ -1,7 +1,7 @@
 -- Looking a key up among tags, and adding one.
 use Rattle.std.proofs.Common.{◌≡◌, ℕ, ◌+◌, ◌<◌, Bool, true, false, cond, Some, List, [], ◌∷◌, ◌++◌, ◌-◌, ◌≤◌, length, take, drop, get_or, length-drop, length-append, refl, sym, ◌∙◌, ap, subst, append_assoc, arith}
 use Rattle.std.proofs.Common.{map as each}
-use Rattle.std.proofs.lemmas.List.{drop_more, drop-append-le, take-append-le, append-nil}
+use Rattle.std.proofs.lemmas.List.{drop_more, drop-append-le, take-append-le, append-nil, map-append}
 use Rattle.std.proofs.Math.Seq.{drop-append_seam, take-append_seam}
 use Rattle.std.proofs.lemmas.Slice.Eq.{bytes_eq-Decides}
 use Rattle.std.proofs.lemmas.Str.{encodes-chars}
@@ -12,9 +12,7 @@ use Rattle.std.specs.Ordering.{nat_cmp, eq_by_cmp}
 use Rattle.std.specs.Cmp.Lexicographic.{slice_cmp, texts_ties}
 use Rattle.std.specs.FinMap as map
 use Rattle.osm_base.specs.declared.tags.Span.{Span}
-use Rattle.std.specs.List.{insert}
 use Rattle.osm_base.specs.TagOrder.{pairs_of}
-use Rattle.osm_base.proofs.TagSearch.{AreSpans-insert, pairs_of-insert}
 use Rattle.osm_base.specs.TagText.{pair_of, key_bytes, value_bytes, AreSpans}
 
 -- two tests that decide one fact answer alike
@@ -85,6 +83,10 @@ AreSpans-append text more (span ∷ spans) h =
       AreSpans-append text more spans h.1,
     )
 
+AreSpans-joined : (text : List ℕ) (front back : List Span) → AreSpans text front → AreSpans text back → AreSpans text (front ++ back)
+AreSpans-joined text [] back g h = h
+AreSpans-joined text (span ∷ front) back g h = (g.0, AreSpans-joined text front back g.1 h)
+
 -- the parts of what was put behind a text
 part_behind : (before part after : List ℕ) → take (length (before ++ part) - length before) (drop (length before) (before ++ part ++ after)) ≡ part
 part_behind before part after =
@@ -107,20 +109,23 @@ module _ (text key value : List ℕ) (spans : List Span) (h : AreSpans text span
   pub AreSpans-unchanged : AreSpans (text ++ key ++ value) spans
   AreSpans-unchanged = AreSpans-append (text ++ key) value spans (AreSpans-append text key spans h)
 
-  pub AreSpans-behind : (place : ℕ) → IsUtf8 key → IsUtf8 value → AreSpans (text ++ key ++ value) (insert spans place (span_behind text key value))
-  AreSpans-behind place u w = AreSpans-insert (text ++ key ++ value) spans place (span_behind text key value) AreSpans-unchanged (record {
-    key_end = omega (arith, length-append text key);
-    value_end = omega (arith, length-append (text ++ key) value);
-    within = omega arith;
-    key_text = subst IsUtf8 (sym (key_part text key value)) u;
-    value_text = subst IsUtf8 (sym (value_part text key value)) w;
-  })
+  pub AreSpans-behind : IsUtf8 key → IsUtf8 value → AreSpans (text ++ key ++ value) (spans ++ span_behind text key value ∷ [])
+  AreSpans-behind u w = AreSpans-joined (text ++ key ++ value) spans (span_behind text key value ∷ []) AreSpans-unchanged (
+    record {
+      key_end = omega (arith, length-append text key);
+      value_end = omega (arith, length-append (text ++ key) value);
+      within = omega arith;
+      key_text = subst IsUtf8 (sym (key_part text key value)) u;
+      value_text = subst IsUtf8 (sym (value_part text key value)) w;
+    },
+    tt,
+  )
 
   pub pairs-unchanged : pairs_of (text ++ key ++ value) spans ≡ pairs_of text spans
   pairs-unchanged = pairs-append (text ++ key) value spans (AreSpans-append text key spans h) ∙ pairs-append text key spans h
 
-  pub pairs-behind : (place : ℕ) → pairs_of (text ++ key ++ value) (insert spans place (span_behind text key value)) ≡ insert (pairs_of text spans) place (chars key, chars value)
-  pairs-behind place =
-      pairs_of-insert (text ++ key ++ value) spans place (span_behind text key value)
-      ∙ ap (λ pairs. insert pairs place (pair_of (text ++ key ++ value) (span_behind text key value))) pairs-unchanged
-      ∙ ap (insert (pairs_of text spans) place) (rw (key_part text key value, value_part text key value) refl)
+  pub pairs-behind : pairs_of (text ++ key ++ value) (spans ++ span_behind text key value ∷ []) ≡ pairs_of text spans ++ (chars key, chars value) ∷ []
+  pairs-behind =
+      map-append (pair_of (text ++ key ++ value)) spans (span_behind text key value ∷ [])
+      ∙ ap (λ pairs. pairs ++ pair_of (text ++ key ++ value) (span_behind text key value) ∷ []) pairs-unchanged
+      ∙ ap (λ pair. pairs_of text spans ++ pair ∷ []) (rw (key_part text key value, value_part text key value) refl)

@@ -9,99 +9,66 @@ use Rattle.std.specs.List.{insert}
 use Rattle.std.specs.FinMap as map
 use Rattle.std.specs.FinMap.{find, put, is_sorted, nat_cmp-IsAntisymmetric, slice_cmp-IsAntisymmetric}
 use Rattle.std.specs.FinMap.Entries.{below_all, by_order, is_sorted-put}
-use Rattle.osm_base.specs.TagOrder.{Pairs, IsAbove, IsBelow, BelongsAt}
+use Rattle.osm_base.specs.TagOrder.{IsAbove, IsBelow, BelongsAt}
+use Rattle.osm_base.specs.Tags.{TagPairs}
 
-abbrev order : List ℕ → List ℕ → Ordering
+abbrev pub order : List ℕ → List ℕ → Ordering
 order = slice_cmp nat_cmp
 
-both_left : (a b : Bool) → T (a && b) → T a
+pub both_left : (a b : Bool) → T (a && b) → T a
 both_left true b t = tt
 both_left false b t = t
 
-both_right : (a b : Bool) → T (a && b) → T b
+pub both_right : (a b : Bool) → T (a && b) → T b
 both_right true b t = t
 both_right false b t = absurd t
 
-less : (o : Ordering) → T (is_lt o) → o ≡ Less
+pub less : (o : Ordering) → T (is_lt o) → o ≡ Less
 less Less t = refl
 less Equal t = absurd t
 less Greater t = absurd t
 
-module _ (key value : List ℕ) where
-  put-above : (front back : Pairs) → IsAbove key front → put order key value (front ++ back) ≡ front ++ put order key value back
-  put-above [] back h = refl
-  put-above (pair ∷ front) back h =
-      ap (λ o. by_order o ((key, value) ∷ pair ∷ front ++ back) ((pair.0, value) ∷ front ++ back) (pair ∷ put order key value (front ++ back))) h.0
-      ∙ ap (λ rest. pair ∷ rest) (put-above front back h.1)
-
-  put-below : (pairs : Pairs) → IsBelow key pairs → put order key value pairs ≡ (key, value) ∷ pairs
-  put-below [] h = refl
-  put-below (pair ∷ pairs) h =
-      ap (λ o. by_order o ((key, value) ∷ pair ∷ pairs) ((pair.0, value) ∷ pairs) (pair ∷ put order key value pairs)) h.0
-
-  -- a tag goes to the place where its key belongs
-  pub put-BelongsAt : (pairs : Pairs) (place : ℕ) → BelongsAt key pairs place → put order key value pairs ≡ insert pairs place (key, value)
-  put-BelongsAt pairs place h =
-      ap (put order key value) (sym (take-append-drop place pairs))
-      ∙ put-above (take place pairs) (drop place pairs) h.before
-      ∙ ap (λ back. take place pairs ++ back) (put-below (drop place pairs) h.behind)
-
-  pub is_sorted-insert : (pairs : Pairs) (place : ℕ) → T (is_sorted order pairs) → BelongsAt key pairs place → T (is_sorted order (insert pairs place (key, value)))
-  is_sorted-insert pairs place rising h =
-      subst (λ all. T (is_sorted order all)) (put-BelongsAt pairs place h) (is_sorted-put order nat_list_cmp_total key value pairs rising)
-
-find-above : (key : List ℕ) (front back : Pairs) → IsAbove key front → find order key (front ++ back) ≡ find order key back
+find-above : (key : List ℕ) (front back : TagPairs) → IsAbove key front → find order key (front ++ back) ≡ find order key back
 find-above key [] back h = refl
 find-above key (pair ∷ front) back h =
     ap (λ o. cond (is_eq o) (Some pair.1) (find order key (front ++ back))) h.0 ∙ find-above key front back h.1
 
-find-below : (key : List ℕ) (pairs : Pairs) → IsBelow key pairs → find order key pairs ≡ None
+find-below : (key : List ℕ) (pairs : TagPairs) → IsBelow key pairs → find order key pairs ≡ None
 find-below key [] h = refl
 find-below key (pair ∷ pairs) h =
     ap (λ o. cond (is_eq o) (Some pair.1) (find order key pairs)) h.0 ∙ find-below key pairs h.1
 
 -- where a key belongs it is not there
-pub find-BelongsAt : (key : List ℕ) (pairs : Pairs) (place : ℕ) → BelongsAt key pairs place → find order key pairs ≡ None
+pub find-BelongsAt : (key : List ℕ) (pairs : TagPairs) (place : ℕ) → BelongsAt key pairs place → find order key pairs ≡ None
 find-BelongsAt key pairs place h =
     ap (find order key) (sym (take-append-drop place pairs))
     ∙ find-above key (take place pairs) (drop place pairs) h.before
     ∙ find-below key (drop place pairs) h.behind
 
-first_below_all : (pair : List ℕ × List ℕ) (pairs : Pairs) → T (below_all order pair.0 pairs) → put order pair.0 pair.1 pairs ≡ pair ∷ pairs
+first_below_all : (pair : List ℕ × List ℕ) (pairs : TagPairs) → T (below_all order pair.0 pairs) → put order pair.0 pair.1 pairs ≡ pair ∷ pairs
 first_below_all pair [] h = refl
 first_below_all pair (next ∷ pairs) h =
     ap (λ o. by_order o (pair ∷ next ∷ pairs) ((next.0, pair.1) ∷ pairs) (next ∷ put order pair.0 pair.1 pairs)) (less _ (both_left _ _ h))
 
-no_entries : (pairs : Pairs) → length pairs ≡ 0 → pairs ≡ []
+no_entries : (pairs : TagPairs) → length pairs ≡ 0 → pairs ≡ []
 no_entries [] e = refl
 no_entries (pair ∷ pairs) e = absurd (omega arith)
 
 -- tags whose keys rise are the entries of their map, in its order
-pub entries-from_entries : (pairs : Pairs) → T (is_sorted order pairs) → map.entries (map.from_entries {R = order} pairs) ≡ pairs
+pub entries-from_entries : (pairs : TagPairs) → T (is_sorted order pairs) → map.entries (map.from_entries {R = order} pairs) ≡ pairs
 entries-from_entries [] h = no_entries _ (sym (map.len-entries (map.empty {R = order})) ∙ map.len-empty order (List ℕ))
 entries-from_entries (pair ∷ pairs) h =
     map.entries-insert nat_list_cmp_total (map.from_entries pairs) pair.0 pair.1
     ∙ ap (put order pair.0 pair.1) (entries-from_entries pairs (both_right _ _ h))
     ∙ first_below_all pair pairs (both_left _ _ h)
 
-pub len-from_entries : (pairs : Pairs) → T (is_sorted order pairs) → map.len (map.from_entries {R = order} pairs) ≡ length pairs
+pub len-from_entries : (pairs : TagPairs) → T (is_sorted order pairs) → map.len (map.from_entries {R = order} pairs) ≡ length pairs
 len-from_entries pairs h = map.len-entries (map.from_entries pairs) ∙ ap length (entries-from_entries pairs h)
-
--- and one more tag at its place is one more entry
-pub from_entries-insert : (pairs : Pairs) (place : ℕ) (key value : List ℕ) → T (is_sorted order pairs) → BelongsAt key pairs place
-    → map.from_entries {R = order} (insert pairs place (key, value)) ≡ map.insert (map.from_entries pairs) key value
-from_entries-insert pairs place key value rising h =
-    map.same_entries_map _ _ (
-    entries-from_entries (insert pairs place (key, value)) (is_sorted-insert key value pairs place rising h)
-    ∙ sym (put-BelongsAt key value pairs place h)
-    ∙ ap (put order key value) (sym (entries-from_entries pairs rising))
-    ∙ sym (map.entries-insert nat_list_cmp_total (map.from_entries pairs) key value)
-    )
 
 turned : (key other : List ℕ) (o : Ordering) → order key other ≡ o → order other key ≡ ordering_reverse o
 turned key other o e = nat_list_cmp_total.antisymm other key ∙ ap ordering_reverse e
 
-below_all-at : (key : List ℕ) (pairs : Pairs) (place : ℕ) (pair : List ℕ × List ℕ) (rest : Pairs)
+below_all-at : (key : List ℕ) (pairs : TagPairs) (place : ℕ) (pair : List ℕ × List ℕ) (rest : TagPairs)
     → T (below_all order key pairs) → drop place pairs ≡ pair ∷ rest → order key pair.0 ≡ Less
 below_all-at key [] zero pair rest h e = absurd (cc)
 below_all-at key [] (suc place) pair rest h e = absurd (cc)
@@ -110,13 +77,13 @@ below_all-at key (first ∷ pairs) zero pair rest h e =
     subst (λ one. order key one.0 ≡ Less) same (less _ (both_left _ _ h))
 below_all-at key (first ∷ pairs) (suc place) pair rest h e = below_all-at key pairs place pair rest (both_right _ _ h) e
 
-all_above : (key : List ℕ) (other : List ℕ) (pairs : Pairs) → order key other ≡ Less → T (below_all order other pairs) → IsBelow key pairs
+all_above : (key : List ℕ) (other : List ℕ) (pairs : TagPairs) → order key other ≡ Less → T (below_all order other pairs) → IsBelow key pairs
 all_above key other [] e h = tt
 all_above key other (pair ∷ pairs) e h =
     (nat_list_cmp_total.trans key other pair.0 e (less _ (both_left _ _ h)), all_above key other pairs e (both_right _ _ h))
 
 -- a key above the one at a place is above all up to it
-pub IsAbove-through : (key : List ℕ) (pairs : Pairs) (place : ℕ) (pair : List ℕ × List ℕ) (rest : Pairs)
+pub IsAbove-through : (key : List ℕ) (pairs : TagPairs) (place : ℕ) (pair : List ℕ × List ℕ) (rest : TagPairs)
     → T (is_sorted order pairs) → drop place pairs ≡ pair ∷ rest → order pair.0 key ≡ Less → IsAbove key (take (suc place) pairs)
 IsAbove-through key [] zero pair rest h e o = tt
 IsAbove-through key [] (suc place) pair rest h e o = tt
@@ -129,7 +96,7 @@ IsAbove-through key (first ∷ pairs) (suc place) pair rest h e o = (
 )
 
 -- one below the key at a place is below all from it on
-pub IsBelow-from : (key : List ℕ) (pairs : Pairs) (place : ℕ) (pair : List ℕ × List ℕ) (rest : Pairs)
+pub IsBelow-from : (key : List ℕ) (pairs : TagPairs) (place : ℕ) (pair : List ℕ × List ℕ) (rest : TagPairs)
     → T (is_sorted order pairs) → drop place pairs ≡ pair ∷ rest → order pair.0 key ≡ Greater → IsBelow key (drop place pairs)
 IsBelow-from key [] zero pair rest h e o = tt
 IsBelow-from key [] (suc place) pair rest h e o = tt
@@ -140,7 +107,7 @@ IsBelow-from key (first ∷ pairs) zero pair rest h e o =
 IsBelow-from key (first ∷ pairs) (suc place) pair rest h e o = IsBelow-from key pairs place pair rest (both_right _ _ h) e o
 
 -- a key that stands at a place is found there
-pub find-at : (key : List ℕ) (pairs : Pairs) (place : ℕ) (pair : List ℕ × List ℕ) (rest : Pairs)
+pub find-at : (key : List ℕ) (pairs : TagPairs) (place : ℕ) (pair : List ℕ × List ℕ) (rest : TagPairs)
     → T (is_sorted order pairs) → drop place pairs ≡ pair ∷ rest → order pair.0 key ≡ Equal → find order key pairs ≡ Some pair.1
 find-at key [] zero pair rest h e o = absurd (cc)
 find-at key [] (suc place) pair rest h e o = absurd (cc)

@@ -14,7 +14,8 @@ use Rattle.std.specs.FinMap as map
 use Rattle.std.specs.FinMap.{find}
 use Rattle.osm_base.specs.declared.tags.Span.{Span}
 use Rattle.osm_base.specs.TagText.{pair_of, key_bytes, value_bytes, IsSpan, AreSpans}
-use Rattle.osm_base.specs.TagOrder.{Pairs, pairs_of, AreTags, IsAbove, IsBelow, BelongsAt}
+use Rattle.osm_base.specs.TagOrder.{pairs_of, AreTags, IsAbove, IsBelow, BelongsAt}
+use Rattle.osm_base.specs.Tags.{TagPairs}
 use Rattle.osm_base.proofs.CharacterOrder.{chars-order}
 use Rattle.osm_base.proofs.TagPlaces.{IsAbove-through, IsBelow-from, find-at, entries-from_entries, len-from_entries}
 
@@ -24,7 +25,7 @@ IsSpan-at text (span ∷ spans) zero d h below = h.0
 IsSpan-at text (span ∷ spans) (suc i) d h below = IsSpan-at text spans i d h.1 (omega arith)
 
 module _ (text : List ℕ) (spans : List Span) (i : ℕ) (d : Span) (within : i < length spans) where
-  drop-pairs_of : drop i (pairs_of text spans) ≡ pair_of text (get_or spans i d) ∷ each (pair_of text) (drop (i + 1) spans)
+  pub drop-pairs_of : drop i (pairs_of text spans) ≡ pair_of text (get_or spans i d) ∷ each (pair_of text) (drop (i + 1) spans)
   drop-pairs_of = drop-map (pair_of text) i spans ∙ ap (each (pair_of text)) (drop_more spans i d within)
 
   pub slice_get-pairs_of : slice_get (pairs_of text spans) i ≡ Some (pair_of text (get_or spans i d))
@@ -51,43 +52,18 @@ not_both found x some none = absurd (cc)
 abbrev pub past_the_end : Span
 past_the_end = record { key = 0; value = 0; end = 0 }
 
--- a span at a place among others
-AreSpans-take : (text : List ℕ) (i : ℕ) (spans : List Span) → AreSpans text spans → AreSpans text (take i spans)
-AreSpans-take text zero spans h = tt
-AreSpans-take text (suc i) [] h = tt
-AreSpans-take text (suc i) (span ∷ spans) h = (h.0, AreSpans-take text i spans h.1)
-
-AreSpans-drop : (text : List ℕ) (i : ℕ) (spans : List Span) → AreSpans text spans → AreSpans text (drop i spans)
-AreSpans-drop text zero spans h = h
-AreSpans-drop text (suc i) [] h = tt
-AreSpans-drop text (suc i) (span ∷ spans) h = AreSpans-drop text i spans h.1
-
-AreSpans-joined : (text : List ℕ) (front back : List Span) → AreSpans text front → AreSpans text back → AreSpans text (front ++ back)
-AreSpans-joined text [] back g h = h
-AreSpans-joined text (span ∷ front) back g h = (g.0, AreSpans-joined text front back g.1 h)
-
-pub AreSpans-insert : (text : List ℕ) (spans : List Span) (i : ℕ) (span : Span) → AreSpans text spans → IsSpan text span → AreSpans text (insert spans i span)
-AreSpans-insert text spans i span h own =
-    AreSpans-joined text (take i spans) (span ∷ drop i spans) (AreSpans-take text i spans h) (own, AreSpans-drop text i spans h)
-
-pub pairs_of-insert : (text : List ℕ) (spans : List Span) (i : ℕ) (span : Span) → pairs_of text (insert spans i span) ≡ insert (pairs_of text spans) i (pair_of text span)
-pairs_of-insert text spans i span =
-    map-append (pair_of text) (take i spans) (span ∷ drop i spans)
-    ∙ ap (λ front. front ++ pair_of text span ∷ each (pair_of text) (drop i spans)) (sym (take-map (pair_of text) i spans))
-    ∙ ap (λ back. take i (pairs_of text spans) ++ pair_of text span ∷ back) (sym (drop-map (pair_of text) i spans))
-
 -- a key belongs at one of the places from low to high
-pub record IsBetween (key : List ℕ) (pairs : Pairs) (low high : ℕ) : Type 0 where
+pub record IsBetween (key : List ℕ) (pairs : TagPairs) (low high : ℕ) : Type 0 where
   pub in_order : low ≤ high
   pub within : high ≤ length pairs
   pub before : IsAbove key (take low pairs)
   pub behind : IsBelow key (drop high pairs)
 
-drop-whole : (pairs : Pairs) → drop (length pairs) pairs ≡ []
+drop-whole : (pairs : TagPairs) → drop (length pairs) pairs ≡ []
 drop-whole [] = refl
 drop-whole (pair ∷ pairs) = drop-whole pairs
 
-take-whole : (pairs : Pairs) → take (length pairs) pairs ≡ pairs
+take-whole : (pairs : TagPairs) → take (length pairs) pairs ≡ pairs
 take-whole [] = refl
 take-whole (pair ∷ pairs) = ap (λ rest. pair ∷ rest) (take-whole pairs)
 
@@ -101,36 +77,16 @@ IsBetween-whole key text spans = record {
 }
 
 -- after it
-pub BelongsAt-IsBetween : (key : List ℕ) (pairs : Pairs) (low high : ℕ) → IsBetween key pairs low high → high ≤ low → BelongsAt key pairs low
+pub BelongsAt-IsBetween : (key : List ℕ) (pairs : TagPairs) (low high : ℕ) → IsBetween key pairs low high → high ≤ low → BelongsAt key pairs low
 BelongsAt-IsBetween key pairs low high h most =
     let level : high ≡ low = omega (arith, h.in_order) in
     record { within = omega (arith, h.in_order, h.within); before = h.before; behind = subst (λ n. IsBelow key (drop n pairs)) level h.behind }
 
--- a key above all
-pub BelongsAt-end : (key text : List ℕ) (spans : List Span) → IsAbove key (pairs_of text spans) → BelongsAt key (pairs_of text spans) (length spans)
-BelongsAt-end key text spans h =
-    let size = length-map spans (pair_of text) in
-    let all : take (length spans) (pairs_of text spans) ≡ pairs_of text spans = ap (λ n. take n (pairs_of text spans)) (sym size) ∙ take-whole (pairs_of text spans) in
-    record { within = omega (arith, size); before = subst (IsAbove key) (sym all) h; behind = (IsBetween-whole key text spans).behind }
-
-less : (o : Ordering) → is_lt o ≡ true → o ≡ Less
-less Less e = refl
-less Equal e = absurd (cc)
-less Greater e = absurd (cc)
-
--- a key above the last one
-pub BelongsAt-last : (text key own : List ℕ) (spans : List Span) (i : ℕ) (d : Span) → own ≡ key_bytes text (get_or spans i d) → IsUtf8 key → IsUtf8 own
-    → i + 1 ≡ length spans → AreTags text spans → is_lt (slice_cmp nat_cmp own key) ≡ true → BelongsAt (chars key) (pairs_of text spans) (length spans)
-BelongsAt-last text key own spans i d is u w size h e =
-    let within : i < length spans = omega arith in
-    let all : take (i + 1) (pairs_of text spans) ≡ pairs_of text spans = ap (λ n. take n (pairs_of text spans)) (size ∙ sym (length-map spans (pair_of text))) ∙ take-whole (pairs_of text spans) in
-    BelongsAt-end (chars key) text spans (subst (IsAbove (chars key)) all (above-at text key own spans i d is u w within h (less (slice_cmp nat_cmp own key) e)))
-
 -- a step of the search
-pub IsBetween-higher : (key : List ℕ) (pairs : Pairs) (low high middle : ℕ) → IsBetween key pairs low high → middle < high → IsAbove key (take (middle + 1) pairs) → IsBetween key pairs (middle + 1) high
+pub IsBetween-higher : (key : List ℕ) (pairs : TagPairs) (low high middle : ℕ) → IsBetween key pairs low high → middle < high → IsAbove key (take (middle + 1) pairs) → IsBetween key pairs (middle + 1) high
 IsBetween-higher key pairs low high middle h below before = record { in_order = omega arith; within = h.within; before = before; behind = h.behind }
 
-pub IsBetween-lower : (key : List ℕ) (pairs : Pairs) (low high middle : ℕ) → IsBetween key pairs low high → low ≤ middle → middle ≤ high → IsBelow key (drop middle pairs) → IsBetween key pairs low middle
+pub IsBetween-lower : (key : List ℕ) (pairs : TagPairs) (low high middle : ℕ) → IsBetween key pairs low high → low ≤ middle → middle ≤ high → IsBelow key (drop middle pairs) → IsBetween key pairs low middle
 IsBetween-lower key pairs low high middle h least most behind = record { in_order = least; within = omega (arith, h.within); before = h.before; behind = behind }
 
 -- what the map of tags tells

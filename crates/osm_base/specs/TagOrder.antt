@@ -7,14 +7,11 @@ use Rattle.std.specs.Cmp.Lexicographic.{slice_cmp}
 use Rattle.std.specs.List.{AllByRecursion}
 use Rattle.std.specs.FinMap.{is_sorted}
 use Rattle.osm_base.specs.declared.tags.Span.{Span}
+use Rattle.osm_base.specs.Tags.{TagPairs}
 use Rattle.osm_base.specs.TagText.{pair_of, AreSpans}
 
--- keys and values, in some order
-abbrev pub Pairs : Type 0
-Pairs = List (List ℕ × List ℕ)
-
 -- the tags that the spans cut out of a text
-abbrev pub pairs_of : List ℕ → List Span → Pairs
+abbrev pub pairs_of : List ℕ → List Span → TagPairs
 pairs_of text spans = map (pair_of text) spans
 
 -- the spans cut tags out of the text, each key above the one before it
@@ -23,15 +20,15 @@ pub record AreTags (text : List ℕ) (spans : List Span) : Type 0 where
   pub rising : T (is_sorted (slice_cmp nat_cmp) (pairs_of text spans))
 
 -- this key is above all of these
-abbrev pub IsAbove : List ℕ → Pairs → Type 0
+abbrev pub IsAbove : List ℕ → TagPairs → Type 0
 IsAbove key pairs = AllByRecursion (λ pair. slice_cmp nat_cmp key pair.0 ≡ Greater) pairs
 
 -- and this one below them
-abbrev pub IsBelow : List ℕ → Pairs → Type 0
+abbrev pub IsBelow : List ℕ → TagPairs → Type 0
 IsBelow key pairs = AllByRecursion (λ pair. slice_cmp nat_cmp key pair.0 ≡ Less) pairs
 
 -- a key that is not there belongs at this place
-pub record BelongsAt (key : List ℕ) (pairs : Pairs) (place : ℕ) : Type 0 where
+pub record BelongsAt (key : List ℕ) (pairs : TagPairs) (place : ℕ) : Type 0 where
   pub within : place ≤ length pairs
   pub before : IsAbove key (take place pairs)
   pub behind : IsBelow key (drop place pairs)

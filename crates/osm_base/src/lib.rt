@@ -11,6 +11,7 @@ mod back;
 mod degrees;
 mod items;
 mod key;
+mod laws;
 mod limits;
 mod lookup;
 mod memory;
@@ -20,14 +21,13 @@ mod place;
 mod row;
 mod tables;
 mod tags;
-#[cfg(test)]
-mod tests;
 mod text;
 
 pub use back::Back;
 pub use degrees::DegreesBuffer;
 pub use items::{Bytes, FileList, Ids, Items, KeyList, LineList, Places, Polygons, TryCopy};
 pub use key::{Key, Kind, MAX_ID};
+pub use laws::{key_order, named_numbers};
 pub use limits::{
     LimitKind, LimitNumbers, Limits, MAX_ENTRIES, MAX_LINE_BYTES, MAX_LINES, MAX_PAGES, MAX_PENDING,
 };
@@ -41,5 +41,5 @@ pub use row::{
     TableRow, TableRows,
 };
 pub use tables::{Spot, Tables};
-pub use tags::Tags;
+pub use tags::{TagList, Tags};
 pub use text::Text;

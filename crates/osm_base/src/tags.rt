@@ -8,9 +8,12 @@ ghost use Rattle.std.specs.Str.{IsUtf8, chars};
 ghost use Rattle.std.specs.FinMap as map;
 ghost use Rattle.osm_base.specs.TagText.{key_bytes, value_bytes, AreSpans};
 ghost use Rattle.osm_base.specs.declared.tags.Span.{Span};
-ghost use Rattle.osm_base.specs.TagOrder.{pairs_of, AreTags, BelongsAt};
+ghost use Rattle.osm_base.specs.TagOrder.{pairs_of, AreTags};
+
+mod list;
 
 use crate::{OutOfMemory, TryCopy};
+pub use list::TagList;
 use std::alloc::Global;
 use std::cmp::Ordering;
 use std::marker::Model;
@@ -63,16 +66,6 @@ impl Tags {
         }
     }
 
-    /// No tag, with room for that many tags of that many bytes in all.
-    pub fn with_room(alloc: Global, tags: usize, bytes: usize) -> Result<Self, OutOfMemory>
-        ensures empty { IfOk result (λ tags. tags ≡ map.empty) }
-    {
-        Ok(Self {
-            text: Vec::with_capacity(alloc, bytes)?,
-            spans: Vec::with_capacity(alloc, tags)?,
-        })
-    }
-
     /// The value of a key.
     pub fn get(&self, key: &str) -> Option<&str>
         ensures value { option_map (λ value. chars value.now) result ≡ map.get self.now (chars key.now) }
@@ -104,19 +97,6 @@ impl Tags {
             value_at(&self.text, &self.spans, index),
         )
     }
-
-    /// Adds a tag, or answers `false` and adds none where the key stands already.
-    pub fn add(&mut self, key: &str, value: &str) -> Result<bool, OutOfMemory>
-        ensures new { IfOk result (λ added. IsTrue added ↔ (map.get self.old (chars key.now) ≡ None)) }
-        ensures added { result ≡ Ok true → self.new ≡ map.insert self.old (chars key.now) (chars value.now) }
-        ensures kept { result ≢ Ok true → self.new ≡ self.old }
-    {
-        let Some(place) = free_place(&self.text, &self.spans, key) else {
-            return Ok(false);
-        };
-        insert(&mut self.text, &mut self.spans, place, key, value)?;
-        Ok(true)
-    }
 }
 
 /// The value of a key among the tags of these spans.
@@ -128,10 +108,8 @@ fn value_of<'a>(text: &'a [u8], spans: &[Span], key: &str) -> Option<&'a str>
     if spans.len() <= FEW {
         return value_in(text, spans, key);
     }
-    match search(text, spans, key) {
-        Ok(place) => Some(value_at(text, spans, place)),
-        Err(_) => None,
-    }
+    let place = search(text, spans, key)?;
+    Some(value_at(text, spans, place))
 }
 
 /// The value of a key, looked for from the first tag on.
@@ -146,29 +124,6 @@ fn value_in<'a>(text: &'a [u8], spans: &[Span], key: &str) -> Option<&'a str>
         }
     }
     None
-}
-
-/// The place where a key is to be put, or `None` where it stands already.
-fn free_place(text: &[u8], spans: &[Span], key: &str) -> Option<usize>
-    requires { AreTags text.now spans.now }
-    ensures free { IfSome result (BelongsAt (chars key.now) (pairs_of text.now spans.now)) }
-    ensures there { IsNone result → map.find (slice_cmp nat_cmp) (chars key.now) (pairs_of text.now spans.now) ≢ None }
-{
-    if is_above_all(text, spans, key) {
-        return Some(spans.len());
-    }
-    match search(text, spans, key) {
-        Ok(_) => None,
-        Err(place) => Some(place),
-    }
-}
-
-/// Whether a key is above the last one.
-fn is_above_all(text: &[u8], spans: &[Span], key: &str) -> bool
-    requires { AreTags text.now spans.now }
-    ensures above { result ≡ true → BelongsAt (chars key.now) (pairs_of text.now spans.now) (length spans.now) }
-{
-    spans.is_empty() || key_at(text, spans, spans.len() - 1).cmp(key).is_lt()
 }
 
 /// The key of the tag at a place.
@@ -191,13 +146,13 @@ fn value_at<'a>(text: &'a [u8], spans: &[Span], index: usize) -> &'a str
     text_of(text, span.value, span.end)
 }
 
-/// The place of a key, or the one where it is to be put.
-fn search(text: &[u8], spans: &[Span], key: &str) -> Result<usize, usize>
+/// The place of a key, looked for by halves.
+fn search(text: &[u8], spans: &[Span], key: &str) -> Option<usize>
     requires { AreTags text.now spans.now }
-    ensures within { IfOk result (λ place. place < length spans.now) }
-    ensures found { IfOk result (λ place. (past : Span) → map.find (slice_cmp nat_cmp) (chars key.now) (pairs_of text.now spans.now)
+    ensures within { IfSome result (λ place. place < length spans.now) }
+    ensures found { IfSome result (λ place. (past : Span) → map.find (slice_cmp nat_cmp) (chars key.now) (pairs_of text.now spans.now)
         ≡ Some (chars (value_bytes text.now (slice_index_or spans.now place past)))) }
-    ensures free { IfErr result (BelongsAt (chars key.now) (pairs_of text.now spans.now)) }
+    ensures absent { IsNone result → map.find (slice_cmp nat_cmp) (chars key.now) (pairs_of text.now spans.now) ≡ None }
 {
     let mut low = 0;
     let mut high = spans.len();
@@ -205,40 +160,11 @@ fn search(text: &[u8], spans: &[Span], key: &str) -> Result<usize, usize>
         let middle = low + (high - low) / 2;
         match key_at(text, spans, middle).cmp(key) {
             Ordering::Less => low = middle + 1,
-            Ordering::Equal => return Ok(middle),
+            Ordering::Equal => return Some(middle),
             Ordering::Greater => high = middle,
         }
     }
-    Err(low)
-}
-
-/// Puts a tag at a place among the tags of these spans.
-fn insert(
-    text: &mut Vec<u8>,
-    spans: &mut Vec<Span>,
-    place: usize,
-    key: &str,
-    value: &str,
-) -> Result<(), OutOfMemory>
-    requires cuts { AreSpans text.old.items spans.old.items }
-    requires within { place ≤ length spans.old.items }
-    ensures cuts { AreSpans text.new.items spans.new.items }
-    ensures added { OnOk result (pairs_of text.new.items spans.new.items
-        ≡ insert (pairs_of text.old.items spans.old.items) place (chars key.now, chars value.now)) }
-    ensures kept { OnErr result (pairs_of text.new.items spans.new.items ≡ pairs_of text.old.items spans.old.items) }
-{
-    let start = text.len();
-    text.extend_from_slice(key.as_bytes())?;
-    let middle = text.len();
-    text.extend_from_slice(value.as_bytes())?;
-    let end = text.len();
-    let span = Span {
-        key: start,
-        value: middle,
-        end,
-    };
-    spans.insert(place, span)?;
-    Ok(())
+    None
 }
 
 /// The text that stands between two places of a row of bytes.

@@ -118,7 +118,6 @@ fn one_tag(alloc: Global, key: &str, tags: &Tags) -> Result<Option<Tags>, OutOfM
     let Some(value) = tags.get(key) else {
         return Ok(None);
     };
-    let mut one = Tags::with_room(alloc, 1, 0)?;
-    one.add(key, value)?;
+    let one = Tags::one(alloc, key, value)?;
     Ok(Some(one))
 }

@@ -3,7 +3,8 @@ use Rattle.osm_base.specs.TagOrder.{pairs_of}
 use Rattle.std.proofs.lemmas.List.{length-map}
 use Rattle.osm_base.specs.TagText.{pair_of}
 use Rattle.std.specs.Str.{chars}
-use Rattle.osm_base.proofs.TagSearch.{above-at, below-at, found-at, IsBetween-higher, IsBetween-lower, past_the_end}
+use Rattle.osm_base.proofs.TagSearch.{above-at, below-at, found-at, IsBetween-higher, IsBetween-lower, BelongsAt-IsBetween, past_the_end}
+use Rattle.osm_base.proofs.TagPlaces.{find-BelongsAt}
 use Rattle.osm_base.proofs.tags.search.Goals as goal
 
 pub loop-low-preserved-in-Less : goal.loop-low-preserved-in-Less
@@ -37,3 +38,12 @@ loop-low-preserved c =
     IsBetween-lower (chars c.args.key.now) (pairs_of c.args.text.now c.args.spans.now) low high middle c.loop-low.invariant least most
     (below-at c.args.text.now c.args.key.now c.key_at.result.now c.args.spans.now middle past_the_end
     (c.key_at.ensures.key past_the_end) c.utf8.key c.key_at.utf8 within c.requires (sym c.cmp.ensures ∙ c.in-Greater.is))
+
+pub returns : goal.returns
+returns c =
+    record {
+      within = tt;
+      found = tt;
+      absent = λ _. find-BelongsAt (chars c.args.key.now) (pairs_of c.args.text.now c.args.spans.now) c.loop-low.low
+          (BelongsAt-IsBetween (chars c.args.key.now) (pairs_of c.args.text.now c.args.spans.now) c.loop-low.low c.loop-low.high c.loop-low.invariant (omega arith));
+    }
