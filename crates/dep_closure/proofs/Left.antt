@@ -10,7 +10,7 @@ use Rattle.osm_base.specs.declared.key.Kind.TheVariants as kinds
 use Rattle.osm_base.specs.declared.object.Entry.{Entry}
 use Rattle.osm_base.specs.declared.object.Object.{Object}
 use Rattle.osm_base.specs.declared.object.Object.TheVariants.{Node, Way, Relation}
-use Rattle.osm_base.specs.Key.{KeyOf, IsId}
+use Rattle.osm_base.specs.Key.{KeyOf, IsId, node_key, way_key}
 use Rattle.osm_base.specs.KeyOrder.{key_cmp, key_cmp-IsAntisymmetric}
 use Rattle.osm_base.specs.Known.{Index}
 use Rattle.osm_base.specs.Place.{PlaceOf}
@@ -21,10 +21,7 @@ use Rattle.object_fold.proofs.FoldLaws.{Untouched, get-untouched}
 use Rattle.object_fold.specs.Index.{is_kind, lists, index_of, known_of}
 use Rattle.object_fold.proofs.Listers.{has-ids_of}
 use Rattle.object_fold.specs.RisingIds.{has}
-use Rattle.dep_closure.specs.Ways.{way_key, makes_due, is_due, line_of, Leaves}
-
-abbrev node_key : ℕ → KeyOf
-node_key id = record { kind = kinds.Node; id = id }
+use Rattle.dep_closure.specs.Ways.{makes_due, is_due, line_of, Leaves}
 
 left_false : (a b : Bool) → (a || b) ≡ false → a ≡ false
 left_false true b is = absurd (false≢true (sym is))

@@ -8,7 +8,7 @@ use Rattle.osm_base.specs.declared.object.Entry.{Entry}
 use Rattle.osm_base.specs.declared.key.Kind.TheVariants as kinds
 use Rattle.osm_base.specs.declared.object.Object.{Object}
 use Rattle.osm_base.specs.declared.object.Object.TheVariants.{Way}
-use Rattle.osm_base.specs.Key.{KeyOf}
+use Rattle.osm_base.specs.Key.{way_key}
 use Rattle.osm_base.specs.KeyOrder.{key_cmp}
 use Rattle.osm_base.specs.Known.{Index}
 use Rattle.osm_base.specs.Place.{PlaceOf}
@@ -17,9 +17,6 @@ use Rattle.line_build.specs.Points.{line}
 use Rattle.object_fold.specs.Fold.{ObjectSet, folded_all}
 use Rattle.object_fold.specs.Index.{is_kind, known_of}
 use Rattle.object_fold.specs.RisingIds.{has}
-
-abbrev pub way_key : ℕ → KeyOf
-way_key id = record { kind = kinds.Way; id = id }
 
 -- an entry makes a way due where it is of the way, or of a node that the way lists
 abbrev pub makes_due : Index → ℕ → Entry → Bool
