@@ -1,5 +1,5 @@
 -- How far a file was read, from one read to the next.
-use Rattle.std.proofs.Common.{◌≡◌, ℕ, ◌+◌, ◌≤◌, Option, Some, None, Result, Ok, Err, OnErr, List, [], ◌++◌, length, length-append, append_assoc, refl, sym, ◌∙◌, ap, arith}
+use Rattle.std.proofs.Common.{◌≡◌, ℕ, suc, zero, ◌+◌, ◌≤◌, Bool, Option, Some, None, Result, Ok, Err, OnErr, List, [], ◌∷◌, ◌++◌, length, replicate, length-append, append_assoc, refl, sym, ◌∙◌, ap, subst, arith}
 use Rattle.std.specs.Io.KnownBytes.{Consumes, Keeps}
 use Rattle.outside.specs.Bytes.{BothKnown}
 use Rattle.osm_base.specs.declared.limits.LimitNumbers.{LimitNumbers}
@@ -10,6 +10,7 @@ use Rattle.object_fold.specs.Entries.{entries_of}
 use Rattle.object_fold.specs.Keeps.{kept_all}
 use Rattle.object_fold.specs.Progress.{entries_left, IsReady, HasRead, ReadsPiece}
 use Rattle.object_fold.specs.Reading.{ReadsAtMost, ReadsNoFurther}
+use Rattle.object_fold.specs.Whole.{MovesBytes}
 use Rattle.object_fold.proofs.Undecided.{LeavesOpen-none, undecided}
 
 -- what holds anyway holds at an error
@@ -102,3 +103,28 @@ module _ {K : Type 0} (after : K → Entry → K) (limits : LimitNumbers) where
 pub stops_at_start : (limits : LimitNumbers) (left : Option (List ℕ)) → ReadsNoFurther limits left left
 stops_at_start limits None = tt
 stops_at_start limits (Some bytes) = record { before = []; last = []; parts = refl; undecided = LeavesOpen-none limits; one_read = omega arith }
+
+-- which file was read
+
+replicate-more : (count file : ℕ) → replicate count file ++ file ∷ [] ≡ replicate (suc count) file
+replicate-more zero file = refl
+replicate-more (suc count) file = ap (λ files. file ∷ files) (replicate-more count file)
+
+pub read_again : {I : Type 0} (reads : I → List ℕ → I → Type 0)
+    (law : (first second third : I) (before after : List ℕ) → reads first before second → reads second after third → reads first (before ++ after) third)
+    (file : ℕ) (old now new : I) → ((count : ℕ) × reads old (replicate count file) now) → reads now (file ∷ []) new → ((count : ℕ) × reads old (replicate count file) new)
+read_again reads law file old now new so_far again =
+    (suc so_far.0, subst (λ files. reads old files new) (replicate-more so_far.0 file) (law old now new (replicate so_far.0 file) (file ∷ []) so_far.1 again))
+
+-- the bytes of a file that are kept
+
+pub whole_none : (kept : List ℕ) → kept ≡ [] → (left : Option (List ℕ)) → BothKnown left left (λ before after. before ≡ kept ++ after)
+whole_none kept none None = tt
+whole_none kept none (Some bytes) = ap (λ own. own ++ bytes) (sym none)
+
+pub whole_more : (kept new : List ℕ) (more : Bool) (start left rest : Option (List ℕ)) → BothKnown start left (λ before after. before ≡ kept ++ after)
+    → MovesBytes kept new more left rest → BothKnown start rest (λ before after. before ≡ new ++ after)
+whole_more kept new more None left rest whole moves = tt
+whole_more kept new more (Some all) None rest whole moves = absurd whole
+whole_more kept new more (Some all) (Some bytes) None whole moves = moves
+whole_more kept new more (Some all) (Some bytes) (Some later) whole moves = whole ∙ moves.0

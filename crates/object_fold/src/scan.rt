@@ -1,5 +1,5 @@
 //! A file of entries, read piece by piece to its end.
-ghost use Rattle.std.specs.Prelude.{◌≡◌, ◌≢◌, ◌≤◌, ◌<◌, ℕ, None, true, length, IfOk, IfErr, OnOk, OnErr};
+ghost use Rattle.std.specs.Prelude.{◌≡◌, ◌≢◌, ◌≤◌, ◌<◌, ℕ, [], ◌∷◌, None, true, length, replicate, IfOk, IfErr, OnOk, OnErr};
 ghost use Rattle.opl_lines.specs.Reading.{room};
 ghost use Rattle.outside.specs.Bytes.{IfTold};
 ghost use Rattle.outside.specs.Causes.{Rose};
@@ -45,6 +45,7 @@ fn read_on<I: Inputs, K: Keeper>(
     ensures piece { OnOk result (ReadsPiece K.after limits.now progress.old keeper.old progress.new keeper.new
         ((I.view inputs.old).left file) ((I.view inputs.new).left file)) }
     ensures left { OnErr result (ReadsAtMost (length buffer.old) ((I.view inputs.old).left file) ((I.view inputs.new).left file)) }
+    ensures read { I.reads inputs.old (file ∷ []) inputs.new }
     ensures room { IfOk result (λ more. more ≡ true → room progress.new.reader < room progress.old.reader) }
     ensures stopped { IfErr result (Stops (IsKeptFault K.after limits.now progress.old keeper.old ((I.view inputs.old).left file))
         (Rose (I.view inputs.old).faults (I.view inputs.new).faults)) }
@@ -73,6 +74,7 @@ pub fn scan_file<I: Inputs, K: Keeper>(
     ensures ok { OnOk result (ReadsAll K.after limits.now keeper.old keeper.new ((I.view inputs.old).left file) ((I.view inputs.new).left file)) }
     ensures stopped { IfErr result (Stops (IsFaultOf limits.now ((I.view inputs.old).left file)) (Rose (I.view inputs.old).faults (I.view inputs.new).faults)) }
     ensures left { OnErr result (ReadsNoFurther limits.now ((I.view inputs.old).left file) ((I.view inputs.new).left file)) }
+    ensures read { (count : ℕ) × I.reads inputs.old (replicate count file) inputs.new }
     ensures later { (I.view inputs.old).faults ≤ (I.view inputs.new).faults }
     ensures others { (other : ℕ) → other ≢ file → (I.view inputs.new).left other ≡ (I.view inputs.old).left other }
 {
@@ -101,6 +103,7 @@ pub fn read_file<I: Inputs>(
     ensures accepted { IfOk result (λ change. IfTold ((I.view inputs.old).left file) (λ bytes. IsAccepted limits.now bytes change)) }
     ensures stopped { IfErr result (Stops (IsFaultOf limits.now ((I.view inputs.old).left file)) (Rose (I.view inputs.old).faults (I.view inputs.new).faults)) }
     ensures left { OnErr result (ReadsNoFurther limits.now ((I.view inputs.old).left file) ((I.view inputs.new).left file)) }
+    ensures read { (count : ℕ) × I.reads inputs.old (replicate count file) inputs.new }
     ensures later { (I.view inputs.old).faults ≤ (I.view inputs.new).faults }
     ensures others { (other : ℕ) → other ≢ file → (I.view inputs.new).left other ≡ (I.view inputs.old).left other }
 {

@@ -1,5 +1,5 @@
 //! All bytes of a short file.
-ghost use Rattle.std.specs.Prelude.{◌≡◌, ◌≢◌, ◌≤◌, ◌<◌, ◌+◌, ℕ, true, length, IfOk, IfErr, OnOk, OnErr};
+ghost use Rattle.std.specs.Prelude.{◌≡◌, ◌≢◌, ◌≤◌, ◌<◌, ◌+◌, ℕ, [], ◌∷◌, true, length, replicate, IfOk, IfErr, OnOk, OnErr};
 ghost use Rattle.outside.specs.Causes.{Rose};
 ghost use Rattle.object_fold.specs.Reading.{ReadsAtMost};
 ghost use Rattle.object_fold.specs.Whole.{IsWhole, MovesBytes, IsOver, StopsWhole};
@@ -51,6 +51,7 @@ fn add_piece<I: Inputs>(
     ensures within { OnOk result (length bytes.new.items ≤ max) }
     ensures bytes { IfOk result (λ more. MovesBytes bytes.old.items bytes.new.items more ((I.view inputs.old).left file) ((I.view inputs.new).left file)) }
     ensures left { OnErr result (ReadsAtMost (length buffer.old) ((I.view inputs.old).left file) ((I.view inputs.new).left file)) }
+    ensures read { I.reads inputs.old (file ∷ []) inputs.new }
     ensures grows { IfOk result (λ more. more ≡ true → length bytes.old.items < length bytes.new.items) }
     ensures stopped { IfErr result (StopsWhole (IsOver max (length bytes.old.items) ((I.view inputs.old).left file)) (Rose (I.view inputs.old).faults (I.view inputs.new).faults)) }
     ensures later { (I.view inputs.old).faults ≤ (I.view inputs.new).faults }
@@ -81,6 +82,7 @@ pub fn read_all<I: Inputs>(
     ensures stopped { IfErr result (StopsWhole (IsOver max 0 ((I.view inputs.old).left file)) (Rose (I.view inputs.old).faults (I.view inputs.new).faults)) }
     // No more is read than the bytes that there may be and one piece.
     ensures left { OnErr result (ReadsAtMost (max + PIECE) ((I.view inputs.old).left file) ((I.view inputs.new).left file)) }
+    ensures read { (count : ℕ) × I.reads inputs.old (replicate count file) inputs.new }
     ensures later { (I.view inputs.old).faults ≤ (I.view inputs.new).faults }
     ensures others { (other : ℕ) → other ≢ file → (I.view inputs.new).left other ≡ (I.view inputs.old).left other }
 {

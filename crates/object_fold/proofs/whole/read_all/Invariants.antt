@@ -1,4 +1,4 @@
-use Rattle.std.proofs.Common.{◌≡◌, ◌≢◌, ◌≤◌, ◌<◌, ◌-◌, ◌++◌, ℕ, length}
+use Rattle.std.proofs.Common.{◌≡◌, ◌≢◌, ◌≤◌, ◌<◌, ◌-◌, ◌++◌, ℕ, length, replicate}
 use Rattle.outside.specs.Bytes.{BothKnown}
 use Rattle.object_fold.specs.declared.scan.TheConstants.{PIECE}
 use Rattle.object_fold.proofs.whole.read_all.Given as goal
@@ -10,6 +10,7 @@ invariant-loop-bytes g l = record {
   room : length l.buffer.items ≤ PIECE;
   within : length l.bytes.items ≤ l.max;
   whole : BothKnown ((g.I.Inputs.view l.fn.inputs).left l.file) ((g.I.Inputs.view l.inputs).left l.file) (λ before after. before ≡ l.bytes.items ++ after);
+  reads : ((count : ℕ) × g.I.Inputs.reads l.fn.inputs (replicate count l.file) l.inputs);
   later : (g.I.Inputs.view l.fn.inputs).faults ≤ (g.I.Inputs.view l.inputs).faults;
   others : (other : ℕ) → other ≢ l.file → (g.I.Inputs.view l.inputs).left other ≡ (g.I.Inputs.view l.fn.inputs).left other;
 }
