@@ -1,7 +1,7 @@
 //! Runs the examples of reading, and prints the name of each up to the first that differs.
 //!
-//! The tables in `data` go the way of the data: values (`degrees.txt`, `keys.txt`, `limits.txt`), lines
-//! (`lines.txt`), files in pieces (`cuts.txt`), all bytes of a file (`whole.txt`), entries of a file
+//! The tables in `data` go the way of the data: values (`degrees.txt`, `keys.txt`, `limits.txt`,
+//! `tags.txt`), lines (`lines.txt`), files in pieces (`cuts.txt`), all bytes of a file (`whole.txt`), entries of a file
 //! (`entries.txt`), objects after changes (`folds.txt`) and the ways that a change makes due
 //! (`ways_due.txt`). The head of each says what its columns are, and where what is wanted comes from.
 #![tactic(auto)]
@@ -13,6 +13,7 @@ mod entries;
 mod key;
 mod lines;
 mod questions;
+mod tags;
 mod values;
 mod verdict;
 
@@ -23,10 +24,11 @@ use std::{fs, io};
 use verdict::Verdict;
 
 /// The tables.
-const TABLES: [&str; 9] = [
+const TABLES: [&str; 10] = [
     "degrees.txt",
     "keys.txt",
     "limits.txt",
+    "tags.txt",
     "lines.txt",
     "cuts.txt",
     "whole.txt",
@@ -77,6 +79,7 @@ fn verdict_of(alloc: Global, table: &str, word: &str, text: &str) -> Result<Verd
         ("degrees.txt", _) => values::degrees(alloc, word, text),
         ("keys.txt", _) => values::keys(alloc, word, text),
         ("limits.txt", _) => values::limits(alloc, word, text),
+        ("tags.txt", _) => tags::tags(alloc, word, text),
         ("lines.txt", "line") => lines::line(alloc, text),
         ("cuts.txt", "lines") => cuts::lines(alloc, text),
         ("cuts.txt", "within") => cuts::within(alloc, text),
