@@ -6,7 +6,7 @@ use Rattle.std.specs.Int.{w64, from_le_bytes, to_le_bytes}
 use borrow.Rule.Slice.PartMut.{put_mid}
 use Rattle.outside.specs.Disk.{overlaid, ReadsFrom}
 use Rattle.outside.proofs.Overlay.{length-overlaid, overlaid-in, overlaid-within}
-use Rattle.page_journal.specs.Pages.{number, page_from}
+use Rattle.page_journal.specs.Pages.{head_of, number, page_from}
 
 length-part : (n : ℕ) (bytes : List ℕ) (at : ℕ) → at + n ≤ length bytes → length (take n (drop at bytes)) ≡ n
 length-part n bytes at fits = length-take n (drop at bytes) ∙ omega (arith, length-drop at bytes)
@@ -134,3 +134,26 @@ page_read_whole bytes old new at count long fits reads = page_read bytes old new
 pub page_long : (bytes : List ℕ) (at : ℕ) → at + 4096 ≤ length bytes → length (page_from bytes at) ≡ 4096
 unfolding page_from
 page_long bytes at fits = length-part 4096 bytes at fits
+
+-- the first two pages, as they are read
+pub head_read : (bytes old new : List ℕ) (count : ℕ) → length old ≡ 8192 → 8192 ≤ length bytes → ReadsFrom 0 count bytes old new
+    → new ≡ head_of bytes
+head_read bytes old new count long fits reads =
+    let many : count ≡ 8192 = omega (arith, reads.many) in
+    let none : drop count old ≡ [] = drop_all count old (omega arith) in
+    reads.bytes ∙ ap (λ (l : List ℕ). take count bytes ++ l) none ∙ append-nil (take count bytes) ∙ ap (λ (n : ℕ). take n bytes) many
+
+pub number-head_of : (bytes : List ℕ) (at : ℕ) → at + 8 ≤ 8192 → 8192 ≤ length bytes → number (head_of bytes) at ≡ number bytes at
+number-head_of bytes at inside fits =
+    let long : length (head_of bytes) ≡ 8192 = length-take 8192 bytes ∙ omega arith in
+    number_same bytes (head_of bytes) at at (omega arith) (omega arith) (λ k below. get_or-take 8192 bytes (at + k) 0 (omega arith))
+
+pub byte-head_of : (bytes : List ℕ) (at : ℕ) → at < 8192 → get_or (head_of bytes) at 0 ≡ get_or bytes at 0
+byte-head_of bytes at inside = get_or-take 8192 bytes at 0 inside
+
+-- the number that eight bytes of them spell
+pub number_part : (bytes : List ℕ) (at : ℕ) → from_le_bytes w64 (take (at + 8 - at) (drop at bytes)) ≡ number bytes at
+unfolding number
+number_part bytes at =
+    let eight : at + 8 - at ≡ 8 = omega arith in
+    ap (λ (n : ℕ). from_le_bytes w64 (take n (drop at bytes))) eight

@@ -1,8 +1,9 @@
 -- A journal that a crash has left open is copied home, and its gate is shut.
-use Rattle.std.proofs.Common.{◌≡◌, ◌≢◌, inl, inr, ⊎_elim, Err, ℕ, zero, suc, ◌+◌, ◌-◌, ◌*◌, ◌<◌, ◌≤◌, ◌⊎◌, List, [], length, min, slice_index_or, sym, ap, ◌∙◌, subst, arith}
+use Rattle.std.proofs.Common.{◌≡◌, ◌≢◌, ◌↔◌, Bool, false, inl, inr, ⊎_elim, Err, ℕ, zero, suc, ◌+◌, ◌-◌, ◌*◌, ◌<◌, ◌≤◌, ◌⊎◌, List, [], length, min, slice_index_or, sym, ap, ◌∙◌, subst, arith}
+use Rattle.std.specs.Bool.{IsTrue}
 use Rattle.std.proofs.lemmas.Bool.{cases_eq, cases_lt}
 use Rattle.outside.specs.Disk.{Crashes, Only, Within, Goes}
-use Rattle.page_journal.specs.Answers.{CanFinish, SaysHome, Counts, Opens}
+use Rattle.page_journal.specs.Answers.{CanFinish, SaysHome, Counts, Finishes, Opens}
 use Rattle.page_journal.specs.Crash.{Spares, AllHome, IsLikeOne, BesideGate, BesidePages}
 use Rattle.page_journal.specs.Home.{IsFormatted, AreRising, IsWellFormed, IsHomePage, Home}
 use Rattle.page_journal.specs.Pages.{number, page_from, gate, first_page, page_count, number_pages, entry, body_at}
@@ -34,7 +35,7 @@ rising_from f count next one (suc two) before inside =
     ]
 
 module _ (bytes : List ℕ) (first count : ℕ) (first-is : first ≡ first_page bytes) (count-is : count ≡ page_count bytes) where
-  numbers : IsWellFormed bytes → AreNumbers count (entry bytes) first
+  pub numbers : IsWellFormed bytes → AreNumbers count (entry bytes) first
   numbers well = record {
     some = omega (arith, well.some, count-is);
     positive = λ place inside. well.numbers.positive place (omega (arith, inside, count-is));
@@ -379,6 +380,29 @@ opens_count bytes now len DiskFault can done long is = tt
 opens_count bytes now len (StoreFull pages) can done long is = absurd is
 opens_count bytes now len Broken can done long is = absurd is
 opens_count bytes now len OutOfMemory can done long is = absurd is
+
+-- and so is one of its journal
+pub opens_finish : (bytes : List ℕ) (fault : StoreFault) → Finishes bytes (Err fault) → Opens bytes (Err fault)
+opens_finish bytes NotFormatted is = absurd is
+opens_finish bytes NotEmpty is = absurd is
+opens_finish bytes (BadStore page) is = inl is
+opens_finish bytes DiskFault is = tt
+opens_finish bytes (StoreFull pages) is = absurd is
+opens_finish bytes Broken is = absurd is
+opens_finish bytes OutOfMemory is = absurd is
+
+-- a number of home pages that is refused
+pub too_few : (home n len : ℕ) (holds : Bool) → home ≡ n → holds ≡ false → (IsTrue holds ↔ ((2 ≤ home) × (4096 * home ≤ len)))
+    → (n < 2) ⊎ (len < 4096 * n)
+too_few home n len holds is not both = elim (cases_lt home 2) [
+  | inl few ↦ inl (omega (arith, few, is))
+  | inr some ↦ elim (cases_lt len (4096 * home)) [
+    | inl short ↦ inr (omega (arith, short, is))
+    | inr fits ↦
+        let yes = both.1 (some, fits) in
+        absurd (cc (not, yes))
+  ]
+]
 
 -- each outcome has the home pages of itself
 pub like_itself : (crashes : Crashes) → AllHome crashes → (left : List ℕ) → crashes.outcomes left → IsLikeOne crashes left

@@ -8,6 +8,8 @@ pub mod Counting
 pub mod Parts
 pub mod Phases
 pub mod Places
+pub mod ReadCounts
 pub mod Sets
 pub mod Standing
 pub mod Trees
+pub mod Uniqueness

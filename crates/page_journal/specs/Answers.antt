@@ -59,8 +59,8 @@ IsOpenAnswer (Err DiskFault) = Unit {0}
 IsOpenAnswer (Err _) = ⊥
 
 -- finishing the journal of these bytes, if it is open, may give this answer
-abbrev pub Finishes : List ℕ → Result (Unit {0}) StoreFault → Type 0
-Finishes bytes (Ok done) = gate bytes ≡ OPEN → IsWellFormed bytes
+abbrev pub Finishes : List ℕ → Result Bool StoreFault → Type 0
+Finishes bytes (Ok moved) = gate bytes ≡ OPEN → IsWellFormed bytes
 Finishes bytes (Err (BadStore page)) = JournalRefused bytes page
 Finishes bytes (Err DiskFault) = Unit {0}
 Finishes bytes (Err _) = ⊥

@@ -20,6 +20,12 @@ pub record IsWellFormed (bytes : List ℕ) : Type 0 where
   pub numbers : AreRising bytes (first_page bytes) (page_count bytes)
   pub long : 4096 * (first_page bytes + number_pages (page_count bytes) + page_count bytes) ≤ length bytes
 
+-- the store is formatted, its gate is open, and the journal is well formed: it is to be finished
+pub record HasOpenJournal (bytes : List ℕ) : Type 0 where
+  pub formatted : IsFormatted bytes
+  pub is_open : gate bytes ≡ OPEN
+  pub journal : IsWellFormed bytes
+
 -- the page with this number, once the journal is copied home: where the gate is open and the journal has the page,
 -- the one in the journal
 pub record InJournal (bytes : List ℕ) (number : ℕ) (page : List ℕ) : Type 0 where

@@ -11,6 +11,10 @@ number bytes at = from_le_bytes w64 (take 8 (drop at bytes))
 unfoldable pub page_from : List ℕ → ℕ → List ℕ
 page_from bytes at = take 4096 (drop at bytes)
 
+-- the first two pages
+abbrev pub head_of : List ℕ → List ℕ
+head_of bytes = take 8192 bytes
+
 -- the journal's first page, its number of pages, and its gate
 abbrev pub first_page : List ℕ → ℕ
 first_page bytes = number bytes FIRST_AT

@@ -9,10 +9,8 @@ ghost use Rattle.page_journal.specs.Pages.{number, page_from};
 ghost use Rattle.page_journal.specs.declared.fault.StoreFault.TheVariants.{NotEmpty};
 
 use crate::StoreFault;
-use crate::layout::{FORMAT, FORMAT_AT, MARK, PAGE, ROOT_AT};
+use crate::layout::{FORMAT, FORMAT_AT, HEAD, MARK, ROOT_AT};
 use outside::Disk;
-
-const FRESH_LEN: usize = 2 * PAGE;
 
 /// Writes an empty store to an empty disk.
 #[tactic(auto, using(crate::proofs::Moments::looks))]
@@ -38,7 +36,7 @@ pub fn format<D: Disk>(disk: &mut D) -> Result<(), StoreFault>
 }
 
 // The bytes of an empty store.
-fn fresh_bytes() -> [u8; FRESH_LEN]
+fn fresh_bytes() -> [u8; HEAD]
     ensures { IsFresh result }
 {
     let mut bytes = zeros();
@@ -48,11 +46,12 @@ fn fresh_bytes() -> [u8; FRESH_LEN]
     bytes
 }
 
-fn zeros() -> [u8; FRESH_LEN]
+/// Two pages of zeros.
+pub fn zeros() -> [u8; HEAD]
     ensures long { length result ≡ 8192 }
     ensures zero { (i : ℕ) → slice_index result i ≡ 0 }
 {
-    [0; FRESH_LEN]
+    [0; HEAD]
 }
 
 /// Puts a number at its place.

@@ -11,6 +11,9 @@ pub const PAGE: usize = 4096;
 /// The same, for places on the disk.
 pub const PAGE_LEN: u64 = 4096;
 
+/// How many bytes the first two pages have.
+pub const HEAD: usize = 2 * PAGE;
+
 /// How many numbers fit a page.
 pub const PER_PAGE: usize = 512;
 

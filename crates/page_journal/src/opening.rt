@@ -1,21 +1,23 @@
 //! A store is opened: a journal that a crash has left open is finished.
-ghost use Rattle.std.specs.Prelude.{◌≡◌, ◌≢◌, ◌⊎◌, ◌↔◌, ◌+◌, ◌*◌, ◌^◌, ◌<◌, ◌≤◌, List, ℕ, length, IfOk, IfSome, OnOk, IsErrOf, IsTrue};
+ghost use Rattle.std.specs.Prelude.{◌≡◌, ◌≢◌, ◌⊎◌, ◌↔◌, ◌+◌, ◌*◌, ◌^◌, ◌<◌, ◌≤◌, List, ℕ, None, false, length, IfOk, IfSome, OnOk, IsErrOf, IsTrue};
 ghost use Rattle.outside.specs.Causes.{HasCause};
-ghost use Rattle.outside.specs.Disk.{Elapses, Follows, Only, Tells, Torn, overlaid, Goes, Stays, Within};
+ghost use Rattle.outside.specs.Bytes.{IfTold};
+ghost use Rattle.outside.specs.Disk.{Elapses, Follows, Only, Tells, Torn, overlaid, Goes, Stays, Within, ReadsAtMost};
 ghost use Rattle.page_journal.specs.Answers.{Counts, Finishes, HasDiskCause, IsOpenAnswer, Looks, Opens, Prepares};
 ghost use Rattle.page_journal.specs.Crash.{AllHome, BesidePages, IsLikeOne, IsSettled, Spares};
-ghost use Rattle.page_journal.specs.Home.{AreRising, Home, IsFormatted, IsWellFormed};
-ghost use Rattle.page_journal.specs.Pages.{body_at, entry, first_page, gate, number_pages, page_count, page_from};
+ghost use Rattle.page_journal.specs.Home.{AreRising, HasOpenJournal, Home, IsFormatted, IsWellFormed};
+ghost use Rattle.page_journal.specs.Pages.{body_at, entry, first_page, gate, head_of, number, number_pages, page_count, page_from};
 ghost use Rattle.page_journal.specs.Written.{Finished, HomePut};
 ghost use Rattle.page_journal.specs.declared.fault.StoreFault.TheVariants.{NotFormatted};
-ghost use Rattle.page_journal.specs.declared.layout.TheConstants.{OPEN};
+ghost use Rattle.page_journal.specs.declared.layout.TheConstants.{OPEN, ROOT_AT};
 
 use crate::StoreFault;
+use crate::formatting::zeros;
 use crate::layout::{
-    COUNT_AT, FIRST_AT, MARK, OPEN, PAGE, PAGE_LEN, ROOT_AT, SHUT, number_page_count,
+    COUNT_AT, FIRST_AT, HEAD, MARK, OPEN, PAGE, PAGE_LEN, ROOT_AT, SHUT, number_page_count,
 };
 use crate::pages::set_gate;
-use crate::reading::{read_gate, read_number};
+use crate::reading::{gate_in, number_in, read_head, read_number};
 use outside::{Disk, Failed};
 
 /// Opens a store, and answers how many home pages it has, page 0 among them. A journal that was left
@@ -30,62 +32,98 @@ pub fn open<D: Disk>(disk: &mut D) -> Result<u64, StoreFault>
     // Each outcome of a crash during the call has the home pages of one at its entry.
     ensures any_moment { (bytes : List ℕ) → Tells (D.view disk.old) bytes → AllHome (D.view disk.old).crashes
         → Goes (IsLikeOne (D.view disk.old).crashes) (D.view disk.old).crashes (D.view disk.new).crashes }
-    ensures unchanged { IsErrOf result NotFormatted → (D.view disk.new).content ≡ (D.view disk.old).content }
+
+    // Whatever the answer, only a well-formed journal that is open lets it write.
+    ensures looked { IfTold (D.view disk.old).content (λ bytes. ¬ HasOpenJournal bytes → Stays (D.view disk.old) (D.view disk.new)) }
+    ensures refused { IsErrOf result NotFormatted → Stays (D.view disk.old) (D.view disk.new) }
+    ensures one_read { IfTold (D.view disk.old).content (λ bytes. gate bytes ≢ OPEN
+        → ReadsAtMost 1 (length bytes) (D.view disk.old) (D.view disk.new)) }
+    ensures reads { IfTold (D.view disk.old).content (λ bytes.
+        ReadsAtMost (2 + 3 * page_count bytes) (length bytes) (D.view disk.old) (D.view disk.new)) }
     ensures small { IfOk result (λ home. (2 ≤ home) × (4096 * home ≤ 2 ^ 62)) }
     ensures cause { HasDiskCause (D.view disk.old).faults (D.view disk.new).faults result }
 {
-    let len = match prepare(disk) {
+    let mut head = zeros();
+    let len = match prepare(disk, &mut head) {
         Ok(len) => len,
         Err(fault) => return Err(fault),
     };
-    match finish(disk, len) {
-        Ok(()) => {}
+    let moved = match finish(disk, &head, len) {
+        Ok(moved) => moved,
         Err(fault) => return Err(fault),
-    }
-    match count_home(disk, len) {
+    };
+    match count_home(disk, &head, moved, len) {
         Ok(home) => Ok(home),
         Err(fault) => Err(fault),
     }
 }
 
-// Syncs the disk, and answers how long it is. What does not begin as a store is refused.
+// Syncs the disk, reads its first two pages, and answers how long it is. What does not begin as a store is refused.
 #[tactic(auto, using(crate::proofs::Moments::looks))]
-fn prepare<D: Disk>(disk: &mut D) -> Result<u64, StoreFault>
+fn prepare<D: Disk>(disk: &mut D, head: &mut [u8; HEAD]) -> Result<u64, StoreFault>
     ensures answers { (bytes : List ℕ) → Tells (D.view disk.old) bytes → Prepares bytes result }
     ensures alone { IsOpenAnswer result }
+    ensures head { OnOk result ((bytes : List ℕ) → Tells (D.view disk.old) bytes → head.new ≡ head_of bytes) }
     ensures durable { OnOk result ((bytes : List ℕ) → Tells (D.view disk.old) bytes → Only bytes (D.view disk.new).crashes) }
     ensures small { IfOk result (λ len. len ≤ 2 ^ 62) }
     ensures stays { Stays (D.view disk.old) (D.view disk.new) }
+    ensures reads { (bytes : List ℕ) → Tells (D.view disk.old) bytes
+        → ReadsAtMost 1 (length bytes) (D.view disk.old) (D.view disk.new) }
     ensures cause { HasDiskCause (D.view disk.old).faults (D.view disk.new).faults result }
 {
     disk.sync()?;
     let len = disk.len()?;
-    if len < 2 * PAGE_LEN {
+    if len < HEAD as u64 {
         return Err(StoreFault::NotFormatted);
     }
-    let mark = read_number(disk, 0)?;
+    read_head(disk, head)?;
+    let mark = number_in(head, 0);
     if mark != MARK {
         return Err(StoreFault::NotFormatted);
     }
     Ok(len)
 }
 
-// How many home pages there are, where no journal is open.
+// How many home pages there are, where no journal is open. Where one was finished the root is read again.
 #[tactic(auto, using(crate::proofs::Moments::looks))]
-fn count_home<D: Disk>(disk: &mut D, len: u64) -> Result<u64, StoreFault>
+fn count_home<D: Disk>(
+    disk: &mut D,
+    head: &[u8; HEAD],
+    moved: bool,
+    len: u64,
+) -> Result<u64, StoreFault>
     requires { len ≤ 2 ^ 62 }
-    ensures answers { (bytes : List ℕ) → Tells (D.view disk.old) bytes → 8192 ≤ length bytes → Counts bytes len result }
+    ensures answers { (bytes : List ℕ) → Tells (D.view disk.old) bytes → 8192 ≤ length bytes
+        → (moved ≡ false → head.now ≡ head_of bytes) → Counts bytes len result }
     ensures alone { IsOpenAnswer result }
     ensures small { IfOk result (λ home. (2 ≤ home) × (4096 * home ≤ len)) }
     ensures stays { Stays (D.view disk.old) (D.view disk.new) }
     ensures formatted { IsErrOf result NotFormatted → ⊥ }
+    ensures unread { moved ≡ false → (D.view disk.new).reads ≡ (D.view disk.old).reads }
+    ensures reads { ReadsAtMost 1 8192 (D.view disk.old) (D.view disk.new) }
     ensures cause { HasDiskCause (D.view disk.old).faults (D.view disk.new).faults result }
 {
-    let home = read_number(disk, ROOT_AT)?;
+    let home = home_number(disk, head, moved)?;
     if !holds(home, len) {
         return Err(StoreFault::BadStore { page: 1 });
     }
     Ok(home)
+}
+
+// The number of home pages as the root tells it.
+fn home_number<D: Disk>(disk: &mut D, head: &[u8; HEAD], moved: bool) -> Result<u64, Failed>
+    ensures value { IfOk result (λ value. (bytes : List ℕ) → Tells (D.view disk.old) bytes → 8192 ≤ length bytes
+        → (moved ≡ false → head.now ≡ head_of bytes) → value ≡ number bytes ROOT_AT) }
+    ensures stays { Stays (D.view disk.old) (D.view disk.new) }
+    ensures unread { moved ≡ false → (D.view disk.new).reads ≡ (D.view disk.old).reads }
+    ensures reads { ReadsAtMost 1 8192 (D.view disk.old) (D.view disk.new) }
+    ensures cause { HasCause (D.view disk.old).faults (D.view disk.new).faults result }
+{
+    if moved {
+        let home = read_number(disk, ROOT_AT)?;
+        return Ok(home);
+    }
+    Ok(number_in(head, ROOT_AT as usize))
 }
 
 // Whether so many bytes hold so many pages, at least two.
@@ -97,24 +135,31 @@ fn holds(home: u64, len: u64) -> bool
 }
 
 // Finishes the journal, where the gate is open.
-fn finish<D: Disk>(disk: &mut D, len: u64) -> Result<(), StoreFault>
+fn finish<D: Disk>(disk: &mut D, head: &[u8; HEAD], len: u64) -> Result<bool, StoreFault>
     requires { len ≤ 2 ^ 62 }
     ensures answers { (bytes : List ℕ) → Tells (D.view disk.old) bytes → IsFormatted bytes → len ≡ length bytes
-        → Finishes bytes result }
+        → head.now ≡ head_of bytes → Finishes bytes result }
     ensures alone { IsOpenAnswer result }
     ensures done { OnOk result ((bytes : List ℕ) → Tells (D.view disk.old) bytes → Only bytes (D.view disk.old).crashes
-        → IsFormatted bytes → len ≡ length bytes
+        → IsFormatted bytes → len ≡ length bytes → head.now ≡ head_of bytes
         → (now : List ℕ) × Tells (D.view disk.new) now × Only now (D.view disk.new).crashes × Finished bytes now) }
     ensures any_moment { (bytes : List ℕ) (pages : List (List ℕ)) → Tells (D.view disk.old) bytes
-        → Only bytes (D.view disk.old).crashes → len ≡ length bytes → Home pages bytes
+        → Only bytes (D.view disk.old).crashes → len ≡ length bytes → Home pages bytes → head.now ≡ head_of bytes
         → Goes (Home pages) (D.view disk.old).crashes (D.view disk.new).crashes }
+    ensures idle { IfOk result (λ moved. moved ≡ false → Stays (D.view disk.old) (D.view disk.new)) }
+    ensures looked { (bytes : List ℕ) → Tells (D.view disk.old) bytes → IsFormatted bytes → len ≡ length bytes
+        → head.now ≡ head_of bytes → ¬ HasOpenJournal bytes → Stays (D.view disk.old) (D.view disk.new) }
+    ensures shut { (bytes : List ℕ) → IsFormatted bytes → head.now ≡ head_of bytes → gate bytes ≢ OPEN
+        → IfOk result (λ moved. moved ≡ false) × ((D.view disk.new).reads ≡ (D.view disk.old).reads) }
+    ensures reads { (bytes : List ℕ) → IsFormatted bytes → len ≡ length bytes → head.now ≡ head_of bytes
+        → ReadsAtMost (3 * page_count bytes) (length bytes) (D.view disk.old) (D.view disk.new) }
     ensures formatted { IsErrOf result NotFormatted → ⊥ }
     ensures cause { HasDiskCause (D.view disk.old).faults (D.view disk.new).faults result }
 {
-    match look(disk, len) {
-        Ok(None) => Ok(()),
+    match look(disk, head, len) {
+        Ok(None) => Ok(false),
         Ok(Some((first, count))) => match copy_and_shut(disk, first, count) {
-            Ok(()) => Ok(()),
+            Ok(()) => Ok(true),
             Err(Failed) => Err(StoreFault::DiskFault),
         },
         Err(fault) => Err(fault),
@@ -123,22 +168,32 @@ fn finish<D: Disk>(disk: &mut D, len: u64) -> Result<(), StoreFault>
 
 // The first page of the journal and the number of its pages, where the gate is open.
 #[tactic(auto, using(crate::proofs::Moments::looks))]
-fn look<D: Disk>(disk: &mut D, len: u64) -> Result<Option<(u64, u64)>, StoreFault>
+fn look<D: Disk>(
+    disk: &mut D,
+    head: &[u8; HEAD],
+    len: u64,
+) -> Result<Option<(u64, u64)>, StoreFault>
     requires { len ≤ 2 ^ 62 }
     ensures answers { (bytes : List ℕ) → Tells (D.view disk.old) bytes → IsFormatted bytes → len ≡ length bytes
-        → Looks bytes result }
+        → head.now ≡ head_of bytes → Looks bytes result }
+    ensures found { (bytes : List ℕ) → IsFormatted bytes → head.now ≡ head_of bytes
+        → IfOk result (λ found. IfSome found (λ (first, count). (first ≡ first_page bytes) × (count ≡ page_count bytes))) }
+    ensures shut { (bytes : List ℕ) → IsFormatted bytes → head.now ≡ head_of bytes → gate bytes ≢ OPEN
+        → IfOk result (λ found. found ≡ None) × ((D.view disk.new).reads ≡ (D.view disk.old).reads) }
+    ensures reads { (bytes : List ℕ) → IsFormatted bytes → len ≡ length bytes → head.now ≡ head_of bytes
+        → ReadsAtMost (page_count bytes) (length bytes) (D.view disk.old) (D.view disk.new) }
     ensures alone { IsOpenAnswer result }
-    ensures room { IfOk result (λ found. IfSome found (λ (first, count). 4096 * (first + number_pages count + count) ≤ 2 ^ 62)) }
+    ensures room { IfOk result (λ found. IfSome found (λ (first, count). 4096 * (first + number_pages count + count) ≤ len)) }
     ensures stays { Stays (D.view disk.old) (D.view disk.new) }
     ensures formatted { IsErrOf result NotFormatted → ⊥ }
     ensures cause { HasDiskCause (D.view disk.old).faults (D.view disk.new).faults result }
 {
-    let value = read_gate(disk)?;
+    let value = gate_in(head);
     if value != OPEN {
         return Ok(None);
     }
-    let first = read_number(disk, FIRST_AT)?;
-    let count = read_number(disk, COUNT_AT)?;
+    let first = number_in(head, FIRST_AT as usize);
+    let count = number_in(head, COUNT_AT as usize);
     if !fits(first, count, len) {
         return Err(StoreFault::BadStore { page: 0 });
     }
@@ -168,6 +223,7 @@ fn rises<D: Disk>(disk: &mut D, first: u64, count: u64) -> Result<bool, Failed>
     ensures rises { IfOk result (λ yes. (bytes : List ℕ) → Tells (D.view disk.old) bytes
         → 4096 * (first + number_pages count + count) ≤ length bytes → IsTrue yes ↔ AreRising bytes first count) }
     ensures stays { Stays (D.view disk.old) (D.view disk.new) }
+    ensures reads { ReadsAtMost count (4096 * (first + number_pages count + count)) (D.view disk.old) (D.view disk.new) }
     ensures cause { HasCause (D.view disk.old).faults (D.view disk.new).faults result }
 {
     let mut last = 0;
@@ -197,6 +253,7 @@ fn copy_and_shut<D: Disk>(disk: &mut D, first: u64, count: u64) -> Result<(), Fa
         → Only bytes (D.view disk.old).crashes → Home pages bytes → gate bytes ≡ OPEN
         → first ≡ first_page bytes → count ≡ page_count bytes
         → Goes (Home pages) (D.view disk.old).crashes (D.view disk.new).crashes }
+    ensures reads { ReadsAtMost (2 * count) (4096 * (first + number_pages count + count)) (D.view disk.old) (D.view disk.new) }
     ensures cause { HasCause (D.view disk.old).faults (D.view disk.new).faults result }
 {
     copy_home(disk, first, count)?;
@@ -215,6 +272,7 @@ fn copy_home<D: Disk>(disk: &mut D, first: u64, count: u64) -> Result<(), Failed
         → first ≡ first_page bytes → count ≡ page_count bytes
         → Within (Spares (BesidePages count (entry bytes)) bytes) (D.view disk.old).crashes
         → Goes (Spares (BesidePages count (entry bytes)) bytes) (D.view disk.old).crashes (D.view disk.new).crashes }
+    ensures reads { ReadsAtMost (2 * count) (4096 * (first + number_pages count + count)) (D.view disk.old) (D.view disk.new) }
     ensures cause { HasCause (D.view disk.old).faults (D.view disk.new).faults result }
 {
     let bodies = (first + number_page_count(count)) * PAGE_LEN;
@@ -238,6 +296,7 @@ fn copy_page<D: Disk>(disk: &mut D, from: u64, to: u64) -> Result<(), Failed>
         → Tells (D.view disk.new) (overlaid to (page_from bytes from) bytes)) }
     ensures torn { Follows (Torn to 4096) (D.view disk.old).crashes (D.view disk.new).crashes }
     ensures time { Elapses (D.view disk.old).crashes (D.view disk.new).crashes }
+    ensures reads { ReadsAtMost 1 (from + 4096) (D.view disk.old) (D.view disk.new) }
     ensures cause { HasCause (D.view disk.old).faults (D.view disk.new).faults result }
 {
     let mut page = [0; PAGE];

@@ -49,4 +49,14 @@ impl PageSet {
         self.pages.insert(page, copy)?;
         Ok(())
     }
+
+    /// Sets one page, whose bytes are taken over and not copied. Where it fails, the set is as it was.
+    pub fn put_owned(&mut self, page: u64, bytes: Vec<u8>) -> Result<(), OutOfMemory>
+        requires { length bytes.items ≡ 4096 }
+        ensures ok { OnOk result (self.new ≡ map.insert self.old page bytes.items) }
+        ensures err { OnErr result (self.new ≡ self.old) }
+    {
+        self.pages.insert(page, bytes)?;
+        Ok(())
+    }
 }

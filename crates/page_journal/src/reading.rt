@@ -1,10 +1,10 @@
-//! Numbers and the gate, read from the disk.
-ghost use Rattle.std.specs.Prelude.{◌≡◌, ◌+◌, ◌*◌, ◌^◌, ◌<◌, ◌≤◌, List, ℕ, length, IfOk};
+//! Numbers, the first two pages and the gate, read from the disk.
+ghost use Rattle.std.specs.Prelude.{◌≡◌, ◌+◌, ◌*◌, ◌^◌, ◌<◌, ◌≤◌, List, ℕ, length, option_map, IfOk, OnOk};
 ghost use Rattle.outside.specs.Causes.{HasCause};
-ghost use Rattle.outside.specs.Disk.{Tells, Stays};
-ghost use Rattle.page_journal.specs.Pages.{gate, number, page_from};
+ghost use Rattle.outside.specs.Disk.{Tells, Stays, one_read};
+ghost use Rattle.page_journal.specs.Pages.{gate, head_of, number};
 
-use crate::layout::GATE_AT;
+use crate::layout::{GATE_AT, HEAD};
 use outside::{Disk, Failed};
 
 /// The number that stands at this byte.
@@ -14,6 +14,7 @@ pub fn read_number<D: Disk>(disk: &mut D, at: u64) -> Result<u64, Failed>
     ensures value { IfOk result (λ value. (bytes : List ℕ) → Tells (D.view disk.old) bytes → at + 8 ≤ length bytes
         → value ≡ number bytes at) }
     ensures stays { Stays (D.view disk.old) (D.view disk.new) }
+    ensures reads { (D.view disk.new).reads ≡ option_map (one_read at 8) (D.view disk.old).reads }
     ensures cause { HasCause (D.view disk.old).faults (D.view disk.new).faults result }
 {
     let mut bytes = [0; 8];
@@ -21,16 +22,32 @@ pub fn read_number<D: Disk>(disk: &mut D, at: u64) -> Result<u64, Failed>
     Ok(u64::from_le_bytes(bytes))
 }
 
-/// The gate.
+/// Moves the first two pages into the buffer, in one read.
 #[tactic(auto, using(crate::proofs::Moments::looks))]
-pub fn read_gate<D: Disk>(disk: &mut D) -> Result<u8, Failed>
-    ensures value { IfOk result (λ value. (bytes : List ℕ) → Tells (D.view disk.old) bytes → 4096 ≤ length bytes
-        → value ≡ gate bytes) }
+pub fn read_head<D: Disk>(disk: &mut D, head: &mut [u8; HEAD]) -> Result<(), Failed>
+    ensures head { OnOk result ((bytes : List ℕ) → Tells (D.view disk.old) bytes → 8192 ≤ length bytes
+        → head.new ≡ head_of bytes) }
     ensures stays { Stays (D.view disk.old) (D.view disk.new) }
+    ensures reads { (D.view disk.new).reads ≡ option_map (one_read 0 8192) (D.view disk.old).reads }
     ensures cause { HasCause (D.view disk.old).faults (D.view disk.new).faults result }
 {
-    let mut bytes = [0; 1];
-    disk.read_at(GATE_AT, &mut bytes)?;
-    let [value] = bytes;
-    Ok(value)
+    disk.read_at(0, head.as_mut_slice())?;
+    Ok(())
+}
+
+/// A number of the first two pages.
+pub fn number_in(head: &[u8; HEAD], at: usize) -> u64
+    requires { at + 8 ≤ 8192 }
+    ensures value { (bytes : List ℕ) → 8192 ≤ length bytes → head.now ≡ head_of bytes → result ≡ number bytes at }
+{
+    let mut number = [0; 8];
+    number.copy_from_slice(&head[at..at + 8]);
+    u64::from_le_bytes(number)
+}
+
+/// The gate.
+pub fn gate_in(head: &[u8; HEAD]) -> u8
+    ensures value { (bytes : List ℕ) → 8192 ≤ length bytes → head.now ≡ head_of bytes → result ≡ gate bytes }
+{
+    head[GATE_AT as usize]
 }

@@ -8,12 +8,14 @@ use Rattle.page_journal.proofs.Finishing.{bodies_of, number_fits, copy_to, body_
 use Rattle.page_journal.proofs.Moments.{started, goes_stays, goes_quiet}
 use Rattle.page_journal.proofs.Parts.{home_none, home_more, beside_page}
 use Rattle.page_journal.proofs.Places.{goes_write}
+use Rattle.page_journal.proofs.ReadCounts.{reads_none, reads_one, reads_then, reads_more}
 use Rattle.page_journal.proofs.opening.copy_home.Goals as goal
 
 pub loop-place-init : goal.loop-place-init
 loop-place-init g c = record {
   put = λ bytes told well first-is count-is. (bytes, told, home_none (entry bytes) (bodies_of bytes) bytes);
   crash = λ bytes told well first-is count-is within. started (Spares (BesidePages c.args.count (entry bytes)) bytes) _ within;
+  reads = reads_none 0 _ _ _ refl;
   later = omega arith;
 }
 
@@ -54,6 +56,14 @@ loop-place-preserved g c = record {
       goes_write (BesidePages count (entry bytes)) bytes to 4096 _ _ _
       (goes_stays (Spares (BesidePages count (entry bytes)) bytes) _ _ _ (c.loop-place.invariant.crash bytes told well first-is count-is within) c.read_number.ensures.stays)
       c.copy_page.ensures.time c.copy_page.ensures.torn (beside_page count (entry bytes) place to 4096 inside to-is refl);
+  reads =
+      let place = c.loop-place.place in
+      let first = c.args.first in
+      let end = 4096 * (first + number_pages c.args.count + c.args.count) in
+      let one = reads_one (first * 4096 + 8 * place) 8 end _ _ (omega (arith, c.loop-place-test.true)) c.read_number.ensures.reads in
+      let two = reads_more 1 1 _ end _ _ (omega arith) (omega (arith, c.loop-place-test.true, c.number_page_count.ensures)) c.copy_page.ensures.reads in
+      reads_more (2 * place + (1 + 1)) (2 * (place + 1)) end end _ _ (omega arith) (omega arith)
+      (reads_then (2 * place) (1 + 1) end _ _ _ c.loop-place.invariant.reads (reads_then 1 1 end _ _ _ one two));
   later = omega (arith, c.loop-place.invariant.later, c.read_number.ensures.cause.later, c.copy_page.ensures.cause.later);
 }
 

@@ -1,8 +1,8 @@
-use Rattle.std.proofs.Common.{◌≡◌, ◌≤◌, List, ℕ}
-use Rattle.outside.specs.Disk.{Tells, Goes, Within}
+use Rattle.std.proofs.Common.{◌≡◌, ◌+◌, ◌*◌, ◌≤◌, List, ℕ}
+use Rattle.outside.specs.Disk.{Goes, ReadsAtMost, Tells, Within}
 use Rattle.page_journal.specs.Crash.{BesidePages, Spares}
 use Rattle.page_journal.specs.Home.{IsWellFormed}
-use Rattle.page_journal.specs.Pages.{entry, body_at, first_page, page_count, page_from}
+use Rattle.page_journal.specs.Pages.{entry, body_at, first_page, number_pages, page_count, page_from}
 use Rattle.page_journal.specs.Written.{HomePut}
 use Rattle.page_journal.proofs.opening.copy_home.Given as goal
 
@@ -16,5 +16,6 @@ invariant-loop-place g l =
       crash : (bytes : List ℕ) → Tells old bytes → IsWellFormed bytes → l.first ≡ first_page bytes → l.count ≡ page_count bytes
           → Within (Spares (BesidePages l.count (entry bytes)) bytes) old.crashes
           → Goes (Spares (BesidePages l.count (entry bytes)) bytes) old.crashes now.crashes;
+      reads : ReadsAtMost (2 * l.place) (4096 * (l.first + number_pages l.count + l.count)) old now;
       later : old.faults ≤ now.faults;
     }

@@ -1,7 +1,8 @@
-use Rattle.std.proofs.Common.{◌≡◌, ℕ, ◌+◌, ◌-◌, ◌*◌, ap, sym, ◌∙◌, arith}
+use Rattle.std.proofs.Common.{◌≡◌, ℕ, ◌+◌, ◌-◌, ◌*◌, ap, sym, ◌∙◌, arith, refl}
 use Rattle.page_journal.specs.Pages.{number}
 use Rattle.page_journal.proofs.Finishing.{rising_none, rising_more}
 use Rattle.page_journal.proofs.Moments.{stays_same, stays_then}
+use Rattle.page_journal.proofs.ReadCounts.{reads_none, reads_one, reads_then}
 use Rattle.page_journal.proofs.opening.rises.Goals as goal
 
 pub loop-place-init : goal.loop-place-init
@@ -10,6 +11,7 @@ loop-place-init g c = record {
   zero = λ is. is;
   last = λ bytes told long some. absurd (omega (arith, some));
   stays = stays_same _;
+  reads = reads_none 0 _ _ _ refl;
   later = omega arith;
 }
 
@@ -31,5 +33,7 @@ loop-place-preserved g c =
           c.in_ok-number.ensures.value bytes (so_far.stays.content ∙ told) (omega (arith, long, c.loop-place-test.true))
           ∙ ap (λ (at : ℕ). number bytes at) at-is ∙ ap (λ (n : ℕ). number bytes (4096 * first + 8 * n)) (sym back);
       stays = stays_then _ _ _ so_far.stays c.read_number.ensures.stays;
+      reads = reads_then place 1 _ _ _ _ so_far.reads
+          (reads_one (first * 4096 + 8 * place) 8 _ _ _ (omega (arith, c.loop-place-test.true)) c.read_number.ensures.reads);
       later = omega (arith, so_far.later, c.read_number.ensures.cause.later);
     }

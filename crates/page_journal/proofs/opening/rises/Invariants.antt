@@ -1,5 +1,5 @@
 use Rattle.std.proofs.Common.{◌≡◌, ◌+◌, ◌-◌, ◌*◌, ◌<◌, ◌≤◌, List, ℕ, length}
-use Rattle.outside.specs.Disk.{Tells, Stays}
+use Rattle.outside.specs.Disk.{ReadsAtMost, Stays, Tells}
 use Rattle.page_journal.specs.Home.{AreRising}
 use Rattle.page_journal.specs.Pages.{number, number_pages}
 use Rattle.page_journal.proofs.opening.rises.Given as goal
@@ -15,5 +15,6 @@ invariant-loop-place g l =
       last : (bytes : List ℕ) → Tells old bytes → 4096 * (l.first + number_pages l.count + l.count) ≤ length bytes
           → 0 < l.place → l.last ≡ number bytes (4096 * l.first + 8 * (l.place - 1));
       stays : Stays old now;
+      reads : ReadsAtMost l.place (4096 * (l.first + number_pages l.count + l.count)) old now;
       later : old.faults ≤ now.faults;
     }

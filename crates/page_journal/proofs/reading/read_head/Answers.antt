@@ -1,0 +1,8 @@
+use Rattle.std.proofs.Common.{◌≡◌, length, rules}
+use Rattle.page_journal.proofs.Bytes.{head_read}
+use Rattle.page_journal.proofs.reading.read_head.Goals as goal
+
+pub returns-clause-head : goal.returns-clause-head
+returns-clause-head g c = λ bytes told fits.
+    let long : length c.as_mut_slice.result.now ≡ 8192 = search rules in
+    head_read bytes c.as_mut_slice.result.now c.read_at.new.buf _ long fits (c.in_ok-read_at.ensures.bytes bytes told)
