@@ -9,17 +9,29 @@ use std::alloc::{AllocError, Global};
 const MAX_FILES: usize = 5_000;
 
 /// A run: its words, the files by the numbers of their words, what the disk holds, how often it is done one
-/// after another, and the call of the files, of the disk and of the output from which on all fail, or 0.
+/// after another, and which calls of the files, of the disk and of the output fail.
 #[derive(Drop)]
 pub struct Example {
     pub words: Vec<String>,
     pub files: Vec<Vec<u8>>,
     pub held: Vec<u8>,
     pub times: u64,
-    pub inputs_fail: u64,
-    pub disk_fails: u64,
-    pub output_fails: u64,
+    pub inputs: Plan,
+    pub disk: Plan,
+    pub output: Plan,
     pub wanted: Wanted,
+}
+
+/// Which calls fail: the one with a number, and all from a number on. 0 is no call.
+#[derive(Clone, Copy)]
+pub struct Plan {
+    pub at: u64,
+    pub from: u64,
+}
+
+impl Plan {
+    /// No call fails.
+    const NEVER: Plan = Plan { at: 0, from: 0 };
 }
 
 impl Example {
@@ -30,9 +42,9 @@ impl Example {
             files: Vec::new(alloc),
             held: Vec::new(alloc),
             times: 1,
-            inputs_fail: 0,
-            disk_fails: 0,
-            output_fails: 0,
+            inputs: Plan::NEVER,
+            disk: Plan::NEVER,
+            output: Plan::NEVER,
             wanted: Wanted::new(alloc),
         }
     }
@@ -48,9 +60,12 @@ impl Example {
             },
             "disk" => push_bytes(alloc, &mut self.held, "part", text),
             "times" => Ok(set_number(&mut self.times, text)),
-            "inputs-fail-from" => Ok(set_number(&mut self.inputs_fail, text)),
-            "disk-fails-from" => Ok(set_number(&mut self.disk_fails, text)),
-            "output-fails-from" => Ok(set_number(&mut self.output_fails, text)),
+            "inputs-fail-from" => Ok(set_number(&mut self.inputs.from, text)),
+            "inputs-fail-at" => Ok(set_number(&mut self.inputs.at, text)),
+            "disk-fails-from" => Ok(set_number(&mut self.disk.from, text)),
+            "disk-fails-at" => Ok(set_number(&mut self.disk.at, text)),
+            "output-fails-from" => Ok(set_number(&mut self.output.from, text)),
+            "output-fails-at" => Ok(set_number(&mut self.output.at, text)),
             _ => self.wanted.set(alloc, word, text),
         }
     }

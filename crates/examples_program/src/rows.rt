@@ -1,6 +1,6 @@
 //! What the rows of a run add to it. False, or `None`: a row is not in its form.
 
-use example_table::{bytes_of, number_of, row_of, text_of, words_of};
+use example_table::{bytes_of, number_of, text_of, words_of};
 use std::alloc::{AllocError, Global};
 
 /// Sets a number.

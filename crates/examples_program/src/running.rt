@@ -1,6 +1,6 @@
 //! The run of an example, over files, a disk and an output in memory.
 
-use crate::example::Example;
+use crate::example::{Example, Plan};
 use crate::wanted::{Piece, Wanted};
 use osm_base::{Bytes, FileList, Ids};
 use outside::{Fails, MemDisk, MemInputs, MemSink};
@@ -23,16 +23,18 @@ pub fn difference<R: Threads + Wait + Sync>(
         files,
         held,
         times,
-        inputs_fail,
-        disk_fails,
-        output_fails,
+        inputs,
+        disk,
+        output,
         wanted,
         ..
     } = example;
-    let files = files_of(alloc, files)?;
-    let mut inputs = MemInputs::new(files, fails_from(alloc, inputs_fail));
-    let mut disk = disk_of(alloc, held, fails_from(alloc, disk_fails));
-    let mut out = MemSink::new(alloc, fails_from(alloc, output_fails));
+    let inputs_fail = fails_of(alloc, inputs)?;
+    let disk_fails = fails_of(alloc, disk)?;
+    let output_fails = fails_of(alloc, output)?;
+    let mut inputs = MemInputs::new(files_of(alloc, files)?, inputs_fail);
+    let mut disk = disk_of(alloc, held, disk_fails);
+    let mut out = MemSink::new(alloc, output_fails);
     let outcome = outcome_of(rt, alloc, times, &words, &mut inputs, &mut disk, &mut out);
     compared(alloc, &words, &outcome, out.taken(), disk.bytes(), &wanted)
 }
@@ -104,9 +106,13 @@ fn files_of(alloc: Global, files: Vec<Vec<u8>>) -> Result<FileList, AllocError> 
     Ok(FileList::from_vec(list))
 }
 
-/// The plan by which all calls fail from this one on, or none for 0.
-fn fails_from(alloc: Global, from: u64) -> Fails {
-    Fails::new(Ids::new(alloc), from)
+/// The calls that fail by a plan.
+fn fails_of(alloc: Global, plan: Plan) -> Result<Fails, AllocError> {
+    let mut at = Vec::new(alloc);
+    if plan.at > 0 {
+        at.push(plan.at)?;
+    }
+    Ok(Fails::new(Ids::from_vec(at), plan.from))
 }
 
 /// A disk that holds these bytes, where they are not too many.
