@@ -5,6 +5,7 @@ use crate::wanted::{Piece, Wanted};
 use osm_base::{Bytes, FileList, Ids};
 use outside::{Fails, MemDisk, MemInputs, MemSink};
 use std::alloc::{AllocError, Global};
+use std::str;
 use std::sync::Wait;
 use std::thread::Threads;
 use updater::{Outcome, fault_line, run, store_of};
@@ -76,7 +77,10 @@ fn compared(
         return Ok(Some(format!(in alloc; "the store is {store}")?));
     }
     if printed != wanted.printed.as_slice() {
-        return Ok(Some(format!(in alloc; "it prints {printed:?}")?));
+        return Ok(Some(match str::from_utf8(printed) {
+            Ok(text) => format!(in alloc; "it prints {text:?}")?,
+            Err(_) => format!(in alloc; "it prints {printed:?}")?,
+        }));
     }
     if disk.len() as u64 != wanted.disk_bytes {
         return Ok(Some(format!(in alloc; "the disk has {} bytes", disk.len())?));
