@@ -16,7 +16,7 @@ use Rattle.opl_object.specs.declared.why.Why.{Why}
 use Rattle.opl_object.specs.declared.why.Why.TheVariants as causes
 use Rattle.opl_object.specs.Why.{number_of}
 use Rattle.updater.specs.declared.fault.Fault.{Fault}
-use Rattle.updater.specs.declared.fault.Fault.TheVariants.{Usage, Malformed, Limit, ReadFault, NotEmpty, WriteFault, DiskFault, OutOfMemory}
+use Rattle.updater.specs.declared.fault.Fault.TheVariants.{Usage, Malformed, Limit, ReadFault, NotFormatted, NotEmpty, BadStore, WriteFault, DiskFault, OutOfMemory}
 use Rattle.updater.specs.Faults.{fault_text, kind_text, key_text, limit_text, order_text}
 
 IsAscii-cons : (byte : ℕ) (bytes : List ℕ) → byte < 128 → IsAscii bytes → IsAscii (byte ∷ bytes)
@@ -101,7 +101,9 @@ IsAscii-fault_text (Limit which value) =
     let before : IsAscii (codes "limit " ++ limit_text which ++ codes " value ") = IsAscii-append (codes "limit " ++ limit_text which) (codes " value ") name (IsAscii-words (codes " value ") refl) in
     IsAscii-append (codes "limit " ++ limit_text which ++ codes " value ") (decimal value) before (IsAscii-any_decimal value)
 IsAscii-fault_text (ReadFault file) = IsAscii-append (codes "read fault file ") (decimal file) (IsAscii-words (codes "read fault file ") refl) (IsAscii-any_decimal file)
+IsAscii-fault_text NotFormatted = IsAscii-words (codes "not formatted") refl
 IsAscii-fault_text NotEmpty = IsAscii-words (codes "not empty") refl
+IsAscii-fault_text (BadStore page) = IsAscii-append (codes "bad store page ") (decimal page) (IsAscii-words (codes "bad store page ") refl) (IsAscii-any_decimal page)
 IsAscii-fault_text WriteFault = IsAscii-words (codes "write fault") refl
 IsAscii-fault_text DiskFault = IsAscii-words (codes "disk fault") refl
 IsAscii-fault_text OutOfMemory = IsAscii-words (codes "out of memory") refl

@@ -4,8 +4,12 @@ pub mod WordLists
 pub mod KindLines
 pub mod LinesKept
 pub mod PointLaw
-pub mod FilesLaws
-pub mod RunLaws
+pub mod CourseLaws
+pub mod CommandRuns
+pub mod Deeds
+pub mod InitRuns
+pub mod TurnLaws
+pub mod Turns
 pub mod KeptLines
 pub mod WayLaws
 pub mod KeptLaws

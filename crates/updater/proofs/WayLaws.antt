@@ -27,7 +27,7 @@ use Rattle.dep_closure.specs.Ways.{line_of, Leaves}
 use Rattle.updater.specs.KeptChange.{kept_object, kept_entry, with_entry}
 use Rattle.updater.specs.LinesById.{LineMap, set_line, text_of}
 use Rattle.updater.specs.LinesText.{way_row, object_row, of_way, lines_text}
-use Rattle.updater.specs.WayLines.{some_line, way_key, row_at, AreRows, AreLines, after_way}
+use Rattle.updater.specs.WayLines.{some_line, way_key, row_at, AreRows, after_way}
 use Rattle.updater.proofs.KindLines.{same_id, text-entries, lines_in, get-lines_in}
 
 of_way-cond : (kind : Kind) (text : List ℕ) → cond (is_kind kinds.Way kind) text [] ≡ of_way kind text
@@ -42,13 +42,10 @@ text-lines key objects lines rows =
     ∙ λ i. flat_map (λ (entry : KeyOf × Object). of_way-cond entry.0.kind (object_row key (known_of objects).place entry.0.id (Some entry.1)) i) (finite.entries objects)
 
 -- no line is right for no object
-pub no-lines : (key : List ℕ) (objects : ObjectSet) (lines : LineMap) → objects ≡ finite.empty → lines ≡ finite.empty → AreLines key objects lines false
-no-lines key objects lines none no_line = record {
-  rows = λ id.
-      ap (λ (own : LineMap). finite.get own id) no_line ∙ finite.get-empty nat_cmp id
-      ∙ sym (ap (λ found. some_line (object_row key (known_of objects).place id found)) (ap (λ (own : ObjectSet). finite.get own (way_key id)) none ∙ finite.get-empty key_cmp (way_key id)));
-  first = λ _. none;
-}
+pub no-lines : (key : List ℕ) (objects : ObjectSet) (lines : LineMap) → objects ≡ finite.empty → lines ≡ finite.empty → AreRows key objects lines
+no-lines key objects lines none no_line id =
+    ap (λ (own : LineMap). finite.get own id) no_line ∙ finite.get-empty nat_cmp id
+    ∙ sym (ap (λ found. some_line (object_row key (known_of objects).place id found)) (ap (λ (own : ObjectSet). finite.get own (way_key id)) none ∙ finite.get-empty key_cmp (way_key id)))
 
 -- the line of text by the object and its line
 abbrev row_by : List ℕ → ℕ → Option Object → Option Line → List ℕ

@@ -1,20 +1,24 @@
--- Why a run over files ended early.
-use Rattle.std.specs.Prelude.{◌≤◌, ◌<◌, ◌+◌}
+-- When each fault comes: the words, the bytes or the failed call that is to blame for it.
+use Rattle.std.specs.Prelude.{◌≡◌, ◌≢◌, ℕ, length, Some, None, Err}
+use Rattle.outside.specs.Bytes.{IfTold}
 use Rattle.updater.specs.declared.fault.Fault.{Fault}
-use Rattle.updater.specs.declared.fault.Fault.TheVariants.{Usage, Malformed, Limit, ReadFault, NotEmpty, WriteFault, DiskFault, OutOfMemory}
-use Rattle.updater.specs.declared.files.Files.{Files}
+use Rattle.updater.specs.declared.fault.Fault.TheVariants.{Usage, Malformed, Limit, ReadFault, NotFormatted, NotEmpty, BadStore, WriteFault, DiskFault, OutOfMemory}
+use Rattle.updater.specs.Command.{CommandOf, Names, store_of}
+use Rattle.updater.specs.Files.{change_in}
+use Rattle.updater.specs.World.{World, Before, ReadFailed, WriteFailed, DiskFailed}
 
--- a file has this fault, a read of one of the files failed, the output failed, or memory ran out
-abbrev pub Ends : Files → (found : Fault → Type 0) → (read written : Type 0) → Fault → Type 0
-Ends files found read written Usage = ⊥
-Ends files found read written (Malformed file line why) = found (Malformed file line why)
-Ends files found read written (Limit which value) = found (Limit which value)
-Ends files found read written (ReadFault file) = (files.first ≤ file) × (file < files.first + files.count) × read
-Ends files found read written NotEmpty = ⊥
-Ends files found read written WriteFault = written
-Ends files found read written DiskFault = ⊥
-Ends files found read written OutOfMemory = Unit {0}
+-- a file of the command has this fault, where it is told
+abbrev pub FileHas : CommandOf → Before → (file : ℕ) → Fault → Type 0
+FileHas command old file fault = Names command file × IfTold (old.left file) (λ bytes. change_in file bytes ≡ Err fault)
 
--- the same where nothing is written
-abbrev pub StopsFiles : Files → (found : Fault → Type 0) → (read : Type 0) → Fault → Type 0
-StopsFiles files found read fault = Ends files found read ⊥ fault
+abbrev pub Cause : CommandOf → Before → World → Fault → Type 0
+Cause command old new Usage = ⊥
+Cause command old new (Malformed file line why) = FileHas command old file (Malformed file line why)
+Cause command old new (Limit which value) = (file : ℕ) × FileHas command old file (Limit which value)
+Cause command old new (ReadFault file) = Names command file × ReadFailed old new
+Cause command old new NotFormatted = ⊥
+Cause command old new (BadStore page) = ⊥
+Cause command old new NotEmpty = (store_of (Some command) ≢ None) × IfTold old.content (λ bytes. length bytes ≢ 0)
+Cause command old new WriteFault = WriteFailed old new
+Cause command old new DiskFault = (store_of (Some command) ≢ None) × DiskFailed old new
+Cause command old new OutOfMemory = Unit {0}

@@ -3,7 +3,7 @@
 -- an option, up to the first word that is none. If that word is `--`, it is dropped. The words that remain are the form.
 -- An option has to belong to the command, to stand once and to have a value in range, and the form has to be the
 -- command's. Words that fit no command are a wrong use of the program, and so are more than MAX_WORDS.
-use Rattle.std.specs.Prelude.{ℕ, ◌+◌, ◌-◌, ◌≤◌, Bool, nat_lt, nat_le, ◌&&◌, if◌then◌else◌, Option, Some, None, List, [], ◌∷◌, length, drop, take_while, codes, nat_eq}
+use Rattle.std.specs.Prelude.{ℕ, ◌+◌, ◌-◌, ◌<◌, ◌≤◌, Bool, nat_lt, nat_le, ◌&&◌, if◌then◌else◌, Option, Some, None, List, [], ◌∷◌, length, drop, take_while, codes, nat_eq}
 use Rattle.std.specs.List.{prefix_len, starts_with}
 use Rattle.std.specs.Str.{bytes_eq}
 use Rattle.updater.specs.declared.words.Command.{Command}
@@ -28,10 +28,23 @@ abbrev pub store_of : Option CommandOf → Option (List ℕ)
 store_of (Some (init_of store)) = Some store
 store_of _ = None
 
--- the files of a command are numbered by its words
+-- the files that a command names, by the places of their words
+abbrev pub files_of : CommandOf → Files
+files_of (points_of key files) = files
+files_of (lines_of key files) = files
+files_of (init_of store) = record { first = 0; count = 0 }
+
+abbrev pub Names : CommandOf → ℕ → Type 0
+Names command file = ((files_of command).first ≤ file) × (file < (files_of command).first + (files_of command).count)
+
+-- there is a file at least, and each is numbered by a word
+pub record Fit (files : Files) : Type 0 where
+  pub some : 0 < files.count
+  pub few : files.first + files.count ≤ 8192
+
 abbrev pub FilesFit : CommandOf → Type 0
-FilesFit (points_of key files) = files.first + files.count ≤ 8192
-FilesFit (lines_of key files) = files.first + files.count ≤ 8192
+FilesFit (points_of key files) = Fit files
+FilesFit (lines_of key files) = Fit files
 FilesFit (init_of store) = Unit {0}
 
 -- what remains from the first on that fails a test

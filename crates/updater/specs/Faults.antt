@@ -8,15 +8,29 @@ use Rattle.osm_base.specs.Key.{KeyOf}
 use Rattle.opl_object.specs.declared.why.Why.{Why}
 use Rattle.opl_object.specs.declared.why.Why.TheVariants.{Order}
 use Rattle.opl_object.specs.Why.{number_of}
+use Rattle.page_journal.specs.declared.fault.StoreFault.{StoreFault}
+use Rattle.page_journal.specs.declared.fault.StoreFault.TheVariants as stores
 use Rattle.updater.specs.declared.fault.Fault.{Fault}
-use Rattle.updater.specs.declared.fault.Fault.TheVariants.{Usage, Malformed, Limit, ReadFault, NotEmpty, WriteFault, DiskFault, OutOfMemory}
+use Rattle.updater.specs.declared.fault.Fault.TheVariants.{Usage, Malformed, Limit, ReadFault, NotFormatted, NotEmpty, BadStore, WriteFault, DiskFault, OutOfMemory}
+
+-- the fault of a store, as that of a run
+abbrev pub fault_of : StoreFault → Fault
+fault_of stores.NotFormatted = NotFormatted
+fault_of stores.NotEmpty = NotEmpty
+fault_of (stores.BadStore page) = BadStore page
+fault_of stores.DiskFault = DiskFault
+fault_of (stores.StoreFull pages) = Limit kinds.Pages pages
+fault_of stores.Broken = DiskFault
+fault_of stores.OutOfMemory = OutOfMemory
 
 -- the status of a run with this fault, or with none
 abbrev pub status_of : Option Fault → ℕ
 status_of None = 0
 status_of (Some Usage) = 2
 status_of (Some (Malformed _ _ _)) = 3
+status_of (Some NotFormatted) = 6
 status_of (Some NotEmpty) = 6
+status_of (Some (BadStore _)) = 6
 status_of (Some (ReadFault _)) = 7
 status_of (Some WriteFault) = 8
 status_of (Some DiskFault) = 9
@@ -57,7 +71,9 @@ fault_text (Malformed file line why) =
     codes "malformed file " ++ decimal file ++ codes " line " ++ decimal line ++ codes " cause " ++ decimal (number_of why) ++ order_text why
 fault_text (Limit which value) = codes "limit " ++ limit_text which ++ codes " value " ++ decimal value
 fault_text (ReadFault file) = codes "read fault file " ++ decimal file
+fault_text NotFormatted = codes "not formatted"
 fault_text NotEmpty = codes "not empty"
+fault_text (BadStore page) = codes "bad store page " ++ decimal page
 fault_text WriteFault = codes "write fault"
 fault_text DiskFault = codes "disk fault"
 fault_text OutOfMemory = codes "out of memory"

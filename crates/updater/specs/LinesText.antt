@@ -12,7 +12,9 @@ use Rattle.osm_base.specs.declared.object.Object.{Object}
 use Rattle.osm_base.specs.declared.object.Object.TheVariants.{Way}
 use Rattle.piece_ends.specs.Pieces.{Line}
 use Rattle.line_build.specs.Points.{line}
-use Rattle.object_fold.specs.Fold.{ObjectSet}
+use Rattle.std.specs.Str.{chars}
+use Rattle.osm_base.specs.declared.object.Entry.{Entry}
+use Rattle.object_fold.specs.Fold.{ObjectSet, folded_all}
 use Rattle.object_fold.specs.Index.{known_of}
 use Rattle.updater.specs.CopyText.{copy_text}
 
@@ -52,3 +54,7 @@ of_way kinds.Relation text = []
 -- the lines of text of all ways, by rising id
 abbrev pub lines_text : (key : List ℕ) → ObjectSet → List ℕ
 lines_text key objects = flat_map (λ (at, object). of_way at.kind (object_row key (known_of objects).place at.id (Some object))) (map.entries objects)
+
+-- the text of the lines with this key of the objects that these entries make
+abbrev pub lines_text_of : List ℕ → List Entry → List ℕ
+lines_text_of key entries = lines_text (chars key) (folded_all map.empty entries)

@@ -10,7 +10,8 @@ use Rattle.osm_base.specs.declared.key.Kind.TheVariants as kinds
 use Rattle.osm_base.specs.declared.object.Object.{Object}
 use Rattle.osm_base.specs.declared.object.Object.TheVariants.{Node}
 use Rattle.osm_base.specs.declared.object.Entry.{Entry}
-use Rattle.object_fold.specs.Fold.{ObjectSet}
+use Rattle.std.specs.Str.{chars}
+use Rattle.object_fold.specs.Fold.{ObjectSet, folded_all}
 use Rattle.updater.specs.CopyText.{copy_text}
 use Rattle.osm_base.specs.Degrees.{degrees}
 
@@ -40,3 +41,7 @@ of_node kinds.Relation line = []
 -- the lines of all nodes, by rising id
 abbrev pub points_text : (key : List ℕ) → ObjectSet → List ℕ
 points_text key objects = flat_map (λ (at, object). of_node at.kind (object_line key at.id (Some object))) (map.entries objects)
+
+-- the text of the points with this key of the objects that these entries make
+abbrev pub points_text_of : List ℕ → List Entry → List ℕ
+points_text_of key entries = points_text (chars key) (folded_all map.empty entries)

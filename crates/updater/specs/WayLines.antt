@@ -50,11 +50,6 @@ no_ways key = record { key = key; objects = finite.empty }
 abbrev pub after_way : WaysRead → Entry → WaysRead
 after_way own next = record { key = own.key; objects = folded own.objects (kept_entry own.key next) }
 
--- the lines of text are right, and nothing is kept before the first file
-pub record AreLines (key : List ℕ) (objects : ObjectSet) (lines : LineMap) (imported : Bool) : Type 0 where
-  pub rows : AreRows key objects lines
-  pub first : imported ≡ false → objects ≡ finite.empty
-
 -- ids among which that of each way of these objects is
 pub record HoldWays (objects : ObjectSet) (ways : List ℕ) : Type 0 where
   pub ids : AllByRecursion IsId ways

@@ -1,11 +1,12 @@
 //! Why a run ended early, with its status and its line of text.
 ghost use Rattle.std.specs.Prelude.{◌≡◌, IfOk, [], ◌∷◌};
-ghost use Rattle.updater.specs.Faults.{fault_text, kind_text, status_of};
+ghost use Rattle.updater.specs.Faults.{fault_of, fault_text, kind_text, status_of};
 ghost use Rattle.updater.specs.Files.{fault_in};
 
 use object_fold::FileFault;
 use opl_object::Why;
 use osm_base::{Kind, LimitKind, OutOfMemory, Text};
+use page_journal::StoreFault;
 use std::alloc::Global;
 use std::error::Error;
 use std::fmt;
@@ -21,8 +22,12 @@ pub enum Fault {
     Limit { which: LimitKind, value: u64 },
     /// A file could not be read.
     ReadFault { file: u32 },
+    /// The disk holds no store.
+    NotFormatted,
     /// The store is to be made on a disk that holds bytes.
     NotEmpty,
+    /// This page shows that the store is damaged.
+    BadStore { page: u64 },
     /// The output took no more bytes.
     WriteFault,
     /// The disk of the store failed.
@@ -41,6 +46,23 @@ impl Fault {
             FileFault::Limit { which, value } => Fault::Limit { which, value },
             FileFault::ReadFault => Fault::ReadFault { file },
             FileFault::OutOfMemory => Fault::OutOfMemory,
+        }
+    }
+
+    /// The fault of a store.
+    pub fn in_store(fault: StoreFault) -> Self
+        ensures fault { result ≡ fault_of fault }
+    {
+        match fault {
+            StoreFault::NotFormatted => Fault::NotFormatted,
+            StoreFault::NotEmpty => Fault::NotEmpty,
+            StoreFault::BadStore { page } => Fault::BadStore { page },
+            StoreFault::StoreFull { pages } => Fault::Limit {
+                which: LimitKind::Pages,
+                value: pages,
+            },
+            StoreFault::DiskFault | StoreFault::Broken => Fault::DiskFault,
+            StoreFault::OutOfMemory => Fault::OutOfMemory,
         }
     }
 }
@@ -74,7 +96,7 @@ impl Outcome {
             None => 0,
             Some(Fault::Usage) => 2,
             Some(Fault::Malformed { .. }) => 3,
-            Some(Fault::NotEmpty) => 6,
+            Some(Fault::NotFormatted | Fault::NotEmpty | Fault::BadStore { .. }) => 6,
             Some(Fault::ReadFault { .. }) => 7,
             Some(Fault::WriteFault) => 8,
             Some(Fault::DiskFault) => 9,
@@ -129,7 +151,9 @@ impl fmt::Display for Fault {
                 LimitKind::Changes => write!(f, "limit changes value {value}"),
             },
             Fault::ReadFault { file } => write!(f, "read fault file {file}"),
+            Fault::NotFormatted => write!(f, "not formatted"),
             Fault::NotEmpty => write!(f, "not empty"),
+            Fault::BadStore { page } => write!(f, "bad store page {page}"),
             Fault::WriteFault => write!(f, "write fault"),
             Fault::DiskFault => write!(f, "disk fault"),
             Fault::OutOfMemory => write!(f, "out of memory"),

@@ -1,29 +1,33 @@
 //! The program as a library: it reads the words of the command line, does what they say and ends with a status.
 //!
-//! `run` does all of it over the traits of `outside`, and its contract is the promise of each
-//! command: on no fault the output took exactly the text that the definition gives, and each fault
-//! has its cause. Below `run`, `command_of` says what the words mean, `scan_files` reads the files
-//! one after another to their ends, `PointLines` keeps the line of each node with a tag and a place
-//! while they are read, `WayLines` the line of each way with the tag, of which a change builds again
-//! only those that it makes due, `init` makes a store, and a `Fault` has its status and its one line
-//! of text.
+//! `run` does all of it over the traits of `outside`, and its contract is the promise of each command,
+//! in two clauses for all of them: words that are no command touch nothing, and a command goes by its
+//! course. `specs/Courses.antt` says of each command what it does, in order; `specs/Comes.antt` and
+//! `specs/Leaves.antt` say once for all courses to which ends a run may come and what it leaves. The
+//! laws that follow for every command are the contracts of `ends_are_due` and `faults_come_in_turn`.
+//!
+//! Below `run`, `command_of` says what the words mean, and each command is a module of `commands`.
+//! `PointLines` keeps the row of each node with a tag and a place while files are read, `WayLines` the
+//! row of each way with the tag, of which a change builds again only those that it makes due. A `Fault`
+//! has its status and its one line of text.
 #![tactic(auto)]
 
+mod commands;
 mod copy_text;
 mod fault;
 mod files;
-mod init;
-mod kept;
 mod kept_change;
+mod laws;
 mod lines_by_id;
 mod point_lines;
 mod row;
 mod running;
-mod scan_files;
+mod telling;
 mod way_lines;
 mod way_row;
 mod words;
 
 pub use fault::{Fault, Outcome, fault_line};
+pub use laws::{ends_are_due, faults_come_in_turn};
 pub use running::run;
 pub use words::store_of;

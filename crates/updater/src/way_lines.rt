@@ -29,12 +29,11 @@ pub struct WayLines<'k> {
     key: &'k str,
     objects: Objects,
     lines: LinesById,
-    imported: bool,
 }
 
 impl<'k> Model for WayLines<'k> {
     ghost use Rattle.std.specs.Str.{chars};
-    ghost use Rattle.updater.specs.WayLines.{WaysRead, ways_code, AreLines};
+    ghost use Rattle.updater.specs.WayLines.{WaysRead, ways_code, AreRows};
 
     ghost Value = { WaysRead };
 
@@ -42,7 +41,7 @@ impl<'k> Model for WayLines<'k> {
 
     ghost view = { λ own. record { key = chars own.key.now; objects = own.objects } };
 
-    ghost invariant = { λ own. AreLines (chars own.key.now) own.objects own.lines own.imported };
+    ghost invariant = { λ own. AreRows (chars own.key.now) own.objects own.lines };
 }
 
 impl<'k> WayLines<'k> {
@@ -55,36 +54,7 @@ impl<'k> WayLines<'k> {
             key,
             objects: Objects::new(alloc),
             lines: LinesById::new(alloc),
-            imported: false,
         }
-    }
-
-    /// Whether the first file was taken.
-    pub fn is_imported(&self) -> bool
-        ensures none { result ≡ false → self.now ≡ no_ways self.now.key }
-    {
-        self.imported
-    }
-
-    /// What the first file is read into, for the key that is asked for.
-    pub fn begin_import(&self) -> WayImport<'k>
-        ensures start { result ≡ no_ways self.now.key }
-    {
-        WayImport {
-            alloc: self.alloc,
-            key: self.key,
-            objects: Objects::new(self.alloc),
-            ways: Vec::new(self.alloc),
-        }
-    }
-
-    /// Takes what was kept of the first file. After `Err` nothing has changed.
-    pub fn take_import(&mut self, import: WayImport<'k>) -> Result<(), OutOfMemory>
-        ensures ok { OnOk result (self.new ≡ import.entry) }
-        ensures err { OnErr result (self.new ≡ self.old) }
-    {
-        *self = import.into_lines()?;
-        Ok(())
     }
 
     /// What a file of changes is read into, for the key that is asked for.
@@ -123,7 +93,6 @@ impl<'k> WayLines<'k> {
             key,
             objects,
             lines,
-            imported: true,
         })
     }
 
@@ -159,8 +128,20 @@ impl<'k> Model for WayImport<'k> {
 }
 
 impl<'k> WayImport<'k> {
+    /// No object yet.
+    pub fn new(alloc: Global, key: &'k str) -> Self
+        ensures start { result ≡ no_ways (chars key.now) }
+    {
+        WayImport {
+            alloc,
+            key,
+            objects: Objects::new(alloc),
+            ways: Vec::new(alloc),
+        }
+    }
+
     /// The lines of the ways that were kept.
-    fn into_lines(self) -> Result<WayLines<'k>, OutOfMemory>
+    pub fn into_lines(self) -> Result<WayLines<'k>, OutOfMemory>
         ensures same { IfOk result (λ lines. lines ≡ self.entry) }
     {
         let Self {
@@ -176,7 +157,6 @@ impl<'k> WayImport<'k> {
             key,
             objects,
             lines,
-            imported: true,
         })
     }
 }

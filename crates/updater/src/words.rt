@@ -136,7 +136,7 @@ fn keyed<'a>(options: &[String], form: &'a [String], place: u32) -> Option<(&'a 
     requires form { length form.now ≤ MAX_WORDS }
     ensures keyed { (command : List ℕ → FilesOf → spec.CommandOf) → option_map (λ (key, files). command key.now files) result
         ≡ spec.keyed command (map string_bytes options.now) (map string_bytes form.now) place }
-    ensures fits { IfSome result (λ (_, files). files.first + files.count ≤ 8192) }
+    ensures fits { IfSome result (λ (_, files). spec.Fit files) }
 {
     let (key, files) = form.split_first()?;
     if !options.is_empty() || files.is_empty() || key.is_empty() || key.len() > MAX_KEY {

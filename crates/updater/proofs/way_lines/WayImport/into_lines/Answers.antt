@@ -1,5 +1,4 @@
-use Rattle.std.proofs.Common.{cond, sym, ap, ◌∙◌}
-use mathlib.Core.Bool.{false≢true}
+use Rattle.std.proofs.Common.{cond, ap, ◌∙◌}
 use Rattle.std.specs.FinMap as finite
 use Rattle.std.specs.Str.{chars}
 use Rattle.object_fold.specs.RisingIds.{has}
@@ -10,8 +9,6 @@ use Rattle.updater.proofs.way_lines.WayImport.into_lines.Goals as goal
 pub invariant_of-result : goal.invariant_of-result
 invariant_of-result c =
     let key = chars c.self.inside.key.now in
-    let objects = c.self.inside.objects in record {
-      rows = import-rows key objects c.self.inside.ways.items c.new-lines.result c.set_rows.new.lines c.new-lines.ensures.empty c.self.invariant.others
-          (λ id. c.in_ok-set_rows.ensures.rows id ∙ ap (λ ids. cond (has ids id) (some_line (row_at key objects id)) (finite.get c.new-lines.result id)) c.deref.ensures.value);
-      first = λ is. absurd (false≢true (sym is));
-    }
+    let objects = c.self.inside.objects in
+    import-rows key objects c.self.inside.ways.items c.new-lines.result c.set_rows.new.lines c.new-lines.ensures.empty c.self.invariant.others
+    (λ id. c.in_ok-set_rows.ensures.rows id ∙ ap (λ ids. cond (has ids id) (some_line (row_at key objects id)) (finite.get c.new-lines.result id)) c.deref.ensures.value)

@@ -8,6 +8,6 @@ use Rattle.updater.proofs.way_lines.WayLines.text.Goals as goal
 pub returns : goal.returns
 returns c = record {
   text = subst (λ all. IfOk c.text.result (λ text. text.items ≡ all))
-      (text-lines (chars c.self.inside.key.now) c.self.inside.objects c.self.inside.lines c.self.invariant.rows ∙ ap (λ (own : WaysRead). lines_text own.key own.objects) c.self.view_is)
+      (text-lines (chars c.self.inside.key.now) c.self.inside.objects c.self.inside.lines c.self.invariant ∙ ap (λ (own : WaysRead). lines_text own.key own.objects) c.self.view_is)
       c.text.ensures.text;
 }

@@ -1,0 +1,21 @@
+use Rattle.std.proofs.Common.{◌≤◌, ◌-◌}
+use Rattle.std.specs.Str.{chars}
+use Rattle.updater.specs.Command.{lines_of}
+use Rattle.updater.specs.Course.{ends, writes}
+use Rattle.updater.specs.Courses.{course_of}
+use Rattle.updater.specs.WayLines.{after_way, no_ways}
+use Rattle.updater.specs.LinesText.{lines_text_of}
+use Rattle.updater.specs.Turns.{IsTurn}
+use Rattle.updater.specs.World.{remembered, world}
+use Rattle.updater.proofs.commands.lines.lines.Given as goal
+
+-- the files so far are read, and the rest of the course leads on
+abbrev pub invariant-loop-file : goal.invariant-loop-file
+invariant-loop-file g l = record {
+  within : l.file ≤ l.end;
+  turn : IsTurn after_way (no_ways (chars l.fn.key)) (λ entries. writes (lines_text_of l.fn.key entries) ends) (course_of (lines_of l.fn.key l.fn.files)) l.file (l.end - l.file)
+      (remembered (world (g.I.Inputs.view l.fn.inputs) (g.D.Disk.view l.fn.disk) (g.S.Sink.view l.fn.out))) l.rows (g.I.Inputs.view l.inputs);
+}
+
+abbrev pub decreases-loop-file : goal.decreases-loop-file
+decreases-loop-file g l = l.end - l.file

@@ -1,0 +1,47 @@
+-- What a run does to the outside.
+use Rattle.std.specs.Prelude.{◌≡◌, ◌≢◌, ℕ, List, length, Option, Some, None}
+use Rattle.outside.specs.Bytes.{IfTold}
+use Rattle.outside.specs.Disk.{DiskView, NoneNew, Stays}
+use Rattle.updater.specs.declared.fault.Fault.{Fault}
+use Rattle.updater.specs.declared.fault.Fault.TheVariants.{Usage}
+use Rattle.updater.specs.Causes.{Cause}
+use Rattle.updater.specs.Comes.{Comes}
+use Rattle.updater.specs.Command.{CommandOf, Names, store_of}
+use Rattle.updater.specs.Course.{Course}
+use Rattle.updater.specs.Courses.{course_of}
+use Rattle.updater.specs.Leaves.{Leaves}
+use Rattle.updater.specs.Progress.{Ending, begun}
+use Rattle.updater.specs.World.{World, remembered}
+
+-- the run went by this course, to an end that the course may have
+abbrev pub GoesBy : Course → Option Fault → World → World → Type 0
+GoesBy course fault old new = (ending : Ending) × (ending.fault ≡ fault) × Comes (remembered old) course begun ending × Leaves ending (remembered old) new
+
+-- the disk was not touched
+pub record IsSpared (old new : DiskView) : Type 0 where
+  pub content : new.content ≡ old.content
+  pub moment : new.crashes.moment ≡ old.crashes.moment
+  pub crash : NoneNew old.crashes new.crashes
+  pub faults : new.faults ≡ old.faults
+  pub reads : new.reads ≡ old.reads
+
+-- a run of a command
+pub record Runs (command : CommandOf) (old new : World) (fault : Option Fault) : Type 0 where
+  -- it goes by the course of the command
+  pub course : GoesBy (course_of command) fault old new
+  -- each fault has its cause
+  pub cause : (own : Fault) → fault ≡ Some own → Cause command (remembered old) new own
+  -- files that the command does not name are not touched, and neither is the disk where it names no store
+  pub unnamed : (file : ℕ) → ¬ Names command file → new.files.left file ≡ old.files.left file
+  pub spared : store_of (Some command) ≡ None → IsSpared old.disk new.disk
+  -- a disk that holds bytes where none should be is only looked at
+  pub looked : IfTold old.disk.content (λ bytes. length bytes ≢ 0 → Stays old.disk new.disk)
+
+-- words that are no command touch nothing
+pub record IsWrongUse (old new : World) (fault : Option Fault) : Type 0 where
+  pub usage : fault ≡ Some Usage
+  pub files : (file : ℕ) → new.files.left file ≡ old.files.left file
+  pub read_faults : new.files.faults ≡ old.files.faults
+  pub disk : IsSpared old.disk new.disk
+  pub output : new.output.taken ≡ old.output.taken
+  pub write_faults : new.output.faults ≡ old.output.faults

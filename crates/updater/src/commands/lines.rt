@@ -1,0 +1,93 @@
+//! `lines KEY INPUT CHANGE*`: a row for each way that has the tag and a line.
+ghost use Rattle.std.specs.Prelude.{◌≡◌, ◌≢◌, ◌<◌, ◌≤◌, ◌+◌, ℕ, IfErr, IfOk, OnOk};
+ghost use Rattle.std.specs.Result.{result_err};
+ghost use Rattle.std.specs.Str.{chars};
+ghost use Rattle.outside.specs.Causes.{Rose};
+ghost use Rattle.object_fold.specs.Reading.{IsFaultOf, ReadsAll};
+ghost use Rattle.object_fold.specs.Stops.{Stops};
+ghost use Rattle.updater.specs.Command.{Fit, lines_of};
+ghost use Rattle.updater.specs.Courses.{course_of};
+ghost use Rattle.updater.specs.Runs.{GoesBy};
+ghost use Rattle.updater.specs.WayLines.{after_way, no_ways};
+ghost use Rattle.updater.specs.World.{world};
+
+use crate::fault::Fault;
+use crate::files::Files;
+use crate::telling::tell;
+use crate::way_lines::{WayImport, WayLines};
+use object_fold::{FileFault, scan_file};
+use osm_base::Limits;
+use outside::{Disk, Inputs, Sink};
+use std::alloc::Global;
+
+/// Reads the files one after another, and writes the rows of the ways.
+pub fn lines<I: Inputs, D: Disk, S: Sink>(
+    alloc: Global,
+    key: &str,
+    files: Files,
+    inputs: &mut I,
+    disk: &D,
+    out: &mut S,
+) -> Result<(), Fault>
+    requires fits { Fit files }
+    ensures course { GoesBy (course_of (lines_of key.now files)) (result_err result)
+        (world (I.view inputs.old) (D.view disk.now) (S.view out.old))
+        (world (I.view inputs.new) (D.view disk.now) (S.view out.new)) }
+{
+    let limits = Limits::standard();
+    let mut rows = match import(alloc, key, inputs, files.first, &limits) {
+        Ok(rows) => rows,
+        Err(fault) => return Err(Fault::in_file(files.first, fault)),
+    };
+    let mut file = files.first + 1;
+    let end = files.first + files.count;
+    while file < end {
+        if let Err(fault) = change(alloc, inputs, file, &limits, &mut rows) {
+            return Err(Fault::in_file(file, fault));
+        }
+        file += 1;
+    }
+    let text = rows.text()?;
+    tell(out, &text)
+}
+
+/// Reads the first file, whose entries become objects while they are read.
+fn import<'k, I: Inputs>(
+    alloc: Global,
+    key: &'k str,
+    inputs: &mut I,
+    file: u32,
+    limits: &Limits,
+) -> Result<WayLines<'k>, FileFault>
+    ensures ok { IfOk result (λ rows. ReadsAll after_way limits.now (no_ways (chars key.now)) rows
+        ((I.view inputs.old).left file) ((I.view inputs.new).left file)) }
+    ensures stopped { IfErr result (Stops (IsFaultOf limits.now ((I.view inputs.old).left file))
+        (Rose (I.view inputs.old).faults (I.view inputs.new).faults)) }
+    ensures later { (I.view inputs.old).faults ≤ (I.view inputs.new).faults }
+    ensures others { (other : ℕ) → other ≢ file → (I.view inputs.new).left other ≡ (I.view inputs.old).left other }
+{
+    let mut import = WayImport::new(alloc, key);
+    scan_file(alloc, inputs, file, limits, &mut import)?;
+    Ok(import.into_lines()?)
+}
+
+/// Reads a file of changes, which is taken whole at its end.
+fn change<I: Inputs>(
+    alloc: Global,
+    inputs: &mut I,
+    file: u32,
+    limits: &Limits,
+    rows: &mut WayLines,
+) -> Result<(), FileFault>
+    ensures ok { OnOk result (ReadsAll after_way limits.now rows.old rows.new
+        ((I.view inputs.old).left file) ((I.view inputs.new).left file)) }
+    ensures stopped { IfErr result (Stops (IsFaultOf limits.now ((I.view inputs.old).left file))
+        (Rose (I.view inputs.old).faults (I.view inputs.new).faults)) }
+    ensures later { (I.view inputs.old).faults ≤ (I.view inputs.new).faults }
+    ensures others { (other : ℕ) → other ≢ file → (I.view inputs.new).left other ≡ (I.view inputs.old).left other }
+{
+    let mut change = rows.begin();
+    scan_file(alloc, inputs, file, limits, &mut change)?;
+    rows.take(change.into_change())?;
+    Ok(())
+}
