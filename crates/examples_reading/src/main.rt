@@ -1,9 +1,10 @@
 //! Runs the examples of reading, and prints the name of each up to the first that differs.
 //!
 //! The tables in `data` go the way of the data: values (`degrees.txt`, `keys.txt`, `limits.txt`,
-//! `tags.txt`), lines (`lines.txt`), files in pieces (`cuts.txt`), all bytes of a file (`whole.txt`), entries of a file
-//! (`entries.txt`), objects after changes (`folds.txt`) and the ways that a change makes due
-//! (`ways_due.txt`). The head of each says what its columns are, and where what is wanted comes from.
+//! `tags.txt`), lines (`lines.txt`), files in pieces (`cuts.txt`), all bytes of a file (`whole.txt`),
+//! entries of a file (`entries.txt`), reads that fail and files over several reads (`reads.txt`), objects
+//! after changes (`folds.txt`) and the ways that a change makes due (`ways_due.txt`). The head of each says
+//! what its columns are, and where what is wanted comes from.
 #![tactic(auto)]
 
 mod changes;
@@ -24,7 +25,7 @@ use std::{fs, io};
 use verdict::Verdict;
 
 /// The tables.
-const TABLES: [&str; 10] = [
+const TABLES: [&str; 11] = [
     "degrees.txt",
     "keys.txt",
     "limits.txt",
@@ -33,6 +34,7 @@ const TABLES: [&str; 10] = [
     "cuts.txt",
     "whole.txt",
     "entries.txt",
+    "reads.txt",
     "folds.txt",
     "ways_due.txt",
 ];
@@ -85,6 +87,9 @@ fn verdict_of(alloc: Global, table: &str, word: &str, text: &str) -> Result<Verd
         ("cuts.txt", "within") => cuts::within(alloc, text),
         ("whole.txt", _) => entries::whole(alloc, text),
         ("entries.txt", _) => entries::entries(alloc, text),
+        ("reads.txt", "bytes") => entries::whole_failing(alloc, text),
+        ("reads.txt", "entries") => entries::entries_failing(alloc, text),
+        ("reads.txt", "behind") => entries::entries_behind(alloc, text),
         ("folds.txt", _) => changes::folds(alloc, text),
         ("ways_due.txt", _) => changes::ways(alloc, text),
         _ => Ok(Verdict::NoRow),
