@@ -3,6 +3,7 @@ use crate::kernels::{boxed, crossed, lying_on, marked, met, odd, products};
 use crate::nesting::nested;
 use crate::nodes::{line_along, points_along};
 use crate::pieces::{closed, extended, joined, taken, tested};
+use crate::rows::{numbered, written};
 use osm_base::OutOfMemory;
 use std::alloc::Global;
 
@@ -24,6 +25,8 @@ pub fn answer_of(alloc: Global, kind: &str, given: &str) -> Result<Option<String
         "on" => lying_on(alloc, given),
         "products" => products(alloc, given),
         "nest" => nested(alloc, given),
+        "row" => written(alloc, given),
+        "number" => numbered(alloc, given),
         _ => Ok(None),
     }
 }

@@ -1,4 +1,4 @@
-//! Runs each example of the tables of geometry and prints its name, up to the first that differs.
+//! Runs each example of the tables of geometry and of rows and prints its name, up to the first that differs.
 //!
 //! A row is what is asked, the name of the example, what is given, and behind `=>` what has to come
 //! out. `data/pieces.txt` says how places, lines and boxes are written.
@@ -10,6 +10,7 @@ mod nesting;
 mod nodes;
 mod notation;
 mod pieces;
+mod rows;
 
 use answers::answer_of;
 use example_table::{is_told, refuse_row, row_of, sides_of};
@@ -19,7 +20,13 @@ use std::process::ExitCode;
 use std::{fs, io};
 
 /// The tables, those of the lower crates first.
-const TABLES: [&str; 4] = ["pieces.txt", "lines.txt", "kernels.txt", "nests.txt"];
+const TABLES: [&str; 5] = [
+    "pieces.txt",
+    "lines.txt",
+    "kernels.txt",
+    "nests.txt",
+    "rows.txt",
+];
 
 fn main(rt: HostRuntime) -> io::Result<ExitCode> {
     for name in TABLES {

@@ -1,0 +1,165 @@
+//! Rows written as lines, and their numbers.
+use crate::notation::{line_of_word, lines_of, place_of};
+use example_table::{number_of, row_of, signed_of, text_of};
+use osm_base::{Cell, Cells, Geometry, Key, Kind, MAX_ID, OutOfMemory, Polygons, Row, Text};
+use row_text::{BACKSLASH, NEWLINE, TAB, push_row, row_number};
+use std::alloc::Global;
+
+/// The line of a row, with `\t`, `\n` and `\\` for tabs, newlines and backslashes.
+pub fn written(alloc: Global, given: &str) -> Result<Option<String>, OutOfMemory> {
+    let Some((number, text)) = given.split_once('/') else {
+        return Ok(None);
+    };
+    let Some((cells, geometry)) = text.split_once('/') else {
+        return Ok(None);
+    };
+    let Some(number) = signed_of(number.trim()) else {
+        return Ok(None);
+    };
+    let Some(row) = row_of_fields(alloc, cells, geometry)? else {
+        return Ok(None);
+    };
+    let mut out = Vec::new(alloc);
+    push_row(&mut out, number, &row)?;
+    shown(alloc, &out)
+}
+
+fn row_of_fields(alloc: Global, cells: &str, geometry: &str) -> Result<Option<Row>, OutOfMemory> {
+    let Some(cells) = cells_of(alloc, cells)? else {
+        return Ok(None);
+    };
+    let Some(geometry) = geometry_of(alloc, geometry)? else {
+        return Ok(None);
+    };
+    Ok(Some(Row { cells, geometry }))
+}
+
+/// The cells of a text, a word each.
+fn cells_of(alloc: Global, text: &str) -> Result<Option<Cells>, OutOfMemory> {
+    let mut cells = Cells::new(alloc);
+    for word in text.split_ascii_whitespace() {
+        let Some(cell) = cell_of(alloc, word)? else {
+            return Ok(None);
+        };
+        cells.push(cell)?;
+    }
+    Ok(Some(cells))
+}
+
+/// The cell of a word: `null`, `int:NUMBER` or `text:TEXT`.
+fn cell_of(alloc: Global, word: &str) -> Result<Option<Cell>, OutOfMemory> {
+    let Some((kind, field)) = word.split_once(':') else {
+        return Ok(if word == "null" {
+            Some(Cell::Null)
+        } else {
+            None
+        });
+    };
+    match kind {
+        "int" => Ok(int_of(field)),
+        "text" => text_cell_of(alloc, field),
+        _ => Ok(None),
+    }
+}
+
+fn int_of(field: &str) -> Option<Cell> {
+    Some(Cell::Int(signed_of(field)?))
+}
+
+fn text_cell_of(alloc: Global, field: &str) -> Result<Option<Cell>, OutOfMemory> {
+    match text_of(alloc, field)? {
+        None => Ok(None),
+        Some(text) => Ok(Some(Cell::Text(Text::from_string(text)))),
+    }
+}
+
+/// The geometry of a text: `point PLACE`, `line LINE`, `lines LINE..`, `area RING..` with `|` between polygons.
+fn geometry_of(alloc: Global, text: &str) -> Result<Option<Geometry>, OutOfMemory> {
+    let Some((kind, text)) = row_of(text) else {
+        return Ok(None);
+    };
+    match kind {
+        "point" => Ok(point_of(text)),
+        "line" => line_geometry_of(alloc, text),
+        "lines" => lines_geometry_of(alloc, text),
+        "area" => area_of(alloc, text),
+        _ => Ok(None),
+    }
+}
+
+fn point_of(text: &str) -> Option<Geometry> {
+    Some(Geometry::Point(place_of(text)?))
+}
+
+fn line_geometry_of(alloc: Global, text: &str) -> Result<Option<Geometry>, OutOfMemory> {
+    match line_of_word(alloc, text)? {
+        None => Ok(None),
+        Some(line) => Ok(Some(Geometry::Line(line))),
+    }
+}
+
+fn lines_geometry_of(alloc: Global, text: &str) -> Result<Option<Geometry>, OutOfMemory> {
+    match lines_of(alloc, text)? {
+        None => Ok(None),
+        Some(lines) => Ok(Some(Geometry::Lines(lines))),
+    }
+}
+
+fn area_of(alloc: Global, text: &str) -> Result<Option<Geometry>, OutOfMemory> {
+    let mut polygons = Polygons::new(alloc);
+    for part in text.split('|') {
+        let Some(rings) = lines_of(alloc, part)? else {
+            return Ok(None);
+        };
+        polygons.push(rings)?;
+    }
+    Ok(Some(Geometry::Area(polygons)))
+}
+
+/// Bytes as a field of a table.
+fn shown(alloc: Global, bytes: &[u8]) -> Result<Option<String>, OutOfMemory> {
+    let mut field = Vec::new(alloc);
+    for byte in bytes {
+        match *byte {
+            TAB => field.extend_from_slice(b"\\t")?,
+            NEWLINE => field.extend_from_slice(b"\\n")?,
+            BACKSLASH => field.extend_from_slice(b"\\\\")?,
+            other => field.push(other)?,
+        }
+    }
+    match std::str::from_utf8(&field) {
+        Ok(text) => Ok(Some(String::from_str(alloc, text)?)),
+        Err(_) => Ok(None),
+    }
+}
+
+/// The number of a row: `area` or `other` says in which kind of table, `n`, `w` or `r` and an id of which object.
+pub fn numbered(alloc: Global, given: &str) -> Result<Option<String>, OutOfMemory> {
+    let Some((table, key)) = row_of(given) else {
+        return Ok(None);
+    };
+    let Some(key) = key_of(key) else {
+        return Ok(None);
+    };
+    let number = row_number(table == "area", key);
+    Ok(Some(format!(in alloc; "{number}")?))
+}
+
+fn key_of(text: &str) -> Option<Key> {
+    let (kind, id) = row_of(text)?;
+    let kind = kind_of(kind)?;
+    let id = number_of(id)?;
+    if id == 0 || id > MAX_ID {
+        return None;
+    }
+    Some(Key::new(kind, id))
+}
+
+fn kind_of(word: &str) -> Option<Kind> {
+    match word {
+        "node" => Some(Kind::Node),
+        "way" => Some(Kind::Way),
+        "relation" => Some(Kind::Relation),
+        _ => None,
+    }
+}

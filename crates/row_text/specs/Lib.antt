@@ -1,0 +1,3 @@
+pub mod CopyText
+pub mod Geometry
+pub mod Row

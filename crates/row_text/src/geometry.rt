@@ -1,0 +1,113 @@
+//! Geometries as well-known text.
+ghost use Rattle.std.specs.Prelude.{◌≡◌, ◌++◌, List, ℕ, codes, flat_map, OnOk};
+ghost use Rattle.osm_base.specs.Degrees.{degrees};
+ghost use Rattle.row_text.specs.Geometry.{bracketed, geometry_text, listed, place_text};
+
+use osm_base::{DegreesBuffer, Geometry, Items, OutOfMemory, Place};
+
+/// A part of a geometry: a place, or a list of parts in brackets.
+trait Part {
+    ghost text: { Self → List ℕ };
+
+    /// Appends the text.
+    fn push(&self, out: &mut Vec<u8>) -> Result<(), OutOfMemory>
+        ensures text { OnOk result (out.new.items ≡ out.old.items ++ text self.now) };
+}
+
+impl Part for Place {
+    ghost text = { place_text };
+
+    fn push(&self, out: &mut Vec<u8>) -> Result<(), OutOfMemory> {
+        push_place(out, *self)
+    }
+}
+
+impl<T: Part> Part for Items<T> {
+    ghost text = { λ parts. bracketed T.text parts };
+
+    fn push(&self, out: &mut Vec<u8>) -> Result<(), OutOfMemory> {
+        push_bracketed(out, self.as_slice())
+    }
+}
+
+/// Appends a geometry.
+pub fn push_geometry(out: &mut Vec<u8>, geometry: &Geometry) -> Result<(), OutOfMemory>
+    ensures text { OnOk result (out.new.items ≡ out.old.items ++ geometry_text geometry.now) }
+{
+    match geometry {
+        Geometry::Point(place) => push_point(out, *place),
+        Geometry::Line(places) => push_named(out, b"LINESTRING", places),
+        Geometry::Lines(lines) => push_named(out, b"MULTILINESTRING", lines),
+        Geometry::Area(polygons) => push_named(out, b"MULTIPOLYGON", polygons),
+    }
+}
+
+/// Appends a part behind the name of its geometry.
+fn push_named<T: Part>(out: &mut Vec<u8>, name: &[u8], part: &T) -> Result<(), OutOfMemory>
+    ensures text { OnOk result (out.new.items ≡ out.old.items ++ (name.now ++ T.text part.now)) }
+{
+    out.extend_from_slice(name)?;
+    part.push(out)?;
+    Ok(())
+}
+
+/// Appends a point.
+fn push_point(out: &mut Vec<u8>, place: Place) -> Result<(), OutOfMemory>
+    ensures text { OnOk result (out.new.items ≡ out.old.items ++ (codes "POINT(" ++ place_text place ++ codes ")")) }
+{
+    out.extend_from_slice(b"POINT(")?;
+    push_place(out, place)?;
+    out.push(b')')?;
+    Ok(())
+}
+
+/// Appends parts in brackets.
+fn push_bracketed<T: Part>(out: &mut Vec<u8>, parts: &[T]) -> Result<(), OutOfMemory>
+    ensures text { OnOk result (out.new.items ≡ out.old.items ++ bracketed T.text parts.now) }
+{
+    out.push(b'(')?;
+    push_listed(out, parts)?;
+    out.push(b')')?;
+    Ok(())
+}
+
+/// Appends parts with commas between them.
+fn push_listed<T: Part>(out: &mut Vec<u8>, parts: &[T]) -> Result<(), OutOfMemory>
+    ensures text { OnOk result (out.new.items ≡ out.old.items ++ listed T.text parts.now) }
+{
+    let Some((first, later)) = parts.split_first() else {
+        return Ok(());
+    };
+    first.push(out)?;
+    push_later(out, later)
+}
+
+/// Appends parts, each behind a comma.
+fn push_later<T: Part>(out: &mut Vec<u8>, parts: &[T]) -> Result<(), OutOfMemory>
+    ensures text { OnOk result (out.new.items ≡ out.old.items ++ flat_map (λ next. codes "," ++ T.text next) parts.now) }
+{
+    for part in parts {
+        out.push(b',')?;
+        part.push(out)?;
+    }
+    Ok(())
+}
+
+/// Appends a place: its longitude and its latitude.
+fn push_place(out: &mut Vec<u8>, place: Place) -> Result<(), OutOfMemory>
+    ensures text { OnOk result (out.new.items ≡ out.old.items ++ place_text place) }
+{
+    push_degrees(out, place.lon)?;
+    out.push(b' ')?;
+    push_degrees(out, place.lat)?;
+    Ok(())
+}
+
+/// Appends a coordinate, given in units of 1e-7 degree, as degrees.
+pub fn push_degrees(out: &mut Vec<u8>, units: i32) -> Result<(), OutOfMemory>
+    ensures text { OnOk result (out.new.items ≡ out.old.items ++ degrees units) }
+{
+    let mut degrees = DegreesBuffer::new();
+    out.extend_from_slice(degrees.format(units))?;
+    Ok(())
+}
