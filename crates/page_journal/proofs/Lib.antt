@@ -7,9 +7,11 @@ pub mod Moments
 pub mod Counting
 pub mod Parts
 pub mod Phases
+pub mod Members
 pub mod Places
 pub mod ReadCounts
 pub mod Sets
+pub mod Settable
 pub mod Standing
 pub mod Trees
 pub mod Uniqueness

@@ -54,7 +54,7 @@ numbers_rise (entry ∷ entries) sorted zero (suc two) before inside =
 numbers_rise (entry ∷ entries) sorted (suc one) (suc two) before inside =
     numbers_rise entries (both_second (below_all nat_cmp entry.0 entries) (is_sorted nat_cmp entries) sorted) one two (omega arith) (omega arith)
 
-find_at : (entries : List (ℕ × List ℕ)) → T (is_sorted nat_cmp entries) → (place : ℕ) → place < length entries
+pub find_at : (entries : List (ℕ × List ℕ)) → T (is_sorted nat_cmp entries) → (place : ℕ) → place < length entries
     → find nat_cmp (number_at entries place) entries ≡ Some (page_at entries place)
 find_at [] sorted place inside = absurd (omega arith)
 find_at (entry ∷ entries) sorted zero inside =
@@ -65,7 +65,7 @@ find_at (entry ∷ entries) sorted (suc place) inside =
     ap (λ (b : Bool). cond b (Some entry.1) (find nat_cmp (number_at entries place) entries)) (not_equal (number_at entries place) entry.0 other)
     ∙ find_at entries (both_second (below_all nat_cmp entry.0 entries) (is_sorted nat_cmp entries) sorted) place (omega arith)
 
-find_not : (entries : List (ℕ × List ℕ)) (n : ℕ) → ((place : ℕ) → place < length entries → number_at entries place ≢ n)
+pub find_not : (entries : List (ℕ × List ℕ)) (n : ℕ) → ((place : ℕ) → place < length entries → number_at entries place ≢ n)
     → find nat_cmp n entries ≡ None
 find_not [] n none = refl
 find_not (entry ∷ entries) n none =

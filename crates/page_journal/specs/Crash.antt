@@ -1,6 +1,6 @@
 -- What a run of disk calls leaves at each moment.
 use Rattle.std.specs.Prelude.{◌≡◌, ◌≢◌, ◌⊎◌, ℕ, ◌+◌, ◌*◌, ◌<◌, ◌≤◌, List, length, slice_index}
-use Rattle.outside.specs.Disk.{Crashes, DiskView, Tells, Only}
+use Rattle.outside.specs.Disk.{Crashes, DiskView, Goes, Only, Tells}
 use Rattle.page_journal.specs.Home.{Home}
 use Rattle.page_journal.specs.Pages.{gate}
 use Rattle.page_journal.specs.declared.layout.TheConstants.{OPEN, FIRST_AT, FIELDS_END, GATE_AT}
@@ -17,6 +17,15 @@ pub record IsSettled (pages : List (List ℕ)) (bytes : List ℕ) (view : DiskVi
   pub only : Only bytes view.crashes
   pub shut : gate bytes ≢ OPEN
   pub home : Home pages bytes
+
+-- the store is at rest with these home pages
+abbrev pub IsAtRest : List (List ℕ) → DiskView → Type 0
+IsAtRest pages view = (bytes : List ℕ) × IsSettled pages bytes view
+
+-- at each moment since then a crash leaves what it might have left before, or a store with the one home pages or with
+-- the other
+abbrev pub LeavesEither : (one other : List (List ℕ)) → DiskView → DiskView → Type 0
+LeavesEither one other old new = Goes (λ left. Home one left ⊎ Home other left) old.crashes new.crashes
 
 -- the places below `low` that are not the journal's fields in page 0
 abbrev pub BesideJournal : ℕ → ℕ → Type 0

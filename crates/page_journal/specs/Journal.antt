@@ -1,5 +1,7 @@
 -- What contracts see of a journal.
 use Rattle.std.specs.Prelude.{ℕ, Bool}
+use Rattle.std.specs.Borrow.{GName}
+use Rattle.outside.specs.Disk.{DiskView}
 use Rattle.outside.specs.declared.disk.Disk.{Ghosts}
 use Rattle.page_journal.specs.declared.journal.Journal.{Journal}
 
@@ -12,3 +14,13 @@ page_limit journal = journal.limit
 
 abbrev pub is_broken : {D : Type 0} {g : Ghosts D} → Journal D g → Bool
 is_broken journal = journal.broken
+
+-- the disk that it has borrowed, what is seen of that disk, and the name of the loan
+abbrev pub disk_of : {D : Type 0} {g : Ghosts D} → Journal D g → D
+disk_of journal = journal.disk.now
+
+abbrev pub view_of : {D : Type 0} {g : Ghosts D} → Journal D g → DiskView
+view_of {D} {g} journal = g.view journal.disk.now
+
+abbrev pub loan_of : {D : Type 0} {g : Ghosts D} → Journal D g → GName
+loan_of journal = journal.disk.ghost_name

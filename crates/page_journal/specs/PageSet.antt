@@ -34,13 +34,25 @@ page_or (Some page) other = page
 abbrev pub overwritten : PageMap → ℕ → List (List ℕ) → List (List ℕ)
 overwritten set home pages = up_to (λ n. page_or (map.get set n) (slice_index_or pages (n - 1) [])) (home - 1)
 
+-- page 1 of the set has this number of home pages at its front
+abbrev pub TellsHome : PageMap → ℕ → Type 0
+TellsHome set home = (page : List ℕ) × (map.get set 1 ≡ Some page) × (number page 0 ≡ home)
+
+-- the set has each page from here to before there
+abbrev pub HasAll : PageMap → ℕ → ℕ → Type 0
+HasAll set from to = (n : ℕ) → from ≤ n → n < to → IsSome (map.get set n)
+
+-- the entries' numbers are from 1 to below this one
+abbrev pub AreWithin : List (ℕ × List ℕ) → ℕ → Type 0
+AreWithin entries home = (place : ℕ) → place < length entries → (1 ≤ number_at entries place) × (number_at entries place < home)
+
 -- a commit may write this set to so many home pages: it makes them no fewer, has pages from 1 to below `home` alone,
 -- each new one among them, and page 1 with the number `home` at its front
 pub record CanCommit (set : PageMap) (count home : ℕ) : Type 0 where
   pub more : count ≤ home
   pub within : (n : ℕ) → IsSome (map.get set n) → (1 ≤ n) × (n < home)
-  pub root : (page : List ℕ) × (map.get set 1 ≡ Some page) × (number page 0 ≡ home)
-  pub new : (n : ℕ) → count ≤ n → n < home → IsSome (map.get set n)
+  pub root : TellsHome set home
+  pub new : HasAll set count home
 
 -- the entries of a tree rise by their numbers, and each page has its length
 pub record IsPageTree (entries : List (ℕ × Vec ℕ Global)) : Type 0 where

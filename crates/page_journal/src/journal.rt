@@ -1,8 +1,8 @@
 //! The home pages of an open store.
-ghost use Rattle.std.specs.Prelude.{◌≡◌, ◌⊎◌, ◌+◌, ◌*◌, ◌^◌, ◌<◌, ◌≤◌, ◌||◌, List, ℕ, false, length, option_map, is_ok, MatchResult, Ok, Err, IfOk, OnOk, IsErr, if◌then◌else◌};
+ghost use Rattle.std.specs.Prelude.{◌≡◌, ◌⊎◌, ◌+◌, ◌*◌, ◌^◌, ◌<◌, ◌≤◌, ◌||◌, ◌↔◌, IsTrue, List, ℕ, false, length, option_map, is_ok, MatchResult, Ok, Err, IfOk, OnOk, IsErr, if◌then◌else◌};
 ghost use Rattle.outside.specs.Disk.{one_read, Tells, Goes, Stays};
 ghost use Rattle.page_journal.specs.Answers.{Commits, HasDiskCause, IsOpenAnswer, Opens, Reads, ReadsFrom, answers_disk_fault};
-ghost use Rattle.page_journal.specs.Crash.{AllHome, IsLikeOne, IsSettled};
+ghost use Rattle.page_journal.specs.Crash.{AllHome, IsAtRest, IsLikeOne, LeavesEither};
 ghost use Rattle.page_journal.specs.Home.{Home};
 ghost use Rattle.page_journal.specs.PageSet.{CanCommit, overwritten};
 ghost use Rattle.page_journal.specs.Pages.{page_from};
@@ -17,7 +17,7 @@ use outside::{Disk, Failed};
 /// The home pages of an open store, over the disk that it borrows.
 #[derive(Drop)]
 pub struct Journal<'d, D: Disk> {
-    pub disk: &'d mut D,
+    disk: &'d mut D,
     pages: u64,
     limit: u64,
     broken: bool,
@@ -27,21 +27,21 @@ pub struct Journal<'d, D: Disk> {
 }
 
 impl<'d, D: Disk> Journal<'d, D> {
-    ghost use Rattle.page_journal.specs.Journal.{home_count, page_limit, is_broken};
+    ghost use Rattle.page_journal.specs.Journal.{disk_of, home_count, is_broken, loan_of, page_limit, view_of};
 
     /// Opens the store on this disk. It is the call of `open`, which says what a refusal leaves on the
     /// disk, and then `over`.
     pub fn attach(disk: &'d mut D, limits: &Limits) -> Result<Self, StoreFault>
-        ensures same_disk { IfOk result (λ journal. journal.disk.ghost_name ≡ disk.entry.ghost_name) }
+        ensures same_disk { IfOk result (λ journal. loan_of journal ≡ disk.entry.ghost_name) }
         ensures answers { (bytes : List ℕ) → Tells (D.view disk.entry.now) bytes
             → MatchResult result (λ journal. Opens bytes (Ok (home_count journal))) (λ fault. Opens bytes (Err fault)) }
         ensures alone { IsOpenAnswer result }
         ensures done { IfOk result (λ journal. (bytes : List ℕ) → Tells (D.view disk.entry.now) bytes
             → (pages : List (List ℕ)) × Home pages bytes × (length pages + 1 ≡ home_count journal)
-            × ((now : List ℕ) × IsSettled pages now (D.view journal.disk.now))) }
+            × IsAtRest pages (view_of journal)) }
         ensures any_moment { IfOk result (λ journal. (bytes : List ℕ) → Tells (D.view disk.entry.now) bytes
             → AllHome (D.view disk.entry.now).crashes
-            → Goes (IsLikeOne (D.view disk.entry.now).crashes) (D.view disk.entry.now).crashes (D.view journal.disk.now).crashes) }
+            → Goes (IsLikeOne (D.view disk.entry.now).crashes) (D.view disk.entry.now).crashes (view_of journal).crashes) }
         ensures limit { IfOk result (λ journal. page_limit journal ≡ limits.now.pages) }
         ensures whole { IfOk result (λ journal. is_broken journal ≡ false) }
     {
@@ -55,8 +55,8 @@ impl<'d, D: Disk> Journal<'d, D> {
     pub fn over(disk: &'d mut D, pages: u64, limits: &Limits) -> Self
         requires some { 2 ≤ pages }
         requires small { 4096 * pages ≤ 2 ^ 62 }
-        ensures same_disk { result.disk.ghost_name ≡ disk.entry.ghost_name }
-        ensures disk { result.disk.now ≡ disk.entry.now }
+        ensures same_disk { loan_of result ≡ disk.entry.ghost_name }
+        ensures disk { disk_of result ≡ disk.entry.now }
         ensures pages { home_count result ≡ pages }
         ensures limit { page_limit result ≡ limits.now.pages }
         ensures whole { is_broken result ≡ false }
@@ -71,8 +71,8 @@ impl<'d, D: Disk> Journal<'d, D> {
 
     /// Hands the disk back.
     pub fn close(self) -> &'d mut D
-        ensures same_disk { result.ghost_name ≡ self.entry.disk.ghost_name }
-        ensures disk { result.now ≡ self.entry.disk.now }
+        ensures same_disk { result.ghost_name ≡ loan_of self.entry }
+        ensures disk { result.now ≡ disk_of self.entry }
     {
         let Journal {
             disk,
@@ -91,21 +91,28 @@ impl<'d, D: Disk> Journal<'d, D> {
         self.pages
     }
 
+    /// Whether the set may be committed, so that there are `home` home pages from then on.
+    pub fn can_commit(&self, set: &PageSet, home: u64) -> bool
+        ensures { IsTrue result ↔ CanCommit set.now (home_count self.now) home }
+    {
+        set.can_commit(self.pages, home)
+    }
+
     /// Reads a home page. A page in which the disk ends is refused.
     #[tactic(auto, using(crate::proofs::Moments::looks))]
     pub fn read_page(&mut self, page: u64, buf: &mut [u8; 4096]) -> Result<(), StoreFault>
         requires { page < home_count self.old }
-        ensures page { OnOk result ((bytes : List ℕ) → Tells (D.view self.old.disk.now) bytes → buf.new ≡ page_from bytes (4096 * page)) }
+        ensures page { OnOk result ((bytes : List ℕ) → Tells (view_of self.old) bytes → buf.new ≡ page_from bytes (4096 * page)) }
         ensures answers { Reads (is_broken self.old) page result }
-        ensures bounds { (bytes : List ℕ) → Tells (D.view self.old.disk.now) bytes → ReadsFrom bytes page result }
-        ensures stays { Stays (D.view self.old.disk.now) (D.view self.new.disk.now) }
-        ensures reads { (D.view self.new.disk.now).reads ≡ (if is_broken self.old then (D.view self.old.disk.now).reads
-            else option_map (one_read (4096 * page) 4096) (D.view self.old.disk.now).reads) }
+        ensures bounds { (bytes : List ℕ) → Tells (view_of self.old) bytes → ReadsFrom bytes page result }
+        ensures stays { Stays (view_of self.old) (view_of self.new) }
+        ensures reads { (view_of self.new).reads ≡ (if is_broken self.old then (view_of self.old).reads
+            else option_map (one_read (4096 * page) 4096) (view_of self.old).reads) }
         ensures pages { home_count self.new ≡ home_count self.old }
         ensures limit { page_limit self.new ≡ page_limit self.old }
         ensures broken { is_broken self.new ≡ (is_broken self.old || answers_disk_fault result) }
-        ensures same_disk { self.new.disk.ghost_name ≡ self.old.disk.ghost_name }
-        ensures cause { HasDiskCause (D.view self.old.disk.now).faults (D.view self.new.disk.now).faults result }
+        ensures same_disk { loan_of self.new ≡ loan_of self.old }
+        ensures cause { HasDiskCause (view_of self.old).faults (view_of self.new).faults result }
     {
         if self.broken {
             return Err(StoreFault::Broken);
@@ -129,20 +136,17 @@ impl<'d, D: Disk> Journal<'d, D> {
     pub fn commit(&mut self, set: &PageSet, home: u64) -> Result<(), StoreFault>
         requires { CanCommit set.now (home_count self.old) home }
         ensures answers { Commits (is_broken self.old) (page_limit self.old) home result }
-        ensures any_moment { (old : List (List ℕ)) (bytes : List ℕ) → IsSettled old bytes (D.view self.old.disk.now)
-            → length old + 1 ≡ home_count self.old
-            → Goes (λ left. Home old left ⊎ Home (overwritten set.now home old) left)
-            (D.view self.old.disk.now).crashes (D.view self.new.disk.now).crashes }
-        ensures done { OnOk result ((old : List (List ℕ)) (bytes : List ℕ) → IsSettled old bytes (D.view self.old.disk.now)
-            → length old + 1 ≡ home_count self.old
-            → (now : List ℕ) × IsSettled (overwritten set.now home old) now (D.view self.new.disk.now)) }
-        ensures untouched { IsErr result → answers_disk_fault result ≡ false → self.new.disk.now ≡ self.old.disk.now }
-        ensures reads { (D.view self.new.disk.now).reads ≡ (D.view self.old.disk.now).reads }
+        ensures any_moment { (old : List (List ℕ)) → IsAtRest old (view_of self.old) → length old + 1 ≡ home_count self.old
+            → LeavesEither old (overwritten set.now home old) (view_of self.old) (view_of self.new) }
+        ensures done { OnOk result ((old : List (List ℕ)) → IsAtRest old (view_of self.old) → length old + 1 ≡ home_count self.old
+            → IsAtRest (overwritten set.now home old) (view_of self.new)) }
+        ensures untouched { IsErr result → answers_disk_fault result ≡ false → disk_of self.new ≡ disk_of self.old }
+        ensures reads { (view_of self.new).reads ≡ (view_of self.old).reads }
         ensures pages { home_count self.new ≡ (if is_ok result then home else home_count self.old) }
         ensures limit { page_limit self.new ≡ page_limit self.old }
         ensures broken { is_broken self.new ≡ (is_broken self.old || answers_disk_fault result) }
-        ensures same_disk { self.new.disk.ghost_name ≡ self.old.disk.ghost_name }
-        ensures cause { HasDiskCause (D.view self.old.disk.now).faults (D.view self.new.disk.now).faults result }
+        ensures same_disk { loan_of self.new ≡ loan_of self.old }
+        ensures cause { HasDiskCause (view_of self.old).faults (view_of self.new).faults result }
     {
         if self.broken {
             return Err(StoreFault::Broken);

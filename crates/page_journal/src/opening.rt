@@ -4,7 +4,7 @@ ghost use Rattle.outside.specs.Causes.{HasCause};
 ghost use Rattle.outside.specs.Bytes.{IfTold};
 ghost use Rattle.outside.specs.Disk.{Elapses, Follows, Only, Tells, Torn, overlaid, Goes, Stays, Within, ReadsAtMost};
 ghost use Rattle.page_journal.specs.Answers.{Counts, Finishes, HasDiskCause, IsOpenAnswer, Looks, Opens, Prepares};
-ghost use Rattle.page_journal.specs.Crash.{AllHome, BesidePages, IsLikeOne, IsSettled, Spares};
+ghost use Rattle.page_journal.specs.Crash.{AllHome, BesidePages, IsAtRest, IsLikeOne, Spares};
 ghost use Rattle.page_journal.specs.Home.{AreRising, HasOpenJournal, Home, IsFormatted, IsWellFormed};
 ghost use Rattle.page_journal.specs.Pages.{body_at, entry, first_page, gate, head_of, number, number_pages, page_count, page_from};
 ghost use Rattle.page_journal.specs.Written.{Finished, HomePut};
@@ -27,7 +27,7 @@ pub fn open<D: Disk>(disk: &mut D) -> Result<u64, StoreFault>
     ensures alone { IsOpenAnswer result }
     ensures done { IfOk result (λ home. (bytes : List ℕ) → Tells (D.view disk.old) bytes
         → (pages : List (List ℕ)) × Home pages bytes × (length pages + 1 ≡ home)
-        × ((now : List ℕ) × IsSettled pages now (D.view disk.new))) }
+        × IsAtRest pages (D.view disk.new)) }
 
     // Each outcome of a crash during the call has the home pages of one at its entry.
     ensures any_moment { (bytes : List ℕ) → Tells (D.view disk.old) bytes → AllHome (D.view disk.old).crashes

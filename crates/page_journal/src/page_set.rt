@@ -1,5 +1,7 @@
 //! Pages by their numbers.
-ghost use Rattle.std.specs.Prelude.{◌≡◌, length, List, ℕ, OnOk, OnErr};
+ghost use Rattle.std.specs.Prelude.{◌≡◌, ◌≤◌, ◌<◌, ◌↔◌, None, Some, length, List, ℕ, IfSome, IsTrue, MatchOption, OnOk, OnErr};
+ghost use Rattle.page_journal.specs.PageSet.{AreWithin, CanCommit, HasAll, TellsHome, plain};
+ghost use Rattle.page_journal.specs.Pages.{number};
 ghost use Rattle.std.specs.FinMap as map;
 
 use osm_base::OutOfMemory;
@@ -40,6 +42,56 @@ impl PageSet {
         }
     }
 
+    /// A page of the set.
+    pub fn get(&self, page: u64) -> Option<&[u8]>
+        ensures page { MatchOption result (map.get self.now page ≡ None) (λ bytes. map.get self.now page ≡ Some bytes.now) }
+        ensures long { IfSome result (λ bytes. length bytes.now ≡ 4096) }
+    {
+        match self.pages.get(&page) {
+            Some(bytes) => Some(bytes.as_slice()),
+            None => None,
+        }
+    }
+
+    /// Whether a commit may write the set over so many home pages, so that there are `home` from then on.
+    pub fn can_commit(&self, count: u64, home: u64) -> bool
+        ensures { IsTrue result ↔ CanCommit self.now count home }
+    {
+        if home < count {
+            return false;
+        }
+        if !are_within(&self.pages, home) {
+            return false;
+        }
+        if !self.tells(home) {
+            return false;
+        }
+        self.has_all(count, home)
+    }
+
+    // Whether page 1 is in the set and tells so many home pages.
+    fn tells(&self, home: u64) -> bool
+        ensures { IsTrue result ↔ TellsHome self.now home }
+    {
+        match self.get(1) {
+            Some(page) => front_of(page) == home,
+            None => false,
+        }
+    }
+
+    // Whether all pages from this one to before that one are in the set.
+    fn has_all(&self, from: u64, to: u64) -> bool
+        ensures { IsTrue result ↔ HasAll self.now from to }
+    {
+        for page in from..to {
+            match self.get(page) {
+                Some(_) => {}
+                None => return false,
+            }
+        }
+        true
+    }
+
     /// Sets one page. Where it fails, the set is as it was.
     pub fn put(&mut self, page: u64, bytes: &[u8; 4096]) -> Result<(), OutOfMemory>
         ensures ok { OnOk result (self.new ≡ map.insert self.old page bytes.now) }
@@ -59,4 +111,32 @@ impl PageSet {
         self.pages.insert(page, bytes)?;
         Ok(())
     }
+}
+
+// The number at the front of a page.
+fn front_of(page: &[u8]) -> u64
+    requires { 8 ≤ length page.now }
+    ensures { result ≡ number page.now 0 }
+{
+    let mut front = [0; 8];
+    front.copy_from_slice(&page[0..8]);
+    u64::from_le_bytes(front)
+}
+
+// Whether the numbers of all pages are from 1 to below this one.
+fn are_within(pages: &BTreeMap<u64, Vec<u8>>, home: u64) -> bool
+    ensures { IsTrue result ↔ AreWithin (plain pages.now.entries) home }
+{
+    for (number, _) in pages {
+        if !is_within(*number, home) {
+            return false;
+        }
+    }
+    true
+}
+
+fn is_within(number: u64, home: u64) -> bool
+    ensures { IsTrue result ↔ ((1 ≤ number) × (number < home)) }
+{
+    1 <= number && number < home
 }

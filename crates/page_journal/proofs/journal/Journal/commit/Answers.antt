@@ -33,25 +33,25 @@ pub returns-in-Ok-clause-any_moment : goal.returns-in-Ok-clause-any_moment
 returns-in-Ok-clause-any_moment g c =
     let es = plain c.set.inside.pages.entries in
     let same = plain_long c.set.inside.pages.entries in
-    λ old bytes settled long.
+    λ old rest long.
     let new = overwritten c.args.set.now c.args.home old in
     let makes = subst (λ (n : ℕ). Makes es n c.args.home old new) same (set_makes es c.set.invariant.sorted c.args.set.now c.set.view_is c.args.self.now.pages c.args.home c.requires old long c.args.self.now.some) in
-    c.write_through.ensures.any_moment old new bytes settled makes
+    c.write_through.ensures.any_moment old new rest.0 rest.1 makes
 
 pub returns-in-Ok-clause-done : goal.returns-in-Ok-clause-done
 returns-in-Ok-clause-done g c =
     let es = plain c.set.inside.pages.entries in
     let same = plain_long c.set.inside.pages.entries in
-    λ old bytes settled long.
+    λ old rest long.
     let new = overwritten c.args.set.now c.args.home old in
     let makes = subst (λ (n : ℕ). Makes es n c.args.home old new) same (set_makes es c.set.invariant.sorted c.args.set.now c.set.view_is c.args.self.now.pages c.args.home c.requires old long c.args.self.now.some) in
-    c.in-Ok.ensures.done old new bytes settled makes
+    c.in-Ok.ensures.done old new rest.0 rest.1 makes
 
 pub returns-in-Err-clause-any_moment : goal.returns-in-Err-clause-any_moment
 returns-in-Err-clause-any_moment g c =
     let es = plain c.set.inside.pages.entries in
     let same = plain_long c.set.inside.pages.entries in
-    λ old bytes settled long.
+    λ old rest long.
     let new = overwritten c.args.set.now c.args.home old in
     let makes = subst (λ (n : ℕ). Makes es n c.args.home old new) same (set_makes es c.set.invariant.sorted c.args.set.now c.set.view_is c.args.self.now.pages c.args.home c.requires old long c.args.self.now.some) in
-    c.write_through.ensures.any_moment old new bytes settled makes
+    c.write_through.ensures.any_moment old new rest.0 rest.1 makes
