@@ -14,7 +14,7 @@ use Rattle.updater.specs.Courses.{course_of, gathers}
 use Rattle.updater.specs.Course.{Course, ends, writes}
 use Rattle.updater.specs.Leaves.{HasCause}
 use Rattle.updater.specs.Progress.{begun}
-use Rattle.updater.specs.Runs.{GoesBy, IsSpared, Runs}
+use Rattle.updater.specs.Runs.{AsksOnly, GoesBy, IsSpared, Runs}
 use Rattle.updater.specs.World.{Before, World, world, remembered}
 use Rattle.updater.proofs.CourseLaws.{Blame, KeepsTo, comes_told, gathers_to}
 
@@ -51,16 +51,17 @@ cause_of command old new faults.DiskFault blame failed = (blame, failed)
 cause_of command old new faults.OutOfMemory blame failed = tt
 
 -- a run by the course of its command
-pub runs_by : (command : CommandOf) (fault : Option Fault) (old new : World) → GoesBy (course_of command) fault old new
+pub runs_by : (command : CommandOf) (asks : List ℕ → Type 0) (fault : Option Fault) (old new : World) → AsksOnly asks (Names command) → GoesBy (course_of command) fault old new
     → (store_of (Some command) ≡ None → IsSpared old.disk new.disk) → IfTold old.disk.content (λ bytes. length bytes ≢ 0 → Stays old.disk new.disk)
-    → Runs command old new fault
-runs_by command fault old new (ending, is, comes, leaves) spared looked =
+    → Runs command asks old new fault
+runs_by command asks fault old new asked (ending, is, comes, leaves) spared looked =
     let told = comes_told (Names command) (HasStore command) (remembered old) (course_of command) begun ending (keeps_to command) (λ file read. absurd read) comes in
     record {
       course = (ending, is, comes, leaves);
       cause = λ own own_is.
           let same : ending.fault ≡ Some own = cc in
           cause_of command (remembered old) new own (subst (Blame (Names command) (HasStore command) (remembered old)) same told.blame) (subst (HasCause (remembered old) new) same leaves.cause);
+      asked = asked;
       unnamed = λ file not. leaves.others file (λ read. not (told.names.read file read)) (λ reading. not (told.names.reading file reading));
       spared = spared;
       looked = looked;

@@ -1,8 +1,9 @@
 pub mod AsciiTexts
+pub mod Asked
 pub mod Manual
 pub mod WordLists
-pub mod KindLines
-pub mod LinesKept
+pub mod KindRows
+pub mod PointRowLaws
 pub mod PointLaw
 pub mod CourseLaws
 pub mod CommandRuns
@@ -10,6 +11,6 @@ pub mod Deeds
 pub mod InitRuns
 pub mod TurnLaws
 pub mod Turns
-pub mod KeptLines
+pub mod RowMapLaws
 pub mod WayLaws
-pub mod KeptLaws
+pub mod TrimmedLaws

@@ -6,12 +6,12 @@ use Rattle.std.proofs.Math.Utf8.{encode}
 use Rattle.updater.specs.Command.{command, points_of}
 use Rattle.updater.specs.CopyText.{escape_letter}
 use Rattle.osm_base.specs.Degrees.{degrees, fraction}
-use Rattle.updater.specs.PointsText.{point_line}
+use Rattle.updater.specs.commands.Points.{point_row}
 
--- a line of points
-pub point_line-cafe : point_line 1 (codes "cafe") (record { lon = pos 133777000; lat = pos 525163000 }) ≡ codes "1\tcafe\tPOINT(13.3777 52.5163)\n"
-unfolding point_line escape_letter degrees fraction digits encode
-point_line-cafe = refl
+-- a row of points
+pub point_row-cafe : point_row 1 (codes "cafe") (record { lon = pos 133777000; lat = pos 525163000 }) ≡ codes "1\tcafe\tPOINT(13.3777 52.5163)\n"
+unfolding point_row escape_letter degrees fraction digits encode
+point_row-cafe = refl
 
 -- words
 pub command-plain : command (codes "points" ∷ codes "k" ∷ codes "f" ∷ []) ≡ Some (points_of (codes "k") (record { first = 2; count = 1 }))

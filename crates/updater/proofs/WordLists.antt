@@ -4,7 +4,7 @@ use Rattle.std.proofs.Common.{map as each}
 use Rattle.std.specs.List.{prefix_len}
 use Rattle.std.proofs.lemmas.List.{take-map, drop-map, length-map}
 use Rattle.std.proofs.lemmas.Bool.Decides.{nat_tests}
-use Rattle.updater.specs.Command.{is_option, options_of, form_of, without_dashes, row, command}
+use Rattle.updater.specs.Command.{is_option, options_of, form_of, without_dashes, named, command}
 
 -- how many items pass from the front on, told by a view of them
 prefix_len-map : {A B : Type 0} (view : A → B) (test : B → Bool) (items : List A)
@@ -38,14 +38,14 @@ module _ {A : Type 0} (view : A → List ℕ) (name : A) (later options form : L
   within = let few_bytes : length (view name ∷ each view later) ≤ 4096 = omega (arith, the_size, few) in grind (arith, nat_tests)
 
   command-row : command (view name ∷ each view later)
-      ≡ row (view name) (options_of (each view later)) (form_of (each view later)) (length (view name ∷ each view later) - length (form_of (each view later)))
+      ≡ named (view name) (options_of (each view later)) (form_of (each view later)) (length (view name ∷ each view later) - length (form_of (each view later)))
   unfolding command
   command-row =
-      ap (λ b. cond b None (row (view name) (options_of (each view later)) (form_of (each view later)) (length (view name ∷ each view later) - length (form_of (each view later))))) within
+      ap (λ b. cond b None (named (view name) (options_of (each view later)) (form_of (each view later)) (length (view name ∷ each view later) - length (form_of (each view later))))) within
 
-  pub command-words : row (view name) (each view options) (each view form) (size - length form) ≡ command (each view (name ∷ later))
+  pub command-words : named (view name) (each view options) (each view form) (size - length form) ≡ command (each view (name ∷ later))
   command-words =
-      ap (λ o. row (view name) o (each view form) (size - length form)) the_options
-      ∙ ap (λ f. row (view name) (options_of (each view later)) f (size - length form)) the_form
-      ∙ ap (λ p. row (view name) (options_of (each view later)) (form_of (each view later)) p) the_place
+      ap (λ o. named (view name) o (each view form) (size - length form)) the_options
+      ∙ ap (λ f. named (view name) (options_of (each view later)) f (size - length form)) the_form
+      ∙ ap (λ p. named (view name) (options_of (each view later)) (form_of (each view later)) p) the_place
       ∙ sym command-row

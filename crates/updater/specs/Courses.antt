@@ -4,8 +4,8 @@ use Rattle.osm_base.specs.declared.object.Entry.{Entry}
 use Rattle.updater.specs.Command.{CommandOf, points_of, lines_of, init_of}
 use Rattle.updater.specs.Course.{Course, ends, reads, wants_empty, formats, tells, writes}
 use Rattle.updater.specs.Files.{change_in}
-use Rattle.updater.specs.LinesText.{lines_text_of}
-use Rattle.updater.specs.PointsText.{points_text_of}
+use Rattle.updater.specs.commands.Lines.{lines_text_of}
+use Rattle.updater.specs.commands.Points.{points_text_of}
 
 -- the entries of so many files from this one on, one after another
 unfoldable pub gathers : (file count : ℕ) → List Entry → (List Entry → Course) → Course

@@ -1,5 +1,6 @@
 -- What a run does to the outside.
-use Rattle.std.specs.Prelude.{◌≡◌, ◌≢◌, ℕ, List, length, Option, Some, None}
+use Rattle.std.specs.Prelude.{◌≡◌, ◌≢◌, ℕ, List, [], length, Option, Some, None}
+use Rattle.std.specs.List.{AllByRecursion}
 use Rattle.outside.specs.Bytes.{IfTold}
 use Rattle.outside.specs.Disk.{DiskView, NoneNew, Stays}
 use Rattle.updater.specs.declared.fault.Fault.{Fault}
@@ -25,21 +26,27 @@ pub record IsSpared (old new : DiskView) : Type 0 where
   pub faults : new.faults ≡ old.faults
   pub reads : new.reads ≡ old.reads
 
--- a run of a command
-pub record Runs (command : CommandOf) (old new : World) (fault : Option Fault) : Type 0 where
+-- no file was asked for but such
+abbrev pub AsksOnly : (asks : List ℕ → Type 0) (named : ℕ → Type 0) → Type 0
+AsksOnly asks named = (files : List ℕ) × asks files × AllByRecursion named files
+
+-- a run of a command, in which the inputs were asked for these files
+pub record Runs (command : CommandOf) (asks : List ℕ → Type 0) (old new : World) (fault : Option Fault) : Type 0 where
   -- it goes by the course of the command
   pub course : GoesBy (course_of command) fault old new
   -- each fault has its cause
   pub cause : (own : Fault) → fault ≡ Some own → Cause command (remembered old) new own
-  -- files that the command does not name are not touched, and neither is the disk where it names no store
+  -- files that the command does not name are not asked for and not touched, and neither is the disk where it names no store
+  pub asked : AsksOnly asks (Names command)
   pub unnamed : (file : ℕ) → ¬ Names command file → new.files.left file ≡ old.files.left file
   pub spared : store_of (Some command) ≡ None → IsSpared old.disk new.disk
   -- a disk that holds bytes where none should be is only looked at
   pub looked : IfTold old.disk.content (λ bytes. length bytes ≢ 0 → Stays old.disk new.disk)
 
 -- words that are no command touch nothing
-pub record IsWrongUse (old new : World) (fault : Option Fault) : Type 0 where
+pub record IsWrongUse (asks : List ℕ → Type 0) (old new : World) (fault : Option Fault) : Type 0 where
   pub usage : fault ≡ Some Usage
+  pub unasked : asks []
   pub files : (file : ℕ) → new.files.left file ≡ old.files.left file
   pub read_faults : new.files.faults ≡ old.files.faults
   pub disk : IsSpared old.disk new.disk

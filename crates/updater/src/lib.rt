@@ -7,7 +7,7 @@
 //! laws that follow for every command are the contracts of `ends_are_due` and `faults_come_in_turn`.
 //!
 //! Below `run`, `command_of` says what the words mean, and each command is a module of `commands`.
-//! `PointLines` keeps the row of each node with a tag and a place while files are read, `WayLines` the
+//! `PointRows` keeps the row of each node with a tag and a place while files are read, `WayRows` the
 //! row of each way with the tag, of which a change builds again only those that it makes due. A `Fault`
 //! has its status and its one line of text.
 #![tactic(auto)]
@@ -16,15 +16,16 @@ mod commands;
 mod copy_text;
 mod fault;
 mod files;
-mod kept_change;
+mod forms;
 mod laws;
-mod lines_by_id;
-mod point_lines;
-mod row;
+mod point_row;
+mod point_rows;
+mod rows_by_id;
 mod running;
 mod telling;
-mod way_lines;
+mod trimmed_change;
 mod way_row;
+mod way_rows;
 mod words;
 
 pub use fault::{Fault, Outcome, fault_line};

@@ -30,12 +30,12 @@ pub fn run<R: Threads + Wait + Sync, I: Inputs, D: Disk, S: Sink>(
     ensures status { result.status ≡ status_of result.fault }
 
     // Words that are no command touch nothing.
-    ensures usage { command (map string_bytes words.now) ≡ None → IsWrongUse
+    ensures usage { command (map string_bytes words.now) ≡ None → IsWrongUse (λ asked. I.reads inputs.old asked inputs.new)
         (world (I.view inputs.old) (D.view disk.old) (S.view out.old))
         (world (I.view inputs.new) (D.view disk.new) (S.view out.new)) result.fault }
 
     // Each command does what specs/Courses.antt says of it, in that order, and comes to one of the ends that it may have.
-    ensures runs { (own : CommandOf) → command (map string_bytes words.now) ≡ Some own → Runs own
+    ensures runs { (own : CommandOf) → command (map string_bytes words.now) ≡ Some own → Runs own (λ asked. I.reads inputs.old asked inputs.new)
         (world (I.view inputs.old) (D.view disk.old) (S.view out.old))
         (world (I.view inputs.new) (D.view disk.new) (S.view out.new)) result.fault }
 {
@@ -54,7 +54,7 @@ fn run_command<I: Inputs, D: Disk, S: Sink>(
     out: &mut S,
 ) -> Result<(), Fault>
     requires fits { FilesFit (seen command) }
-    ensures runs { Runs (seen command.entry)
+    ensures runs { Runs (seen command.entry) (λ asked. I.reads inputs.old asked inputs.new)
         (world (I.view inputs.old) (D.view disk.old) (S.view out.old))
         (world (I.view inputs.new) (D.view disk.new) (S.view out.new)) (result_err result) }
 {

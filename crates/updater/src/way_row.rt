@@ -1,9 +1,9 @@
-//! The line of text of a way.
+//! The row of a way.
 ghost use Rattle.std.specs.Prelude.{◌≡◌, ◌++◌, flat_map, codes, OnOk};
 ghost use Rattle.std.specs.Str.{chars};
 ghost use Rattle.osm_base.specs.Key.{IsId};
-ghost use Rattle.updater.specs.LinesText.{line_text, place_text, places_text, way_text};
-ghost use Rattle.updater.specs.WayLines.{row_at};
+ghost use Rattle.updater.specs.commands.Lines.{line_text, place_text, places_text, way_text};
+ghost use Rattle.updater.specs.WayRows.{row_at};
 
 use crate::copy_text::push_copy_text;
 use line_build::line_of;
@@ -11,7 +11,7 @@ use object_fold::Objects;
 use osm_base::{DegreesBuffer, Key, Kind, Lookup, Object, OutOfMemory, Place};
 use std::alloc::Global;
 
-/// Appends the line of text of a way, where it has the tag of this key and a line.
+/// Appends the row of a way, where it has the tag of this key and a line.
 pub fn push_row(
     alloc: Global,
     out: &mut Vec<u8>,
@@ -34,7 +34,7 @@ pub fn push_row(
     }
 }
 
-/// Appends the line of text of a way with this id, this value and these places.
+/// Appends the row of a way with this id, this value and these places.
 fn push_way(out: &mut Vec<u8>, id: u64, value: &str, places: &[Place]) -> Result<(), OutOfMemory>
     ensures text { OnOk result (out.new.items ≡ out.old.items ++ way_text id (chars value.now) places.now) }
 {
@@ -49,7 +49,7 @@ fn push_way(out: &mut Vec<u8>, id: u64, value: &str, places: &[Place]) -> Result
 }
 
 /// Appends a line as a geometry.
-#[tactic(auto, unfolding(crate::specs::LinesText::line_text))]
+#[tactic(auto, unfolding(crate::specs::commands::Lines::line_text))]
 fn push_line(out: &mut Vec<u8>, places: &[Place]) -> Result<(), OutOfMemory>
     ensures text { OnOk result (out.new.items ≡ out.old.items ++ line_text places.now) }
 {
@@ -60,7 +60,7 @@ fn push_line(out: &mut Vec<u8>, places: &[Place]) -> Result<(), OutOfMemory>
 }
 
 /// Appends places, separated by commas.
-#[tactic(auto, unfolding(crate::specs::LinesText::places_text))]
+#[tactic(auto, unfolding(crate::specs::commands::Lines::places_text))]
 fn push_places(out: &mut Vec<u8>, places: &[Place]) -> Result<(), OutOfMemory>
     ensures text { OnOk result (out.new.items ≡ out.old.items ++ places_text places.now) }
 {

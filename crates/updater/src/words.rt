@@ -1,18 +1,15 @@
 //! The words of the command line.
-ghost use Rattle.std.specs.Prelude.{◌≡◌, ◌≤◌, ◌+◌, ℕ, List, map, length, IfSome};
+ghost use Rattle.std.specs.Prelude.{◌≡◌, ◌≤◌, map, length, IfSome};
 ghost use Rattle.std.specs.List.{prefix_len};
 ghost use Rattle.std.specs.Option.{option_map};
 ghost use Rattle.std.specs.String.{string_bytes};
 ghost use Rattle.updater.specs.Command as spec;
-ghost use Rattle.updater.specs.declared.files.Files.{Files as FilesOf};
 
+use crate::commands::{init, lines, points};
 use crate::files::Files;
 
 /// The most words that a command line may have, the command word counted.
 pub const MAX_WORDS: usize = 4_096;
-
-/// The most bytes that a KEY may have.
-pub const MAX_KEY: usize = 255;
 
 /// What the words of a command line ask for. A file is told by the place of its word.
 #[derive(Clone, Copy, Debug, PartialEq, Eq)]
@@ -53,29 +50,21 @@ pub fn command_of(words: &[String]) -> Option<Command<'_>>
     let (options, rest) = later.split_at(count_options(later));
     let form = without_dashes(rest);
     let place = (words.len() - form.len()) as u32;
-    row(name, options, form, place)
+    named(name, options, form, place)
 }
 
 /// The command of this name with these words.
-fn row<'a>(name: &str, options: &[String], form: &'a [String], place: u32) -> Option<Command<'a>>
+fn named<'a>(name: &str, options: &[String], form: &'a [String], place: u32) -> Option<Command<'a>>
     requires place { place ≤ MAX_WORDS }
     requires form { length form.now ≤ MAX_WORDS }
-    ensures row { option_map spec.seen result
-        ≡ spec.row name.now (map string_bytes options.now) (map string_bytes form.now) place }
+    ensures named { option_map spec.seen result
+        ≡ spec.named name.now (map string_bytes options.now) (map string_bytes form.now) place }
     ensures fits { IfSome result (λ command. spec.FilesFit (spec.seen command)) }
 {
     match name {
-        "points" => {
-            let (key, files) = keyed(options, form, place)?;
-            Some(Command::Points { key, files })
-        }
-        "lines" => {
-            let (key, files) = keyed(options, form, place)?;
-            Some(Command::Lines { key, files })
-        }
-        "init" => Some(Command::Init {
-            store: stored(options, form)?,
-        }),
+        "points" => points::form(options, form, place),
+        "lines" => lines::form(options, form, place),
+        "init" => init::form(options, form),
         _ => None,
     }
 }
@@ -117,34 +106,4 @@ fn without_dashes(words: &[String]) -> &[String]
         [dashes, form @ ..] if dashes.as_str() == "--" => form,
         _ => words,
     }
-}
-
-/// `STORE`.
-fn stored<'a>(options: &[String], form: &'a [String]) -> Option<&'a str>
-    ensures stored { option_map (λ store. spec.init_of store.now) result
-        ≡ spec.stored (map string_bytes options.now) (map string_bytes form.now) }
-{
-    match form {
-        [store] if options.is_empty() => Some(store.as_str()),
-        _ => None,
-    }
-}
-
-/// `KEY INPUT CHANGE*`, whose first word has this place.
-fn keyed<'a>(options: &[String], form: &'a [String], place: u32) -> Option<(&'a str, Files)>
-    requires place { place ≤ MAX_WORDS }
-    requires form { length form.now ≤ MAX_WORDS }
-    ensures keyed { (command : List ℕ → FilesOf → spec.CommandOf) → option_map (λ (key, files). command key.now files) result
-        ≡ spec.keyed command (map string_bytes options.now) (map string_bytes form.now) place }
-    ensures fits { IfSome result (λ (_, files). spec.Fit files) }
-{
-    let (key, files) = form.split_first()?;
-    if !options.is_empty() || files.is_empty() || key.is_empty() || key.len() > MAX_KEY {
-        return None;
-    }
-    let files = Files {
-        first: place + 1,
-        count: files.len() as u32,
-    };
-    Some((key.as_str(), files))
 }

@@ -1,5 +1,9 @@
 //! `init STORE`: an empty store on an empty disk.
-ghost use Rattle.std.specs.Prelude.{◌≢◌, length};
+ghost use Rattle.std.specs.Prelude.{◌≡◌, ◌≢◌, length, map, IfSome};
+ghost use Rattle.std.specs.Option.{option_map};
+ghost use Rattle.std.specs.String.{string_bytes};
+ghost use Rattle.updater.specs.CommandOf.{FilesFit, seen};
+ghost use Rattle.updater.specs.commands.Init as spec;
 ghost use Rattle.std.specs.Result.{result_err};
 ghost use Rattle.outside.specs.Bytes.{IfTold};
 ghost use Rattle.outside.specs.Disk.{Stays};
@@ -8,12 +12,23 @@ ghost use Rattle.updater.specs.Runs.{GoesBy};
 ghost use Rattle.updater.specs.World.{world};
 
 use crate::fault::Fault;
+use crate::forms::stored;
 use crate::telling::tell;
+use crate::words::Command;
 use outside::{Disk, Inputs, Sink};
 use page_journal::format;
 
 /// The line that tells of a new store.
 const FORMATTED: &str = "formatted\n";
+
+/// The form of its words.
+pub fn form<'a>(options: &[String], form: &'a [String]) -> Option<Command<'a>>
+    ensures form { option_map seen result ≡ spec.form (map string_bytes options.now) (map string_bytes form.now) }
+    ensures fits { IfSome result (λ command. FilesFit (seen command)) }
+{
+    let store = stored(options, form)?;
+    Some(Command::Init { store })
+}
 
 /// Makes an empty store on an empty disk, and tells so.
 pub fn init<I: Inputs, D: Disk, S: Sink>(inputs: &I, disk: &mut D, out: &mut S) -> Result<(), Fault>

@@ -1,24 +1,40 @@
 //! `lines KEY INPUT CHANGE*`: a row for each way that has the tag and a line.
-ghost use Rattle.std.specs.Prelude.{◌≡◌, ◌≢◌, ◌<◌, ◌≤◌, ◌+◌, ℕ, IfErr, IfOk, OnOk};
+ghost use Rattle.std.specs.Prelude.{◌≡◌, ◌≢◌, ◌<◌, ◌≤◌, ◌+◌, ℕ, IfErr, IfOk, IfSome, List, OnOk, length, map, replicate};
 ghost use Rattle.std.specs.Result.{result_err};
+ghost use Rattle.std.specs.Option.{option_map};
 ghost use Rattle.std.specs.Str.{chars};
+ghost use Rattle.std.specs.String.{string_bytes};
 ghost use Rattle.outside.specs.Causes.{Rose};
 ghost use Rattle.object_fold.specs.Reading.{IsFaultOf, ReadsAll};
 ghost use Rattle.object_fold.specs.Stops.{Stops};
-ghost use Rattle.updater.specs.Command.{Fit, lines_of};
+ghost use Rattle.updater.specs.CommandOf.{FilesFit, Fit, Names, lines_of, seen};
 ghost use Rattle.updater.specs.Courses.{course_of};
-ghost use Rattle.updater.specs.Runs.{GoesBy};
-ghost use Rattle.updater.specs.WayLines.{after_way, no_ways};
+ghost use Rattle.updater.specs.Runs.{AsksOnly, GoesBy};
+ghost use Rattle.updater.specs.WayRows.{after_way, no_ways};
 ghost use Rattle.updater.specs.World.{world};
+ghost use Rattle.updater.specs.commands.Lines as spec;
 
 use crate::fault::Fault;
 use crate::files::Files;
+use crate::forms::keyed;
 use crate::telling::tell;
-use crate::way_lines::{WayImport, WayLines};
+use crate::way_rows::{WayImport, WayRows};
+use crate::words::{Command, MAX_WORDS};
 use object_fold::{FileFault, scan_file};
 use osm_base::Limits;
 use outside::{Disk, Inputs, Sink};
 use std::alloc::Global;
+
+/// The form of its words.
+pub fn form<'a>(options: &[String], form: &'a [String], place: u32) -> Option<Command<'a>>
+    requires place { place ≤ MAX_WORDS }
+    requires form { length form.now ≤ MAX_WORDS }
+    ensures form { option_map seen result ≡ spec.form (map string_bytes options.now) (map string_bytes form.now) place }
+    ensures fits { IfSome result (λ command. FilesFit (seen command)) }
+{
+    let (key, files) = keyed(options, form, place)?;
+    Some(Command::Lines { key, files })
+}
 
 /// Reads the files one after another, and writes the rows of the ways.
 pub fn lines<I: Inputs, D: Disk, S: Sink>(
@@ -33,6 +49,7 @@ pub fn lines<I: Inputs, D: Disk, S: Sink>(
     ensures course { GoesBy (course_of (lines_of key.now files)) (result_err result)
         (world (I.view inputs.old) (D.view disk.now) (S.view out.old))
         (world (I.view inputs.new) (D.view disk.now) (S.view out.new)) }
+    ensures asked { AsksOnly (λ asked. I.reads inputs.old asked inputs.new) (Names (lines_of key.now files)) }
 {
     let limits = Limits::standard();
     let mut rows = match import(alloc, key, inputs, files.first, &limits) {
@@ -58,26 +75,27 @@ fn import<'k, I: Inputs>(
     inputs: &mut I,
     file: u32,
     limits: &Limits,
-) -> Result<WayLines<'k>, FileFault>
+) -> Result<WayRows<'k>, FileFault>
     ensures ok { IfOk result (λ rows. ReadsAll after_way limits.now (no_ways (chars key.now)) rows
         ((I.view inputs.old).left file) ((I.view inputs.new).left file)) }
     ensures stopped { IfErr result (Stops (IsFaultOf limits.now ((I.view inputs.old).left file))
         (Rose (I.view inputs.old).faults (I.view inputs.new).faults)) }
     ensures later { (I.view inputs.old).faults ≤ (I.view inputs.new).faults }
     ensures others { (other : ℕ) → other ≢ file → (I.view inputs.new).left other ≡ (I.view inputs.old).left other }
+    ensures read { (count : ℕ) × I.reads inputs.old (replicate count file) inputs.new }
 {
     let mut import = WayImport::new(alloc, key);
     scan_file(alloc, inputs, file, limits, &mut import)?;
-    Ok(import.into_lines()?)
+    Ok(import.into_rows()?)
 }
 
-/// Reads a file of changes, which is taken whole at its end.
+/// Reads a file of changes, which is applied whole at its end.
 fn change<I: Inputs>(
     alloc: Global,
     inputs: &mut I,
     file: u32,
     limits: &Limits,
-    rows: &mut WayLines,
+    rows: &mut WayRows,
 ) -> Result<(), FileFault>
     ensures ok { OnOk result (ReadsAll after_way limits.now rows.old rows.new
         ((I.view inputs.old).left file) ((I.view inputs.new).left file)) }
@@ -85,9 +103,10 @@ fn change<I: Inputs>(
         (Rose (I.view inputs.old).faults (I.view inputs.new).faults)) }
     ensures later { (I.view inputs.old).faults ≤ (I.view inputs.new).faults }
     ensures others { (other : ℕ) → other ≢ file → (I.view inputs.new).left other ≡ (I.view inputs.old).left other }
+    ensures read { (count : ℕ) × I.reads inputs.old (replicate count file) inputs.new }
 {
     let mut change = rows.begin();
     scan_file(alloc, inputs, file, limits, &mut change)?;
-    rows.take(change.into_change())?;
+    rows.apply(change.into_change())?;
     Ok(())
 }

@@ -1,19 +1,35 @@
 //! `points KEY INPUT CHANGE*`: a row for each node that has the tag and a place.
-ghost use Rattle.std.specs.Prelude.{◌≤◌, ◌+◌};
+ghost use Rattle.std.specs.Prelude.{◌≡◌, ◌≤◌, List, ℕ, map, length, IfSome};
+ghost use Rattle.std.specs.Option.{option_map};
+ghost use Rattle.std.specs.String.{string_bytes};
 ghost use Rattle.std.specs.Result.{result_err};
-ghost use Rattle.updater.specs.Command.{Fit, points_of};
+ghost use Rattle.updater.specs.CommandOf.{FilesFit, Fit, Names, points_of, seen};
 ghost use Rattle.updater.specs.Courses.{course_of};
-ghost use Rattle.updater.specs.Runs.{GoesBy};
+ghost use Rattle.updater.specs.Runs.{AsksOnly, GoesBy};
 ghost use Rattle.updater.specs.World.{world};
+ghost use Rattle.updater.specs.commands.Points as spec;
 
 use crate::fault::Fault;
 use crate::files::Files;
-use crate::point_lines::PointLines;
+use crate::forms::keyed;
+use crate::point_rows::PointRows;
 use crate::telling::tell;
+use crate::words::{Command, MAX_WORDS};
 use object_fold::scan_file;
 use osm_base::Limits;
 use outside::{Disk, Inputs, Sink};
 use std::alloc::Global;
+
+/// The form of its words.
+pub fn form<'a>(options: &[String], form: &'a [String], place: u32) -> Option<Command<'a>>
+    requires place { place ≤ MAX_WORDS }
+    requires form { length form.now ≤ MAX_WORDS }
+    ensures form { option_map seen result ≡ spec.form (map string_bytes options.now) (map string_bytes form.now) place }
+    ensures fits { IfSome result (λ command. FilesFit (seen command)) }
+{
+    let (key, files) = keyed(options, form, place)?;
+    Some(Command::Points { key, files })
+}
 
 /// Reads the files one after another, and writes the rows of the points.
 pub fn points<I: Inputs, D: Disk, S: Sink>(
@@ -28,9 +44,10 @@ pub fn points<I: Inputs, D: Disk, S: Sink>(
     ensures course { GoesBy (course_of (points_of key.now files)) (result_err result)
         (world (I.view inputs.old) (D.view disk.now) (S.view out.old))
         (world (I.view inputs.new) (D.view disk.now) (S.view out.new)) }
+    ensures asked { AsksOnly (λ asked. I.reads inputs.old asked inputs.new) (Names (points_of key.now files)) }
 {
     let limits = Limits::standard();
-    let mut rows = PointLines::new(alloc, key);
+    let mut rows = PointRows::new(alloc, key);
     let mut file = files.first;
     let end = files.first + files.count;
     while file < end {

@@ -1,6 +1,6 @@
 use Rattle.std.proofs.Common.{◌≡◌, ◌++◌, drop}
 use Rattle.std.specs.Prelude.{flat_map, codes}
-use Rattle.updater.specs.LinesText.{place_text}
+use Rattle.updater.specs.commands.Lines.{place_text}
 use Rattle.updater.proofs.way_row.push_later.Given as goal
 
 -- what is written, and then the text of the places that are left, is the text of all

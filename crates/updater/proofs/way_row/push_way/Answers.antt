@@ -1,6 +1,6 @@
 use Rattle.std.proofs.Common.{rules, append_assoc}
 use Rattle.std.proofs.lemmas.Str.{encodes-chars}
-use Rattle.updater.specs.LinesText.{way_text}
+use Rattle.updater.specs.commands.Lines.{way_text}
 use Rattle.updater.proofs.way_row.push_way.Goals as goal
 
 pub returns : goal.returns

@@ -10,10 +10,10 @@ returns c =
     let options = map string_bytes c.split_at.result.0.now in
     let form = map string_bytes c.without_dashes-form.result.now in
     record {
-      fits = c.row.ensures.fits;
+      fits = c.named.ensures.fits;
       command =
-          c.row.ensures.row
-          ∙ ap (λ name. spec.row name options form (length c.args.words.now - length c.without_dashes-form.result.now)) c.deref.ensures
+          c.named.ensures.named
+          ∙ ap (λ name. spec.named name options form (length c.args.words.now - length c.without_dashes-form.result.now)) c.deref.ensures
           ∙ command-words string_bytes c.in_ok-name.name.now c.in_ok-name.later.now c.split_at.result.0.now c.without_dashes-form.result.now c.count_options.result _
           (ap length words) c.if-words-gt-MAX_WORDS.false c.count_options.ensures.count c.split_at.ensures.front
           (c.without_dashes-form.ensures.words ∙ ap (λ rest. spec.without_dashes (map string_bytes rest)) c.split_at.ensures.back)

@@ -2,8 +2,8 @@ use Rattle.std.proofs.Common.{List, ap, subst, ◌∙◌}
 use Rattle.osm_base.specs.declared.object.Entry.{Entry}
 use Rattle.object_fold.specs.Fold.{folded_all}
 use Rattle.object_fold.specs.Reading.{ReadsAll}
-use Rattle.updater.specs.KeptChange.{KeptEntries, with_entry}
-use Rattle.updater.proofs.KeptLaws.{taken-reads}
+use Rattle.updater.specs.TrimmedChange.{TrimmedEntries, with_entry}
+use Rattle.updater.proofs.TrimmedLaws.{taken-reads}
 use Rattle.updater.proofs.commands.lines.change.Goals as goal
 
 pub returns-clause-ok : goal.returns-clause-ok
@@ -12,6 +12,6 @@ returns-clause-ok g c =
     let change = c.scan_file.new.keeper in
     let left = (g.I.Inputs.view c.args.inputs.now).left c.args.file in
     let rest = (g.I.Inputs.view c.scan_file.new.inputs).left c.args.file in
-    taken-reads c.args.limits.now old c.take.new.self change left rest
-    (c.in_ok-take.ensures.ok ∙ ap (λ (entries : List Entry). record { key = old.key; objects = folded_all old.objects entries }) c.into_change.ensures.entries)
-    (subst (λ (start : KeptEntries). ReadsAll with_entry c.args.limits.now start change left rest) c.begin-change.ensures.empty c.in_ok-scan_file.ensures.ok)
+    taken-reads c.args.limits.now old c.apply.new.self change left rest
+    (c.in_ok-apply.ensures.ok ∙ ap (λ (entries : List Entry). record { key = old.key; objects = folded_all old.objects entries }) c.into_change.ensures.entries)
+    (subst (λ (start : TrimmedEntries). ReadsAll with_entry c.args.limits.now start change left rest) c.begin-change.ensures.empty c.in_ok-scan_file.ensures.ok)

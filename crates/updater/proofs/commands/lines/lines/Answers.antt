@@ -5,18 +5,20 @@ use Rattle.osm_base.specs.declared.limits.LimitNumbers.{LimitNumbers}
 use Rattle.object_fold.specs.Reading.{IsFaultOf, ReadsAll}
 use Rattle.object_fold.specs.Stops.{Stops}
 use Rattle.outside.specs.Causes.{Rose}
-use Rattle.updater.specs.Command.{lines_of}
+use Rattle.updater.specs.Command.{Names, lines_of}
 use Rattle.updater.specs.Course.{ends, writes}
 use Rattle.updater.specs.Courses.{course_of, gathers}
-use Rattle.updater.specs.WayLines.{WaysRead, after_way, no_ways}
-use Rattle.updater.specs.LinesText.{lines_text, lines_text_of}
-use Rattle.updater.proofs.KeptLaws.{lines-are}
+use Rattle.updater.specs.WayRows.{WaysRead, after_way, no_ways}
+use Rattle.updater.specs.commands.Lines.{lines_text, lines_text_of}
+use Rattle.updater.proofs.TrimmedLaws.{ways-are}
+use Rattle.updater.proofs.Asked.{asked_more, asked_none}
 use Rattle.updater.proofs.Deeds.{no_memory}
 use Rattle.updater.proofs.Turns.{first_turn, next_turn, ends_in_file, ends_short, ends_told}
 use Rattle.updater.proofs.commands.lines.lines.Goals as goal
 
 pub returns-in-Err : goal.returns-in-Err
 returns-in-Err g c =
+    let laws = g.met.I.Inputs g.world.𝓛 g.world.𝓜 g.world.𝓡 ((λ s x. x), (λ x. x), (λ x. x), λ x. x) in
     let key = c.args.key.now in
     let files = c.args.files in
     let file = files.first in
@@ -28,14 +30,18 @@ returns-in-Err g c =
           (g.I.Inputs.view c.args.inputs.now) (g.D.Disk.view c.args.disk.now) (g.S.Sink.view c.args.out.now) files.first files.count (no_ways (chars key)) refl refl) c.import.ensures.others c.import.ensures.later c.in-Err.fault
           (subst (λ (limits : LimitNumbers). Stops (IsFaultOf limits ((g.I.Inputs.view c.args.inputs.now).left file))
           (Rose (g.I.Inputs.view c.args.inputs.now).faults (g.I.Inputs.view c.import.new.inputs).faults) c.in-Err.fault) c.standard-limits.ensures.numbers c.in-Err.ensures.stopped);
+      asked = asked_more g.I.Inputs.reads laws.reads_then (Names (lines_of key files)) c.args.inputs.now c.args.inputs.now c.import.new.inputs file (asked_none g.I.Inputs.reads (Names (lines_of key files)) c.args.inputs.now (laws.reads_none c.args.inputs.now)) c.import.ensures.read (omega arith, omega (arith, c.requires.fits.some));
     })
 
 pub loop-file-init : goal.loop-file-init
 loop-file-init g c =
+    let laws = g.met.I.Inputs g.world.𝓛 g.world.𝓜 g.world.𝓡 ((λ s x. x), (λ x. x), (λ x. x), λ x. x) in
     let key = c.args.key.now in
     let files = c.args.files in
     let file = files.first in
     record {
+      least = omega arith;
+      asked = asked_more g.I.Inputs.reads laws.reads_then (Names (lines_of key files)) c.args.inputs.now c.args.inputs.now c.import.new.inputs file (asked_none g.I.Inputs.reads (Names (lines_of key files)) c.args.inputs.now (laws.reads_none c.args.inputs.now)) c.import.ensures.read (omega arith, omega (arith, c.requires.fits.some));
       within = omega (arith, c.requires.fits.some);
       turn = next_turn after_way (no_ways (chars key)) (λ entries. writes (lines_text_of key entries) ends) (course_of (lines_of key files))
           (g.I.Inputs.view c.args.inputs.now) (g.D.Disk.view c.args.disk.now) (g.S.Sink.view c.args.out.now) file files.count (files.first + files.count - (files.first + 1)) (omega (arith, c.requires.fits.some))
@@ -48,6 +54,7 @@ loop-file-init g c =
 
 pub returns-in-Err-change : goal.returns-in-Err-change
 returns-in-Err-change g c =
+    let laws = g.met.I.Inputs g.world.𝓛 g.world.𝓜 g.world.𝓡 ((λ s x. x), (λ x. x), (λ x. x), λ x. x) in
     let key = c.args.key.now in
     let files = c.args.files in
     let file = c.loop-file.file in
@@ -57,14 +64,18 @@ returns-in-Err-change g c =
           c.loop-file.rows (g.I.Inputs.view c.loop-file.inputs) (g.I.Inputs.view c.change.new.inputs) c.loop-file.invariant.turn c.change.ensures.others c.change.ensures.later c.in-Err-change.fault
           (subst (λ (limits : LimitNumbers). Stops (IsFaultOf limits ((g.I.Inputs.view c.loop-file.inputs).left file))
           (Rose (g.I.Inputs.view c.loop-file.inputs).faults (g.I.Inputs.view c.change.new.inputs).faults) c.in-Err-change.fault) c.standard-limits.ensures.numbers c.in-Err-change.ensures.stopped);
+      asked = asked_more g.I.Inputs.reads laws.reads_then (Names (lines_of key files)) c.args.inputs.now c.loop-file.inputs c.change.new.inputs file c.loop-file.invariant.asked c.change.ensures.read (c.loop-file.invariant.least, omega (arith, c.loop-file-test.true));
     })
 
 pub loop-file-preserved : goal.loop-file-preserved
 loop-file-preserved g c =
+    let laws = g.met.I.Inputs g.world.𝓛 g.world.𝓜 g.world.𝓡 ((λ s x. x), (λ x. x), (λ x. x), λ x. x) in
     let key = c.args.key.now in
     let files = c.args.files in
     let file = c.loop-file.file in
     record {
+      least = omega (arith, c.loop-file.invariant.least);
+      asked = asked_more g.I.Inputs.reads laws.reads_then (Names (lines_of key files)) c.args.inputs.now c.loop-file.inputs c.change.new.inputs file c.loop-file.invariant.asked c.change.ensures.read (c.loop-file.invariant.least, omega (arith, c.loop-file-test.true));
       within = omega (arith, c.loop-file-test.true);
       turn = next_turn after_way (no_ways (chars key)) (λ entries. writes (lines_text_of key entries) ends) (course_of (lines_of key files))
           (g.I.Inputs.view c.args.inputs.now) (g.D.Disk.view c.args.disk.now) (g.S.Sink.view c.args.out.now) file (files.first + files.count - file) (files.first + files.count - (file + 1)) (omega (arith, c.loop-file-test.true))
@@ -79,10 +90,11 @@ returns-in_err-text g c =
     let files = c.args.files in
     let file = c.loop-file.file in
     record {
-      course = ends_short after_way (no_ways (chars key)) (lines_text_of key) (λ (own : WaysRead). lines_text own.key own.objects) (lines-are key) (course_of (lines_of key files))
+      course = ends_short after_way (no_ways (chars key)) (lines_text_of key) (λ (own : WaysRead). lines_text own.key own.objects) (ways-are key) (course_of (lines_of key files))
           (g.I.Inputs.view c.args.inputs.now) (g.D.Disk.view c.args.disk.now) (g.S.Sink.view c.args.out.now) file (files.first + files.count - file) (omega (arith, c.loop-file-test.false))
           c.loop-file.rows (g.I.Inputs.view c.loop-file.inputs) c.loop-file.invariant.turn
           (result_err c.from_residual.result) (no_memory c.from_residual.result c.from_residual.ensures);
+      asked = c.loop-file.invariant.asked;
     }
 
 pub returns : goal.returns
@@ -91,9 +103,10 @@ returns g c =
     let files = c.args.files in
     let file = c.loop-file.file in
     record {
-      course = ends_told after_way (no_ways (chars key)) (lines_text_of key) (λ (own : WaysRead). lines_text own.key own.objects) (lines-are key) (course_of (lines_of key files))
+      course = ends_told after_way (no_ways (chars key)) (lines_text_of key) (λ (own : WaysRead). lines_text own.key own.objects) (ways-are key) (course_of (lines_of key files))
           (g.I.Inputs.view c.args.inputs.now) (g.D.Disk.view c.args.disk.now) (g.S.Sink.view c.args.out.now) file (files.first + files.count - file) (omega (arith, c.loop-file-test.false))
           c.loop-file.rows (g.I.Inputs.view c.loop-file.inputs) c.loop-file.invariant.turn
           c.deref.result.now (g.S.Sink.view c.tell.new.out) c.tell.result (c.deref.ensures.value ∙ c.in_ok-text.ensures.text)
           c.tell.ensures.ok c.tell.ensures.err c.tell.ensures.alone c.tell.ensures.cause;
+      asked = c.loop-file.invariant.asked;
     }

@@ -1,10 +1,11 @@
 use Rattle.std.proofs.Common.{◌≤◌, ◌-◌}
 use Rattle.std.specs.Str.{chars}
-use Rattle.updater.specs.Command.{points_of}
+use Rattle.updater.specs.Command.{Names, points_of}
 use Rattle.updater.specs.Course.{ends, writes}
 use Rattle.updater.specs.Courses.{course_of}
-use Rattle.updater.specs.PointLines.{after_entry, no_lines}
-use Rattle.updater.specs.PointsText.{points_text_of}
+use Rattle.updater.specs.PointRows.{after_entry, no_rows}
+use Rattle.updater.specs.commands.Points.{points_text_of}
+use Rattle.updater.specs.Runs.{AsksOnly}
 use Rattle.updater.specs.Turns.{IsTurn}
 use Rattle.updater.specs.World.{remembered, world}
 use Rattle.updater.proofs.commands.points.points.Given as goal
@@ -12,8 +13,10 @@ use Rattle.updater.proofs.commands.points.points.Given as goal
 -- the files so far are read, and the rest of the course leads on
 abbrev pub invariant-loop-file : goal.invariant-loop-file
 invariant-loop-file g l = record {
+  least : l.fn.files.first ≤ l.file;
   within : l.file ≤ l.end;
-  turn : IsTurn after_entry (no_lines (chars l.fn.key)) (λ entries. writes (points_text_of l.fn.key entries) ends) (course_of (points_of l.fn.key l.fn.files)) l.file (l.end - l.file)
+  asked : AsksOnly (λ asked. g.I.Inputs.reads l.fn.inputs asked l.inputs) (Names (points_of l.fn.key l.fn.files));
+  turn : IsTurn after_entry (no_rows (chars l.fn.key)) (λ entries. writes (points_text_of l.fn.key entries) ends) (course_of (points_of l.fn.key l.fn.files)) l.file (l.end - l.file)
       (remembered (world (g.I.Inputs.view l.fn.inputs) (g.D.Disk.view l.fn.disk) (g.S.Sink.view l.fn.out))) l.rows (g.I.Inputs.view l.inputs);
 }
 

@@ -1,0 +1,3 @@
+pub mod Init
+pub mod Lines
+pub mod Points

@@ -1,0 +1,43 @@
+//! Forms of words that commands share.
+ghost use Rattle.std.specs.Prelude.{◌≡◌, ◌≤◌, ℕ, List, map, length, IfSome};
+ghost use Rattle.std.specs.Option.{option_map};
+ghost use Rattle.std.specs.String.{string_bytes};
+ghost use Rattle.updater.specs.CommandOf.{CommandOf, Fit};
+ghost use Rattle.updater.specs.Forms as spec;
+ghost use Rattle.updater.specs.declared.files.Files.{Files as FilesOf};
+
+use crate::files::Files;
+use crate::words::MAX_WORDS;
+
+/// The most bytes that a KEY may have.
+pub const MAX_KEY: usize = 255;
+
+/// `KEY INPUT CHANGE*`, whose first word has this place.
+pub fn keyed<'a>(options: &[String], form: &'a [String], place: u32) -> Option<(&'a str, Files)>
+    requires place { place ≤ MAX_WORDS }
+    requires form { length form.now ≤ MAX_WORDS }
+    ensures keyed { (command : List ℕ → FilesOf → CommandOf) → option_map (λ (key, files). command key.now files) result
+        ≡ spec.keyed command (map string_bytes options.now) (map string_bytes form.now) place }
+    ensures fits { IfSome result (λ (_, files). Fit files) }
+{
+    let (key, files) = form.split_first()?;
+    if !options.is_empty() || files.is_empty() || key.is_empty() || key.len() > MAX_KEY {
+        return None;
+    }
+    let files = Files {
+        first: place + 1,
+        count: files.len() as u32,
+    };
+    Some((key.as_str(), files))
+}
+
+/// `STORE`.
+pub fn stored<'a>(options: &[String], form: &'a [String]) -> Option<&'a str>
+    ensures stored { (command : List ℕ → CommandOf) → option_map (λ store. command store.now) result
+        ≡ spec.stored command (map string_bytes options.now) (map string_bytes form.now) }
+{
+    match form {
+        [store] if options.is_empty() => Some(store.as_str()),
+        _ => None,
+    }
+}
