@@ -1,7 +1,7 @@
 -- The line of a row, and its number.
 -- PostgreSQL manual, COPY, "Text Format": a row is a line, its columns are separated by the delimiter, here a tab, and \N is NULL.
 -- osm2pgsql manual, "Geometry Processing", "Areas": the row of a relation that bounds an area has the negated id of the relation.
-use Rattle.std.specs.Prelude.{ℕ, ℤ, pos, neg_ℤ, Bool, true, false, List, ◌++◌, codes, encode_utf8_all, flat_map}
+use Rattle.std.specs.Prelude.{ℕ, ℤ, pos, neg_ℤ, Bool, true, List, ◌++◌, codes, encode_utf8_all, flat_map}
 use Rattle.std.specs.Fmt.{signed_decimal}
 use Rattle.osm_base.specs.Key.{KeyOf}
 use Rattle.osm_base.specs.declared.key.Kind.{Kind}
