@@ -1,6 +1,5 @@
 -- Tags that are gathered first and put in order at the end come to what they come to one after the other.
-use Rattle.std.proofs.Common.{◌≡◌, ℕ, Bool, true, false, cond, List, [], ◌∷◌, ◌++◌, Option, None, Some, Result, Ok, Err, refl, sym, ◌∙◌, ap, subst, append_assoc, map}
-use Rattle.std.proofs.lemmas.Bool.{cases_Bool}
+use Rattle.std.proofs.Common.{◌≡◌, ℕ, true, false, cond, List, [], ◌∷◌, ◌++◌, Option, None, Some, Result, Ok, Err, refl, sym, ◌∙◌, ap, subst, append_assoc, map}
 use Rattle.std.proofs.lemmas.List.{append-nil, map-append}
 use Rattle.std.proofs.lemmas.Map.Keys.{IsDistinct-push}
 use Rattle.std.specs.Cmp.{eq_by_cmp_equiv}
@@ -14,7 +13,7 @@ use Rattle.std.specs.Ordering.{nat_cmp, eq_by_cmp}
 use Rattle.osm_base.specs.Tags.{TagMap, TagPairs, HasEachKeyOnce}
 use Rattle.opl_object.specs.declared.ascii.TheConstants.{EQUALS}
 use Rattle.opl_object.specs.declared.why.Why.{Why}
-use Rattle.opl_object.specs.declared.why.Why.TheVariants.{Tag, RepeatedKey}
+use Rattle.opl_object.specs.declared.why.Why.TheVariants.{RepeatedKey}
 use Rattle.opl_object.specs.declared.why.LineRefused.{LineRefused}
 use Rattle.opl_object.specs.declared.why.LineRefused.TheVariants.{Bad}
 use Rattle.opl_object.specs.Fields.{is, cut_at}

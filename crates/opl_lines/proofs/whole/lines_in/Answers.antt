@@ -1,4 +1,4 @@
-use Rattle.std.proofs.Common.{ℕ, List, Bor, length, drop, flat_map, sym, ◌∙◌, ap, arith}
+use Rattle.std.proofs.Common.{ℕ, List, Bor, flat_map, sym, ◌∙◌, ap, arith}
 use Rattle.std.proofs.lemmas.List.{drop_all}
 use Rattle.opl_lines.specs.Whole.{limit_left}
 use Rattle.opl_lines.proofs.Walk.{limit_left-end}

@@ -1,4 +1,4 @@
-use Rattle.std.proofs.Common.{◌≡◌, Ok, rules, refl, sym, ap, ◌∙◌}
+use Rattle.std.proofs.Common.{Ok, refl, sym, ap, ◌∙◌}
 use Rattle.opl_object.proofs.GatheredTags.{repeated_at_end, stopped_at_end, whole_at_end}
 use Rattle.opl_object.proofs.tags.tags_between.Goals as goal
 
