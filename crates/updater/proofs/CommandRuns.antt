@@ -1,21 +1,17 @@
 -- A run of each command, by its course.
-use Rattle.std.proofs.Common.{◌≡◌, ◌≢◌, ◌≤◌, ◌<◌, ◌+◌, ℕ, List, Option, Some, None, length, refl, sym, ap, subst, arith, inl}
-use Rattle.osm_base.specs.declared.object.Entry.{Entry}
+use Rattle.std.proofs.Common.{◌≡◌, ◌≢◌, ℕ, List, Option, Some, None, length, refl, subst, arith, inl}
 use Rattle.outside.specs.Bytes.{IfTold}
-use Rattle.outside.specs.Disk.{Crashes, DiskView, Goes, Stays}
-use Rattle.outside.specs.Inputs.{FilesView}
-use Rattle.outside.specs.Sink.{SinkView}
+use Rattle.outside.specs.Disk.{DiskView, Stays}
 use Rattle.updater.specs.declared.fault.Fault.{Fault}
 use Rattle.updater.specs.declared.fault.Fault.TheVariants as faults
 use Rattle.updater.specs.declared.files.Files.{Files}
 use Rattle.updater.specs.Causes.{Cause}
 use Rattle.updater.specs.Command.{CommandOf, points_of, lines_of, init_of, Names, store_of}
-use Rattle.updater.specs.Courses.{course_of, gathers}
-use Rattle.updater.specs.Course.{Course, ends, writes}
+use Rattle.updater.specs.Courses.{course_of}
 use Rattle.updater.specs.Leaves.{HasCause}
 use Rattle.updater.specs.Progress.{begun}
 use Rattle.updater.specs.Runs.{AsksOnly, GoesBy, IsSpared, Runs}
-use Rattle.updater.specs.World.{Before, World, world, remembered}
+use Rattle.updater.specs.World.{Before, World, remembered}
 use Rattle.updater.proofs.CourseLaws.{Blame, KeepsTo, comes_told, gathers_to}
 
 -- the command names a store

@@ -1,10 +1,10 @@
 -- What holds of every course.
-use Rattle.std.proofs.Common.{◌≡◌, ◌≢◌, ◌≤◌, ◌<◌, ◌+◌, ℕ, zero, suc, Option, Some, None, List, [], ◌∷◌, ◌++◌, length, Result, Ok, Err, ⊎_elim, inl, inr, refl, sym, ap, subst, arith, ◌⊎◌}
+use Rattle.std.proofs.Common.{◌≡◌, ◌≢◌, ◌≤◌, ◌<◌, ◌+◌, ℕ, zero, suc, Option, Some, None, List, ◌++◌, length, Result, Err, ⊎_elim, inl, inr, sym, subst, arith, ◌⊎◌}
 use Rattle.osm_base.specs.declared.object.Entry.{Entry}
 use Rattle.outside.specs.Bytes.{IfTold}
 use Rattle.updater.specs.declared.fault.Fault.{Fault}
 use Rattle.updater.specs.declared.fault.Fault.TheVariants as faults
-use Rattle.updater.specs.Comes.{Comes, AreTold, BreaksIn, unread, short, refused, IsOfFile, IfUnused, IsDue, IsOutside}
+use Rattle.updater.specs.Comes.{Comes, BreaksIn, unread, short, refused, IsOfFile, IfUnused, IsDue, IsOutside}
 use Rattle.updater.specs.Course.{Course, ends, reads, wants_empty, formats, tells, writes}
 use Rattle.updater.specs.Courses.{gathers}
 use Rattle.updater.specs.Files.{change_in}

@@ -1,5 +1,5 @@
 -- A run that makes a store.
-use Rattle.std.proofs.Common.{◌≡◌, ◌≢◌, ◌≤◌, ℕ, zero, suc, Option, Some, None, List, [], ◌∷◌, length, Result, Ok, Err, OnErr, OnOk, IfErr, refl, sym, ap, subst, arith, inl, inr}
+use Rattle.std.proofs.Common.{◌≡◌, ◌≢◌, ◌≤◌, ℕ, Option, Some, None, List, [], ◌∷◌, length, Result, Ok, Err, OnErr, OnOk, IfErr, refl, sym, ap, subst, arith, inl, inr}
 use Rattle.std.specs.Prelude.{codes, IsErrOf}
 use Rattle.std.specs.Result.{result_err}
 use Rattle.std.specs.Io.KnownBytes.{Appends}
@@ -16,13 +16,12 @@ use Rattle.page_journal.specs.declared.fault.StoreFault.TheVariants as stores
 use Rattle.updater.specs.declared.fault.Fault.{Fault}
 use Rattle.updater.specs.declared.fault.Fault.TheVariants as faults
 use Rattle.updater.specs.Courses.{init_course}
-use Rattle.updater.specs.Comes.{Comes}
 use Rattle.updater.specs.Faults.{fault_of}
 use Rattle.updater.specs.History.{Is, fresh}
 use Rattle.updater.specs.Leaves.{HasCause, Leaves, StandsOn}
-use Rattle.updater.specs.Progress.{Standing, unused, keeps, half_made, Progress, Ending, begun, at, at_text, plus, with_store}
+use Rattle.updater.specs.Progress.{Standing, unused, keeps, half_made, begun, at, at_text, plus, with_store}
 use Rattle.updater.specs.Runs.{GoesBy}
-use Rattle.updater.specs.World.{Before, World, world, remembered, Took}
+use Rattle.updater.specs.World.{Before, world, remembered, Took}
 use Rattle.updater.proofs.Deeds.{took_nothing, took_all, took_front}
 
 abbrev line : List ℕ

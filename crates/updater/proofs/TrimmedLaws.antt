@@ -1,5 +1,5 @@
 -- What a change of the rows of ways makes, and the texts of the commands.
-use Rattle.std.proofs.Common.{◌≡◌, ℕ, List, [], map, fold, Option, Some, None, Result, Ok, Err, refl, sym, ap, ◌∙◌}
+use Rattle.std.proofs.Common.{◌≡◌, ℕ, List, [], map, fold, Option, Some, None, Result, Ok, Err, sym, ap, ◌∙◌}
 use Rattle.std.specs.FinMap as finite
 use Rattle.std.specs.Str.{chars}
 use Rattle.osm_base.specs.declared.limits.LimitNumbers.{LimitNumbers}

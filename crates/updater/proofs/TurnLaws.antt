@@ -1,5 +1,5 @@
 -- A fault that names a file names the one whose turn it was.
-use Rattle.std.proofs.Common.{◌≡◌, ◌≤◌, ◌<◌, ◌+◌, ℕ, zero, suc, Option, Some, None, List, [], ◌∷◌, ◌++◌, Result, Ok, Err, ⊎_elim, inl, inr, refl, sym, ◌∙◌, ap, subst, arith}
+use Rattle.std.proofs.Common.{◌≡◌, ◌≤◌, ◌<◌, ◌+◌, ℕ, zero, suc, Some, List, [], ◌++◌, Result, Ok, ⊎_elim, inl, inr, refl, sym, ◌∙◌, subst, arith}
 use Rattle.std.specs.Prelude.{IsOk}
 use Rattle.std.proofs.lemmas.Bool.{cases_lt}
 use Rattle.osm_base.specs.declared.object.Entry.{Entry}
@@ -13,7 +13,7 @@ use Rattle.updater.specs.Course.{Course, ends, writes}
 use Rattle.updater.specs.Courses.{course_of, gathers}
 use Rattle.updater.specs.Files.{change_in}
 use Rattle.updater.specs.InTurn.{FaultNames, IsInTurn}
-use Rattle.updater.specs.Progress.{Standing, half_made, keeps, Progress, Ending, begun, at, at_file, at_text, past, plus, with_store, IsIn}
+use Rattle.updater.specs.Progress.{Progress, Ending, begun, at, at_file, past, IsIn}
 use Rattle.updater.specs.World.{Before}
 
 is_ok : (A E : Type 0) (result : Result A E) (found : A) → result ≡ Ok found → IsOk result

@@ -1,5 +1,5 @@
 -- A run that gathers the entries of its files, turn by turn.
-use Rattle.std.proofs.Common.{fold, ◌≡◌, ◌≢◌, ◌≤◌, ◌+◌, ℕ, suc, zero, Option, Some, None, List, [], ◌∷◌, ◌++◌, Result, Ok, Err, OnOk, OnErr, IfErr, refl, sym, ◌∙◌, ap, subst, arith, ⊎_elim, inl, inr}
+use Rattle.std.proofs.Common.{fold, ◌≡◌, ◌≢◌, ◌≤◌, ◌+◌, ℕ, suc, Option, Some, None, List, [], ◌++◌, Result, Ok, Err, OnOk, OnErr, IfErr, refl, sym, ◌∙◌, ap, subst, arith, ⊎_elim, inl, inr}
 use Rattle.std.specs.Result.{result_err}
 use Rattle.std.specs.Io.KnownBytes.{Appends}
 use Rattle.std.proofs.lemmas.List.Sums.{fold-append}
@@ -19,12 +19,12 @@ use Rattle.object_fold.specs.Reading.{ReadsAll, IsFaultOf}
 use Rattle.object_fold.specs.Stops.{Stops}
 use Rattle.updater.specs.declared.fault.Fault.{Fault}
 use Rattle.updater.specs.declared.fault.Fault.TheVariants as faults
-use Rattle.updater.specs.Comes.{Comes, AreTold, BreaksIn, unread, short, refused}
+use Rattle.updater.specs.Comes.{Comes, BreaksIn, unread, short, refused}
 use Rattle.updater.specs.Course.{Course, ends, reads, writes}
 use Rattle.updater.specs.Courses.{gathers}
 use Rattle.updater.specs.Files.{fault_in, of_file, change_in}
 use Rattle.updater.specs.Leaves.{Leaves, StandsOn, HasCause}
-use Rattle.updater.specs.Progress.{Standing, unused, Progress, Ending, begun, at, at_file, at_text, past, plus, IsIn}
+use Rattle.updater.specs.Progress.{Standing, Ending, begun, at, at_file, at_text, past, plus, IsIn}
 use Rattle.updater.specs.Runs.{GoesBy}
 use Rattle.updater.specs.Turns.{IsTurn}
 use Rattle.updater.specs.World.{World, world, Before, remembered, Took, GrewBy}

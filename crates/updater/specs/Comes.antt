@@ -1,7 +1,6 @@
 -- To which endings a run on a course may come. Each deed of the course is done, or the run ends in it: for what the bytes that
 -- are told say, for a part of the outside that failed, or for want of memory.
 use Rattle.std.specs.Prelude.{◌≡◌, ◌≢◌, ◌⊎◌, ℕ, List, length, Option, Some, None, Result, Ok, Err}
-use Rattle.osm_base.specs.declared.limits.LimitKind.{LimitKind}
 use Rattle.outside.specs.Bytes.{IfTold, IsTold}
 use Rattle.updater.specs.declared.fault.Fault.{Fault}
 use Rattle.updater.specs.declared.fault.Fault.TheVariants.{Malformed, Limit, ReadFault, NotEmpty, WriteFault, DiskFault, OutOfMemory}

@@ -6,7 +6,7 @@ use Rattle.outside.specs.Inputs.{FilesView}
 use Rattle.updater.specs.Comes.{Comes, AreTold}
 use Rattle.updater.specs.Course.{Course}
 use Rattle.updater.specs.Courses.{gathers}
-use Rattle.updater.specs.Progress.{Standing, unused, Progress, Ending, begun, IsIn}
+use Rattle.updater.specs.Progress.{unused, Progress, Ending, begun, IsIn}
 use Rattle.updater.specs.World.{Before}
 
 -- So many files are left, from this one on, and none of them was touched; those before it are read to their ends. `now` is what

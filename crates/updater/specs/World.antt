@@ -1,5 +1,5 @@
 -- What a run sees of the outside: its files, the disk of its store, and its output.
-use Rattle.std.specs.Prelude.{◌≡◌, ℕ, List, [], ◌++◌, Option}
+use Rattle.std.specs.Prelude.{◌≡◌, ℕ, List, ◌++◌, Option}
 use Rattle.outside.specs.Bytes.{BothKnown}
 use Rattle.outside.specs.Causes.{Rose}
 use Rattle.outside.specs.Disk.{DiskView}

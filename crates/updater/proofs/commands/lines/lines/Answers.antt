@@ -1,4 +1,4 @@
-use Rattle.std.proofs.Common.{◌≡◌, ◌-◌, ◌+◌, ◌∙◌, ℕ, List, [], ap, arith, refl, subst}
+use Rattle.std.proofs.Common.{◌-◌, ◌+◌, ◌∙◌, arith, refl, subst}
 use Rattle.std.specs.Result.{result_err}
 use Rattle.std.specs.Str.{chars}
 use Rattle.osm_base.specs.declared.limits.LimitNumbers.{LimitNumbers}
@@ -7,7 +7,7 @@ use Rattle.object_fold.specs.Stops.{Stops}
 use Rattle.outside.specs.Causes.{Rose}
 use Rattle.updater.specs.Command.{Names, lines_of}
 use Rattle.updater.specs.Course.{ends, writes}
-use Rattle.updater.specs.Courses.{course_of, gathers}
+use Rattle.updater.specs.Courses.{course_of}
 use Rattle.updater.specs.WayRows.{WaysRead, after_way, no_ways}
 use Rattle.updater.specs.commands.Lines.{lines_text, lines_text_of}
 use Rattle.updater.proofs.TrimmedLaws.{ways-are}

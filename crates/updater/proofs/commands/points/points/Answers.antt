@@ -1,4 +1,4 @@
-use Rattle.std.proofs.Common.{◌≡◌, ◌-◌, ◌+◌, ◌∙◌, ℕ, List, [], ap, arith, refl, subst}
+use Rattle.std.proofs.Common.{◌-◌, ◌+◌, ◌∙◌, [], ap, arith, subst}
 use Rattle.std.specs.Result.{result_err}
 use Rattle.std.specs.Str.{chars}
 use Rattle.osm_base.specs.declared.limits.LimitNumbers.{LimitNumbers}
