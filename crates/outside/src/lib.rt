@@ -31,8 +31,6 @@ mod recorded;
 mod sink;
 mod std_sink;
 mod tape;
-#[cfg(test)]
-mod tests;
 
 pub use crash_pick::CrashPick;
 pub use disk::Disk;

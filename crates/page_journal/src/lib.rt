@@ -27,8 +27,6 @@ mod opening;
 mod page_set;
 mod pages;
 mod reading;
-#[cfg(test)]
-mod tests;
 
 pub use fault::StoreFault;
 pub use formatting::format;

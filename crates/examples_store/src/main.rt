@@ -1,0 +1,114 @@
+//! Runs each example of the tables of disks and of stores and prints its name, up to the first that differs.
+//!
+//! An example is a disk in memory and deeds on it, one after another, each with the answer that it has to
+//! give. `data/stores.txt` says how they are written.
+#![tactic(auto)]
+
+mod crashes;
+mod deeds;
+mod stores;
+
+use deeds::answer_of;
+use example_table::{is_told, number_of, refuse_row, row_of, sides_of};
+use osm_base::{Bytes, Ids};
+use outside::{Fails, MemDisk};
+use std::alloc::{AllocError, Global};
+use std::process::ExitCode;
+use std::{fs, io};
+
+/// The tables, those of the lower crate first.
+const TABLES: [&str; 2] = ["disks.txt", "stores.txt"];
+
+/// An example as far as it has come.
+#[derive(Drop)]
+struct Example<'t> {
+    name: &'t str,
+    disk: MemDisk,
+}
+
+fn main(rt: HostRuntime) -> io::Result<ExitCode> {
+    for name in TABLES {
+        let table = fs::read_to_string(&rt, name)?;
+        if !passes(&rt, &table)? {
+            return Ok(ExitCode::from(1));
+        }
+    }
+    Ok(ExitCode::from(0))
+}
+
+/// Runs the examples of a table. False: one differs, and that is told.
+fn passes<R: Print + Eprint + AllocGlobal>(rt: &R, table: &str) -> io::Result<bool> {
+    let mut example = Example {
+        name: "",
+        disk: empty(rt.alloc(), Ids::new(rt.alloc()), 0),
+    };
+    let mut told = Ok(true);
+    for line in table.lines() {
+        told = step(rt, &mut example, line);
+        if !matches!(&told, Ok(true)) {
+            break;
+        }
+    }
+    match told {
+        Ok(true) => is_told(rt, example.name, None),
+        other => other,
+    }
+}
+
+/// Runs the deed of a line, or begins the next example.
+fn step<'t, R: Print + Eprint + AllocGlobal>(
+    rt: &R,
+    example: &mut Example<'t>,
+    line: &'t str,
+) -> io::Result<bool> {
+    let Some((word, text)) = row_of(line) else {
+        return Ok(true);
+    };
+    if word == "store" {
+        if !example.name.is_empty() && !is_told(rt, example.name, None)? {
+            return Ok(false);
+        }
+        begin(rt.alloc(), example, text)?;
+        return Ok(true);
+    }
+    let (deed, wanted) = sides_of(text).unwrap_or((text, "ok"));
+    match answer_of(rt.alloc(), &mut example.disk, word, deed)? {
+        None => {
+            refuse_row(rt, line)?;
+            Ok(false)
+        }
+        Some(answer) => {
+            if answer.as_str() == wanted {
+                return Ok(true);
+            }
+            is_told(
+                rt,
+                example.name,
+                Some(format!(in rt.alloc(); "{line}: {answer}")?),
+            )
+        }
+    }
+}
+
+/// Begins an example with an empty disk: behind its name stand the number from which on each call fails,
+/// where it is not 0, and the numbers of other calls that fail.
+fn begin<'t>(alloc: Global, example: &mut Example<'t>, text: &'t str) -> Result<(), AllocError> {
+    let (name, plan) = row_of(text).unwrap_or((text, ""));
+    let mut from = 0;
+    let mut at = Vec::new(alloc);
+    for (place, word) in plan.split_ascii_whitespace().enumerate() {
+        let call = number_of(word).unwrap_or(0);
+        if place == 0 {
+            from = call;
+        } else {
+            at.push(call)?;
+        }
+    }
+    example.name = name;
+    example.disk = empty(alloc, Ids::from_vec(at), from);
+    Ok(())
+}
+
+fn empty(alloc: Global, at: Ids, from: u64) -> MemDisk {
+    MemDisk::new(alloc, Bytes::new(alloc), Fails::new(at, from))
+}

@@ -1,0 +1,121 @@
+//! Deeds on a store.
+
+use example_table::{number_of, row_of};
+use osm_base::{LimitNumbers, Limits};
+use outside::MemDisk;
+use page_journal::{Journal, PageSet, StoreFault, open};
+use std::alloc::{AllocError, Global};
+
+/// The byte that fills each page behind the root.
+const FILLED: u8 = 42;
+
+/// The most home pages of a store of an example.
+const MAX_HOME: u64 = 64;
+
+/// A number, `ok` for 0, or the fault.
+pub fn store_answer(
+    alloc: Global,
+    outcome: Result<u64, StoreFault>,
+) -> Result<Option<String>, AllocError> {
+    match outcome {
+        Ok(0) => Ok(Some(String::from_str(alloc, "ok")?)),
+        Ok(count) => Ok(Some(format!(in alloc; "{count}")?)),
+        Err(fault) => Ok(Some(format!(in alloc; "{fault}")?)),
+    }
+}
+
+/// Opens the store, and commits to it a root that tells so many home pages and filled pages up to them, under
+/// a limit of pages where one is named.
+pub fn commit_answer(
+    alloc: Global,
+    disk: &mut MemDisk,
+    text: &str,
+) -> Result<Option<String>, AllocError> {
+    let Some((home, limit)) = row_of(text) else {
+        return Ok(None);
+    };
+    let Some(home) = number_of(home) else {
+        return Ok(None);
+    };
+    if home > MAX_HOME {
+        return Ok(None);
+    }
+    let limits = limits_of(number_of(limit).unwrap_or(MAX_HOME));
+    let set = match filled_pages(alloc, home) {
+        Ok(set) => set,
+        Err(fault) => return store_answer(alloc, Err(fault)),
+    };
+    store_answer(alloc, commit(disk, &set, home, &limits))
+}
+
+// The limits of the program with this one of pages.
+fn limits_of(pages: u64) -> Limits {
+    let standard = Limits::standard();
+    let numbers = LimitNumbers {
+        line_bytes: standard.line_bytes(),
+        lines: standard.lines(),
+        entries: standard.entries(),
+        pages,
+        pending: standard.pending(),
+    };
+    Limits::new(numbers).unwrap_or(standard)
+}
+
+// Page 1 with this number of home pages, and full pages up to them.
+fn filled_pages(alloc: Global, home: u64) -> Result<PageSet, StoreFault> {
+    let mut set = PageSet::new(alloc);
+    for page in 2..home {
+        set.put(page, &[FILLED; 4096])?;
+    }
+    let mut root = [0; 4096];
+    root[..8].copy_from_slice(&home.to_le_bytes());
+    set.put(1, &root)?;
+    Ok(set)
+}
+
+// Opens the store, and commits the set where it may.
+fn commit(
+    disk: &mut MemDisk,
+    set: &PageSet,
+    home: u64,
+    limits: &Limits,
+) -> Result<u64, StoreFault> {
+    let pages = open(disk)?;
+    let mut journal = Journal::over(disk, pages, limits);
+    if !journal.can_commit(set, home) {
+        return Ok(pages);
+    }
+    journal.commit(set, home)?;
+    Ok(0)
+}
+
+/// Opens the store twice, and reads a page once or twice: its first byte, or the last fault.
+pub fn read_answer(
+    alloc: Global,
+    disk: &mut MemDisk,
+    text: &str,
+) -> Result<Option<String>, AllocError> {
+    let Some((page, again)) = row_of(text) else {
+        return Ok(None);
+    };
+    let Some(page) = number_of(page) else {
+        return Ok(None);
+    };
+    store_answer(alloc, read(disk, page, again == "again"))
+}
+
+fn read(disk: &mut MemDisk, page: u64, again: bool) -> Result<u64, StoreFault> {
+    let pages = open(disk)?;
+    let mut journal = Journal::attach(disk, &Limits::standard())?;
+    if page >= pages || page >= journal.pages() {
+        return Ok(0);
+    }
+    let mut bytes = [0; 4096];
+    let mut outcome = journal.read_page(page, &mut bytes);
+    if again {
+        outcome = journal.read_page(page, &mut bytes);
+    }
+    outcome?;
+    let [first, ..] = bytes;
+    Ok(u64::from(first))
+}
