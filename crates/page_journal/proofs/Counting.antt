@@ -1,9 +1,10 @@
 -- Numbers that are written a page at a time.
-use Rattle.std.proofs.Common.{◌≡◌, inl, inr, ℕ, ◌+◌, ◌-◌, ◌*◌, ◌<◌, ◌≤◌, List, length, ap, ◌∙◌, arith}
+use Rattle.std.proofs.Common.{◌≡◌, inl, inr, ℕ, ◌+◌, ◌-◌, ◌*◌, ◌<◌, ◌≤◌, List, length, get_or, slice_index, replicate, ap, ◌∙◌, arith}
 use Rattle.std.proofs.lemmas.Bool.{cases_lt}
+use Rattle.std.proofs.lemmas.List.{get_or-replicate, get_or_past, length-replicate}
 use Rattle.outside.specs.Disk.{overlaid}
-use Rattle.outside.proofs.Overlay.{length-overlaid, overlaid-beside}
-use Rattle.page_journal.specs.Pages.{number}
+use Rattle.outside.proofs.Overlay.{length-overlaid, overlaid-beside, overlaid-in}
+use Rattle.page_journal.specs.Pages.{number, number_pages}
 use Rattle.page_journal.specs.PageSet.{number_at}
 use Rattle.page_journal.specs.Written.{Below, NumbersHeld, NumbersPut}
 use Rattle.page_journal.proofs.Bytes.{number_same, number_overlaid}
@@ -13,8 +14,9 @@ use Rattle.page_journal.proofs.Places.{Spares-self, Spares-overlaid}
 pub held_added : (entries : List (ℕ × List ℕ)) (count start at filled value : ℕ) (buffer next base now : List ℕ)
     → NumbersHeld entries count start at filled buffer base now → number next (8 * filled) ≡ value
     → ((other : ℕ) → other < filled → number next (8 * other) ≡ number buffer (8 * other)) → length next ≡ 4096
-    → value ≡ number_at entries count → NumbersHeld entries (count + 1) start at (filled + 1) next base now
-held_added entries count start at filled value buffer next base now held here others size is = record {
+    → value ≡ number_at entries count → ((i : ℕ) → 8 * filled + 8 ≤ i → slice_index next i ≡ slice_index buffer i)
+    → NumbersHeld entries (count + 1) start at (filled + 1) next base now
+held_added entries count start at filled value buffer next base now held here others size is behind = record {
   from = held.from;
   place = omega (arith, held.place);
   spares = held.spares;
@@ -30,6 +32,8 @@ held_added entries count start at filled value buffer next base now held here ot
   ];
   long = held.long;
   size = size;
+  whole = held.whole;
+  rest = λ i from. behind i (omega (arith, from)) ∙ held.rest i (omega (arith, from));
 }
 
 -- once the buffer is written, all stand on the disk
@@ -58,9 +62,9 @@ flushed entries count start at filled buffer base now held few place inside =
     ]
 
 pub held_flushed : (entries : List (ℕ × List ℕ)) (count start at : ℕ) (buffer next base now : List ℕ)
-    → NumbersHeld entries count start at 512 buffer base now → length next ≡ 4096
+    → NumbersHeld entries count start at 512 buffer base now → length next ≡ 4096 → ((i : ℕ) → slice_index next i ≡ 0)
     → NumbersHeld entries count start (at + 4096) 0 next base (overlaid at buffer now)
-held_flushed entries count start at buffer next base now held size =
+held_flushed entries count start at buffer next base now held size zero =
     let long = length-overlaid at buffer now in
     record {
       from = omega (arith, held.from);
@@ -70,6 +74,8 @@ held_flushed entries count start at buffer next base now held size =
       held = λ place below. absurd (omega (arith, below));
       long = λ after. omega (arith, held.size);
       size = size;
+      whole = (held.whole.0 + 1, omega (arith, held.whole.1));
+      rest = λ i from. zero i;
     }
 
 pub held_last : (entries : List (ℕ × List ℕ)) (count start at filled : ℕ) (buffer base now : List ℕ)
@@ -81,6 +87,15 @@ held_last entries count start at filled buffer base now held few =
       spares = Spares-overlaid (Below start) base now at buffer held.spares (λ i below. inl (omega (arith, held.from, below)));
       numbers = flushed entries count start at filled buffer base now held few;
       long = λ some. omega (arith, held.place, held.size);
+      padded = λ i from to.
+          let q = i - at in
+          let pages = held.whole.0 in
+          let many : count ≡ 512 * pages + filled = omega (arith, held.place, held.whole.1) in
+          let last : number_pages count ≤ pages + 1 = omega (arith, many, few) in
+          let here : i ≡ at + q = omega (arith, from, held.place) in
+          let inside : q < length buffer = omega (arith, to, held.size, held.whole.1, last, here) in
+          ap (λ (k : ℕ). get_or (overlaid at buffer now) k 0) here ∙ overlaid-in at buffer now q inside
+          ∙ held.rest q (omega (arith, from, held.place, here));
     }
 
 pub held_none : (entries : List (ℕ × List ℕ)) (count start at filled : ℕ) (buffer base now : List ℕ)
@@ -91,11 +106,16 @@ held_none entries count start at filled buffer base now held none = record {
   long = λ some.
       let behind : start < at = omega (arith, held.place, none, some) in
       omega (arith, held.place, held.long behind, none);
+  padded = λ i from to.
+      let pages = held.whole.0 in
+      let many : count ≡ 512 * pages = omega (arith, held.place, held.whole.1, none) in
+      let all : number_pages count ≡ pages = omega (arith, many) in
+      absurd (omega (arith, from, to, many, all));
 }
 
-pub held_start : (entries : List (ℕ × List ℕ)) (start : ℕ) (buffer now : List ℕ) → length buffer ≡ 4096
+pub held_start : (entries : List (ℕ × List ℕ)) (start : ℕ) (buffer now : List ℕ) → length buffer ≡ 4096 → ((i : ℕ) → slice_index buffer i ≡ 0)
     → NumbersHeld entries 0 start start 0 buffer now now
-held_start entries start buffer now size = record {
+held_start entries start buffer now size zero = record {
   from = omega arith;
   place = omega arith;
   spares = Spares-self (Below start) now;
@@ -103,4 +123,15 @@ held_start entries start buffer now size = record {
   held = λ place below. absurd (omega (arith, below));
   long = λ after. absurd (omega (arith, after));
   size = size;
+  whole = (0, omega arith);
+  rest = λ i from. zero i;
 }
+
+-- zeros are zero at each place, and past their end
+pub zeros-zero : (count i : ℕ) → slice_index (replicate count 0) i ≡ 0
+zeros-zero count i =
+    let size = length-replicate {A = ℕ} count 0 in
+    elim (cases_lt i count) [
+      | inl inside ↦ get_or-replicate count i 0 0 inside
+      | inr past ↦ get_or_past (replicate count 0) i 0 (omega (arith, size, past))
+    ]

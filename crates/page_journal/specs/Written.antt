@@ -1,5 +1,5 @@
 -- What the parts of a commit leave on the disk.
-use Rattle.std.specs.Prelude.{◌≡◌, ◌≢◌, ◌⊎◌, ℕ, ◌+◌, ◌-◌, ◌*◌, ◌<◌, ◌≤◌, List, [], length, slice_index_or}
+use Rattle.std.specs.Prelude.{◌≡◌, ◌≢◌, ◌⊎◌, ℕ, ◌+◌, ◌-◌, ◌*◌, ◌<◌, ◌≤◌, List, [], length, slice_index, slice_index_or}
 use Rattle.page_journal.specs.Crash.{Spares, BesideGate, BesideJournal, BesidePages}
 use Rattle.page_journal.specs.Home.{IsFormatted, IsHomePage}
 use Rattle.page_journal.specs.declared.layout.TheConstants.{OPEN, FIRST_AT, COUNT_AT}
@@ -15,6 +15,8 @@ pub record NumbersPut (entries : List (ℕ × List ℕ)) (count at : ℕ) (old n
   pub spares : Spares (Below at) old new
   pub numbers : (place : ℕ) → place < count → number new (at + 8 * place) ≡ number_at entries place
   pub long : 0 < count → at + 8 * count ≤ length new
+  -- and zeros up to the end of the last page
+  pub padded : (i : ℕ) → at + 8 * count ≤ i → i < at + 4096 * number_pages count → slice_index new i ≡ 0
 
 -- the first `count` pages of the entries stand from this byte on
 pub record PagesPut (entries : List (ℕ × List ℕ)) (count at : ℕ) (old new : List ℕ) : Type 0 where
@@ -55,6 +57,8 @@ pub record NumbersHeld (entries : List (ℕ × List ℕ)) (count start at filled
   pub held : (place : ℕ) → place < filled → number buffer (8 * place) ≡ number_at entries (count - filled + place)
   pub long : start < at → at ≤ length new
   pub size : length buffer ≡ 4096
+  pub whole : (pages : ℕ) × (at ≡ start + 4096 * pages)
+  pub rest : (i : ℕ) → 8 * filled ≤ i → slice_index buffer i ≡ 0
 
 -- the journal of these entries stands behind the home pages
 pub record JournalPut (entries : List (ℕ × List ℕ)) (count home : ℕ) (old new : List ℕ) : Type 0 where

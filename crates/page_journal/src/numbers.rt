@@ -25,6 +25,7 @@ impl NumberPage {
         ensures long { length result.bytes ≡ 4096 }
         ensures none { result.filled ≡ 0 }
         ensures place { result.at ≡ at }
+        ensures zero { (i : ℕ) → slice_index result.bytes i ≡ 0 }
     {
         Self {
             bytes: [0; PAGE],
@@ -90,15 +91,14 @@ fn flush<D: Disk>(disk: &mut D, page: &mut NumberPage) -> Result<(), Failed>
     ensures next { OnOk result (page.new.at ≡ page.old.at + 4096) }
     ensures none { OnOk result (page.new.filled ≡ 0) }
     ensures long { OnOk result (length page.new.bytes ≡ 4096) }
+    ensures zero { OnOk result ((i : ℕ) → slice_index page.new.bytes i ≡ 0) }
     ensures crash { (low : ℕ) (base : List ℕ) → low ≤ page.old.at → Within (Spares (BesideJournal low) base) (D.view disk.old).crashes
         → Goes (Spares (BesideJournal low) base) (D.view disk.old).crashes (D.view disk.new).crashes }
     ensures reads { (D.view disk.new).reads ≡ (D.view disk.old).reads }
     ensures cause { HasCause (D.view disk.old).faults (D.view disk.new).faults result }
 {
     disk.write_at(page.at, &page.bytes)?;
-    page.at += PAGE as u64;
-    page.filled = 0;
-    page.bytes.fill(0);
+    *page = NumberPage::new(page.at + PAGE as u64);
     Ok(())
 }
 
@@ -108,6 +108,7 @@ fn put_number(bytes: &mut [u8; PAGE], place: usize, value: u64)
     ensures here { number bytes.new (8 * place) ≡ value }
     ensures long { length bytes.new ≡ 4096 }
     ensures others { (other : ℕ) → other < place → number bytes.new (8 * other) ≡ number bytes.old (8 * other) }
+    ensures behind { (i : ℕ) → 8 * place + 8 ≤ i → slice_index bytes.new i ≡ slice_index bytes.old i }
 {
     let at = 8 * place;
     bytes[at..at + 8].copy_from_slice(&value.to_le_bytes());

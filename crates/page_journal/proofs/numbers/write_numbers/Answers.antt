@@ -25,7 +25,7 @@ loop-number-init g c =
         told,
         subst (λ (at : ℕ). NumbersHeld (plain c.args.pages.now.entries) 0 c.args.at at page.filled page.bytes bytes bytes) (sym c.new-page.ensures.place)
             (subst (λ (n : ℕ). NumbersHeld (plain c.args.pages.now.entries) 0 c.args.at c.args.at n page.bytes bytes bytes) (sym c.new-page.ensures.none)
-            (held_start (plain c.args.pages.now.entries) c.args.at page.bytes bytes c.new-page.ensures.long)),
+            (held_start (plain c.args.pages.now.entries) c.args.at page.bytes bytes c.new-page.ensures.long c.new-page.ensures.zero)),
       );
       crash = λ low base le within. started (Spares (BesideJournal low) base) _ within;
       reads = search rules;
