@@ -1,5 +1,5 @@
 -- The same bytes have one list of home pages.
-use Rattle.std.proofs.Common.{◌≡◌, inl, inr, ℕ, ◌+◌, ◌-◌, ◌<◌, ◌≤◌, List, [], length, slice_index_or, sym, ap, ◌∙◌, refl, subst, arith}
+use Rattle.std.proofs.Common.{◌≡◌, inl, inr, ℕ, ◌+◌, ◌-◌, List, [], length, slice_index_or, sym, ap, ◌∙◌, refl, subst, arith}
 use Rattle.std.proofs.lemmas.List.{ext_get_or}
 use Rattle.page_journal.specs.Home.{Home, IsHomePage, IsWellFormed}
 use Rattle.page_journal.specs.Pages.{number, page_from, gate, first_page, page_count, entry, body_at}

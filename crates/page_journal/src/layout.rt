@@ -9,13 +9,13 @@ pub const MARK: u64 = 0x3144_5055_4d49_4c53;
 pub const PAGE: usize = 4096;
 
 /// The same, for places on the disk.
-pub const PAGE_LEN: u64 = 4096;
+pub const PAGE_LEN: u64 = PAGE as u64;
 
 /// How many bytes the first two pages have.
 pub const HEAD: usize = 2 * PAGE;
 
 /// How many numbers fit a page.
-pub const PER_PAGE: usize = 512;
+pub const PER_PAGE: usize = PAGE / 8;
 
 /// Where page 0 has the number of the journal's first page.
 pub const FIRST_AT: u64 = 8;
@@ -27,7 +27,7 @@ pub const COUNT_AT: u64 = 16;
 pub const FIELDS_END: u64 = 24;
 
 /// Where page 0 has the gate of the journal.
-pub const GATE_AT: u64 = 4095;
+pub const GATE_AT: u64 = PAGE_LEN - 1;
 
 /// The one value of the gate that means that the journal counts.
 pub const OPEN: u8 = 1;
@@ -36,10 +36,10 @@ pub const OPEN: u8 = 1;
 pub const SHUT: u8 = 0;
 
 /// Where page 1, the root, stands. Its first number is that of the home pages.
-pub const ROOT_AT: u64 = 4096;
+pub const ROOT_AT: u64 = PAGE_LEN;
 
 /// Where the root has the format.
-pub const FORMAT_AT: u64 = 4104;
+pub const FORMAT_AT: u64 = ROOT_AT + 8;
 
 /// The format that is written.
 pub const FORMAT: u64 = 1;

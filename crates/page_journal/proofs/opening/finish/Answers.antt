@@ -1,4 +1,4 @@
-use Rattle.std.proofs.Common.{ℕ, ◌*◌, arith}
+use Rattle.std.proofs.Common.{◌*◌, arith}
 use Rattle.page_journal.specs.Pages.{page_count}
 use Rattle.page_journal.proofs.ReadCounts.{copied_reads, reads_more}
 use Rattle.page_journal.proofs.opening.finish.Goals as goal
