@@ -1,8 +1,6 @@
 mod Accepted
 pub mod FoldLaws
-pub mod Found
 mod IndexOf
-mod KeyTree
 mod Lines
 pub mod Listers
 mod ListingSteps

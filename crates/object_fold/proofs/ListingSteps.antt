@@ -9,7 +9,7 @@ use Rattle.std.specs.FinMap.{nat_cmp-IsAntisymmetric}
 use Rattle.std.proofs.lemmas.Cmp.{nat_eq_equiv}
 use Rattle.std.proofs.lemmas.Bool.Decides.{nat_tests}
 use Rattle.object_fold.specs.RisingIds.{has, Joins, Leaves}
-use Rattle.object_fold.proofs.Found.{found, inserted, removed}
+use Rattle.osm_base.proofs.Found.{found, inserted, removed}
 use Rattle.object_fold.specs.Listing.{ListingOf, listers, Lists, Unlists}
 
 -- the listers of one id are these now, and those of the others as before

@@ -19,9 +19,9 @@ use Rattle.object_fold.specs.Index.{ids_of, lists}
 use Rattle.object_fold.specs.Listing.{ListingOf, listers, is_listed}
 use Rattle.object_fold.specs.RisingIds.{IsRising, has}
 use Rattle.object_fold.specs.Listings.{AreListed, AreListedBy, AreListingsOf}
-use Rattle.object_fold.proofs.Found.{found}
+use Rattle.osm_base.proofs.Found.{found}
 use Rattle.object_fold.proofs.IndexOf.{listers-are, ids_of-ids}
-use Rattle.object_fold.proofs.KeyTree.{tree_cmp, tree_cmp-key_cmp}
+use Rattle.osm_base.proofs.KeyLaws.{tree_cmp, tree_cmp-key_cmp}
 
 module _ (tree : BTreeMap KeyOf Object) (listings : Listings) (own : ObjectSet) (view : objects_in tree ≡ own) (are : AreListingsOf (objects_in tree) listings) (id : ℕ) where
   pub ways_of_nodes-are : (ids : List ℕ) → ids ≡ listers listings.ways_of_nodes id → IsRising ids → ids ≡ ids_of Way Node id own

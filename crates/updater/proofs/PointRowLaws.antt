@@ -5,7 +5,7 @@ use Rattle.std.specs.Ordering.{nat_cmp, eq_by_cmp}
 use Rattle.std.specs.Cmp.{nat_cmp_total}
 use Rattle.std.specs.FinMap.{get-empty, get-insert, get-remove}
 use Rattle.std.specs.FinMap as finite
-use Rattle.osm_base.specs.Key.{KeyOf}
+use Rattle.osm_base.specs.Key.{KeyOf, node_key}
 use Rattle.osm_base.specs.KeyOrder.{key_cmp}
 use Rattle.osm_base.specs.declared.key.Kind.{Kind}
 use Rattle.osm_base.specs.declared.key.Kind.TheVariants.{Node, Way, Relation}
@@ -18,9 +18,6 @@ use Rattle.updater.specs.commands.Points.{node_row, of_node, row_of, points_text
 use Rattle.updater.specs.PointRows.{Rows, with_row, after_kind, after_entry, after_entries, no_rows, rows_text, node_row_at, Shows, shown}
 use Rattle.updater.specs.WayRows.{some_row}
 use Rattle.updater.proofs.KindRows.{same_id, text-entries}
-
-abbrev node_key : ℕ → KeyOf
-node_key id = record { kind = Node; id = id }
 
 -- the rows are those of the nodes of these objects that have one, and no other
 pub record Keeps (key : List ℕ) (points : Rows) (objects : ObjectSet) : Type 0 where

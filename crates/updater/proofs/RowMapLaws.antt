@@ -14,7 +14,7 @@ use Rattle.std.specs.FinMap.{is_sorted, entries, from_entries, from_sorted, entr
 use Rattle.std.specs.FinMap.Entries.{below_all}
 use Rattle.std.specs.FinMap as finite
 use Rattle.std.specs.BTreeMap.{BTreeMap, Updates}
-use Rattle.object_fold.proofs.Found.{inserted, removed}
+use Rattle.osm_base.proofs.Found.{inserted, removed}
 use Rattle.updater.specs.RowsById.{RowMap, set_row, text_of}
 
 -- a sorted list of entries is that of its map

@@ -14,7 +14,7 @@ use Rattle.osm_base.specs.declared.key.Kind.TheVariants as kinds
 use Rattle.osm_base.specs.declared.object.Entry.{Entry}
 use Rattle.osm_base.specs.declared.object.Object.{Object}
 use Rattle.osm_base.specs.declared.object.Object.TheVariants.{Node, Way, Relation}
-use Rattle.osm_base.specs.Key.{KeyOf}
+use Rattle.osm_base.specs.Key.{KeyOf, way_key}
 use Rattle.osm_base.specs.KeyOrder.{key_cmp, key_cmp-IsAntisymmetric}
 use Rattle.osm_base.specs.Place.{PlaceOf}
 use Rattle.piece_ends.specs.Pieces.{Line}
@@ -27,7 +27,7 @@ use Rattle.dep_closure.specs.Ways.{line_of, Leaves}
 use Rattle.updater.specs.TrimmedChange.{trimmed_object, trimmed_entry, with_entry}
 use Rattle.updater.specs.RowsById.{RowMap, set_row, text_of}
 use Rattle.updater.specs.commands.Lines.{way_row, object_row, of_way, lines_text}
-use Rattle.updater.specs.WayRows.{some_row, way_key, row_at, AreRows, after_way}
+use Rattle.updater.specs.WayRows.{some_row, row_at, AreRows, after_way}
 use Rattle.updater.proofs.KindRows.{same_id, text-entries, rows_in, get-rows_in}
 
 of_way-cond : (kind : Kind) (text : List ℕ) → cond (is_kind kinds.Way kind) text [] ≡ of_way kind text

@@ -3,9 +3,8 @@ use Rattle.std.specs.Prelude.{◌≡◌, ℕ, List, [], ◌∷◌, false, Option
 use Rattle.std.specs.Coded.{Coded, code_by, coded×, coded_list, coded_ℕ}
 use Rattle.std.specs.FinMap as finite
 use Rattle.std.specs.List.{AllByRecursion}
-use Rattle.osm_base.specs.declared.key.Kind.TheVariants as kinds
 use Rattle.osm_base.specs.declared.object.Entry.{Entry}
-use Rattle.osm_base.specs.Key.{KeyOf, IsId}
+use Rattle.osm_base.specs.Key.{IsId, way_key}
 use Rattle.osm_base.specs.contracts.key.Key as key
 use Rattle.osm_base.specs.contracts.object.Object as object
 use Rattle.object_fold.specs.Fold.{ObjectSet, folded}
@@ -19,9 +18,6 @@ use Rattle.updater.specs.commands.Lines.{object_row}
 abbrev pub some_row : List ℕ → Option (List ℕ)
 some_row [] = None
 some_row (byte ∷ bytes) = Some (byte ∷ bytes)
-
-abbrev pub way_key : ℕ → KeyOf
-way_key id = record { kind = kinds.Way; id = id }
 
 -- the row of a way of these objects, or nothing
 abbrev pub row_at : List ℕ → ObjectSet → ℕ → List ℕ

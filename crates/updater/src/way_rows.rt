@@ -4,12 +4,12 @@ ghost use Rattle.std.specs.FinMap as map;
 ghost use Rattle.std.specs.List.{AllByRecursion};
 ghost use Rattle.std.specs.Ordering.{eq_by_cmp};
 ghost use Rattle.std.specs.Str.{chars};
-ghost use Rattle.osm_base.specs.Key.{IsId};
+ghost use Rattle.osm_base.specs.Key.{IsId, way_key};
 ghost use Rattle.object_fold.specs.Fold.{folded_all};
 ghost use Rattle.object_fold.specs.RisingIds.{has};
 ghost use Rattle.dep_closure.specs.Ways.{Leaves};
 ghost use Rattle.updater.specs.commands.Lines.{lines_text};
-ghost use Rattle.updater.specs.WayRows.{after_way, no_ways, row_at, some_row, way_key};
+ghost use Rattle.updater.specs.WayRows.{after_way, no_ways, row_at, some_row};
 
 use crate::rows_by_id::RowsById;
 use crate::trimmed_change::{TrimmedChange, trimmed_entry};
