@@ -1,0 +1,4 @@
+pub mod Manual
+pub mod Own
+pub mod Texts
+pub mod Views

@@ -1,0 +1,9 @@
+pub mod Causes
+pub mod Column
+pub mod Condition
+pub mod Document
+pub mod Name
+pub mod Reading
+pub mod Style
+pub mod Text
+pub mod Words
