@@ -28,23 +28,26 @@ order =
 abbrev pub first_cause : (StyleWhy → Bool) → Option StyleWhy
 first_cause applies = find applies order
 
--- the tables of selections and of tables
+-- what the document writes as selections, and as tables
 abbrev pub selections_of : Data → List Data
 selections_of document = values_at (codes "select") document
 
 abbrev pub tables_of : Data → List Data
 tables_of document = values_at (codes "table") document
 
--- the causes against the top
+-- there are more selections or tables than there may be
 unfoldable pub has_too_many : Data → Bool
 has_too_many document = nat_lt MAX_SELECTIONS (length (selections_of document)) || nat_lt MAX_TABLES (length (tables_of document))
 
+-- there is no table
 unfoldable pub lacks_tables : Data → Bool
 lacks_tables document = lacks (codes "table") document || has_empty_list (codes "table") document
 
+-- selections or tables are no list of tables
 unfoldable pub has_other_lists : Data → Bool
 has_other_lists document = not (may_have are_tables (codes "select") document) || not (may_have are_tables (codes "table") document)
 
+-- the causes against the top
 unfoldable pub top_has : Data → StyleWhy → Bool
 top_has document causes.TooMany = has_too_many document
 top_has document causes.UnknownKey = has_other_key (is_key_of levels.Top) document
@@ -60,16 +63,19 @@ has_bad_name before part = not (is_name (text_at (codes "name") part)) || list_a
 unfoldable pub has_bad_condition : (key : List ℕ) → Bool → Data → Bool
 has_bad_condition key selecting part = list_any (λ value. is_bad_condition selecting (text_of value)) (values_at key part)
 
--- the causes against a selection
+-- a key of a selection is not there
 unfoldable pub lacks_of_selection : Data → Bool
 lacks_of_selection part = lacks (codes "name") part || (lacks (codes "where") part || lacks (codes "take") part)
 
+-- a value of a selection has another type
 unfoldable pub has_other_types : Data → Bool
 has_other_types part = not (may_have is_text (codes "name") part) || (not (may_have are_texts (codes "where") part) || not (may_have is_text (codes "take") part))
 
+-- a condition of a selection is none on tags, or the key that it takes is empty
 unfoldable pub is_bad_selection : Data → Bool
 is_bad_selection part = has_bad_condition (codes "where") false part || length (text_at (codes "take") part) == 0
 
+-- the causes against a selection, beside those before it
 unfoldable pub selection_has : (before : List Data) → Data → StyleWhy → Bool
 selection_has before part causes.UnknownKey = has_other_key (is_key_of levels.Selection) part
 selection_has before part causes.MissingKey = lacks_of_selection part
@@ -78,13 +84,15 @@ selection_has before part causes.Name = has_bad_name before part
 selection_has before part causes.Condition = is_bad_selection part
 selection_has before part _ = false
 
--- the causes against a column
+-- a key of a column is not there, where the column is a table
 unfoldable pub lacks_of_column : Data → Bool
 lacks_of_column column = is_table column && (lacks (codes "name") column || lacks (codes "from") column)
 
+-- a text that names a type
 abbrev pub is_type_word : Data → Bool
 is_type_word value = is_text value && is_type (text_of value)
 
+-- a value of a column has another type, or is none of the words
 unfoldable pub has_other_column_types : Data → Bool
 has_other_column_types column =
     not (may_have is_text (codes "name") column) || (not (may_have is_text (codes "from") column) || not (may_have is_type_word (codes "type") column))
@@ -101,13 +109,15 @@ columns_of part = values_at (codes "column") part
 abbrev pub source_word : Data → List ℕ
 source_word part = text_at (codes "source") part
 
--- the causes against a table
+-- a key of a table or of a column has no meaning
 unfoldable pub has_other_keys : Data → Bool
 has_other_keys part = has_other_key (is_key_of levels.Table) part || list_any (has_other_key (is_key_of levels.Column)) (columns_of part)
 
+-- a key of a table or of a column is not there
 unfoldable pub lacks_of_table : Data → Bool
 lacks_of_table part = lacks (codes "name") part || (lacks (codes "source") part || (lacks (codes "geometry") part || list_any lacks_of_column (columns_of part)))
 
+-- a text that names a source, a geometry, a mode
 abbrev pub is_source : Data → Bool
 is_source value = is_text value && is_some (source_of (text_of value))
 
@@ -117,41 +127,51 @@ is_geometry_word value = is_text value && is_geometry (text_of value)
 abbrev pub is_mode : Data → Bool
 is_mode value = is_text value && is_some (mode_of (text_of value))
 
+-- a source, a geometry or a mode is none of the words
 unfoldable pub has_other_words : Data → Bool
 has_other_words part =
     not (may_have is_source (codes "source") part) || (not (may_have is_geometry_word (codes "geometry") part) || not (may_have is_mode (codes "expire") part))
 
+-- a value of a table or of a column has another type, or is none of the words
 unfoldable pub has_other_table_types : Data → Bool
 has_other_table_types part =
     not (may_have is_text (codes "name") part) || (has_other_words part || (not (may_have are_texts (codes "where") part)
     || (not (may_have are_texts (codes "any") part) || (not (may_have are_tables (codes "column") part) || list_any has_other_column_types (columns_of part)))))
 
+-- a condition of a table is none that may stand there
 unfoldable pub has_bad_conditions : Data → Bool
 has_bad_conditions part = has_bad_condition (codes "where") (may_select (source_word part)) part || has_bad_condition (codes "any") (may_select (source_word part)) part
 
--- a list asks for a selection that is not there, or a column does
+-- a condition of a list asks for a selection that is not there
 unfoldable pub asks_unknown_at : (selections : List Data) → (key : List ℕ) → Data → Bool
 asks_unknown_at selections key part = list_any (λ value. asks_unknown selections (text_of value)) (values_at key part)
 
+-- so does a column
 unfoldable pub is_from_unknown : (selections : List Data) → Data → Bool
 is_from_unknown selections column = asks_unknown selections (text_at (codes "from") column)
 
+-- so does a table
 unfoldable pub table_asks_unknown : (selections : List Data) → Data → Bool
 table_asks_unknown selections part =
     asks_unknown_at selections (codes "where") part || (asks_unknown_at selections (codes "any") part || list_any (is_from_unknown selections) (columns_of part))
 
+-- there are more columns than there may be
 unfoldable pub has_too_many_columns : Data → Bool
 has_too_many_columns part = nat_lt MAX_COLUMNS (length (columns_of part))
 
+-- the name of a table or of a column is not in its form, or stood before
 unfoldable pub has_bad_names : (before : List Data) → Data → Bool
 has_bad_names before part = has_bad_name before part || has_bad_column_name [] (columns_of part)
 
+-- the source gives another geometry
 unfoldable pub has_other_geometry : Data → Bool
 has_other_geometry part = not (gives_geometry (source_word part) (text_at (codes "geometry") part))
 
+-- a column is from nothing that may stand there
 unfoldable pub has_bad_columns : Data → Bool
 has_bad_columns part = list_any (is_bad_column (may_select (source_word part))) (columns_of part)
 
+-- the causes against a table, beside the selections and the tables before it
 unfoldable pub table_has : (selections before : List Data) → Data → StyleWhy → Bool
 table_has selections before part causes.TooMany = has_too_many_columns part
 table_has selections before part causes.UnknownKey = has_other_keys part
@@ -170,6 +190,7 @@ first_with_cause cause part before [] = None
 first_with_cause cause part before (value ∷ rest) =
     option_or (option_map (λ why. (why, part (length before + 1))) (cause before value)) (first_with_cause cause part (before ++ value ∷ []) rest)
 
+-- the first cause against a selection, and against a table
 abbrev pub selection_cause : (before : List Data) → Data → Option StyleWhy
 selection_cause before part = first_cause (selection_has before part)
 

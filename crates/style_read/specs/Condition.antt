@@ -41,6 +41,7 @@ asking text = option_map_or (λ (front, value). compared front value) (around_fi
 unfoldable pub parts_of : List ℕ → Option Parts
 parts_of text = option_map_or lacking (behind (codes "!") text) (asking text)
 
+-- the condition of a form
 abbrev pub condition_on : Form → (key value : List ℕ) → Condition
 condition_on forms.Has key value = Has (chars key)
 condition_on forms.Lacks key value = Lacks (chars key)

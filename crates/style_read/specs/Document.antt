@@ -44,6 +44,7 @@ lacks key part = is_none (get key part)
 abbrev pub may_have : (Data → Bool) → List ℕ → Data → Bool
 may_have test key part = unwrap_or (option_map test (get key part)) true
 
+-- values by their type
 abbrev pub is_text : Data → Bool
 is_text value = is_some (as_str value)
 

@@ -6,4 +6,5 @@ pub mod Name
 pub mod Reading
 pub mod Style
 pub mod Text
+pub mod Why
 pub mod Words

@@ -9,5 +9,6 @@ use Rattle.style_read.specs.declared.name.TheConstants.{MAX_NAME, UNDERSCORE}
 abbrev pub is_name_byte : ℕ → Bool
 is_name_byte byte = (is_ascii_lowercase byte || is_ascii_digit byte) || byte == UNDERSCORE
 
+-- a name
 abbrev pub is_name : List ℕ → Bool
 is_name text = (nat_le 1 (length text) && nat_le (length text) MAX_NAME) && list_all is_name_byte text

@@ -76,6 +76,7 @@ abbrev pub reading_of : Option Data → Result StyleOf (StyleWhy × StylePart)
 reading_of None = Err (causes.Toml, parts.Top)
 reading_of (Some found) = unless_fault found (fault_of found)
 
+-- what bytes are read as: a style, or a cause and its part
 unfoldable pub reading : List ℕ → Result StyleOf (StyleWhy × StylePart)
 reading bytes = reading_of (document bytes)
 

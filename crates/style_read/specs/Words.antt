@@ -33,6 +33,7 @@ geometry_of Way = codes "line"
 geometry_of Area = codes "polygon"
 geometry_of Relation = codes "lines"
 
+-- a word that names a geometry
 unfoldable pub is_geometry : List ℕ → Bool
 is_geometry word = bytes_eq word (codes "point") || (bytes_eq word (codes "line") || (bytes_eq word (codes "polygon") || bytes_eq word (codes "lines")))
 

@@ -1,5 +1,6 @@
 //! Why bytes are no style.
 ghost use Rattle.std.specs.Prelude.{◌≡◌};
+ghost use Rattle.style_read.specs.Why.{number_of};
 ghost use Rattle.style_read.specs.declared.fault.StyleFault.TheVariants.{OutOfMemory};
 
 use std::alloc::{AllocError, AllocFailed};
@@ -28,6 +29,26 @@ pub enum StyleWhy {
     UnknownSelection,
     /// More tables, selections or columns than there may be.
     TooMany,
+}
+
+impl StyleWhy {
+    /// The number of the cause.
+    pub fn number(&self) -> u8
+        ensures number { result ≡ number_of self.now }
+    {
+        match self {
+            StyleWhy::Toml => 1,
+            StyleWhy::UnknownKey => 2,
+            StyleWhy::MissingKey => 3,
+            StyleWhy::WrongType => 4,
+            StyleWhy::Name => 5,
+            StyleWhy::SourceGeometry => 6,
+            StyleWhy::Condition => 7,
+            StyleWhy::Column => 8,
+            StyleWhy::UnknownSelection => 9,
+            StyleWhy::TooMany => 10,
+        }
+    }
 }
 
 /// A part of a style. Selections and tables are counted from 1.
