@@ -1,6 +1,6 @@
 -- What was asked of the first entries of a change is a front of what is asked of all.
 use Rattle.std.proofs.Common.{◌≡◌, ℕ, suc, zero, ◌<◌, List, [], ◌∷◌, ◌++◌, length, take, drop, get_or, append_assoc, sym, ◌∙◌, ap, arith}
-use Rattle.osm_base.specs.declared.object.Entry.{Entry}
+use Rattle.osm_base.specs.declared.values.object.Entry.{Entry}
 use Rattle.dep_closure.specs.Questions.{of_entry, of_nodes}
 
 pub of_nodes-cut : (change : List Entry) (at : ℕ) (entry : Entry) → at < length change → entry ≡ get_or change at entry

@@ -1,8 +1,8 @@
 -- What an index is asked where a change is looked at.
 use Rattle.std.specs.Prelude.{◌≡◌, List, [], ◌∷◌, ◌++◌, flat_map, if◌then◌else◌}
-use Rattle.osm_base.specs.declared.key.Kind.TheVariants as kinds
-use Rattle.osm_base.specs.declared.object.Entry.{Entry}
-use Rattle.osm_base.specs.Known.{Question, WaysOfNode}
+use Rattle.osm_base.specs.declared.values.key.Kind.TheVariants as kinds
+use Rattle.osm_base.specs.declared.values.object.Entry.{Entry}
+use Rattle.osm_base.specs.map.Known.{Question, WaysOfNode}
 use Rattle.object_fold.specs.Index.{is_kind}
 
 -- an entry of a node asks for the ways that list it

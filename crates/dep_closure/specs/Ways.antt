@@ -4,14 +4,14 @@ use Rattle.std.specs.Prelude.{◌≡◌, ℕ, Bool, ◌&&◌, ◌||◌, List, Op
 use Rattle.std.specs.List.{list_any}
 use Rattle.std.specs.Ordering.{eq_by_cmp}
 use Rattle.std.specs.FinMap as map
-use Rattle.osm_base.specs.declared.object.Entry.{Entry}
-use Rattle.osm_base.specs.declared.key.Kind.TheVariants as kinds
-use Rattle.osm_base.specs.declared.object.Object.{Object}
-use Rattle.osm_base.specs.declared.object.Object.TheVariants.{Way}
-use Rattle.osm_base.specs.Key.{way_key}
-use Rattle.osm_base.specs.KeyOrder.{key_cmp}
-use Rattle.osm_base.specs.Known.{Index}
-use Rattle.osm_base.specs.Place.{PlaceOf}
+use Rattle.osm_base.specs.declared.values.object.Entry.{Entry}
+use Rattle.osm_base.specs.declared.values.key.Kind.TheVariants as kinds
+use Rattle.osm_base.specs.declared.values.object.Object.{Object}
+use Rattle.osm_base.specs.declared.values.object.Object.TheVariants.{Way}
+use Rattle.osm_base.specs.values.Key.{way_key}
+use Rattle.osm_base.specs.values.KeyOrder.{key_cmp}
+use Rattle.osm_base.specs.map.Known.{Index}
+use Rattle.osm_base.specs.values.Place.{PlaceOf}
 use Rattle.piece_ends.specs.Pieces.{Line}
 use Rattle.line_build.specs.Points.{line}
 use Rattle.object_fold.specs.Fold.{ObjectSet, folded_all}

@@ -1,9 +1,9 @@
 //! The ways that a change makes due.
 ghost use Rattle.std.specs.Prelude.{◌≡◌, ◌≤◌, ◌||◌, ℕ, false, IfOk, IfErr, IsErrOf, OnOk, OnErr};
 ghost use Rattle.std.specs.List.{AllByRecursion};
-ghost use Rattle.osm_base.specs.Ids.{AreRisingIds};
-ghost use Rattle.osm_base.specs.Key.{IsId};
-ghost use Rattle.osm_base.specs.Known.{Index};
+ghost use Rattle.osm_base.specs.values.Ids.{AreRisingIds};
+ghost use Rattle.osm_base.specs.values.Key.{IsId};
+ghost use Rattle.osm_base.specs.map.Known.{Index};
 ghost use Rattle.object_fold.specs.Fold.{ObjectSet, folded_all};
 ghost use Rattle.object_fold.specs.Index.{index_of};
 ghost use Rattle.object_fold.specs.RisingIds.{has};

@@ -1,6 +1,6 @@
 //! Keys of objects, as a table writes them: the letter of the kind and the id.
 ghost use Rattle.std.specs.Prelude.{IfSome};
-ghost use Rattle.osm_base.specs.Key.{IsId};
+ghost use Rattle.osm_base.specs.values.Key.{IsId};
 
 use example_table::number_of;
 use osm_base::{Key, Kind, MAX_ID};

@@ -2,8 +2,8 @@
 use Rattle.std.proofs.Common.{◌≡◌, ℕ, ◌*◌, ◌<◌, ◌≤◌, arith, List, [], ◌∷◌, map, length, ℤ, pos, ◌-ℤ◌, ◌+ℤ◌, ◌≤ℤ◌, neg_ℤ, unsigned_abs, Some}
 use Rattle.std.specs.List.{AllByRecursion}
 use Rattle.std.proofs.lemmas.Int.{ints}
-use Rattle.osm_base.specs.Place.{PlaceOf}
-use Rattle.osm_base.specs.declared.place.GeoBox.{GeoBox}
+use Rattle.osm_base.specs.values.Place.{PlaceOf}
+use Rattle.osm_base.specs.declared.values.place.GeoBox.{GeoBox}
 use Rattle.lanes_geo.specs.Box.{IsWithin, box_of}
 use Rattle.lanes_geo.specs.Grid.{IsPlace, east_of, north_of, least_of, greatest_of}
 use Rattle.lanes_geo.proofs.Sides.{shifted}

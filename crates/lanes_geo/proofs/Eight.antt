@@ -4,7 +4,7 @@ use lib.Lanes.{mask_l, top, zip2, chunk}
 use Rattle.std.specs.List.{AllByRecursion}
 use Rattle.std.proofs.lemmas.Int.{ints, to_z-of_z}
 use Rattle.std.proofs.lemmas.Simd.{mask_l-mod, length-zip2}
-use Rattle.osm_base.specs.Place.{PlaceOf}
+use Rattle.osm_base.specs.values.Place.{PlaceOf}
 use Rattle.lanes_geo.specs.Crossing.{crossings}
 use Rattle.lanes_geo.specs.Grid.{IsPlace, bounds_of, coordinates_of}
 use Rattle.lanes_geo.proofs.Level.{IsOnSide, all_joined, none_level}

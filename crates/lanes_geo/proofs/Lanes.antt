@@ -9,7 +9,7 @@ use Rattle.std.proofs.lemmas.Int.{ints}
 use Rattle.std.proofs.lemmas.Simd.{mask_l-mod, ones-mask_l, splat_is_map}
 use Rattle.std.proofs.lemmas.Bool.Decides.{nat_tests}
 use mathlib.Core.Bool.{beq}
-use Rattle.osm_base.specs.Place.{PlaceOf}
+use Rattle.osm_base.specs.values.Place.{PlaceOf}
 use Rattle.lanes_geo.specs.Crossing.{Segment, crosses}
 use Rattle.lanes_geo.specs.Grid.{IsPlace, apart, kept, east_of, north_of}
 use Rattle.lanes_geo.proofs.Crossed.{EndsOnEarth, differ, crosses_is}

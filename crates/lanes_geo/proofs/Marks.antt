@@ -5,7 +5,7 @@ use Rattle.std.proofs.lemmas.Bool.Decides.{nat_tests}
 use Rattle.std.proofs.lemmas.Grind.{common_steps}
 use Rattle.std.proofs.lemmas.Int.{ints, to_z-of_z}
 use Rattle.std.proofs.lemmas.Simd.{length-zip2, mask_l-mod}
-use Rattle.osm_base.specs.declared.place.GeoBox.{GeoBox}
+use Rattle.osm_base.specs.declared.values.place.GeoBox.{GeoBox}
 use Rattle.lanes_geo.specs.Box.{meets}
 use Rattle.lanes_geo.specs.Grid.{FitBox, raised, side_lanes, least_lanes, most_lanes, sixteen}
 

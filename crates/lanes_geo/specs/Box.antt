@@ -3,8 +3,8 @@
 use Rattle.std.specs.Prelude.{Bool, ◌&&◌, ℤ, List, [], ◌∷◌, map, int_le, Some, None, Option, ◌≤ℤ◌}
 use Rattle.std.specs.Int.{int_min, int_max}
 use Rattle.std.specs.List.{fold}
-use Rattle.osm_base.specs.Place.{PlaceOf}
-use Rattle.osm_base.specs.declared.place.GeoBox.{GeoBox}
+use Rattle.osm_base.specs.values.Place.{PlaceOf}
+use Rattle.osm_base.specs.declared.values.place.GeoBox.{GeoBox}
 
 -- whether two spans, their ends included, have a number in common
 abbrev pub overlap : ℤ → ℤ → ℤ → ℤ → Bool

@@ -3,7 +3,7 @@
 -- within it leaves it once more than it enters it.
 use Rattle.std.specs.Prelude.{ℕ, ◌%◌, ◌==◌, Bool, true, false, List, [], ◌∷◌, ℤ, ◌-ℤ◌, ◌*ℤ◌, int_lt, if◌then◌else◌, count_by}
 use mathlib.Core.Bool.{beq}
-use Rattle.osm_base.specs.Place.{PlaceOf}
+use Rattle.osm_base.specs.values.Place.{PlaceOf}
 
 -- a segment from its start to its end
 pub record Segment : Type 0 where

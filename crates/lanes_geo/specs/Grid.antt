@@ -2,9 +2,9 @@
 use mir.Syntax.{w32}
 use Rattle.std.specs.Prelude.{ℕ, zero, suc, ℤ, pos, List, [], ◌∷◌, ◌++◌, FitsSigned, min, max, nat_lt, if◌then◌else◌, ◌+◌, ◌-◌, ◌+ℤ◌, unsigned_abs}
 use mathlib.Core.Bool.{beq}
-use Rattle.osm_base.specs.declared.place.GeoBox.{GeoBox}
-use Rattle.osm_base.specs.Place.{PlaceOf, IsOnEarth}
-use Rattle.osm_base.specs.declared.place.TheConstants.{MAX_LON, MAX_LAT}
+use Rattle.osm_base.specs.declared.values.place.GeoBox.{GeoBox}
+use Rattle.osm_base.specs.values.Place.{PlaceOf, IsOnEarth}
+use Rattle.osm_base.specs.declared.values.place.TheConstants.{MAX_LON, MAX_LAT}
 
 -- a place of the world
 abbrev pub IsPlace : PlaceOf → Type 0

@@ -1,7 +1,7 @@
 -- Pieces whose lines were written down by hand.
 use Rattle.std.proofs.Common.{◌≡◌, [], ◌∷◌, refl}
 use Rattle.std.specs.Prelude.{ℤ, pos, neg_ℤ}
-use Rattle.osm_base.specs.Place.{PlaceOf}
+use Rattle.osm_base.specs.values.Place.{PlaceOf}
 use Rattle.piece_ends.specs.Walk.{extended, lines_within}
 use Rattle.line_build.specs.Joins.{joined}
 

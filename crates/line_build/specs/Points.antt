@@ -3,7 +3,7 @@
 -- place gives no point, and a point equal to the one before it is dropped.
 use Rattle.std.specs.Prelude.{ℕ, List, length, nat_le, if◌then◌else◌, Option, None, Some}
 use Rattle.std.specs.List.{dedup, filter_map}
-use Rattle.osm_base.specs.Place.{PlaceOf}
+use Rattle.osm_base.specs.values.Place.{PlaceOf}
 use Rattle.piece_ends.specs.Pieces.{Line, same_place}
 
 -- the places of the nodes that have one, in order, each that equals the one before it dropped

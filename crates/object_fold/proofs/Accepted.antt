@@ -4,10 +4,10 @@ use Rattle.std.proofs.lemmas.Bool.{leb-true, ltb-true}
 use Rattle.std.specs.Prelude.{Result, Ok, Err}
 use Rattle.std.specs.List.{AllByRecursion, cons_option}
 use Rattle.std.specs.Option.{option_or}
-use Rattle.osm_base.specs.declared.limits.LimitNumbers.{LimitNumbers}
-use Rattle.osm_base.specs.declared.limits.LimitKind.TheVariants.{LineBytes, FileLines, FileEntries}
-use Rattle.osm_base.specs.declared.object.Entry.{Entry}
-use Rattle.osm_base.specs.KeyOrder.{is_below}
+use Rattle.osm_base.specs.declared.bounds.limits.LimitNumbers.{LimitNumbers}
+use Rattle.osm_base.specs.declared.bounds.limits.LimitKind.TheVariants.{LineBytes, FileLines, FileEntries}
+use Rattle.osm_base.specs.declared.values.object.Entry.{Entry}
+use Rattle.osm_base.specs.values.KeyOrder.{is_below}
 use Rattle.opl_lines.specs.Lines.{lines_of}
 use Rattle.opl_object.specs.declared.why.Why.{Why}
 use Rattle.opl_object.specs.declared.why.Why.TheVariants.{Order}

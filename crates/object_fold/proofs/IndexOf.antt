@@ -10,12 +10,12 @@ use Rattle.std.specs.List.{filter, AllByRecursion}
 use Rattle.std.specs.List.Sorted.{IsStrictlySortedBy}
 use Rattle.std.specs.FinMap as finite
 use Rattle.std.specs.FinMap.{is_sorted}
-use Rattle.osm_base.specs.declared.key.Kind.{Kind}
-use Rattle.osm_base.specs.declared.key.Kind.TheVariants.{Node, Way, Relation}
-use Rattle.osm_base.specs.declared.object.Object.{Object}
-use Rattle.osm_base.specs.Ids.{AreRisingIds}
-use Rattle.osm_base.specs.Key.{KeyOf, IsId}
-use Rattle.osm_base.specs.KeyOrder.{key_cmp}
+use Rattle.osm_base.specs.declared.values.key.Kind.{Kind}
+use Rattle.osm_base.specs.declared.values.key.Kind.TheVariants.{Node, Way, Relation}
+use Rattle.osm_base.specs.declared.values.object.Object.{Object}
+use Rattle.osm_base.specs.values.Ids.{AreRisingIds}
+use Rattle.osm_base.specs.values.Key.{KeyOf, IsId}
+use Rattle.osm_base.specs.values.KeyOrder.{key_cmp}
 use Rattle.object_fold.specs.Fold.{ObjectSet}
 use Rattle.object_fold.specs.Index.{is_kind, lists, ids_of}
 use Rattle.object_fold.proofs.Listers.{key, kind_same, passing, test, has-ids_of}

@@ -3,9 +3,9 @@ use Rattle.std.proofs.Common.{◌≡◌, ℕ, suc, ◌+◌, ◌<◌, ◌≤◌, 
 use Rattle.std.proofs.lemmas.List.{append-nil}
 use Rattle.std.proofs.lemmas.Bool.{le-leb, le-ltb, lt-leb}
 use Rattle.std.specs.Prelude.{Result, Ok, Err}
-use Rattle.osm_base.specs.declared.limits.LimitNumbers.{LimitNumbers}
-use Rattle.osm_base.specs.declared.limits.LimitKind.TheVariants as kinds
-use Rattle.osm_base.specs.declared.object.Entry.{Entry}
+use Rattle.osm_base.specs.declared.bounds.limits.LimitNumbers.{LimitNumbers}
+use Rattle.osm_base.specs.declared.bounds.limits.LimitKind.TheVariants as kinds
+use Rattle.osm_base.specs.declared.values.object.Entry.{Entry}
 use Rattle.opl_lines.specs.Lines.{lines_of, first_of}
 use Rattle.opl_lines.specs.Reading.{Reading, begun}
 use Rattle.opl_lines.specs.Takes.{Takes, Refuses}

@@ -6,11 +6,12 @@ use Rattle.std.specs.Cmp.{unsigned_tied, Equal-is}
 use Rattle.std.proofs.lemmas.Cmp.{nat_eq_equiv}
 use Rattle.std.specs.List.{filter, list_any}
 use Rattle.std.specs.FinMap as finite
-use Rattle.osm_base.specs.declared.key.Kind.{Kind}
-use Rattle.osm_base.specs.declared.key.Kind.TheVariants.{Node, Way, Relation}
-use Rattle.osm_base.specs.declared.object.Object.{Object}
-use Rattle.osm_base.specs.Key.{KeyOf}
-use Rattle.osm_base.specs.KeyOrder.{key_cmp, key_cmp-IsAntisymmetric}
+use Rattle.osm_base.specs.declared.values.key.Kind.{Kind}
+use Rattle.osm_base.specs.declared.values.key.Kind.TheVariants.{Node, Way, Relation}
+use Rattle.osm_base.specs.declared.values.object.Object.{Object}
+use Rattle.osm_base.specs.values.Key.{KeyOf}
+use Rattle.osm_base.specs.values.KeyOrder.{key_cmp}
+use Rattle.osm_base.proofs.KeyLaws.{key_cmp-IsAntisymmetric}
 use Rattle.object_fold.specs.Fold.{ObjectSet}
 use Rattle.object_fold.specs.Index.{is_kind, lists, ids_of}
 use Rattle.object_fold.specs.RisingIds.{has}

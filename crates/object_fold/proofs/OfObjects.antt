@@ -5,13 +5,14 @@ use Rattle.std.specs.Option.{is_some, unwrap_or}
 use Rattle.std.specs.Ordering.{nat_cmp}
 use Rattle.std.specs.BTreeMap.{BTreeMap, get_by}
 use Rattle.std.specs.FinMap as finite
-use Rattle.osm_base.specs.declared.key.Kind.{Kind}
-use Rattle.osm_base.specs.declared.key.Kind.TheVariants.{Node, Way, Relation}
-use Rattle.osm_base.specs.declared.memory.OutOfMemory.{OutOfMemory}
-use Rattle.osm_base.specs.declared.object.Object.{Object}
-use Rattle.osm_base.specs.Ids.{AreRisingIds}
-use Rattle.osm_base.specs.Key.{KeyOf}
-use Rattle.osm_base.specs.KeyOrder.{key_cmp, key_cmp_total, key_cmp-IsAntisymmetric}
+use Rattle.osm_base.specs.declared.values.key.Kind.{Kind}
+use Rattle.osm_base.specs.declared.values.key.Kind.TheVariants.{Node, Way, Relation}
+use Rattle.osm_base.specs.declared.bounds.memory.OutOfMemory.{OutOfMemory}
+use Rattle.osm_base.specs.declared.values.object.Object.{Object}
+use Rattle.osm_base.specs.values.Ids.{AreRisingIds}
+use Rattle.osm_base.specs.values.Key.{KeyOf}
+use Rattle.osm_base.specs.values.KeyOrder.{key_cmp}
+use Rattle.osm_base.proofs.KeyLaws.{key_cmp_total, key_cmp-IsAntisymmetric, tree_cmp, tree_cmp-key_cmp}
 use Rattle.object_fold.specs.declared.listed.Listed.{Listed}
 use Rattle.object_fold.specs.declared.listings.Listings.{Listings}
 use Rattle.object_fold.specs.Fold.{ObjectSet, objects_in}
@@ -21,7 +22,6 @@ use Rattle.object_fold.specs.RisingIds.{IsRising, has}
 use Rattle.object_fold.specs.Listings.{AreListed, AreListedBy, AreListingsOf}
 use Rattle.osm_base.proofs.Found.{found}
 use Rattle.object_fold.proofs.IndexOf.{listers-are, ids_of-ids}
-use Rattle.osm_base.proofs.KeyLaws.{tree_cmp, tree_cmp-key_cmp}
 
 module _ (tree : BTreeMap KeyOf Object) (listings : Listings) (own : ObjectSet) (view : objects_in tree ≡ own) (are : AreListingsOf (objects_in tree) listings) (id : ℕ) where
   pub ways_of_nodes-are : (ids : List ℕ) → ids ≡ listers listings.ways_of_nodes id → IsRising ids → ids ≡ ids_of Way Node id own

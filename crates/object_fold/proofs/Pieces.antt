@@ -2,8 +2,8 @@
 use Rattle.std.proofs.Common.{◌≡◌, ℕ, suc, zero, ◌+◌, ◌≤◌, Bool, Option, Some, None, Result, Ok, Err, OnErr, List, [], ◌∷◌, ◌++◌, length, replicate, length-append, append_assoc, refl, sym, ◌∙◌, ap, subst, arith}
 use Rattle.std.specs.Io.KnownBytes.{Consumes, Keeps}
 use Rattle.outside.specs.Bytes.{BothKnown}
-use Rattle.osm_base.specs.declared.limits.LimitNumbers.{LimitNumbers}
-use Rattle.osm_base.specs.declared.object.Entry.{Entry}
+use Rattle.osm_base.specs.declared.bounds.limits.LimitNumbers.{LimitNumbers}
+use Rattle.osm_base.specs.declared.values.object.Entry.{Entry}
 use Rattle.object_fold.specs.declared.progress.Progress.{Progress}
 use Rattle.object_fold.specs.declared.scan.TheConstants.{PIECE}
 use Rattle.object_fold.specs.Entries.{entries_of}

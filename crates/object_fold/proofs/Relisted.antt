@@ -4,11 +4,12 @@ use mathlib.Core.Bool.{false≢true}
 use Rattle.std.specs.Option.{IsSome}
 use Rattle.std.specs.Cmp.{Equal-is}
 use Rattle.std.specs.FinMap as finite
-use Rattle.osm_base.specs.declared.key.Kind.{Kind}
-use Rattle.osm_base.specs.declared.key.Kind.TheVariants.{Node, Way}
-use Rattle.osm_base.specs.declared.object.Object.{Object}
-use Rattle.osm_base.specs.Key.{KeyOf, IsId}
-use Rattle.osm_base.specs.KeyOrder.{key_cmp, key_cmp_total, key_cmp-IsAntisymmetric}
+use Rattle.osm_base.specs.declared.values.key.Kind.{Kind}
+use Rattle.osm_base.specs.declared.values.key.Kind.TheVariants.{Node, Way}
+use Rattle.osm_base.specs.declared.values.object.Object.{Object}
+use Rattle.osm_base.specs.values.Key.{KeyOf, IsId}
+use Rattle.osm_base.specs.values.KeyOrder.{key_cmp}
+use Rattle.osm_base.proofs.KeyLaws.{key_cmp_total, key_cmp-IsAntisymmetric}
 use Rattle.object_fold.specs.declared.listed.Listed.{Listed}
 use Rattle.object_fold.specs.declared.listings.Listings.{Listings}
 use Rattle.object_fold.specs.Fold.{ObjectSet}

@@ -1,7 +1,7 @@
 -- Entries whose keys rise, and one more.
 use Rattle.std.proofs.Common.{◌≡◌, Option, Some, List, [], ◌∷◌, ◌++◌, refl}
-use Rattle.osm_base.specs.declared.object.Entry.{Entry}
-use Rattle.osm_base.specs.Key.{KeyOf}
+use Rattle.osm_base.specs.declared.values.object.Entry.{Entry}
+use Rattle.osm_base.specs.values.Key.{KeyOf}
 use Rattle.object_fold.specs.Change.{IsProper, Follows, RiseFrom, last_key}
 
 pub last_key-pushed : (before : Option KeyOf) (entries : List Entry) (entry : Entry) → last_key before (entries ++ entry ∷ []) ≡ Some entry.key

@@ -4,11 +4,11 @@ use Rattle.std.proofs.lemmas.List.{append-nil}
 use Rattle.std.specs.Prelude.{Result, Ok, Err}
 use Rattle.std.specs.List.{onto_first}
 use Rattle.std.specs.Option.{option_or}
-use Rattle.osm_base.specs.declared.limits.LimitNumbers.{LimitNumbers}
-use Rattle.osm_base.specs.declared.limits.LimitKind.TheVariants.{LineBytes, FileEntries}
-use Rattle.osm_base.specs.declared.object.Entry.{Entry}
-use Rattle.osm_base.specs.Key.{KeyOf}
-use Rattle.osm_base.specs.KeyOrder.{is_below}
+use Rattle.osm_base.specs.declared.bounds.limits.LimitNumbers.{LimitNumbers}
+use Rattle.osm_base.specs.declared.bounds.limits.LimitKind.TheVariants.{LineBytes, FileEntries}
+use Rattle.osm_base.specs.declared.values.object.Entry.{Entry}
+use Rattle.osm_base.specs.values.Key.{KeyOf}
+use Rattle.osm_base.specs.values.KeyOrder.{is_below}
 use Rattle.opl_lines.specs.Lines.{lines_of, first_of, first_line, IsWithinLine}
 use Rattle.opl_lines.specs.Reading.{begun}
 use Rattle.opl_lines.proofs.LineLemmas.{first_line-within, lines_of-last, lines_of-none, lines_of-some}

@@ -1,13 +1,13 @@
 -- What a file of entries has, whatever it says: each object is of its key's kind, the ids of a way's nodes are ids, and the keys rise.
 use Rattle.std.specs.Prelude.{List, [], ◌∷◌, Option, None, Some, IsTrue, IfSome}
 use Rattle.std.specs.List.{AllByRecursion}
-use Rattle.osm_base.specs.declared.key.Kind.{Kind}
-use Rattle.osm_base.specs.declared.key.Kind.TheVariants as kinds
-use Rattle.osm_base.specs.declared.object.Entry.{Entry}
-use Rattle.osm_base.specs.declared.object.Object.{Object}
-use Rattle.osm_base.specs.declared.object.Object.TheVariants.{Node, Way, Relation}
-use Rattle.osm_base.specs.Key.{KeyOf, IsId}
-use Rattle.osm_base.specs.KeyOrder.{is_below}
+use Rattle.osm_base.specs.declared.values.key.Kind.{Kind}
+use Rattle.osm_base.specs.declared.values.key.Kind.TheVariants as kinds
+use Rattle.osm_base.specs.declared.values.object.Entry.{Entry}
+use Rattle.osm_base.specs.declared.values.object.Object.{Object}
+use Rattle.osm_base.specs.declared.values.object.Object.TheVariants.{Node, Way, Relation}
+use Rattle.osm_base.specs.values.Key.{KeyOf, IsId}
+use Rattle.osm_base.specs.values.KeyOrder.{is_below}
 
 -- an object of this kind; the nodes of a way have ids
 abbrev pub IsOfKind : Kind → Object → Type 0

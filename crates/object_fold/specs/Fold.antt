@@ -2,12 +2,12 @@
 use Rattle.std.specs.Prelude.{List, fold, Option, None, Some}
 use Rattle.std.specs.BTreeMap.{BTreeMap}
 use Rattle.std.specs.FinMap as map
-use Rattle.osm_base.specs.declared.object.Entry.{Entry}
-use Rattle.osm_base.specs.declared.object.Object.{Object}
-use Rattle.osm_base.specs.declared.object.Object.TheVariants.{Node}
-use Rattle.osm_base.specs.Key.{KeyOf}
-use Rattle.osm_base.specs.Place.{PlaceOf}
-use Rattle.osm_base.specs.KeyOrder.{key_cmp}
+use Rattle.osm_base.specs.declared.values.object.Entry.{Entry}
+use Rattle.osm_base.specs.declared.values.object.Object.{Object}
+use Rattle.osm_base.specs.declared.values.object.Object.TheVariants.{Node}
+use Rattle.osm_base.specs.values.Key.{KeyOf}
+use Rattle.osm_base.specs.values.Place.{PlaceOf}
+use Rattle.osm_base.specs.values.KeyOrder.{key_cmp}
 
 -- the objects of a map by their keys
 abbrev pub ObjectSet : Type 0

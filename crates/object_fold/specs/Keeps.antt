@@ -1,6 +1,6 @@
 -- What becomes of one who is given the entries of a file in order.
 use Rattle.std.specs.Prelude.{List, [], ◌∷◌, ◌++◌, fold, Option, None, Some, Result, Ok, Err}
-use Rattle.osm_base.specs.declared.object.Entry.{Entry}
+use Rattle.osm_base.specs.declared.values.object.Entry.{Entry}
 use Rattle.object_fold.specs.declared.fault.FileFault.{FileFault}
 
 -- given an entry, if there is one

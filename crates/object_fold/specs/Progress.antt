@@ -5,9 +5,9 @@
 use Rattle.std.specs.Prelude.{◌≡◌, ◌≤◌, ℕ, ◌+◌, List, [], ◌∷◌, ◌++◌, Bool, false, Option, None, Some, Result, Ok, Err, IfSome}
 use Rattle.std.specs.List.{cons_option}
 use Rattle.std.specs.Option.{option_len}
-use Rattle.osm_base.specs.declared.limits.LimitNumbers.{LimitNumbers}
-use Rattle.osm_base.specs.declared.object.Entry.{Entry}
-use Rattle.osm_base.specs.Key.{KeyOf}
+use Rattle.osm_base.specs.declared.bounds.limits.LimitNumbers.{LimitNumbers}
+use Rattle.osm_base.specs.declared.values.object.Entry.{Entry}
+use Rattle.osm_base.specs.values.Key.{KeyOf}
 use Rattle.opl_lines.specs.Lines.{lines_of}
 use Rattle.opl_lines.specs.Reading.{begun, KeepsLimits}
 use Rattle.outside.specs.Bytes.{BothKnown}

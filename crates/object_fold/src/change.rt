@@ -1,7 +1,7 @@
 //! The entries of a file, kept.
 ghost use Rattle.std.specs.Prelude.{◌≡◌, List, [], None, IsTrue, OnOk};
-ghost use Rattle.osm_base.specs.Key.{KeyOf};
-ghost use Rattle.osm_base.specs.KeyOrder.{is_below};
+ghost use Rattle.osm_base.specs.values.Key.{KeyOf};
+ghost use Rattle.osm_base.specs.values.KeyOrder.{is_below};
 ghost use Rattle.object_fold.specs.Change.{IsChange, IsProper, Follows, last_key};
 ghost use Rattle.object_fold.specs.Keeps.{pushed};
 
@@ -19,8 +19,8 @@ pub struct Change {
 impl Model for Change {
     ghost use Rattle.std.specs.Prelude.{List};
     ghost use Rattle.std.specs.Coded.{coded_list};
-    ghost use Rattle.osm_base.specs.declared.object.Entry.{Entry};
-    ghost use Rattle.osm_base.specs.contracts.object.Entry as entry;
+    ghost use Rattle.osm_base.specs.declared.values.object.Entry.{Entry};
+    ghost use Rattle.osm_base.specs.contracts.values.object.Entry as entry;
     ghost use Rattle.object_fold.specs.Change.{IsChange};
 
     ghost Value = { List Entry };

@@ -1,8 +1,8 @@
 //! Who is given the entries of a file.
 ghost use Rattle.std.specs.Prelude.{◌≡◌, OnOk, IsTrue};
-ghost use Rattle.osm_base.specs.Key.{KeyOf};
-ghost use Rattle.osm_base.specs.KeyOrder.{is_below};
-ghost use Rattle.osm_base.specs.declared.object.Entry.{Entry as EntryOf};
+ghost use Rattle.osm_base.specs.values.Key.{KeyOf};
+ghost use Rattle.osm_base.specs.values.KeyOrder.{is_below};
+ghost use Rattle.osm_base.specs.declared.values.object.Entry.{Entry as EntryOf};
 ghost use Rattle.object_fold.specs.Change.{IsProper};
 
 use osm_base::{Entry, OutOfMemory};

@@ -1,6 +1,6 @@
 //! What an object lists.
 ghost use Rattle.std.specs.Prelude.{◌≡◌, ◌++◌, [], take, IfOk};
-ghost use Rattle.osm_base.specs.declared.key.Kind.TheVariants as kinds;
+ghost use Rattle.osm_base.specs.declared.values.key.Kind.TheVariants as kinds;
 ghost use Rattle.object_fold.specs.Index.{member_ids};
 ghost use Rattle.object_fold.specs.Listings.{AreListed};
 

@@ -3,9 +3,9 @@ ghost use Rattle.std.specs.Prelude.{◌≡◌, ◌≤◌, ℕ, false, Some, take
 ghost use Rattle.std.proofs.Common.{◌∙◌};
 ghost use Rattle.std.specs.FinMap as map;
 ghost use Rattle.std.specs.Option.{option_copied};
-ghost use Rattle.osm_base.specs.Ids.{AreRisingIds};
-ghost use Rattle.osm_base.specs.KeyOrder.{key_cmp};
-ghost use Rattle.osm_base.specs.declared.memory.OutOfMemory.{OutOfMemory as NoMemory};
+ghost use Rattle.osm_base.specs.values.Ids.{AreRisingIds};
+ghost use Rattle.osm_base.specs.values.KeyOrder.{key_cmp};
+ghost use Rattle.osm_base.specs.declared.bounds.memory.OutOfMemory.{OutOfMemory as NoMemory};
 ghost use Rattle.object_fold.specs.Fold.{folded, folded_all, objects_in, place_in};
 ghost use Rattle.object_fold.specs.Index.{index_of, known_of};
 ghost use Rattle.object_fold.specs.RisingIds.{has};
@@ -29,10 +29,10 @@ pub struct Objects {
 
 impl Model for Objects {
     ghost use Rattle.std.specs.FinMap as map;
-    ghost use Rattle.osm_base.specs.declared.object.Object.{Object};
-    ghost use Rattle.osm_base.specs.KeyOrder.{key_cmp};
-    ghost use Rattle.osm_base.specs.contracts.key.Key as key;
-    ghost use Rattle.osm_base.specs.contracts.object.Object as object;
+    ghost use Rattle.osm_base.specs.declared.values.object.Object.{Object};
+    ghost use Rattle.osm_base.specs.values.KeyOrder.{key_cmp};
+    ghost use Rattle.osm_base.specs.contracts.values.key.Key as key;
+    ghost use Rattle.osm_base.specs.contracts.values.object.Object as object;
 
     ghost Value = { map.FinMap key_cmp Object };
 
@@ -303,10 +303,10 @@ pub struct ObjectIndex<'o> {
 
 impl<'o> Model for ObjectIndex<'o> {
     ghost use Rattle.std.specs.FinMap as map;
-    ghost use Rattle.osm_base.specs.declared.object.Object.{Object};
-    ghost use Rattle.osm_base.specs.KeyOrder.{key_cmp};
-    ghost use Rattle.osm_base.specs.contracts.key.Key as key;
-    ghost use Rattle.osm_base.specs.contracts.object.Object as object;
+    ghost use Rattle.osm_base.specs.declared.values.object.Object.{Object};
+    ghost use Rattle.osm_base.specs.values.KeyOrder.{key_cmp};
+    ghost use Rattle.osm_base.specs.contracts.values.key.Key as key;
+    ghost use Rattle.osm_base.specs.contracts.values.object.Object as object;
 
     ghost Value = { map.FinMap key_cmp Object };
 

@@ -1,6 +1,6 @@
 //! A line in its place in a file.
 ghost use Rattle.std.specs.Prelude.{◌≡◌, ◌<◌, ◌≤◌, ◌+◌, ℕ, None, Some, IfOk, IfErr, OnOk, IfSome};
-ghost use Rattle.osm_base.specs.Key.{KeyOf};
+ghost use Rattle.osm_base.specs.values.Key.{KeyOf};
 ghost use Rattle.object_fold.specs.Change.{Follows, IsProper};
 ghost use Rattle.object_fold.specs.Passed.{spelled, entry_fault, text_fault};
 ghost use Rattle.object_fold.specs.Stops.{StopsAt};

@@ -8,10 +8,10 @@ use Rattle.std.specs.Ordering.{nat_cmp, eq_by_cmp}
 use Rattle.std.specs.Cmp.Lexicographic.{slice_cmp, nat_list_cmp_total}
 use Rattle.std.specs.FinMap as finite
 use Rattle.std.proofs.lemmas.Bool.{cases_Bool}
-use Rattle.osm_base.specs.declared.key.Kind.{Kind}
-use Rattle.osm_base.specs.declared.object.Member.{Member}
-use Rattle.osm_base.specs.Key.{KeyOf}
-use Rattle.osm_base.specs.Tags.{TagMap}
+use Rattle.osm_base.specs.declared.values.key.Kind.{Kind}
+use Rattle.osm_base.specs.declared.values.object.Member.{Member}
+use Rattle.osm_base.specs.values.Key.{KeyOf}
+use Rattle.osm_base.specs.values.Tags.{TagMap}
 use Rattle.opl_object.specs.declared.why.Why.{Why}
 use Rattle.opl_object.specs.declared.why.Why.TheVariants as causes
 use Rattle.opl_object.specs.Faults.{IsAmong, SpellsNoText, FirstFault, HaveOwnKeys, PairFault, TagFault, RoleFault, NumberFault, FrontFault, MemberFault, NodeFault, AreAny}

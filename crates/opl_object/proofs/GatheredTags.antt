@@ -10,7 +10,7 @@ use Rattle.std.specs.FinMap.Entries.{is_some-find}
 use Rattle.std.specs.List.{AllByRecursion, IsDistinct, list_any}
 use Rattle.std.specs.Option.{is_some}
 use Rattle.std.specs.Ordering.{nat_cmp, eq_by_cmp}
-use Rattle.osm_base.specs.Tags.{TagMap, TagPairs, HasEachKeyOnce}
+use Rattle.osm_base.specs.values.Tags.{TagMap, TagPairs, HasEachKeyOnce}
 use Rattle.opl_object.specs.declared.ascii.TheConstants.{EQUALS}
 use Rattle.opl_object.specs.declared.why.Why.{Why}
 use Rattle.opl_object.specs.declared.why.Why.TheVariants.{RepeatedKey}

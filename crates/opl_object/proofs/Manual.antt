@@ -10,11 +10,11 @@ use Rattle.std.specs.Fmt.{digits}
 use Rattle.std.specs.Option.{is_some}
 use Rattle.std.specs.Ordering.{nat_cmp}
 use Rattle.std.specs.Str.{chars, is_utf8}
-use Rattle.osm_base.specs.declared.key.Kind.TheVariants as kinds
-use Rattle.osm_base.specs.declared.object.Entry.{Entry}
-use Rattle.osm_base.specs.declared.object.Member.{Member}
-use Rattle.osm_base.specs.declared.object.Object.TheVariants as objects
-use Rattle.osm_base.specs.Tags.{TagMap}
+use Rattle.osm_base.specs.declared.values.key.Kind.TheVariants as kinds
+use Rattle.osm_base.specs.declared.values.object.Entry.{Entry}
+use Rattle.osm_base.specs.declared.values.object.Member.{Member}
+use Rattle.osm_base.specs.declared.values.object.Object.TheVariants as objects
+use Rattle.osm_base.specs.values.Tags.{TagMap}
 use Rattle.opl_object.specs.declared.why.Why.TheVariants as causes
 use Rattle.opl_object.specs.Coordinate.{coordinate}
 use Rattle.opl_object.specs.Escapes.{escape_text, written_text}

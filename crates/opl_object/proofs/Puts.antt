@@ -7,8 +7,8 @@ use Rattle.std.specs.Io.KnownBytes.{Appends}
 use Rattle.std.proofs.lemmas.List.{append-nil}
 use Rattle.std.proofs.lemmas.Bool.Decides.{nat_tests}
 use Rattle.outside.specs.Bytes.{AppendsPrefix}
-use Rattle.osm_base.specs.declared.object.Object.{Object}
-use Rattle.osm_base.specs.declared.object.Object.TheVariants.{Node, Way, Relation}
+use Rattle.osm_base.specs.declared.values.object.Object.{Object}
+use Rattle.osm_base.specs.declared.values.object.Object.TheVariants.{Node, Way, Relation}
 use Rattle.opl_object.specs.Lists.{comma_before, tags_text, nodes_text, members_text}
 use Rattle.opl_object.specs.Written.{place_text, object_text}
 

@@ -9,8 +9,8 @@ use Rattle.std.proofs.lemmas.Bool.{cases_Bool, cases_lt, eqb-true, false_from_ne
 use Rattle.std.proofs.lemmas.List.{append-nil, take-append-drop, take_all, take_at, drop_at, drop_more, length-append}
 use Rattle.std.proofs.lemmas.List.Sums.{passes_at_first}
 use Rattle.std.proofs.lemmas.Str.{IsUtf8-drop}
-use Rattle.osm_base.specs.declared.key.TheConstants.{MAX_ID}
-use Rattle.osm_base.specs.Key.{IsId}
+use Rattle.osm_base.specs.declared.values.key.TheConstants.{MAX_ID}
+use Rattle.osm_base.specs.values.Key.{IsId}
 use Rattle.opl_object.specs.declared.why.Why.{Why}
 use Rattle.opl_object.specs.declared.why.Why.TheVariants as causes
 use Rattle.opl_object.specs.Coordinate.{is_decimal, units, decimals_of, coordinate}

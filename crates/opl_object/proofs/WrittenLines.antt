@@ -15,17 +15,17 @@ use Rattle.std.proofs.lemmas.Bool.Decides.{nat_tests}
 use Rattle.std.proofs.lemmas.List.{append-nil}
 use Rattle.std.proofs.lemmas.List.Splits.{slice_split-cons_yes}
 use Rattle.std.proofs.lemmas.Str.{IsUtf8-from_ascii}
-use Rattle.osm_base.specs.declared.key.Kind.{Kind}
-use Rattle.osm_base.specs.declared.key.Kind.TheVariants as kinds
-use Rattle.osm_base.specs.declared.object.Entry.{Entry}
-use Rattle.osm_base.specs.declared.object.Object.{Object}
-use Rattle.osm_base.specs.declared.object.Object.TheVariants as objects
-use Rattle.osm_base.specs.declared.object.Member.{Member}
-use Rattle.osm_base.specs.declared.place.TheConstants.{MAX_LON, MAX_LAT}
-use Rattle.osm_base.specs.Degrees.{degrees}
-use Rattle.osm_base.specs.Key.{KeyOf, IsId}
-use Rattle.osm_base.specs.Place.{PlaceOf}
-use Rattle.osm_base.specs.Tags.{TagMap}
+use Rattle.osm_base.specs.declared.values.key.Kind.{Kind}
+use Rattle.osm_base.specs.declared.values.key.Kind.TheVariants as kinds
+use Rattle.osm_base.specs.declared.values.object.Entry.{Entry}
+use Rattle.osm_base.specs.declared.values.object.Object.{Object}
+use Rattle.osm_base.specs.declared.values.object.Object.TheVariants as objects
+use Rattle.osm_base.specs.declared.values.object.Member.{Member}
+use Rattle.osm_base.specs.declared.values.place.TheConstants.{MAX_LON, MAX_LAT}
+use Rattle.osm_base.specs.values.Degrees.{degrees}
+use Rattle.osm_base.specs.values.Key.{KeyOf, IsId}
+use Rattle.osm_base.specs.values.Place.{PlaceOf}
+use Rattle.osm_base.specs.values.Tags.{TagMap}
 use Rattle.osm_base.proofs.TagPlaces.{entries-from_entries}
 use Rattle.opl_object.specs.declared.letter.Letter.{Letter}
 use Rattle.opl_object.specs.declared.letter.Letter.TheVariants.{Version, Visible, Changeset, Time, UserId, User, Tags, Lon, Lat, Nodes, Members}

@@ -13,9 +13,9 @@ use Rattle.std.proofs.lemmas.List.{take-append-drop, reverse-append, reverse-rev
 use Rattle.std.proofs.lemmas.Int.{ints}
 use Rattle.std.proofs.lemmas.List.Folds.{list_all-append}
 use Rattle.std.proofs.lemmas.Str.Parse.{digit_from_value}
-use Rattle.osm_base.specs.Degrees.{degrees, fraction, padded, trimmed, is_zero}
-use Rattle.osm_base.specs.declared.place.TheConstants.{MAX_LON, MAX_LAT}
-use Rattle.osm_base.specs.Key.{IsId}
+use Rattle.osm_base.specs.values.Degrees.{degrees, fraction, padded, trimmed, is_zero}
+use Rattle.osm_base.specs.declared.values.place.TheConstants.{MAX_LON, MAX_LAT}
+use Rattle.osm_base.specs.values.Key.{IsId}
 use Rattle.osm_base.proofs.Digits.{decimal-behind_one}
 use Rattle.opl_object.specs.Coordinate.{units, seven}
 use Rattle.opl_object.specs.Spelling.{SpellsId, SpellsCoordinate, sign_text, decimals_text}

@@ -1,6 +1,6 @@
 -- The coordinates of the fields of a line are on the earth.
 use Rattle.std.specs.Prelude.{neg_ℤ, ◌≤ℤ◌, IfSome}
-use Rattle.osm_base.specs.declared.place.TheConstants.{MAX_LON, MAX_LAT}
+use Rattle.osm_base.specs.declared.values.place.TheConstants.{MAX_LON, MAX_LAT}
 use Rattle.opl_object.specs.declared.parts.Parts.{Parts}
 
 -- the longitude is a longitude, and the latitude a latitude

@@ -5,10 +5,10 @@
 use Rattle.std.specs.Prelude.{◌≡◌, ◌≢◌, ◌⊎◌, ℕ, IsFalse, List, [], ◌∷◌, ◌++◌, Option, None, Some, Result, Ok, Err, map, nat_abs}
 use Rattle.std.specs.List.{slice_split}
 use Rattle.std.specs.Str.{IsUtf8}
-use Rattle.osm_base.specs.declared.key.Kind.{Kind}
-use Rattle.osm_base.specs.declared.object.Member.{Member}
-use Rattle.osm_base.specs.declared.place.TheConstants.{MAX_LON, MAX_LAT}
-use Rattle.osm_base.specs.Key.{KeyOf}
+use Rattle.osm_base.specs.declared.values.key.Kind.{Kind}
+use Rattle.osm_base.specs.declared.values.object.Member.{Member}
+use Rattle.osm_base.specs.declared.values.place.TheConstants.{MAX_LON, MAX_LAT}
+use Rattle.osm_base.specs.values.Key.{KeyOf}
 use Rattle.opl_object.specs.declared.ascii.TheConstants.{COMMA, EQUALS, AT, CAPITAL_D, CAPITAL_V}
 use Rattle.opl_object.specs.declared.letter.Letter.{Letter}
 use Rattle.opl_object.specs.declared.letter.Letter.TheVariants.{Version, Visible, Changeset, Time, UserId, User, Tags, Lon, Lat, Nodes, Members}

@@ -3,8 +3,8 @@
 -- lines, x and y in those of nodes, N in those of ways, M in those of relations.
 use Rattle.std.specs.Prelude.{ℕ, ◌==◌, if◌then◌else◌, Bool, true, false, List, drop, slice_index, Option, None, Some}
 use Rattle.std.specs.Option.{option_map}
-use Rattle.osm_base.specs.declared.key.Kind.{Kind}
-use Rattle.osm_base.specs.declared.key.Kind.TheVariants as kinds
+use Rattle.osm_base.specs.declared.values.key.Kind.{Kind}
+use Rattle.osm_base.specs.declared.values.key.Kind.TheVariants as kinds
 use Rattle.opl_object.specs.declared.ascii.TheConstants.{CAPITAL_M, CAPITAL_N, CAPITAL_T, SMALL_C, SMALL_D, SMALL_I, SMALL_T, SMALL_U, SMALL_V, SMALL_X, SMALL_Y}
 use Rattle.opl_object.specs.declared.letter.Letter.{Letter}
 use Rattle.opl_object.specs.declared.letter.Letter.TheVariants.{Version, Visible, Changeset, Time, UserId, User, Tags, Lon, Lat, Nodes, Members}

@@ -4,9 +4,9 @@
 use Rattle.std.specs.Prelude.{ℕ, ◌==◌, if◌then◌else◌, List, [], ◌∷◌, ◌++◌, codes, decimal}
 use Rattle.std.specs.List.{AllByRecursion, join_by}
 use Rattle.std.specs.FinMap as map
-use Rattle.osm_base.specs.declared.object.Member.{Member}
-use Rattle.osm_base.specs.Key.{KeyOf, IsId}
-use Rattle.osm_base.specs.Tags.{TagMap}
+use Rattle.osm_base.specs.declared.values.object.Member.{Member}
+use Rattle.osm_base.specs.values.Key.{KeyOf, IsId}
+use Rattle.osm_base.specs.values.Tags.{TagMap}
 use Rattle.opl_object.specs.declared.ascii.TheConstants.{SMALL_N}
 use Rattle.opl_object.specs.Escapes.{written_text, IsText}
 use Rattle.opl_object.specs.Spelling.{kind_byte}

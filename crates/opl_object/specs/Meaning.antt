@@ -1,6 +1,6 @@
 -- What a line means: it is skipped, it has a fault, or it spells one entry.
 use Rattle.std.specs.Prelude.{◌≡◌, ◌⊎◌, ℕ, List}
-use Rattle.osm_base.specs.declared.object.Entry.{Entry}
+use Rattle.osm_base.specs.declared.values.object.Entry.{Entry}
 use Rattle.opl_object.specs.declared.why.LineRefused.{LineRefused}
 use Rattle.opl_object.specs.declared.why.LineRefused.TheVariants.{Bad, OutOfMemory}
 use Rattle.opl_object.specs.declared.why.Why.{Why}

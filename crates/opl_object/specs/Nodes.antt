@@ -3,7 +3,7 @@
 use Rattle.std.specs.Prelude.{ℕ, ◌&&◌, ◌||◌, not, if◌then◌else◌, List, [], ◌∷◌, ◌++◌, take, drop, Option, None, Some, Result, Ok, Err, nat_abs}
 use Rattle.std.specs.List.{slice_split, position_or_len}
 use Rattle.std.specs.Char.{is_ascii_digit}
-use Rattle.osm_base.specs.declared.place.TheConstants.{MAX_LON, MAX_LAT}
+use Rattle.osm_base.specs.declared.values.place.TheConstants.{MAX_LON, MAX_LAT}
 use Rattle.opl_object.specs.declared.ascii.TheConstants.{COMMA, SMALL_N, SMALL_X, SMALL_Y}
 use Rattle.opl_object.specs.declared.why.Why.{Why}
 use Rattle.opl_object.specs.declared.why.Why.TheVariants.{Member, HalfPlace}

@@ -4,7 +4,7 @@ use Rattle.std.specs.Prelude.{ℕ, Bool, ◌&&◌, ◌||◌, ◌==◌, nat_le, i
 use Rattle.std.specs.List.{list_all, zip}
 use Rattle.std.specs.Char.{is_ascii_digit}
 use Rattle.std.specs.Str.Parse.{digits_value}
-use Rattle.osm_base.specs.declared.key.TheConstants.{MAX_ID}
+use Rattle.osm_base.specs.declared.values.key.TheConstants.{MAX_ID}
 use Rattle.opl_object.specs.declared.ascii.TheConstants.{MINUS}
 use Rattle.opl_object.specs.declared.number.TheConstants.{TIME_FORM}
 use Rattle.opl_object.specs.declared.why.Why.{Why}

@@ -2,8 +2,8 @@
 -- osmium "OPL File Format": each field is a letter and its value.
 use Rattle.std.specs.Prelude.{ℕ, ◌==◌, Bool, true, false, if◌then◌else◌, List, [], ◌∷◌, None, Some, Result, Ok, Err, nat_abs}
 use Rattle.std.specs.FinMap as map
-use Rattle.osm_base.specs.declared.key.Kind.{Kind}
-use Rattle.osm_base.specs.declared.place.TheConstants.{MAX_LON, MAX_LAT}
+use Rattle.osm_base.specs.declared.values.key.Kind.{Kind}
+use Rattle.osm_base.specs.declared.values.place.TheConstants.{MAX_LON, MAX_LAT}
 use Rattle.opl_object.specs.declared.ascii.TheConstants.{CAPITAL_D, CAPITAL_V}
 use Rattle.opl_object.specs.declared.letter.Letter.{Letter}
 use Rattle.opl_object.specs.declared.letter.Letter.TheVariants.{Version, Visible, Changeset, Time, UserId, User, Tags, Lon, Lat, Nodes, Members}

@@ -4,13 +4,13 @@ use Rattle.std.specs.Prelude.{◌≡◌, ◌≢◌, ℕ, ℤ, Bool, true, false,
 use Rattle.std.specs.FinMap as finite
 use Rattle.std.specs.List.{AllByRecursion}
 use Rattle.std.specs.Str.{IsUtf8}
-use Rattle.osm_base.specs.declared.key.Kind.{Kind}
-use Rattle.osm_base.specs.declared.key.Kind.TheVariants as kinds
-use Rattle.osm_base.specs.declared.object.Entry.{Entry}
-use Rattle.osm_base.specs.declared.object.Object.{Object}
-use Rattle.osm_base.specs.declared.object.Object.TheVariants as objects
-use Rattle.osm_base.specs.declared.place.TheConstants.{MAX_LON, MAX_LAT}
-use Rattle.osm_base.specs.Place.{PlaceOf}
+use Rattle.osm_base.specs.declared.values.key.Kind.{Kind}
+use Rattle.osm_base.specs.declared.values.key.Kind.TheVariants as kinds
+use Rattle.osm_base.specs.declared.values.object.Entry.{Entry}
+use Rattle.osm_base.specs.declared.values.object.Object.{Object}
+use Rattle.osm_base.specs.declared.values.object.Object.TheVariants as objects
+use Rattle.osm_base.specs.declared.values.place.TheConstants.{MAX_LON, MAX_LAT}
+use Rattle.osm_base.specs.values.Place.{PlaceOf}
 use Rattle.opl_object.specs.declared.ascii.TheConstants.{CAPITAL_D, CAPITAL_V}
 use Rattle.opl_object.specs.declared.letter.Letter.{Letter}
 use Rattle.opl_object.specs.declared.letter.Letter.TheVariants.{Version, Visible, Changeset, Time, UserId, User, Tags, Lon, Lat, Nodes, Members}

@@ -3,7 +3,7 @@
 use Rattle.std.specs.Prelude.{ℕ, if◌then◌else◌, List, [], ◌∷◌, ◌++◌, Option, None, Some, Result, Ok, Err, is_some}
 use Rattle.std.specs.List.{slice_split}
 use Rattle.std.specs.FinMap as map
-use Rattle.osm_base.specs.Tags.{TagMap, TagPairs}
+use Rattle.osm_base.specs.values.Tags.{TagMap, TagPairs}
 use Rattle.opl_object.specs.declared.ascii.TheConstants.{COMMA, EQUALS}
 use Rattle.opl_object.specs.declared.why.Why.{Why}
 use Rattle.opl_object.specs.declared.why.Why.TheVariants.{Tag, RepeatedKey}

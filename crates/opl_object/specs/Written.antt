@@ -4,14 +4,14 @@
 -- object; else T with the tags, and x and y, N or M.
 use Rattle.std.specs.Prelude.{◌≡◌, ℕ, Option, None, Some, List, ◌++◌, codes, IfSome}
 use Rattle.std.specs.List.{AllByRecursion}
-use Rattle.osm_base.specs.declared.key.Kind.{Kind}
-use Rattle.osm_base.specs.declared.key.Kind.TheVariants as kinds
-use Rattle.osm_base.specs.declared.object.Entry.{Entry}
-use Rattle.osm_base.specs.declared.object.Object.{Object}
-use Rattle.osm_base.specs.declared.object.Object.TheVariants.{Node, Way, Relation}
-use Rattle.osm_base.specs.Degrees.{degrees}
-use Rattle.osm_base.specs.Key.{IsId}
-use Rattle.osm_base.specs.Place.{PlaceOf, IsOnEarth}
+use Rattle.osm_base.specs.declared.values.key.Kind.{Kind}
+use Rattle.osm_base.specs.declared.values.key.Kind.TheVariants as kinds
+use Rattle.osm_base.specs.declared.values.object.Entry.{Entry}
+use Rattle.osm_base.specs.declared.values.object.Object.{Object}
+use Rattle.osm_base.specs.declared.values.object.Object.TheVariants.{Node, Way, Relation}
+use Rattle.osm_base.specs.values.Degrees.{degrees}
+use Rattle.osm_base.specs.values.Key.{IsId}
+use Rattle.osm_base.specs.values.Place.{PlaceOf, IsOnEarth}
 use Rattle.opl_object.specs.Escapes.{IsText, IsWithoutZero}
 use Rattle.opl_object.specs.Lists.{key_text, tags_text, nodes_text, members_text, OfTags, IsMember}
 

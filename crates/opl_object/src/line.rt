@@ -1,13 +1,13 @@
 //! A whole line.
 ghost use Rattle.std.specs.Prelude.{◌≡◌, ◌≢◌, ◌↔◌, ◌≤ℤ◌, neg_ℤ, ℕ, List, Option, None, Some, Result, Ok, Err, IsFalse, IsSome, IfSome, IfOk, IfErr, IsOkAnd};
-ghost use Rattle.osm_base.specs.declared.object.Entry.{Entry};
-ghost use Rattle.osm_base.specs.Key.{KeyOf};
+ghost use Rattle.osm_base.specs.declared.values.object.Entry.{Entry};
+ghost use Rattle.osm_base.specs.values.Key.{KeyOf};
 ghost use Rattle.opl_object.specs.declared.why.Why.{Why};
 ghost use Rattle.opl_object.specs.declared.why.Why.TheVariants.{Order};
 ghost use Rattle.opl_object.specs.declared.why.LineRefused.TheVariants.{Bad};
 ghost use Rattle.opl_object.specs.Meaning.{HasOneMeaning, TellsFault};
 ghost use Rattle.opl_object.specs.Spells.{Spells};
-ghost use Rattle.osm_base.specs.declared.place.TheConstants.{MAX_LON, MAX_LAT};
+ghost use Rattle.osm_base.specs.declared.values.place.TheConstants.{MAX_LON, MAX_LAT};
 ghost use Rattle.opl_object.specs.Earth.{AreOnEarth};
 ghost use Rattle.opl_object.specs.Faults.{HasFault};
 ghost use Rattle.opl_object.specs.Fields.{fields_of};

@@ -2,7 +2,7 @@
 ghost use Rattle.std.specs.Prelude.{◌≡◌, ◌≤◌, ℕ, [], IfOk};
 ghost use Rattle.std.specs.List.{slice_split};
 ghost use Rattle.opl_object.specs.Fields.{is};
-ghost use Rattle.osm_base.specs.Key.{IsId};
+ghost use Rattle.osm_base.specs.values.Key.{IsId};
 ghost use Rattle.opl_object.specs.Nodes.{numbered, placed, place_pair, node_of, with_node, nodes_of};
 ghost use Rattle.opl_object.specs.Why.{Gives, Tells, each_piece};
 ghost use Rattle.std.specs.Option.{option_map};

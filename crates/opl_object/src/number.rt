@@ -3,7 +3,7 @@ ghost use Rattle.std.specs.Prelude.{◌≡◌, ◌≤◌, ◌<◌, ◌^◌, IsTr
 ghost use Rattle.std.specs.Char.{is_ascii_digit};
 ghost use Rattle.std.specs.List.{list_all, zip};
 ghost use Rattle.std.specs.Str.Parse.{digits_value};
-ghost use Rattle.osm_base.specs.Key.{IsId};
+ghost use Rattle.osm_base.specs.values.Key.{IsId};
 ghost use Rattle.opl_object.specs.Number.{is_negative, unsigned, are_digits, is_whole, is_formed, is_time, id_of};
 
 use crate::Why;

@@ -1,8 +1,8 @@
 //! The line of an entry as it is written.
 ghost use Rattle.std.specs.Prelude.{◌≡◌, ◌++◌, OnOk, OnErr, IfSome};
 ghost use Rattle.std.specs.Io.KnownBytes.{Appends};
-ghost use Rattle.osm_base.specs.Degrees.{degrees};
-ghost use Rattle.osm_base.specs.Place.{IsOnEarth};
+ghost use Rattle.osm_base.specs.values.Degrees.{degrees};
+ghost use Rattle.osm_base.specs.values.Place.{IsOnEarth};
 ghost use Rattle.outside.specs.Bytes.{AppendsPrefix};
 ghost use Rattle.outside.specs.Causes.{HasCause};
 ghost use Rattle.opl_object.specs.Spells.{Spells};

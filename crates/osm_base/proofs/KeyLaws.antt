@@ -1,11 +1,15 @@
--- The order that the code has of keys is that of a file.
-use Rattle.std.proofs.Common.{◌≡◌, ℕ, refl}
+-- The order that the code has of keys is that of a file. It is total, and no two keys tie.
+use Rattle.std.proofs.Common.{◌≡◌, ℕ, refl, arith}
+use Rattle.std.specs.FinMap.{IsAntisymmetric, nat_cmp-IsAntisymmetric}
+use Rattle.std.specs.Cmp.{IsTotalOrder, nat_cmp_total, on_total, then_total}
 use Rattle.std.specs.declared.cmp.Ordering.{Ordering}
-use Rattle.osm_base.specs.declared.key.Kind.{Kind}
-use Rattle.osm_base.specs.declared.key.Kind.TheVariants.{Node, Way, Relation}
-use Rattle.osm_base.specs.contracts.key.KeyOrd.TheImpl.{cmp-value}
-use Rattle.osm_base.specs.Key.{KeyOf}
-use Rattle.osm_base.specs.KeyOrder.{key_cmp}
+use Rattle.std.specs.declared.cmp.Ordering.TheVariants.{Less, Equal, Greater}
+use Rattle.std.specs.Ordering.{nat_cmp, ordering_then}
+use Rattle.osm_base.specs.declared.values.key.Kind.{Kind}
+use Rattle.osm_base.specs.declared.values.key.Kind.TheVariants.{Node, Way, Relation}
+use Rattle.osm_base.specs.contracts.values.key.KeyOrd.TheImpl.{cmp-value}
+use Rattle.osm_base.specs.values.Key.{KeyOf}
+use Rattle.osm_base.specs.values.KeyOrder.{rank, key_cmp}
 
 abbrev pub tree_cmp : KeyOf → KeyOf → Ordering
 tree_cmp = cmp-value.it
@@ -26,3 +30,30 @@ same_order Relation Relation id own = refl
 
 pub tree_cmp-key_cmp : tree_cmp ≡ key_cmp
 tree_cmp-key_cmp = λ i key other. same_order key.kind other.kind key.id other.id i
+
+pub key_cmp_total : IsTotalOrder key_cmp
+key_cmp_total = then_total (on_total (λ key. rank key.kind) nat_cmp_total) (on_total (λ key. key.id) nat_cmp_total)
+
+-- two orders, one after the other, tie where both tie
+pub both_equal : (first second : Ordering) → ordering_then first second ≡ Equal → (first ≡ Equal) × (second ≡ Equal)
+both_equal Less second e = absurd (cc)
+both_equal Equal second e = (refl, e)
+both_equal Greater second e = absurd (cc)
+
+same_kind : (kind other : Kind) → rank kind ≡ rank other → kind ≡ other
+same_kind Node Node e = refl
+same_kind Node Way e = absurd (omega (arith, e))
+same_kind Node Relation e = absurd (omega (arith, e))
+same_kind Way Node e = absurd (omega (arith, e))
+same_kind Way Way e = refl
+same_kind Way Relation e = absurd (omega (arith, e))
+same_kind Relation Node e = absurd (omega (arith, e))
+same_kind Relation Way e = absurd (omega (arith, e))
+same_kind Relation Relation e = refl
+
+pub key_cmp-IsAntisymmetric : IsAntisymmetric key_cmp
+key_cmp-IsAntisymmetric key other e =
+    let p = both_equal (nat_cmp (rank key.kind) (rank other.kind)) (nat_cmp key.id other.id) e in
+    let kinds = same_kind key.kind other.kind (nat_cmp-IsAntisymmetric (rank key.kind) (rank other.kind) p.0) in
+    let ids = nat_cmp-IsAntisymmetric key.id other.id p.1 in
+    λ i. record { kind = kinds i; id = ids i }

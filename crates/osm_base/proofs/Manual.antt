@@ -2,7 +2,7 @@
 use Rattle.std.proofs.Common.{◌≡◌, refl}
 use Rattle.std.specs.Prelude.{codes, pos, negsuc}
 use Rattle.std.specs.Fmt.{digits}
-use Rattle.osm_base.specs.Degrees.{degrees, fraction}
+use Rattle.osm_base.specs.values.Degrees.{degrees, fraction}
 
 -- coordinates
 pub degrees-place : degrees (pos 133777000) ≡ codes "13.3777"

@@ -5,16 +5,16 @@ use Rattle.std.specs.FinMap as finite
 use Rattle.std.specs.FinMap.{IsAntisymmetric, nat_cmp-IsAntisymmetric}
 use Rattle.std.specs.Cmp.{IsTotalOrder, nat_cmp_total, on_total, then_total}
 use Rattle.std.specs.declared.cmp.Ordering.{Ordering}
-use Rattle.std.specs.declared.cmp.Ordering.TheVariants.{Less, Equal, Greater}
-use Rattle.std.specs.Ordering.{nat_cmp, ordering_then}
-use Rattle.osm_base.specs.declared.key.Kind.{Kind}
-use Rattle.osm_base.specs.declared.key.Kind.TheVariants.{Node, Way, Relation}
-use Rattle.osm_base.specs.declared.row.Row.{Row}
-use Rattle.osm_base.specs.contracts.tables.SpotOrd.TheImpl.{cmp-value}
-use Rattle.osm_base.specs.KeyOrder.{key_cmp, key_cmp_total, key_cmp-IsAntisymmetric}
-use Rattle.osm_base.specs.Spots.{SpotOf, spot_cmp}
-use Rattle.osm_base.specs.SpotTree.{rows_in}
+use Rattle.std.specs.Ordering.{nat_cmp}
+use Rattle.osm_base.specs.declared.values.key.Kind.{Kind}
+use Rattle.osm_base.specs.declared.values.key.Kind.TheVariants.{Node, Way, Relation}
+use Rattle.osm_base.specs.declared.values.row.Row.{Row}
+use Rattle.osm_base.specs.contracts.map.tables.SpotOrd.TheImpl.{cmp-value}
+use Rattle.osm_base.specs.values.KeyOrder.{key_cmp}
+use Rattle.osm_base.specs.map.Spots.{SpotOf, spot_cmp}
+use Rattle.osm_base.specs.map.SpotTree.{rows_in}
 use Rattle.osm_base.proofs.Found.{found}
+use Rattle.osm_base.proofs.KeyLaws.{both_equal, key_cmp_total, key_cmp-IsAntisymmetric}
 
 abbrev pub tree_cmp : SpotOf → SpotOf → Ordering
 tree_cmp = cmp-value.it
@@ -38,11 +38,6 @@ tree_cmp-spot_cmp = λ i one other. same_order one.table other.table one.key.kin
 
 pub spot_cmp_total : IsTotalOrder spot_cmp
 spot_cmp_total = then_total (on_total (λ spot. spot.table) nat_cmp_total) (on_total (λ spot. spot.key) key_cmp_total)
-
-both_equal : (first second : Ordering) → ordering_then first second ≡ Equal → (first ≡ Equal) × (second ≡ Equal)
-both_equal Less second e = absurd (cc)
-both_equal Equal second e = (refl, e)
-both_equal Greater second e = absurd (cc)
 
 pub spot_cmp-IsAntisymmetric : IsAntisymmetric spot_cmp
 spot_cmp-IsAntisymmetric one other e =

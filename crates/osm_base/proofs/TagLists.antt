@@ -1,6 +1,5 @@
 -- Tags in the order of their coming, and the same by rising keys.
-use Rattle.std.proofs.Common.{◌≡◌, ◌≢◌, ℕ, zero, suc, ◌+◌, ◌-◌, ◌<◌, ◌≤◌, Bool, true, false, cond, ◌&&◌, T, Option, Some, None, List, [], ◌∷◌, length, take, drop, map, get_or, length-drop, refl, sym, ◌∙◌, ap, subst, arith, ⊎_elim}
-use Rattle.std.proofs.lemmas.Bool.{cases_Bool}
+use Rattle.std.proofs.Common.{◌≡◌, ◌≢◌, ℕ, zero, suc, ◌+◌, ◌<◌, ◌≤◌, Bool, true, false, cond, ◌&&◌, T, Some, None, List, [], ◌∷◌, length, drop, map, get_or, length-drop, refl, sym, ◌∙◌, ap, subst, arith}
 use Rattle.std.proofs.lemmas.Cmp.{tied_itself}
 use Rattle.std.proofs.lemmas.List.{drop-map}
 use Rattle.std.proofs.lemmas.List.Elements.{All-from_recursion, recursion_from_All}
@@ -18,14 +17,14 @@ use Rattle.std.specs.List.Sorted.{IsPermutation, IsSortedBy, IsSortedByKey}
 use Rattle.std.specs.Fn.{Called, ComparesAs}
 use denote.Ref.{Bor}
 use denote.Param.Members.{Mut}
-use Rattle.std.specs.Str.{IsUtf8, chars}
+use Rattle.std.specs.Str.{chars}
 use Rattle.std.specs.FinMap as map_of
 use Rattle.std.specs.FinMap.{find, is_sorted, nat_cmp-IsAntisymmetric, slice_cmp-IsAntisymmetric}
 use Rattle.std.specs.FinMap.Entries.{below_all}
-use Rattle.osm_base.specs.declared.tags.Span.{Span}
-use Rattle.osm_base.specs.Tags.{TagPairs, HasEachKeyOnce}
-use Rattle.osm_base.specs.TagText.{key_bytes, pair_of, IsSpan, AreSpans}
-use Rattle.osm_base.specs.TagOrder.{pairs_of}
+use Rattle.osm_base.specs.declared.values.tags.Span.{Span}
+use Rattle.osm_base.specs.values.Tags.{TagPairs, HasEachKeyOnce}
+use Rattle.osm_base.specs.values.TagText.{key_bytes, pair_of, IsSpan, AreSpans}
+use Rattle.osm_base.specs.values.TagOrder.{pairs_of}
 use Rattle.osm_base.proofs.CharacterOrder.{chars-order}
 use Rattle.osm_base.proofs.TagPlaces.{both_left, both_right, less, order}
 use Rattle.osm_base.proofs.TagSearch.{drop-pairs_of, IsSpan-at}

@@ -11,9 +11,9 @@ use Rattle.std.specs.Prelude.{encode_utf8_all, slice_range}
 use Rattle.std.specs.Ordering.{nat_cmp, eq_by_cmp}
 use Rattle.std.specs.Cmp.Lexicographic.{slice_cmp, texts_ties}
 use Rattle.std.specs.FinMap as map
-use Rattle.osm_base.specs.declared.tags.Span.{Span}
-use Rattle.osm_base.specs.TagOrder.{pairs_of}
-use Rattle.osm_base.specs.TagText.{pair_of, key_bytes, value_bytes, AreSpans}
+use Rattle.osm_base.specs.declared.values.tags.Span.{Span}
+use Rattle.osm_base.specs.values.TagOrder.{pairs_of}
+use Rattle.osm_base.specs.values.TagText.{pair_of, key_bytes, value_bytes, AreSpans}
 
 -- two tests that decide one fact answer alike
 alike : {P : Type 0} (a b : Bool) → Decides a P → Decides b P → a ≡ b

@@ -5,12 +5,11 @@ use Rattle.std.specs.Ordering.{nat_cmp, is_eq, is_lt, ordering_reverse}
 use Rattle.std.specs.declared.cmp.Ordering.{Ordering}
 use Rattle.std.specs.declared.cmp.Ordering.TheVariants.{Less, Equal, Greater}
 use Rattle.std.specs.Cmp.Lexicographic.{slice_cmp, nat_list_cmp_total}
-use Rattle.std.specs.List.{insert}
 use Rattle.std.specs.FinMap as map
 use Rattle.std.specs.FinMap.{find, put, is_sorted, nat_cmp-IsAntisymmetric, slice_cmp-IsAntisymmetric}
-use Rattle.std.specs.FinMap.Entries.{below_all, by_order, is_sorted-put}
-use Rattle.osm_base.specs.TagOrder.{IsAbove, IsBelow, BelongsAt}
-use Rattle.osm_base.specs.Tags.{TagPairs}
+use Rattle.std.specs.FinMap.Entries.{below_all, by_order}
+use Rattle.osm_base.specs.values.TagOrder.{IsAbove, IsBelow, BelongsAt}
+use Rattle.osm_base.specs.values.Tags.{TagPairs}
 
 abbrev pub order : List ℕ → List ℕ → Ordering
 order = slice_cmp nat_cmp

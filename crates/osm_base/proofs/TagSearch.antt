@@ -1,21 +1,21 @@
 -- What the comparison with one key among rising ones tells of the others.
-use Rattle.std.proofs.Common.{◌≡◌, ℕ, zero, suc, ◌+◌, ◌<◌, ◌≤◌, true, Option, None, Some, List, [], ◌∷◌, ◌++◌, length, take, drop, get_or, refl, sym, ◌∙◌, ap, subst, add-one, arith}
+use Rattle.std.proofs.Common.{◌≡◌, ℕ, zero, suc, ◌+◌, ◌<◌, ◌≤◌, Option, None, Some, List, [], ◌∷◌, length, take, drop, get_or, refl, sym, ◌∙◌, ap, subst, add-one, arith}
 use Rattle.std.proofs.Common.{map as each}
-use Rattle.std.proofs.lemmas.List.{drop_more, drop-map, take-map, map-append, length-map}
+use Rattle.std.proofs.lemmas.List.{drop_more, drop-map, length-map}
 use Rattle.std.proofs.lemmas.Option.{slice_get-map, slice_get-get_or}
 use Rattle.std.specs.Str.{IsUtf8, chars}
 use Rattle.std.specs.Option.{option_map}
-use Rattle.std.specs.Ordering.{nat_cmp, is_lt}
+use Rattle.std.specs.Ordering.{nat_cmp}
 use Rattle.std.specs.declared.cmp.Ordering.{Ordering}
 use Rattle.std.specs.declared.cmp.Ordering.TheVariants.{Less, Equal, Greater}
 use Rattle.std.specs.Cmp.Lexicographic.{slice_cmp}
-use Rattle.std.specs.List.{insert, slice_get}
+use Rattle.std.specs.List.{slice_get}
 use Rattle.std.specs.FinMap as map
 use Rattle.std.specs.FinMap.{find}
-use Rattle.osm_base.specs.declared.tags.Span.{Span}
-use Rattle.osm_base.specs.TagText.{pair_of, key_bytes, value_bytes, IsSpan, AreSpans}
-use Rattle.osm_base.specs.TagOrder.{pairs_of, AreTags, IsAbove, IsBelow, BelongsAt}
-use Rattle.osm_base.specs.Tags.{TagPairs}
+use Rattle.osm_base.specs.declared.values.tags.Span.{Span}
+use Rattle.osm_base.specs.values.TagText.{pair_of, key_bytes, value_bytes, IsSpan, AreSpans}
+use Rattle.osm_base.specs.values.TagOrder.{pairs_of, AreTags, IsAbove, IsBelow, BelongsAt}
+use Rattle.osm_base.specs.values.Tags.{TagPairs}
 use Rattle.osm_base.proofs.CharacterOrder.{chars-order}
 use Rattle.osm_base.proofs.TagPlaces.{IsAbove-through, IsBelow-from, find-at, entries-from_entries, len-from_entries}
 

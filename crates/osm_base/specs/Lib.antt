@@ -1,14 +1,3 @@
-pub mod Degrees
-pub mod Ids
-pub mod Key
-pub mod KeyOrder
-pub mod Known
-pub mod Limits
-pub mod Line
-pub mod Pending
-pub mod Place
-pub mod SpotTree
-pub mod Spots
-pub mod TagOrder
-pub mod TagText
-pub mod Tags
+pub mod bounds
+pub mod map
+pub mod values

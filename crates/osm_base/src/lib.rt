@@ -7,39 +7,30 @@
 //! as plain records.
 #![tactic(auto)]
 
-mod back;
-mod degrees;
-mod items;
-mod key;
-mod laws;
-mod limits;
-mod lookup;
-mod memory;
-mod object;
-mod pending;
-mod place;
-mod row;
-mod tables;
-mod tags;
-mod text;
+mod bounds;
+mod map;
+mod values;
 
-pub use back::Back;
-pub use degrees::DegreesBuffer;
-pub use items::{Bytes, FileList, Ids, Items, KeyList, LineList, Places, Polygons, TryCopy};
-pub use key::{Key, Kind, MAX_ID};
-pub use laws::{key_order, named_numbers};
-pub use limits::{
+pub use bounds::laws::{key_order, named_numbers};
+pub use bounds::limits::{
     LimitKind, LimitNumbers, Limits, MAX_ENTRIES, MAX_LINE_BYTES, MAX_LINES, MAX_PAGES, MAX_PENDING,
 };
-pub use lookup::Lookup;
-pub use memory::OutOfMemory;
-pub use object::{Entry, Member, Members, Object};
-pub use pending::PendingSet;
-pub use place::{GeoBox, MAX_LAT, MAX_LON, Place};
-pub use row::{
+pub use bounds::memory::OutOfMemory;
+pub use map::back::Back;
+pub use map::lookup::Lookup;
+pub use map::pending::PendingSet;
+pub use map::tables::{Spot, Tables};
+pub use values::degrees::DegreesBuffer;
+pub use values::items::{
+    Bytes, FileList, Ids, Items, KeyList, LineList, Places, Polygons, TryCopy,
+};
+pub use values::key::{Key, Kind, MAX_ID};
+pub use values::object::{Entry, Member, Members, Object};
+pub use values::place::{GeoBox, MAX_LAT, MAX_LON, Place};
+pub use values::row::{
     Cell, Cells, Delta, Geometry, NumberedRow, Row, RowChange, RowChanges, RowList, RowLists,
     TableRow, TableRows,
 };
-pub use tables::{Spot, Tables};
-pub use tags::{TagList, Tags};
-pub use text::Text;
+pub use values::same::Same;
+pub use values::tags::{TagList, Tags};
+pub use values::text::Text;

@@ -1,6 +1,6 @@
 -- Steps along the pieces at a place.
 use Rattle.std.proofs.Common.{◌≡◌, ◌≢◌, ℕ, ◌<◌, ◌≤◌, Bool, true, false, zero, suc, List, [], ◌∷◌, length, get_or, refl, arith}
-use Rattle.osm_base.specs.Place.{PlaceOf}
+use Rattle.osm_base.specs.values.Place.{PlaceOf}
 use Rattle.piece_ends.specs.declared.index.Links.{Links}
 use Rattle.piece_ends.specs.Heads.{HeadMap}
 use Rattle.piece_ends.specs.Pieces.{Line}

@@ -8,8 +8,8 @@ use Rattle.std.specs.Map.{lookup}
 use Rattle.std.specs.BTreeMap.{is_at, BTreeMap, Updates}
 use Rattle.std.specs.FinMap.{IsAntisymmetric, find, get, insert, from_entries, get-from_entries, get-insert, same_map}
 use Rattle.std.proofs.lemmas.Map.Lookups.{exact_signed}
-use Rattle.osm_base.specs.Place.{PlaceOf}
-use Rattle.osm_base.specs.contracts.place.PlaceOrd.TheImpl.{cmp-value}
+use Rattle.osm_base.specs.values.Place.{PlaceOf}
+use Rattle.osm_base.specs.contracts.values.place.PlaceOrd.TheImpl.{cmp-value}
 use Rattle.piece_ends.specs.Heads.{place_cmp, heads_in}
 
 abbrev pub tree_cmp : PlaceOf → PlaceOf → Ordering

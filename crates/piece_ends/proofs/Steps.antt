@@ -1,7 +1,7 @@
 -- One step of a walk, and its end.
 use Rattle.std.proofs.Common.{◌≡◌, ℕ, zero, suc, true, false, cond, Some, None, Option, List, [], ◌∷◌, length, refl, ◌∙◌, ap}
 use Rattle.std.specs.Option.{option_map, option_map_or}
-use Rattle.osm_base.specs.Place.{PlaceOf}
+use Rattle.osm_base.specs.values.Place.{PlaceOf}
 use Rattle.piece_ends.specs.Pieces.{Line, last_place, is_closed, fits}
 use Rattle.piece_ends.specs.Walk.{next_at, appended, extended}
 

@@ -4,7 +4,7 @@ use Rattle.std.specs.Ordering.{int_cmp, on, then_cmp}
 use Rattle.std.specs.declared.cmp.Ordering.{Ordering}
 use Rattle.std.specs.BTreeMap.{BTreeMap}
 use Rattle.std.specs.FinMap as map
-use Rattle.osm_base.specs.Place.{PlaceOf}
+use Rattle.osm_base.specs.values.Place.{PlaceOf}
 
 -- by longitude and then by latitude
 abbrev pub place_cmp : PlaceOf → PlaceOf → Ordering

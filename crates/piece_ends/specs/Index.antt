@@ -2,7 +2,7 @@
 -- Each place has a list of pieces by rising numbers: a head, and behind each piece the next one.
 use Rattle.std.specs.Prelude.{◌≡◌, ℕ, ◌+◌, ◌<◌, ◌≤◌, Bool, true, false, List, [], ◌∷◌, length, unwrap_or, slice_index_or, if◌then◌else◌}
 use Rattle.std.specs.FinMap as map
-use Rattle.osm_base.specs.Place.{PlaceOf}
+use Rattle.osm_base.specs.values.Place.{PlaceOf}
 use Rattle.piece_ends.specs.declared.index.Links.{Links}
 use Rattle.piece_ends.specs.Heads.{HeadMap}
 use Rattle.piece_ends.specs.Pieces.{Line, same_place, first_place, last_place, fits}

@@ -1,8 +1,8 @@
 -- Pieces of lines and the ends at which they meet.
 -- OGC Simple Features, "Curve": a line that ends where it begins is closed.
 use Rattle.std.specs.Prelude.{◌≢◌, ℕ, ◌+◌, ◌<◌, ◌≤◌, Bool, not, ◌&&◌, ◌||◌, List, length, All, slice_get}
-use Rattle.osm_base.specs.Place.{PlaceOf}
-pub use Rattle.osm_base.specs.Line.{Line, same_place, no_place, first_place, last_place, is_closed}
+use Rattle.osm_base.specs.values.Place.{PlaceOf}
+pub use Rattle.osm_base.specs.values.Line.{Line, same_place, no_place, first_place, last_place, is_closed}
 
 -- whether a line has an end at a place
 abbrev pub has_end : Line → PlaceOf → Bool

@@ -2,7 +2,7 @@
 -- The pieces stand in the order of their numbers, so the first that fits has the lowest number.
 use Rattle.std.specs.Prelude.{ℕ, zero, suc, List, [], ◌∷◌, ◌++◌, length, drop, reverse, Option, None, Some, if◌then◌else◌}
 use Rattle.std.specs.Option.{option_map, option_map_or}
-use Rattle.osm_base.specs.Place.{PlaceOf}
+use Rattle.osm_base.specs.values.Place.{PlaceOf}
 use Rattle.piece_ends.specs.Pieces.{Line, same_place, first_place, last_place, is_closed, fits}
 
 -- the lowest open piece with an end at a place, and the pieces without it

@@ -17,7 +17,7 @@ pub struct Heads {
 impl Model for Heads {
     ghost use Rattle.std.specs.Coded.{coded_ℕ};
     ghost use Rattle.std.specs.FinMap as map;
-    ghost use Rattle.osm_base.specs.contracts.place.Place as place;
+    ghost use Rattle.osm_base.specs.contracts.values.place.Place as place;
     ghost use Rattle.piece_ends.specs.Heads.{HeadMap, heads_in};
 
     ghost Value = { HeadMap };

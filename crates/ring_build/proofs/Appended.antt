@@ -1,7 +1,7 @@
 -- The ends of a line with a piece behind it.
 use Rattle.std.proofs.Common.{◌≡◌, ◌-◌, ◌<◌, ◌≤◌, true, false, [], ◌∷◌, ◌++◌, length, drop, reverse, get_or, refl, sym, ◌∙◌, ap, arith, length-append}
 use Rattle.std.proofs.lemmas.List.{get_or-append_right, get_or_append_left, get_or-reverse, length-reverse}
-use Rattle.osm_base.specs.Place.{PlaceOf}
+use Rattle.osm_base.specs.values.Place.{PlaceOf}
 use Rattle.piece_ends.specs.Pieces.{Line, no_place, first_place, last_place, is_closed}
 use Rattle.piece_ends.proofs.SamePlace.{same_place-itself}
 

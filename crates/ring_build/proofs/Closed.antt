@@ -4,14 +4,14 @@ use Rattle.std.specs.Prelude.{nat_le, ◌&&◌}
 use Rattle.std.specs.List.{list_all}
 use Rattle.std.proofs.lemmas.Bool.{le-leb, leb-true}
 use Rattle.std.proofs.lemmas.List.Folds.{list_all-append}
-use Rattle.osm_base.specs.Place.{PlaceOf}
+use Rattle.osm_base.specs.values.Place.{PlaceOf}
 use Rattle.piece_ends.specs.Pieces.{Line, same_place, first_place, last_place, is_closed}
 use Rattle.piece_ends.specs.Walk.{lines_by}
 use Rattle.piece_ends.proofs.SamePlace.{same_place-itself}
 use Rattle.piece_ends.proofs.Steps.{found_of, extended-closed}
 use Rattle.piece_ends.proofs.Lines.{Grows, length-extended}
 use Rattle.ring_build.specs.Rings.{open_ends, has_odd_place, ring_begun, has_four_points, rings}
-use Rattle.osm_base.specs.Line.{IsRing}
+use Rattle.osm_base.specs.values.Line.{IsRing}
 use Rattle.ring_build.proofs.Parity.{bit, touches, ends_at, ends_at-cons, own_ends-touches, touches-closed, IsWalked, walked}
 use Rattle.ring_build.proofs.OddPlaces.{has_odd_place-true, has_odd_place-false}
 

@@ -1,7 +1,7 @@
 -- Pieces whose rings were written down by hand.
 use Rattle.std.proofs.Common.{◌≡◌, [], ◌∷◌, Some, None, refl}
 use Rattle.std.specs.Prelude.{ℤ, pos, neg_ℤ}
-use Rattle.osm_base.specs.Place.{PlaceOf}
+use Rattle.osm_base.specs.values.Place.{PlaceOf}
 use Rattle.piece_ends.specs.Walk.{extended, lines_within}
 use Rattle.ring_build.specs.Rings.{rings}
 

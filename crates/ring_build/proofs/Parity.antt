@@ -4,7 +4,7 @@ use Rattle.std.specs.Prelude.{count_by, ◌&&◌, ◌||◌, not}
 use Rattle.std.specs.Option.{option_map, option_map_or}
 use Rattle.std.proofs.lemmas.List.{length-reverse}
 use Rattle.std.proofs.lemmas.List.Sums.{sum_by-append}
-use Rattle.osm_base.specs.Place.{PlaceOf}
+use Rattle.osm_base.specs.values.Place.{PlaceOf}
 use Rattle.piece_ends.specs.Pieces.{Line, same_place, first_place, last_place, is_closed, has_end, fits}
 use Rattle.piece_ends.specs.Walk.{next_at, appended, turned_to, extended}
 use Rattle.piece_ends.proofs.SamePlace.{one_place}

@@ -3,7 +3,7 @@
 -- last one counted.
 use Rattle.std.specs.Prelude.{◌%◌, ◌==◌, nat_le, Bool, List, [], ◌∷◌, length, count_by, Option, None, Some, if◌then◌else◌}
 use Rattle.std.specs.List.{flat_map, list_any, list_all}
-use Rattle.osm_base.specs.Place.{PlaceOf}
+use Rattle.osm_base.specs.values.Place.{PlaceOf}
 use Rattle.piece_ends.specs.Pieces.{Line, same_place, first_place, last_place, is_closed}
 use Rattle.piece_ends.specs.Walk.{extended, lines_by}
 

@@ -1,6 +1,6 @@
 //! Pieces closed to rings at their ends.
 ghost use Rattle.std.specs.Prelude.{◌≡◌, ◌<◌, ◌↔◌, length, IfOk, IfSome, IsTrue, All};
-ghost use Rattle.osm_base.specs.Line.{IsRing};
+ghost use Rattle.osm_base.specs.values.Line.{IsRing};
 ghost use Rattle.piece_ends.specs.Pieces.{ArePieces};
 ghost use Rattle.ring_build.specs.Rings.{rings, ring_begun};
 

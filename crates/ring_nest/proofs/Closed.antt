@@ -1,8 +1,8 @@
 -- The last place of a closed ring, walked to from its first one.
 use Rattle.std.proofs.Common.{◌≡◌, ◌∙◌, ◌-◌, Bool, true, false, ◌&&◌, List, [], ◌∷◌, suc, length, refl, sym, ap, arith, ℤ}
 use Rattle.std.proofs.lemmas.Bool.Decides.{Decides-int_eq}
-use Rattle.osm_base.specs.Line.{same_place, last_place, is_closed}
-use Rattle.osm_base.specs.Place.{PlaceOf}
+use Rattle.osm_base.specs.values.Line.{same_place, last_place, is_closed}
+use Rattle.osm_base.specs.values.Place.{PlaceOf}
 
 -- the last of the places from one on
 abbrev pub last_from : PlaceOf → List PlaceOf → PlaceOf

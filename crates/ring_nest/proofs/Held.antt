@@ -3,7 +3,7 @@ use Rattle.std.proofs.Common.{◌≡◌, ℕ, ◌+◌, ◌<◌, suc, zero, refl,
 use Rattle.std.specs.List.{AllByRecursion}
 use Rattle.std.proofs.lemmas.Int.{ints}
 use Rattle.std.proofs.lemmas.List.{take_more}
-use Rattle.osm_base.specs.declared.place.GeoBox.{GeoBox}
+use Rattle.osm_base.specs.declared.values.place.GeoBox.{GeoBox}
 use Rattle.lanes_geo.specs.Box.{meets}
 use Rattle.ring_nest.specs.Around.{Covers, IsBoxed, around}
 use Rattle.ring_nest.specs.Nesting.{Ring, holds}

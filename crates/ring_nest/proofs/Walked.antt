@@ -3,7 +3,7 @@ use Rattle.std.proofs.Common.{◌≡◌, ℕ, ◌+◌, ◌<◌, suc, zero, refl,
 use Rattle.std.specs.List.{AllByRecursion, filter}
 use Rattle.std.proofs.lemmas.List.{get_or_default, get_or-map, length-map}
 use Rattle.std.proofs.lemmas.List.Elements.{filter-append}
-use Rattle.osm_base.specs.declared.place.GeoBox.{GeoBox}
+use Rattle.osm_base.specs.declared.values.place.GeoBox.{GeoBox}
 use Rattle.lanes_geo.specs.Box.{meets}
 use Rattle.ring_nest.specs.declared.tree.Tree.{Tree}
 use Rattle.ring_nest.specs.declared.tree.Tree.TheVariants.{Few, Halves'}

@@ -1,8 +1,8 @@
 -- The boxes of rings, by which pairs are passed over.
 use Rattle.std.specs.Prelude.{◌≡◌, ◌≤ℤ◌, true, pos, Option, Some, None}
 use Rattle.std.specs.List.{AllByRecursion}
-use Rattle.osm_base.specs.Line.{is_closed}
-use Rattle.osm_base.specs.declared.place.GeoBox.{GeoBox}
+use Rattle.osm_base.specs.values.Line.{is_closed}
+use Rattle.osm_base.specs.declared.values.place.GeoBox.{GeoBox}
 use Rattle.lanes_geo.specs.Box.{IsWithin, box_of}
 use Rattle.lanes_geo.specs.Grid.{IsPlace}
 use Rattle.ring_nest.specs.Nesting.{Ring}

@@ -1,7 +1,7 @@
 //! The boxes of rings, and boxes around boxes.
 ghost use Rattle.std.specs.Prelude.{◌≡◌, ◌≤ℤ◌, true, map, IfOk, All};
 ghost use Rattle.std.specs.List.{AllByRecursion};
-ghost use Rattle.osm_base.specs.Line.{is_closed, IsRing};
+ghost use Rattle.osm_base.specs.values.Line.{is_closed, IsRing};
 ghost use Rattle.ring_nest.specs.Around.{Covers, IsBoxed, around};
 
 use lanes_geo::box_of;

@@ -1,8 +1,8 @@
 //! The polygons of rings.
 ghost use Rattle.std.specs.Prelude.{◌≡◌, ◌+◌, ◌<◌, true, take, ◌%◌, ◌==◌, ◌&&◌, ◌++◌, ◌∷◌, [], List, length, map, IfOk, OnOk, if◌then◌else◌, slice_index_or, slice_set, All};
 ghost use Rattle.std.specs.Option.{option_map};
-ghost use Rattle.osm_base.specs.Line.{IsRing};
-ghost use Rattle.osm_base.specs.Place.{PlaceOf};
+ghost use Rattle.osm_base.specs.values.Line.{IsRing};
+ghost use Rattle.osm_base.specs.values.Place.{PlaceOf};
 ghost use Rattle.ring_nest.specs.Holders.{AreHolders};
 ghost use Rattle.ring_nest.specs.Nesting.{has_place, depth as depth_of_ring, nested};
 ghost use Rattle.ring_nest.specs.Polygons.{filled, polygons_from, slots_from};

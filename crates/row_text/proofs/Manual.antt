@@ -1,8 +1,8 @@
 -- Texts and numbers that were written down by hand.
 use Rattle.std.proofs.Common.{◌≡◌, [], ◌∷◌, true, false, refl}
 use Rattle.std.specs.Prelude.{codes, pos, negsuc}
-use Rattle.osm_base.specs.declared.key.Kind.TheVariants as kinds
-use Rattle.osm_base.specs.declared.row.Cell.TheVariants as cells
+use Rattle.osm_base.specs.declared.values.key.Kind.TheVariants as kinds
+use Rattle.osm_base.specs.declared.values.row.Cell.TheVariants as cells
 use Rattle.row_text.specs.CopyText.{copy_text, text_of_byte}
 use Rattle.row_text.specs.Row.{cell_text, row_number}
 

@@ -3,10 +3,10 @@
 -- line string is its points in brackets, separated by commas, and so are the lines of a multi line string, the rings of a polygon,
 -- and the polygons of a multi polygon.
 use Rattle.std.specs.Prelude.{ℕ, List, [], ◌∷◌, ◌++◌, codes, flat_map}
-use Rattle.osm_base.specs.Degrees.{degrees}
-use Rattle.osm_base.specs.Place.{PlaceOf}
-use Rattle.osm_base.specs.declared.row.Geometry.{Geometry}
-use Rattle.osm_base.specs.declared.row.Geometry.TheVariants.{Point, Line, Lines, Area}
+use Rattle.osm_base.specs.values.Degrees.{degrees}
+use Rattle.osm_base.specs.values.Place.{PlaceOf}
+use Rattle.osm_base.specs.declared.values.row.Geometry.{Geometry}
+use Rattle.osm_base.specs.declared.values.row.Geometry.TheVariants.{Point, Line, Lines, Area}
 
 -- a place: its longitude and its latitude
 abbrev pub place_text : PlaceOf → List ℕ

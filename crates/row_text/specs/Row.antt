@@ -3,12 +3,12 @@
 -- osm2pgsql manual, "Geometry Processing", "Areas": the row of a relation that bounds an area has the negated id of the relation.
 use Rattle.std.specs.Prelude.{ℕ, ℤ, pos, neg_ℤ, Bool, true, List, ◌++◌, codes, encode_utf8_all, flat_map}
 use Rattle.std.specs.Fmt.{signed_decimal}
-use Rattle.osm_base.specs.Key.{KeyOf}
-use Rattle.osm_base.specs.declared.key.Kind.{Kind}
-use Rattle.osm_base.specs.declared.key.Kind.TheVariants as kinds
-use Rattle.osm_base.specs.declared.row.Cell.{Cell}
-use Rattle.osm_base.specs.declared.row.Cell.TheVariants as cells
-use Rattle.osm_base.specs.declared.row.Row.{Row}
+use Rattle.osm_base.specs.values.Key.{KeyOf}
+use Rattle.osm_base.specs.declared.values.key.Kind.{Kind}
+use Rattle.osm_base.specs.declared.values.key.Kind.TheVariants as kinds
+use Rattle.osm_base.specs.declared.values.row.Cell.{Cell}
+use Rattle.osm_base.specs.declared.values.row.Cell.TheVariants as cells
+use Rattle.osm_base.specs.declared.values.row.Row.{Row}
 use Rattle.row_text.specs.CopyText.{copy_text}
 use Rattle.row_text.specs.Geometry.{geometry_text}
 

@@ -1,6 +1,6 @@
 //! Geometries as well-known text.
 ghost use Rattle.std.specs.Prelude.{◌≡◌, ◌++◌, List, ℕ, codes, flat_map, OnOk};
-ghost use Rattle.osm_base.specs.Degrees.{degrees};
+ghost use Rattle.osm_base.specs.values.Degrees.{degrees};
 ghost use Rattle.row_text.specs.Geometry.{bracketed, geometry_text, listed, place_text};
 
 use osm_base::{DegreesBuffer, Geometry, Items, OutOfMemory, Place};

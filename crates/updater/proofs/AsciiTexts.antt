@@ -7,11 +7,11 @@ use Rattle.std.specs.Str.{IsAscii, chars}
 use Rattle.std.proofs.lemmas.Str.{IsAscii-append, chars-IsAscii}
 use Rattle.std.proofs.lemmas.Str.Ascii.{IsAscii-nil}
 use Rattle.std.proofs.lemmas.Bool.Decides.{nat_tests}
-use Rattle.osm_base.specs.declared.key.Kind.{Kind}
-use Rattle.osm_base.specs.declared.key.Kind.TheVariants.{Node, Way, Relation}
-use Rattle.osm_base.specs.declared.limits.LimitKind.{LimitKind}
-use Rattle.osm_base.specs.declared.limits.LimitKind.TheVariants as kinds
-use Rattle.osm_base.specs.Key.{KeyOf}
+use Rattle.osm_base.specs.declared.values.key.Kind.{Kind}
+use Rattle.osm_base.specs.declared.values.key.Kind.TheVariants.{Node, Way, Relation}
+use Rattle.osm_base.specs.declared.bounds.limits.LimitKind.{LimitKind}
+use Rattle.osm_base.specs.declared.bounds.limits.LimitKind.TheVariants as kinds
+use Rattle.osm_base.specs.values.Key.{KeyOf}
 use Rattle.opl_object.specs.declared.why.Why.{Why}
 use Rattle.opl_object.specs.declared.why.Why.TheVariants as causes
 use Rattle.opl_object.specs.Why.{number_of}

@@ -7,11 +7,11 @@ use Rattle.std.specs.Cmp.{nat_cmp_total, tied_itself, unsigned_tied}
 use Rattle.std.specs.FinMap as finite
 use Rattle.std.specs.FinMap.{nat_cmp-IsAntisymmetric}
 use Rattle.std.specs.FinMap.Entries.{find, is_sorted, below_all}
-use Rattle.osm_base.specs.Key.{KeyOf}
-use Rattle.osm_base.specs.KeyOrder.{key_cmp}
-use Rattle.osm_base.specs.declared.key.Kind.{Kind}
-use Rattle.osm_base.specs.declared.key.Kind.TheVariants.{Node, Way, Relation}
-use Rattle.osm_base.specs.declared.object.Object.{Object}
+use Rattle.osm_base.specs.values.Key.{KeyOf}
+use Rattle.osm_base.specs.values.KeyOrder.{key_cmp}
+use Rattle.osm_base.specs.declared.values.key.Kind.{Kind}
+use Rattle.osm_base.specs.declared.values.key.Kind.TheVariants.{Node, Way, Relation}
+use Rattle.osm_base.specs.declared.values.object.Object.{Object}
 use Rattle.object_fold.specs.Fold.{ObjectSet}
 use Rattle.object_fold.specs.Index.{is_kind}
 use Rattle.object_fold.proofs.Listers.{key, kind_same, tied-ids, untied-kinds}

@@ -5,7 +5,7 @@ use Rattle.std.specs.Fmt.{digits}
 use Rattle.std.proofs.Math.Utf8.{encode}
 use Rattle.updater.specs.Command.{command, points_of}
 use Rattle.updater.specs.CopyText.{escape_letter}
-use Rattle.osm_base.specs.Degrees.{degrees, fraction}
+use Rattle.osm_base.specs.values.Degrees.{degrees, fraction}
 use Rattle.updater.specs.commands.Points.{point_row}
 
 -- a row of points

@@ -1,7 +1,7 @@
 -- The rows that are kept while files are read are those of the objects that the entries make.
 use Rattle.std.proofs.Common.{◌≡◌, List, ℕ}
 use Rattle.std.specs.FinMap as finite
-use Rattle.osm_base.specs.declared.object.Entry.{Entry}
+use Rattle.osm_base.specs.declared.values.object.Entry.{Entry}
 use Rattle.object_fold.specs.Fold.{folded_all}
 use Rattle.updater.specs.commands.Points.{points_text}
 use Rattle.updater.specs.PointRows.{rows_text, no_rows, after_entries, Shows}

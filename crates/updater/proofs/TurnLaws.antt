@@ -2,7 +2,7 @@
 use Rattle.std.proofs.Common.{◌≡◌, ◌≤◌, ◌<◌, ◌+◌, ℕ, zero, suc, Some, List, [], ◌++◌, Result, Ok, ⊎_elim, inl, inr, refl, sym, ◌∙◌, subst, arith}
 use Rattle.std.specs.Prelude.{IsOk}
 use Rattle.std.proofs.lemmas.Bool.{cases_lt}
-use Rattle.osm_base.specs.declared.object.Entry.{Entry}
+use Rattle.osm_base.specs.declared.values.object.Entry.{Entry}
 use Rattle.outside.specs.Bytes.{IfTold}
 use Rattle.updater.specs.declared.fault.Fault.{Fault}
 use Rattle.updater.specs.declared.fault.Fault.TheVariants as faults

@@ -3,8 +3,8 @@ use Rattle.std.proofs.Common.{fold, ◌≡◌, ◌≢◌, ◌≤◌, ◌+◌, �
 use Rattle.std.specs.Result.{result_err}
 use Rattle.std.specs.Io.KnownBytes.{Appends}
 use Rattle.std.proofs.lemmas.List.Sums.{fold-append}
-use Rattle.osm_base.specs.declared.object.Entry.{Entry}
-use Rattle.osm_base.specs.Limits.{standard}
+use Rattle.osm_base.specs.declared.values.object.Entry.{Entry}
+use Rattle.osm_base.specs.bounds.Limits.{standard}
 use Rattle.outside.specs.Bytes.{AppendsPrefix, BothKnown, IfTold, IsTold}
 use Rattle.outside.specs.Causes.{Rose}
 use Rattle.outside.specs.Causes.{HasCause as HasCauseOf}

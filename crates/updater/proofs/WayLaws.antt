@@ -9,14 +9,15 @@ use Rattle.std.specs.Ordering.{nat_cmp, is_eq, eq_by_cmp}
 use Rattle.std.specs.Cmp.{Equal-is, nat_cmp_total, unsigned_tied, tied_itself}
 use Rattle.std.specs.Cmp.Lexicographic.{slice_cmp, nat_list_cmp_total}
 use Rattle.std.specs.FinMap as finite
-use Rattle.osm_base.specs.declared.key.Kind.{Kind}
-use Rattle.osm_base.specs.declared.key.Kind.TheVariants as kinds
-use Rattle.osm_base.specs.declared.object.Entry.{Entry}
-use Rattle.osm_base.specs.declared.object.Object.{Object}
-use Rattle.osm_base.specs.declared.object.Object.TheVariants.{Node, Way, Relation}
-use Rattle.osm_base.specs.Key.{KeyOf, way_key}
-use Rattle.osm_base.specs.KeyOrder.{key_cmp, key_cmp-IsAntisymmetric}
-use Rattle.osm_base.specs.Place.{PlaceOf}
+use Rattle.osm_base.specs.declared.values.key.Kind.{Kind}
+use Rattle.osm_base.specs.declared.values.key.Kind.TheVariants as kinds
+use Rattle.osm_base.specs.declared.values.object.Entry.{Entry}
+use Rattle.osm_base.specs.declared.values.object.Object.{Object}
+use Rattle.osm_base.specs.declared.values.object.Object.TheVariants.{Node, Way, Relation}
+use Rattle.osm_base.specs.values.Key.{KeyOf, way_key}
+use Rattle.osm_base.specs.values.KeyOrder.{key_cmp}
+use Rattle.osm_base.proofs.KeyLaws.{key_cmp-IsAntisymmetric}
+use Rattle.osm_base.specs.values.Place.{PlaceOf}
 use Rattle.piece_ends.specs.Pieces.{Line}
 use Rattle.line_build.specs.Points.{line}
 use Rattle.object_fold.specs.Fold.{ObjectSet, folded, folded_all, place_in}

@@ -1,6 +1,6 @@
 -- The commands: what each does, in order.
 use Rattle.std.specs.Prelude.{ℕ, zero, suc, ◌+◌, List, [], ◌++◌, codes}
-use Rattle.osm_base.specs.declared.object.Entry.{Entry}
+use Rattle.osm_base.specs.declared.values.object.Entry.{Entry}
 use Rattle.updater.specs.Command.{CommandOf, points_of, lines_of, init_of}
 use Rattle.updater.specs.Course.{Course, ends, reads, wants_empty, formats, tells, writes}
 use Rattle.updater.specs.Files.{change_in}

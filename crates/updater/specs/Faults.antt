@@ -1,10 +1,10 @@
 -- How each fault is told: by the status that the process ends with, and by a line of text.
 use Rattle.std.specs.Prelude.{ℕ, Option, Some, None, List, [], ◌++◌, codes, decimal}
-use Rattle.osm_base.specs.declared.key.Kind.{Kind}
-use Rattle.osm_base.specs.declared.key.Kind.TheVariants.{Node, Way, Relation}
-use Rattle.osm_base.specs.declared.limits.LimitKind.{LimitKind}
-use Rattle.osm_base.specs.declared.limits.LimitKind.TheVariants as kinds
-use Rattle.osm_base.specs.Key.{KeyOf}
+use Rattle.osm_base.specs.declared.values.key.Kind.{Kind}
+use Rattle.osm_base.specs.declared.values.key.Kind.TheVariants.{Node, Way, Relation}
+use Rattle.osm_base.specs.declared.bounds.limits.LimitKind.{LimitKind}
+use Rattle.osm_base.specs.declared.bounds.limits.LimitKind.TheVariants as kinds
+use Rattle.osm_base.specs.values.Key.{KeyOf}
 use Rattle.opl_object.specs.declared.why.Why.{Why}
 use Rattle.opl_object.specs.declared.why.Why.TheVariants.{Order}
 use Rattle.opl_object.specs.Why.{number_of}

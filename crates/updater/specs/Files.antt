@@ -1,7 +1,7 @@
 -- What the bytes of a file of changes read as, and its fault as that of a run. A file is numbered by the place of its word.
 use Rattle.std.specs.Prelude.{ℕ, List, Result, Ok, Err}
-use Rattle.osm_base.specs.Limits.{standard}
-use Rattle.osm_base.specs.declared.object.Entry.{Entry}
+use Rattle.osm_base.specs.bounds.Limits.{standard}
+use Rattle.osm_base.specs.declared.values.object.Entry.{Entry}
 use Rattle.object_fold.specs.Entries.{entries_of}
 use Rattle.object_fold.specs.declared.fault.FileFault.{FileFault}
 use Rattle.object_fold.specs.declared.fault.FileFault.TheVariants as file_faults

@@ -1,6 +1,6 @@
 -- Between two files of a run that gathers the entries of its files.
 use Rattle.std.specs.Prelude.{◌≡◌, ◌≤◌, ℕ, List, [], fold, Some}
-use Rattle.osm_base.specs.declared.object.Entry.{Entry}
+use Rattle.osm_base.specs.declared.values.object.Entry.{Entry}
 use Rattle.outside.specs.Bytes.{IfTold}
 use Rattle.outside.specs.Inputs.{FilesView}
 use Rattle.updater.specs.Comes.{Comes, AreTold}

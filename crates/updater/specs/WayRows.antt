@@ -3,10 +3,10 @@ use Rattle.std.specs.Prelude.{◌≡◌, ℕ, List, [], ◌∷◌, false, Option
 use Rattle.std.specs.Coded.{Coded, code_by, coded×, coded_list, coded_ℕ}
 use Rattle.std.specs.FinMap as finite
 use Rattle.std.specs.List.{AllByRecursion}
-use Rattle.osm_base.specs.declared.object.Entry.{Entry}
-use Rattle.osm_base.specs.Key.{IsId, way_key}
-use Rattle.osm_base.specs.contracts.key.Key as key
-use Rattle.osm_base.specs.contracts.object.Object as object
+use Rattle.osm_base.specs.declared.values.object.Entry.{Entry}
+use Rattle.osm_base.specs.values.Key.{IsId, way_key}
+use Rattle.osm_base.specs.contracts.values.key.Key as key
+use Rattle.osm_base.specs.contracts.values.object.Object as object
 use Rattle.object_fold.specs.Fold.{ObjectSet, folded}
 use Rattle.object_fold.specs.Index.{known_of}
 use Rattle.object_fold.specs.RisingIds.{has}

@@ -3,7 +3,7 @@ ghost use Rattle.std.specs.Prelude.{◌≡◌, [], None, Some, IfOk};
 ghost use Rattle.std.specs.FinMap as map;
 ghost use Rattle.std.specs.Option.{option_map};
 ghost use Rattle.std.specs.Str.{chars};
-ghost use Rattle.osm_base.specs.declared.object.Object.TheVariants.{Node, Way};
+ghost use Rattle.osm_base.specs.declared.values.object.Object.TheVariants.{Node, Way};
 ghost use Rattle.object_fold.specs.Change.{Follows, last_key};
 ghost use Rattle.updater.specs.TrimmedChange.{trimmed_entry, trimmed_object, with_entry};
 

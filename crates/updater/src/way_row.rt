@@ -1,7 +1,7 @@
 //! The row of a way.
 ghost use Rattle.std.specs.Prelude.{◌≡◌, ◌++◌, flat_map, codes, OnOk};
 ghost use Rattle.std.specs.Str.{chars};
-ghost use Rattle.osm_base.specs.Key.{IsId};
+ghost use Rattle.osm_base.specs.values.Key.{IsId};
 ghost use Rattle.updater.specs.commands.Lines.{line_text, place_text, places_text, way_text};
 ghost use Rattle.updater.specs.WayRows.{row_at};
 

@@ -4,7 +4,7 @@ ghost use Rattle.std.specs.FinMap as map;
 ghost use Rattle.std.specs.List.{AllByRecursion};
 ghost use Rattle.std.specs.Ordering.{eq_by_cmp};
 ghost use Rattle.std.specs.Str.{chars};
-ghost use Rattle.osm_base.specs.Key.{IsId, way_key};
+ghost use Rattle.osm_base.specs.values.Key.{IsId, way_key};
 ghost use Rattle.object_fold.specs.Fold.{folded_all};
 ghost use Rattle.object_fold.specs.RisingIds.{has};
 ghost use Rattle.dep_closure.specs.Ways.{Leaves};

@@ -5,16 +5,16 @@
 -- The value has the escapes of PostgreSQL's COPY text format.
 use Rattle.std.specs.Prelude.{ℕ, Option, Some, List, [], ◌∷◌, ◌++◌, codes, decimal, encode_utf8_all, flat_map}
 use Rattle.std.specs.FinMap as map
-use Rattle.osm_base.specs.Degrees.{degrees}
-use Rattle.osm_base.specs.Place.{PlaceOf}
-use Rattle.osm_base.specs.declared.key.Kind.{Kind}
-use Rattle.osm_base.specs.declared.key.Kind.TheVariants as kinds
-use Rattle.osm_base.specs.declared.object.Object.{Object}
-use Rattle.osm_base.specs.declared.object.Object.TheVariants.{Way}
+use Rattle.osm_base.specs.values.Degrees.{degrees}
+use Rattle.osm_base.specs.values.Place.{PlaceOf}
+use Rattle.osm_base.specs.declared.values.key.Kind.{Kind}
+use Rattle.osm_base.specs.declared.values.key.Kind.TheVariants as kinds
+use Rattle.osm_base.specs.declared.values.object.Object.{Object}
+use Rattle.osm_base.specs.declared.values.object.Object.TheVariants.{Way}
 use Rattle.piece_ends.specs.Pieces.{Line}
 use Rattle.line_build.specs.Points.{line}
 use Rattle.std.specs.Str.{chars}
-use Rattle.osm_base.specs.declared.object.Entry.{Entry}
+use Rattle.osm_base.specs.declared.values.object.Entry.{Entry}
 use Rattle.object_fold.specs.Fold.{ObjectSet, folded_all}
 use Rattle.object_fold.specs.Index.{known_of}
 use Rattle.updater.specs.CopyText.{copy_text}

@@ -5,16 +5,16 @@
 use Rattle.std.specs.Prelude.{ℕ, Option, Some, List, [], ◌++◌, codes, decimal, encode_utf8_all, flat_map}
 use Rattle.std.specs.Option.{option_map_or}
 use Rattle.std.specs.FinMap as map
-use Rattle.osm_base.specs.Place.{PlaceOf}
-use Rattle.osm_base.specs.declared.key.Kind.{Kind}
-use Rattle.osm_base.specs.declared.key.Kind.TheVariants as kinds
-use Rattle.osm_base.specs.declared.object.Object.{Object}
-use Rattle.osm_base.specs.declared.object.Object.TheVariants.{Node}
-use Rattle.osm_base.specs.declared.object.Entry.{Entry}
+use Rattle.osm_base.specs.values.Place.{PlaceOf}
+use Rattle.osm_base.specs.declared.values.key.Kind.{Kind}
+use Rattle.osm_base.specs.declared.values.key.Kind.TheVariants as kinds
+use Rattle.osm_base.specs.declared.values.object.Object.{Object}
+use Rattle.osm_base.specs.declared.values.object.Object.TheVariants.{Node}
+use Rattle.osm_base.specs.declared.values.object.Entry.{Entry}
 use Rattle.std.specs.Str.{chars}
 use Rattle.object_fold.specs.Fold.{ObjectSet, folded_all}
 use Rattle.updater.specs.CopyText.{copy_text}
-use Rattle.osm_base.specs.Degrees.{degrees}
+use Rattle.osm_base.specs.values.Degrees.{degrees}
 use Rattle.updater.specs.CommandOf.{CommandOf, points_of}
 use Rattle.updater.specs.Forms.{keyed}
 

@@ -1,7 +1,7 @@
 use Rattle.std.proofs.Common.{◌≡◌, ◌≤◌, ℕ, false, take}
 use Rattle.std.specs.List.{AllByRecursion}
-use Rattle.osm_base.specs.Key.{IsId}
-use Rattle.osm_base.specs.Known.{Index}
+use Rattle.osm_base.specs.values.Key.{IsId}
+use Rattle.osm_base.specs.map.Known.{Index}
 use Rattle.object_fold.specs.RisingIds.{has}
 use Rattle.dep_closure.specs.Questions.{of_nodes}
 use Rattle.dep_closure.specs.Ways.{is_due}

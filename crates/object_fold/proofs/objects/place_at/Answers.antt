@@ -1,6 +1,6 @@
 use Rattle.std.proofs.Common.{◌∙◌, ap}
 use Rattle.std.specs.FinMap as map
-use Rattle.osm_base.specs.Key.{KeyOf}
+use Rattle.osm_base.specs.values.Key.{KeyOf}
 use Rattle.object_fold.specs.Fold.{objects_in, place_in}
 use Rattle.object_fold.proofs.OfObjects.{got}
 use Rattle.object_fold.proofs.objects.place_at.Goals as goal

@@ -1,8 +1,8 @@
 use Rattle.std.proofs.Common.{None, subst}
 use Rattle.std.specs.BTreeMap.{Updates}
-use Rattle.osm_base.specs.KeyOrder.{key_cmp, key_cmp_total, key_cmp-IsAntisymmetric}
+use Rattle.osm_base.specs.values.KeyOrder.{key_cmp}
+use Rattle.osm_base.proofs.KeyLaws.{key_cmp_total, key_cmp-IsAntisymmetric, tree_cmp-key_cmp}
 use Rattle.osm_base.proofs.Found.{removed}
-use Rattle.osm_base.proofs.KeyLaws.{tree_cmp-key_cmp}
 use Rattle.object_fold.proofs.objects.remove_object.Goals as goal
 
 pub returns : goal.returns

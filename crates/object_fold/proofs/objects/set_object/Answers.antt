@@ -1,8 +1,8 @@
 use Rattle.std.proofs.Common.{Some, subst}
 use Rattle.std.specs.BTreeMap.{Updates}
-use Rattle.osm_base.specs.KeyOrder.{key_cmp, key_cmp_total, key_cmp-IsAntisymmetric}
+use Rattle.osm_base.specs.values.KeyOrder.{key_cmp}
+use Rattle.osm_base.proofs.KeyLaws.{key_cmp_total, key_cmp-IsAntisymmetric, tree_cmp-key_cmp}
 use Rattle.osm_base.proofs.Found.{inserted}
-use Rattle.osm_base.proofs.KeyLaws.{tree_cmp-key_cmp}
 use Rattle.object_fold.proofs.objects.set_object.Goals as goal
 
 pub returns-clause-ok : goal.returns-clause-ok

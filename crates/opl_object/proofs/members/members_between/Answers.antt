@@ -4,7 +4,7 @@ use Rattle.std.specs.Option.{option_map}
 use Rattle.std.proofs.lemmas.Result.{err_from_is_err_and}
 use Rattle.opl_object.specs.Fields.{is, later_pieces}
 use Rattle.opl_object.specs.Why.{◌>>=◌, each_piece, Refuses}
-use Rattle.osm_base.specs.declared.object.Member.{Member}
+use Rattle.osm_base.specs.declared.values.object.Member.{Member}
 use Rattle.opl_object.specs.declared.why.LineRefused.{LineRefused}
 use Rattle.opl_object.specs.declared.why.LineRefused.TheVariants.{Bad, OutOfMemory}
 use Rattle.opl_object.specs.Members.{with_member, member_of}

@@ -1,6 +1,6 @@
 use Rattle.std.proofs.Common.{w32}
 use Rattle.std.proofs.lemmas.Int.{to_z-of_z}
-use Rattle.osm_base.specs.Degrees.{degrees}
+use Rattle.osm_base.specs.values.Degrees.{degrees}
 use Rattle.opl_object.proofs.Puts.{err-then}
 use Rattle.opl_object.proofs.written.put_degrees.Goals as goal
 

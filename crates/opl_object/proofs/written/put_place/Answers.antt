@@ -2,7 +2,7 @@ use Rattle.std.proofs.Common.{◌++◌, w32}
 use Rattle.std.proofs.lemmas.Int.{to_z-of_z}
 use mir.Val.{SFits}
 use Rattle.std.specs.Prelude.{codes}
-use Rattle.osm_base.specs.Degrees.{degrees}
+use Rattle.osm_base.specs.values.Degrees.{degrees}
 use Rattle.opl_object.proofs.Puts.{err-first}
 use Rattle.opl_object.proofs.written.put_place.Goals as goal
 

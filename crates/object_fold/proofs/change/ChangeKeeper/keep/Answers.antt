@@ -1,5 +1,5 @@
 use Rattle.std.proofs.Common.{None, List, sym, ◌∙◌, ap, subst}
-use Rattle.osm_base.specs.declared.object.Entry.{Entry}
+use Rattle.osm_base.specs.declared.values.object.Entry.{Entry}
 use Rattle.object_fold.specs.Change.{Follows, last_key}
 use Rattle.object_fold.proofs.Rising.{RiseFrom-pushed, last_key-pushed}
 use Rattle.object_fold.proofs.change.ChangeKeeper.keep.Goals as goal

@@ -1,5 +1,5 @@
 use Rattle.std.proofs.Common.{List, ℕ, sym, ap, ◌∙◌, subst}
-use Rattle.osm_base.specs.Key.{KeyOf}
+use Rattle.osm_base.specs.values.Key.{KeyOf}
 use Rattle.object_fold.specs.Listing.{Lists, ListsFront}
 use Rattle.object_fold.proofs.ListingSteps.{on_err, if_err}
 use Rattle.object_fold.proofs.ListingTurns.{some_of_way, some_nodes, some_ways}

@@ -1,5 +1,5 @@
 use Rattle.std.proofs.Common.{sym, subst}
-use Rattle.osm_base.specs.Ids.{AreRisingIds}
+use Rattle.osm_base.specs.values.Ids.{AreRisingIds}
 use Rattle.object_fold.proofs.OfObjects.{relations_of_ways-are, relations_of_ways-ids}
 use Rattle.object_fold.proofs.objects.ObjectsLookup.relations_of_way.Goals as goal
 

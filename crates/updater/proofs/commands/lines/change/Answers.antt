@@ -1,5 +1,5 @@
 use Rattle.std.proofs.Common.{List, ap, subst, ◌∙◌}
-use Rattle.osm_base.specs.declared.object.Entry.{Entry}
+use Rattle.osm_base.specs.declared.values.object.Entry.{Entry}
 use Rattle.object_fold.specs.Fold.{folded_all}
 use Rattle.object_fold.specs.Reading.{ReadsAll}
 use Rattle.updater.specs.TrimmedChange.{TrimmedEntries, with_entry}

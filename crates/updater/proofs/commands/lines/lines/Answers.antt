@@ -1,7 +1,7 @@
 use Rattle.std.proofs.Common.{◌-◌, ◌+◌, ◌∙◌, arith, refl, subst}
 use Rattle.std.specs.Result.{result_err}
 use Rattle.std.specs.Str.{chars}
-use Rattle.osm_base.specs.declared.limits.LimitNumbers.{LimitNumbers}
+use Rattle.osm_base.specs.declared.bounds.limits.LimitNumbers.{LimitNumbers}
 use Rattle.object_fold.specs.Reading.{IsFaultOf, ReadsAll}
 use Rattle.object_fold.specs.Stops.{Stops}
 use Rattle.outside.specs.Causes.{Rose}

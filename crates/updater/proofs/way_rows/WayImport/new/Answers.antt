@@ -1,6 +1,6 @@
 use Rattle.std.proofs.Common.{sym, subst}
 use Rattle.std.specs.List.{AllByRecursion}
-use Rattle.osm_base.specs.Key.{IsId}
+use Rattle.osm_base.specs.values.Key.{IsId}
 use Rattle.updater.proofs.WayLaws.{none-held}
 use Rattle.updater.proofs.way_rows.WayImport.new.Goals as goal
 

@@ -1,8 +1,0 @@
--- The rows of a tree of them.
-use Rattle.std.specs.BTreeMap.{BTreeMap}
-use Rattle.std.specs.FinMap as map
-use Rattle.osm_base.specs.declared.row.Row.{Row}
-use Rattle.osm_base.specs.Spots.{SpotOf, TableMap}
-
-abbrev pub rows_in : BTreeMap SpotOf Row → TableMap
-rows_in rows = map.from_entries rows.entries

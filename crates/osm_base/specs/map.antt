@@ -1,0 +1,4 @@
+pub mod Known
+pub mod Pending
+pub mod SpotTree
+pub mod Spots

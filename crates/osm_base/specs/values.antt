@@ -1,0 +1,9 @@
+pub mod Degrees
+pub mod Ids
+pub mod Key
+pub mod KeyOrder
+pub mod Line
+pub mod Place
+pub mod TagOrder
+pub mod TagText
+pub mod Tags
