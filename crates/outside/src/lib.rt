@@ -12,6 +12,8 @@
 //! that `Fails` names. `MemDisk` keeps each call too, so that a crash in any of them can be tried.
 //! `FileInputs`, `StdSink` and `FileDisk` stand over real files and a real stream: no proof says what
 //! those hold, so they tell no bytes, and each counts its faults. `put_all` writes a whole text.
+//!
+//! A `Gate` is what threads pass at five places of a run. `OpenGate` holds nobody.
 #![tactic(auto)]
 
 mod calls;
@@ -22,6 +24,7 @@ mod fails;
 mod file_disk;
 mod file_inputs;
 mod files_left;
+mod gate;
 mod inputs;
 mod mem_disk;
 mod mem_inputs;
@@ -38,6 +41,7 @@ pub use failed::Failed;
 pub use fails::Fails;
 pub use file_disk::FileDisk;
 pub use file_inputs::FileInputs;
+pub use gate::{Gate, GatePlace, OpenGate};
 pub use inputs::Inputs;
 pub use mem_disk::MemDisk;
 pub use mem_inputs::MemInputs;
