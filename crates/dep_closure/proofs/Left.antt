@@ -17,11 +17,11 @@ use Rattle.osm_base.specs.map.Known.{Index}
 use Rattle.osm_base.specs.values.Place.{PlaceOf}
 use Rattle.piece_ends.specs.Pieces.{same_place}
 use Rattle.line_build.specs.Points.{line_through}
-use Rattle.object_fold.specs.Fold.{ObjectSet, folded_all, place_in}
+use Rattle.osm_base.specs.map.Objects.{ObjectSet, folded_all, place_in}
 use Rattle.object_fold.proofs.FoldLaws.{Untouched, get-untouched}
-use Rattle.object_fold.specs.Index.{is_kind, lists, index_of, known_of}
+use Rattle.osm_base.specs.map.Listers.{is_kind, lists, index_of, known_of}
 use Rattle.object_fold.proofs.Listers.{has-ids_of}
-use Rattle.object_fold.specs.RisingIds.{has}
+use Rattle.osm_base.specs.values.Ids.{has}
 use Rattle.dep_closure.specs.Ways.{makes_due, is_due, line_of, Leaves}
 
 left_false : (a b : Bool) → (a || b) ≡ false → a ≡ false

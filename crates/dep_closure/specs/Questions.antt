@@ -3,7 +3,7 @@ use Rattle.std.specs.Prelude.{◌≡◌, List, [], ◌∷◌, ◌++◌, flat_map
 use Rattle.osm_base.specs.declared.values.key.Kind.TheVariants as kinds
 use Rattle.osm_base.specs.declared.values.object.Entry.{Entry}
 use Rattle.osm_base.specs.map.Known.{Question, WaysOfNode}
-use Rattle.object_fold.specs.Index.{is_kind}
+use Rattle.osm_base.specs.map.Listers.{is_kind}
 
 -- an entry of a node asks for the ways that list it
 abbrev pub of_entry : Entry → List Question

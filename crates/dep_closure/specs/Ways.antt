@@ -14,9 +14,9 @@ use Rattle.osm_base.specs.map.Known.{Index}
 use Rattle.osm_base.specs.values.Place.{PlaceOf}
 use Rattle.piece_ends.specs.Pieces.{Line}
 use Rattle.line_build.specs.Points.{line}
-use Rattle.object_fold.specs.Fold.{ObjectSet, folded_all}
-use Rattle.object_fold.specs.Index.{is_kind, known_of}
-use Rattle.object_fold.specs.RisingIds.{has}
+use Rattle.osm_base.specs.map.Objects.{ObjectSet, folded_all}
+use Rattle.osm_base.specs.map.Listers.{is_kind, known_of}
+use Rattle.osm_base.specs.values.Ids.{has}
 
 -- an entry makes a way due where it is of the way, or of a node that the way lists
 abbrev pub makes_due : Index → ℕ → Entry → Bool

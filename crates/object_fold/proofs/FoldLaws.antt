@@ -8,7 +8,7 @@ use Rattle.osm_base.specs.declared.values.object.Object.{Object}
 use Rattle.osm_base.specs.values.Key.{KeyOf}
 use Rattle.osm_base.specs.values.KeyOrder.{key_cmp}
 use Rattle.osm_base.proofs.KeyLaws.{key_cmp_total}
-use Rattle.object_fold.specs.Fold.{ObjectSet, with_object, folded, folded_all}
+use Rattle.osm_base.specs.map.Objects.{ObjectSet, with_object, folded, folded_all}
 
 -- no entry has this key
 abbrev pub Untouched : KeyOf → List Entry → Type 0

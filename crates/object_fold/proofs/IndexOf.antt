@@ -16,10 +16,10 @@ use Rattle.osm_base.specs.declared.values.object.Object.{Object}
 use Rattle.osm_base.specs.values.Ids.{AreRisingIds}
 use Rattle.osm_base.specs.values.Key.{KeyOf, IsId}
 use Rattle.osm_base.specs.values.KeyOrder.{key_cmp}
-use Rattle.object_fold.specs.Fold.{ObjectSet}
-use Rattle.object_fold.specs.Index.{is_kind, lists, ids_of}
+use Rattle.osm_base.specs.map.Objects.{ObjectSet}
+use Rattle.osm_base.specs.map.Listers.{is_kind, lists, ids_of}
 use Rattle.object_fold.proofs.Listers.{key, kind_same, passing, test, has-ids_of}
-use Rattle.object_fold.specs.RisingIds.{IsRising, has}
+use Rattle.osm_base.specs.values.Ids.{IsRising, has}
 use Rattle.object_fold.specs.Listings.{told_of}
 use Rattle.object_fold.proofs.SortedIds.{same_rising}
 

@@ -12,9 +12,9 @@ use Rattle.osm_base.specs.declared.values.object.Object.{Object}
 use Rattle.osm_base.specs.values.Key.{KeyOf}
 use Rattle.osm_base.specs.values.KeyOrder.{key_cmp}
 use Rattle.osm_base.proofs.KeyLaws.{key_cmp-IsAntisymmetric}
-use Rattle.object_fold.specs.Fold.{ObjectSet}
-use Rattle.object_fold.specs.Index.{is_kind, lists, ids_of}
-use Rattle.object_fold.specs.RisingIds.{has}
+use Rattle.osm_base.specs.map.Objects.{ObjectSet}
+use Rattle.osm_base.specs.map.Listers.{is_kind, lists, ids_of}
+use Rattle.osm_base.specs.values.Ids.{has}
 
 and-false : (b : Bool) → (b && false) ≡ false
 and-false true = refl

@@ -8,7 +8,8 @@ use Rattle.std.specs.FinMap as finite
 use Rattle.std.specs.FinMap.{nat_cmp-IsAntisymmetric}
 use Rattle.std.proofs.lemmas.Cmp.{nat_eq_equiv}
 use Rattle.std.proofs.lemmas.Bool.Decides.{nat_tests}
-use Rattle.object_fold.specs.RisingIds.{has, Joins, Leaves}
+use Rattle.osm_base.specs.values.Ids.{has}
+use Rattle.object_fold.specs.RisingIds.{Joins, Leaves}
 use Rattle.osm_base.proofs.Found.{found, inserted, removed}
 use Rattle.object_fold.specs.Listing.{ListingOf, listers, Lists, Unlists}
 

@@ -10,7 +10,7 @@ use Rattle.osm_base.specs.values.Key.{KeyOf}
 use Rattle.osm_base.specs.values.KeyOrder.{rank}
 use Rattle.object_fold.specs.declared.listed.Listed.{Listed}
 use Rattle.object_fold.specs.declared.listings.Listings.{Listings}
-use Rattle.object_fold.specs.RisingIds.{has}
+use Rattle.osm_base.specs.values.Ids.{has}
 use Rattle.object_fold.specs.Listing.{ListingOf, is_listed, Lists, ListsFront}
 use Rattle.object_fold.specs.Listings.{way, relation, ids_in, is_key, AddsSome}
 

@@ -15,10 +15,10 @@ use Rattle.osm_base.specs.values.KeyOrder.{key_cmp}
 use Rattle.osm_base.proofs.KeyLaws.{key_cmp_total, key_cmp-IsAntisymmetric, tree_cmp, tree_cmp-key_cmp}
 use Rattle.object_fold.specs.declared.listed.Listed.{Listed}
 use Rattle.object_fold.specs.declared.listings.Listings.{Listings}
-use Rattle.object_fold.specs.Fold.{ObjectSet, objects_in}
-use Rattle.object_fold.specs.Index.{ids_of, lists}
+use Rattle.osm_base.specs.map.Objects.{ObjectSet, objects_in}
+use Rattle.osm_base.specs.map.Listers.{ids_of, lists}
 use Rattle.object_fold.specs.Listing.{ListingOf, listers, is_listed}
-use Rattle.object_fold.specs.RisingIds.{IsRising, has}
+use Rattle.osm_base.specs.values.Ids.{IsRising, has}
 use Rattle.object_fold.specs.Listings.{AreListed, AreListedBy, AreListingsOf}
 use Rattle.osm_base.proofs.Found.{found}
 use Rattle.object_fold.proofs.IndexOf.{listers-are, ids_of-ids}

@@ -12,9 +12,9 @@ use Rattle.osm_base.specs.values.KeyOrder.{key_cmp}
 use Rattle.osm_base.proofs.KeyLaws.{key_cmp_total, key_cmp-IsAntisymmetric}
 use Rattle.object_fold.specs.declared.listed.Listed.{Listed}
 use Rattle.object_fold.specs.declared.listings.Listings.{Listings}
-use Rattle.object_fold.specs.Fold.{ObjectSet}
-use Rattle.object_fold.specs.Index.{listed, lists}
-use Rattle.object_fold.specs.RisingIds.{has}
+use Rattle.osm_base.specs.map.Objects.{ObjectSet}
+use Rattle.osm_base.specs.map.Listers.{listed, lists}
+use Rattle.osm_base.specs.values.Ids.{has}
 use Rattle.object_fold.specs.Listings.{WhoLists, Answer, way, relation, told_of, is_key, added, taken, Turns, AddsSome, AreListed, AreListedBy}
 
 -- what says the same of nodes and of ways is answered alike

@@ -13,7 +13,8 @@ use Rattle.std.proofs.lemmas.List.Sorted.{searched, list_any-IsPermutation, IsPe
 use Rattle.std.proofs.lemmas.Cmp.{nat_eq_equiv}
 use Rattle.std.proofs.lemmas.Map.Keys.{non_decreasing_from_sorted}
 use Rattle.std.proofs.lemmas.Bool.Decides.{nat_tests}
-use Rattle.object_fold.specs.RisingIds.{IsRising, has, StandsAt, IsGapAt, Joins, Leaves}
+use Rattle.osm_base.specs.values.Ids.{IsRising, has}
+use Rattle.object_fold.specs.RisingIds.{StandsAt, IsGapAt, Joins, Leaves}
 
 -- what a binary search among rising ids answers
 pub search_gap : (ids : List ℕ) (id : ℕ) (r : Result ℕ ℕ) → IsRising ids → IsBinarySearchResult (λ other. nat_cmp other id) ids r → IfErr r (IsGapAt ids id)

@@ -1,7 +1,5 @@
 pub mod Change
 pub mod Entries
-pub mod Fold
-pub mod Index
 pub mod Keeps
 pub mod Listing
 pub mod Listings

@@ -12,10 +12,10 @@ use Rattle.osm_base.specs.values.Key.{KeyOf, IsId}
 use Rattle.osm_base.specs.values.KeyOrder.{key_cmp}
 use Rattle.object_fold.specs.declared.listed.Listed.{Listed}
 use Rattle.object_fold.specs.declared.listings.Listings.{Listings}
-use Rattle.object_fold.specs.Fold.{ObjectSet}
-use Rattle.object_fold.specs.Index.{listed, lists}
+use Rattle.osm_base.specs.map.Objects.{ObjectSet}
+use Rattle.osm_base.specs.map.Listers.{listed, lists}
 use Rattle.object_fold.specs.Listing.{is_listed}
-use Rattle.object_fold.specs.RisingIds.{has}
+use Rattle.osm_base.specs.values.Ids.{has}
 
 -- what is told of who lists what: whether the object of this key lists the object of this kind and this id
 abbrev pub WhoLists : Type 0

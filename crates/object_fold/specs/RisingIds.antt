@@ -1,16 +1,6 @@
 -- Lists of ids that rise, each id once.
 use Rattle.std.specs.Prelude.{◌≡◌, ◌<◌, ◌≤◌, ℕ, Bool, not, ◌&&◌, ◌||◌, List, length, slice_index_or, nat_eq}
-use Rattle.std.specs.Ordering.{nat_cmp}
-use Rattle.std.specs.List.{list_any}
-use Rattle.std.specs.List.Sorted.{IsStrictlySortedBy}
-
--- each id is below those after it
-abbrev pub IsRising : List ℕ → Type 0
-IsRising ids = IsStrictlySortedBy nat_cmp ids
-
--- whether an id stands in a list
-abbrev pub has : List ℕ → ℕ → Bool
-has ids id = list_any (λ other. nat_eq other id) ids
+use Rattle.osm_base.specs.values.Ids.{has}
 
 -- the second list has the ids of the first one, and this one
 abbrev pub Joins : ℕ → List ℕ → List ℕ → Type 0

@@ -1,7 +1,7 @@
 //! What an object lists.
 ghost use Rattle.std.specs.Prelude.{◌≡◌, ◌++◌, [], take, IfOk};
 ghost use Rattle.osm_base.specs.declared.values.key.Kind.TheVariants as kinds;
-ghost use Rattle.object_fold.specs.Index.{member_ids};
+ghost use Rattle.osm_base.specs.map.Listers.{member_ids};
 ghost use Rattle.object_fold.specs.Listings.{AreListed};
 
 use crate::RisingIds;

@@ -1,7 +1,7 @@
 //! Who lists the objects of one kind.
 ghost use Rattle.std.specs.Prelude.{◌≡◌, ℕ, [], ◌∷◌, OnOk, OnErr};
 ghost use Rattle.std.specs.FinMap as map;
-ghost use Rattle.object_fold.specs.RisingIds.{IsRising, has};
+ghost use Rattle.osm_base.specs.values.Ids.{IsRising, has};
 ghost use Rattle.object_fold.specs.Listing.{listers, Lists, ListsFront, Unlists};
 
 use crate::RisingIds;

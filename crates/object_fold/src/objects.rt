@@ -6,9 +6,9 @@ ghost use Rattle.std.specs.Option.{option_copied};
 ghost use Rattle.osm_base.specs.values.Ids.{AreRisingIds};
 ghost use Rattle.osm_base.specs.values.KeyOrder.{key_cmp};
 ghost use Rattle.osm_base.specs.declared.bounds.memory.OutOfMemory.{OutOfMemory as NoMemory};
-ghost use Rattle.object_fold.specs.Fold.{folded, folded_all, objects_in, place_in};
-ghost use Rattle.object_fold.specs.Index.{index_of, known_of};
-ghost use Rattle.object_fold.specs.RisingIds.{has};
+ghost use Rattle.osm_base.specs.map.Objects.{folded, folded_all, objects_in, place_in};
+ghost use Rattle.osm_base.specs.map.Listers.{index_of, known_of};
+ghost use Rattle.osm_base.specs.values.Ids.{has};
 ghost use Rattle.object_fold.specs.Listings.{AreListingsOf, AreListedBy, HasIds, AreListed, AddsSome, Turns, added};
 
 use crate::Change;
@@ -38,7 +38,7 @@ impl Model for Objects {
 
     ghost coded = { map.code key.the_row.coded object.the_row.coded };
 
-    ghost use Rattle.object_fold.specs.Fold.{objects_in};
+    ghost use Rattle.osm_base.specs.map.Objects.{objects_in};
     ghost use Rattle.object_fold.specs.Listings.{AreListingsOf};
 
     ghost view = { λ objects. objects_in objects.objects };

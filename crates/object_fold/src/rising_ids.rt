@@ -1,6 +1,7 @@
 //! Ids in their order.
 ghost use Rattle.std.specs.Prelude.{◌≡◌, ℕ, [], IfOk, IfErr, OnOk, OnErr, IsTrue, ◌↔◌};
-ghost use Rattle.object_fold.specs.RisingIds.{IsRising, has, Joins, Leaves, StandsAt, IsGapAt};
+ghost use Rattle.osm_base.specs.values.Ids.{IsRising, has};
+ghost use Rattle.object_fold.specs.RisingIds.{Joins, Leaves, StandsAt, IsGapAt};
 
 use osm_base::{Ids, OutOfMemory};
 use std::alloc::Global;
@@ -14,7 +15,7 @@ pub struct RisingIds {
 
 impl Model for RisingIds {
     ghost use Rattle.std.specs.Prelude.{ℕ, List};
-    ghost use Rattle.object_fold.specs.RisingIds.{IsRising};
+    ghost use Rattle.osm_base.specs.values.Ids.{IsRising};
 
     ghost Value = { List ℕ };
 

@@ -12,8 +12,8 @@ use Rattle.osm_base.specs.values.KeyOrder.{key_cmp}
 use Rattle.osm_base.specs.declared.values.key.Kind.{Kind}
 use Rattle.osm_base.specs.declared.values.key.Kind.TheVariants.{Node, Way, Relation}
 use Rattle.osm_base.specs.declared.values.object.Object.{Object}
-use Rattle.object_fold.specs.Fold.{ObjectSet}
-use Rattle.object_fold.specs.Index.{is_kind}
+use Rattle.osm_base.specs.map.Objects.{ObjectSet}
+use Rattle.osm_base.specs.map.Listers.{is_kind}
 use Rattle.object_fold.proofs.Listers.{key, kind_same, tied-ids, untied-kinds}
 use Rattle.updater.specs.RowsById.{RowMap, text_of}
 use Rattle.updater.specs.WayRows.{some_row}

@@ -2,7 +2,7 @@
 use Rattle.std.proofs.Common.{◌≡◌, List, ℕ}
 use Rattle.std.specs.FinMap as finite
 use Rattle.osm_base.specs.declared.values.object.Entry.{Entry}
-use Rattle.object_fold.specs.Fold.{folded_all}
+use Rattle.osm_base.specs.map.Objects.{folded_all}
 use Rattle.updater.specs.commands.Points.{points_text}
 use Rattle.updater.specs.PointRows.{rows_text, no_rows, after_entries, Shows}
 use Rattle.updater.proofs.PointRowLaws.{Keeps, kept_first, kept_entries, kept-text, kept_shows}

@@ -11,9 +11,9 @@ use Rattle.osm_base.specs.declared.values.key.Kind.{Kind}
 use Rattle.osm_base.specs.declared.values.key.Kind.TheVariants.{Node, Way, Relation}
 use Rattle.osm_base.specs.declared.values.object.Object.{Object}
 use Rattle.osm_base.specs.declared.values.object.Entry.{Entry}
-use Rattle.object_fold.specs.Fold.{ObjectSet, with_object, folded, folded_all}
+use Rattle.osm_base.specs.map.Objects.{ObjectSet, with_object, folded, folded_all}
 use Rattle.object_fold.proofs.FoldLaws.{get-with_object}
-use Rattle.object_fold.specs.Index.{is_kind}
+use Rattle.osm_base.specs.map.Listers.{is_kind}
 use Rattle.updater.specs.commands.Points.{node_row, of_node, row_of, points_text}
 use Rattle.updater.specs.PointRows.{Rows, with_row, after_kind, after_entry, after_entries, no_rows, rows_text, node_row_at, Shows, shown}
 use Rattle.updater.specs.WayRows.{some_row}

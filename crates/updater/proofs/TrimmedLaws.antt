@@ -6,7 +6,7 @@ use Rattle.osm_base.specs.declared.bounds.limits.LimitNumbers.{LimitNumbers}
 use Rattle.osm_base.specs.declared.values.object.Entry.{Entry}
 use Rattle.object_fold.specs.declared.fault.FileFault.{FileFault}
 use Rattle.object_fold.specs.Entries.{entries_of}
-use Rattle.object_fold.specs.Fold.{folded_all}
+use Rattle.osm_base.specs.map.Objects.{folded_all}
 use Rattle.object_fold.specs.Keeps.{kept_all}
 use Rattle.object_fold.specs.Reading.{ReadsAll}
 use Rattle.updater.specs.TrimmedChange.{TrimmedEntries, trimmed_entry, with_entry}

@@ -20,10 +20,10 @@ use Rattle.osm_base.proofs.KeyLaws.{key_cmp-IsAntisymmetric}
 use Rattle.osm_base.specs.values.Place.{PlaceOf}
 use Rattle.piece_ends.specs.Pieces.{Line}
 use Rattle.line_build.specs.Points.{line}
-use Rattle.object_fold.specs.Fold.{ObjectSet, folded, folded_all, place_in}
+use Rattle.osm_base.specs.map.Objects.{ObjectSet, folded, folded_all, place_in}
 use Rattle.object_fold.proofs.FoldLaws.{get-with_object}
-use Rattle.object_fold.specs.Index.{is_kind, known_of}
-use Rattle.object_fold.specs.RisingIds.{has}
+use Rattle.osm_base.specs.map.Listers.{is_kind, known_of}
+use Rattle.osm_base.specs.values.Ids.{has}
 use Rattle.dep_closure.specs.Ways.{line_of, Leaves}
 use Rattle.updater.specs.TrimmedChange.{trimmed_object, trimmed_entry, with_entry}
 use Rattle.updater.specs.RowsById.{RowMap, set_row, text_of}

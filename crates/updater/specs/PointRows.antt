@@ -5,7 +5,7 @@ use Rattle.std.specs.FinMap as finite
 use Rattle.osm_base.specs.declared.values.key.Kind.{Kind}
 use Rattle.osm_base.specs.declared.values.key.Kind.TheVariants as kinds
 use Rattle.osm_base.specs.declared.values.object.Entry.{Entry}
-use Rattle.object_fold.specs.Fold.{ObjectSet}
+use Rattle.osm_base.specs.map.Objects.{ObjectSet}
 use Rattle.updater.specs.RowsById.{RowMap, set_row, text_of}
 use Rattle.updater.specs.commands.Points.{row_of, node_row}
 

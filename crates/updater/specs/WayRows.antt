@@ -7,9 +7,9 @@ use Rattle.osm_base.specs.declared.values.object.Entry.{Entry}
 use Rattle.osm_base.specs.values.Key.{IsId, way_key}
 use Rattle.osm_base.specs.contracts.values.key.Key as key
 use Rattle.osm_base.specs.contracts.values.object.Object as object
-use Rattle.object_fold.specs.Fold.{ObjectSet, folded}
-use Rattle.object_fold.specs.Index.{known_of}
-use Rattle.object_fold.specs.RisingIds.{has}
+use Rattle.osm_base.specs.map.Objects.{ObjectSet, folded}
+use Rattle.osm_base.specs.map.Listers.{known_of}
+use Rattle.osm_base.specs.values.Ids.{has}
 use Rattle.updater.specs.TrimmedChange.{trimmed_entry}
 use Rattle.updater.specs.RowsById.{RowMap}
 use Rattle.updater.specs.commands.Lines.{object_row}

@@ -15,8 +15,8 @@ use Rattle.piece_ends.specs.Pieces.{Line}
 use Rattle.line_build.specs.Points.{line}
 use Rattle.std.specs.Str.{chars}
 use Rattle.osm_base.specs.declared.values.object.Entry.{Entry}
-use Rattle.object_fold.specs.Fold.{ObjectSet, folded_all}
-use Rattle.object_fold.specs.Index.{known_of}
+use Rattle.osm_base.specs.map.Objects.{ObjectSet, folded_all}
+use Rattle.osm_base.specs.map.Listers.{known_of}
 use Rattle.updater.specs.CopyText.{copy_text}
 use Rattle.updater.specs.CommandOf.{CommandOf, lines_of}
 use Rattle.updater.specs.Forms.{keyed}

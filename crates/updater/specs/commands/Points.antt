@@ -12,7 +12,7 @@ use Rattle.osm_base.specs.declared.values.object.Object.{Object}
 use Rattle.osm_base.specs.declared.values.object.Object.TheVariants.{Node}
 use Rattle.osm_base.specs.declared.values.object.Entry.{Entry}
 use Rattle.std.specs.Str.{chars}
-use Rattle.object_fold.specs.Fold.{ObjectSet, folded_all}
+use Rattle.osm_base.specs.map.Objects.{ObjectSet, folded_all}
 use Rattle.updater.specs.CopyText.{copy_text}
 use Rattle.osm_base.specs.values.Degrees.{degrees}
 use Rattle.updater.specs.CommandOf.{CommandOf, points_of}

@@ -1,8 +1,8 @@
 use Rattle.std.proofs.Common.{◌++◌, suc, Result, Ok, Err, OnErr, drop, take, sym, ap, subst, ◌∙◌}
 use Rattle.std.proofs.lemmas.List.{take_all}
-use Rattle.object_fold.specs.Fold.{folded_all}
-use Rattle.object_fold.specs.Index.{index_of}
-use Rattle.object_fold.specs.RisingIds.{IsRising, has}
+use Rattle.osm_base.specs.map.Objects.{folded_all}
+use Rattle.osm_base.specs.map.Listers.{index_of}
+use Rattle.osm_base.specs.values.Ids.{IsRising, has}
 use Rattle.dep_closure.specs.Questions.{of_entry, of_nodes}
 use Rattle.dep_closure.specs.Ways.{is_due}
 use Rattle.dep_closure.proofs.Cuts.{of_nodes-cut}

@@ -2,7 +2,7 @@ use Rattle.std.proofs.Common.{◌≡◌, ◌≤◌, ℕ, false, take}
 use Rattle.std.specs.List.{AllByRecursion}
 use Rattle.osm_base.specs.values.Key.{IsId}
 use Rattle.osm_base.specs.map.Known.{Index}
-use Rattle.object_fold.specs.RisingIds.{has}
+use Rattle.osm_base.specs.values.Ids.{has}
 use Rattle.dep_closure.specs.Questions.{of_nodes}
 use Rattle.dep_closure.specs.Ways.{is_due}
 use Rattle.dep_closure.proofs.ways.ways_due.Given as goal

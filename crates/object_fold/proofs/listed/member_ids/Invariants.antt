@@ -1,5 +1,5 @@
 use Rattle.std.proofs.Common.{◌≡◌, take}
-use Rattle.object_fold.specs.Index.{member_ids}
+use Rattle.osm_base.specs.map.Listers.{member_ids}
 use Rattle.object_fold.proofs.listed.member_ids.Given as goal
 
 -- the ids of the members so far

@@ -1,7 +1,7 @@
 use Rattle.std.proofs.Common.{◌∙◌, ap}
 use Rattle.std.specs.FinMap as map
 use Rattle.osm_base.specs.values.Key.{KeyOf}
-use Rattle.object_fold.specs.Fold.{objects_in, place_in}
+use Rattle.osm_base.specs.map.Objects.{objects_in, place_in}
 use Rattle.object_fold.proofs.OfObjects.{got}
 use Rattle.object_fold.proofs.objects.place_at.Goals as goal
 

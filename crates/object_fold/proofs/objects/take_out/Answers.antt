@@ -2,7 +2,7 @@ use Rattle.std.proofs.Common.{◌≡◌, None, sym, subst, rules}
 use Rattle.std.specs.FinMap as finite
 use Rattle.osm_base.specs.declared.values.key.Kind.TheVariants.{Node}
 use Rattle.osm_base.proofs.KeyLaws.{key_cmp_total}
-use Rattle.object_fold.specs.Fold.{ObjectSet, objects_in}
+use Rattle.osm_base.specs.map.Objects.{ObjectSet, objects_in}
 use Rattle.object_fold.specs.Listings.{AreListingsOf}
 use Rattle.object_fold.proofs.Relisted.{unset-answers, unset-ids, node-answers}
 use Rattle.object_fold.proofs.objects.take_out.Goals as goal

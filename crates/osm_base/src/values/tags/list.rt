@@ -65,6 +65,19 @@ impl TagList {
             None
         }
     }
+
+    /// The same, where each key is above the one before it. `None`: it is not so.
+    pub fn into_rising(self) -> Option<Tags>
+        ensures rising { IsSome result ↔ T (map.is_sorted (slice_cmp nat_cmp) self) }
+        ensures tags { IfSome result (λ tags. tags ≡ map.from_entries self) }
+    {
+        let Self { text, spans } = self;
+        if are_rising(&text, &spans) {
+            Some(Tags { text, spans })
+        } else {
+            None
+        }
+    }
 }
 
 impl Tags {

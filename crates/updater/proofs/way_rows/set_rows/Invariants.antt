@@ -1,7 +1,7 @@
 use Rattle.std.proofs.Common.{◌≡◌, ℕ, cond, take}
 use Rattle.std.specs.FinMap as map
 use Rattle.std.specs.Str.{chars}
-use Rattle.object_fold.specs.RisingIds.{has}
+use Rattle.osm_base.specs.values.Ids.{has}
 use Rattle.updater.specs.WayRows.{row_at, some_row}
 use Rattle.updater.proofs.way_rows.set_rows.Given as goal
 

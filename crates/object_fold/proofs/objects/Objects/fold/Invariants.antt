@@ -1,5 +1,5 @@
 use Rattle.std.proofs.Common.{◌≡◌, ◌++◌}
-use Rattle.object_fold.specs.Fold.{folded_all}
+use Rattle.osm_base.specs.map.Objects.{folded_all}
 use Rattle.object_fold.proofs.objects.Objects.fold.Given as goal
 
 -- the objects are what the entries so far make of those before

@@ -1,6 +1,6 @@
 use Rattle.std.proofs.Common.{◌∙◌, ap}
 use Rattle.std.specs.FinMap as map
-use Rattle.object_fold.specs.Fold.{ObjectSet}
+use Rattle.osm_base.specs.map.Objects.{ObjectSet}
 use Rattle.object_fold.proofs.OfObjects.{got}
 use Rattle.object_fold.proofs.objects.ObjectsLookup.object_of.Goals as goal
 

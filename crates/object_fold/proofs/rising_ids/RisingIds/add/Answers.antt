@@ -1,6 +1,7 @@
 use Rattle.std.proofs.Common.{sym, subst}
 use Rattle.std.specs.List.{insert}
-use Rattle.object_fold.specs.RisingIds.{IsRising, IsGapAt, StandsAt, Joins}
+use Rattle.osm_base.specs.values.Ids.{IsRising}
+use Rattle.object_fold.specs.RisingIds.{IsGapAt, StandsAt, Joins}
 use Rattle.object_fold.proofs.SortedIds.{insert-rise, has-insert, joins-there}
 use Rattle.object_fold.proofs.rising_ids.RisingIds.add.Goals as goal
 

@@ -1,5 +1,5 @@
 use Rattle.std.proofs.Common.{ap, ◌∙◌}
-use Rattle.object_fold.specs.RisingIds.{has}
+use Rattle.osm_base.specs.values.Ids.{has}
 use Rattle.object_fold.proofs.SortedIds.{searched_has}
 use Rattle.object_fold.proofs.rising_ids.RisingIds.contains.Goals as goal
 

@@ -1,6 +1,6 @@
 use Rattle.std.proofs.Common.{subst, sym, ap, ◌∙◌, nat_eq}
 use Rattle.std.proofs.lemmas.List.Filters.{dedup_is}
-use Rattle.object_fold.specs.RisingIds.{IsRising, has}
+use Rattle.osm_base.specs.values.Ids.{IsRising, has}
 use Rattle.object_fold.proofs.SortedIds.{dedup-rise, has-dedup, has-permutation}
 use Rattle.object_fold.proofs.rising_ids.RisingIds.from_vec.Goals as goal
 

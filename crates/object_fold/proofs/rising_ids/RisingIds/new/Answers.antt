@@ -1,5 +1,5 @@
 use Rattle.std.proofs.Common.{subst, sym}
-use Rattle.object_fold.specs.RisingIds.{IsRising}
+use Rattle.osm_base.specs.values.Ids.{IsRising}
 use Rattle.object_fold.proofs.SortedIds.{none-rise}
 use Rattle.object_fold.proofs.rising_ids.RisingIds.new.Goals as goal
 

@@ -1,6 +1,7 @@
 use Rattle.std.proofs.Common.{sym, subst}
 use Rattle.std.specs.List.{remove}
-use Rattle.object_fold.specs.RisingIds.{IsRising, IsGapAt, StandsAt, Leaves}
+use Rattle.osm_base.specs.values.Ids.{IsRising}
+use Rattle.object_fold.specs.RisingIds.{IsGapAt, StandsAt, Leaves}
 use Rattle.object_fold.proofs.SortedIds.{remove-rise, has-remove, leaves-absent}
 use Rattle.object_fold.proofs.rising_ids.RisingIds.take_out.Goals as goal
 

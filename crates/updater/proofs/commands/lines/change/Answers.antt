@@ -1,6 +1,6 @@
 use Rattle.std.proofs.Common.{List, ap, subst, ◌∙◌}
 use Rattle.osm_base.specs.declared.values.object.Entry.{Entry}
-use Rattle.object_fold.specs.Fold.{folded_all}
+use Rattle.osm_base.specs.map.Objects.{folded_all}
 use Rattle.object_fold.specs.Reading.{ReadsAll}
 use Rattle.updater.specs.TrimmedChange.{TrimmedEntries, with_entry}
 use Rattle.updater.proofs.TrimmedLaws.{taken-reads}

@@ -1,7 +1,7 @@
 use Rattle.std.proofs.Common.{cond, ap, ◌∙◌}
 use Rattle.std.specs.FinMap as finite
 use Rattle.std.specs.Str.{chars}
-use Rattle.object_fold.specs.RisingIds.{has}
+use Rattle.osm_base.specs.values.Ids.{has}
 use Rattle.updater.specs.WayRows.{row_at, some_row}
 use Rattle.updater.proofs.WayLaws.{import-rows}
 use Rattle.updater.proofs.way_rows.WayImport.into_rows.Goals as goal

@@ -1,6 +1,6 @@
 use Rattle.std.proofs.Common.{ap, ◌∙◌}
 use Rattle.std.specs.FinMap as finite
-use Rattle.object_fold.specs.Fold.{ObjectSet}
+use Rattle.osm_base.specs.map.Objects.{ObjectSet}
 use Rattle.osm_base.specs.values.Key.{way_key}
 use Rattle.updater.proofs.WayLaws.{more-held}
 use Rattle.updater.proofs.way_rows.WayImportKeeper.keep.Goals as goal

@@ -10,8 +10,8 @@ use Rattle.osm_base.specs.declared.values.object.Member.{Member}
 use Rattle.osm_base.specs.declared.values.object.Object.{Object}
 use Rattle.osm_base.specs.declared.values.object.Object.TheVariants.{Way, Relation}
 use Rattle.osm_base.specs.map.Known.{Index, Known}
-use Rattle.object_fold.specs.Fold.{ObjectSet, place_in}
-use Rattle.object_fold.specs.RisingIds.{has}
+use Rattle.osm_base.specs.map.Objects.{ObjectSet, place_in}
+use Rattle.osm_base.specs.values.Ids.{has}
 
 -- whether two kinds are the same
 abbrev pub is_kind : Kind → Kind → Bool
