@@ -4,29 +4,36 @@ use crate::nesting::nested;
 use crate::nodes::{line_along, points_along};
 use crate::pieces::{closed, extended, joined, taken, tested};
 use crate::rows::{numbered, written};
+use example_table::Examples;
 use osm_base::OutOfMemory;
 use std::alloc::Global;
 
-/// What comes out of what is given. `None`: it is not in its form, or nothing is asked so.
-pub fn answer_of(alloc: Global, kind: &str, given: &str) -> Result<Option<String>, OutOfMemory> {
-    match kind {
-        "pieces" => tested(alloc, given),
-        "take" => taken(alloc, given),
-        "extend" => extended(alloc, given),
-        "join" => joined(alloc, given),
-        "rings" => closed(alloc, given),
-        "points" => points_along(alloc, given),
-        "line" => line_along(alloc, given),
-        "box" => boxed(alloc, given),
-        "meet" => marked(alloc, given),
-        "met" => met(alloc, given),
-        "odd" => odd(alloc, given),
-        "crosses" => crossed(alloc, given),
-        "on" => lying_on(alloc, given),
-        "products" => products(alloc, given),
-        "nest" => nested(alloc, given),
-        "row" => written(alloc, given),
-        "number" => numbered(alloc, given),
-        _ => Ok(None),
+/// The examples of geometry and of rows.
+pub struct OfGeometry;
+
+impl Examples for OfGeometry {
+    type Refusal = OutOfMemory;
+
+    fn answer_of(alloc: Global, kind: &str, given: &str) -> Result<Option<String>, OutOfMemory> {
+        match kind {
+            "pieces" => tested(alloc, given),
+            "take" => taken(alloc, given),
+            "extend" => extended(alloc, given),
+            "join" => joined(alloc, given),
+            "rings" => closed(alloc, given),
+            "points" => points_along(alloc, given),
+            "line" => line_along(alloc, given),
+            "box" => boxed(alloc, given),
+            "meet" => marked(alloc, given),
+            "met" => met(alloc, given),
+            "odd" => odd(alloc, given),
+            "crosses" => crossed(alloc, given),
+            "on" => lying_on(alloc, given),
+            "products" => products(alloc, given),
+            "nest" => nested(alloc, given),
+            "row" => written(alloc, given),
+            "number" => numbered(alloc, given),
+            _ => Ok(None),
+        }
     }
 }
