@@ -1,6 +1,6 @@
 mod Accepted
 pub mod FoldLaws
-mod IndexOf
+pub mod IndexOf
 mod Lines
 pub mod Listers
 mod ListingSteps
@@ -10,6 +10,6 @@ mod Pieces
 mod Proper
 mod Relisted
 mod Rising
-mod SortedIds
+pub mod SortedIds
 mod Undecided
 mod WholeFile
