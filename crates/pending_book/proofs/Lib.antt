@@ -1,0 +1,4 @@
+pub mod Counts
+mod Ruled
+mod Steps
+mod Sums

@@ -1,0 +1,4 @@
+pub mod Drawn
+pub mod Once
+pub mod Rule
+pub mod Seat

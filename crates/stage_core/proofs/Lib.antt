@@ -1,0 +1,4 @@
+mod Fill
+mod Kept
+mod Rises
+mod Rounds
