@@ -1,0 +1,7 @@
+mod Digits
+mod Distinct
+mod Joinable
+mod Lists
+mod Literals
+pub mod Locality
+mod TagTokens

@@ -1,0 +1,11 @@
+use Rattle.std.proofs.Common.{◌≡◌, drop}
+use Rattle.std.specs.List.{list_all}
+use Rattle.row_map.specs.Condition.{holds}
+use Rattle.row_map.specs.Material.{is_selected, selecting_among}
+use Rattle.row_map.proofs.condition.all_hold.Given as goal
+
+-- whether those that are left hold decides
+abbrev pub invariant-loop-condition : goal.invariant-loop-condition
+invariant-loop-condition g l =
+    let selecting = selecting_among l.relations.selections.now (g.L.Lookup.known l.relations.lookup.now).object l.relations.ids.now in
+    list_all (holds (is_selected selecting) l.tags) (drop l.condition-index l.conditions) ≡ list_all (holds (is_selected selecting) l.tags) l.conditions

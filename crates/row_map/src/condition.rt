@@ -1,0 +1,115 @@
+//! Conditions on the tags of an object, and on the relations that it is a member of.
+ghost use Rattle.std.specs.Prelude.{◌≡◌, ◌<◌, length, false};
+ghost use Rattle.std.specs.List.{AllByRecursion, list_all, list_any};
+ghost use Rattle.std.specs.Str.{chars};
+ghost use Rattle.osm_base.specs.values.Key.{IsId};
+ghost use Rattle.row_map.specs.Condition as spec;
+ghost use Rattle.row_map.specs.Condition.{meets_number};
+ghost use Rattle.row_map.specs.Material.{is_selected, selecting_among};
+
+use crate::relations::Relations;
+use osm_base::{Lookup, Tags, Text};
+use style_read::{Condition, Selection, Style, TableDef};
+
+/// Whether a relation with these tags meets a selection.
+pub fn selects(style: &Style, selection: u32, tags: &Tags) -> bool
+    requires there { selection < length style.now.selections }
+    ensures meets { result ≡ meets_number style.now.selections selection tags.now }
+{
+    meets_number(style.selections.as_slice(), selection, tags)
+}
+
+/// Whether a relation with these tags meets the selection with a number.
+pub(crate) fn meets_number(selections: &[Selection], number: u32, tags: &Tags) -> bool
+    ensures meets { result ≡ meets_number selections.now number tags.now }
+{
+    match selections.get(number as usize) {
+        Some(selection) => meets(selection, tags),
+        None => false,
+    }
+}
+
+/// Whether a relation with these tags meets a selection.
+pub fn meets(selection: &Selection, tags: &Tags) -> bool
+    ensures meets { result ≡ spec.meets selection.now tags.now }
+{
+    for condition in selection.conditions.as_slice() {
+        if !holds_of_tags(condition, tags) {
+            return false;
+        }
+    }
+    true
+}
+
+/// Whether the tag with a key has this value.
+fn has_value(tags: &Tags, key: &str, value: &Text) -> bool
+    ensures value { result ≡ spec.has_value tags.now (chars key.now) value.now }
+{
+    match tags.get(key) {
+        Some(own) => value.is(own),
+        None => false,
+    }
+}
+
+/// Whether a condition holds of tags; none holds that asks for a selection.
+fn holds_of_tags(condition: &Condition, tags: &Tags) -> bool
+    ensures holds { result ≡ spec.holds (λ _. false) tags.now condition.now }
+{
+    match condition {
+        Condition::Has(key) => tags.get(key.as_str()).is_some(),
+        Condition::Lacks(key) => tags.get(key.as_str()).is_none(),
+        Condition::Is { key, value } => has_value(tags, key.as_str(), value),
+        Condition::Isnt { key, value } => !has_value(tags, key.as_str(), value),
+        Condition::Selected(_) => false,
+    }
+}
+
+/// Whether a condition holds of an object.
+fn holds<L: Lookup>(condition: &Condition, tags: &Tags, relations: &Relations<L>) -> bool
+    requires ids { AllByRecursion IsId relations.now.ids.now }
+    ensures holds { result ≡ spec.holds (is_selected (selecting_among relations.now.selections.now (L.known relations.now.lookup.now).object relations.now.ids.now)) tags.now condition.now }
+{
+    match condition {
+        Condition::Has(key) => tags.get(key.as_str()).is_some(),
+        Condition::Lacks(key) => tags.get(key.as_str()).is_none(),
+        Condition::Is { key, value } => has_value(tags, key.as_str(), value),
+        Condition::Isnt { key, value } => !has_value(tags, key.as_str(), value),
+        Condition::Selected(number) => relations.select(*number),
+    }
+}
+
+/// Whether all of these hold.
+fn all_hold<L: Lookup>(conditions: &[Condition], tags: &Tags, relations: &Relations<L>) -> bool
+    requires ids { AllByRecursion IsId relations.now.ids.now }
+    ensures hold { result ≡ list_all (spec.holds (is_selected (selecting_among relations.now.selections.now (L.known relations.now.lookup.now).object relations.now.ids.now)) tags.now) conditions.now }
+{
+    for condition in conditions {
+        if !holds(condition, tags, relations) {
+            return false;
+        }
+    }
+    true
+}
+
+/// Whether one of these holds.
+fn any_holds<L: Lookup>(conditions: &[Condition], tags: &Tags, relations: &Relations<L>) -> bool
+    requires ids { AllByRecursion IsId relations.now.ids.now }
+    ensures holds { result ≡ list_any (spec.holds (is_selected (selecting_among relations.now.selections.now (L.known relations.now.lookup.now).object relations.now.ids.now)) tags.now) conditions.now }
+{
+    for condition in conditions {
+        if holds(condition, tags, relations) {
+            return true;
+        }
+    }
+    false
+}
+
+/// Whether the conditions of a table hold of an object.
+pub(crate) fn wants<L: Lookup>(table: &TableDef, tags: &Tags, relations: &Relations<L>) -> bool
+    requires ids { AllByRecursion IsId relations.now.ids.now }
+    ensures wants { result ≡ spec.table_wants (is_selected (selecting_among relations.now.selections.now (L.known relations.now.lookup.now).object relations.now.ids.now)) tags.now table.now }
+{
+    let one_of = table.one_of.as_slice();
+    all_hold(table.all_of.as_slice(), tags, relations)
+        && (one_of.is_empty() || any_holds(one_of, tags, relations))
+}

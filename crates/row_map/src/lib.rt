@@ -1,0 +1,22 @@
+//! The meaning of every table: which row an object has in it.
+//!
+//! It stands on the style and on the geometry crates, and import, append, readers and the feed stand on it. `row_of` answers
+//! the row of an object in a table, out of whatever knows the object, what it lists and which relations list it. The
+//! definitions say what `row` and `tables` are of all objects of a map; they know no index and no order of work.
+#![tactic(auto)]
+
+mod area;
+mod cell;
+mod condition;
+mod geometry;
+mod number;
+mod pieces;
+mod relations;
+mod row;
+mod tags_text;
+mod values;
+
+pub use condition::{meets, selects};
+pub use number::{MAX_DIGITS, MINUS};
+pub use row::row_of;
+pub use values::COMMA;
