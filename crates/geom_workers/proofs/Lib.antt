@@ -1,0 +1,5 @@
+mod Agreeing
+mod Drawing
+mod Keyed
+mod Placing
+mod Ranged
