@@ -1,2 +1,9 @@
+mod Anys
+mod Asked
+mod Bridge
 mod Cuts
+mod Forms
 mod Left
+mod Rows
+mod Selections
+mod Stays

@@ -8,3 +8,9 @@ abbrev pub Stops : {E : Type 0} → (E → Type 0) → (ℕ → Type 0) → Pend
 Stops refused many (Back refusal) = refused refusal
 Stops refused many (TooMany value) = many value
 Stops refused many OutOfMemory = Unit {0}
+
+-- this is so unless the index refused
+abbrev pub UnlessRefused : {E : Type 0} → Type 0 → PendingFault E → Type 0
+UnlessRefused claim (Back refusal) = Unit {0}
+UnlessRefused claim (TooMany value) = claim
+UnlessRefused claim OutOfMemory = claim

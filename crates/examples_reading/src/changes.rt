@@ -9,7 +9,7 @@ use osm_base::{Ids, Limits};
 use std::alloc::{AllocError, Global};
 
 /// The change of a file that a field writes; `-` is an empty file.
-fn change_of(alloc: Global, field: &str) -> Result<Option<Change>, AllocError> {
+pub fn change_of(alloc: Global, field: &str) -> Result<Option<Change>, AllocError> {
     let field = if field == "-" { "" } else { field };
     let Some(file) = bytes_of(alloc, field)? else {
         return Ok(None);
@@ -26,7 +26,7 @@ fn fold_file(alloc: Global, objects: &mut Objects, field: &str) -> Result<bool, 
 }
 
 /// The objects after the files that a text writes, one after another.
-fn objects_of(alloc: Global, files: &str) -> Result<Option<Objects>, AllocError> {
+pub fn objects_of(alloc: Global, files: &str) -> Result<Option<Objects>, AllocError> {
     let mut objects = Objects::new(alloc);
     let mut good = true;
     for field in files.split_ascii_whitespace() {

@@ -3,8 +3,9 @@
 //! The tables in `data` go the way of the data: values (`degrees.txt`, `keys.txt`, `limits.txt`,
 //! `tags.txt`), lines (`lines.txt`), files in pieces (`cuts.txt`), all bytes of a file (`whole.txt`),
 //! entries of a file (`entries.txt`), reads that fail and files over several reads (`reads.txt`), objects
-//! after changes (`folds.txt`) and the ways that a change makes due (`ways_due.txt`). The head of each says
-//! what its columns are, and where what is wanted comes from.
+//! after changes (`folds.txt`), the ways that a change makes due (`ways_due.txt`) and the objects whose rows
+//! it may change (`pending.txt`). The head of each says what its columns are, and where what is wanted comes
+//! from.
 #![tactic(auto)]
 
 mod changes;
@@ -13,6 +14,7 @@ mod cutting;
 mod entries;
 mod key;
 mod lines;
+mod pending_sets;
 mod questions;
 mod tags;
 mod values;
@@ -25,7 +27,7 @@ use std::{fs, io};
 use verdict::Verdict;
 
 /// The tables.
-const TABLES: [&str; 11] = [
+const TABLES: [&str; 12] = [
     "degrees.txt",
     "keys.txt",
     "limits.txt",
@@ -37,6 +39,7 @@ const TABLES: [&str; 11] = [
     "reads.txt",
     "folds.txt",
     "ways_due.txt",
+    "pending.txt",
 ];
 
 fn main(rt: HostRuntime) -> io::Result<ExitCode> {
@@ -92,6 +95,7 @@ fn verdict_of(alloc: Global, table: &str, word: &str, text: &str) -> Result<Verd
         ("reads.txt", "behind") => entries::entries_behind(alloc, text),
         ("folds.txt", _) => changes::folds(alloc, text),
         ("ways_due.txt", _) => changes::ways(alloc, text),
+        ("pending.txt", _) => pending_sets::sets(alloc, text),
         _ => Ok(Verdict::NoRow),
     }
 }

@@ -1,11 +1,11 @@
-use Rattle.std.proofs.Common.{◌++◌, suc, Result, Ok, Err, OnErr, drop, take, sym, ap, subst, ◌∙◌}
+use Rattle.std.proofs.Common.{◌++◌, suc, drop, take, sym, ap, subst, ◌∙◌}
 use Rattle.std.proofs.lemmas.List.{take_all}
 use Rattle.osm_base.specs.map.Objects.{folded_all}
 use Rattle.osm_base.specs.map.Listers.{index_of}
 use Rattle.osm_base.specs.values.Ids.{IsRising, has}
 use Rattle.dep_closure.specs.Questions.{of_entry, of_nodes}
 use Rattle.dep_closure.specs.Ways.{is_due}
-use Rattle.dep_closure.proofs.Cuts.{of_nodes-cut}
+use Rattle.dep_closure.proofs.Cuts.{flat_map-cut, on_err}
 use Rattle.dep_closure.proofs.Left.{left, same-ids}
 use Rattle.dep_closure.proofs.ways.ways_due.Goals as goal
 
@@ -23,11 +23,6 @@ returns-clause-others g c objects is way not =
     ∙ sym (ap (λ ids. has ids way) c.into_ids.ensures.ids ∙ c.from_vec.ensures.same way)
     ∙ not)
 
--- what holds anyway holds at an error
-on_err : {A E : Type 0} (result : Result A E) (P : Type 0) → P → OnErr result P
-on_err (Ok value) P holds = tt
-on_err (Err why) P holds = holds
-
 pub returns-in_err-add_due-clause-asked_some : goal.returns-in_err-add_due-clause-asked_some
 returns-in_err-add_due-clause-asked_some g c =
     let entries = c.entries-entries.result.now in
@@ -36,6 +31,6 @@ returns-in_err-add_due-clause-asked_some g c =
     on_err c.from_residual.result _ (
       of_nodes (take at entries) ++ of_entry entry,
       of_nodes (drop (suc at) entries),
-      ap of_nodes (sym c.entries-entries.ensures.entries) ∙ of_nodes-cut entries at entry c.loop-entry-test.true c.entry-item.is,
+      ap of_nodes (sym c.entries-entries.ensures.entries) ∙ flat_map-cut of_entry entries at entry c.loop-entry-test.true c.entry-item.is,
       g.met.B.Back.asks_then c.args.back.now c.loop-entry.back c.add_due.new.back (of_nodes (take at entries)) (of_entry entry) c.loop-entry.invariant.asked c.add_due.ensures.asked,
     )
