@@ -1,1 +1,5 @@
+pub mod Ascii
+pub mod Escapes
 pub mod Manual
+pub mod Ordered
+pub mod TableRows

@@ -2,7 +2,7 @@
 -- PostgreSQL manual, COPY, "Text Format": backslash, newline, carriage return and the delimiter, here a tab, must be preceded by a
 -- backslash where they are data; \b, \f, \n, \r, \t and \v stand for backspace, form feed, newline, carriage return, tab and
 -- vertical tab.
-use Rattle.std.specs.Prelude.{ℕ, ◌==◌, if◌then◌else◌, List, [], ◌∷◌, flat_map, codes}
+use Rattle.std.specs.Prelude.{ℕ, ◌==◌, Bool, ◌&&◌, ◌||◌, nat_le, if◌then◌else◌, List, [], ◌∷◌, flat_map, codes}
 use Rattle.row_text.specs.declared.copy_text.TheConstants.{BACKSPACE, TAB, NEWLINE, VERTICAL_TAB, FORM_FEED, RETURN, BACKSLASH}
 
 -- what stands for one byte
@@ -19,3 +19,7 @@ text_of_byte byte =
 -- what stands for a text: the texts of its bytes, in order
 abbrev pub copy_text : List ℕ → List ℕ
 copy_text text = flat_map text_of_byte text
+
+-- whether a byte has an escape
+unfoldable pub has_escape : ℕ → Bool
+has_escape byte = (nat_le BACKSPACE byte && nat_le byte RETURN) || byte == BACKSLASH
