@@ -3,7 +3,7 @@ use crate::kernels::{boxed, crossed, lying_on, marked, met, odd, products};
 use crate::nesting::nested;
 use crate::nodes::{line_along, points_along};
 use crate::pieces::{closed, extended, joined, taken, tested};
-use crate::rows::{numbered, written};
+use crate::rows::written;
 use example_table::Examples;
 use osm_base::OutOfMemory;
 use std::alloc::Global;
@@ -32,7 +32,6 @@ impl Examples for OfGeometry {
             "products" => products(alloc, given),
             "nest" => nested(alloc, given),
             "row" => written(alloc, given),
-            "number" => numbered(alloc, given),
             _ => Ok(None),
         }
     }

@@ -1,8 +1,8 @@
-//! Rows written as lines, and their numbers.
+//! Rows written as lines.
 use crate::notation::{line_of_word, lines_of, place_of};
-use example_table::{number_of, row_of, signed_of, text_of};
-use osm_base::{Cell, Cells, Geometry, Key, Kind, MAX_ID, OutOfMemory, Polygons, Row, Text};
-use row_text::{BACKSLASH, NEWLINE, TAB, push_row, row_number};
+use example_table::{row_of, signed_of, text_of};
+use osm_base::{Cell, Cells, Geometry, OutOfMemory, Polygons, Row, Text};
+use row_text::push_row;
 use std::alloc::Global;
 
 /// The line of a row, with `\t`, `\n` and `\\` for tabs, newlines and backslashes.
@@ -19,9 +19,9 @@ pub fn written(alloc: Global, given: &str) -> Result<Option<String>, OutOfMemory
     let Some(row) = row_of_fields(alloc, cells, geometry)? else {
         return Ok(None);
     };
-    let mut out = Vec::new(alloc);
+    let mut out = String::new(alloc);
     push_row(&mut out, number, &row)?;
-    shown(alloc, &out)
+    Ok(Some(shown(alloc, &out)?))
 }
 
 fn row_of_fields(alloc: Global, cells: &str, geometry: &str) -> Result<Option<Row>, OutOfMemory> {
@@ -116,50 +116,16 @@ fn area_of(alloc: Global, text: &str) -> Result<Option<Geometry>, OutOfMemory> {
     Ok(Some(Geometry::Area(polygons)))
 }
 
-/// Bytes as a field of a table.
-fn shown(alloc: Global, bytes: &[u8]) -> Result<Option<String>, OutOfMemory> {
-    let mut field = Vec::new(alloc);
-    for byte in bytes {
-        match *byte {
-            TAB => field.extend_from_slice(b"\\t")?,
-            NEWLINE => field.extend_from_slice(b"\\n")?,
-            BACKSLASH => field.extend_from_slice(b"\\\\")?,
+/// A text as a field of a table.
+fn shown(alloc: Global, text: &str) -> Result<String, OutOfMemory> {
+    let mut field = String::new(alloc);
+    for character in text.chars() {
+        match character {
+            '\t' => field.push_str("\\t")?,
+            '\n' => field.push_str("\\n")?,
+            '\\' => field.push_str("\\\\")?,
             other => field.push(other)?,
         }
     }
-    match std::str::from_utf8(&field) {
-        Ok(text) => Ok(Some(String::from_str(alloc, text)?)),
-        Err(_) => Ok(None),
-    }
-}
-
-/// The number of a row: `area` or `other` says in which kind of table, `n`, `w` or `r` and an id of which object.
-pub fn numbered(alloc: Global, given: &str) -> Result<Option<String>, OutOfMemory> {
-    let Some((table, key)) = row_of(given) else {
-        return Ok(None);
-    };
-    let Some(key) = key_of(key) else {
-        return Ok(None);
-    };
-    let number = row_number(table == "area", key);
-    Ok(Some(format!(in alloc; "{number}")?))
-}
-
-fn key_of(text: &str) -> Option<Key> {
-    let (kind, id) = row_of(text)?;
-    let kind = kind_of(kind)?;
-    let id = number_of(id)?;
-    if id == 0 || id > MAX_ID {
-        return None;
-    }
-    Some(Key::new(kind, id))
-}
-
-fn kind_of(word: &str) -> Option<Kind> {
-    match word {
-        "node" => Some(Kind::Node),
-        "way" => Some(Kind::Way),
-        "relation" => Some(Kind::Relation),
-        _ => None,
-    }
+    Ok(field)
 }

@@ -1,10 +1,11 @@
-//! Runs the examples of styles, and prints the name of each up to the first that differs.
+//! Runs the examples of styles and of the texts of tables, and prints the name of each up to the first that differs.
 //!
-//! The head of `styles.txt` says what its columns are, and where what is wanted comes from.
+//! The head of each table says what its columns are, and where what is wanted comes from.
 #![tactic(auto)]
 
 mod many;
 mod styles;
+mod tables;
 
 use example_table::{Examples, run_examples};
 use osm_base::OutOfMemory;
@@ -13,10 +14,10 @@ use std::io;
 use std::process::ExitCode;
 
 fn main(rt: HostRuntime) -> io::Result<ExitCode> {
-    run_examples::<OfRows, HostRuntime>(&rt, &["styles.txt"])
+    run_examples::<OfRows, HostRuntime>(&rt, &["styles.txt", "tables.txt"])
 }
 
-/// The examples of styles.
+/// The examples of styles and of texts.
 struct OfRows;
 
 impl Examples for OfRows {
@@ -26,6 +27,8 @@ impl Examples for OfRows {
         match kind {
             "style" => styles::read(alloc, given),
             "many" => many::read(alloc, given),
+            "text" => tables::text(alloc, given),
+            "number" => tables::number(alloc, given),
             _ => Ok(None),
         }
     }

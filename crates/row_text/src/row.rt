@@ -1,5 +1,5 @@
 //! The line of a row, and its number.
-ghost use Rattle.std.specs.Prelude.{◌≡◌, ◌++◌, flat_map, codes, encode_utf8_all, OnOk};
+ghost use Rattle.std.specs.Prelude.{◌≡◌, ◌++◌, pos, flat_map, codes, encode_utf8_all, OnOk};
 ghost use Rattle.std.specs.Fmt.{signed_decimal};
 ghost use Rattle.std.specs.Str.{chars};
 ghost use Rattle.std.specs.String.{string_bytes};
@@ -34,17 +34,18 @@ pub fn push_row(out: &mut String, number: i64, row: &Row) -> Result<(), OutOfMem
     Ok(())
 }
 
-/// Appends the line of a row with this number and one cell, a text.
+/// Appends the line of a row whose number is an id and whose one cell is a text.
 #[tactic(auto, unfolding(crate::specs::Row::row_line))]
 pub fn push_text_row(
     out: &mut String,
-    number: i64,
+    id: u64,
     text: &str,
     geometry: &Geometry,
 ) -> Result<(), OutOfMemory>
-    ensures line { OnOk result (string_bytes out.new ≡ string_bytes out.old ++ row_line number (text_row (chars text.now) geometry.now)) }
+    ensures line { OnOk result (string_bytes out.new ≡ string_bytes out.old ++ row_line (pos id) (text_row (chars text.now) geometry.now)) }
 {
-    push_number(out, number)?;
+    let mut digits = itoa::Buffer::new();
+    out.push_str(digits.format(id))?;
     out.push_str("\t")?;
     push_text(out, text)?;
     out.push_str("\t")?;

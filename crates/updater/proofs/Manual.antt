@@ -4,13 +4,14 @@ use Rattle.std.specs.Prelude.{codes, pos}
 use Rattle.std.specs.Fmt.{digits}
 use Rattle.std.proofs.Math.Utf8.{encode}
 use Rattle.updater.specs.Command.{command, points_of}
-use Rattle.updater.specs.CopyText.{escape_letter}
+use Rattle.row_text.specs.CopyText.{text_of_byte}
+use Rattle.row_text.specs.Row.{row_line}
 use Rattle.osm_base.specs.values.Degrees.{degrees, fraction}
 use Rattle.updater.specs.commands.Points.{point_row}
 
 -- a row of points
 pub point_row-cafe : point_row 1 (codes "cafe") (record { lon = pos 133777000; lat = pos 525163000 }) ≡ codes "1\tcafe\tPOINT(13.3777 52.5163)\n"
-unfolding point_row escape_letter degrees fraction digits encode
+unfolding row_line text_of_byte degrees fraction digits encode
 point_row-cafe = refl
 
 -- words

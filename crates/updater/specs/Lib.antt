@@ -2,7 +2,6 @@ pub mod Causes
 pub mod Comes
 pub mod Command
 pub mod CommandOf
-pub mod CopyText
 pub mod Course
 pub mod Courses
 pub mod Faults

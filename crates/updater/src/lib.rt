@@ -13,7 +13,6 @@
 #![tactic(auto)]
 
 mod commands;
-mod copy_text;
 mod fault;
 mod files;
 mod forms;

@@ -16,7 +16,7 @@ use std::marker::Model;
 pub struct PointRows<'k> {
     key: &'k str,
     rows: RowsById,
-    scratch: Vec<u8>,
+    scratch: String,
 }
 
 impl<'k> Model for PointRows<'k> {
@@ -38,7 +38,7 @@ impl<'k> PointRows<'k> {
         Self {
             key,
             rows: RowsById::new(alloc),
-            scratch: Vec::new(alloc),
+            scratch: String::new(alloc),
         }
     }
 
@@ -48,7 +48,7 @@ impl<'k> PointRows<'k> {
     {
         self.scratch.clear();
         push_point(&mut self.scratch, self.key, entry)?;
-        self.rows.set(entry.key.id, &self.scratch)?;
+        self.rows.set(entry.key.id, self.scratch.as_bytes())?;
         Ok(())
     }
 

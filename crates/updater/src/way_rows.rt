@@ -213,11 +213,11 @@ fn set_rows(
     ensures rows { OnOk result ((id : ℕ) → map.get rows.new id
         ≡ cond (has due.now id) (some_row (row_at (chars key.now) objects.now id)) (map.get rows.old id)) }
 {
-    let mut scratch = Vec::new(alloc);
+    let mut scratch = String::new(alloc);
     for &id in due {
         scratch.clear();
         push_row(alloc, &mut scratch, objects, key, id)?;
-        rows.set(id, &scratch)?;
+        rows.set(id, scratch.as_bytes())?;
     }
     Ok(())
 }

@@ -3,9 +3,8 @@
 -- It is the id, the value of the key and the line as `LINESTRING(x y,x y)`, longitude first, separated by tabs and ended by a newline.
 -- OGC Simple Features, "Well-known Text Representation for Geometry": a line string is its points in order, separated by commas.
 -- The value has the escapes of PostgreSQL's COPY text format.
-use Rattle.std.specs.Prelude.{ℕ, Option, Some, List, [], ◌∷◌, ◌++◌, codes, decimal, encode_utf8_all, flat_map}
+use Rattle.std.specs.Prelude.{ℕ, Option, Some, List, [], pos, flat_map}
 use Rattle.std.specs.FinMap as map
-use Rattle.osm_base.specs.values.Degrees.{degrees}
 use Rattle.osm_base.specs.values.Place.{PlaceOf}
 use Rattle.osm_base.specs.declared.values.key.Kind.{Kind}
 use Rattle.osm_base.specs.declared.values.key.Kind.TheVariants as kinds
@@ -17,26 +16,14 @@ use Rattle.std.specs.Str.{chars}
 use Rattle.osm_base.specs.declared.values.object.Entry.{Entry}
 use Rattle.osm_base.specs.map.Objects.{ObjectSet, folded_all}
 use Rattle.osm_base.specs.map.Listers.{known_of}
-use Rattle.updater.specs.CopyText.{copy_text}
+use Rattle.osm_base.specs.declared.values.row.Geometry.TheVariants as geometries
+use Rattle.row_text.specs.Row.{row_line, text_row}
 use Rattle.updater.specs.CommandOf.{CommandOf, lines_of}
 use Rattle.updater.specs.Forms.{keyed}
 
--- a place in a line
-abbrev pub place_text : PlaceOf → List ℕ
-place_text place = degrees place.lon ++ codes " " ++ degrees place.lat
-
--- places separated by commas
-unfoldable pub places_text : Line → List ℕ
-places_text [] = []
-places_text (place ∷ places) = place_text place ++ flat_map (λ next. codes "," ++ place_text next) places
-
--- a line as a geometry
-unfoldable pub line_text : Line → List ℕ
-line_text places = codes "LINESTRING(" ++ places_text places ++ codes ")"
-
 -- the row of a way with this id, this value of the key and this line
-unfoldable pub way_text : (id : ℕ) → (value : List ℕ) → Line → List ℕ
-way_text id value places = decimal id ++ codes "\t" ++ copy_text (encode_utf8_all value) ++ codes "\t" ++ line_text places ++ codes "\n"
+abbrev pub way_text : (id : ℕ) → (value : List ℕ) → Line → List ℕ
+way_text id value places = row_line (pos id) (text_row value (geometries.Line places))
 
 -- the same, where there is a value and a line
 abbrev pub way_row : (id : ℕ) → Option (List ℕ) → Option Line → List ℕ

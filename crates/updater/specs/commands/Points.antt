@@ -2,7 +2,7 @@
 -- The text of points: a row for each node with a place and with a tag of the key, by rising id.
 -- A row is the id, the value of the key and the place as `POINT(x y)`, longitude first, separated by tabs and ended by
 -- a newline. The value has the escapes of PostgreSQL's COPY text format.
-use Rattle.std.specs.Prelude.{ℕ, Option, Some, List, [], ◌++◌, codes, decimal, encode_utf8_all, flat_map}
+use Rattle.std.specs.Prelude.{ℕ, Option, Some, List, [], pos, flat_map}
 use Rattle.std.specs.Option.{option_map_or}
 use Rattle.std.specs.FinMap as map
 use Rattle.osm_base.specs.values.Place.{PlaceOf}
@@ -13,18 +13,14 @@ use Rattle.osm_base.specs.declared.values.object.Object.TheVariants.{Node}
 use Rattle.osm_base.specs.declared.values.object.Entry.{Entry}
 use Rattle.std.specs.Str.{chars}
 use Rattle.osm_base.specs.map.Objects.{ObjectSet, folded_all}
-use Rattle.updater.specs.CopyText.{copy_text}
-use Rattle.osm_base.specs.values.Degrees.{degrees}
+use Rattle.osm_base.specs.declared.values.row.Geometry.TheVariants.{Point}
+use Rattle.row_text.specs.Row.{row_line, text_row}
 use Rattle.updater.specs.CommandOf.{CommandOf, points_of}
 use Rattle.updater.specs.Forms.{keyed}
 
--- a place as a geometry
-abbrev pub point_text : PlaceOf → List ℕ
-point_text place = codes "POINT(" ++ degrees place.lon ++ codes " " ++ degrees place.lat ++ codes ")"
-
 -- the row of a node with this id, this value of the key and this place
-unfoldable pub point_row : (id : ℕ) → (value : List ℕ) → PlaceOf → List ℕ
-point_row id value place = decimal id ++ codes "\t" ++ copy_text (encode_utf8_all value) ++ codes "\t" ++ point_text place ++ codes "\n"
+abbrev pub point_row : (id : ℕ) → (value : List ℕ) → PlaceOf → List ℕ
+point_row id value place = row_line (pos id) (text_row value (Point place))
 
 -- the row of an object with this id, where it is a node with a place and the tag
 abbrev pub node_row : (key : List ℕ) → (id : ℕ) → Option Object → List ℕ
