@@ -1,0 +1,21 @@
+//! Lists of the index, as rows of the table tell them.
+use crate::hex::{none, told};
+use crate::objects::push_numbers;
+use back_index::{ids_bytes, read_ids};
+use osm_base::OutOfMemory;
+use std::alloc::Global;
+use value_bytes::ValueFault;
+
+/// The ids with these bytes.
+pub fn ids(alloc: Global, bytes: &[u8]) -> Result<Option<String>, OutOfMemory> {
+    match read_ids(alloc, bytes) {
+        Ok(ids) => {
+            let again = ids_bytes(alloc, ids.as_slice())?;
+            let mut text = String::new(alloc);
+            push_numbers(alloc, &mut text, ids.as_slice())?;
+            told(alloc, text, bytes, again.as_slice())
+        }
+        Err(ValueFault::NotSpelled) => none(alloc),
+        Err(ValueFault::OutOfMemory) => Err(OutOfMemory),
+    }
+}

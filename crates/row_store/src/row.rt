@@ -1,0 +1,86 @@
+//! A row in bytes.
+ghost use Rattle.std.specs.Prelude.{◌≡◌, ◌++◌, ◌<◌, length, IfOk, IfErr, OnOk};
+ghost use Rattle.value_bytes.specs.Forms.{Spells, IsNoValue, IsFront, IsFrontless, NeedsFor};
+ghost use Rattle.row_store.specs.Row.{row_bytes, IsRow};
+ghost use Rattle.row_store.specs.Rows.{columns_in};
+
+use osm_base::{Bytes, Cells, Geometry, Items, OutOfMemory, Row};
+use std::alloc::Global;
+use style_read::{Style, TableDef};
+use value_bytes::{Spelled, ValueFault, front_many, push_many};
+
+/// The bytes of the cells of a row and of its geometry.
+pub fn row_bytes(alloc: Global, row: &Row) -> Result<Bytes, OutOfMemory>
+    ensures bytes { IfOk result (λ bytes. bytes ≡ row_bytes row.now) }
+    ensures is { OnOk result (IsRow (length row.now.cells) row.now) }
+{
+    let mut out = Vec::new(alloc);
+    push_row(&mut out, row)?;
+    Ok(Items::from_vec(out))
+}
+
+/// The row with these bytes, with a cell for each column of the table.
+pub fn read_row(alloc: Global, style: &Style, table: u32, bytes: &[u8]) -> Result<Row, ValueFault>
+    requires { table < length style.now.tables }
+    ensures row { IfOk result (Spells row_bytes (IsRow (columns_in style.now.tables table)) bytes.now) }
+    ensures refused { IfErr result (NeedsFor (IsNoValue row_bytes (IsRow (columns_in style.now.tables table)) bytes.now)) }
+{
+    whole_row(
+        alloc,
+        columns_of(style.tables.as_slice(), table as usize),
+        bytes,
+    )
+}
+
+/// The row of so many cells with these bytes.
+fn whole_row(alloc: Global, columns: u64, bytes: &[u8]) -> Result<Row, ValueFault>
+    ensures row { IfOk result (Spells row_bytes (IsRow columns) bytes.now) }
+    ensures refused { IfErr result (NeedsFor (IsNoValue row_bytes (IsRow columns) bytes.now)) }
+{
+    let (row, rest) = match front_row(alloc, columns, bytes) {
+        Ok(found) => found,
+        Err(fault) => return Err(fault),
+    };
+    if !rest.is_empty() {
+        return Err(ValueFault::NotSpelled);
+    }
+    Ok(row)
+}
+
+/// How many columns a table has.
+pub(crate) fn columns_of(tables: &[TableDef], table: usize) -> u64
+    requires { table < length tables.now }
+    ensures columns { result ≡ columns_in tables.now table }
+{
+    tables[table].columns.as_slice().len() as u64
+}
+
+/// The row of so many cells at the front, and the bytes behind it.
+pub(crate) fn front_row<'b>(
+    alloc: Global,
+    columns: u64,
+    bytes: &'b [u8],
+) -> Result<(Row, &'b [u8]), ValueFault>
+    ensures row { IfOk result (λ (row, rest). IsFront row_bytes (IsRow columns) bytes.now row rest.now) }
+    ensures refused { IfErr result (NeedsFor (IsFrontless row_bytes (IsRow columns) bytes.now)) }
+{
+    let (cells, behind): (Cells, &[u8]) = match front_many(alloc, columns, bytes) {
+        Ok(found) => found,
+        Err(fault) => return Err(fault),
+    };
+    let (geometry, rest) = match Geometry::front(alloc, behind) {
+        Ok(found) => found,
+        Err(fault) => return Err(fault),
+    };
+    Ok((Row { cells, geometry }, rest))
+}
+
+/// Puts the bytes of a row behind those that are there.
+pub(crate) fn push_row(out: &mut Vec<u8>, row: &Row) -> Result<(), OutOfMemory>
+    ensures ok { OnOk result (out.new.items ≡ out.old.items ++ row_bytes row.now) }
+    ensures is { OnOk result (IsRow (length row.now.cells) row.now) }
+{
+    push_many(out, row.cells.as_slice())?;
+    row.geometry.push_to(out)?;
+    Ok(())
+}

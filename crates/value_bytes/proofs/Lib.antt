@@ -1,0 +1,13 @@
+pub mod CountedLaws
+pub mod Fronts
+pub mod ListLaws
+pub mod Made
+pub mod MemberLaws
+pub mod NumberLaws
+pub mod OptionLaws
+pub mod PlaceLaws
+pub mod RowLaws
+pub mod Seen
+pub mod TagLaws
+pub mod TextLaws
+pub mod Variants

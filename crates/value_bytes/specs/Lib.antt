@@ -1,0 +1,9 @@
+pub mod Forms
+pub mod Lists
+pub mod Members
+pub mod Numbers
+pub mod Options
+pub mod Places
+pub mod Rows
+pub mod Tags
+pub mod Texts
