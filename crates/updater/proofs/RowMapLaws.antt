@@ -1,20 +1,20 @@
 -- The tree of kept rows, as a finite map, and its texts in order.
-use Rattle.std.proofs.Common.{◌≡◌, ℕ, Bool, true, false, ◌&&◌, T, Some, None, List, [], ◌∷◌, ◌++◌, length, map, append_assoc, refl, sym, ◌∙◌, ap, subst}
+use Rattle.std.proofs.Common.{◌≡◌, ℕ, Bool, true, false, cond, ◌&&◌, T, Some, None, List, [], ◌∷◌, ◌++◌, length, map, append_assoc, refl, sym, ◌∙◌, ap, subst}
 use Rattle.std.proofs.lemmas.Bool.{eqb-true, eq-eqb, false≢true}
 use Rattle.std.proofs.lemmas.List.{append-nil, nil_from_length}
 use Rattle.std.specs.Prelude.{flat_map, ◌==◌}
 use Rattle.std.specs.List.{AllByRecursion, concat}
 use Rattle.std.specs.List.Sorted.{IsStrictlySortedBy}
 use Rattle.std.specs.Map.{keys_of, values_of}
-use Rattle.std.specs.Ordering.{nat_cmp, is_lt}
+use Rattle.std.specs.Ordering.{nat_cmp, eq_by_cmp, is_eq, is_lt}
 use Rattle.std.specs.Cmp.{nat_cmp_total}
 use Rattle.std.specs.declared.cmp.Ordering.{Ordering}
-use Rattle.std.specs.declared.cmp.Ordering.TheVariants.{Less}
+use Rattle.std.specs.declared.cmp.Ordering.TheVariants.{Less, Equal, Greater}
 use Rattle.std.specs.FinMap.{is_sorted, entries, from_entries, from_sorted, entries-from_sorted, get-from_entries, get-from_sorted, same_map, nat_cmp-IsAntisymmetric}
 use Rattle.std.specs.FinMap.Entries.{below_all}
 use Rattle.std.specs.FinMap as finite
-use Rattle.std.specs.BTreeMap.{BTreeMap, Updates}
-use Rattle.osm_base.proofs.Found.{inserted, removed}
+use Rattle.std.specs.BTreeMap.{BTreeMap, Updates, get}
+use Rattle.osm_base.proofs.Found.{found, inserted, removed}
 use Rattle.updater.specs.RowsById.{RowMap, set_row, text_of}
 
 -- a sorted list of entries is that of its map
@@ -83,3 +83,23 @@ module _ (own : RowMap) (id : ℕ) (old new : BTreeMap ℕ (List ℕ)) (view : f
   put_in row some updates =
       inserted nat_cmp nat_cmp_total nat_cmp-IsAntisymmetric old new id row updates
       ∙ ap (λ (rows : RowMap). finite.insert rows id row) view ∙ some_row row some
+
+-- an id without a row
+
+module _ (own : RowMap) (id : ℕ) (rows : BTreeMap ℕ (List ℕ)) (view : from_entries {R = nat_cmp} rows.entries ≡ own) where
+  pub left_out : (row : List ℕ) → row ≡ [] → get nat_cmp rows id ≡ None → own ≡ set_row own id row
+  left_out row none absent =
+      same_map nat_cmp_total nat_cmp-IsAntisymmetric own (finite.remove own id)
+      (λ q. elim (eq_by_cmp nat_cmp q id) as (λ b. eq_by_cmp nat_cmp q id ≡ b → finite.get own q ≡ cond b None (finite.get own q)) [
+        | true ↦ λ e.
+            ap (λ (at : ℕ). finite.get own at) (nat_cmp-IsAntisymmetric q id (tied (nat_cmp q id) e))
+            ∙ ap (λ (map : RowMap). finite.get map id) (sym view) ∙ sym (found nat_cmp nat_cmp_total nat_cmp-IsAntisymmetric id rows.entries) ∙ absent
+        | false ↦ λ e. refl
+      ] refl
+      ∙ sym (finite.get-remove nat_cmp_total own id q))
+      ∙ ap (set_row own id) (sym none)
+    where
+      tied : (order : Ordering) → is_eq order ≡ true → order ≡ Equal
+      tied Equal e = refl
+      tied Less e = absurd (false≢true e)
+      tied Greater e = absurd (false≢true e)

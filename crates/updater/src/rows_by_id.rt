@@ -1,6 +1,8 @@
 //! Rows by ids.
-ghost use Rattle.std.specs.Prelude.{◌≡◌, IfOk, OnOk};
+ghost use Rattle.std.specs.Prelude.{◌≡◌, None, IfOk, IsTrue, OnOk};
+ghost use Rattle.std.specs.BTreeMap.{get};
 ghost use Rattle.std.specs.FinMap as map;
+ghost use Rattle.std.specs.Ordering.{nat_cmp};
 ghost use Rattle.updater.specs.RowsById.{set_row, text_of};
 
 use osm_base::{Bytes, OutOfMemory};
@@ -44,6 +46,9 @@ impl RowsById {
         ensures ok { OnOk result (self.new ≡ set_row self.old id row.now) }
     {
         if row.is_empty() {
+            if is_behind(&self.rows, id) {
+                return Ok(());
+            }
             self.rows.remove(&id);
             return Ok(());
         }
@@ -61,5 +66,15 @@ impl RowsById {
             text.extend_from_slice(row.as_slice())?;
         }
         Ok(text)
+    }
+}
+
+/// Whether an id comes behind all that have a row: so do most, since files have their ids in order.
+fn is_behind(rows: &BTreeMap<u64, Bytes>, id: u64) -> bool
+    ensures none { IsTrue result → get nat_cmp rows.now id ≡ None }
+{
+    match rows.last_key_value() {
+        Some((last, _)) => *last < id,
+        None => true,
     }
 }

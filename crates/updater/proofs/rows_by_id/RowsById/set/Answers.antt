@@ -1,7 +1,13 @@
-use Rattle.std.proofs.Common.{sym, ◌∙◌, ap}
+use Rattle.std.proofs.Common.{refl, sym, ◌∙◌, ap}
 use Rattle.updater.specs.RowsById.{set_row}
-use Rattle.updater.proofs.RowMapLaws.{taken_out, put_in, no_byte, some_byte}
+use Rattle.updater.proofs.RowMapLaws.{left_out, taken_out, put_in, no_byte, some_byte}
 use Rattle.updater.proofs.rows_by_id.RowsById.set.Goals as goal
+
+pub returns-then-is_behind : goal.returns-then-is_behind
+returns-then-is_behind c = record {
+  ok = left_out c.args.self.now c.args.id c.self.inside.rows c.self.view_is c.args.row.now
+      (no_byte c.args.row.now (sym c.is_empty.ensures ∙ c.if-is_empty.true)) (c.if-is_behind.ensures.none refl);
+}
 
 pub returns-then-is_empty : goal.returns-then-is_empty
 returns-then-is_empty c = record {
