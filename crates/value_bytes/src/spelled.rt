@@ -19,7 +19,7 @@ pub trait Spelled: Sized + Drop {
         ensures value { IfOk result (λ (value, rest). IsFront spell is bytes.now value rest.now) }
         ensures refused { IfErr result (NeedsFor (IsFrontless spell is bytes.now)) };
 
-    /// Puts its bytes behind those that are there.
+    /// Puts its bytes behind those that are there; where memory runs out, maybe only the first of them.
     fn push_to(&self, out: &mut Vec<u8>) -> Result<(), OutOfMemory>
         ensures ok { OnOk result (out.new.items ≡ out.old.items ++ spell self.now) }
         ensures is { OnOk result (is self.now) };

@@ -1,5 +1,5 @@
 //! Tags in bytes, by rising keys.
-ghost use Rattle.std.specs.Prelude.{◌≡◌, ◌++◌, IfOk, IfErr, OnOk};
+ghost use Rattle.std.specs.Prelude.{◌≡◌, [], ◌++◌, IfOk, IfErr, OnOk};
 ghost use Rattle.std.specs.List.{AllByRecursion};
 ghost use Rattle.std.specs.Str.{chars};
 ghost use Rattle.std.specs.FinMap as map;
@@ -43,7 +43,7 @@ fn front_list(alloc: Global, count: u64, bytes: &[u8]) -> Result<(TagList, &[u8]
     ensures tags { IfOk result (λ (tags, rest). IsFront (all_bytes tag_bytes) (AreMany count IsTag) bytes.now tags rest.now) }
     ensures refused { IfErr result (NeedsFor (IsFrontless (all_bytes tag_bytes) (AreMany count IsTag) bytes.now)) }
 {
-    let mut list = TagList::with_room(alloc, 0, 0)?;
+    let mut list = with_room(alloc, count, bytes)?;
     let mut rest = bytes;
     for _ in 0..count {
         let Some((key, behind)) = front_text(rest) else {
@@ -56,6 +56,14 @@ fn front_list(alloc: Global, count: u64, bytes: &[u8]) -> Result<(TagList, &[u8]
         rest = behind;
     }
     Ok((list, rest))
+}
+
+/// No tag, with room for so many that stand in these bytes, sixteen bytes of each its two lengths.
+fn with_room(alloc: Global, count: u64, bytes: &[u8]) -> Result<TagList, OutOfMemory>
+    ensures empty { IfOk result (λ tags. tags ≡ []) }
+{
+    let tags = count.min(bytes.len() as u64 / 16) as usize;
+    TagList::with_room(alloc, tags, bytes.len() - 16 * tags)
 }
 
 /// Puts each tag behind the bytes that are there.
