@@ -1,0 +1,7 @@
+pub mod Finding
+pub mod Fronts
+pub mod MapLaws
+pub mod Merges
+pub mod OneSpelling
+pub mod RecordLists
+pub mod RecordPlaces

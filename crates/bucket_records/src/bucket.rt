@@ -1,0 +1,142 @@
+//! A bucket: its records and what a transaction changes in them.
+ghost use Rattle.std.specs.Prelude.{◌≡◌, ◌++◌, ◌+◌, ◌%◌, ◌<◌, ◌≤◌, ◌∷◌, [], List, ℕ, Option, Some, None, length, take, drop, IfOk, IfErr, OnOk, OnErr, MatchOption, IsTrue};
+ghost use Rattle.std.specs.FinMap as map;
+ghost use Rattle.bucket_records.specs.Records.{IsBucket, IsNoBucket, AreRecords, records_bytes};
+ghost use Rattle.bucket_records.specs.Changes.{map_of};
+ghost use Rattle.bucket_records.specs.Places.{key_of};
+ghost use Rattle.value_bytes.specs.Forms.{NeedsFor};
+
+use crate::merging::merged_bytes;
+use crate::records::Records;
+use crate::searching::place_of;
+use osm_base::OutOfMemory;
+use std::alloc::Global;
+use std::collections::BTreeMap;
+use std::marker::Model;
+use value_bytes::ValueFault;
+
+/// A finite map from keys to values: records in bytes, and what was changed since they were read.
+#[derive(Debug, Drop)]
+pub struct Bucket {
+    alloc: Global,
+    records: Records,
+    // The new values of keys that stand in the records or below their last, and none where a key is removed.
+    changes: BTreeMap<u64, Option<Vec<u8>>>,
+}
+
+impl Model for Bucket {
+    ghost use Rattle.std.specs.Prelude.{ℕ, List};
+    ghost use Rattle.std.specs.Coded.{coded_list, coded_ℕ};
+    ghost use Rattle.std.specs.FinMap as map;
+    ghost use Rattle.bucket_records.specs.Records.{BucketMap, AreRecords};
+    ghost use Rattle.bucket_records.specs.Changes.{changed, map_of};
+
+    ghost Value = { BucketMap };
+
+    ghost coded = { map.code coded_ℕ (coded_list coded_ℕ) };
+
+    ghost view = { λ bucket. changed (map_of bucket.records) bucket.changes.entries };
+
+    ghost invariant = { λ bucket. AreRecords 0 bucket.records };
+}
+
+impl Bucket {
+    /// The map that these bytes of one bucket of so many are.
+    pub fn read(
+        alloc: Global,
+        bytes: Vec<u8>,
+        buckets: u64,
+        bucket: u64,
+    ) -> Result<Self, ValueFault>
+        requires { 1 ≤ buckets }
+        ensures map { IfOk result (λ values. IsBucket buckets bucket bytes.items (map.entries values)) }
+        ensures refused { IfErr result (NeedsFor (IsNoBucket buckets bucket bytes.items)) }
+    {
+        match Records::read(alloc, bytes, buckets, bucket) {
+            Ok(records) => Ok(Self {
+                alloc,
+                records,
+                changes: BTreeMap::new(alloc),
+            }),
+            Err(fault) => Err(fault),
+        }
+    }
+
+    /// The value of a key.
+    pub fn get(&self, key: u64) -> Option<&[u8]>
+        ensures { MatchOption result (map.get self.now key ≡ None) (λ value. map.get self.now key ≡ Some value.now) }
+    {
+        match self.changes.get(&key) {
+            Some(Some(value)) => Some(value.as_slice()),
+            Some(None) => None,
+            None => recorded(&self.records, key),
+        }
+    }
+
+    /// Sets the value of a key. Where it fails, the map is as it was.
+    pub fn put(&mut self, key: u64, value: &[u8]) -> Result<(), OutOfMemory>
+        ensures ok { OnOk result (self.new ≡ map.insert self.old key value.now) }
+        ensures err { OnErr result (self.new ≡ self.old) }
+    {
+        if self.changes.is_empty() && is_above(&self.records, key) {
+            self.records.push(key, value)?;
+            return Ok(());
+        }
+        let own = Vec::from_slice(self.alloc, value)?;
+        self.changes.insert(key, Some(own))?;
+        Ok(())
+    }
+
+    /// Takes a key out, and answers whether it was there. Where it fails, the map is as it was.
+    pub fn remove(&mut self, key: u64) -> Result<bool, OutOfMemory>
+        ensures ok { OnOk result (self.new ≡ map.remove self.old key) }
+        ensures was { IfOk result (λ was. was ≡ map.contains_key self.old key) }
+        ensures err { OnErr result (self.new ≡ self.old) }
+    {
+        if self.get(key).is_none() {
+            return Ok(false);
+        }
+        self.changes.insert(key, None)?;
+        Ok(true)
+    }
+
+    /// The bytes of the map.
+    pub fn into_bytes(self) -> Result<Vec<u8>, OutOfMemory>
+        ensures bytes { IfOk result (λ bytes. bytes.items ≡ records_bytes (map.entries self)) }
+        ensures rise { OnOk result (AreRecords 0 (map.entries self)) }
+    {
+        let Self {
+            alloc,
+            records,
+            changes,
+        } = self;
+        if changes.is_empty() {
+            return Ok(records.into_bytes());
+        }
+        merged_bytes(alloc, &records, &changes)
+    }
+}
+
+// The value that the records have for a key.
+fn recorded<'a>(records: &'a Records, key: u64) -> Option<&'a [u8]>
+    ensures { MatchOption result (map.get (map_of records.now) key ≡ None) (λ value. map.get (map_of records.now) key ≡ Some value.now) }
+{
+    let place = place_of(records, key);
+    if place >= records.len() {
+        return None;
+    }
+    let (own, value) = records.at(place);
+    if own == key { Some(value) } else { None }
+}
+
+// Whether the key is above all of the records.
+fn is_above(records: &Records, key: u64) -> bool
+    ensures { IsTrue result → (k : ℕ) → k < length records.now → key_of records.now k < key }
+{
+    let count = records.len();
+    if count == 0 {
+        return true;
+    }
+    let (last, _) = records.at(count - 1);
+    last < key
+}
