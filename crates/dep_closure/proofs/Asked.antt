@@ -1,5 +1,5 @@
 -- What was asked first, and then.
-use Rattle.std.proofs.Common.{◌≡◌, List, [], ◌++◌, append_assoc, sym, ap, ◌∙◌}
+use Rattle.std.proofs.Common.{List, [], ◌++◌, append_assoc, sym, ap, ◌∙◌}
 use Rattle.std.proofs.lemmas.List.{append-nil}
 use Rattle.osm_base.specs.map.Known.{Question}
 use Rattle.dep_closure.specs.Questions.{AsksSome}

@@ -7,7 +7,7 @@ use Rattle.osm_base.specs.declared.values.key.Kind.{Kind}
 use Rattle.osm_base.specs.declared.values.key.Kind.TheVariants as kinds
 use Rattle.osm_base.specs.declared.values.object.Entry.{Entry}
 use Rattle.osm_base.specs.declared.values.object.Object.{Object}
-use Rattle.osm_base.specs.values.Key.{KeyOf, node_key, way_key, relation_key}
+use Rattle.osm_base.specs.values.Key.{node_key, way_key, relation_key}
 use Rattle.osm_base.specs.values.KeyOrder.{key_cmp}
 use Rattle.osm_base.specs.map.Known.{Index}
 use Rattle.osm_base.specs.map.Pending.{PendingOf}

@@ -10,7 +10,6 @@ use Rattle.osm_base.specs.declared.values.object.Entry.{Entry}
 use Rattle.osm_base.specs.declared.values.object.Member.{Member}
 use Rattle.osm_base.specs.declared.values.object.Object.{Object}
 use Rattle.osm_base.specs.declared.values.object.Object.TheVariants.{Node, Way, Relation}
-use Rattle.osm_base.specs.declared.values.row.Row.{Row}
 use Rattle.osm_base.specs.map.Listers.{is_kind, lists, member_ids}
 use Rattle.osm_base.specs.map.Objects.{ObjectSet, folded_all}
 use Rattle.osm_base.specs.map.Pending.{PendingOf}
@@ -23,12 +22,12 @@ use Rattle.style_read.specs.declared.style.Source.TheVariants as sources
 use Rattle.style_read.specs.declared.style.TableDef.{TableDef}
 use Rattle.style_read.specs.Style.{StyleOf}
 use Rattle.object_fold.proofs.Listers.{kind_same}
-use Rattle.row_map.specs.Agree.{Agree, IsSameWay, SameNodes, SamePlaces, SameWays}
+use Rattle.row_map.specs.Agree.{Agree, IsSameWay, SameNodes, SameWays}
 use Rattle.row_map.specs.Condition.{is_of_nodes, names_selection, reaches_nodes}
 use Rattle.row_map.specs.Material.{Material, material_of}
 use Rattle.row_map.specs.Objects.{is_of_kind}
 use Rattle.row_map.specs.Row.{cells_of, row, row_from, row_of, wants, with_geometry}
-use Rattle.row_map.specs.Shape.{geometry_of, with_way, ways_among}
+use Rattle.row_map.specs.Shape.{geometry_of, with_way}
 use Rattle.row_map.proofs.Locality.{row_from-same}
 use Rattle.dep_closure.specs.PendingSet.{IsPendingOf, LeavesRows, is_among, is_moved, is_named, is_pending, is_reselected, ways_in}
 use Rattle.dep_closure.proofs.Anys.{none_of, or-true, tied_self}

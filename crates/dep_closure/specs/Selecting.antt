@@ -1,7 +1,7 @@
 -- What the relations of a change select.
 -- osm2pgsql manual, "The Flex Output", "Stages": a relation names members that are processed again in a second stage; where it changes,
 -- so do those that it had named before.
-use Rattle.std.specs.Prelude.{ℕ, Bool, false, ◌&&◌, ◌||◌, List, Option, None, Some}
+use Rattle.std.specs.Prelude.{ℕ, Bool, false, ◌&&◌, ◌||◌, Option, Some}
 use Rattle.std.specs.List.{list_any}
 use Rattle.std.specs.FinMap as finite
 use Rattle.osm_base.specs.declared.values.key.Kind.{Kind}
@@ -10,7 +10,7 @@ use Rattle.osm_base.specs.declared.values.object.Entry.{Entry}
 use Rattle.osm_base.specs.declared.values.object.Object.{Object}
 use Rattle.osm_base.specs.declared.values.object.Object.TheVariants.{Relation}
 use Rattle.style_read.specs.Style.{StyleOf}
-use Rattle.osm_base.specs.map.Objects.{ObjectSet, folded_all}
+use Rattle.osm_base.specs.map.Objects.{ObjectSet}
 use Rattle.osm_base.specs.map.Listers.{is_kind, member_ids}
 use Rattle.osm_base.specs.values.Ids.{has}
 use Rattle.row_map.specs.Condition.{meets}

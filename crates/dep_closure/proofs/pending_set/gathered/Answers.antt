@@ -1,7 +1,7 @@
-use Rattle.std.proofs.Common.{◌≡◌, ◌++◌, [], List, ℕ, true, false, sym, subst, ◌∙◌}
+use Rattle.std.proofs.Common.{◌≡◌, ◌++◌, [], List, ℕ, true, sym, subst, ◌∙◌}
 use mathlib.Core.Bool.{false≢true}
 use Rattle.osm_base.specs.values.Ids.{has}
-use Rattle.dep_closure.specs.Questions.{AsksSome, of_all, of_members, of_nodes, of_ways}
+use Rattle.dep_closure.specs.Questions.{of_all, of_members, of_nodes, of_ways}
 use Rattle.dep_closure.proofs.Asked.{asks_first, asks_later, asks_whole}
 use Rattle.dep_closure.proofs.Cuts.{on_err}
 use Rattle.dep_closure.proofs.pending_set.gathered.Goals as goal

@@ -2,7 +2,6 @@ use Rattle.std.proofs.Common.{refl, sym, subst, ◌∙◌}
 use Rattle.osm_base.specs.map.Listers.{index_of}
 use Rattle.osm_base.specs.map.Objects.{folded_all}
 use Rattle.osm_base.specs.map.Pending.{PendingOf}
-use Rattle.dep_closure.specs.declared.fault.PendingFault.{PendingFault}
 use Rattle.dep_closure.specs.PendingSet.{AreTooMany, IsPendingOf, LeavesRows, OfKnown}
 use Rattle.dep_closure.specs.Questions.{of_all}
 use Rattle.dep_closure.specs.Stops.{Stops}
