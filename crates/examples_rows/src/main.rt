@@ -1,9 +1,10 @@
-//! Runs the examples of styles and of the texts of tables, and prints the name of each up to the first that differs.
+//! Runs the examples of styles, of the texts of tables and of rows, and prints the name of each up to the first that differs.
 //!
 //! The head of each table says what its columns are, and where what is wanted comes from.
 #![tactic(auto)]
 
 mod many;
+mod objects;
 mod styles;
 mod tables;
 
@@ -14,10 +15,10 @@ use std::io;
 use std::process::ExitCode;
 
 fn main(rt: HostRuntime) -> io::Result<ExitCode> {
-    run_examples::<OfRows, HostRuntime>(&rt, &["styles.txt", "tables.txt"])
+    run_examples::<OfRows, HostRuntime>(&rt, &["styles.txt", "tables.txt", "objects.txt"])
 }
 
-/// The examples of styles and of texts.
+/// The examples of styles, of texts and of rows.
 struct OfRows;
 
 impl Examples for OfRows {
@@ -29,6 +30,9 @@ impl Examples for OfRows {
             "many" => many::read(alloc, given),
             "text" => tables::text(alloc, given),
             "number" => tables::number(alloc, given),
+            "rows" => objects::rows(alloc, given),
+            "rows_at_once" => objects::rows_at_once(alloc, given),
+            "selects" => objects::selected(alloc, given),
             _ => Ok(None),
         }
     }

@@ -4,4 +4,6 @@ mod Joinable
 mod Lists
 mod Literals
 pub mod Locality
+mod NoRow
+pub mod TableRows
 mod TagTokens

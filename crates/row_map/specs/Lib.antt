@@ -4,5 +4,6 @@ pub mod Condition
 pub mod Material
 pub mod Objects
 pub mod Row
+pub mod Rows
 pub mod Seen
 pub mod Shape

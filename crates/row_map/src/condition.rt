@@ -70,11 +70,8 @@ fn holds<L: Lookup>(condition: &Condition, tags: &Tags, relations: &Relations<L>
     ensures holds { result ≡ spec.holds (is_selected (selecting_among relations.now.selections.now (L.known relations.now.lookup.now).object relations.now.ids.now)) tags.now condition.now }
 {
     match condition {
-        Condition::Has(key) => tags.get(key.as_str()).is_some(),
-        Condition::Lacks(key) => tags.get(key.as_str()).is_none(),
-        Condition::Is { key, value } => has_value(tags, key.as_str(), value),
-        Condition::Isnt { key, value } => !has_value(tags, key.as_str(), value),
         Condition::Selected(number) => relations.select(*number),
+        _ => holds_of_tags(condition, tags),
     }
 }
 

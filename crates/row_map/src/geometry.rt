@@ -1,7 +1,10 @@
 //! The geometry of a row.
-ghost use Rattle.std.specs.Prelude.{◌≡◌, IfOk, option_map, if◌then◌else◌, None};
+ghost use Rattle.std.specs.Prelude.{◌≡◌, ℕ, Option, false, IfOk, option_map, if◌then◌else◌, None};
 ghost use Rattle.std.specs.Option.{option_to_list};
 ghost use Rattle.osm_base.specs.declared.values.row.Geometry.TheVariants as shapes;
+ghost use Rattle.osm_base.specs.declared.values.object.Object.{Object};
+ghost use Rattle.osm_base.specs.values.Key.{KeyOf};
+ghost use Rattle.osm_base.specs.values.Place.{PlaceOf};
 ghost use Rattle.line_build.specs.Joins.{joined};
 ghost use Rattle.line_build.specs.Points.{line};
 ghost use Rattle.row_map.specs.Shape as spec;
@@ -114,5 +117,17 @@ pub(crate) fn geometry_of<L: Lookup>(
             Ok(relation_lines(alloc, lookup, members.as_slice())?)
         }
         _ => Ok(None),
+    }
+}
+
+/// Whether an object is of a source. Where it is not, it has no geometry in a table of it.
+pub(crate) fn may_have_geometry(source: Source, object: &Object) -> bool
+    ensures none { result ≡ false → (place : ℕ → Option PlaceOf) (known : KeyOf → Option Object) → spec.geometry_of place known source object.now ≡ None }
+{
+    match source {
+        Source::Node => matches!(object, Object::Node { .. }),
+        Source::Way => matches!(object, Object::Way { .. }),
+        Source::Area => !matches!(object, Object::Node { .. }),
+        Source::Relation => matches!(object, Object::Relation { .. }),
     }
 }

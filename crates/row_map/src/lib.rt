@@ -13,10 +13,12 @@ mod number;
 mod pieces;
 mod relations;
 mod row;
+mod rows;
 mod tags_text;
 mod values;
 
 pub use condition::{meets, selects};
 pub use number::{MAX_DIGITS, MINUS};
 pub use row::row_of;
+pub use rows::rows_of;
 pub use values::COMMA;

@@ -14,7 +14,7 @@ ghost use Rattle.row_map.specs.Shape as shape;
 
 use crate::cell::cells_of;
 use crate::condition::wants;
-use crate::geometry::geometry_of;
+use crate::geometry::{geometry_of, may_have_geometry};
 use crate::relations::{Relations, relations_with};
 use osm_base::{Key, Kind, Lookup, Object, OutOfMemory, Row, Tags};
 use std::alloc::Global;
@@ -63,7 +63,7 @@ fn wanted_row<L: Lookup>(
 
 /// The row of an object in a table. `None`: it is of another kind than its key, the table does not want it, or its geometry
 /// is not defined.
-fn row_in<L: Lookup>(
+pub(crate) fn row_in<L: Lookup>(
     alloc: Global,
     table: &TableDef,
     key: Key,
@@ -75,6 +75,9 @@ fn row_in<L: Lookup>(
         (material_among relations.now.selections.now (L.known relations.now.lookup.now) relations.now.ids.now) table.now key object.now) }
 {
     if !is_of_kind(key.kind, object) {
+        return Ok(None);
+    }
+    if !may_have_geometry(table.source, object) {
         return Ok(None);
     }
     if !wants(table, tags_of(object), relations) {
