@@ -5,5 +5,6 @@ mod Lists
 mod Literals
 pub mod Locality
 mod NoRow
+pub mod TableMap
 pub mod TableRows
 mod TagTokens

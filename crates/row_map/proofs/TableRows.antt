@@ -1,5 +1,5 @@
 -- The rows of an object in all tables, table by table and by the numbers of the tables.
-use Rattle.std.proofs.Common.{◌≡◌, ◌<◌, ℕ, zero, suc, ◌+◌, List, [], ◌∷◌, ◌++◌, append_assoc, drop, get_or, length, Option, Some, None, refl, sym, ap, subst, ◌∙◌, arith}
+use Rattle.std.proofs.Common.{◌≡◌, ◌<◌, ℕ, zero, suc, ◌+◌, List, [], ◌∷◌, ◌++◌, append_assoc, drop, get_or, length, Option, Some, None, refl, sym, ap, ◌∙◌, arith}
 use Rattle.std.specs.List.{cons_option, filter_map, range_with_len, slice_get}
 use Rattle.std.specs.Option.{option_and_then, option_to_list}
 use Rattle.std.proofs.lemmas.List.{append-nil}
@@ -15,7 +15,7 @@ use Rattle.style_read.specs.Style.{StyleOf}
 use Rattle.row_map.specs.Agree.{Suffices}
 use Rattle.row_map.specs.Material.{Material, material_known}
 use Rattle.row_map.specs.Row.{row, row_from, row_of}
-use Rattle.row_map.specs.Rows.{in_table, rows_below, rows_from, rows_in, rows_known}
+use Rattle.row_map.specs.Rows.{in_table, rows_from, rows_in, rows_known}
 use Rattle.row_map.proofs.Locality.{row_from-suffices}
 
 rows-same : (one other : ℕ → Option Row) → ((table : ℕ) → one table ≡ other table) → (numbers : List ℕ) → filter_map (λ table. in_table table (one table)) numbers ≡ filter_map (λ table. in_table table (other table)) numbers

@@ -9,6 +9,7 @@ mod area;
 mod cell;
 mod condition;
 mod geometry;
+mod laws;
 mod number;
 mod pieces;
 mod relations;
@@ -18,6 +19,7 @@ mod tags_text;
 mod values;
 
 pub use condition::{meets, selects};
+pub use laws::{rows_are_local, shared_numbers, tables_are_rows};
 pub use number::{MAX_DIGITS, MINUS};
 pub use row::row_of;
 pub use rows::rows_of;

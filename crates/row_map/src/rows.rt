@@ -43,7 +43,11 @@ fn rows_among<L: Lookup>(
     let mut rows = TableRows::new(alloc);
     let mut number: u32 = 0;
     for table in tables {
-        add_row(&mut rows, number, row_in(alloc, table, key, object, relations)?)?;
+        add_row(
+            &mut rows,
+            number,
+            row_in(alloc, table, key, object, relations)?,
+        )?;
         number += 1;
     }
     Ok(rows)

@@ -1,4 +1,3 @@
-use Rattle.std.proofs.Common.{◌≡◌, sym}
 use Rattle.std.specs.Prelude.{◌&&◌}
 use Rattle.row_map.specs.Material.{material_among}
 use Rattle.row_map.specs.Objects.{is_of_kind}
