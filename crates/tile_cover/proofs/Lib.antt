@@ -1,0 +1,14 @@
+pub mod Pushes
+pub mod Sides
+pub mod Parts
+pub mod Touches
+pub mod Divided
+pub mod Crossed
+pub mod Turned
+pub mod Spans
+pub mod Rows
+pub mod Gained
+pub mod Lines
+pub mod Sweeps
+pub mod Tables
+pub mod SeenLines
