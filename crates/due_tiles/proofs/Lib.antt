@@ -1,0 +1,2 @@
+mod Merging
+mod Reading
