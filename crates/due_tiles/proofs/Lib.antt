@@ -1,2 +1,3 @@
 mod Merging
+mod Numbers
 mod Reading

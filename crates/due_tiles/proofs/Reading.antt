@@ -1,12 +1,12 @@
 -- Runs read one after another, each behind those before it.
-use Rattle.std.proofs.Common.{◌≡◌, ℕ, ◌+◌, ◌*◌, ◌<◌, ◌≤◌, ◌^◌, suc, zero, Bool, true, nat_lt, take, get_or, List, [], ◌∷◌, ◌++◌, length, refl, sym, ap, subst, ◌∙◌, arith, append_assoc, length-append}
+use Rattle.std.proofs.Common.{◌≡◌, ℕ, ◌+◌, ◌<◌, ◌≤◌, ◌^◌, suc, zero, Bool, true, nat_lt, take, get_or, List, [], ◌∷◌, ◌++◌, length, refl, sym, ap, subst, ◌∙◌, arith, append_assoc, length-append}
 use Rattle.std.proofs.Math.Nat.{pow-le-pow_right}
 use Rattle.std.proofs.lemmas.List.{append-nil, take_more}
 use Rattle.std.proofs.lemmas.Bool.Decides.{nat_tests}
 use Rattle.std.specs.List.{AllByRecursion}
 use Rattle.tile_cover.specs.declared.runs.Run.{Run}
 use Rattle.tile_cover.specs.Runs.{IsRun, IsTileSet, AreApart, Follows, start_of, end_of}
-use Rattle.value_bytes.specs.Forms.{Begins, IsFront, IsFrontless, IsNoValue, Spells, all_bytes}
+use Rattle.value_bytes.specs.Forms.{Begins, IsFront, IsFrontless, IsNoValue, Spells}
 use Rattle.value_bytes.specs.Numbers.{number_bytes, IsNumber}
 use Rattle.value_bytes.proofs.ListLaws.{all_bytes-append}
 use Rattle.value_bytes.proofs.NumberLaws.{length-number_bytes}

@@ -1,14 +1,18 @@
-//! The tiles that are due: sets of tiles joined, and kept in bytes.
+//! The tiles that are due: sets of tiles joined, kept in bytes, and told as text.
 //!
 //! It stands on the sets of `tile_cover`. `union` puts the tiles that a change makes due to those that
 //! were due before; `encode` and `decode` give a set its bytes in a store and read them. Each set has one
-//! spelling, and bytes that spell none are refused.
+//! spelling, and bytes that spell none are refused. `write_tiles` writes a line for each tile of a set
+//! and for each tile above one, each once, in time that grows with the lines.
 #![tactic(auto)]
 
 mod fault;
 mod joining;
 mod spelling;
+mod tile_numbers;
+mod tile_text;
 
-pub use fault::DueFault;
+pub use fault::{DueFault, TilesFault};
 pub use joining::union;
 pub use spelling::{decode, encode};
+pub use tile_text::write_tiles;

@@ -1,5 +1,4 @@
-use Rattle.std.proofs.Common.{inl, inr, refl, sym, subst, arith}
-use Rattle.std.proofs.lemmas.Bool.Decides.{nat_tests}
+use Rattle.std.proofs.Common.{inl, inr, refl, sym, subst}
 use Rattle.tile_cover.specs.Runs.{IsTileSet}
 use Rattle.due_tiles.specs.Joining.{BeginsBefore}
 use Rattle.due_tiles.proofs.Merging.{before_all, before_true, before_false}
