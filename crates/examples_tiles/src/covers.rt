@@ -40,7 +40,7 @@ fn asked_of(alloc: Global, given: &str) -> Result<Option<Asked>, OutOfMemory> {
 }
 
 /// The runs of a cover, a word `ZOOM/ROW:FIRST-LAST` each.
-fn text_of_runs(alloc: Global, runs: &[Run]) -> Result<String, OutOfMemory> {
+pub fn text_of_runs(alloc: Global, runs: &[Run]) -> Result<String, OutOfMemory> {
     let mut text = String::new(alloc);
     for run in runs {
         let run = *run;

@@ -5,6 +5,7 @@
 
 mod agreement;
 mod covers;
+mod due;
 mod notation;
 mod tables;
 
@@ -32,6 +33,9 @@ impl Examples for OfTiles {
             "count" => covers::counted(alloc, given),
             "meets" => covers::met(alloc, given),
             "agree" => agreement::agree(alloc, given),
+            "due" => due::spelled(alloc, given),
+            "bytes" => due::read(alloc, given),
+            "union" => due::joined(alloc, given),
             _ => Ok(None),
         }
     }

@@ -1,0 +1,90 @@
+//! Sets of tiles in bytes, and joined.
+use crate::covers::text_of_runs;
+use due_tiles::{DueFault, decode, encode, union};
+use example_table::{bytes_of, number_of};
+use osm_base::OutOfMemory;
+use std::alloc::Global;
+use tile_cover::TileRuns;
+
+/// The numbers of a run `ZOOM/ROW:FIRST-LAST`.
+fn numbers_of(word: &str) -> Option<[u64; 4]> {
+    let (zoom, rest) = word.split_once('/')?;
+    let (row, columns) = rest.split_once(':')?;
+    let (first, last) = columns.split_once('-')?;
+    Some([
+        number_of(zoom)?,
+        number_of(row)?,
+        number_of(first)?,
+        number_of(last)?,
+    ])
+}
+
+/// The bytes of runs, a word each, whether or not a set has them.
+fn bytes_of_runs(alloc: Global, text: &str) -> Result<Option<Vec<u8>>, OutOfMemory> {
+    let mut bytes = Vec::new(alloc);
+    for word in text.split_ascii_whitespace() {
+        let Some(numbers) = numbers_of(word) else {
+            return Ok(None);
+        };
+        for number in &numbers {
+            let number = *number;
+            bytes.extend_from_slice(&number.to_le_bytes())?;
+        }
+    }
+    Ok(Some(bytes))
+}
+
+/// What the bytes spell. `None`: no set.
+fn set_of(alloc: Global, bytes: &[u8]) -> Result<Option<TileRuns>, OutOfMemory> {
+    match decode(alloc, bytes) {
+        Ok(set) => Ok(Some(set)),
+        Err(DueFault::NotSpelled) => Ok(None),
+        Err(DueFault::OutOfMemory) => Err(OutOfMemory),
+    }
+}
+
+/// The runs that bytes spell, where the set has these bytes again.
+fn answer(alloc: Global, bytes: &[u8]) -> Result<Option<String>, OutOfMemory> {
+    let Some(set) = set_of(alloc, bytes)? else {
+        return Ok(Some(String::from_str(alloc, "no set")?));
+    };
+    let again = encode(alloc, &set)?;
+    if again.as_slice() == bytes {
+        return Ok(Some(text_of_runs(alloc, set.as_slice())?));
+    }
+    Ok(Some(String::from_str(alloc, "other bytes")?))
+}
+
+/// What the bytes of runs spell.
+pub fn spelled(alloc: Global, given: &str) -> Result<Option<String>, OutOfMemory> {
+    match bytes_of_runs(alloc, given)? {
+        None => Ok(None),
+        Some(bytes) => answer(alloc, &bytes),
+    }
+}
+
+/// What bytes spell.
+pub fn read(alloc: Global, given: &str) -> Result<Option<String>, OutOfMemory> {
+    match bytes_of(alloc, given)? {
+        None => Ok(None),
+        Some(bytes) => answer(alloc, &bytes),
+    }
+}
+
+/// The tiles of two sets `RUNS | RUNS`.
+pub fn joined(alloc: Global, given: &str) -> Result<Option<String>, OutOfMemory> {
+    let Some((one, other)) = given.split_once('|') else {
+        return Ok(None);
+    };
+    let (Some(one), Some(other)) = (bytes_of_runs(alloc, one)?, bytes_of_runs(alloc, other)?) else {
+        return Ok(None);
+    };
+    let Some(mut one) = set_of(alloc, &one)? else {
+        return Ok(None);
+    };
+    let Some(other) = set_of(alloc, &other)? else {
+        return Ok(None);
+    };
+    union(alloc, &mut one, &other)?;
+    Ok(Some(text_of_runs(alloc, one.as_slice())?))
+}
