@@ -1,0 +1,76 @@
+-- What was taken out of a transaction stands for it.
+use Rattle.std.proofs.Common.{◌≡◌, ◌⊎◌, ℕ, ◌+◌, List, length, Result, Ok, Err, sym, ap, subst, ◌∙◌}
+use Rattle.std.specs.FinMap as finite
+use Rattle.std.specs.Result.{OnOk}
+use Rattle.outside.specs.Disk.{Crashes, Goes}
+use Rattle.outside.specs.declared.disk.Disk.{Ghosts}
+use Rattle.page_journal.specs.Journal.{home_count, view_of}
+use Rattle.page_journal.specs.declared.journal.Journal.{Journal}
+use Rattle.page_journal.specs.Crash.{IsAtRest}
+use Rattle.chain_store.specs.Chains.{IsOpenStore}
+use Rattle.chain_store.specs.Directories.{root_in}
+use Rattle.chain_store.specs.Known.{Lists, changed}
+use Rattle.chain_store.specs.Plan.{IsPlan}
+use Rattle.chain_store.specs.Parts.{head_or}
+use Rattle.chain_store.specs.State.{HasState, IsState}
+use Rattle.chain_store.specs.Store.{Keeps}
+use Rattle.chain_store.specs.declared.kept.Kept.{Kept}
+use Rattle.chain_store.specs.declared.parts.Part.{Part}
+use Rattle.chain_store.specs.declared.planning.Plan.{Plan}
+use Rattle.chain_store.specs.declared.root.Root.{Root}
+use Rattle.chain_store.proofs.Puts.{nothing}
+use Rattle.chain_store.proofs.RootPages.{root_fields}
+
+module _ {D : Type 0} {g : Ghosts D} (pages : List (List ℕ)) (journal taken : Journal D g) (kept taken_kept : Kept) (read before taken_read taken_before : Lists)
+    (same_journal : taken ≡ journal) (same_kept : taken_kept ≡ kept) where
+  pub opened_taken : taken_read ≡ read → taken_before ≡ before → IsOpenStore pages journal kept read before → IsOpenStore pages taken taken_kept taken_read taken_before
+  opened_taken same_read same_before opened =
+      subst (λ (j : Journal D g). IsOpenStore pages j taken_kept taken_read taken_before) (sym same_journal)
+      (subst (λ (k : Kept). IsOpenStore pages journal k taken_read taken_before) (sym same_kept)
+      (subst (λ (l : Lists). IsOpenStore pages journal kept l taken_before) (sym same_read)
+      (subst (λ (l : Lists). IsOpenStore pages journal kept read l) (sym same_before) opened)))
+
+  -- a transaction that was begun anew knows nothing
+  pub opened_anew : taken_read ≡ finite.empty → taken_before ≡ finite.empty → IsOpenStore pages journal kept read before
+      → IsOpenStore pages taken taken_kept taken_read taken_before
+  opened_anew none_read none_before opened =
+      subst (λ (j : Journal D g). IsOpenStore pages j taken_kept taken_read taken_before) (sym same_journal)
+      (subst (λ (k : Kept). IsOpenStore pages journal k taken_read taken_before) (sym same_kept) (record {
+        rests = opened.rests;
+        keeps = opened.keeps;
+        known = λ n ns is. absurd (nothing taken_read n ns none_read is);
+        had = λ n bytes is. absurd (nothing taken_before n bytes none_before is);
+      }))
+
+module _ (root old new : Root) (strings : ℕ → List ℕ) (written taken : Lists) (same_root : old ≡ new) (same_written : taken ≡ written) where
+  pub state_taken : (pages : List (List ℕ)) → IsState old (changed strings taken) pages → IsState new (changed strings written) pages
+  state_taken pages state =
+      subst (λ (r : Root). IsState r (changed strings written) pages) same_root
+      (subst (λ (l : Lists). IsState old (changed strings l) pages) same_written state)
+
+  pub moment_taken : (before mid after : Crashes) → Goes (λ left. HasState root strings left ⊎ HasState old (changed strings taken) left) before after
+      → Goes (λ left. HasState root strings left ⊎ HasState new (changed strings written) left) before after
+  moment_taken before mid after goes =
+      subst (λ (r : Root). Goes (λ left. HasState root strings left ⊎ HasState r (changed strings written) left) before after) same_root
+      (subst (λ (l : Lists). Goes (λ left. HasState root strings left ⊎ HasState old (changed strings l) left) before after) same_written goes)
+
+-- an open store with the pages that were committed
+pub opened_new : {D : Type 0} {g : Ghosts D} (pages : List (List ℕ)) (journal : Journal D g) (kept : Kept) (read before : Lists) → IsAtRest pages (view_of journal)
+    → length pages + 1 ≡ home_count journal → Keeps pages kept → read ≡ finite.empty → before ≡ finite.empty → IsOpenStore pages journal kept read before
+opened_new pages journal kept read before rests many keeps none_read none_before = record {
+  rests = (rests, many);
+  keeps = keeps;
+  known = λ n ns is. absurd (nothing read n ns none_read is);
+  had = λ n bytes is. absurd (nothing before n bytes none_before is);
+}
+
+-- the root page of a plan has the fields
+pub plan_root : (kept : Kept) (root : Root) (parts : List Part) (free : List ℕ) (home : ℕ) (plan : Plan) → IsPlan kept root parts free home plan
+    → root ≡ root_in plan.kept.front.items
+plan_root kept root parts free home plan is =
+    sym (ap (λ (l : List ℕ). root_in l) is.front_is
+    ∙ root_fields kept.front.items root is.dealt.«end» (head_or is.dealt.left.items is.dealt.tail) is.dealt.chains.items is.dealt.directories.items kept.page is.small)
+
+pub on_ok : {E : Type 0} (A B : Type 0) (result : Result (Unit {0}) E) → (A → B) → OnOk result A → OnOk result B
+on_ok A B (Ok done) f a = f a
+on_ok A B (Err fault) f a = tt

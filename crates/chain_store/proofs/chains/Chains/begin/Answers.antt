@@ -1,0 +1,22 @@
+use Rattle.std.proofs.Common.{ap, arith}
+use Rattle.chain_store.specs.declared.root.Root.{Root}
+use Rattle.chain_store.proofs.Puts.{known_none, stored_none, nothing}
+use Rattle.chain_store.proofs.chains.Chains.begin.Goals as goal
+
+pub invariant_of-self : goal.invariant_of-self
+invariant_of-self g c = record {
+  known = known_none c.new-2.result c.new-2.ensures.empty _;
+  behind = c.args.self.now.behind;
+  stored = stored_none c.new-2.result c.new.result c.root-root.result.buckets c.new.ensures.empty;
+  gone = λ other. absurd (other (ap (λ (root : Root). root.buckets) c.root-root.ensures.root));
+  few = omega (arith, ap (λ (root : Root). root.buckets) c.root-root.ensures.root, c.args.self.now.kept.few);
+  count = λ other. absurd (other (ap (λ (root : Root). root.buckets) c.root-root.ensures.root));
+}
+
+pub returns-clause-open : goal.returns-clause-open
+returns-clause-open g c = λ pages opened. record {
+  rests = opened.rests;
+  keeps = opened.keeps;
+  known = λ n ns is. absurd (nothing c.new-2.result n ns c.new-2.ensures.empty is);
+  had = λ n bytes is. absurd (nothing c.new-3.result n bytes c.new-3.ensures.empty is);
+}

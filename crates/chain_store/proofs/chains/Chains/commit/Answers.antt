@@ -1,0 +1,48 @@
+use Rattle.std.proofs.Common.{◌⊎◌, ℕ, List, subst}
+use Rattle.outside.specs.Disk.{Goes}
+use Rattle.page_journal.specs.Journal.{view_of}
+use Rattle.chain_store.specs.Known.{changed}
+use Rattle.chain_store.specs.Chains.{IsOpenStore}
+use Rattle.chain_store.specs.State.{HasState, IsState}
+use Rattle.chain_store.specs.declared.root.Root.{Root}
+use Rattle.chain_store.proofs.Taking.{moment_taken, on_ok, opened_anew, opened_taken, state_taken}
+use Rattle.chain_store.proofs.chains.Chains.commit.Goals as goal
+
+pub returns-clause-any_moment : goal.returns-clause-any_moment
+returns-clause-any_moment g c = λ root strings pages opened state.
+    let self = c.args.self.now in
+    let t = c.take-taken.ensures in
+    let taken = c.take-taken.result in
+    let mid = c.take-taken.new.self in
+    subst (λ j. Goes (λ left. HasState root strings left ⊎ HasState self.root (changed strings self.written) left) (view_of j).crashes (view_of c.write-outcome.new.self.journal).crashes)
+    t.journal
+    (moment_taken root taken.root self.root strings self.written taken.written t.was_root t.was_written (view_of mid.journal).crashes (view_of mid.journal).crashes
+    (view_of c.write-outcome.new.self.journal).crashes
+    (c.write-outcome.ensures.any_moment root strings pages
+    (opened_taken pages self.journal mid.journal self.kept mid.kept self.read self.before taken.read taken.before t.journal t.kept t.was_read t.was_before opened) state))
+
+pub returns-clause-done : goal.returns-clause-done
+returns-clause-done g c =
+    let self = c.args.self.now in
+    let t = c.take-taken.ensures in
+    let taken = c.take-taken.result in
+    let mid = c.take-taken.new.self in
+    let after = c.write-outcome.new.self in
+    on_ok ((root : Root) → (strings : ℕ → List ℕ) → (pages : List (List ℕ)) → IsOpenStore pages mid.journal mid.kept taken.read taken.before → IsState root strings pages
+    → (new : List (List ℕ)) × IsOpenStore new after.journal after.kept after.read after.before × IsState taken.root (changed strings taken.written) new)
+    ((root : Root) → (strings : ℕ → List ℕ) → (pages : List (List ℕ)) → IsOpenStore pages self.journal self.kept self.read self.before → IsState root strings pages
+    → (new : List (List ℕ)) × IsOpenStore new after.journal after.kept after.read after.before × IsState self.root (changed strings self.written) new)
+    c.write-outcome.result
+    (λ done root strings pages opened state.
+    let x = done root strings pages
+    (opened_taken pages self.journal mid.journal self.kept mid.kept self.read self.before taken.read taken.before t.journal t.kept t.was_read t.was_before opened) state in
+    (x.0, x.1, state_taken root taken.root self.root strings self.written taken.written t.was_root t.was_written x.0 x.2))
+    c.write-outcome.ensures.done
+
+pub returns-clause-open : goal.returns-clause-open
+returns-clause-open g c = λ err fine pages opened.
+    let self = c.args.self.now in
+    let t = c.take-taken.ensures in
+    let mid = c.take-taken.new.self in
+    c.write-outcome.ensures.open err fine pages
+    (opened_anew pages self.journal mid.journal self.kept mid.kept self.read self.before mid.read mid.before t.journal t.kept t.read t.before opened)

@@ -1,0 +1,56 @@
+use Rattle.std.proofs.Common.{inl, inr, ℕ, ◌+◌, List, length, refl, sym, ap, subst, ◌∙◌}
+use Rattle.std.specs.Option.{is_some}
+use Rattle.std.specs.FinMap as map
+use Rattle.page_journal.specs.Journal.{home_count}
+use Rattle.chain_store.specs.Chain.{AreBehindRoot, HasPages}
+use Rattle.chain_store.specs.Chains.{IsOpenStore}
+use Rattle.chain_store.specs.Kept.{AreAllBehindRoot}
+use Rattle.chain_store.specs.Known.{AreKnown, AreStored, Lists}
+use Rattle.chain_store.specs.Links.{page_in}
+use Rattle.chain_store.specs.Store.{kept_first}
+use Rattle.chain_store.proofs.Puts.{get-here, known_more, open_looked, open_more, put_cases, stored_read}
+use Rattle.chain_store.proofs.chains.Chains.fetch.Goals as goal
+
+pub invariant_of-self-2 : goal.invariant_of-self-2
+invariant_of-self-2 g c =
+    let self = c.args.self.now in
+    let same = c.in-Ok.ensures.looked.pages in
+    let known : AreKnown (home_count self.journal) self.read = self.known in
+    let is = put_cases c.put.result self.read c.put.new.self c.args.n c.from_vec.result c.put.ensures.ok c.put.ensures.err in
+    record {
+      known = subst (λ (home : ℕ). AreKnown home c.put.new.self) (sym same) (elim is [
+        | inl put ↦ subst (λ (lists : Lists). AreKnown (home_count self.journal) lists) (sym put)
+            (known_more self.read c.args.n c.from_vec.result (home_count self.journal) known
+            (subst (λ (ns : List ℕ). AreBehindRoot (home_count self.journal) ns) (sym c.from_vec.ensures.items) c.in-Ok.ensures.inside))
+        | inr kept ↦ subst (λ (lists : Lists). AreKnown (home_count self.journal) lists) (sym kept) known
+      ]);
+      behind = subst (λ (home : ℕ). AreAllBehindRoot home self.kept.directories.items) (sym same) self.behind;
+      stored = elim is [
+        | inl put ↦ subst (λ (lists : Lists). AreStored self.root.buckets lists self.written) (sym put)
+            (stored_read self.read c.args.n c.from_vec.result self.root.buckets self.written self.stored)
+        | inr kept ↦ subst (λ (lists : Lists). AreStored self.root.buckets lists self.written) (sym kept) self.stored
+      ];
+      gone = self.gone;
+      few = self.few;
+      count = self.count;
+    }
+
+pub returns-in_err-put-clause-open : goal.returns-in_err-put-clause-open
+returns-in_err-put-clause-open g c = λ pages opened.
+    subst (λ (lists : Lists). IsOpenStore pages c.walk.new.journal c.args.self.now.kept lists c.args.self.now.before) (sym c.in_err-put.ensures.err)
+    (open_looked pages c.args.self.now.journal c.walk.new.journal c.args.self.now.kept c.args.self.now.read c.args.self.now.before opened c.in-Ok.ensures.looked)
+
+pub returns-clause-open : goal.returns-clause-open
+returns-clause-open g c = λ pages opened.
+    let self = c.args.self.now in
+    let has : HasPages (page_in pages) (length pages + 1) c.args.n (kept_first self.kept c.args.n) c.from_vec.result =
+    subst (λ (ns : List ℕ). HasPages (page_in pages) (length pages + 1) c.args.n (kept_first self.kept c.args.n) ns) (sym c.from_vec.ensures.items)
+    (subst (λ (first : ℕ). HasPages (page_in pages) (length pages + 1) c.args.n first c.in-Ok.walked.pages.items) c.first-first.ensures.first
+    (c.in-Ok.ensures.answers pages opened.rests).0) in
+    subst (λ (lists : Lists). IsOpenStore pages c.walk.new.journal self.kept lists self.before) (sym c.in_ok-put.ensures.ok)
+    (open_more pages self.journal c.walk.new.journal self.kept self.read self.before c.args.n c.from_vec.result opened c.in-Ok.ensures.looked has)
+
+pub returns-clause-known : goal.returns-clause-known
+returns-clause-known g c =
+    ap (λ (lists : Lists). is_some (map.get lists c.args.n)) c.in_ok-put.ensures.ok
+    ∙ ap is_some (get-here c.args.self.now.read c.args.n c.from_vec.result c.args.n refl)

@@ -1,0 +1,127 @@
+use Rattle.std.proofs.Common.{◌≡◌, ◌+◌, ℕ, List, length, sym, ap, subst, ◌∙◌}
+use Rattle.page_journal.specs.Journal.{home_count, view_of}
+use Rattle.page_journal.specs.PageSet.{CanCommit, overwritten}
+use Rattle.chain_store.specs.Chain.{AreBehindRoot, HasPages}
+use Rattle.chain_store.specs.Kept.{AreAllBehindRoot}
+use Rattle.chain_store.specs.Known.{AreKnown, changed}
+use Rattle.chain_store.specs.Links.{page_in}
+use Rattle.chain_store.specs.Plan.{IsPlan}
+use Rattle.chain_store.specs.State.{IsState}
+use Rattle.chain_store.specs.Store.{Keeps, kept_first}
+use Rattle.chain_store.specs.declared.layout.TheConstants.{FREE}
+use Rattle.chain_store.specs.declared.root.Root.{Root}
+use Rattle.chain_store.proofs.Carried.{renewed_keeps, renewed_long, renewed_state}
+use Rattle.chain_store.proofs.Commits.{behind_of, can_of, ran}
+use Rattle.chain_store.proofs.Looks.{rests_looked}
+use Rattle.chain_store.proofs.NewStore.{pages_long}
+use Rattle.chain_store.proofs.Puts.{known_none, stored_none}
+use Rattle.chain_store.proofs.Taking.{opened_new, plan_root}
+use Rattle.chain_store.proofs.chains.Chains.write.Goals as goal
+
+pub commit-requires-after_bounds : goal.commit-requires-after_bounds
+commit-requires-after_bounds g c = λ lives bounds.
+    let self = c.args.self.now in
+    let taken = c.args.taken in
+    let plan = c.in_ok-plan.plan in
+    let is_home : c.pages-home.result ≡ home_count self.journal = c.pages-home.ensures.pages in
+    subst (λ (n : ℕ). CanCommit plan.set n plan.home) (is_home ∙ sym c.walk.ensures.looked.pages)
+    (can_of self.kept taken.root taken.written taken.read taken.before c.in_ok-parts.parts.items c.in-Ok.free.pages.items c.pages-home.result plan
+    (subst (λ (l : List ℕ). IsPlan c.args.self.now.kept c.args.taken.root c.in_ok-parts.parts.items l c.pages-home.result c.in_ok-plan.plan) c.deref.ensures.value c.in_ok-plan.ensures) c.in_ok-parts.ensures.each
+    (subst (λ (n : ℕ). AreKnown n taken.read) (sym is_home) c.requires.may.known)
+    (subst (λ (n : ℕ). AreAllBehindRoot n self.kept.directories.items) (sym is_home) self.behind)
+    c.pages-home.ensures.some
+    (subst (λ (n : ℕ). AreBehindRoot n c.in-Ok.free.pages.items) (sym is_home) c.in-Ok.ensures.inside))
+
+pub returns-in-Err-commit-clause-any_moment : goal.returns-in-Err-commit-clause-any_moment
+returns-in-Err-commit-clause-any_moment g c = λ root strings pages opened state.
+    let self = c.args.self.now in
+    let taken = c.args.taken in
+    let plan = c.in_ok-plan.plan in
+    let settled = opened.rests.0.1 in
+    let is_home : c.pages-home.result ≡ length pages + 1 = c.pages-home.ensures.pages ∙ sym opened.rests.1 in
+    let is : IsPlan self.kept taken.root c.in_ok-parts.parts.items c.in-Ok.free.pages.items (length pages + 1) plan =
+    subst (λ (n : ℕ). IsPlan self.kept taken.root c.in_ok-parts.parts.items c.in-Ok.free.pages.items n plan) is_home (subst (λ (l : List ℕ). IsPlan c.args.self.now.kept c.args.taken.root c.in_ok-parts.parts.items l c.pages-home.result c.in_ok-plan.plan) c.deref.ensures.value c.in_ok-plan.ensures) in
+    let free : HasPages (page_in pages) (length pages + 1) FREE (kept_first self.kept FREE) c.in-Ok.free.pages.items =
+    subst (λ (n : ℕ). HasPages (page_in pages) (length pages + 1) FREE n c.in-Ok.free.pages.items) c.first.ensures.first (c.in-Ok.ensures.answers pages opened.rests).0 in
+    let now = rests_looked pages self.journal c.walk.new.journal opened.rests c.walk.ensures.looked in
+    ran pages (overwritten plan.set plan.home pages) opened.rests.0.0 (view_of self.journal) (view_of c.walk.new.journal) (view_of c.commit.new.self)
+    root taken.root strings (changed strings taken.written) settled c.walk.ensures.looked.stays state
+    (renewed_state pages self.kept taken.root taken.written taken.read taken.before c.in_ok-parts.parts.items c.in-Ok.free.pages.items plan
+    root strings state opened.keeps opened.known opened.had (pages_long pages opened.rests.0.0 (view_of self.journal) settled)
+    c.requires.may.stored c.requires.may.gone c.requires.may.few c.requires.may.count c.in_ok-parts.ensures free is)
+    (c.in-Err-commit.ensures.any_moment pages now.0 now.1)
+
+pub invariant_of-self-2 : goal.invariant_of-self-2
+invariant_of-self-2 g c =
+    let self = c.args.self.now in
+    let taken = c.args.taken in
+    let plan = c.in_ok-plan.plan in
+    let is_home : c.pages-home.result ≡ home_count self.journal = c.pages-home.ensures.pages in
+    let buckets = ap (λ (root : Root). root.buckets) (plan_root self.kept taken.root c.in_ok-parts.parts.items c.in-Ok.free.pages.items c.pages-home.result plan (subst (λ (l : List ℕ). IsPlan c.args.self.now.kept c.args.taken.root c.in_ok-parts.parts.items l c.pages-home.result c.in_ok-plan.plan) c.deref.ensures.value c.in_ok-plan.ensures)) in
+    record {
+      known = known_none self.read c.requires.read _;
+      behind = subst (λ (n : ℕ). AreAllBehindRoot n plan.kept.directories.items) (sym c.in_default.ensures.pages)
+          (behind_of self.kept taken.root taken.written taken.read taken.before c.in_ok-parts.parts.items c.in-Ok.free.pages.items c.pages-home.result plan
+          (subst (λ (l : List ℕ). IsPlan c.args.self.now.kept c.args.taken.root c.in_ok-parts.parts.items l c.pages-home.result c.in_ok-plan.plan) c.deref.ensures.value c.in_ok-plan.ensures) c.in_ok-parts.ensures.each
+          (subst (λ (n : ℕ). AreKnown n taken.read) (sym is_home) c.requires.may.known)
+          (subst (λ (n : ℕ). AreAllBehindRoot n self.kept.directories.items) (sym is_home) self.behind)
+          c.pages-home.ensures.some
+          (subst (λ (n : ℕ). AreBehindRoot n c.in-Ok.free.pages.items) (sym is_home) c.in-Ok.ensures.inside));
+      stored = stored_none self.read self.written taken.root.buckets c.requires.written;
+      gone = λ other. absurd (other buckets);
+      few = c.requires.may.few;
+      count = λ other. absurd (other buckets);
+    }
+
+pub returns-clause-any_moment : goal.returns-clause-any_moment
+returns-clause-any_moment g c = λ root strings pages opened state.
+    let self = c.args.self.now in
+    let taken = c.args.taken in
+    let plan = c.in_ok-plan.plan in
+    let settled = opened.rests.0.1 in
+    let is_home : c.pages-home.result ≡ length pages + 1 = c.pages-home.ensures.pages ∙ sym opened.rests.1 in
+    let is : IsPlan self.kept taken.root c.in_ok-parts.parts.items c.in-Ok.free.pages.items (length pages + 1) plan =
+    subst (λ (n : ℕ). IsPlan self.kept taken.root c.in_ok-parts.parts.items c.in-Ok.free.pages.items n plan) is_home (subst (λ (l : List ℕ). IsPlan c.args.self.now.kept c.args.taken.root c.in_ok-parts.parts.items l c.pages-home.result c.in_ok-plan.plan) c.deref.ensures.value c.in_ok-plan.ensures) in
+    let free : HasPages (page_in pages) (length pages + 1) FREE (kept_first self.kept FREE) c.in-Ok.free.pages.items =
+    subst (λ (n : ℕ). HasPages (page_in pages) (length pages + 1) FREE n c.in-Ok.free.pages.items) c.first.ensures.first (c.in-Ok.ensures.answers pages opened.rests).0 in
+    let now = rests_looked pages self.journal c.walk.new.journal opened.rests c.walk.ensures.looked in
+    ran pages (overwritten plan.set plan.home pages) opened.rests.0.0 (view_of self.journal) (view_of c.walk.new.journal) (view_of c.commit.new.self)
+    root taken.root strings (changed strings taken.written) settled c.walk.ensures.looked.stays state
+    (renewed_state pages self.kept taken.root taken.written taken.read taken.before c.in_ok-parts.parts.items c.in-Ok.free.pages.items plan
+    root strings state opened.keeps opened.known opened.had (pages_long pages opened.rests.0.0 (view_of self.journal) settled)
+    c.requires.may.stored c.requires.may.gone c.requires.may.few c.requires.may.count c.in_ok-parts.ensures free is)
+    (c.in_default.ensures.any_moment pages now.0 now.1)
+
+pub returns-clause-done : goal.returns-clause-done
+returns-clause-done g c = λ root strings pages opened state.
+    let self = c.args.self.now in
+    let taken = c.args.taken in
+    let plan = c.in_ok-plan.plan in
+    let settled = opened.rests.0.1 in
+    let is_home : c.pages-home.result ≡ length pages + 1 = c.pages-home.ensures.pages ∙ sym opened.rests.1 in
+    let is : IsPlan self.kept taken.root c.in_ok-parts.parts.items c.in-Ok.free.pages.items (length pages + 1) plan =
+    subst (λ (n : ℕ). IsPlan self.kept taken.root c.in_ok-parts.parts.items c.in-Ok.free.pages.items n plan) is_home (subst (λ (l : List ℕ). IsPlan c.args.self.now.kept c.args.taken.root c.in_ok-parts.parts.items l c.pages-home.result c.in_ok-plan.plan) c.deref.ensures.value c.in_ok-plan.ensures) in
+    let free : HasPages (page_in pages) (length pages + 1) FREE (kept_first self.kept FREE) c.in-Ok.free.pages.items =
+    subst (λ (n : ℕ). HasPages (page_in pages) (length pages + 1) FREE n c.in-Ok.free.pages.items) c.first.ensures.first (c.in-Ok.ensures.answers pages opened.rests).0 in
+    let now = rests_looked pages self.journal c.walk.new.journal opened.rests c.walk.ensures.looked in
+    let long = pages_long pages opened.rests.0.0 (view_of self.journal) settled in
+    let may = c.requires.may in
+    let new : List (List ℕ) = overwritten plan.set plan.home pages in
+    let many : length new + 1 ≡ plan.home =
+    renewed_long pages self.kept taken.root taken.written taken.read taken.before c.in_ok-parts.parts.items c.in-Ok.free.pages.items plan
+    root strings state opened.keeps opened.known opened.had long may.stored may.gone may.few may.count c.in_ok-parts.ensures free is in
+    let keeps : Keeps new plan.kept =
+    renewed_keeps pages self.kept taken.root taken.written taken.read taken.before c.in_ok-parts.parts.items c.in-Ok.free.pages.items plan
+    root strings state opened.keeps opened.known opened.had long may.stored may.gone may.few may.count c.in_ok-parts.ensures free is in
+    let renewed : IsState taken.root (changed strings taken.written) new =
+    renewed_state pages self.kept taken.root taken.written taken.read taken.before c.in_ok-parts.parts.items c.in-Ok.free.pages.items plan
+    root strings state opened.keeps opened.known opened.had long may.stored may.gone may.few may.count c.in_ok-parts.ensures free is in (
+      new,
+      opened_new new c.commit.new.self plan.kept self.read self.before (c.in_default.ensures.done pages now.0 now.1) (many ∙ sym c.in_default.ensures.pages) keeps
+          c.requires.read c.requires.before,
+      renewed,
+    )
+
+pub returns-clause-is_root : goal.returns-clause-is_root
+returns-clause-is_root g c =
+    plan_root c.args.self.now.kept c.args.taken.root c.in_ok-parts.parts.items c.in-Ok.free.pages.items c.pages-home.result c.in_ok-plan.plan (subst (λ (l : List ℕ). IsPlan c.args.self.now.kept c.args.taken.root c.in_ok-parts.parts.items l c.pages-home.result c.in_ok-plan.plan) c.deref.ensures.value c.in_ok-plan.ensures)

@@ -1,0 +1,16 @@
+pub mod Links
+pub mod Chain
+pub mod Directories
+pub mod State
+pub mod Kept
+pub mod Store
+pub mod Answers
+pub mod Known
+pub mod Parts
+pub mod Planned
+pub mod Gathered
+pub mod Plan
+pub mod Taken
+pub mod Pairs
+pub mod Firsts
+pub mod Chains

@@ -1,0 +1,134 @@
+//! What a transaction has written is made to stand.
+ghost use Rattle.std.specs.Prelude.{◌≡◌, ◌≢◌, ◌*◌, ◌⊎◌, ◌≤◌, ◌<◌, ◌||◌, List, ℕ, false, is_err, IfOk, IsErr, IsTrue, OnOk};
+ghost use Rattle.std.specs.FinMap as map;
+ghost use Rattle.std.specs.Int.{is_power_of_two};
+ghost use Rattle.outside.specs.Disk.{Goes};
+ghost use Rattle.page_journal.specs.Answers.{HasDiskCause, answers_disk_fault};
+ghost use Rattle.page_journal.specs.Journal.{home_count, is_broken, loan_of, page_limit};
+ghost use Rattle.chain_store.specs.Directories.{root_in};
+ghost use Rattle.chain_store.specs.Known.{changed};
+ghost use Rattle.chain_store.specs.State.{HasState, IsState};
+ghost use Rattle.chain_store.specs.declared.root.Root.{Root};
+
+use super::Chains;
+use crate::Root;
+use crate::gathering::gather;
+use crate::layout::FREE;
+use crate::number_map::NumberMap;
+use crate::planning::Plan;
+use crate::walking::walk;
+use osm_base::{Bytes, Ids};
+use outside::Disk;
+use page_journal::StoreFault;
+use std::mem;
+
+/// What a transaction has written and read, and the fields that it gives the store.
+#[derive(Drop)]
+pub(crate) struct Taken {
+    written: NumberMap<Bytes>,
+    read: NumberMap<Ids>,
+    before: NumberMap<Bytes>,
+    root: Root,
+}
+
+impl<'d, D: Disk> Chains<'d, D> {
+    ghost use Rattle.chain_store.specs.Chains.{IsOpen, IsOpenStore, before_of, disk_of, is_refused, journal_of, kept_of, read_of, root_of, written_of};
+    ghost use Rattle.chain_store.specs.Taken.{MayCommit};
+
+    /// Makes what was written stand, all of it or nothing, and begins a transaction anew. At every moment a crash
+    /// leaves the store as it was, or as it is to be.
+    pub fn commit(&mut self) -> Result<(), StoreFault>
+        requires { is_refused self.old ≡ false }
+        ensures any_moment { (root : Root) (strings : ℕ → List ℕ) (pages : List (List ℕ)) → IsOpen pages self.old → IsState root strings pages
+            → Goes (λ left. HasState root strings left ⊎ HasState (root_of self.old) (changed strings (written_of self.old)) left)
+            (disk_of self.old).crashes (disk_of self.new).crashes }
+        ensures done { OnOk result ((root : Root) (strings : ℕ → List ℕ) (pages : List (List ℕ)) → IsOpen pages self.old → IsState root strings pages
+            → (new : List (List ℕ)) × IsOpen new self.new × IsState (root_of self.old) (changed strings (written_of self.old)) new) }
+        ensures open { IsErr result → answers_disk_fault result ≡ false → (pages : List (List ℕ)) → IsOpen pages self.old → IsOpen pages self.new }
+        ensures read { read_of self.new ≡ map.empty }
+        ensures written { written_of self.new ≡ map.empty }
+        ensures root { root_of self.new ≡ root_in (kept_of self.new).front.items }
+        ensures kept { IsErr result → kept_of self.new ≡ kept_of self.old }
+        ensures refused { is_refused self.new ≡ is_err result }
+        ensures same_disk { loan_of (journal_of self.new) ≡ loan_of (journal_of self.old) }
+        ensures limit { page_limit (journal_of self.new) ≡ page_limit (journal_of self.old) }
+        ensures broken { is_broken (journal_of self.new) ≡ (is_broken (journal_of self.old) || answers_disk_fault result) }
+        ensures cause { HasDiskCause (disk_of self.old).faults (disk_of self.new).faults result }
+    {
+        let taken = self.take();
+        let outcome = self.write(taken);
+        self.refused = outcome.is_err();
+        outcome
+    }
+
+    // Begins anew, and hands out what was written and read.
+    fn take(&mut self) -> Taken
+        ensures may { MayCommit (journal_of self.old) (kept_of self.old) result }
+        ensures was_written { result.written ≡ written_of self.old }
+        ensures was_read { result.read ≡ read_of self.old }
+        ensures was_before { result.before ≡ before_of self.old }
+        ensures was_root { result.root ≡ root_of self.old }
+        ensures journal { journal_of self.new ≡ journal_of self.old }
+        ensures kept { kept_of self.new ≡ kept_of self.old }
+        ensures read { read_of self.new ≡ map.empty }
+        ensures written { written_of self.new ≡ map.empty }
+        ensures before { before_of self.new ≡ map.empty }
+        ensures root { root_of self.new ≡ root_in (kept_of self.old).front.items }
+    {
+        let root = self.kept.root();
+        let taken = Taken {
+            written: mem::replace(&mut self.written, NumberMap::new(self.alloc)),
+            read: mem::replace(&mut self.read, NumberMap::new(self.alloc)),
+            before: mem::replace(&mut self.before, NumberMap::new(self.alloc)),
+            root: self.root,
+        };
+        self.root = root;
+        taken
+    }
+
+    // Writes what was taken out of the transaction.
+    fn write(&mut self, taken: Taken) -> Result<(), StoreFault>
+        requires may { MayCommit (journal_of self.old) (kept_of self.old) taken }
+        requires read { read_of self.old ≡ map.empty }
+        requires written { written_of self.old ≡ map.empty }
+        requires before { before_of self.old ≡ map.empty }
+        requires root { root_of self.old ≡ root_in (kept_of self.old).front.items }
+        ensures any_moment { (root : Root) (strings : ℕ → List ℕ) (pages : List (List ℕ))
+            → IsOpenStore pages (journal_of self.old) (kept_of self.old) taken.read taken.before → IsState root strings pages
+            → Goes (λ left. HasState root strings left ⊎ HasState taken.root (changed strings taken.written) left)
+            (disk_of self.old).crashes (disk_of self.new).crashes }
+        ensures done { OnOk result ((root : Root) (strings : ℕ → List ℕ) (pages : List (List ℕ))
+            → IsOpenStore pages (journal_of self.old) (kept_of self.old) taken.read taken.before → IsState root strings pages
+            → (new : List (List ℕ)) × IsOpen new self.new × IsState taken.root (changed strings taken.written) new) }
+        ensures open { IsErr result → answers_disk_fault result ≡ false → (pages : List (List ℕ)) → IsOpen pages self.old → IsOpen pages self.new }
+        ensures is_read { read_of self.new ≡ map.empty }
+        ensures is_written { written_of self.new ≡ map.empty }
+        ensures is_root { root_of self.new ≡ root_in (kept_of self.new).front.items }
+        ensures kept { IsErr result → kept_of self.new ≡ kept_of self.old }
+        ensures same_disk { loan_of (journal_of self.new) ≡ loan_of (journal_of self.old) }
+        ensures limit { page_limit (journal_of self.new) ≡ page_limit (journal_of self.old) }
+        ensures broken { is_broken (journal_of self.new) ≡ (is_broken (journal_of self.old) || answers_disk_fault result) }
+        ensures cause { HasDiskCause (disk_of self.old).faults (disk_of self.new).faults result }
+    {
+        let Taken {
+            written,
+            read,
+            before,
+            root,
+        } = taken;
+        let home = self.journal.pages();
+        let free = match walk(self.alloc, &mut self.journal, self.kept.first(FREE), FREE) {
+            Ok(free) => free,
+            Err(fault) => return Err(fault),
+        };
+        let parts = gather(self.alloc, written, read, before)?;
+        let plan = Plan::of(self.alloc, &self.kept, &root, parts, &free.pages, home)?;
+        let Plan { set, home, kept } = plan;
+        if let Err(fault) = self.journal.commit(&set, home) {
+            return Err(fault);
+        }
+        self.root = root;
+        self.kept = kept;
+        Ok(())
+    }
+}

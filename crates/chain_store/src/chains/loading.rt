@@ -1,0 +1,178 @@
+//! Chains are read, and what they are to have is noted.
+ghost use Rattle.std.specs.Prelude.{◌≡◌, ◌*◌, ◌⊎◌, ◌≤◌, ◌<◌, ◌||◌, List, ℕ, None, Some, false, is_err, IfOk, IsSome, OnOk};
+ghost use Rattle.std.specs.FinMap as map;
+ghost use Rattle.outside.specs.Disk.{ReadsAtMost};
+ghost use Rattle.page_journal.specs.Answers.{HasDiskCause, answers_disk_fault};
+ghost use Rattle.page_journal.specs.Journal.{home_count, is_broken};
+ghost use Rattle.chain_store.specs.Answers.{IsReadAnswer, Looked};
+ghost use Rattle.chain_store.specs.Directories.{IsChain, IsString};
+ghost use Rattle.chain_store.specs.Known.{MayRead};
+ghost use Rattle.chain_store.specs.Store.{HasBytes};
+
+use super::Chains;
+use crate::walking::{Walked, walk};
+use osm_base::{Bytes, Ids, TryCopy};
+use outside::Disk;
+use page_journal::StoreFault;
+
+impl<'d, D: Disk> Chains<'d, D> {
+    ghost use Rattle.chain_store.specs.Chains.{Brings, IsOpen, Loads, OnlyRead, disk_of, first_of, is_refused, journal_of, kept_of, read_of, root_of, written_of};
+
+    /// The bytes of a chain, as the transaction has them.
+    pub fn load(&mut self, n: u32) -> Result<Bytes, StoreFault>
+        requires string { IsString (root_of self.old).buckets n }
+        requires going { is_refused self.old ≡ false }
+        ensures answers { (pages : List (List ℕ)) → IsOpen pages self.old
+            → Loads pages n (first_of self.old n) (map.get (written_of self.old) n) result }
+        ensures open { (pages : List (List ℕ)) → IsOpen pages self.old → IsOpen pages self.new }
+        ensures alone { IsReadAnswer (is_broken (journal_of self.old)) result }
+        ensures stays { OnlyRead self.old self.new }
+        ensures broken { is_broken (journal_of self.new) ≡ (is_broken (journal_of self.old) || answers_disk_fault result) }
+        ensures reads { OnOk result (MayRead (4096 * home_count (journal_of self.old)) n (read_of self.old) (read_of self.new)
+            (disk_of self.old) (disk_of self.new)) }
+        ensures own { IsSome (map.get (written_of self.old) n) → (read_of self.new ≡ read_of self.old)
+            × ReadsAtMost 0 (4096 * home_count (journal_of self.old)) (disk_of self.old) (disk_of self.new) }
+        ensures known { OnOk result (map.get (written_of self.old) n ≡ None → IsSome (map.get (read_of self.new) n)) }
+        ensures refused { is_refused self.new ≡ is_err result }
+        ensures cause { HasDiskCause (disk_of self.old).faults (disk_of self.new).faults result }
+    {
+        let loaded = self.loaded(n);
+        self.refused = loaded.is_err();
+        loaded
+    }
+
+    /// Gives a chain these bytes. The old chain is read, where the transaction has not done so.
+    pub fn store(&mut self, n: u32, bytes: Bytes) -> Result<(), StoreFault>
+        requires string { IsString (root_of self.old).buckets n }
+        requires going { is_refused self.old ≡ false }
+        ensures written { OnOk result (written_of self.new ≡ map.insert (written_of self.old) n bytes) }
+        ensures answers { (pages : List (List ℕ)) → IsOpen pages self.old
+            → Brings pages n (first_of self.old n) (map.get (read_of self.old) n) result }
+        ensures open { (pages : List (List ℕ)) → IsOpen pages self.old → IsOpen pages self.new }
+        ensures alone { IsReadAnswer (is_broken (journal_of self.old)) result }
+        ensures looked { Looked (journal_of self.old) (journal_of self.new) }
+        ensures kept { kept_of self.new ≡ kept_of self.old }
+        ensures root { root_of self.new ≡ root_of self.old }
+        ensures broken { is_broken (journal_of self.new) ≡ (is_broken (journal_of self.old) || answers_disk_fault result) }
+        ensures reads { OnOk result (MayRead (4096 * home_count (journal_of self.old)) n (read_of self.old) (read_of self.new)
+            (disk_of self.old) (disk_of self.new)) }
+        ensures own { IsSome (map.get (read_of self.old) n) → (read_of self.new ≡ read_of self.old)
+            × ReadsAtMost 0 (4096 * home_count (journal_of self.old)) (disk_of self.old) (disk_of self.new) }
+        ensures known { OnOk result (IsSome (map.get (read_of self.new) n)) }
+        ensures refused { is_refused self.new ≡ is_err result }
+        ensures cause { HasDiskCause (disk_of self.old).faults (disk_of self.new).faults result }
+    {
+        if let Err(fault) = self.bring(n) {
+            self.refused = true;
+            return Err(fault);
+        }
+        if self.written.put(n, bytes).is_err() {
+            self.refused = true;
+            return Err(StoreFault::OutOfMemory);
+        }
+        Ok(())
+    }
+
+    /// The same, where these are the bytes that the chain has in the store: a page that stays as it is will not be
+    /// written again.
+    pub fn store_over(&mut self, n: u32, before: Bytes, bytes: Bytes) -> Result<(), StoreFault>
+        requires string { IsString (root_of self.old).buckets n }
+        requires going { is_refused self.old ≡ false }
+        requires before { (pages : List (List ℕ)) → IsOpen pages self.old → HasBytes pages n (first_of self.old n) before }
+        ensures written { OnOk result (written_of self.new ≡ map.insert (written_of self.old) n bytes) }
+        ensures answers { (pages : List (List ℕ)) → IsOpen pages self.old
+            → Brings pages n (first_of self.old n) (map.get (read_of self.old) n) result }
+        ensures open { (pages : List (List ℕ)) → IsOpen pages self.old → IsOpen pages self.new }
+        ensures alone { IsReadAnswer (is_broken (journal_of self.old)) result }
+        ensures looked { Looked (journal_of self.old) (journal_of self.new) }
+        ensures kept { kept_of self.new ≡ kept_of self.old }
+        ensures root { root_of self.new ≡ root_of self.old }
+        ensures broken { is_broken (journal_of self.new) ≡ (is_broken (journal_of self.old) || answers_disk_fault result) }
+        ensures reads { OnOk result (MayRead (4096 * home_count (journal_of self.old)) n (read_of self.old) (read_of self.new)
+            (disk_of self.old) (disk_of self.new)) }
+        ensures own { IsSome (map.get (read_of self.old) n) → (read_of self.new ≡ read_of self.old)
+            × ReadsAtMost 0 (4096 * home_count (journal_of self.old)) (disk_of self.old) (disk_of self.new) }
+        ensures known { OnOk result (IsSome (map.get (read_of self.new) n)) }
+        ensures refused { is_refused self.new ≡ is_err result }
+        ensures cause { HasDiskCause (disk_of self.old).faults (disk_of self.new).faults result }
+    {
+        if self.before.put(n, before).is_err() {
+            self.refused = true;
+            return Err(StoreFault::OutOfMemory);
+        }
+        self.store(n, bytes)
+    }
+
+    // What was written, or else what stands in the store.
+    fn loaded(&mut self, n: u32) -> Result<Bytes, StoreFault>
+        requires string { IsString (root_of self.old).buckets n }
+        ensures answers { (pages : List (List ℕ)) → IsOpen pages self.old
+            → Loads pages n (first_of self.old n) (map.get (written_of self.old) n) result }
+        ensures open { (pages : List (List ℕ)) → IsOpen pages self.old → IsOpen pages self.new }
+        ensures alone { IsReadAnswer (is_broken (journal_of self.old)) result }
+        ensures stays { OnlyRead self.old self.new }
+        ensures broken { is_broken (journal_of self.new) ≡ (is_broken (journal_of self.old) || answers_disk_fault result) }
+        ensures reads { OnOk result (MayRead (4096 * home_count (journal_of self.old)) n (read_of self.old) (read_of self.new)
+            (disk_of self.old) (disk_of self.new)) }
+        ensures own { IsSome (map.get (written_of self.old) n) → (read_of self.new ≡ read_of self.old)
+            × ReadsAtMost 0 (4096 * home_count (journal_of self.old)) (disk_of self.old) (disk_of self.new) }
+        ensures known { OnOk result (map.get (written_of self.old) n ≡ None → IsSome (map.get (read_of self.new) n)) }
+        ensures going { is_refused self.new ≡ is_refused self.old }
+        ensures cause { HasDiskCause (disk_of self.old).faults (disk_of self.new).faults result }
+    {
+        if let Some(own) = self.written.get(n) {
+            return Ok(own.copy(self.alloc)?);
+        }
+        self.fetch(n)
+    }
+
+    // Reads a chain of the store, where that was not done yet.
+    fn bring(&mut self, n: u32) -> Result<(), StoreFault>
+        requires string { IsChain n }
+        ensures answers { (pages : List (List ℕ)) → IsOpen pages self.old
+            → Brings pages n (first_of self.old n) (map.get (read_of self.old) n) result }
+        ensures open { (pages : List (List ℕ)) → IsOpen pages self.old → IsOpen pages self.new }
+        ensures alone { IsReadAnswer (is_broken (journal_of self.old)) result }
+        ensures stays { OnlyRead self.old self.new }
+        ensures broken { is_broken (journal_of self.new) ≡ (is_broken (journal_of self.old) || answers_disk_fault result) }
+        ensures reads { OnOk result (MayRead (4096 * home_count (journal_of self.old)) n (read_of self.old) (read_of self.new)
+            (disk_of self.old) (disk_of self.new)) }
+        ensures own { IsSome (map.get (read_of self.old) n) → (read_of self.new ≡ read_of self.old)
+            × ReadsAtMost 0 (4096 * home_count (journal_of self.old)) (disk_of self.old) (disk_of self.new) }
+        ensures known { OnOk result (IsSome (map.get (read_of self.new) n)) }
+        ensures going { is_refused self.new ≡ is_refused self.old }
+        ensures cause { HasDiskCause (disk_of self.old).faults (disk_of self.new).faults result }
+    {
+        if self.read.get(n).is_some() {
+            return Ok(());
+        }
+        match self.fetch(n) {
+            Ok(_) => Ok(()),
+            Err(fault) => Err(fault),
+        }
+    }
+
+    // Reads a chain of the store, and keeps which pages it has.
+    fn fetch(&mut self, n: u32) -> Result<Bytes, StoreFault>
+        requires string { IsChain n }
+        ensures answers { (pages : List (List ℕ)) → IsOpen pages self.old → Loads pages n (first_of self.old n) None result }
+        ensures open { (pages : List (List ℕ)) → IsOpen pages self.old → IsOpen pages self.new }
+        ensures alone { IsReadAnswer (is_broken (journal_of self.old)) result }
+        ensures stays { OnlyRead self.old self.new }
+        ensures broken { is_broken (journal_of self.new) ≡ (is_broken (journal_of self.old) || answers_disk_fault result) }
+        ensures reads { OnOk result (MayRead (4096 * home_count (journal_of self.old)) n (read_of self.old) (read_of self.new)
+            (disk_of self.old) (disk_of self.new)) }
+        ensures known { OnOk result (IsSome (map.get (read_of self.new) n)) }
+        ensures going { is_refused self.new ≡ is_refused self.old }
+        ensures cause { HasDiskCause (disk_of self.old).faults (disk_of self.new).faults result }
+    {
+        let first = self.kept.first(n);
+        let walked = match walk(self.alloc, &mut self.journal, first, n) {
+            Ok(walked) => walked,
+            Err(fault) => return Err(fault),
+        };
+        let Walked { pages, bytes } = walked;
+        self.read.put(n, Ids::from_vec(pages))?;
+        Ok(Bytes::from_vec(bytes))
+    }
+}
