@@ -1,8 +1,9 @@
 //! Sets of tiles in bytes, and joined.
 use crate::covers::text_of_runs;
-use due_tiles::{DueFault, decode, encode, union};
-use example_table::{bytes_of, number_of};
+use due_tiles::{DueFault, TilesFault, decode, encode, union, write_tiles};
+use example_table::{bytes_of, number_of, row_of};
 use osm_base::OutOfMemory;
+use outside::{Fails, MemSink};
 use std::alloc::Global;
 use tile_cover::TileRuns;
 
@@ -87,4 +88,41 @@ pub fn joined(alloc: Global, given: &str) -> Result<Option<String>, OutOfMemory>
     };
     union(alloc, &mut one, &other)?;
     Ok(Some(text_of_runs(alloc, one.as_slice())?))
+}
+
+/// The lines of a text, a word each.
+fn words_of(alloc: Global, bytes: &[u8]) -> Result<Option<String>, OutOfMemory> {
+    let Ok(text) = std::str::from_utf8(bytes) else {
+        return Ok(None);
+    };
+    let mut words = String::new(alloc);
+    for line in text.lines() {
+        if !words.is_empty() {
+            words.push(' ')?;
+        }
+        words.push_str(line)?;
+    }
+    Ok(Some(words))
+}
+
+/// The lines of a set and of the tiles above, from a least zoom on: `LEAST RUNS`.
+pub fn listed(alloc: Global, given: &str) -> Result<Option<String>, OutOfMemory> {
+    let Some((least, runs)) = row_of(given) else {
+        return Ok(None);
+    };
+    let (Some(least), Some(bytes)) = (number_of(least), bytes_of_runs(alloc, runs)?) else {
+        return Ok(None);
+    };
+    let Ok(least) = u32::try_from(least) else {
+        return Ok(None);
+    };
+    let Some(set) = set_of(alloc, &bytes)? else {
+        return Ok(None);
+    };
+    let mut sink = MemSink::new(alloc, Fails::never(alloc));
+    match write_tiles(alloc, &set, least, &mut sink) {
+        Ok(()) => words_of(alloc, sink.taken()),
+        Err(TilesFault::WriteFault) => Ok(Some(String::from_str(alloc, "write fault")?)),
+        Err(TilesFault::OutOfMemory) => Err(OutOfMemory),
+    }
 }

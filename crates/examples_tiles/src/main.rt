@@ -36,6 +36,7 @@ impl Examples for OfTiles {
             "due" => due::spelled(alloc, given),
             "bytes" => due::read(alloc, given),
             "union" => due::joined(alloc, given),
+            "text" => due::listed(alloc, given),
             _ => Ok(None),
         }
     }
