@@ -27,3 +27,4 @@ pub mod Times
 pub mod Unique
 pub mod Whole
 pub mod WrittenLaws
+pub mod EndLaws

@@ -14,3 +14,4 @@ pub mod Taken
 pub mod Pairs
 pub mod Firsts
 pub mod Chains
+pub mod Ends

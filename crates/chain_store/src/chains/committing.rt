@@ -6,6 +6,7 @@ ghost use Rattle.outside.specs.Disk.{Goes};
 ghost use Rattle.page_journal.specs.Answers.{HasDiskCause, answers_disk_fault};
 ghost use Rattle.page_journal.specs.Journal.{home_count, is_broken, loan_of, page_limit};
 ghost use Rattle.chain_store.specs.Directories.{root_in};
+ghost use Rattle.chain_store.specs.Ends.{Ends, IsCommitAnswer};
 ghost use Rattle.chain_store.specs.Known.{changed};
 ghost use Rattle.chain_store.specs.State.{HasState, IsState};
 ghost use Rattle.chain_store.specs.declared.root.Root.{Root};
@@ -44,6 +45,10 @@ impl<'d, D: Disk> Chains<'d, D> {
             (disk_of self.old).crashes (disk_of self.new).crashes }
         ensures done { OnOk result ((root : Root) (strings : ℕ → List ℕ) (pages : List (List ℕ)) → IsOpen pages self.old → IsState root strings pages
             → (new : List (List ℕ)) × IsOpen new self.new × IsState (root_of self.old) (changed strings (written_of self.old)) new) }
+        ensures answers { (pages : List (List ℕ)) → IsOpen pages self.old
+            → Ends pages (kept_of self.old) (root_of self.old) (written_of self.old) (read_of self.old) (before_of self.old)
+            (page_limit (journal_of self.old)) (home_count (journal_of self.new)) result }
+        ensures alone { IsCommitAnswer (is_broken (journal_of self.old)) (page_limit (journal_of self.old)) result }
         ensures open { IsErr result → answers_disk_fault result ≡ false → (pages : List (List ℕ)) → IsOpen pages self.old → IsOpen pages self.new }
         ensures read { read_of self.new ≡ map.empty }
         ensures written { written_of self.new ≡ map.empty }
@@ -100,6 +105,10 @@ impl<'d, D: Disk> Chains<'d, D> {
         ensures done { OnOk result ((root : Root) (strings : ℕ → List ℕ) (pages : List (List ℕ))
             → IsOpenStore pages (journal_of self.old) (kept_of self.old) taken.read taken.before → IsState root strings pages
             → (new : List (List ℕ)) × IsOpen new self.new × IsState taken.root (changed strings taken.written) new) }
+        ensures answers { (pages : List (List ℕ)) → IsOpenStore pages (journal_of self.old) (kept_of self.old) taken.read taken.before
+            → Ends pages (kept_of self.old) taken.root taken.written taken.read taken.before
+            (page_limit (journal_of self.old)) (home_count (journal_of self.new)) result }
+        ensures alone { IsCommitAnswer (is_broken (journal_of self.old)) (page_limit (journal_of self.old)) result }
         ensures open { IsErr result → answers_disk_fault result ≡ false → (pages : List (List ℕ)) → IsOpen pages self.old → IsOpen pages self.new }
         ensures is_read { read_of self.new ≡ map.empty }
         ensures is_written { written_of self.new ≡ map.empty }
