@@ -1,0 +1,107 @@
+-- The buckets of a transaction in a tree, as a finite map.
+use Rattle.std.proofs.Common.{◌≡◌, ◌≢◌, ◌-◌, ◌<◌, ℕ, Bool, true, cond, List, Option, Some, None, Result, Ok, Err, sym, ap, subst, ◌∙◌, arith, inl, inr}
+use Rattle.std.proofs.lemmas.Bool.{cases_order}
+use Rattle.std.specs.declared.cmp.Ordering.{Ordering}
+use Rattle.bucket_records.proofs.MapLaws.{less_of, equal_of, greater_of}
+use Rattle.std.proofs.lemmas.Option.{same_Some}
+use Rattle.std.specs.Result.{IfOk, OnOk, OnErr}
+use Rattle.std.specs.Bool.{IsTrue}
+use Rattle.std.specs.Option.{IfSome, IsSome, OnSome, is_some}
+use Rattle.std.specs.Ordering.{nat_cmp, is_eq}
+use Rattle.std.specs.Cmp.{nat_cmp_total}
+use Rattle.std.specs.BTreeMap.{is_at}
+use Rattle.std.specs.Map.{lookup}
+use Rattle.std.specs.FinMap as map
+use Rattle.std.specs.FinMap.{nat_cmp-IsAntisymmetric}
+use Rattle.osm_base.proofs.Found.{found}
+use Rattle.bucket_store.specs.Cache.{CacheMap}
+use Rattle.bucket_store.specs.declared.cache.Cached.{Cached}
+
+pub seen_get : (n : ℕ) (entries : List (ℕ × Cached)) (seen : CacheMap) → map.from_entries entries ≡ seen
+    → lookup (is_at (nat_cmp n)) entries ≡ map.get seen n
+seen_get n entries seen is =
+    found nat_cmp nat_cmp_total nat_cmp-IsAntisymmetric n entries ∙ ap (λ (m : CacheMap). map.get m n) is
+
+pub true_is_some : (b : Bool) (o : Option Cached) → b ≡ is_some o → IsTrue b → IsSome o
+true_is_some b None same is = absurd (cc)
+true_is_some b (Some own) same is = cc
+
+pub some_is_true : (b : Bool) (o : Option Cached) → b ≡ is_some o → IsSome o → IsTrue b
+some_is_true b None same some = absurd (cc)
+some_is_true b (Some own) same some = cc
+
+not_none : IsSome {T = Cached} None → ⊥
+not_none some = absurd (cc)
+
+some_there : (own : Cached) → IsSome (Some own)
+some_there own = cc
+
+-- what is there is found
+pub none_there : (n : ℕ) (entries : List (ℕ × Cached)) (seen : CacheMap) → map.from_entries entries ≡ seen → IsSome (map.get seen n)
+    → None ≡ lookup (is_at (nat_cmp n)) entries → ⊥
+none_there n entries seen is there none =
+    let same = none ∙ seen_get n entries seen is in absurd (let P : Option Cached → Type 0 = λ o. IsSome o in not_none (subst P (sym same) there))
+
+pub same_there : (n : ℕ) (entries : List (ℕ × Cached)) (seen : CacheMap) (found own : Cached) → map.from_entries entries ≡ seen
+    → Some found ≡ lookup (is_at (nat_cmp n)) entries → map.get seen n ≡ Some own → found ≡ own
+same_there n entries seen found own is there here = same_Some found own (there ∙ seen_get n entries seen is ∙ here)
+
+-- facts that follow at one outcome
+pub on_ok : {T E : Type 0} (r : Result T E) (P Q : Type 0) → OnOk r P → (P → Q) → OnOk r Q
+on_ok (Ok x) P Q holds leads = leads holds
+on_ok (Err e) P Q holds leads = tt
+
+pub on_err : {T E : Type 0} (r : Result T E) (P Q : Type 0) → OnErr r P → (P → Q) → OnErr r Q
+on_err (Ok x) P Q holds leads = tt
+on_err (Err e) P Q holds leads = leads holds
+
+pub if_ok : {T E : Type 0} (r : Result T E) (P Q : T → Type 0) → IfOk r P → ((x : T) → P x → Q x) → IfOk r Q
+if_ok (Ok x) P Q holds leads = leads x holds
+if_ok (Err e) P Q holds leads = tt
+
+-- to put back what is there changes nothing
+pub insert_same : (seen : CacheMap) (n : ℕ) (own : Cached) → map.get seen n ≡ Some own → map.insert seen n own ≡ seen
+insert_same seen n own here =
+    map.same_map nat_cmp_total nat_cmp-IsAntisymmetric (map.insert seen n own) seen (λ q.
+    map.get-insert nat_cmp_total seen n own q ∙ elim (cases_order q n) [
+      | inl same ↦
+          ap (λ (r : Ordering). cond (is_eq r) (Some own) (map.get seen q)) (equal_of q n same) ∙ sym here
+          ∙ ap (λ (k : ℕ). map.get seen k) (sym same)
+      | inr (inl low) ↦ ap (λ (r : Ordering). cond (is_eq r) (Some own) (map.get seen q)) (less_of q n low)
+      | inr (inr high) ↦ ap (λ (r : Ordering). cond (is_eq r) (Some own) (map.get seen q)) (greater_of q n high)
+    ])
+
+pub found_is : (n : ℕ) (entries : List (ℕ × Cached)) (found : Cached) → Some found ≡ lookup (is_at (nat_cmp n)) entries
+    → IsSome (lookup (is_at (nat_cmp n)) entries)
+found_is n entries found there = let P : Option Cached → Type 0 = λ o. IsSome o in subst P there (some_there found)
+
+pub seen_there : (n : ℕ) (entries : List (ℕ × Cached)) (seen : CacheMap) (found : Cached) → map.from_entries entries ≡ seen
+    → Some found ≡ lookup (is_at (nat_cmp n)) entries → map.get seen n ≡ Some found
+seen_there n entries seen found is there = sym (there ∙ seen_get n entries seen is)
+
+pub nothing : (seen : CacheMap) (n : ℕ) (own : Cached) → seen ≡ map.empty → map.get seen n ≡ Some own → ⊥
+nothing seen n own none there =
+    let absent : map.get seen n ≡ None = ap (λ (m : CacheMap). map.get m n) none ∙ map.get-empty nat_cmp n in
+    absurd (cc (absent, there))
+
+-- as many buckets as entries
+pub on_some : {T : Type 0} (o : Option T) (P Q : Type 0) → OnSome o P → (P → Q) → OnSome o Q
+on_some None P Q holds leads = tt
+on_some (Some x) P Q holds leads = leads holds
+
+pub if_some : {T : Type 0} (o : Option T) (P Q : T → Type 0) → IfSome o P → ((x : T) → P x → Q x) → IfSome o Q
+if_some None P Q holds leads = tt
+if_some (Some x) P Q holds leads = leads x holds
+
+-- a bucket less
+pub fewer : (old new : CacheMap) (n : ℕ) (own : Cached) → map.get old n ≡ Some own → new ≡ map.remove old n → map.len new < map.len old
+fewer old new n own there is =
+    let has : map.contains_key old n ≡ true = ap (λ (o : Option Cached). is_some o) there in
+    let less : map.len new ≡ map.len old - 1 =
+    ap (λ (m : CacheMap). map.len m) is ∙ map.len-remove nat_cmp_total old n
+    ∙ ap (λ (b : Bool). cond b (map.len old - 1) (map.len old)) has in
+    let some : map.len old ≢ 0 = λ zero. nothing old n own (map.empty_of_len old zero) there in
+    grind (arith, less, some)
+
+pub get_less : (old new : CacheMap) (n k : ℕ) → new ≡ map.remove old n → map.get new k ≡ cond (is_eq (nat_cmp k n)) None (map.get old k)
+get_less old new n k is = ap (λ (m : CacheMap). map.get m k) is ∙ map.get-remove nat_cmp_total old n k

@@ -1,0 +1,5 @@
+pub mod BucketLaws
+pub mod Caches
+pub mod Openings
+pub mod Writings
+pub mod Installs

@@ -1,0 +1,53 @@
+-- A bucket that was read is there as it is in the store, and the others are as they were.
+use Rattle.std.proofs.Common.{◌≡◌, false, sym, ap, subst}
+use Rattle.chain_store.specs.declared.root.Root.{Root}
+use Rattle.std.specs.FinMap as map
+use Rattle.bucket_store.specs.Cache.{CacheMap}
+use Rattle.bucket_store.specs.Buckets.{bucket_count}
+use Rattle.bucket_store.specs.Transaction.{IsOpenWith}
+use Rattle.bucket_store.specs.declared.cache.Cached.{Cached}
+use Rattle.bucket_store.proofs.Openings.{open_later, open_more, stored_later, buckets_more, buckets_same, put_there, some_of, none_of, content_more}
+use Rattle.bucket_store.proofs.buckets.Buckets.bring_chain.Goals as goal
+
+pub returns-in-Err-clause-open : goal.returns-in-Err-clause-open
+returns-in-Err-clause-open g c pages was =
+    open_later pages c.args.self.now.chains c.read_bucket.new.chains c.args.self.now.cache c.in-Err.ensures.stays
+    (c.in-Err.ensures.open pages was.open_chains) was
+
+pub invariant_of-self-in-Ok-add : goal.invariant_of-self-in-Ok-add
+invariant_of-self-in-Ok-add g c =
+    let own : Cached = record { bucket = c.in-Ok.bucket; changed = false } in
+    let many : bucket_count c.args.self.now.chains ≡ bucket_count c.read_bucket.new.chains =
+    ap (λ (r : Root). r.buckets) (sym c.in-Ok.ensures.stays.root) in
+    record {
+      going = λ _. c.in-Ok.ensures.going;
+      own = buckets_same _ _ c.add.new.self many (buckets_more (bucket_count c.args.self.now.chains) c.args.self.now.cache c.add.new.self c.args.n own
+          c.in-Ok-add.ensures.ok c.args.self.now.own c.requires.bucket c.in-Ok.ensures.own);
+    }
+
+pub returns-in-Ok-add-clause-there : goal.returns-in-Ok-add-clause-there
+returns-in-Ok-add-clause-there g c =
+    let own : Cached = record { bucket = c.in-Ok.bucket; changed = false } in
+    some_of _ own (put_there c.args.self.now.cache c.add.new.self c.args.n own c.in-Ok-add.ensures.ok)
+
+pub returns-in-Ok-add-clause-open : goal.returns-in-Ok-add-clause-open
+returns-in-Ok-add-clause-open g c pages was =
+    let own : Cached = record { bucket = c.in-Ok.bucket; changed = false } in
+    let stored = stored_later pages c.args.self.now.chains c.read_bucket.new.chains c.args.n c.in-Ok.bucket c.in-Ok.ensures.stays
+    (c.in-Ok.ensures.answers pages was.open_chains) in
+    open_more pages c.read_bucket.new.chains c.args.self.now.cache c.add.new.self c.args.n own c.in-Ok-add.ensures.ok (λ same. stored)
+    (open_later pages c.args.self.now.chains c.read_bucket.new.chains c.args.self.now.cache c.in-Ok.ensures.stays
+    (c.in-Ok.ensures.open pages was.open_chains) was)
+
+pub returns-in-Ok-add-clause-content : goal.returns-in-Ok-add-clause-content
+returns-in-Ok-add-clause-content g c pages was other values has =
+    let own : Cached = record { bucket = c.in-Ok.bucket; changed = false } in
+    let none = none_of c.has.result (map.get c.args.self.now.cache c.args.n) c.has.ensures.1 c.if-has.false in
+    content_more pages c.args.self.now.chains c.read_bucket.new.chains c.args.self.now.cache c.add.new.self c.args.n own c.in-Ok.ensures.stays
+    c.in-Ok-add.ensures.ok (c.in-Ok.ensures.answers pages was.open_chains) none other values has
+
+pub returns-in-Err-add-clause-open : goal.returns-in-Err-add-clause-open
+returns-in-Err-add-clause-open g c pages was =
+    subst (λ (m : CacheMap). IsOpenWith pages c.read_bucket.new.chains m) (sym c.in-Err-add.ensures.err)
+    (open_later pages c.args.self.now.chains c.read_bucket.new.chains c.args.self.now.cache c.in-Ok.ensures.stays
+    (c.in-Ok.ensures.open pages was.open_chains) was)

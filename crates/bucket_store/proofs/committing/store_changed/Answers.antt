@@ -1,0 +1,44 @@
+-- Each turn stores a bucket, and what will be written stays.
+use Rattle.std.proofs.Common.{refl, sym, ap, ◌∙◌, arith}
+use Rattle.chain_store.specs.declared.root.Root.{Root}
+use Rattle.chain_store.specs.Chains.{written_of, journal_of}
+use Rattle.page_journal.specs.Journal.{is_broken}
+use Rattle.chain_store.proofs.Looks.{looked_then}
+use Rattle.bucket_store.specs.Buckets.{bucket_count}
+use Rattle.bucket_store.proofs.BucketLaws.{chain_given}
+use Rattle.bucket_store.proofs.Caches.{fewer}
+use Rattle.bucket_store.proofs.Openings.{buckets_less, buckets_same}
+use Rattle.bucket_store.proofs.Writings.{after_same, after_none, still_then}
+use Rattle.bucket_store.proofs.committing.store_changed.Goals as goal
+
+pub known_string-requires : goal.known_string-requires
+known_string-requires g c =
+    chain_given (bucket_count c.loop-n.chains) c.root.result.buckets c.in-Some.n (ap (λ (r : Root). r.buckets) (sym c.root.ensures))
+    (c.loop-n.invariant.buckets c.in-Some.n c.in-Some.cached c.in-Some.ensures.there).0
+
+pub loop-n-smaller : goal.loop-n-smaller
+loop-n-smaller g c = fewer c.loop-n.cache c.pop.new.self c.in-Some.n c.in-Some.cached c.in-Some.ensures.there c.in-Some.ensures.rest
+
+pub loop-n-preserved : goal.loop-n-preserved
+loop-n-preserved g c =
+    let so-far = c.loop-n.invariant in
+    let done = c.in_default-store_bucket.ensures in
+    record {
+      buckets = buckets_same (bucket_count c.loop-n.chains) (bucket_count c.store_bucket.new.chains) c.pop.new.self
+          (ap (λ (r : Root). r.buckets) (sym done.root))
+          (buckets_less (bucket_count c.loop-n.chains) c.loop-n.cache c.pop.new.self c.in-Some.n c.in-Some.ensures.rest so-far.buckets);
+      going = done.going;
+      written = λ n. after_same c.loop-n.cache c.pop.new.self (written_of c.loop-n.chains) (written_of c.store_bucket.new.chains) c.in-Some.n
+          c.in-Some.cached c.in-Some.ensures.there c.in-Some.ensures.rest done.written n ∙ so-far.written n;
+      opens = λ pages was. done.open pages (so-far.opens pages was);
+      kept = done.kept ∙ so-far.kept;
+      root = done.root ∙ so-far.root;
+      still = still_then (is_broken (journal_of c.args.chains.now)) (is_broken (journal_of c.loop-n.chains))
+          (is_broken (journal_of c.store_bucket.new.chains)) so-far.still done.broken;
+      later = omega (arith, so-far.later, done.cause.later);
+      looked = looked_then (journal_of c.args.chains.now) (journal_of c.loop-n.chains) (journal_of c.store_bucket.new.chains) so-far.looked done.looked;
+    }
+
+pub returns-clause-written : goal.returns-clause-written
+returns-clause-written g c n =
+    sym (after_none c.loop-n.cache (written_of c.loop-n.chains) n (c.in_default.ensures.none refl)) ∙ c.loop-n.invariant.written n

@@ -1,0 +1,26 @@
+-- What the chains will be written with is settled from the start.
+use Rattle.std.proofs.Common.{◌≡◌, ◌≤◌, ℕ, List, false}
+use Rattle.std.specs.FinMap as map
+use Rattle.chain_store.specs.Chains.{IsOpen, disk_of, is_refused, journal_of, kept_of, root_of, written_of}
+use Rattle.page_journal.specs.Journal.{is_broken}
+use Rattle.chain_store.specs.Answers.{Looked}
+use Rattle.bucket_store.specs.Buckets.{AreBuckets, bucket_count}
+use Rattle.bucket_store.specs.Committing.{after}
+use Rattle.bucket_store.proofs.committing.store_changed.Given as goal
+
+abbrev pub invariant-loop-n : goal.invariant-loop-n
+invariant-loop-n g l = record {
+  buckets : AreBuckets (bucket_count l.chains) l.cache;
+  going : is_refused l.chains ≡ false;
+  written : (n : ℕ) → after (map.get l.cache n) (map.get (written_of l.chains) n)
+      ≡ after (map.get l.initial.cache n) (map.get (written_of l.initial.chains) n);
+  opens : (pages : List (List ℕ)) → IsOpen pages l.initial.chains → IsOpen pages l.chains;
+  kept : kept_of l.chains ≡ kept_of l.initial.chains;
+  root : root_of l.chains ≡ root_of l.initial.chains;
+  still : is_broken (journal_of l.chains) ≡ is_broken (journal_of l.initial.chains);
+  later : (disk_of l.initial.chains).faults ≤ (disk_of l.chains).faults;
+  looked : Looked (journal_of l.initial.chains) (journal_of l.chains);
+}
+
+abbrev pub decreases-loop-n : goal.decreases-loop-n
+decreases-loop-n g l = map.len l.cache

@@ -1,0 +1,55 @@
+-- The buckets of an open store, as a transaction has them. Bucket `b` of map `m` is the chain `16 + 65536 m + b`, and a
+-- key stands in the bucket that it is modulo the number of buckets.
+use Rattle.std.specs.Prelude.{◌≡◌, ◌⊎◌, ℕ, ◌+◌, ◌-◌, ◌*◌, ◌%◌, ◌<◌, ◌≤◌, List, None, Some, Result, Ok, Err, IsSome}
+use Rattle.std.specs.FinMap as map
+use Rattle.outside.specs.declared.disk.Disk.{Ghosts}
+use Rattle.page_journal.specs.declared.fault.StoreFault.{StoreFault}
+use Rattle.page_journal.specs.declared.fault.StoreFault.TheVariants.{BadStore}
+use Rattle.chain_store.specs.declared.chains.Chains.{Chains}
+use Rattle.chain_store.specs.Chains.{LoadedIs, first_of, root_of, written_of}
+use Rattle.chain_store.specs.Store.{IsRefused}
+use Rattle.bucket_records.specs.Records.{BucketMap, IsBucket, IsNoBucket}
+use Rattle.bucket_store.specs.Cache.{CacheMap}
+use Rattle.bucket_store.specs.declared.cache.Cached.{Cached}
+
+-- the chain of the bucket of a key, and the bucket of a chain
+abbrev pub chain_at : ℕ → ℕ → ℕ → ℕ
+chain_at buckets m key = 16 + 65536 * m + key % buckets
+
+abbrev pub bucket_in : ℕ → ℕ
+bucket_in n = (n - 16) % 65536
+
+-- how many buckets each map has
+abbrev pub bucket_count : {D : Type 0} {g : Ghosts D} → Chains D g → ℕ
+bucket_count chains = (root_of chains).buckets
+
+-- what the chain has spells these records
+pub record Stored {D : Type 0} {g : Ghosts D} (pages : List (List ℕ)) (chains : Chains D g) (n : ℕ) (values : BucketMap) : Type 0 where
+  pub bytes : List ℕ
+  pub loaded : LoadedIs pages n (first_of chains n) (map.get (written_of chains) n) bytes
+  pub spells : IsBucket (bucket_count chains) (bucket_in n) bytes (map.entries values)
+
+-- the chain is refused at this page, or spells no records and begins there
+abbrev pub IsBadChain : {D : Type 0} {g : Ghosts D} → List (List ℕ) → Chains D g → ℕ → ℕ → Type 0
+IsBadChain pages chains n at = ((map.get (written_of chains) n ≡ None) × IsRefused pages n (first_of chains n) at)
+    ⊎ ((bytes : List ℕ) × LoadedIs pages n (first_of chains n) (map.get (written_of chains) n) bytes
+    × IsNoBucket (bucket_count chains) (bucket_in n) bytes × (at ≡ first_of chains n))
+
+-- reading a bucket may give this answer
+abbrev pub ReadsBucket : {D : Type 0} {g : Ghosts D} → List (List ℕ) → Chains D g → ℕ → Result BucketMap StoreFault → Type 0
+ReadsBucket pages chains n (Ok values) = Stored pages chains n values
+ReadsBucket pages chains n (Err (BadStore at)) = IsBadChain pages chains n at
+ReadsBucket pages chains n (Err _) = Unit {0}
+
+-- the keys of these values are those of one bucket of so many
+abbrev pub HasKeysOf : ℕ → ℕ → BucketMap → Type 0
+HasKeysOf buckets bucket values = (key : ℕ) → IsSome (map.get values key) → key % buckets ≡ bucket
+
+-- the number of a bucket's chain, where each map has so many
+abbrev pub IsBucketChain : ℕ → ℕ → Type 0
+IsBucketChain buckets n = (16 ≤ n) × (n < 524304) × (bucket_in n < buckets)
+
+-- each of these is a bucket of a store with so many, and has its keys
+abbrev pub AreBuckets : ℕ → CacheMap → Type 0
+AreBuckets buckets cache = (n : ℕ) (own : Cached) → map.get cache n ≡ Some own
+    → IsBucketChain buckets n × HasKeysOf buckets (bucket_in n) own.bucket

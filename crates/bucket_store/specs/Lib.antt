@@ -1,0 +1,4 @@
+pub mod Buckets
+pub mod Cache
+pub mod Transaction
+pub mod Committing

@@ -1,0 +1,152 @@
+//! Buckets by the numbers of their chains, as a transaction has them.
+ghost use Rattle.std.specs.Prelude.{◌≡◌, ◌↔◌, ℕ, Some, None, true, false, IfSome, IsNone, IsSome, IsTrue, MatchOption, IfOk, OnOk, OnErr};
+ghost use Rattle.std.specs.FinMap as map;
+
+use bucket_records::Bucket;
+use osm_base::OutOfMemory;
+use std::alloc::Global;
+use std::collections::BTreeMap;
+use std::marker::Model;
+
+/// A bucket, and whether the transaction has changed it.
+#[derive(Debug, Drop)]
+pub struct Cached {
+    pub bucket: Bucket,
+    pub changed: bool,
+}
+
+impl Cached {
+    // Sets the value of a key.
+    fn put(&mut self, key: u64, value: &[u8]) -> Result<(), OutOfMemory>
+        ensures ok { OnOk result (self.new ≡ record { bucket = map.insert self.old.bucket key value.now; changed = true }) }
+        ensures err { OnErr result (self.new ≡ self.old) }
+    {
+        match self.bucket.put(key, value) {
+            Ok(()) => {
+                self.changed = true;
+                Ok(())
+            }
+            Err(fault) => Err(fault),
+        }
+    }
+
+    // Takes a key out, and answers whether it was there.
+    fn remove(&mut self, key: u64) -> Result<bool, OutOfMemory>
+        ensures was { IfOk result (λ was. was ≡ map.contains_key self.old.bucket key) }
+        ensures taken { IfOk result (λ was. IsTrue was → self.new ≡ record { bucket = map.remove self.old.bucket key; changed = true }) }
+        ensures none { IfOk result (λ was. was ≡ false → self.new ≡ self.old) }
+        ensures err { OnErr result (self.new ≡ self.old) }
+    {
+        if self.bucket.get(key).is_none() {
+            return Ok(false);
+        }
+        match self.bucket.remove(key) {
+            Ok(was) => {
+                self.changed = true;
+                Ok(was)
+            }
+            Err(fault) => Err(fault),
+        }
+    }
+}
+
+/// Buckets by the numbers of their chains.
+#[derive(Drop)]
+pub struct Cache {
+    tree: BTreeMap<u32, Cached>,
+}
+
+impl Model for Cache {
+    ghost use Rattle.std.specs.Coded.{coded_ℕ};
+    ghost use Rattle.std.specs.FinMap as map;
+    ghost use Rattle.bucket_store.specs.Cache.{CacheMap};
+    ghost use Rattle.bucket_store.specs.contracts.cache.Cached as cached;
+
+    ghost Value = { CacheMap };
+
+    ghost coded = { map.code coded_ℕ cached.the_row.coded };
+
+    ghost view = { λ cache. map.from_entries cache.tree.entries };
+}
+
+impl Cache {
+    /// No buckets.
+    pub fn new(alloc: Global) -> Self
+        ensures empty { result ≡ map.empty }
+    {
+        Self {
+            tree: BTreeMap::new(alloc),
+        }
+    }
+
+    /// Whether the bucket of this number is there.
+    pub fn has(&self, n: u32) -> bool
+        ensures { IsTrue result ↔ IsSome (map.get self.now n) }
+    {
+        self.tree.contains_key(&n)
+    }
+
+    /// The value of a key in a bucket that is there.
+    pub fn value(&self, n: u32, key: u64) -> Option<&[u8]>
+        requires { IsSome (map.get self.now n) }
+        ensures value { (own : Cached) → map.get self.now n ≡ Some own
+            → MatchOption result (map.get own.bucket key ≡ None) (λ value. map.get own.bucket key ≡ Some value.now) }
+    {
+        let Some(cached) = self.tree.get(&n) else {
+            unreachable!()
+        };
+        cached.bucket.get(key)
+    }
+
+    /// Puts a bucket beside the others. Where it fails, they are as they were.
+    pub fn add(&mut self, n: u32, bucket: Bucket) -> Result<(), OutOfMemory>
+        ensures ok { OnOk result (self.new ≡ map.insert self.old n (record { bucket = bucket; changed = false })) }
+        ensures err { OnErr result (self.new ≡ self.old) }
+    {
+        self.tree.insert(
+            n,
+            Cached {
+                bucket,
+                changed: false,
+            },
+        )?;
+        Ok(())
+    }
+
+    /// Sets the value of a key in a bucket that is there. Where it fails, it is as it was.
+    pub fn put(&mut self, n: u32, key: u64, value: &[u8]) -> Result<(), OutOfMemory>
+        requires { IsSome (map.get self.old n) }
+        ensures ok { OnOk result ((own : Cached) → map.get self.old n ≡ Some own
+            → self.new ≡ map.insert self.old n (record { bucket = map.insert own.bucket key value.now; changed = true })) }
+        ensures err { OnErr result (self.new ≡ self.old) }
+    {
+        let Some(cached) = self.tree.get_mut(&n) else {
+            unreachable!()
+        };
+        cached.put(key, value)
+    }
+
+    /// Takes a key out of a bucket that is there, and answers whether it was in it. Where it fails, it is as it was.
+    pub fn remove(&mut self, n: u32, key: u64) -> Result<bool, OutOfMemory>
+        requires { IsSome (map.get self.old n) }
+        ensures was { IfOk result (λ was. (own : Cached) → map.get self.old n ≡ Some own → was ≡ map.contains_key own.bucket key) }
+        ensures taken { IfOk result (λ was. (own : Cached) → map.get self.old n ≡ Some own → IsTrue was
+            → self.new ≡ map.insert self.old n (record { bucket = map.remove own.bucket key; changed = true })) }
+        ensures none { IfOk result (λ was. was ≡ false → self.new ≡ self.old) }
+        ensures err { OnErr result (self.new ≡ self.old) }
+    {
+        let Some(cached) = self.tree.get_mut(&n) else {
+            unreachable!()
+        };
+        cached.remove(key)
+    }
+
+    /// Takes out a bucket, if there is one.
+    pub fn pop(&mut self) -> Option<(u32, Cached)>
+        ensures there { IfSome result (λ (n, own). map.get self.old n ≡ Some own) }
+        ensures rest { IfSome result (λ (n, own). self.new ≡ map.remove self.old n) }
+        ensures none { IsNone result → self.old ≡ map.empty }
+    {
+        self.tree.pop_first()
+    }
+}

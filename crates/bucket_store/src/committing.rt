@@ -1,0 +1,78 @@
+//! What a transaction has changed is made to stand.
+ghost use Rattle.std.specs.Prelude.{◌≡◌, ◌+◌, ◌*◌, ◌≤◌, ◌<◌, ◌||◌, List, ℕ, None, Some, false, ◌==◌, if◌then◌else◌, is_err, OnOk};
+ghost use Rattle.std.specs.FinMap as map;
+ghost use Rattle.page_journal.specs.Answers.{HasDiskCause, answers_disk_fault};
+ghost use Rattle.page_journal.specs.Journal.{home_count, is_broken};
+ghost use Rattle.chain_store.specs.Answers.{IsReadAnswer, Looked};
+ghost use Rattle.chain_store.specs.Chains.{IsOpen, disk_of, is_refused, journal_of, kept_of, root_of, written_of};
+ghost use Rattle.chain_store.specs.Directories.{IsString};
+ghost use Rattle.bucket_store.specs.Buckets.{AreBuckets, IsBucketChain, bucket_count};
+ghost use Rattle.bucket_store.specs.Committing.{after};
+
+use crate::cache::{Cache, Cached};
+use chain_store::Chains;
+use osm_base::Bytes;
+use outside::Disk;
+use page_journal::StoreFault;
+
+/// Gives each changed bucket's chain its bytes.
+pub fn store_changed<D: Disk>(
+    chains: &mut Chains<'_, D>,
+    cache: &mut Cache,
+) -> Result<(), StoreFault>
+    requires buckets { AreBuckets (bucket_count chains.old) cache.old }
+    requires going { is_refused chains.old ≡ false }
+    ensures written { OnOk result ((n : ℕ) → map.get (written_of chains.new) n ≡ after (map.get cache.old n) (map.get (written_of chains.old) n)) }
+    ensures open { (pages : List (List ℕ)) → IsOpen pages chains.old → IsOpen pages chains.new }
+    ensures kept { kept_of chains.new ≡ kept_of chains.old }
+    ensures root { root_of chains.new ≡ root_of chains.old }
+    ensures going { OnOk result (is_refused chains.new ≡ false) }
+    ensures looked { Looked (journal_of chains.old) (journal_of chains.new) }
+    ensures broken { is_broken (journal_of chains.new) ≡ (is_broken (journal_of chains.old) || answers_disk_fault result) }
+    ensures cause { HasDiskCause (disk_of chains.old).faults (disk_of chains.new).faults result }
+{
+    while let Some((n, cached)) = cache.pop() {
+        known_string(n, chains.root().buckets);
+        if let Err(fault) = store_bucket(chains, n, cached) {
+            return Err(fault);
+        }
+    }
+    Ok(())
+}
+
+// The chain of a bucket is a string of the store: what a call asks, said of its arguments.
+fn known_string(_n: u32, _buckets: u64)
+    requires { IsBucketChain _buckets _n }
+    ensures { IsString _buckets _n }
+{}
+
+// Gives the chain of a bucket its bytes, where it was changed.
+fn store_bucket<D: Disk>(
+    chains: &mut Chains<'_, D>,
+    n: u32,
+    cached: Cached,
+) -> Result<(), StoreFault>
+    requires string { IsString (bucket_count chains.old) n }
+    requires going { is_refused chains.old ≡ false }
+    ensures written { OnOk result ((k : ℕ) → map.get (written_of chains.new) k ≡ after (if k == n then Some cached else None) (map.get (written_of chains.old) k)) }
+    ensures open { (pages : List (List ℕ)) → IsOpen pages chains.old → IsOpen pages chains.new }
+    ensures kept { kept_of chains.new ≡ kept_of chains.old }
+    ensures root { root_of chains.new ≡ root_of chains.old }
+    ensures going { OnOk result (is_refused chains.new ≡ false) }
+    ensures looked { Looked (journal_of chains.old) (journal_of chains.new) }
+    ensures broken { is_broken (journal_of chains.new) ≡ (is_broken (journal_of chains.old) || answers_disk_fault result) }
+    ensures cause { HasDiskCause (disk_of chains.old).faults (disk_of chains.new).faults result }
+{
+    if !cached.changed {
+        return Ok(());
+    }
+    let Cached { bucket, changed: _ } = cached;
+    let bytes = match bucket.into_bytes() {
+        Ok(bytes) => bytes,
+        Err(_) => return Err(StoreFault::OutOfMemory),
+    };
+    match chains.store(n, Bytes::from_vec(bytes)) {
+        Ok(()) => Ok(()),
+        Err(fault) => Err(fault),
+    }
+}
