@@ -1,7 +1,7 @@
 -- What stands at the front of bytes, where values are put together out of others.
-use Rattle.std.proofs.Common.{◌≡◌, ◌≢◌, ℕ, List, [], ◌++◌, ap, sym, ◌∙◌, append_assoc}
+use Rattle.std.proofs.Common.{◌≢◌, ℕ, List, [], ◌++◌, ap, sym, ◌∙◌, append_assoc}
 use Rattle.std.proofs.lemmas.List.{append-nil}
-use Rattle.value_bytes.specs.Forms.{Begins, IsFront, IsFrontless, both_bytes, Both, NeedsFor, Spells, IsNoValue}
+use Rattle.value_bytes.specs.Forms.{Begins, IsFront, IsFrontless, both_bytes, Both, NeedsFor, IsNoValue}
 use Rattle.value_bytes.specs.declared.fault.ValueFault.{ValueFault}
 use Rattle.value_bytes.specs.declared.fault.ValueFault.TheVariants.{NotSpelled, OutOfMemory}
 

@@ -2,6 +2,7 @@ pub mod CountedLaws
 pub mod Fronts
 pub mod ListLaws
 pub mod Made
+pub mod MapLaws
 pub mod MemberLaws
 pub mod NumberLaws
 pub mod OptionLaws

@@ -1,5 +1,6 @@
 pub mod Forms
 pub mod Lists
+pub mod Maps
 pub mod Members
 pub mod Numbers
 pub mod Options
