@@ -25,7 +25,7 @@ const CAP: u64 = 10_000_000_000;
 
 /// The coordinate in units of 1e-7 degree, no further from zero than `greatest`.
 #[tactic(auto, unfolding(crate::specs::Coordinate::coordinate))]
-pub(crate) fn coordinate(greatest: u32, text: &[u8]) -> Result<i32, Why>
+pub fn coordinate(greatest: u32, text: &[u8]) -> Result<i32, Why>
     requires { greatest ≤ 1800000000 }
     ensures value { result ≡ coordinate greatest text.now }
     ensures east { IfOk result (λ value. value ≤ℤ pos greatest) }

@@ -37,6 +37,8 @@ mod why;
 mod written;
 
 pub use ascii::shared_numbers;
+pub use coordinate::coordinate as coordinate_of;
 pub use line::{one_meaning, read_line};
+pub use number::id_of;
 pub use why::{LineRefused, Why};
 pub use written::write_entry;

@@ -86,7 +86,7 @@ fn is_formed(form: u8, byte: u8) -> bool
 
 /// The id that the text is.
 #[tactic(auto, unfolding(crate::specs::Number::id_of))]
-pub(crate) fn id_of(text: &[u8]) -> Result<u64, Why>
+pub fn id_of(text: &[u8]) -> Result<u64, Why>
     ensures value { result ≡ id_of text.now }
     ensures id { IfOk result (λ id. IsId id) }
 {
