@@ -27,4 +27,3 @@ pub mod Times
 pub mod Unique
 pub mod Whole
 pub mod WrittenLaws
-pub mod EndLaws

@@ -1,7 +1,8 @@
 -- A journal that is only looked at, again and again.
-use Rattle.std.proofs.Common.{◌∙◌, ℕ, List, refl, sym}
+use Rattle.std.proofs.Common.{◌≡◌, ◌∙◌, ℕ, List, refl, sym, ap, subst}
 use Rattle.outside.specs.declared.disk.Disk.{Ghosts}
-use Rattle.page_journal.specs.Journal.{view_of}
+use Rattle.outside.specs.Disk.{Stays}
+use Rattle.page_journal.specs.Journal.{disk_of, home_count, loan_of, page_limit, view_of}
 use Rattle.page_journal.specs.declared.journal.Journal.{Journal}
 use Rattle.page_journal.proofs.Moments.{stays_same, stays_then, settled_stays}
 use Rattle.chain_store.specs.Answers.{Looked, RestsWith}
@@ -24,3 +25,13 @@ module _ {D : Type 0} {g : Ghosts D} where
     (rests.0.0, settled_stays pages rests.0.0 (view_of old) (view_of new) rests.0.1 looked.stays),
     rests.1 ∙ sym looked.pages,
   )
+
+  -- a journal whose disk is as it was
+  pub looked_untouched : (old mid new : Journal D g) → Looked old mid → disk_of new ≡ disk_of mid → home_count new ≡ home_count mid
+      → page_limit new ≡ page_limit mid → loan_of new ≡ loan_of mid → Looked old new
+  looked_untouched old mid new looked disk pages limit loan = looked_then old mid new looked (record {
+    stays = subst (λ (d : D). Stays (view_of mid) (g.view d)) (sym disk) (stays_same (view_of mid));
+    pages = pages;
+    limit = limit;
+    same_disk = loan;
+  })

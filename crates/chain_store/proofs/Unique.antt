@@ -1,7 +1,7 @@
 -- A path to the end has its pages once, and is the only one.
-use Rattle.std.proofs.Common.{◌≡◌, inl, inr, ℕ, ◌+◌, ◌≤◌, List, [], ◌∷◌, ◌++◌, length, refl, sym, ap, subst, ◌∙◌, arith}
+use Rattle.std.proofs.Common.{◌≡◌, ◌≢◌, inl, inr, ℕ, ◌+◌, ◌<◌, ◌≤◌, List, [], ◌∷◌, ◌++◌, length, refl, sym, ap, subst, ◌∙◌, arith}
 use Rattle.std.proofs.lemmas.Bool.{cases_lt}
-use Rattle.chain_store.specs.Chain.{HasPages, Holds, IsGood, Path, data_in}
+use Rattle.chain_store.specs.Chain.{HasPages, Holds, IsGood, Path, Refused, data_in}
 use Rattle.chain_store.specs.Links.{IsLink, data_of, next_of}
 use Rattle.chain_store.specs.Parts.{times}
 use Rattle.chain_store.proofs.Times.{once-cases}
@@ -51,6 +51,28 @@ module _ (page : ℕ → List ℕ) (home chain : ℕ) where
           | inr none ↦ omega (arith, here.1, none)
         ]
         | inr there ↦ omega (arith, before, there.1)
+      ]
+
+  -- each page on the way is one of the chain, and not the last
+  path_along : (first : ℕ) (ns ms : List ℕ) (at : ℕ) → Path page home chain first ns 0 → Path page home chain first ms at → at ≢ 0
+      → IsGood page home chain at × (length ms < length ns)
+  path_along first [] [] at one two some = absurd (some (sym two ∙ one))
+  path_along first (n ∷ ns) [] at one two some =
+      (subst (λ (k : ℕ). IsGood page home chain k) (sym one.0 ∙ two) one.1, omega arith)
+  path_along first [] (m ∷ ms) at one two some = absurd (omega (arith, one, two.0, two.1.above))
+  path_along first (n ∷ ns) (m ∷ ms) at one two some =
+      let same : n ≡ m = omega (arith, one.0, two.0) in
+      let rest = path_along (next_of (page n)) ns ms at one.2
+      (subst (λ (k : ℕ). Path page home chain (next_of (page k)) ms at) (sym same) two.2) some in
+      (rest.0, omega (arith, rest.1))
+
+  -- a chain that has its pages is not refused
+  pub not_refused : (first : ℕ) (ns : List ℕ) (at : ℕ) → HasPages page home chain first ns → Refused page home chain first at → ⊥
+  not_refused first ns at has refused =
+      let along = path_along first ns refused.ns at has.path refused.path refused.some in
+      elim refused.bad [
+        | inl not ↦ not along.0
+        | inr long ↦ absurd (omega (arith, long, along.1, has.few))
       ]
 
   pub pages_one : (first : ℕ) (ns ms : List ℕ) → HasPages page home chain first ns → HasPages page home chain first ms → ns ≡ ms

@@ -75,22 +75,35 @@ impl<'d, D: Disk> Chains<'d, D> {
         ensures same_disk { loan_of result ≡ loan_of (journal_of self.entry) }
         ensures disk { disk_under result ≡ disk_under (journal_of self.entry) }
     {
+        let (journal, _) = self.into_parts();
+        journal
+    }
+
+    /// Hands back the journal, and what was read of the store: `over` takes both again.
+    pub fn into_parts(self) -> (Journal<'d, D>, Kept)
+        ensures journal { result.0 ≡ journal_of self.entry }
+        ensures kept { result.1 ≡ kept_of self.entry }
+        ensures inside { AreAllBehindRoot (home_count result.0) result.1.directories.items }
+    {
         let Chains {
             journal,
             alloc: _,
-            kept: _,
+            kept,
             root: _,
             read: _,
             written: _,
             before: _,
             refused: _,
         } = self;
-        journal
+        (journal, kept)
     }
 
     /// Begins a transaction anew. What another has written and not committed is forgotten.
     pub fn begin(&mut self)
         ensures open { (pages : List (List ℕ)) → IsOpen pages self.old → IsOpen pages self.new }
+
+        // Whatever the transaction before it has met.
+        ensures anew { (pages : List (List ℕ)) → RestsWith pages (journal_of self.old) → Keeps pages (kept_of self.old) → IsOpen pages self.new }
         ensures journal { journal_of self.new ≡ journal_of self.old }
         ensures kept { kept_of self.new ≡ kept_of self.old }
         ensures read { read_of self.new ≡ map.empty }

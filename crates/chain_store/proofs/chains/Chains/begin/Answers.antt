@@ -20,3 +20,11 @@ returns-clause-open g c = λ pages opened. record {
   known = λ n ns is. absurd (nothing c.new-2.result n ns c.new-2.ensures.empty is);
   had = λ n bytes is. absurd (nothing c.new-3.result n bytes c.new-3.ensures.empty is);
 }
+
+pub returns-clause-anew : goal.returns-clause-anew
+returns-clause-anew g c = λ pages rests keeps. record {
+  rests = rests;
+  keeps = keeps;
+  known = λ n ns is. absurd (nothing c.new-2.result n ns c.new-2.ensures.empty is);
+  had = λ n bytes is. absurd (nothing c.new-3.result n bytes c.new-3.ensures.empty is);
+}

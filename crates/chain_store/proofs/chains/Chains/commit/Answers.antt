@@ -1,6 +1,7 @@
 use Rattle.std.proofs.Common.{◌⊎◌, ℕ, List, subst}
 use Rattle.outside.specs.Disk.{Goes}
 use Rattle.page_journal.specs.Journal.{view_of}
+use Rattle.chain_store.specs.Answers.{Looked}
 use Rattle.chain_store.specs.Known.{changed}
 use Rattle.chain_store.specs.Chains.{IsOpenStore}
 use Rattle.chain_store.specs.State.{HasState, IsState}
@@ -46,3 +47,7 @@ returns-clause-open g c = λ err fine pages opened.
     let mid = c.take-taken.new.self in
     c.write-outcome.ensures.open err fine pages
     (opened_anew pages self.journal mid.journal self.kept mid.kept self.read self.before mid.read mid.before t.journal t.kept t.read t.before opened)
+
+pub returns-clause-looked : goal.returns-clause-looked
+returns-clause-looked g c = λ err fine.
+    subst (λ j. Looked j c.write-outcome.new.self.journal) c.take-taken.ensures.journal (c.write-outcome.ensures.looked err fine)

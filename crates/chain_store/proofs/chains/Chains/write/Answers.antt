@@ -1,4 +1,4 @@
-use Rattle.std.proofs.Common.{◌≡◌, ◌+◌, ℕ, List, length, sym, ap, subst, ◌∙◌}
+use Rattle.std.proofs.Common.{◌≡◌, ◌+◌, ℕ, List, length, refl, sym, ap, subst, ◌∙◌}
 use Rattle.page_journal.specs.Journal.{home_count, view_of}
 use Rattle.page_journal.specs.PageSet.{CanCommit, overwritten}
 use Rattle.chain_store.specs.Chain.{AreBehindRoot, HasPages}
@@ -12,7 +12,7 @@ use Rattle.chain_store.specs.declared.layout.TheConstants.{FREE}
 use Rattle.chain_store.specs.declared.root.Root.{Root}
 use Rattle.chain_store.proofs.Carried.{renewed_keeps, renewed_long, renewed_state}
 use Rattle.chain_store.proofs.Commits.{behind_of, can_of, ran}
-use Rattle.chain_store.proofs.Looks.{rests_looked}
+use Rattle.chain_store.proofs.Looks.{looked_untouched, rests_looked}
 use Rattle.chain_store.proofs.NewStore.{pages_long}
 use Rattle.chain_store.proofs.Puts.{known_none, stored_none}
 use Rattle.chain_store.proofs.Taking.{opened_new, plan_root}
@@ -125,3 +125,8 @@ returns-clause-done g c = λ root strings pages opened state.
 pub returns-clause-is_root : goal.returns-clause-is_root
 returns-clause-is_root g c =
     plan_root c.args.self.now.kept c.args.taken.root c.in_ok-parts.parts.items c.in-Ok.free.pages.items c.pages-home.result c.in_ok-plan.plan (subst (λ (l : List ℕ). IsPlan c.args.self.now.kept c.args.taken.root c.in_ok-parts.parts.items l c.pages-home.result c.in_ok-plan.plan) c.deref.ensures.value c.in_ok-plan.ensures)
+
+pub returns-in-Err-commit-clause-looked : goal.returns-in-Err-commit-clause-looked
+returns-in-Err-commit-clause-looked g c = λ err fine.
+    looked_untouched c.args.self.now.journal c.walk.new.journal c.commit.new.self c.walk.ensures.looked (c.in-Err-commit.ensures.untouched refl fine)
+    c.in-Err-commit.ensures.pages c.in-Err-commit.ensures.limit c.in-Err-commit.ensures.same_disk
