@@ -2,3 +2,4 @@ pub mod Buckets
 pub mod Cache
 pub mod Transaction
 pub mod Committing
+pub mod Image
