@@ -1,0 +1,159 @@
+//! The maps of a store, as a change meets them.
+ghost use Rattle.std.specs.Prelude.{◌≡◌, ℕ, false, List, IfOk, IfErr, IfSome, OnOk};
+ghost use Rattle.std.specs.FinMap as finite;
+ghost use Rattle.osm_base.specs.map.Known.{Question};
+ghost use Rattle.osm_base.specs.values.Ids.{AreRisingIds};
+ghost use Rattle.style_read.specs.Style.{StyleOf};
+ghost use Rattle.object_fold.specs.Change.{IsOfKind};
+ghost use Rattle.object_fold.specs.Listing.{listers};
+ghost use Rattle.store_maps.specs.Append.{MayKeep};
+ghost use Rattle.store_maps.specs.Maps.{Maps, form_in, object_in, rows_at, set_object, set_rows};
+ghost use Rattle.store_maps.specs.Named.{WaysAreThere, index_on, place_in};
+ghost use Rattle.store_maps.specs.Step.{AreTold, relisted_to};
+
+use osm_base::{Back, Ids, Key, Object, Place, TableRows};
+
+/// How many nodes a block has, of which one list of ways is kept.
+pub const BLOCK: u64 = 32;
+
+/// Eight finite maps, those of an open store within a transaction. After a refusal it may be spent: then nothing
+/// more may be asked. Of a store whose bytes are not told no maps are known. What calls leave behind is said by
+/// what was there before them: of any store from which calls have led to this one they lead to the next.
+pub trait MapStore: Back {
+    /// What is there beside the maps, and what a crash leaves: no call of this trait changes it.
+    ghost Under: { Type 0 };
+
+    /// The style of its rows.
+    ghost style: { Self → StyleOf };
+
+    /// It holds these maps, over this.
+    ghost holds: { Self → Under → Maps → Type 0 };
+
+    /// Calls of this trait have made the second of the first. Of what lies below they have only read.
+    ghost looked: { Self → Self → Type 0 };
+
+    /// It may refuse so although it holds maps.
+    ghost allowed: { Self.Refusal → Type 0 };
+
+    /// The way or the relation of a key; of a node none.
+    fn form(&mut self, key: Key) -> Result<Option<Object>, Self::Refusal>
+        requires { Self.spent self.old ≡ false }
+        ensures form { IfOk result (λ form. (under : Under) (maps : Maps) → holds self.old under maps → form ≡ form_in maps key.kind key.id) }
+        ensures holds { OnOk result ((under : Under) (maps : Maps) → holds self.old under maps → holds self.new under maps) }
+        ensures looked { (first : Self) → looked first self.old → looked first self.new }
+        ensures spent { OnOk result (Self.spent self.new ≡ false) }
+        ensures refused { IfErr result (λ refusal. (first : Self) → looked first self.old → Self.bears self.new (Self.faults first) refusal) }
+        ensures allowed { (under : Under) (maps : Maps) → holds self.old under maps → IfErr result allowed };
+
+    /// A key lists no longer what the old object lists, and from now on what the new one does.
+    fn relist(
+        &mut self,
+        key: Key,
+        old: &Option<Object>,
+        new: &Option<Object>,
+    ) -> Result<(), Self::Refusal>
+        requires spent { Self.spent self.old ≡ false }
+        requires proper { IfSome new.now (IsOfKind key.kind) }
+        ensures holds { OnOk result ((under : Under) (maps : Maps) → holds self.old under maps → holds self.new under (relisted_to maps key old.now new.now)) }
+        ensures looked { (first : Self) → looked first self.old → looked first self.new }
+        ensures spent { OnOk result (Self.spent self.new ≡ false) }
+        ensures refused { IfErr result (λ refusal. (first : Self) → looked first self.old → Self.bears self.new (Self.faults first) refusal) }
+        ensures allowed { (under : Under) (maps : Maps) → holds self.old under maps → AreTold maps key old.now → IfErr result allowed };
+
+    /// The object of a key is this one, or there is none.
+    fn set(&mut self, key: Key, object: &Option<Object>) -> Result<(), Self::Refusal>
+        requires spent { Self.spent self.old ≡ false }
+        requires proper { IfSome object.now (IsOfKind key.kind) }
+        ensures holds { OnOk result ((under : Under) (maps : Maps) → holds self.old under maps → holds self.new under (set_object maps key.kind key.id object.now)) }
+        ensures looked { (first : Self) → looked first self.old → looked first self.new }
+        ensures spent { OnOk result (Self.spent self.new ≡ false) }
+        ensures refused { IfErr result (λ refusal. (first : Self) → looked first self.old → Self.bears self.new (Self.faults first) refusal) }
+        ensures allowed { (under : Under) (maps : Maps) → holds self.old under maps → IfErr result allowed };
+
+    /// The rows of a key.
+    fn rows(&mut self, key: Key) -> Result<Option<TableRows>, Self::Refusal>
+        requires { Self.spent self.old ≡ false }
+        ensures rows { IfOk result (λ rows. (under : Under) (maps : Maps) → holds self.old under maps → rows ≡ rows_at maps key.kind key.id) }
+        ensures holds { OnOk result ((under : Under) (maps : Maps) → holds self.old under maps → holds self.new under maps) }
+        ensures looked { (first : Self) → looked first self.old → looked first self.new }
+        ensures spent { OnOk result (Self.spent self.new ≡ false) }
+        ensures refused { IfErr result (λ refusal. (first : Self) → looked first self.old → Self.bears self.new (Self.faults first) refusal) }
+        ensures allowed { (under : Under) (maps : Maps) → holds self.old under maps → IfErr result allowed };
+
+    /// The rows of a key are these; where there are none, it has no value.
+    fn set_rows(&mut self, key: Key, rows: &TableRows) -> Result<(), Self::Refusal>
+        requires spent { Self.spent self.old ≡ false }
+        requires kept { MayKeep (style self.old).tables rows.now }
+        ensures holds { OnOk result ((under : Under) (maps : Maps) → holds self.old under maps → holds self.new under (set_rows maps key.kind key.id rows.now)) }
+        ensures looked { (first : Self) → looked first self.old → looked first self.new }
+        ensures spent { OnOk result (Self.spent self.new ≡ false) }
+        ensures refused { IfErr result (λ refusal. (first : Self) → looked first self.old → Self.bears self.new (Self.faults first) refusal) }
+        ensures allowed { (under : Under) (maps : Maps) → holds self.old under maps → IfErr result allowed };
+
+    /// The place of a node.
+    fn place(&mut self, id: u64) -> Result<Option<Place>, Self::Refusal>
+        requires { Self.spent self.old ≡ false }
+        ensures place { IfOk result (λ place. (under : Under) (maps : Maps) → holds self.old under maps → place ≡ place_in (finite.get maps.nodes id)) }
+        ensures holds { OnOk result ((under : Under) (maps : Maps) → holds self.old under maps → holds self.new under maps) }
+        ensures looked { (first : Self) → looked first self.old → looked first self.new }
+        ensures spent { OnOk result (Self.spent self.new ≡ false) }
+        ensures refused { IfErr result (λ refusal. (first : Self) → looked first self.old → Self.bears self.new (Self.faults first) refusal) }
+        ensures allowed { (under : Under) (maps : Maps) → holds self.old under maps → IfErr result allowed };
+
+    /// The object of a key; none of a node whose tags are not known.
+    fn object(&mut self, key: Key) -> Result<Option<Object>, Self::Refusal>
+        requires { Self.spent self.old ≡ false }
+        ensures object { IfOk result (λ object. (under : Under) (maps : Maps) → holds self.old under maps → object ≡ object_in maps key.kind key.id) }
+        ensures holds { OnOk result ((under : Under) (maps : Maps) → holds self.old under maps → holds self.new under maps) }
+        ensures looked { (first : Self) → looked first self.old → looked first self.new }
+        ensures spent { OnOk result (Self.spent self.new ≡ false) }
+        ensures refused { IfErr result (λ refusal. (first : Self) → looked first self.old → Self.bears self.new (Self.faults first) refusal) }
+        ensures allowed { (under : Under) (maps : Maps) → holds self.old under maps → IfErr result allowed };
+
+    /// The rising ids of the relations that have a way as a member.
+    fn along_way(&mut self, id: u64) -> Result<Ids, Self::Refusal>
+        requires { Self.spent self.old ≡ false }
+        ensures ids { IfOk result (λ ids. (under : Under) (maps : Maps) → holds self.old under maps → ids ≡ listers maps.relations_of_ways id) }
+        ensures rising { IfOk result AreRisingIds }
+        ensures holds { OnOk result ((under : Under) (maps : Maps) → holds self.old under maps → holds self.new under maps) }
+        ensures looked { (first : Self) → looked first self.old → looked first self.new }
+        ensures spent { OnOk result (Self.spent self.new ≡ false) }
+        ensures refused { IfErr result (λ refusal. (first : Self) → looked first self.old → Self.bears self.new (Self.faults first) refusal) }
+        ensures allowed { (under : Under) (maps : Maps) → holds self.old under maps → IfErr result allowed };
+
+    /// The rising ids of the relations that have a node as a member.
+    fn around_node(&mut self, id: u64) -> Result<Ids, Self::Refusal>
+        requires { Self.spent self.old ≡ false }
+        ensures ids { IfOk result (λ ids. (under : Under) (maps : Maps) → holds self.old under maps → ids ≡ listers maps.relations_of_nodes id) }
+        ensures rising { IfOk result AreRisingIds }
+        ensures holds { OnOk result ((under : Under) (maps : Maps) → holds self.old under maps → holds self.new under maps) }
+        ensures looked { (first : Self) → looked first self.old → looked first self.new }
+        ensures spent { OnOk result (Self.spent self.new ≡ false) }
+        ensures refused { IfErr result (λ refusal. (first : Self) → looked first self.old → Self.bears self.new (Self.faults first) refusal) }
+        ensures allowed { (under : Under) (maps : Maps) → holds self.old under maps → IfErr result allowed };
+
+    /// Where nothing is called, nothing is made.
+    ghost looked_none: { (store : Self) → looked store store };
+
+    /// The style stays.
+    ghost same_style: { (old new : Self) → looked old new → style new ≡ style old };
+
+    /// The index that it answers by is that of the maps.
+    ghost tells: { (store : Self) (under : Under) (maps : Maps) → holds store under maps → Self.knows store (index_on maps) };
+
+    /// To ask the index is such a call.
+    ghost asked: { (first old new : Self) (questions : List Question) → looked first old → Self.asks old questions new → looked first new };
+
+    /// It keeps the maps.
+    ghost asked_holds: { (old new : Self) (questions : List Question) → Self.asks old questions new → Self.spent new ≡ false
+        → (under : Under) (maps : Maps) → holds old under maps → holds new under maps };
+
+    /// A refusal to answer is one of this store.
+    ghost asked_bears: { (first old new : Self) (questions : List Question) (refusal : Self.Refusal) → looked first old → Self.asks old questions new
+        → Self.bears new (Self.faults old) refusal → Self.bears new (Self.faults first) refusal };
+
+    /// It may refuse so although it holds maps, where the ways that it says list a node are there.
+    ghost asked_allowed: { (old new : Self) (questions : List Question) → Self.spent old ≡ false → Self.asks old questions new
+        → (under : Under) (maps : Maps) → holds old under maps → WaysAreThere maps
+        → (refusal : Self.Refusal) → Self.bears new (Self.faults old) refusal → allowed refusal };
+}
