@@ -1,5 +1,5 @@
 //! Chains are read, and what they are to have is noted.
-ghost use Rattle.std.specs.Prelude.{◌≡◌, ◌*◌, ◌⊎◌, ◌≤◌, ◌<◌, ◌||◌, List, ℕ, None, Some, false, is_err, IfOk, IsSome, OnOk};
+ghost use Rattle.std.specs.Prelude.{◌≡◌, ◌*◌, ◌⊎◌, ◌≤◌, ◌<◌, ◌||◌, List, ℕ, None, Some, false, is_err, IfOk, IsSome, OnErr, OnOk};
 ghost use Rattle.std.specs.FinMap as map;
 ghost use Rattle.outside.specs.Disk.{ReadsAtMost};
 ghost use Rattle.page_journal.specs.Answers.{HasDiskCause, answers_disk_fault};
@@ -46,6 +46,7 @@ impl<'d, D: Disk> Chains<'d, D> {
         requires string { IsString (root_of self.old).buckets n }
         requires going { is_refused self.old ≡ false }
         ensures written { OnOk result (written_of self.new ≡ map.insert (written_of self.old) n bytes) }
+        ensures err { OnErr result (written_of self.new ≡ written_of self.old) }
         ensures answers { (pages : List (List ℕ)) → IsOpen pages self.old
             → Brings pages n (first_of self.old n) (map.get (read_of self.old) n) result }
         ensures open { (pages : List (List ℕ)) → IsOpen pages self.old → IsOpen pages self.new }
@@ -80,6 +81,7 @@ impl<'d, D: Disk> Chains<'d, D> {
         requires going { is_refused self.old ≡ false }
         requires before { (pages : List (List ℕ)) → IsOpen pages self.old → HasBytes pages n (first_of self.old n) before }
         ensures written { OnOk result (written_of self.new ≡ map.insert (written_of self.old) n bytes) }
+        ensures err { OnErr result (written_of self.new ≡ written_of self.old) }
         ensures answers { (pages : List (List ℕ)) → IsOpen pages self.old
             → Brings pages n (first_of self.old n) (map.get (read_of self.old) n) result }
         ensures open { (pages : List (List ℕ)) → IsOpen pages self.old → IsOpen pages self.new }
