@@ -44,7 +44,7 @@ is_there : (o : Option (List ℕ)) (value : List ℕ) → o ≡ Some value → I
 is_there o value is = cc
 
 -- and back: records whose keys are of the bucket
-of_keys : (least buckets bucket : ℕ) (records : List (ℕ × List ℕ)) → AreRecords least records
+pub of_keys : (least buckets bucket : ℕ) (records : List (ℕ × List ℕ)) → AreRecords least records
     → ((key : ℕ) → IsSome (find nat_cmp key records) → key % buckets ≡ bucket) → AreOf buckets bucket records
 unfolding AreOf AreRecords
 of_keys least buckets bucket [] are keys = tt

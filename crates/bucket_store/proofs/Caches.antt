@@ -1,5 +1,5 @@
 -- The buckets of a transaction in a tree, as a finite map.
-use Rattle.std.proofs.Common.{◌≡◌, ◌≢◌, ◌-◌, ◌<◌, ℕ, Bool, true, cond, List, Option, Some, None, Result, Ok, Err, sym, ap, subst, ◌∙◌, arith, inl, inr}
+use Rattle.std.proofs.Common.{◌≡◌, ◌≢◌, ◌⊎◌, ◌-◌, ◌<◌, ℕ, Bool, true, cond, List, Option, Some, None, Result, Ok, Err, sym, ap, subst, ◌∙◌, arith, inl, inr}
 use Rattle.std.proofs.lemmas.Bool.{cases_order}
 use Rattle.std.specs.declared.cmp.Ordering.{Ordering}
 use Rattle.bucket_records.proofs.MapLaws.{less_of, equal_of, greater_of}
@@ -105,3 +105,19 @@ fewer old new n own there is =
 
 pub get_less : (old new : CacheMap) (n k : ℕ) → new ≡ map.remove old n → map.get new k ≡ cond (is_eq (nat_cmp k n)) None (map.get old k)
 get_less old new n k is = ap (λ (m : CacheMap). map.get m k) is ∙ map.get-remove nat_cmp_total old n k
+
+-- what holds of the buckets that were taken out holds of one more
+pub rise_less : (old new : CacheMap) (n : ℕ) (out : Cached) (k : ℕ) (own : Cached) (P : Type 0) → map.get old n ≡ Some out → new ≡ map.remove old n
+    → (out ≡ own → P) → (map.get old k ≡ Some own) ⊎ P → (map.get new k ≡ Some own) ⊎ P
+rise_less old new n out k own P there is leads (inr has) = inr has
+rise_less old new n out k own P there is leads (inl here) = elim (cases_order k n) [
+  | inl same ↦ inr (leads (same_Some out own (sym there ∙ ap (λ (j : ℕ). map.get old j) (sym same) ∙ here)))
+  | inr (inl low) ↦
+      inl (get_less old new n k is ∙ ap (λ (r : Ordering). cond (is_eq r) None (map.get old k)) (less_of k n low) ∙ here)
+  | inr (inr high) ↦
+      inl (get_less old new n k is ∙ ap (λ (r : Ordering). cond (is_eq r) None (map.get old k)) (greater_of k n high) ∙ here)
+]
+
+pub rise_end : (left : CacheMap) (k : ℕ) (own : Cached) (P : Type 0) → left ≡ map.empty → (map.get left k ≡ Some own) ⊎ P → P
+rise_end left k own P none (inl here) = absurd (nothing left k own none here)
+rise_end left k own P none (inr has) = has

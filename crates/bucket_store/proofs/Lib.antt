@@ -3,3 +3,10 @@ pub mod Caches
 pub mod Openings
 pub mod Writings
 pub mod Installs
+pub mod Fresh
+pub mod Holding
+pub mod Images
+pub mod Meanings
+pub mod Numbered
+pub mod Sound
+pub mod Texts

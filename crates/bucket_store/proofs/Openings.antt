@@ -26,7 +26,8 @@ use Rattle.bucket_store.specs.Buckets.{Stored, AreBuckets, HasKeysOf, IsBucketCh
 use Rattle.bucket_store.specs.Transaction.{IsOpenWith}
 use Rattle.bucket_store.specs.declared.cache.Cached.{Cached}
 
-loaded_one : (pages : List (List ℕ)) (n first : ℕ) (own : Option (List ℕ)) (one two : List ℕ) → LoadedIs pages n first own one
+-- what a chain has is one
+pub loaded_one : (pages : List (List ℕ)) (n first : ℕ) (own : Option (List ℕ)) (one two : List ℕ) → LoadedIs pages n first own one
     → LoadedIs pages n first own two → one ≡ two
 loaded_one pages n first None one two is other = bytes_one (page_in pages) (length pages + 1) n first one two is other
 loaded_one pages n first (Some own) one two is other = is ∙ sym other
@@ -253,3 +254,9 @@ buckets_less buckets old new n is were k other there =
       | inr (inl low) ↦ were k other (sym (ap (λ (r : Ordering). cond (is_eq r) None (map.get old k)) (less_of k n low)) ∙ found)
       | inr (inr high) ↦ were k other (sym (ap (λ (r : Ordering). cond (is_eq r) None (map.get old k)) (greater_of k n high)) ∙ found)
     ]
+
+-- what a bucket that is not there has
+pub none_content : {D : Type 0} {g : Ghosts D} (o : Option Cached) (pages : List (List ℕ)) (chains : Chains D g) (n : ℕ) (values : BucketMap) → o ≡ None
+    → Stored pages chains n values → MatchOption o (Stored pages chains n values) (λ it. it.bucket ≡ values)
+none_content None pages chains n values none stored = stored
+none_content (Some own) pages chains n values none stored = absurd (no_own own (sym none))

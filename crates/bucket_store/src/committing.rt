@@ -1,5 +1,5 @@
 //! What a transaction has changed is made to stand.
-ghost use Rattle.std.specs.Prelude.{◌≡◌, ◌+◌, ◌*◌, ◌≤◌, ◌<◌, ◌||◌, List, ℕ, None, Some, false, ◌==◌, if◌then◌else◌, is_err, OnOk};
+ghost use Rattle.std.specs.Prelude.{◌≡◌, ◌+◌, ◌*◌, ◌≤◌, ◌<◌, ◌||◌, List, ℕ, None, Some, false, ◌==◌, if◌then◌else◌, is_err, IsTrue, OnOk};
 ghost use Rattle.std.specs.FinMap as map;
 ghost use Rattle.page_journal.specs.Answers.{HasDiskCause, answers_disk_fault};
 ghost use Rattle.page_journal.specs.Journal.{home_count, is_broken};
@@ -7,7 +7,9 @@ ghost use Rattle.chain_store.specs.Answers.{IsReadAnswer, Looked};
 ghost use Rattle.chain_store.specs.Chains.{IsOpen, disk_of, is_refused, journal_of, kept_of, root_of, written_of};
 ghost use Rattle.chain_store.specs.Directories.{IsString};
 ghost use Rattle.bucket_store.specs.Buckets.{AreBuckets, IsBucketChain, bucket_count};
-ghost use Rattle.bucket_store.specs.Committing.{after};
+ghost use Rattle.bucket_store.specs.Committing.{WritesBuckets, after};
+ghost use Rattle.bucket_records.specs.Records.{AreRecords};
+ghost use Rattle.bucket_store.specs.declared.cache.Cached.{Cached};
 
 use crate::cache::{Cache, Cached};
 use chain_store::Chains;
@@ -27,6 +29,9 @@ pub fn store_changed<D: Disk>(
     ensures kept { kept_of chains.new ≡ kept_of chains.old }
     ensures root { root_of chains.new ≡ root_of chains.old }
     ensures going { OnOk result (is_refused chains.new ≡ false) }
+    ensures rise { OnOk result ((n : ℕ) (own : Cached) → map.get cache.old n ≡ Some own → IsTrue own.changed → AreRecords 0 (map.entries own.bucket)) }
+    ensures answers { (pages : List (List ℕ)) → IsOpen pages chains.old → WritesBuckets pages (kept_of chains.old) (bucket_count chains.old) result }
+    ensures alone { IsReadAnswer (is_broken (journal_of chains.old)) result }
     ensures looked { Looked (journal_of chains.old) (journal_of chains.new) }
     ensures broken { is_broken (journal_of chains.new) ≡ (is_broken (journal_of chains.old) || answers_disk_fault result) }
     ensures cause { HasDiskCause (disk_of chains.old).faults (disk_of chains.new).faults result }
@@ -53,12 +58,16 @@ fn store_bucket<D: Disk>(
     cached: Cached,
 ) -> Result<(), StoreFault>
     requires string { IsString (bucket_count chains.old) n }
+    requires bucket { IsBucketChain (bucket_count chains.old) n }
     requires going { is_refused chains.old ≡ false }
     ensures written { OnOk result ((k : ℕ) → map.get (written_of chains.new) k ≡ after (if k == n then Some cached else None) (map.get (written_of chains.old) k)) }
     ensures open { (pages : List (List ℕ)) → IsOpen pages chains.old → IsOpen pages chains.new }
     ensures kept { kept_of chains.new ≡ kept_of chains.old }
     ensures root { root_of chains.new ≡ root_of chains.old }
     ensures going { OnOk result (is_refused chains.new ≡ false) }
+    ensures rise { OnOk result (IsTrue cached.changed → AreRecords 0 (map.entries cached.bucket)) }
+    ensures answers { (pages : List (List ℕ)) → IsOpen pages chains.old → WritesBuckets pages (kept_of chains.old) (bucket_count chains.old) result }
+    ensures alone { IsReadAnswer (is_broken (journal_of chains.old)) result }
     ensures looked { Looked (journal_of chains.old) (journal_of chains.new) }
     ensures broken { is_broken (journal_of chains.new) ≡ (is_broken (journal_of chains.old) || answers_disk_fault result) }
     ensures cause { HasDiskCause (disk_of chains.old).faults (disk_of chains.new).faults result }

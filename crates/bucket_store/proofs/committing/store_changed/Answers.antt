@@ -1,12 +1,15 @@
 -- Each turn stores a bucket, and what will be written stays.
-use Rattle.std.proofs.Common.{refl, sym, ap, ◌∙◌, arith}
+use Rattle.std.proofs.Common.{IsTrue, refl, sym, ap, subst, ◌∙◌, arith}
+use Rattle.std.specs.FinMap as map
+use Rattle.bucket_records.specs.Records.{AreRecords}
+use Rattle.bucket_store.specs.declared.cache.Cached.{Cached}
 use Rattle.chain_store.specs.declared.root.Root.{Root}
 use Rattle.chain_store.specs.Chains.{written_of, journal_of}
 use Rattle.page_journal.specs.Journal.{is_broken}
 use Rattle.chain_store.proofs.Looks.{looked_then}
 use Rattle.bucket_store.specs.Buckets.{bucket_count}
 use Rattle.bucket_store.proofs.BucketLaws.{chain_given}
-use Rattle.bucket_store.proofs.Caches.{fewer}
+use Rattle.bucket_store.proofs.Caches.{fewer, rise_end, rise_less}
 use Rattle.bucket_store.proofs.Openings.{buckets_less, buckets_same}
 use Rattle.bucket_store.proofs.Writings.{after_same, after_none, still_then}
 use Rattle.bucket_store.proofs.committing.store_changed.Goals as goal
@@ -30,6 +33,11 @@ loop-n-preserved g c =
       going = done.going;
       written = λ n. after_same c.loop-n.cache c.pop.new.self (written_of c.loop-n.chains) (written_of c.store_bucket.new.chains) c.in-Some.n
           c.in-Some.cached c.in-Some.ensures.there c.in-Some.ensures.rest done.written n ∙ so-far.written n;
+      rise = λ n own there changed. rise_less c.loop-n.cache c.pop.new.self c.in-Some.n c.in-Some.cached n own (AreRecords 0 (map.entries own.bucket))
+          c.in-Some.ensures.there c.in-Some.ensures.rest
+          (λ same. subst (λ (it : Cached). AreRecords 0 (map.entries it.bucket)) same
+          (done.rise (subst (λ (it : Cached). IsTrue it.changed) (sym same) changed)))
+          (so-far.rise n own there changed);
       opens = λ pages was. done.open pages (so-far.opens pages was);
       kept = done.kept ∙ so-far.kept;
       root = done.root ∙ so-far.root;
@@ -42,3 +50,7 @@ loop-n-preserved g c =
 pub returns-clause-written : goal.returns-clause-written
 returns-clause-written g c n =
     sym (after_none c.loop-n.cache (written_of c.loop-n.chains) n (c.in_default.ensures.none refl)) ∙ c.loop-n.invariant.written n
+
+pub returns-clause-rise : goal.returns-clause-rise
+returns-clause-rise g c n own there changed =
+    rise_end c.loop-n.cache n own (AreRecords 0 (map.entries own.bucket)) (c.in_default.ensures.none refl) (c.loop-n.invariant.rise n own there changed)

@@ -1,11 +1,13 @@
 -- What the chains will be written with is settled from the start.
-use Rattle.std.proofs.Common.{◌≡◌, ◌≤◌, ℕ, List, false}
+use Rattle.std.proofs.Common.{◌≡◌, ◌≤◌, ◌⊎◌, ℕ, List, Some, IsTrue, false}
 use Rattle.std.specs.FinMap as map
 use Rattle.chain_store.specs.Chains.{IsOpen, disk_of, is_refused, journal_of, kept_of, root_of, written_of}
 use Rattle.page_journal.specs.Journal.{is_broken}
 use Rattle.chain_store.specs.Answers.{Looked}
 use Rattle.bucket_store.specs.Buckets.{AreBuckets, bucket_count}
 use Rattle.bucket_store.specs.Committing.{after}
+use Rattle.bucket_records.specs.Records.{AreRecords}
+use Rattle.bucket_store.specs.declared.cache.Cached.{Cached}
 use Rattle.bucket_store.proofs.committing.store_changed.Given as goal
 
 abbrev pub invariant-loop-n : goal.invariant-loop-n
@@ -14,6 +16,8 @@ invariant-loop-n g l = record {
   going : is_refused l.chains ≡ false;
   written : (n : ℕ) → after (map.get l.cache n) (map.get (written_of l.chains) n)
       ≡ after (map.get l.initial.cache n) (map.get (written_of l.initial.chains) n);
+  rise : (n : ℕ) (own : Cached) → map.get l.initial.cache n ≡ Some own → IsTrue own.changed
+      → (map.get l.cache n ≡ Some own) ⊎ AreRecords 0 (map.entries own.bucket);
   opens : (pages : List (List ℕ)) → IsOpen pages l.initial.chains → IsOpen pages l.chains;
   kept : kept_of l.chains ≡ kept_of l.initial.chains;
   root : root_of l.chains ≡ root_of l.initial.chains;

@@ -7,6 +7,9 @@ use Rattle.bucket_store.specs.Buckets.{bucket_count}
 use Rattle.bucket_store.specs.Transaction.{IsOpenWith}
 use Rattle.bucket_store.specs.declared.cache.Cached.{Cached}
 use Rattle.bucket_store.proofs.Openings.{open_later, open_more, stored_later, buckets_more, buckets_same, put_there, some_of, none_of, content_more}
+use Rattle.std.proofs.Common.{◌||◌, Bool, refl, ◌∙◌}
+use Rattle.bucket_store.proofs.Holding.{has_later}
+use Rattle.bucket_store.proofs.Openings.{content_is, none_content, there_own}
 use Rattle.bucket_store.proofs.buckets.Buckets.bring_chain.Goals as goal
 
 pub returns-in-Err-clause-open : goal.returns-in-Err-clause-open
@@ -51,3 +54,21 @@ returns-in-Err-add-clause-open g c pages was =
     subst (λ (m : CacheMap). IsOpenWith pages c.read_bucket.new.chains m) (sym c.in-Err-add.ensures.err)
     (open_later pages c.args.self.now.chains c.read_bucket.new.chains c.args.self.now.cache c.in-Ok.ensures.stays
     (c.in-Ok.ensures.open pages was.open_chains) was)
+
+pub returns-then-has-clause-had : goal.returns-then-has-clause-had
+returns-then-has-clause-had g c pages was =
+    let found = there_own (map.get c.args.self.now.cache c.args.n) (c.has.ensures.0 c.if-has.true) in
+    (found.0.bucket, content_is pages c.args.self.now.chains (map.get c.args.self.now.cache c.args.n) c.args.n found.0 found.0.bucket found.1 refl)
+
+pub returns-in-Ok-add-clause-had : goal.returns-in-Ok-add-clause-had
+returns-in-Ok-add-clause-had g c pages was =
+    let none = none_of c.has.result (map.get c.args.self.now.cache c.args.n) c.has.ensures.1 c.if-has.false in (
+      c.in-Ok.bucket,
+      none_content (map.get c.args.self.now.cache c.args.n) pages c.args.self.now.chains c.args.n c.in-Ok.bucket none
+          (c.in-Ok.ensures.answers pages was.open_chains),
+    )
+
+pub returns-in-Ok-add-clause-has : goal.returns-in-Ok-add-clause-has
+returns-in-Ok-add-clause-has g c rest now has =
+    has_later rest now c.args.self.now _ c.in-Ok.ensures.stays (c.in-Ok.ensures.broken ∙ ap (λ (b : Bool). b || false) has.whole)
+    (returns-in-Ok-add-clause-open g c) (returns-in-Ok-add-clause-content g c) has

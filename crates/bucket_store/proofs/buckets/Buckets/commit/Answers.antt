@@ -1,9 +1,18 @@
 -- The chains are given what was changed, and then they commit.
-use Rattle.std.proofs.Common.{refl}
-use Rattle.chain_store.specs.Chains.{disk_of, root_of, written_of}
+use Rattle.std.proofs.Common.{◌||◌, ℕ, Bool, false, Err, List, refl, ap, subst, ◌∙◌}
+use Rattle.chain_store.specs.Chains.{before_of, disk_of, journal_of, kept_of, read_of, root_of, written_of}
+use Rattle.page_journal.specs.Journal.{home_count, is_broken, page_limit}
+use Rattle.chain_store.specs.Directories.{root_in}
+use Rattle.chain_store.specs.State.{IsState}
+use Rattle.chain_store.specs.declared.root.Root.{Root}
 use Rattle.chain_store.specs.Known.{changed}
 use Rattle.bucket_store.specs.Committing.{given}
 use Rattle.bucket_store.proofs.Caches.{nothing}
+use Rattle.bucket_store.specs.Buckets.{bucket_count}
+use Rattle.bucket_store.specs.Image.{IsSoundCommit}
+use Rattle.bucket_store.proofs.Holding.{has_anew}
+use Rattle.bucket_store.proofs.Meanings.{goes_images, spells_given}
+use Rattle.bucket_store.proofs.Sound.{sound_ends, sound_writes}
 use Rattle.bucket_store.proofs.Installs.{given_is, is_given, moment_given, open_none}
 use Rattle.bucket_store.proofs.buckets.Buckets.commit.Goals as goal
 
@@ -59,3 +68,44 @@ pub returns-in-Err-commit-clause-open : goal.returns-in-Err-commit-clause-open
 returns-in-Err-commit-clause-open g c _ no-fault pages was =
     open_none pages c.commit.new.self c.new.result c.new.ensures.empty
     (c.in-Err-commit.ensures.open refl no-fault pages (c.in_default.ensures.open pages was.open_chains))
+
+pub returns-in-Err-clause-sound : goal.returns-in-Err-clause-sound
+returns-in-Err-clause-sound g c rest now has =
+    let chains = c.args.self.now.chains in
+    sound_writes has.pages (kept_of chains) rest.root has.strings has.opens.open_chains.keeps has.state (Err c.in-Err.fault) (bucket_count chains)
+    (page_limit (journal_of chains)) (is_broken (journal_of chains))
+    (c.in-Err.ensures.answers has.pages has.opens.open_chains) c.in-Err.ensures.alone has.whole
+
+pub returns-in-Ok-clause-images : goal.returns-in-Ok-clause-images
+returns-in-Ok-clause-images g c rest now has =
+    let self = c.args.self.now in
+    goes_images rest now has.strings (given has.strings self.cache (written_of self.chains)) (root_of self.chains) _ _ has.spells
+    (spells_given rest now self has c.in_default.ensures.rise) has.root
+    (returns-in-Ok-clause-any_moment g c rest.root has.strings has.pages has.opens has.state)
+
+pub returns-in-Err-commit-clause-images : goal.returns-in-Err-commit-clause-images
+returns-in-Err-commit-clause-images g c rest now has =
+    let self = c.args.self.now in
+    goes_images rest now has.strings (given has.strings self.cache (written_of self.chains)) (root_of self.chains) _ _ has.spells
+    (spells_given rest now self has c.in_default.ensures.rise) has.root
+    (returns-in-Err-commit-clause-any_moment g c rest.root has.strings has.pages has.opens has.state)
+
+pub returns-in-Ok-clause-has : goal.returns-in-Ok-clause-has
+returns-in-Ok-clause-has g c rest now has =
+    let self = c.args.self.now in
+    let whole = c.in-Ok.ensures.broken ∙ ap (λ (b : Bool). b || false) (c.in_default.ensures.broken ∙ ap (λ (b : Bool). b || false) has.whole) in
+    let done = returns-in-Ok-clause-done g c rest.root has.strings has.pages has.opens has.state in
+    has_anew now _ done.0 (given has.strings self.cache (written_of self.chains)) done.1
+    (subst (λ (r : Root). IsState r (given has.strings self.cache (written_of self.chains)) done.0) has.root done.2)
+    (spells_given rest now self has c.in_default.ensures.rise) whole
+    (c.in-Ok.ensures.root ∙ ap (λ (page : List ℕ). root_in page) done.1.open_chains.keeps.front ∙ done.2.fields ∙ has.root)
+    c.in-Ok.ensures.written c.new.ensures.empty
+
+pub returns-in-Err-commit-clause-sound : goal.returns-in-Err-commit-clause-sound
+returns-in-Err-commit-clause-sound g c rest now has =
+    let mid = c.store_changed-stored.new.chains in
+    let opens = c.in_default.ensures.open has.pages has.opens.open_chains in
+    let whole = c.in_default.ensures.broken ∙ ap (λ (b : Bool). b || false) has.whole in
+    subst (λ (limit : ℕ). IsSoundCommit {T = Unit {0}} limit (Err c.in-Err-commit.fault)) c.in_default.ensures.looked.limit
+    (sound_ends has.pages (kept_of mid) rest.root has.strings opens.keeps has.state (Err c.in-Err-commit.fault) (root_of mid) (written_of mid) (read_of mid) (before_of mid)
+    (page_limit (journal_of mid)) (home_count (journal_of c.commit.new.self)) (is_broken (journal_of mid)) (c.in-Err-commit.ensures.answers has.pages opens) c.in-Err-commit.ensures.alone whole)

@@ -6,6 +6,9 @@ use Rattle.bucket_records.specs.Records.{BucketMap}
 use Rattle.bucket_store.specs.Buckets.{bucket_count, bucket_in, chain_at}
 use Rattle.bucket_store.specs.declared.cache.Cached.{Cached}
 use Rattle.bucket_store.proofs.Openings.{bucket_in-chain_at, buckets_more, content_is, content_own, content_apart, keys_put, never_changed, open_more, put_there, there_own}
+use Rattle.std.specs.FinMap as map
+use Rattle.std.proofs.Common.{Some, refl}
+use Rattle.bucket_store.proofs.Holding.{has_changed}
 use Rattle.bucket_store.proofs.buckets.Buckets.set.Goals as goal
 
 pub invariant_of-self : goal.invariant_of-self
@@ -55,3 +58,8 @@ returns-in-Ok-clause-open g c pages was =
     let own : Cached = record { bucket = map.insert found.0.bucket c.args.key c.args.value.now; changed = true } in
     open_more pages c.args.self.now.chains cache c.put.new.self n own (c.in-Ok.ensures.ok found.0 found.1)
     (λ same. absurd (never_changed same)) was
+
+pub returns-in-Ok-clause-has : goal.returns-in-Ok-clause-has
+returns-in-Ok-clause-has g c rest now has =
+    has_changed rest now c.args.self.now _ c.args.which c.args.key (Some c.args.value.now) c.requires.which c.requires.some refl refl has.whole
+    (returns-in-Ok-clause-open g c) (returns-in-Ok-clause-put g c) (returns-in-Ok-clause-others g c) has

@@ -8,6 +8,9 @@ use Rattle.bucket_store.specs.Buckets.{AreBuckets, bucket_count, bucket_in, chai
 use Rattle.bucket_store.specs.Transaction.{IsOpenWith}
 use Rattle.bucket_store.specs.declared.cache.Cached.{Cached}
 use Rattle.bucket_store.proofs.Openings.{buckets_more, content_is, content_own, content_apart, content_same, keys_remove, never_changed, open_more, put_there, taken_own, there_own, took}
+use Rattle.std.proofs.Common.{None, refl}
+use Rattle.bucket_store.proofs.Holding.{has_bucket, has_changed}
+use Rattle.std.specs.Option.{is_some}
 use Rattle.bucket_store.proofs.buckets.Buckets.unset.Goals as goal
 
 pub invariant_of-self : goal.invariant_of-self
@@ -71,3 +74,12 @@ returns-in-Ok-clause-open g c pages was =
       | inl is ↦ open_more pages c.args.self.now.chains cache c.remove.new.self n own is (λ same. absurd (never_changed same)) was
       | inr same ↦ subst (λ (m : CacheMap). IsOpenWith pages c.args.self.now.chains m) (sym same.1) was
     ]
+
+pub returns-in-Ok-clause-has : goal.returns-in-Ok-clause-has
+returns-in-Ok-clause-has g c rest now has =
+    let own = has_bucket rest now c.args.self.now c.args.which c.args.key c.requires.which c.requires.some has in (
+      (returns-in-Ok-clause-taken g c has.pages has.opens own.0 own.1).0 ∙ ap (λ o. is_some o) own.2,
+      has_changed rest now c.args.self.now _ c.args.which c.args.key None c.requires.which c.requires.some refl refl has.whole
+          (returns-in-Ok-clause-open g c) (λ pages was values content. (returns-in-Ok-clause-taken g c pages was values content).1)
+          (returns-in-Ok-clause-others g c) has,
+    )
