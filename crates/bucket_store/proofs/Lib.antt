@@ -10,3 +10,4 @@ pub mod Meanings
 pub mod Numbered
 pub mod Sound
 pub mod Texts
+pub mod TypedLaws

@@ -3,3 +3,4 @@ pub mod Cache
 pub mod Transaction
 pub mod Committing
 pub mod Image
+pub mod Typed

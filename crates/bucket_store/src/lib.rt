@@ -18,5 +18,7 @@ mod buckets;
 mod cache;
 mod committing;
 mod reading;
+mod typed;
 
 pub use buckets::Buckets;
+pub use typed::refuse_value;
