@@ -8,6 +8,7 @@ pub mod Holding
 pub mod Images
 pub mod Meanings
 pub mod Numbered
+pub mod Reopened
 pub mod Sound
 pub mod Texts
 pub mod TypedLaws

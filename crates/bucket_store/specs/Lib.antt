@@ -4,3 +4,4 @@ pub mod Transaction
 pub mod Committing
 pub mod Image
 pub mod Typed
+pub mod Opening

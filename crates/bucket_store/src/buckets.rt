@@ -2,7 +2,7 @@
 ghost use Rattle.std.specs.Prelude.{◌≡◌, ◌≢◌, ◌⊎◌, ◌*◌, ◌+◌, ◌≤◌, ◌<◌, ◌||◌, List, ℕ, None, Some, false, true, is_err, IfOk, IsErr, IsSome, OnOk, MatchOption};
 ghost use Rattle.std.specs.FinMap as map;
 ghost use Rattle.page_journal.specs.Answers.{HasDiskCause, answers_disk_fault};
-ghost use Rattle.page_journal.specs.Journal.{home_count, is_broken, loan_of};
+ghost use Rattle.page_journal.specs.Journal.{home_count, is_broken, loan_of, page_limit};
 ghost use Rattle.page_journal.specs.Journal.{disk_of as disk_under};
 ghost use Rattle.chain_store.specs.Answers.{IsReadAnswer};
 ghost use Rattle.chain_store.specs.Chains.{IsOpen, Loads, OnlyRead, disk_of, first_of, is_refused, journal_of, kept_of, read_of, root_of, written_of};
@@ -20,9 +20,12 @@ mod installing;
 mod looking;
 
 use crate::cache::Cache;
+use crate::opened::Opened;
 use crate::reading::chain_of;
 use chain_store::{Chains, Root};
+use osm_base::Limits;
 use outside::Disk;
+use page_journal::Journal;
 use std::alloc::Global;
 
 /// The buckets of an open store, and one transaction over them.
@@ -37,7 +40,8 @@ pub struct Buckets<'d, D: Disk> {
 }
 
 impl<'d, D: Disk> Buckets<'d, D> {
-    ghost use Rattle.bucket_store.specs.Image.{Has, HasImage, Image, IsSoundAnswer, OnlyLooks, RestsAt, with_buckets, with_root, with_text, with_value};
+    ghost use Rattle.bucket_store.specs.Image.{Has, HoldsImage, Image, OnlyLooks, RestsAt, with_buckets, with_root, with_text, with_value};
+    ghost use Rattle.bucket_store.specs.Opening.{Fits};
     ghost use Rattle.bucket_store.specs.Transaction.{BringsBucket, Content, IsOpenStore, cached_of, chains_of, has_refused};
 
     /// The buckets over these chains. Reads nothing.
@@ -56,10 +60,35 @@ impl<'d, D: Disk> Buckets<'d, D> {
         }
     }
 
+    /// The buckets of the store on this disk, of which this was read, with a transaction begun. Reads nothing.
+    pub fn on(alloc: Global, disk: &'d mut D, limits: &Limits, opened: Opened) -> Self
+        ensures same_disk { loan_of (journal_of (chains_of result)) ≡ disk.entry.ghost_name }
+        ensures disk { disk_under (journal_of (chains_of result)) ≡ disk.entry.now }
+        ensures limit { page_limit (journal_of (chains_of result)) ≡ limits.now.pages }
+        ensures whole { is_broken (journal_of (chains_of result)) ≡ false }
+        ensures going { has_refused result ≡ false }
+        ensures rests { (image : Image) → Fits opened (D.view disk.entry.now) → HoldsImage image (D.view disk.entry.now) → RestsAt image result }
+        ensures has { (image : Image) → Fits opened (D.view disk.entry.now) → HoldsImage image (D.view disk.entry.now) → Has image image result }
+    {
+        let Opened { pages, kept } = opened;
+        let journal = Journal::over(disk, pages, limits);
+        Self::over(alloc, Chains::over(alloc, journal, kept))
+    }
+
+    /// Hands the disk back, and what is kept of the store: `on` takes both again.
+    pub fn hand_back(self) -> (&'d mut D, Opened)
+        ensures same_disk { result.0.ghost_name ≡ loan_of (journal_of (chains_of self.entry)) }
+        ensures disk { result.0.now ≡ disk_under (journal_of (chains_of self.entry)) }
+        ensures fits { (image : Image) → RestsAt image self.entry → Fits result.1 (disk_of (chains_of self.entry)) }
+    {
+        let (journal, kept) = self.close().into_parts();
+        let pages = journal.pages();
+        (journal.close(), Opened { pages, kept })
+    }
+
     /// Hands the chains back.
     pub fn close(self) -> Chains<'d, D>
-        ensures same_disk { loan_of (journal_of result) ≡ loan_of (journal_of (chains_of self.entry)) }
-        ensures disk { disk_under (journal_of result) ≡ disk_under (journal_of (chains_of self.entry)) }
+        ensures { result ≡ chains_of self.entry }
     {
         let Buckets {
             chains,

@@ -17,8 +17,12 @@
 mod buckets;
 mod cache;
 mod committing;
+mod opened;
+mod opening;
 mod reading;
 mod typed;
 
 pub use buckets::Buckets;
+pub use opened::Opened;
+pub use opening::open;
 pub use typed::refuse_value;

@@ -1,0 +1,54 @@
+-- A store is opened: what is kept of it, and which answers that may give.
+use Rattle.std.specs.Prelude.{◌≡◌, ◌⊎◌, ℕ, ◌+◌, List, length, Result, Ok, Err}
+use Rattle.outside.specs.Disk.{Crashes, DiskView}
+use Rattle.page_journal.specs.Answers.{HomeRefused, JournalRefused}
+use Rattle.page_journal.specs.Crash.{IsAtRest}
+use Rattle.page_journal.specs.Home.{Home, IsFormatted}
+use Rattle.page_journal.specs.declared.fault.StoreFault.{StoreFault}
+use Rattle.page_journal.specs.declared.fault.StoreFault.TheVariants.{NotFormatted, BadStore, DiskFault, OutOfMemory}
+use Rattle.chain_store.specs.Answers.{ReadsKept}
+use Rattle.chain_store.specs.Directories.{root_in}
+use Rattle.chain_store.specs.Store.{Keeps}
+use Rattle.chain_store.specs.declared.root.Root.{Root}
+use Rattle.bucket_store.specs.Image.{HasImage, Image}
+use Rattle.bucket_store.specs.declared.opened.Opened.{Opened}
+
+-- what was read of a store is so on this disk, which is at rest
+pub record Fits (opened : Opened) (view : DiskView) : Type 0 where
+  pub pages : List (List ℕ)
+  pub rests : IsAtRest pages view
+  pub many : length pages + 1 ≡ opened.pages
+  pub keeps : Keeps pages opened.kept
+
+-- the fields that were read
+abbrev pub opened_root : Opened → Root
+opened_root opened = root_in opened.kept.front.items
+
+-- a store that means something
+abbrev pub IsMeant : List ℕ → Type 0
+IsMeant left = (image : Image) × HasImage image left
+
+-- a content that means all that one of these outcomes means
+pub record MeansOne (crashes : Crashes) (left : List ℕ) : Type 0 where
+  pub one : List ℕ
+  pub among : crashes.outcomes one
+  pub means : (image : Image) → HasImage image one → HasImage image left
+
+-- opening a store of these bytes may give this answer
+abbrev pub OpensStore : {T : Type 0} → List ℕ → Result T StoreFault → Type 0
+OpensStore bytes (Ok opened) = (pages : List (List ℕ)) × Home pages bytes
+OpensStore bytes (Err NotFormatted) = ¬ IsFormatted bytes
+OpensStore bytes (Err (BadStore page)) = (JournalRefused bytes page ⊎ HomeRefused bytes page)
+    ⊎ ((pages : List (List ℕ)) × Home pages bytes × ReadsKept pages (Err (BadStore page)))
+OpensStore bytes (Err DiskFault) = Unit {0}
+OpensStore bytes (Err OutOfMemory) = Unit {0}
+OpensStore bytes (Err _) = ⊥
+
+-- and whatever the disk tells, it gives no other answer than these
+abbrev pub IsOpeningAnswer : {T : Type 0} → Result T StoreFault → Type 0
+IsOpeningAnswer (Ok opened) = Unit {0}
+IsOpeningAnswer (Err NotFormatted) = Unit {0}
+IsOpeningAnswer (Err (BadStore page)) = Unit {0}
+IsOpeningAnswer (Err DiskFault) = Unit {0}
+IsOpeningAnswer (Err OutOfMemory) = Unit {0}
+IsOpeningAnswer (Err _) = ⊥

@@ -1,0 +1,71 @@
+//! A store is opened on a disk that stays with its owner.
+ghost use Rattle.std.specs.Prelude.{◌≡◌, ◌≢◌, ◌+◌, ◌*◌, ◌^◌, ◌≤◌, List, ℕ, false, length, IfOk, IsErrOf, OnOk};
+ghost use Rattle.outside.specs.Bytes.{IfTold};
+ghost use Rattle.outside.specs.Disk.{DiskView, Goes, ReadsAtMost, Stays, Tells, Within};
+ghost use Rattle.page_journal.specs.Answers.{HasDiskCause};
+ghost use Rattle.page_journal.specs.Crash.{IsAtRest};
+ghost use Rattle.page_journal.specs.Home.{HasOpenJournal};
+ghost use Rattle.page_journal.specs.declared.fault.StoreFault.TheVariants.{NotFormatted};
+ghost use Rattle.chain_store.specs.Answers.{IsReadAnswer, ReadsKept};
+ghost use Rattle.chain_store.specs.Kept.{AreAllBehindRoot};
+ghost use Rattle.bucket_store.specs.Image.{HasImage, HoldsImage, Image, IsSoundAnswer};
+ghost use Rattle.bucket_store.specs.Opening.{Fits, IsMeant, IsOpeningAnswer, MeansOne, OpensStore};
+
+use crate::opened::Opened;
+use chain_store::{Kept, read_kept};
+use osm_base::Limits;
+use outside::Disk;
+use page_journal::{Journal, StoreFault};
+use std::alloc::Global;
+
+/// Opens the store on this disk: finishes a journal that a crash has left open, and reads the root page and the
+/// directories.
+pub fn open<D: Disk>(alloc: Global, disk: &mut D, limits: &Limits) -> Result<Opened, StoreFault>
+    ensures fits { IfOk result (λ opened. (bytes : List ℕ) → Tells (D.view disk.old) bytes → Fits opened (D.view disk.new)) }
+    ensures answers { (bytes : List ℕ) → Tells (D.view disk.old) bytes → OpensStore bytes result }
+    ensures alone { IsOpeningAnswer result }
+
+    // A store that means something is found so, and refused by nothing but the disk and memory.
+    ensures found { OnOk result ((bytes : List ℕ) → Tells (D.view disk.old) bytes
+        → (image : Image) → HasImage image bytes → HoldsImage image (D.view disk.new)) }
+    ensures sound { (bytes : List ℕ) → Tells (D.view disk.old) bytes → (image : Image) → HasImage image bytes → IsSoundAnswer result }
+
+    // Each outcome of a crash during the call means what one at its entry means.
+    ensures any_moment { (bytes : List ℕ) → Tells (D.view disk.old) bytes → Within IsMeant (D.view disk.old).crashes
+        → Goes (MeansOne (D.view disk.old).crashes) (D.view disk.old).crashes (D.view disk.new).crashes }
+
+    // Only a well-formed journal that is open lets it write.
+    ensures looked { IfTold (D.view disk.old).content (λ bytes. ¬ HasOpenJournal bytes → Stays (D.view disk.old) (D.view disk.new)) }
+    ensures refused { IsErrOf result NotFormatted → Stays (D.view disk.old) (D.view disk.new) }
+    ensures cause { HasDiskCause (D.view disk.old).faults (D.view disk.new).faults result }
+{
+    let pages = match page_journal::open(disk) {
+        Ok(pages) => pages,
+        Err(fault) => return Err(fault),
+    };
+    match kept_on(alloc, disk, limits, pages) {
+        Ok(kept) => Ok(Opened { pages, kept }),
+        Err(fault) => Err(fault),
+    }
+}
+
+// What is kept of a store with so many home pages.
+fn kept_on<D: Disk>(
+    alloc: Global,
+    disk: &mut D,
+    limits: &Limits,
+    pages: u64,
+) -> Result<Kept, StoreFault>
+    requires some { 2 ≤ pages }
+    requires small { 4096 * pages ≤ 2 ^ 62 }
+    ensures answers { (home : List (List ℕ)) → IsAtRest home (D.view disk.old) → length home + 1 ≡ pages → ReadsKept home result }
+    ensures alone { IsReadAnswer false result }
+    ensures inside { IfOk result (λ kept. AreAllBehindRoot pages kept.directories.items) }
+    ensures stays { Stays (D.view disk.old) (D.view disk.new) }
+    ensures cause { HasDiskCause (D.view disk.old).faults (D.view disk.new).faults result }
+{
+    let mut journal = Journal::over(disk, pages, limits);
+    let kept = read_kept(alloc, &mut journal);
+    let _disk = journal.close();
+    kept
+}
