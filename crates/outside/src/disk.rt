@@ -7,7 +7,7 @@ ghost use Rattle.outside.specs.Disk.{DiskView, Tells, Torn, ReadsFrom, Follows, 
 use crate::Failed;
 
 /// Bytes that are read and written at any place, and that a crash may damage until they are synced.
-pub trait Disk: Send {
+pub trait Disk {
     /// What a read gives, what a crash may leave, the count of faults, and the reads.
     ghost view: { Self → DiskView };
 
