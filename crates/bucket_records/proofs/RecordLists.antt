@@ -70,3 +70,9 @@ AreOf-one buckets bucket key value own = (own, tt)
 pub AreOf-none : (buckets bucket : ℕ) → AreOf buckets bucket []
 unfolding AreOf
 AreOf-none buckets bucket = tt
+
+-- one bucket has all keys
+pub one_bucket : (least : ℕ) (records : List (ℕ × List ℕ)) → AreRecords least records → AreOf 1 0 records
+unfolding AreRecords AreOf
+one_bucket least [] are = tt
+one_bucket least (one ∷ records) are = (omega arith, one_bucket (one.0 + 1) records are.2)

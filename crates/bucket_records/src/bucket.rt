@@ -6,10 +6,11 @@ ghost use Rattle.bucket_records.specs.Changes.{map_of};
 ghost use Rattle.bucket_records.specs.Places.{key_of};
 ghost use Rattle.value_bytes.specs.Forms.{NeedsFor};
 
+use crate::listing::{copied_records, known_records};
 use crate::merging::merged_bytes;
 use crate::records::Records;
 use crate::searching::place_of;
-use osm_base::OutOfMemory;
+use osm_base::{Bytes, OutOfMemory};
 use std::alloc::Global;
 use std::collections::BTreeMap;
 use std::marker::Model;
@@ -98,6 +99,18 @@ impl Bucket {
         }
         self.changes.insert(key, None)?;
         Ok(true)
+    }
+
+    /// The keys with their values, by rising key.
+    pub fn records(&self) -> Result<Vec<(u64, Bytes)>, OutOfMemory>
+        ensures { IfOk result (λ records. records.items ≡ map.entries self.now) }
+    {
+        if self.changes.is_empty() {
+            return copied_records(self.alloc, &self.records);
+        }
+        let bytes = merged_bytes(self.alloc, &self.records, &self.changes)?;
+        let merged = known_records(self.alloc, bytes)?;
+        copied_records(self.alloc, &merged)
     }
 
     /// The bytes of the map.

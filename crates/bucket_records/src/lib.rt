@@ -12,6 +12,7 @@
 #![tactic(auto)]
 
 mod bucket;
+mod listing;
 mod merging;
 mod records;
 mod searching;
