@@ -177,6 +177,16 @@ module _ {D : Type 0} {g : Ghosts D} where
         part_gives now.root.buckets (key % now.root.buckets) (now.maps which) had.0 key had.1 refl,
       )
 
+  -- and all of it
+  pub has_part : (rest now : Image) (buckets : Buckets D g) (which key : ℕ) → which < 8 → 1 ≤ bucket_count (chains_of buckets) → (has : Has rest now buckets)
+      → (own : BucketMap) × Content has.pages buckets (chain_at (bucket_count (chains_of buckets)) which key) own
+      × IsPart now.root.buckets (key % now.root.buckets) (now.maps which) own
+  has_part rest now buckets which key below some has =
+      let count : bucket_count (chains_of buckets) ≡ now.root.buckets = ap (λ (r : Root). r.buckets) has.root in
+      let low : key % now.root.buckets < now.root.buckets = mod-lt key (omega (arith, some, count)) in
+      let had = has.parts which (key % now.root.buckets) below low in
+      (had.0, subst (λ (k : ℕ). Content has.pages buckets (chain_at k which key) had.0) (sym count) had.2, had.1)
+
   -- one key's value changes
   pub has_changed : (rest now : Image) (old new : Buckets D g) (which key : ℕ) (change : Option (List ℕ)) → which < 8 → 1 ≤ bucket_count (chains_of old)
       → root_of (chains_of new) ≡ root_of (chains_of old) → written_of (chains_of new) ≡ written_of (chains_of old)

@@ -33,6 +33,12 @@ pub record IsPart (buckets bucket : ℕ) (whole own : BucketMap) : Type 0 where
 abbrev pub bucket_chain : ℕ → ℕ → ℕ
 bucket_chain m bucket = 16 + 65536 * m + bucket
 
+-- these are the records of a bucket of a map, by rising key
+pub record IsBucketOf (image : Image) (m bucket : ℕ) (records : List (ℕ × List ℕ)) : Type 0 where
+  pub own : BucketMap
+  pub part : IsPart image.root.buckets bucket (image.maps m) own
+  pub are : records ≡ map.entries own
+
 -- these strings spell it: the texts are the first of them, and each bucket's string is its records. Without buckets the
 -- maps are empty.
 pub record Spells (image : Image) (strings : ℕ → List ℕ) : Type 0 where

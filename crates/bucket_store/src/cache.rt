@@ -3,7 +3,7 @@ ghost use Rattle.std.specs.Prelude.{◌≡◌, ◌↔◌, ℕ, Some, None, true,
 ghost use Rattle.std.specs.FinMap as map;
 
 use bucket_records::Bucket;
-use osm_base::OutOfMemory;
+use osm_base::{Bytes, OutOfMemory};
 use std::alloc::Global;
 use std::collections::BTreeMap;
 use std::marker::Model;
@@ -96,6 +96,17 @@ impl Cache {
             unreachable!()
         };
         cached.bucket.get(key)
+    }
+
+    /// The records of a bucket that is there, by rising key.
+    pub fn records(&self, n: u32) -> Result<Vec<(u64, Bytes)>, OutOfMemory>
+        requires { IsSome (map.get self.now n) }
+        ensures records { IfOk result (λ records. (own : Cached) → map.get self.now n ≡ Some own → records.items ≡ map.entries own.bucket) }
+    {
+        let Some(cached) = self.tree.get(&n) else {
+            unreachable!()
+        };
+        cached.bucket.records()
     }
 
     /// Puts a bucket beside the others. Where it fails, they are as they were.

@@ -1,5 +1,5 @@
 //! The buckets of an open store are read and looked at.
-ghost use Rattle.std.specs.Prelude.{◌≡◌, ◌≢◌, ◌⊎◌, ◌*◌, ◌+◌, ◌≤◌, ◌<◌, ◌||◌, List, ℕ, None, Some, false, is_err, IfOk, IsErr, IsSome, OnOk, MatchOption};
+ghost use Rattle.std.specs.Prelude.{◌≡◌, ◌≢◌, ◌⊎◌, ◌*◌, ◌+◌, ◌%◌, ◌≤◌, ◌<◌, ◌||◌, List, ℕ, None, Some, false, is_err, IfOk, IsErr, IsSome, OnOk, MatchOption};
 ghost use Rattle.std.specs.FinMap as map;
 ghost use Rattle.page_journal.specs.Answers.{HasDiskCause, answers_disk_fault};
 ghost use Rattle.page_journal.specs.Journal.{home_count, is_broken, loan_of};
@@ -22,7 +22,7 @@ use outside::Disk;
 use page_journal::StoreFault;
 
 impl<'d, D: Disk> Buckets<'d, D> {
-    ghost use Rattle.bucket_store.specs.Image.{Has, HasImage, Image, IsSoundAnswer, OnlyLooks, RestsAt, with_buckets, with_root, with_text, with_value};
+    ghost use Rattle.bucket_store.specs.Image.{Has, HasImage, Image, IsBucketOf, IsSoundAnswer, OnlyLooks, RestsAt, with_buckets, with_root, with_text, with_value};
     ghost use Rattle.bucket_store.specs.Transaction.{BringsBucket, Content, IsOpenStore, cached_of, chains_of, has_refused};
 
     /// Reads the bucket of a key, where the transaction has not done so: then its values can be looked at.
@@ -121,6 +121,55 @@ impl<'d, D: Disk> Buckets<'d, D> {
             }
             None => Ok(None),
         }
+    }
+
+    /// The records of the bucket of a key, by rising key. The buckets of 0, 1 and so on are all of the map.
+    pub fn records(&mut self, which: u8, key: u64) -> Result<Vec<(u64, Bytes)>, StoreFault>
+        requires which { which < 8 }
+        requires some { 1 ≤ bucket_count (chains_of self.old) }
+        requires going { has_refused self.old ≡ false }
+        ensures records { IfOk result (λ records. (pages : List (List ℕ)) → IsOpenStore pages self.old → (values : BucketMap)
+            → Content pages self.old (chain_at (bucket_count (chains_of self.old)) which key) values → records.items ≡ map.entries values) }
+        ensures answers { (pages : List (List ℕ)) → IsOpenStore pages self.old
+            → BringsBucket pages self.old (chain_at (bucket_count (chains_of self.old)) which key) result }
+        ensures open { (pages : List (List ℕ)) → IsOpenStore pages self.old → IsOpenStore pages self.new }
+        ensures content { (pages : List (List ℕ)) → IsOpenStore pages self.old → (other : ℕ) (values : BucketMap)
+            → Content pages self.old other values → Content pages self.new other values }
+        ensures alone { IsReadAnswer (is_broken (journal_of (chains_of self.old))) result }
+        ensures stays { OnlyRead (chains_of self.old) (chains_of self.new) }
+        ensures broken { is_broken (journal_of (chains_of self.new)) ≡ (is_broken (journal_of (chains_of self.old)) || answers_disk_fault result) }
+        ensures reads { OnOk result (MayRead (4096 * home_count (journal_of (chains_of self.old)))
+            (chain_at (bucket_count (chains_of self.old)) which key) (read_of (chains_of self.old))
+            (read_of (chains_of self.new)) (disk_of (chains_of self.old)) (disk_of (chains_of self.new))) }
+        ensures refused { has_refused self.new ≡ is_err result }
+        ensures cause { HasDiskCause (disk_of (chains_of self.old)).faults (disk_of (chains_of self.new)).faults result }
+        ensures found { IfOk result (λ records. (rest now : Image) → Has rest now self.old → IsBucketOf now which (key % now.root.buckets) records.items) }
+        ensures has { OnOk result ((rest now : Image) → Has rest now self.old → Has rest now self.new) }
+        ensures sound { (rest now : Image) → Has rest now self.old → IsSoundAnswer result }
+        ensures same { OnlyLooks self.old self.new }
+    {
+        if let Err(fault) = self.bring(which, key) {
+            return Err(fault);
+        }
+        match self.listed(which, key) {
+            Ok(records) => Ok(records),
+            Err(_) => {
+                self.refused = true;
+                Err(StoreFault::OutOfMemory)
+            }
+        }
+    }
+
+    // The records of a bucket that is there.
+    fn listed(&self, which: u8, key: u64) -> Result<Vec<(u64, Bytes)>, OutOfMemory>
+        requires which { which < 8 }
+        requires some { 1 ≤ bucket_count (chains_of self.now) }
+        requires there { IsSome (map.get (cached_of self.now) (chain_at (bucket_count (chains_of self.now)) which key)) }
+        ensures records { IfOk result (λ records. (pages : List (List ℕ)) (values : BucketMap)
+            → Content pages self.now (chain_at (bucket_count (chains_of self.now)) which key) values → records.items ≡ map.entries values) }
+        ensures found { IfOk result (λ records. (rest now : Image) → Has rest now self.now → IsBucketOf now which (key % now.root.buckets) records.items) }
+    {
+        self.cache.records(self.chain_of(which, key))
     }
 
     /// The bytes of a string, as the transaction has them.
