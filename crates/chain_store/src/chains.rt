@@ -126,6 +126,13 @@ impl<'d, D: Disk> Chains<'d, D> {
         self.journal.pages()
     }
 
+    /// Whether an earlier call met a disk fault.
+    pub fn is_broken(&self) -> bool
+        ensures { result ≡ is_broken (journal_of self.now) }
+    {
+        self.journal.is_broken()
+    }
+
     /// The fields that the transaction gives the store.
     pub fn root(&self) -> Root
         ensures { result ≡ root_of self.now }

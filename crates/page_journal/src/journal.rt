@@ -91,6 +91,13 @@ impl<'d, D: Disk> Journal<'d, D> {
         self.pages
     }
 
+    /// Whether an earlier call met a disk fault.
+    pub fn is_broken(&self) -> bool
+        ensures { result ≡ is_broken self.now }
+    {
+        self.broken
+    }
+
     /// Whether the set may be committed, so that there are `home` home pages from then on.
     pub fn can_commit(&self, set: &PageSet, home: u64) -> bool
         ensures { IsTrue result ↔ CanCommit set.now (home_count self.now) home }
