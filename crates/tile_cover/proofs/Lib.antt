@@ -8,6 +8,8 @@ pub mod Turned
 pub mod Spans
 pub mod Rows
 pub mod Gained
+pub mod Within
+pub mod Lone
 pub mod Lines
 pub mod Sweeps
 pub mod Tables

@@ -74,3 +74,17 @@ falls (lat ∷ lats) (suc row) d e h = rw (one_more row) (falls lats row d e.1 (
 
 pub ordered : (south north : ℕ) (y z : ℤ) → pos south -ℤ pos 900000000 ≡ y → pos north -ℤ pos 900000000 ≡ z → y <ℤ z → south ≤ north
 ordered south north y z e f g = grind (arith, ints)
+
+-- and of each before it
+pub falls_on : (lats : List ℤ) (i j : ℕ) (d : ℤ) → AreFalling lats → i ≤ j → j < length lats → slice_index_or lats j d ≤ℤ slice_index_or lats i d
+falls_on [] i j d e h within = absurd (omega arith)
+falls_on (lat ∷ lats) zero zero d e h within = level lat
+  where
+    level : (z : ℤ) → z ≤ℤ z
+    level z = grind (arith, ints)
+falls_on (lat ∷ lats) zero (suc j) d e h within = below _ _ (all_at (λ next. next <ℤ lat) lats j d e.0 (omega arith))
+  where
+    below : (y z : ℤ) → y <ℤ z → y ≤ℤ z
+    below y z e = grind (arith, ints)
+falls_on (lat ∷ lats) (suc i) zero d e h within = absurd (omega arith)
+falls_on (lat ∷ lats) (suc i) (suc j) d e h within = falls_on lats i j d e.1 (omega arith) (omega arith)

@@ -10,7 +10,7 @@ use Rattle.tile_cover.specs.Tile.{touches, north_west, box_between}
 use Rattle.tile_cover.specs.Span.{IsSame, Tells, is_further, lat_of, segment_of}
 use Rattle.tile_cover.proofs.Sides.{IsTold}
 use Rattle.tile_cover.proofs.Parts.{IsPart, at_west, west_at}
-use Rattle.tile_cover.proofs.Touches.{IsToldBox, same_tests, true_lt, lt_true, true_le, at_most, touches_part, touches_level, north_west_told, west_of_test, test_of_west}
+use Rattle.tile_cover.proofs.Touches.{IsToldBox, same_tests, true_lt, lt_true, true_le, at_most, touches_part, north_west_told, west_of_test, test_of_west}
 use Rattle.tile_cover.proofs.Crossed.{crosses_none, crosses_through}
 use Rattle.tile_cover.proofs.Turned.{turned, touches_turned, crosses_turned}
 
@@ -92,24 +92,6 @@ tells_part climb span l h x lo hi k m n o H row p one other first last through =
         let climbs : climb.south ≤ climb.north = let c = p.climbs in omega arith in
         rw (through, ← is) (crosses_none (segment_of climb) (north_west (box_between (lat_of l) (lat_of h) x)) climb.start climb.south climb.end climb.north (x * 3600000000) h
         (told climb) (record { lon = refl; lat = refl }) climbs (inl down))
-
-pub tells_level : (climb : Climb) (span : Span) (l h x : ℕ) → l ≤ h → climb.north ≡ climb.south → l ≤ climb.south → climb.south ≤ h
-    → nat_le span.first x ≡ nat_le (min climb.start climb.end) (((x + 1) * 3600000000) * 1)
-    → nat_le x span.last ≡ nat_le ((x * 3600000000) * 1) (max climb.start climb.end)
-    → span.straddles ≡ false
-    → Tells (box_between (lat_of l) (lat_of h) x) x (segment_of climb) (Some span)
-tells_level climb span l h x row level south north first last through =
-    let s = segment_of climb in
-    let box = box_between (lat_of l) (lat_of h) x in
-    let flat : IsTold (segment_of climb) climb.start climb.south climb.end climb.south =
-    record { start_lon = refl; start_lat = refl; end_lon = refl; end_lat = ap lat_of level } in
-    let touch = touches_level s box climb.start climb.south climb.end (x * 3600000000) ((x + 1) * 3600000000) l h flat (told_box l h x row) south north in (
-      touch ∙ rw (first, last, once ((x + 1) * 3600000000), once (x * 3600000000)) refl,
-      λ none. rw through (crosses_none s (north_west box) climb.start climb.south climb.end climb.south (x * 3600000000) h flat (record { lon = refl; lat = refl }) (omega arith) (inl north)),
-    )
-  where
-    once : (m : ℕ) → m * 1 ≡ m
-    once m = omega arith
 
 -- the longitude of a part is one of the world
 pub within_world : (A B M k m H : ℕ) → A ≤ M → B ≤ M → k + m ≡ H → k * B + m * A ≤ M * H

@@ -76,10 +76,20 @@ impl Bounds {
         ensures south { lat_of result.0 ≡ boundary self.now (row + 1) }
         ensures north { lat_of result.1 ≡ boundary self.now row }
         ensures ordered { result.0 ≤ result.1 }
+        ensures table { IsTable self.now }
     {
         let north = self.boundary(row);
         let south = self.boundary(row + 1);
         (from_pole(south), from_pole(north))
+    }
+
+    /// The row that has a latitude, or a row beside it.
+    pub(crate) fn row_near(&self, lat: i32) -> u32
+        ensures within { result < 2 ^ self.now.zoom }
+    {
+        let columns = self.columns();
+        let north_of_all = count_north_of(&self.lats, lat);
+        (north_of_all.saturating_sub(1) as u32).min(columns - 1)
     }
 
     /// The rows that a segment reaches: from the first of them to before the second number.
@@ -96,5 +106,20 @@ impl Bounds {
         let from = north_of_all.saturating_sub(1) as u32;
         let to = count_north_of(&self.lats, south_of) as u32;
         (from, to.min(columns).max(from))
+    }
+
+    /// The same, for a segment that may well lie within this row, which is then all that it reaches.
+    pub(crate) fn rows_from(&self, row: u32, climb: Climb) -> (u32, u32)
+        requires row { row < 2 ^ self.now.zoom }
+        requires climb { IsWithinWorld (2 ^ self.now.zoom) climb }
+        ensures ordered { result.0 ≤ result.1 }
+        ensures within { result.1 ≤ 2 ^ self.now.zoom }
+        ensures reached { (other : ℕ) → other < 2 ^ self.now.zoom → (nat_le result.0 other && nat_lt other result.1) ≡ is_reached self.now climb other }
+    {
+        let (south, north) = self.sides(row);
+        if south < climb.south && climb.north < north {
+            return (row, row + 1);
+        }
+        self.rows_of(climb)
     }
 }

@@ -51,7 +51,7 @@ fn from_antimeridian(place: Place) -> u64
 }
 
 /// The same, taken as often as there are columns.
-fn wide_lon(columns: u32, place: Place) -> u64
+pub(crate) fn wide_lon(columns: u32, place: Place) -> u64
     requires { columns ≤ 65536 }
     ensures lon { pos result ≡ (place.lon +ℤ MAX_LON) *ℤ pos columns }
     ensures within { result ≤ columns * 3600000000 }

@@ -9,6 +9,7 @@ ghost use Rattle.tile_cover.specs.Tile.{counts_filled as counts_filled_tiles, is
 
 use crate::bounds::Bounds;
 use crate::events::{Event, add_geometry};
+use crate::inside::lone_event;
 use crate::runs::TileRuns;
 use crate::seen::{Seen, Tile, see};
 use crate::sweep::runs_of;
@@ -89,7 +90,10 @@ pub fn cover(
 ) -> Result<TileRuns, OutOfMemory>
     ensures tiles { IfOk result (λ set. (zoom x y : ℕ) → has set zoom x y ≡ is_covered bounds.now geometry.now mode zoom x y) }
 {
-    let events = events_of(alloc, bounds, geometry)?;
     let filled = counts_filled(geometry, mode);
+    if let Some(event) = lone_event(bounds, geometry) {
+        return Ok(runs_of(alloc, bounds.zoom(), filled, &[event])?);
+    }
+    let events = events_of(alloc, bounds, geometry)?;
     Ok(runs_of(alloc, bounds.zoom(), filled, &events)?)
 }

@@ -38,6 +38,18 @@ fn add_row(
     Ok(())
 }
 
+/// The row of the last event; the first one where there is none.
+fn last_row(bounds: &Bounds, events: &[Event]) -> u32
+    requires events { AllByRecursion (IsEvent (2 ^ bounds.now.zoom)) events.now }
+    ensures within { result < 2 ^ bounds.now.zoom }
+{
+    let count = events.len();
+    if count == 0 {
+        return 0;
+    }
+    events[count - 1].row
+}
+
 /// Adds what a segment meets.
 fn add_segment(
     bounds: &Bounds,
@@ -50,7 +62,9 @@ fn add_segment(
     ensures ok { OnOk result (Gains bounds.now (record { start = widened (2 ^ bounds.now.zoom) start; end = widened (2 ^ bounds.now.zoom) end } ∷ []) events.old.items events.new.items) }
 {
     let climb = climb_of(bounds.columns(), start, end);
-    let (from, to) = bounds.rows_of(climb);
+    // The segments of a geometry mostly lie in one row, one after another.
+    let row = last_row(bounds, events);
+    let (from, to) = bounds.rows_from(row, climb);
     for row in from..to {
         add_row(bounds, climb, row, events)?;
     }

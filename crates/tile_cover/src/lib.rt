@@ -13,6 +13,7 @@ mod climb;
 mod covering;
 mod events;
 mod fault;
+mod inside;
 mod reading;
 mod runs;
 mod seen;

@@ -1,5 +1,5 @@
 //! The columns of one row that a segment meets.
-ghost use Rattle.std.specs.Prelude.{◌≡◌, ℕ, ◌+◌, ◌*◌, ◌-◌, ◌<◌, ◌≤◌, min, max, nat_le, IfSome};
+ghost use Rattle.std.specs.Prelude.{◌≡◌, ℕ, ◌+◌, ◌*◌, ◌-◌, ◌<◌, ◌≤◌, min, max, nat_le, false, IfSome};
 ghost use Rattle.tile_cover.specs.Span.{IsWithinWorld, Tells, lat_of, segment_of};
 ghost use Rattle.tile_cover.specs.Tile.{box_between};
 
@@ -12,6 +12,28 @@ pub(crate) struct Span {
     pub(crate) last: u32,
     /// The segment goes through the northern side of the row.
     pub(crate) straddles: bool,
+}
+
+/// How wide a column is, in longitudes that are taken as often as there are columns.
+pub(crate) const COLUMN: u64 = 3_600_000_000;
+
+/// The columns of a segment that lies in one row, none of it north or south of the row.
+fn span_within(climb: Climb, columns: u32) -> Span
+    requires columns { 0 < columns × columns ≤ 65536 }
+    requires climb { IsWithinWorld columns climb }
+    ensures first { (x : ℕ) → nat_le result.first x ≡ nat_le (min climb.start climb.end) ((x + 1) * 3600000000) }
+    ensures last { (x : ℕ) → x < columns → nat_le x result.last ≡ nat_le (x * 3600000000) (max climb.start climb.end) }
+    ensures ordered { result.first ≤ result.last }
+    ensures within { result.last < columns }
+    ensures straddles { result.straddles ≡ false }
+{
+    let first = climb.start.min(climb.end).saturating_sub(1) / COLUMN;
+    let last = (climb.start.max(climb.end) / COLUMN).min(u64::from(columns) - 1);
+    Span {
+        first: first as u32,
+        last: last as u32,
+        straddles: false,
+    }
 }
 
 /// The columns between two longitudes, both taken `height` times.
@@ -58,11 +80,10 @@ pub(crate) fn span_in(climb: Climb, columns: u32, south: u64, north: u64) -> Opt
     if climb.north < south || north < climb.south {
         return None;
     }
-    let height = climb.north - climb.south;
-    if height == 0 {
-        let low = u128::from(climb.start);
-        return Some(span_between(low, u128::from(climb.end), 1, columns, false));
+    if south <= climb.south && climb.north <= north {
+        return Some(span_within(climb, columns));
     }
+    let height = climb.north - climb.south;
     let low = lon_at(climb, south.max(climb.south));
     let high = lon_at(climb, north.min(climb.north));
     Some(span_between(low, high, height, columns, north < climb.north))

@@ -1,29 +1,29 @@
 use Rattle.std.proofs.Common.{◌*◌, ◌-◌, arith}
 use Rattle.tile_cover.proofs.Parts.{IsPart}
-use Rattle.tile_cover.proofs.Spans.{tells_part, tells_level, within_world}
+use Rattle.tile_cover.proofs.Spans.{tells_part, within_world}
+use Rattle.tile_cover.proofs.Within.{tells_within}
 use Rattle.tile_cover.proofs.span.span_in.Goals as goal
 
-pub span_between-requires-2-clause-low : goal.span_between-requires-2-clause-low
-span_between-requires-2-clause-low c =
+pub returns-then-climb-north-clause-told : goal.returns-then-climb-north-clause-told
+returns-then-climb-north-clause-told c = λ x h.
+    tells_within c.args.climb c.span_within.result c.args.south c.args.north x (omega arith) (omega arith) c.requires.climb.climbs
+    (c.span_within.ensures.first x) (c.span_within.ensures.last x h) c.span_within.ensures.straddles
+
+pub span_between-requires-clause-low : goal.span_between-requires-clause-low
+span_between-requires-clause-low c =
     let a = c.args.climb.south in
     let b = c.args.climb.north in
     let lo = c.max.result in
     rw c.lon_at-low.ensures.lon (within_world c.args.climb.start c.args.climb.end (c.args.columns * 3600000000) (lo - a) (b - lo) (b - a)
     c.requires.climb.start_within c.requires.climb.end_within (omega arith))
 
-pub span_between-requires-2-clause-high : goal.span_between-requires-2-clause-high
-span_between-requires-2-clause-high c =
+pub span_between-requires-clause-high : goal.span_between-requires-clause-high
+span_between-requires-clause-high c =
     let a = c.args.climb.south in
     let b = c.args.climb.north in
     let hi = c.min.result in
     rw c.lon_at-high.ensures.lon (within_world c.args.climb.start c.args.climb.end (c.args.columns * 3600000000) (hi - a) (b - hi) (b - a)
     c.requires.climb.start_within c.requires.climb.end_within (omega arith))
-
-pub returns-then-height-eq0-clause-told : goal.returns-then-height-eq0-clause-told
-returns-then-height-eq0-clause-told c = λ x h.
-    let first = rw (c.from-low.ensures, c.from.ensures) at c.span_between.ensures.first x in
-    let last = rw (c.from-low.ensures, c.from.ensures) at c.span_between.ensures.last x h in
-    tells_level c.args.climb c.span_between.result c.args.south c.args.north x c.requires.row (omega arith) (omega arith) (omega arith) first last c.span_between.ensures.straddles
 
 pub returns-clause-told : goal.returns-clause-told
 returns-clause-told c = λ x h.
@@ -43,6 +43,6 @@ returns-clause-told c = λ x h.
       hi_up = omega arith;
       hi_down = omega arith;
     } in
-    let first = rw (c.lon_at-low.ensures.lon, c.lon_at-high.ensures.lon) at c.span_between-2.ensures.first x in
-    let last = rw (c.lon_at-low.ensures.lon, c.lon_at-high.ensures.lon) at c.span_between-2.ensures.last x h in
-    tells_part c.args.climb c.span_between-2.result c.args.south c.args.north x lo hi (lo - a) (b - lo) (hi - a) (b - hi) (b - a) c.requires.row part (omega arith) (omega arith) first last c.span_between-2.ensures.straddles
+    let first = rw (c.lon_at-low.ensures.lon, c.lon_at-high.ensures.lon) at c.span_between.ensures.first x in
+    let last = rw (c.lon_at-low.ensures.lon, c.lon_at-high.ensures.lon) at c.span_between.ensures.last x h in
+    tells_part c.args.climb c.span_between.result c.args.south c.args.north x lo hi (lo - a) (b - lo) (hi - a) (b - hi) (b - a) c.requires.row part (omega arith) (omega arith) first last c.span_between.ensures.straddles
