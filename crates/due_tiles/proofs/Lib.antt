@@ -1,3 +1,5 @@
 mod Merging
 mod Numbers
 mod Reading
+mod Same
+mod Splicing

@@ -2,7 +2,7 @@
 -- docs/FILES.md, "The due tiles", states the rule.
 use Rattle.std.specs.Prelude.{◌≡◌, ℕ, List, [], ◌∷◌, ◌++◌}
 use Rattle.tile_cover.specs.declared.runs.Run.{Run}
-use Rattle.tile_cover.specs.Runs.{IsRun, IsTileSet}
+use Rattle.tile_cover.specs.Runs.{IsRun, IsTileSet, has}
 use Rattle.value_bytes.specs.Forms.{Begins, all_bytes, both_bytes, Both}
 use Rattle.value_bytes.specs.Numbers.{number_bytes, IsNumber}
 use Rattle.due_tiles.specs.declared.fault.DueFault.{DueFault}
@@ -31,6 +31,10 @@ run_bytes run = four_bytes (numbers_of run)
 -- the bytes of a set
 abbrev pub set_bytes : List Run → List ℕ
 set_bytes runs = all_bytes run_bytes runs
+
+-- these are the bytes of each set that has the tiles of these runs, and no other
+abbrev pub IsSpelling : List Run → List ℕ → Type 0
+IsSpelling runs bytes = (other : List Run) → IsTileSet other → ((zoom x y : ℕ) → has other zoom x y ≡ has runs zoom x y) → set_bytes other ≡ bytes
 
 -- that no set is spelled comes only with this fact
 abbrev pub NeedsFor : Type 0 → DueFault → Type 0

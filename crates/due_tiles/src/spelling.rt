@@ -3,7 +3,7 @@ ghost use Rattle.std.specs.Prelude.{◌≡◌, ◌++◌, ◌+◌, ◌↔◌, nat
 ghost use Rattle.std.specs.List.{AllByRecursion};
 ghost use Rattle.tile_cover.specs.Runs.{IsRun, IsTileSet, Follows, end_of, start_of};
 ghost use Rattle.value_bytes.specs.Forms.{IsFront, IsFrontless, IsNoValue, Spells};
-ghost use Rattle.due_tiles.specs.Spelling.{IsRead, NeedsFor, NumbersOf, TakesRun, run_bytes, set_bytes};
+ghost use Rattle.due_tiles.specs.Spelling.{IsRead, IsSpelling, NeedsFor, NumbersOf, TakesRun, run_bytes, set_bytes};
 
 use crate::DueFault;
 use osm_base::{Bytes, Items, OutOfMemory};
@@ -14,9 +14,10 @@ use value_bytes::{Spelled, ValueFault, push_number};
 /// The four numbers of a run.
 type Four = (u64, (u64, (u64, u64)));
 
-/// The bytes of a set of tiles.
+/// The bytes of a set of tiles, the same for each set of the same tiles.
 pub fn encode(alloc: Global, runs: &TileRuns) -> Result<Bytes, OutOfMemory>
     ensures bytes { IfOk result (λ bytes. bytes ≡ set_bytes runs.now) }
+    ensures one { IfOk result (IsSpelling runs.now) }
 {
     let runs = runs.as_slice();
     let mut out = Vec::with_capacity(alloc, runs.len().saturating_mul(32))?;

@@ -10,6 +10,7 @@ pub mod Rows
 pub mod Gained
 pub mod Within
 pub mod Lone
+pub mod Drained
 pub mod Lines
 pub mod Sweeps
 pub mod Tables

@@ -1,6 +1,6 @@
 //! A set of tiles, as runs of columns.
-ghost use Rattle.std.specs.Prelude.{◌≡◌, [], ◌∷◌, ◌++◌, OnOk, OnErr};
-ghost use Rattle.std.specs.List.{AllByRecursion};
+ghost use Rattle.std.specs.Prelude.{◌≡◌, ◌≤◌, [], ◌∷◌, ◌++◌, length, OnOk, OnErr};
+ghost use Rattle.std.specs.List.{AllByRecursion, splice};
 ghost use Rattle.tile_cover.specs.Runs.{IsRun, IsTileSet, BeginsLater, Adds, Follows, joins, joined};
 
 use osm_base::OutOfMemory;
@@ -96,6 +96,22 @@ fn push_apart(runs: &mut Vec<Run>, run: Run) -> Result<(), OutOfMemory>
     Ok(())
 }
 
+/// Puts runs in the place of those between two positions.
+fn replace_runs(
+    runs: &mut Vec<Run>,
+    from: usize,
+    to: usize,
+    others: Vec<Run>,
+) -> Result<(), OutOfMemory>
+    requires ordered { from ≤ to }
+    requires within { to ≤ length runs.old.items }
+    ensures ok { OnOk result (runs.new.items ≡ splice runs.old.items from to others.items) }
+    ensures err { OnErr result (runs.new.items ≡ runs.old.items) }
+{
+    runs.splice(from..to, others)?;
+    Ok(())
+}
+
 impl TileRuns {
     /// No tiles; takes no memory.
     pub fn new(alloc: Global) -> Self
@@ -132,5 +148,16 @@ impl TileRuns {
         ensures err { OnErr result (self.new ≡ self.old) }
     {
         push_apart(&mut self.runs, run)
+    }
+
+    /// Puts a set's runs in the place of those between two positions, where the whole is a set again.
+    pub fn replace(&mut self, from: usize, to: usize, runs: TileRuns) -> Result<(), OutOfMemory>
+        requires ordered { from ≤ to }
+        requires within { to ≤ length self.old }
+        requires set { IsTileSet (splice self.old from to runs) }
+        ensures ok { OnOk result (self.new ≡ splice self.old from to runs) }
+        ensures err { OnErr result (self.new ≡ self.old) }
+    {
+        replace_runs(&mut self.runs, from, to, runs.runs)
     }
 }
