@@ -1,7 +1,6 @@
 -- What a call that gets a value does, once its bucket was brought.
-use Rattle.std.proofs.Common.{◌≡◌, ◌||◌, ℕ, Bool, true, false, List, Option, None, Some, Result, Ok, Err, refl, sym, ap, subst, ◌∙◌, inl, inr, option_map}
+use Rattle.std.proofs.Common.{◌≡◌, ◌||◌, ℕ, Bool, false, List, Option, None, Some, Result, Ok, Err, refl, sym, ap, subst, ◌∙◌, inr, option_map}
 use Rattle.std.specs.Option.{MatchOption}
-use Rattle.std.specs.Result.{IfOk, OnOk}
 use Rattle.std.specs.Ordering.{nat_cmp}
 use Rattle.std.specs.FinMap as map
 use Rattle.outside.specs.declared.disk.Disk.{Ghosts}
@@ -18,13 +17,12 @@ use Rattle.chain_store.specs.declared.root.Root.{Root}
 use Rattle.chain_store.specs.Store.{kept_first}
 use Rattle.chain_store.proofs.Looks.{looked_same}
 use Rattle.bucket_records.specs.Records.{BucketMap}
-use Rattle.bucket_store.specs.Buckets.{Stored, bucket_count, chain_at}
+use Rattle.bucket_store.specs.Buckets.{Stored, chain_at}
 use Rattle.bucket_store.specs.Cache.{CacheMap}
-use Rattle.bucket_store.specs.Image.{Has, Image, IsSoundAnswer, OnlyLooks, with_entry, with_value}
+use Rattle.bucket_store.specs.Image.{Has, Image, IsSoundAnswer, with_value}
 use Rattle.bucket_store.specs.Transaction.{Content, IsOpenStore, IsOpenWith, cached_of, chains_of}
-use Rattle.bucket_store.specs.Typed.{Gets, GetsValue, IsUnread, ReadsAs, bucket_at, refusal_of}
+use Rattle.bucket_store.specs.Typed.{Gets, GetsValue, ReadsAs, bucket_at, refusal_of}
 use Rattle.bucket_store.specs.declared.buckets.Buckets.{Buckets}
-use Rattle.bucket_store.specs.declared.cache.Cached.{Cached}
 use Rattle.bucket_store.proofs.Holding.{has_later}
 use Rattle.bucket_store.proofs.Images.{maps_here, maps_beside}
 use Rattle.value_bytes.specs.Maps.{Decodes, HoldsMap, ReadAs}

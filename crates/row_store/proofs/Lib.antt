@@ -1,2 +1,3 @@
+pub mod Manual
 pub mod RowLaws
 pub mod RowsLaws

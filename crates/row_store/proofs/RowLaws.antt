@@ -1,6 +1,5 @@
 -- The laws of rows in bytes.
-use Rattle.std.proofs.Common.{◌≡◌, ℕ, List, ◌++◌, length, refl, ap, append_assoc}
-use Rattle.std.specs.List.{AllByRecursion}
+use Rattle.std.proofs.Common.{◌≡◌, ℕ, List, ◌++◌, refl, ap, append_assoc}
 use Rattle.osm_base.specs.declared.values.row.Cell.{Cell}
 use Rattle.osm_base.specs.declared.values.row.Geometry.{Geometry}
 use Rattle.osm_base.specs.declared.values.row.Row.{Row}

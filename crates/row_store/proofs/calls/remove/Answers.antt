@@ -2,7 +2,7 @@
 use Rattle.std.proofs.Common.{ℕ, subst}
 use Rattle.osm_base.specs.values.Key.{KeyOf}
 use Rattle.bucket_store.specs.Typed.{TakesValue}
-use Rattle.row_store.specs.Maps.{map_of, number_of}
+use Rattle.row_store.specs.Maps.{map_of}
 use Rattle.row_store.proofs.calls.remove.Goals as goal
 
 pub returns-clause-value : goal.returns-clause-value
