@@ -16,10 +16,10 @@ returns-clause-put g c = λ bytes told fits.
 
 pub returns-in_err-write_at-clause-time : goal.returns-in_err-write_at-clause-time
 returns-in_err-write_at-clause-time g c =
-    let laws = g.met.D.Disk g.world.𝓛 g.world.𝓜 g.world.𝓡 ((λ s x. x), (λ x. x), (λ x. x), λ x. x) in
+    let laws = g.met.D.Disk in
     elapses_quiet _ _ _ (laws.counts_now c.args.disk.now) c.read_at.ensures.crash c.read_at.ensures.time c.write_at.ensures.time
 
 pub returns-clause-time : goal.returns-clause-time
 returns-clause-time g c =
-    let laws = g.met.D.Disk g.world.𝓛 g.world.𝓜 g.world.𝓡 ((λ s x. x), (λ x. x), (λ x. x), λ x. x) in
+    let laws = g.met.D.Disk in
     elapses_quiet _ _ _ (laws.counts_now c.args.disk.now) c.read_at.ensures.crash c.read_at.ensures.time c.write_at.ensures.time

@@ -9,13 +9,13 @@ pub write_through-requires-clause-rises : goal.write_through-requires-clause-ris
 write_through-requires-clause-rises g c =
     let es = plain c.set.inside.pages.entries in
     let same = plain_long c.set.inside.pages.entries in
-    λ lifetimes outlives one two before inside. numbers_rise es c.set.invariant.sorted one two before (omega (arith, inside, same))
+    λ one two before inside. numbers_rise es c.set.invariant.sorted one two before (omega (arith, inside, same))
 
 pub write_through-requires-clause-below : goal.write_through-requires-clause-below
 write_through-requires-clause-below g c =
     let es = plain c.set.inside.pages.entries in
     let same = plain_long c.set.inside.pages.entries in
-    λ lifetimes outlives place inside. set_below es c.set.invariant.sorted c.args.set.now c.set.view_is c.args.self.now.pages c.args.home c.requires place (omega (arith, inside, same))
+    λ place inside. set_below es c.set.invariant.sorted c.args.set.now c.set.view_is c.args.self.now.pages c.args.home c.requires place (omega (arith, inside, same))
 
 pub write_through-requires-clause-some : goal.write_through-requires-clause-some
 write_through-requires-clause-some g c =
