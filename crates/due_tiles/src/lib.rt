@@ -15,4 +15,4 @@ mod tile_text;
 pub use fault::{DueFault, TilesFault};
 pub use joining::union;
 pub use spelling::{decode, encode};
-pub use tile_text::write_tiles;
+pub use tile_text::{tiles_text, write_tiles};

@@ -28,11 +28,18 @@ pub fn write_tiles<S: Sink>(
     ensures err { OnErr result (AppendsPrefix (S.view out.old).taken (S.view out.new).taken (tile_text runs.now least)) }
     ensures cause { IfErr result (Ends (Rose (S.view out.old).faults (S.view out.new).faults)) }
 {
-    let text = text_of(alloc, runs.as_slice(), least)?;
+    let text = tiles_text(alloc, runs, least)?;
     match put_all(out, text.as_slice()) {
         Ok(()) => Ok(()),
         Err(_) => Err(TilesFault::WriteFault),
     }
+}
+
+/// The text that `write_tiles` writes.
+pub fn tiles_text(alloc: Global, runs: &TileRuns, least: u32) -> Result<Vec<u8>, OutOfMemory>
+    ensures text { IfOk result (λ text. text.items ≡ tile_text runs.now least) }
+{
+    Ok(text_of(alloc, runs.as_slice(), least)?)
 }
 
 /// The text of these runs.
