@@ -18,8 +18,8 @@ use Rattle.chain_store.proofs.Puts.{known_none, stored_none}
 use Rattle.chain_store.proofs.Taking.{opened_new, plan_root}
 use Rattle.chain_store.proofs.chains.Chains.write.Goals as goal
 
-pub commit-requires-after_bounds : goal.commit-requires-after_bounds
-commit-requires-after_bounds g c = λ lives bounds.
+pub commit-requires : goal.commit-requires
+commit-requires g c =
     let self = c.args.self.now in
     let taken = c.args.taken in
     let plan = c.in_ok-plan.plan in
