@@ -1,4 +1,5 @@
 pub mod Ascii
+pub mod Counted
 pub mod Escapes
 pub mod Manual
 pub mod Ordered

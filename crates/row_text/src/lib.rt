@@ -16,6 +16,6 @@ pub use copy_text::{
     BACKSLASH, BACKSPACE, FORM_FEED, NEWLINE, RETURN, TAB, VERTICAL_TAB, push_copy_text,
 };
 pub use geometry::{push_degrees, push_geometry};
-pub use numbered::KeyedRow;
+pub use numbered::{KeyedRow, count_rows};
 pub use row::{push_row, push_text_row};
 pub use table::{row_number, rows_by_number, table_text};

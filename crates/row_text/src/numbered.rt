@@ -1,5 +1,5 @@
 //! The rows of a table, in the order of their numbers.
-ghost use Rattle.std.specs.Prelude.{◌≡◌, ◌↔◌, [], ◌∷◌, ◌++◌, map, IfOk, OnOk, IsTrue, T};
+ghost use Rattle.std.specs.Prelude.{◌≡◌, ◌↔◌, [], ◌∷◌, ◌++◌, length, map, IfOk, OnOk, IsTrue, T};
 ghost use Rattle.std.specs.FinMap as finite;
 ghost use Rattle.std.specs.FinMap.{is_sorted};
 ghost use Rattle.std.specs.List.Sorted.{IsPermutation, IsSortedByKey};
@@ -50,6 +50,19 @@ fn rows_of<'t>(
         }
     }
     Ok(found)
+}
+
+/// How many rows a table has.
+pub fn count_rows(tables: &Tables, table: u32) -> usize
+    ensures count { result ≡ length (rows_of tables.now table) }
+{
+    let mut count = 0;
+    for (spot, _) in tables.rows().range((before(table), behind(table))) {
+        if table == spot.table {
+            count += 1;
+        }
+    }
+    count
 }
 
 /// Adds a row.
