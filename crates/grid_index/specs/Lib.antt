@@ -1,0 +1,4 @@
+pub mod Cells
+pub mod Grid
+pub mod Marks
+pub mod Search
