@@ -1,0 +1,4 @@
+pub mod Cutting
+pub mod Joined
+pub mod Tables
+pub mod Walk
