@@ -2,4 +2,3 @@ mod Agreeing
 mod Drawing
 mod Keyed
 mod Placing
-mod Ranged

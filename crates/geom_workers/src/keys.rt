@@ -2,10 +2,10 @@
 ghost use Rattle.std.specs.Prelude.{◌≡◌, ◌<◌, ◌≤◌, length};
 ghost use Rattle.geom_workers.specs.Keys.{key_at, keys_of};
 
-use osm_base::{Key, Kind, PendingSet};
+use osm_base::{Key, Kind, MAX_PENDING, PendingSet};
 
 /// The most keys that may wait.
-pub const MAX_KEYS: usize = 16_777_216;
+pub const MAX_KEYS: usize = MAX_PENDING as usize;
 
 /// How many keys wait.
 pub fn key_count(pending: &PendingSet) -> usize

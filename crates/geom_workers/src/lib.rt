@@ -11,7 +11,6 @@ mod build;
 mod keys;
 mod laws;
 mod part;
-mod rows;
 mod tickets;
 mod worker;
 
@@ -19,5 +18,4 @@ pub use build::{Built, build_all};
 pub use keys::{MAX_KEYS, key_count, key_of};
 pub use laws::rows_agree;
 pub use part::Part;
-pub use rows::rows_of;
 pub use worker::work;

@@ -4,10 +4,11 @@ ghost use Rattle.pending_book.specs.Seat.{seat_view};
 ghost use Rattle.geom_workers.specs.Builds.{Builds};
 ghost use Rattle.geom_workers.specs.Keys.{keys_of};
 
-use crate::{Part, key_of, rows_of};
+use crate::{Part, key_of};
 use osm_base::{Lookup, OutOfMemory, PendingSet};
 use outside::{Gate, GatePlace};
 use pending_book::{Book, Seat};
+use row_map::rows_of;
 use std::alloc::Global;
 use style_read::Style;
 
