@@ -1,18 +1,28 @@
 -- What a commit of buckets makes of the store.
-use Rattle.std.proofs.Common.{◌≡◌, ◌⊎◌, ℕ, List, subst, inl, inr}
+use Rattle.std.proofs.Common.{◌≡◌, ◌⊎◌, ℕ, ◌+◌, ◌<◌, ◌≤◌, List, length, Some, Result, Ok, Err, subst, inl, inr, arith}
 use Rattle.std.specs.FinMap as map
 use Rattle.outside.specs.Disk.{DiskView, Goes, Stays}
 use Rattle.outside.specs.declared.disk.Disk.{Ghosts}
 use Rattle.page_journal.specs.Crash.{IsAtRest}
+use Rattle.page_journal.specs.Journal.{is_broken}
+use Rattle.page_journal.specs.declared.fault.StoreFault.{StoreFault}
+use Rattle.page_journal.specs.declared.fault.StoreFault.TheVariants.{NotFormatted, NotEmpty, BadStore, DiskFault, StoreFull, Broken, OutOfMemory}
 use Rattle.page_journal.proofs.Moments.{goes_then, goes_weaker}
 use Rattle.chain_store.specs.declared.chains.Chains.{Chains}
 use Rattle.chain_store.specs.declared.root.Root.{Root}
-use Rattle.chain_store.specs.Chains.{IsOpen}
+use Rattle.chain_store.specs.Answers.{IsReadAnswer}
+use Rattle.chain_store.specs.Chain.{HasPages}
+use Rattle.chain_store.specs.Chains.{IsOpen, before_of, first_of, journal_of, kept_of, read_of, root_of, written_of}
+use Rattle.chain_store.specs.Ends.{Ends, Leaves}
+use Rattle.chain_store.specs.Links.{page_in}
+use Rattle.chain_store.specs.Store.{IsRefused, kept_first}
+use Rattle.chain_store.specs.declared.kept.Kept.{Kept}
+use Rattle.chain_store.specs.declared.layout.TheConstants.{FREE}
 use Rattle.chain_store.specs.Known.{Lists, changed, own_or}
 use Rattle.chain_store.specs.State.{HasState, IsState}
 use Rattle.chain_store.proofs.Commits.{idle}
 use Rattle.bucket_store.specs.Cache.{CacheMap}
-use Rattle.bucket_store.specs.Committing.{after, given}
+use Rattle.bucket_store.specs.Committing.{CommitsBuckets, Fills, WritesBuckets, after, given}
 use Rattle.bucket_store.specs.Transaction.{IsOpenWith}
 use Rattle.bucket_store.proofs.Caches.{nothing}
 
@@ -47,3 +57,42 @@ pub open_none : {D : Type 0} {g : Ghosts D} (pages : List (List ℕ)) (chains : 
     → IsOpenWith pages chains cache
 open_none pages chains cache none opens =
     record { open_chains = opens; had = λ n own there same. absurd (nothing cache n own none there) }
+
+-- what the chains answer is what the buckets answer
+module _ {D : Type 0} {g : Ghosts D} (pages : List (List ℕ)) (old mid : Chains D g) (cache : CacheMap) (kept : kept_of mid ≡ kept_of old)
+    (root : root_of mid ≡ root_of old) (opens : IsOpen pages mid)
+    (gives : (n : ℕ) → map.get (written_of mid) n ≡ after (map.get cache n) (map.get (written_of old) n)) where
+  fills : (home : ℕ) → Leaves pages (kept_of mid) (root_of mid) (written_of mid) (read_of mid) (before_of mid) home → Fills pages old cache home
+  fills home leaves = record {
+    written = written_of mid;
+    read = read_of mid;
+    before = before_of mid;
+    gives = gives;
+    known = λ n ns there. subst (λ (k : Kept). HasPages (page_in pages) (length pages + 1) n (kept_first k n) ns) kept (opens.known n ns there);
+    leaves = subst (λ (r : Root). Leaves pages (kept_of old) r (written_of mid) (read_of mid) (before_of mid) home) root
+        (subst (λ (k : Kept). Leaves pages k (root_of mid) (written_of mid) (read_of mid) (before_of mid) home) kept leaves);
+  }
+
+  pub commits_chains : (result : Result (Unit {0}) StoreFault) (limit before home : ℕ) → limit ≡ before
+      → Ends pages (kept_of mid) (root_of mid) (written_of mid) (read_of mid) (before_of mid) limit home result
+      → CommitsBuckets pages old cache before home result
+  commits_chains (Ok done) limit before home same ends = (fills home ends.0, omega (arith, same, ends.1))
+  commits_chains (Err NotFormatted) limit before home same ends = tt
+  commits_chains (Err NotEmpty) limit before home same ends = tt
+  commits_chains (Err (BadStore at)) limit before home same ends =
+      (FREE, subst (λ (k : Kept). IsRefused pages FREE (kept_first k FREE) at) kept ends)
+  commits_chains (Err DiskFault) limit before home same ends = tt
+  commits_chains (Err (StoreFull many)) limit before home same ends = (fills many ends.0, omega (arith, same, ends.1))
+  commits_chains (Err Broken) limit before home same ends = tt
+  commits_chains (Err OutOfMemory) limit before home same ends = tt
+
+pub commits_none : {D : Type 0} {g : Ghosts D} (result : StoreFault) (pages : List (List ℕ)) (chains : Chains D g) (cache : CacheMap)
+    (limit home buckets : ℕ) → WritesBuckets pages (kept_of chains) buckets (Err result) → IsReadAnswer {T = Unit {0}} (is_broken (journal_of chains)) (Err result)
+    → CommitsBuckets pages chains cache limit home (Err result)
+commits_none NotFormatted pages chains cache limit home buckets writes alone = tt
+commits_none NotEmpty pages chains cache limit home buckets writes alone = tt
+commits_none (BadStore at) pages chains cache limit home buckets writes alone = (writes.0, writes.2)
+commits_none DiskFault pages chains cache limit home buckets writes alone = tt
+commits_none (StoreFull many) pages chains cache limit home buckets writes alone = absurd alone
+commits_none Broken pages chains cache limit home buckets writes alone = tt
+commits_none OutOfMemory pages chains cache limit home buckets writes alone = tt

@@ -127,6 +127,13 @@ impl<'d, D: Disk> Buckets<'d, D> {
         self.refused = true;
     }
 
+    /// Whether an earlier call met a disk fault.
+    pub fn is_broken(&self) -> bool
+        ensures { result ≡ is_broken (journal_of (chains_of self.now)) }
+    {
+        self.chains.is_broken()
+    }
+
     /// The fields that the transaction gives the store.
     pub fn root(&self) -> Root
         ensures { result ≡ root_of (chains_of self.now) }

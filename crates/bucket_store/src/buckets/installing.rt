@@ -11,7 +11,7 @@ ghost use Rattle.chain_store.specs.Directories.{IsString, root_in};
 ghost use Rattle.outside.specs.Disk.{Goes};
 ghost use Rattle.chain_store.specs.State.{HasState, IsState};
 ghost use Rattle.chain_store.specs.declared.root.Root.{Root};
-ghost use Rattle.bucket_store.specs.Committing.{given};
+ghost use Rattle.bucket_store.specs.Committing.{CommitsBuckets, given};
 ghost use Rattle.chain_store.specs.Known.{MayRead};
 ghost use Rattle.bucket_store.specs.Buckets.{AreBuckets, IsBucketChain, bucket_count, chain_at};
 ghost use Rattle.bucket_records.specs.Records.{BucketMap};
@@ -40,6 +40,9 @@ impl<'d, D: Disk> Buckets<'d, D> {
         ensures open { IsErr result → answers_disk_fault result ≡ false
             → (pages : List (List ℕ)) → IsOpenStore pages self.old → IsOpenStore pages self.new }
         ensures same { IsErr result → answers_disk_fault result ≡ false → OnlyLooks self.old self.new }
+        ensures answers { (pages : List (List ℕ)) → IsOpenStore pages self.old
+            → CommitsBuckets pages (chains_of self.old) (cached_of self.old) (page_limit (journal_of (chains_of self.old)))
+            (home_count (journal_of (chains_of self.new))) result }
         ensures alone { IsCommitAnswer (is_broken (journal_of (chains_of self.old))) (page_limit (journal_of (chains_of self.old))) result }
         ensures none { cached_of self.new ≡ map.empty }
         ensures read { OnOk result (read_of (chains_of self.new) ≡ map.empty) }

@@ -1,5 +1,5 @@
 -- The chains are given what was changed, and then they commit.
-use Rattle.std.proofs.Common.{◌||◌, ℕ, Bool, false, Err, List, refl, ap, subst, ◌∙◌}
+use Rattle.std.proofs.Common.{◌||◌, ℕ, Bool, false, Ok, Err, List, refl, ap, subst, ◌∙◌}
 use Rattle.chain_store.specs.Chains.{before_of, disk_of, journal_of, kept_of, read_of, root_of, written_of}
 use Rattle.page_journal.specs.Journal.{home_count, is_broken, page_limit}
 use Rattle.chain_store.specs.Directories.{root_in}
@@ -13,7 +13,7 @@ use Rattle.bucket_store.specs.Image.{IsSoundCommit}
 use Rattle.bucket_store.proofs.Holding.{has_anew}
 use Rattle.bucket_store.proofs.Meanings.{goes_images, spells_given}
 use Rattle.bucket_store.proofs.Sound.{sound_ends, sound_writes}
-use Rattle.bucket_store.proofs.Installs.{given_is, is_given, moment_given, open_none}
+use Rattle.bucket_store.proofs.Installs.{commits_chains, commits_none, given_is, is_given, moment_given, open_none}
 use Rattle.bucket_store.proofs.buckets.Buckets.commit.Goals as goal
 
 pub invariant_of-self : goal.invariant_of-self
@@ -109,3 +109,28 @@ returns-in-Err-commit-clause-sound g c rest now has =
     subst (λ (limit : ℕ). IsSoundCommit {T = Unit {0}} limit (Err c.in-Err-commit.fault)) c.in_default.ensures.looked.limit
     (sound_ends has.pages (kept_of mid) rest.root has.strings opens.keeps has.state (Err c.in-Err-commit.fault) (root_of mid) (written_of mid) (read_of mid) (before_of mid)
     (page_limit (journal_of mid)) (home_count (journal_of c.commit.new.self)) (is_broken (journal_of mid)) (c.in-Err-commit.ensures.answers has.pages opens) c.in-Err-commit.ensures.alone whole)
+
+pub returns-in-Err-clause-answers : goal.returns-in-Err-clause-answers
+returns-in-Err-clause-answers g c pages was =
+    let chains = c.args.self.now.chains in
+    commits_none c.in-Err.fault pages chains c.args.self.now.cache (page_limit (journal_of chains))
+    (home_count (journal_of c.store_changed-stored.new.chains)) (bucket_count chains)
+    (c.in-Err.ensures.answers pages was.open_chains) c.in-Err.ensures.alone
+
+pub returns-in-Ok-clause-answers : goal.returns-in-Ok-clause-answers
+returns-in-Ok-clause-answers g c pages was =
+    let old = c.args.self.now.chains in
+    let mid = c.store_changed-stored.new.chains in
+    let done = c.in_default.ensures in
+    let opens = done.open pages was.open_chains in
+    commits_chains pages old mid c.args.self.now.cache done.kept done.root opens done.written (Ok tt) (page_limit (journal_of mid))
+    (page_limit (journal_of old)) (home_count (journal_of c.commit.new.self)) done.looked.limit (c.in-Ok.ensures.answers pages opens)
+
+pub returns-in-Err-commit-clause-answers : goal.returns-in-Err-commit-clause-answers
+returns-in-Err-commit-clause-answers g c pages was =
+    let old = c.args.self.now.chains in
+    let mid = c.store_changed-stored.new.chains in
+    let done = c.in_default.ensures in
+    let opens = done.open pages was.open_chains in
+    commits_chains pages old mid c.args.self.now.cache done.kept done.root opens done.written (Err c.in-Err-commit.fault) (page_limit (journal_of mid))
+    (page_limit (journal_of old)) (home_count (journal_of c.commit.new.self)) done.looked.limit (c.in-Err-commit.ensures.answers pages opens)

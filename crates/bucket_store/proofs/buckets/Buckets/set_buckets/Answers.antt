@@ -6,7 +6,7 @@ use Rattle.bucket_store.proofs.Numbered.{all_empty, has_buckets}
 use Rattle.bucket_store.proofs.buckets.Buckets.set_buckets.Goals as goal
 
 pub set_root-requires-clause-root : goal.set_root-requires-clause-root
-set_root-requires-clause-root g c lives within = inr (c.requires.power, c.requires.few, all_empty c.args.self.now.chains c.requires.none)
+set_root-requires-clause-root g c = inr (c.requires.power, c.requires.few, all_empty c.args.self.now.chains c.requires.none)
 
 pub returns-clause-root : goal.returns-clause-root
 returns-clause-root g c = c.set_root.ensures.root ∙ ap (λ (r : Root). with_buckets c.args.buckets r) c.root-root.ensures
