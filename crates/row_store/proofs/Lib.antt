@@ -1,3 +1,5 @@
+pub mod LoadLaws
+pub mod LookLaws
 pub mod Manual
 pub mod RowLaws
 pub mod RowsLaws

@@ -1,3 +1,4 @@
+pub mod Loading
 pub mod Maps
 pub mod Row
 pub mod Rows

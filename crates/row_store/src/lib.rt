@@ -4,14 +4,16 @@
 //! the rows of tables. The rows of an object have one spelling in bytes under a style, which serves
 //! reading and writing. `get`, `put` and `remove` are the calls of finite maps from objects to their
 //! rows, within a transaction: what was put is got, and `BadStore` tells the page where the bucket of
-//! rows begins that do not read.
+//! rows begins that do not read. `load` reads the rows of all objects, those of one table or of all.
 #![tactic(auto)]
 
 mod calls;
+mod loading;
 mod row;
 mod rows;
 
 pub use calls::{NODE_ROWS, OTHER_ROWS, get, put, remove};
+pub use loading::load;
 pub use row::{read_row, row_bytes};
 pub use rows::{read_rows, rows_bytes};
 pub use value_bytes::ValueFault as RowFault;

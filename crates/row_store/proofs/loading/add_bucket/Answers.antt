@@ -1,0 +1,40 @@
+-- The records of a bucket fill in the rows of its numbers.
+use Rattle.std.proofs.Common.{◌≡◌, ◌%◌, ℕ, List, sym, subst}
+use Rattle.std.specs.List.{AllByRecursion}
+use Rattle.chain_store.specs.Chains.{first_of}
+use Rattle.bucket_store.specs.Transaction.{chains_of}
+use Rattle.bucket_store.specs.Typed.{bucket_at}
+use Rattle.row_store.specs.Loading.{Among, Fills, IsTold}
+use Rattle.row_store.proofs.LoadLaws.{bucket_fills, records_told}
+use Rattle.row_store.proofs.LookLaws.{memory_sound, sound_err}
+use Rattle.row_store.proofs.loading.add_bucket.Goals as goal
+
+pub returns-in-Err-clause-sound : goal.returns-in-Err-clause-sound
+returns-in-Err-clause-sound g c rest now rows has told =
+    sound_err (Unit {0}) c.records.result c.in-Err.fault c.in-Err.is (c.records.ensures.sound rest now has)
+
+pub returns-in-Ok-add_records-clause-filled : goal.returns-in-Ok-add_records-clause-filled
+returns-in-Ok-add_records-clause-filled g c rest now rows has told =
+    let definitions = c.args.style.now.tables in
+    let records = c.in-Ok.records.items in
+    let bucket = c.args.bucket % now.root.buckets in
+    let are = c.in-Ok.ensures.found rest now has in
+    let same : c.as_slice.result.now ≡ records = cc (c.as_slice.ensures.value) in
+    let each = records_told definitions c.args.wanted c.args.which rows now bucket records are told in
+    let filled = c.in-Ok-add_records.ensures.filled rows
+    (subst (λ (l : List (ℕ × List ℕ)). AllByRecursion (λ one. IsTold definitions c.args.wanted c.args.which rows one.0 one.1) l) (sym same) each) in
+    bucket_fills definitions c.args.wanted c.args.which rows now bucket records are c.args.tables.now c.add_records.new.tables
+    (subst (λ (l : List (ℕ × List ℕ)). Fills c.args.which rows (Among l) c.args.tables.now c.add_records.new.tables) same filled)
+
+pub returns-clause-sound : goal.returns-clause-sound
+returns-clause-sound g c rest now rows has told =
+    let definitions = c.args.style.now.tables in
+    let records = c.in-Ok.records.items in
+    let bucket = c.args.bucket % now.root.buckets in
+    let are = c.in-Ok.ensures.found rest now has in
+    let same : c.as_slice.result.now ≡ records = cc (c.as_slice.ensures.value) in
+    let each = records_told definitions c.args.wanted c.args.which rows now bucket records are told in
+    let memory = c.in-Err-add_records.ensures.sound rows
+    (subst (λ (l : List (ℕ × List ℕ)). AllByRecursion (λ one. IsTold definitions c.args.wanted c.args.which rows one.0 one.1) l) (sym same) each) in
+    memory_sound c.in-Err-add_records.fault (first_of (chains_of c.records.new.self) (bucket_at c.records.new.self c.args.which c.args.bucket))
+    c.refuse_value.result c.refuse_value.ensures.refusal memory

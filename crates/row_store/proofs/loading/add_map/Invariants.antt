@@ -1,0 +1,24 @@
+use Rattle.std.proofs.Common.{◌≡◌, ◌-◌, ◌%◌, ◌<◌, false}
+use Rattle.std.specs.FinMap as map
+use Rattle.std.specs.Option.{IsSome}
+use Rattle.page_journal.specs.Journal.{is_broken}
+use Rattle.chain_store.specs.Chains.{OnlyRead, journal_of}
+use Rattle.bucket_store.specs.Image.{Has, Image, OnlyLooks}
+use Rattle.bucket_store.specs.Transaction.{chains_of, has_refused}
+use Rattle.row_store.specs.Loading.{AreTold, Fills, RowsBySpot}
+use Rattle.row_store.proofs.loading.add_map.Given as goal
+
+-- the buckets so far have filled in their rows, and the store was only read
+abbrev pub invariant-loop-bucket : goal.invariant-loop-bucket
+invariant-loop-bucket g l = record {
+  going : has_refused l.buckets ≡ false;
+  still : is_broken (journal_of (chains_of l.buckets)) ≡ is_broken (journal_of (chains_of l.initial.buckets));
+  same : OnlyLooks l.initial.buckets l.buckets;
+  stays : OnlyRead (chains_of l.initial.buckets) (chains_of l.buckets);
+  has : (rest now : Image) → Has rest now l.initial.buckets → Has rest now l.buckets;
+  filled : (rest now : Image) (rows : RowsBySpot) → Has rest now l.initial.buckets → AreTold l.style.tables l.wanted l.which rows (now.maps l.which)
+      → Fills l.which rows (λ n. IsSome (map.get (now.maps l.which) n) × (n % now.root.buckets < l.bucket)) l.initial.tables l.tables;
+}
+
+abbrev pub decreases-loop-bucket : goal.decreases-loop-bucket
+decreases-loop-bucket g l = l.count - l.bucket
