@@ -3,7 +3,7 @@ use Rattle.std.proofs.Common.{◌≡◌, ◌≢◌, ◌⊎◌, inl, inr, ◌<◌
 use Rattle.std.specs.List.{AllByRecursion}
 use Rattle.std.specs.Option.{IsSome}
 use Rattle.std.specs.Prelude.{◌==◌, ◌&&◌, ◌++◌, T, if◌then◌else◌}
-use Rattle.std.specs.Cmp.{Equal-is, nat_cmp_total}
+use Rattle.std.specs.Cmp.{Equal-is}
 use Rattle.std.specs.Ordering.{eq_by_cmp, is_eq, is_lt, nat_cmp}
 use Rattle.std.specs.declared.cmp.Ordering.{Ordering}
 use Rattle.std.specs.FinMap.Entries.{below_all, find, is_sorted}
@@ -18,10 +18,7 @@ use Rattle.osm_base.specs.declared.values.row.Row.{Row}
 use Rattle.osm_base.specs.declared.values.row.TableRow.{TableRow}
 use Rattle.osm_base.specs.map.Spots.{SpotOf, TableMap, spot_cmp}
 use Rattle.osm_base.specs.values.Key.{KeyOf}
-use Rattle.osm_base.specs.values.KeyOrder.{key_cmp}
-use Rattle.osm_base.proofs.KeyLaws.{key_cmp-IsAntisymmetric}
 use Rattle.osm_base.proofs.SpotOrder.{spot_cmp_total, spot_cmp-IsAntisymmetric}
-use Rattle.bucket_records.specs.Records.{BucketMap}
 use Rattle.bucket_records.proofs.MapLaws.{apart_of, equal_of}
 use Rattle.bucket_store.specs.Image.{Image, IsBucketOf}
 use Rattle.bucket_store.proofs.Images.{part_gives}

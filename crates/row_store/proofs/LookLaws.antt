@@ -2,7 +2,7 @@
 use Rattle.std.proofs.Common.{◌≡◌, ◌≤◌, ◌||◌, ℕ, Bool, true, false, Result, Ok, Err, refl, sym, ap, subst, ◌∙◌, arith}
 use Rattle.outside.specs.Causes.{Rose}
 use Rattle.outside.specs.declared.disk.Disk.{Ghosts}
-use Rattle.page_journal.specs.Answers.{HasDiskCause, answers_disk_fault}
+use Rattle.page_journal.specs.Answers.{answers_disk_fault}
 use Rattle.page_journal.specs.Journal.{is_broken}
 use Rattle.page_journal.specs.declared.fault.StoreFault.{StoreFault}
 use Rattle.chain_store.specs.Answers.{IsReadAnswer}
@@ -14,9 +14,9 @@ use Rattle.value_bytes.specs.declared.fault.ValueFault.{ValueFault}
 use Rattle.value_bytes.specs.declared.fault.ValueFault.TheVariants as faults
 use Rattle.bucket_store.specs.Image.{IsSoundAnswer, OnlyLooks}
 use Rattle.bucket_store.specs.Typed.{refusal_of}
-use Rattle.bucket_store.specs.Transaction.{chains_of, has_refused}
+use Rattle.bucket_store.specs.Transaction.{chains_of}
 use Rattle.bucket_store.specs.declared.buckets.Buckets.{Buckets}
-use Rattle.bucket_store.proofs.Holding.{looks_same, looks_then}
+use Rattle.bucket_store.proofs.Holding.{looks_then}
 use Rattle.row_store.specs.Loading.{Looks}
 
 or_false : (b : Bool) → (b || false) ≡ b

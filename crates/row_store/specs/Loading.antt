@@ -1,5 +1,5 @@
 -- The rows of all objects of a store, or those of one table.
-use Rattle.std.specs.Prelude.{◌≡◌, ◌⊎◌, ◌||◌, ◌/◌, ◌%◌, ℕ, nat_eq, Bool, true, false, is_err, List, [], ◌∷◌, Option, None, Some, Result, if◌then◌else◌}
+use Rattle.std.specs.Prelude.{◌≡◌, ◌⊎◌, ◌||◌, ◌/◌, ◌%◌, ℕ, nat_eq, Bool, true, is_err, List, [], ◌∷◌, Option, None, Some, Result, if◌then◌else◌}
 use Rattle.std.specs.FinMap as map
 use Rattle.outside.specs.declared.disk.Disk.{Ghosts}
 use Rattle.osm_base.specs.declared.values.key.Kind.TheVariants as kinds

@@ -1,5 +1,5 @@
 -- A bucket more fills in its rows, and all buckets are the map.
-use Rattle.std.proofs.Common.{◌≡◌, ◌≤◌, ◌<◌, ◌+◌, ◌%◌, ◌∙◌, inl, inr, ℕ, ap, arith, mod-lt}
+use Rattle.std.proofs.Common.{◌≡◌, ◌<◌, ◌+◌, ◌%◌, ◌∙◌, inl, inr, ap, arith, mod-lt}
 use Rattle.std.specs.Option.{IsSome}
 use Rattle.std.specs.FinMap as map
 use Rattle.chain_store.specs.declared.root.Root.{Root}
