@@ -1,6 +1,11 @@
+pub mod DeltaLaws
 pub mod IdLists
 pub mod IndexLaws
+pub mod KeptRows
+pub mod KnownMaps
 pub mod Listings
 pub mod ObjectMaps
+pub mod RowEquality
 pub mod RowMaps
 pub mod Sets
+pub mod Standing

@@ -2,6 +2,8 @@ pub mod Append
 pub mod Delta
 pub mod Maps
 pub mod Named
+pub mod SameRows
 pub mod Stands
 pub mod Step
+pub mod Told
 pub mod Turns
