@@ -11,7 +11,7 @@ use Rattle.std.specs.List.Sorted.{IsStrictlySortedBy}
 use Rattle.osm_base.specs.values.Ids.{IsRising, AreRisingIds}
 use Rattle.osm_base.specs.values.Key.{IsId}
 use Rattle.osm_base.specs.declared.values.key.TheConstants.{MAX_ID}
-use Rattle.back_index.specs.Ids.{ids_bytes, AreListed}
+use Rattle.back_index.specs.Ids.{ids_bytes}
 use Rattle.value_bytes.specs.Forms.{Begins, IsFront, IsFrontless, Spells, IsNoValue, all_bytes, AreMany}
 use Rattle.value_bytes.specs.Numbers.{number_bytes, IsNumber}
 use Rattle.value_bytes.proofs.NumberLaws.{length-number_bytes}

@@ -1,1 +1,10 @@
+pub mod Allowed
+pub mod Answering
+pub mod Chained
+pub mod Held
 pub mod IdLaws
+pub mod ListLaws
+pub mod Reading
+pub mod Relists
+pub mod Turning
+pub mod WayLaws

@@ -1,1 +1,6 @@
+pub mod Asking
+pub mod Calls
 pub mod Ids
+pub mod Index
+pub mod Relisting
+pub mod Visits

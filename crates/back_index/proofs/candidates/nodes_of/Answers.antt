@@ -1,0 +1,28 @@
+-- The bucket is brought, and then the front of the way is read.
+use Rattle.std.proofs.Common.{◌≡◌, Err, ℕ, List, sym, subst, refl}
+use Rattle.std.specs.FinMap as map
+use Rattle.back_index.specs.Index.{HasNodes}
+use Rattle.back_index.specs.Visits.{Refuses}
+use Rattle.back_index.specs.declared.visit.TheConstants.{WAYS}
+use Rattle.back_index.proofs.Chained.{has_read, sound_refuses}
+use Rattle.back_index.proofs.Reading.{needs_refuses, nodeless_not}
+use Rattle.back_index.proofs.candidates.nodes_of.Goals as goal
+
+pub returns-in-Err-clause-has : goal.returns-in-Err-clause-has
+returns-in-Err-clause-has g c none rest now owns =
+    has_read {T = Unit {0}} rest now c.args.buckets.now c.bring.new.self (Err c.in-Err.fault) c.in-Err.ensures.stays c.in-Err.ensures.broken none
+    c.in-Err.ensures.open c.in-Err.ensures.content owns
+
+pub returns-in-Err-clause-stops : goal.returns-in-Err-clause-stops
+returns-in-Err-clause-stops g c rest now owns = sound_refuses (Unit {0}) _ c.in-Err.fault (c.in-Err.ensures.sound rest now owns)
+
+pub returns-in-Ok-clause-nodes : goal.returns-in-Ok-clause-nodes
+returns-in-Ok-clause-nodes g c rest now owns = c.in-Ok.ensures.nodes rest now (c.in_default.ensures.has rest now owns)
+
+pub returns-in-Err-read_nodes-clause-stops : goal.returns-in-Err-read_nodes-clause-stops
+returns-in-Err-read_nodes-clause-stops g c rest now owns =
+    let found = map.get (now.maps WAYS) c.args.way in
+    let bad : ℕ → Type 0 = λ at. (¬ ((nodes : List ℕ) × HasNodes found nodes)) × (at ≡ c.args.page) in
+    subst (Refuses bad) (sym c.refused.ensures.fault)
+    (needs_refuses bad _ c.in-Err-read_nodes.fault c.args.page c.in-Err-read_nodes.ensures.refused
+    (λ none. ((λ nodes. nodeless_not found nodes.0 (none rest now (c.in_default.ensures.has rest now owns)) nodes.1), refl)))

@@ -1,0 +1,29 @@
+-- The bucket is brought, and then the list is read.
+use Rattle.std.proofs.Common.{◌≡◌, ◌∙◌, Err, ℕ, sym, subst}
+use Rattle.std.specs.FinMap as map
+use Rattle.back_index.specs.Calls.{page_in}
+use Rattle.back_index.specs.Relisting.{IsUnread}
+use Rattle.back_index.specs.Visits.{Refuses}
+use Rattle.back_index.proofs.Chained.{has_read, page_same, sound_refuses}
+use Rattle.back_index.proofs.Reading.{needs_refuses}
+use Rattle.back_index.proofs.listers.listers.Goals as goal
+
+pub returns-in-Err-clause-has : goal.returns-in-Err-clause-has
+returns-in-Err-clause-has g c none rest now has =
+    has_read {T = Unit {0}} rest now c.args.buckets.now c.bring.new.self (Err c.in-Err.fault) c.in-Err.ensures.stays c.in-Err.ensures.broken none
+    c.in-Err.ensures.open c.in-Err.ensures.content has
+
+pub returns-in-Err-clause-stops : goal.returns-in-Err-clause-stops
+returns-in-Err-clause-stops g c rest now has = sound_refuses (Unit {0}) _ c.in-Err.fault (c.in-Err.ensures.sound rest now has)
+
+pub returns-in-Ok-clause-ids : goal.returns-in-Ok-clause-ids
+returns-in-Ok-clause-ids g c rest now has = c.in-Ok.ensures.ids rest now (c.in_default.ensures.has rest now has)
+
+pub returns-in-Err-read_list-clause-stops : goal.returns-in-Err-read_list-clause-stops
+returns-in-Err-read_list-clause-stops g c rest now has =
+    let old = c.args.buckets.now in
+    let new = c.bring.new.self in
+    let bad : ℕ → Type 0 = λ at. IsUnread (map.get (now.maps c.args.which) c.args.id) × (at ≡ page_in old c.args.which c.args.id) in
+    subst (Refuses bad) (sym c.refused.ensures.fault)
+    (needs_refuses bad _ c.in-Err-read_list.fault c.page_of-page.result c.in-Err-read_list.ensures.refused
+    (λ unread. (unread rest now (c.in_default.ensures.has rest now has), c.page_of-page.ensures ∙ page_same old new c.args.which c.args.id c.in_default.ensures.stays)))

@@ -1,0 +1,104 @@
+-- The lists of each map of the index in turn.
+use Rattle.std.proofs.Common.{◌≡◌, ℕ, subst, refl}
+use Rattle.osm_base.specs.declared.values.key.Kind.TheVariants as kinds
+use Rattle.osm_base.specs.map.Listers.{listed}
+use Rattle.osm_base.specs.values.Key.{KeyOf}
+use Rattle.store_maps.specs.Turns.{blocks_in, listed_by}
+use Rattle.back_index.specs.Calls.{page_at}
+use Rattle.back_index.specs.Index.{Relists, all_visits}
+use Rattle.back_index.specs.Visits.{IsFine, StopsAt, visits}
+use Rattle.back_index.specs.declared.visit.TheConstants.{WAYS_OF_BLOCKS, RELATIONS_OF_NODES, RELATIONS_OF_WAYS}
+use Rattle.back_index.specs.declared.visit.Visit.{Visit}
+use Rattle.back_index.proofs.Chained.{page_same}
+use Rattle.back_index.proofs.Reading.{on_ok, refuses_more, refuses_result}
+use Rattle.back_index.proofs.Relists.{apart, at_kind, fine_as, node_relists, nodes_stop, relation_relists, stops_as, turned_fine, way_relists, way_stops, ways_stop}
+use Rattle.back_index.proofs.relisting.relist.Goals as goal
+
+pub returns-in-Node-clause-relists : goal.returns-in-Node-clause-relists
+returns-in-Node-clause-relists g c rest now owns =
+    let key : KeyOf = record { kind = c.key.inside.kind; id = c.key.inside.id } in
+    let is : key.kind ≡ kinds.Node = cc (c.in-Node.is) in (
+      now,
+      owns,
+      subst (λ (k : KeyOf). Relists k c.args.old.now c.args.new.now now now) c.key.view_is
+          (at_kind key kinds.Node c.args.old.now c.args.new.now now now is (node_relists key.id c.args.old.now c.args.new.now now)),
+    )
+
+pub returns-in-Way-clause-relists : goal.returns-in-Way-clause-relists
+returns-in-Way-clause-relists g c =
+    let key : KeyOf = record { kind = c.key.inside.kind; id = c.key.inside.id } in
+    let old = c.args.old.now in
+    let new = c.args.new.now in
+    let is : key.kind ≡ kinds.Way = cc (c.in-Way.is) in
+    on_ok (Unit {0}) _ _ c.relist_blocks.result
+    (λ turns rest now owns. let was = turns rest now owns in (
+      was.0,
+      was.1,
+      subst (λ (k : KeyOf). Relists k old new now was.0) c.key.view_is
+          (at_kind key kinds.Way old new now was.0 is (way_relists key.id old new now was.0 was.2 was.3)),
+    )) c.relist_blocks.ensures.turns
+
+pub returns-in-Way-clause-stops : goal.returns-in-Way-clause-stops
+returns-in-Way-clause-stops g c rest now owns =
+    let key : KeyOf = record { kind = c.key.inside.kind; id = c.key.inside.id } in
+    let old = c.args.old.now in
+    let new = c.args.new.now in
+    let fine = IsFine now key.id in
+    let page = page_at c.args.buckets.now in
+    let is : key.kind ≡ kinds.Way = cc (c.in-Way.is) in
+    refuses_result (Unit {0}) (StopsAt fine page (visits WAYS_OF_BLOCKS (listed_by blocks_in old) (listed_by blocks_in new))) (StopsAt (IsFine now c.args.key.id) page (all_visits c.args.key old new))
+    c.relist_blocks.result
+    (λ at stops. subst (λ (k : KeyOf). StopsAt (IsFine now k.id) page (all_visits k old new) at) c.key.view_is (way_stops fine page key old new at is stops)) (c.relist_blocks.ensures.stops rest now owns)
+
+pub returns-in-Err-clause-stops : goal.returns-in-Err-clause-stops
+returns-in-Err-clause-stops g c rest now owns =
+    let key : KeyOf = record { kind = c.key.inside.kind; id = c.key.inside.id } in
+    let old = c.args.old.now in
+    let new = c.args.new.now in
+    let fine = IsFine now key.id in
+    let page = page_at c.args.buckets.now in
+    let is : key.kind ≡ kinds.Relation = cc (c.in-Relation.is) in
+    refuses_more (StopsAt fine page (visits RELATIONS_OF_NODES (listed_by (listed kinds.Node) old) (listed_by (listed kinds.Node) new)))
+    (StopsAt (IsFine now c.args.key.id) page (all_visits c.args.key old new))
+    (λ at stops. subst (λ (k : KeyOf). StopsAt (IsFine now k.id) page (all_visits k old new) at) c.key.view_is (nodes_stop fine page key old new at is stops))
+    c.in-Err.fault (c.in-Err.ensures.stops rest now owns)
+
+pub returns-in_default-clause-relists : goal.returns-in_default-clause-relists
+returns-in_default-clause-relists g c =
+    let key : KeyOf = record { kind = c.key.inside.kind; id = c.key.inside.id } in
+    let old = c.args.old.now in
+    let new = c.args.new.now in
+    let is : key.kind ≡ kinds.Relation = cc (c.in-Relation.is) in
+    on_ok (Unit {0}) _ _ c.relist_members-in-Relation.result
+    (λ turns rest now owns.
+    let first = c.in_default.ensures.turns rest now owns in
+    let second = turns rest first.0 first.1 in (
+      second.0,
+      second.1,
+      subst (λ (k : KeyOf). Relists k old new now second.0) c.key.view_is (at_kind key kinds.Relation old new now second.0 is
+          (relation_relists key.id old new now first.0 second.0 first.2 first.3 second.2 second.3)),
+    )) c.relist_members-in-Relation.ensures.turns
+
+pub returns-in_default-clause-stops : goal.returns-in_default-clause-stops
+returns-in_default-clause-stops g c rest now owns =
+    let key : KeyOf = record { kind = c.key.inside.kind; id = c.key.inside.id } in
+    let own = key.id in
+    let old = c.args.old.now in
+    let new = c.args.new.now in
+    let mid = c.relist_members.new.buckets in
+    let first = c.in_default.ensures.turns rest now owns in
+    let nodes_old = listed_by (listed kinds.Node) old in
+    let nodes_new = listed_by (listed kinds.Node) new in
+    let lists = visits RELATIONS_OF_WAYS (listed_by (listed kinds.Way) old) (listed_by (listed kinds.Way) new) in
+    let is : key.kind ≡ kinds.Relation = cc (c.in-Relation.is) in
+    let pages : page_at mid ≡ page_at c.args.buckets.now
+    = λ i visit. page_same c.args.buckets.now mid visit.which visit.id c.in_default.ensures.answers.stays i in
+    refuses_result (Unit {0}) (StopsAt (IsFine first.0 own) (page_at mid) lists) (StopsAt (IsFine now c.args.key.id) (page_at c.args.buckets.now) (all_visits c.args.key old new))
+    c.relist_members-in-Relation.result
+    (λ at stops. subst (λ (k : KeyOf). StopsAt (IsFine now k.id) (page_at c.args.buckets.now) (all_visits k old new) at) c.key.view_is (ways_stop (IsFine now own) (page_at c.args.buckets.now) key old new at is
+    (turned_fine now own RELATIONS_OF_NODES nodes_old nodes_new (first.0.maps RELATIONS_OF_NODES) first.3)
+    (stops_as (IsFine first.0 own) (IsFine now own) (page_at c.args.buckets.now) lists at
+    (fine_as now first.0 own RELATIONS_OF_WAYS RELATIONS_OF_NODES (listed_by (listed kinds.Way) old) (listed_by (listed kinds.Way) new) first.2
+    (apart RELATIONS_OF_WAYS RELATIONS_OF_NODES refl))
+    (subst (λ (p : Visit → ℕ). StopsAt (IsFine first.0 own) p lists at) pages stops))))
+    (c.relist_members-in-Relation.ensures.stops rest first.0 first.1)

@@ -1,0 +1,106 @@
+-- One list after another is turned.
+use Rattle.std.proofs.Common.{◌≡◌, ◌≤◌, ◌<◌, ◌∙◌, ℕ, List, Option, Bool, Ok, length, map, take, get_or, sym, subst}
+use Rattle.std.specs.List.{AllByRecursion}
+use Rattle.std.specs.FinMap as finite
+use Rattle.std.proofs.lemmas.List.{get_or_default, take_all, take_more}
+use Rattle.osm_base.specs.values.Ids.{has}
+use Rattle.bucket_store.specs.Image.{Has, Image}
+use Rattle.back_index.specs.Calls.{page_at}
+use Rattle.back_index.specs.Relisting.{CanTurn, TurnsAt, kept_list, turned}
+use Rattle.back_index.specs.Visits.{IsFine, Sets, StopsAt, visit_of}
+use Rattle.back_index.specs.declared.visit.Visit.{Visit}
+use Rattle.back_index.proofs.Chained.{answers_none, answers_then, count_same, page_same}
+use Rattle.back_index.proofs.Reading.{refuses_more}
+use Rattle.back_index.proofs.Turning.{all_more, before_none, fine_more, only_none, only_then, stops_there, turns_more, turns_none}
+use Rattle.back_index.proofs.relisting.turn_all.Goals as goal
+
+pub loop-id-init : goal.loop-id-init
+loop-id-init g c = record {
+  some = c.requires.some;
+  going = c.requires.going;
+  answers = answers_none {T = Unit {0}} c.args.buckets.now tt c.requires.going;
+  turns = λ rest now owns. (now, owns, only_none c.args.which now, turns_none c.args.own c.args.old.now c.args.new.now (now.maps c.args.which));
+  fine = λ rest now owns. tt;
+}
+
+pub loop-id-preserved : goal.loop-id-preserved
+loop-id-preserved g c =
+    let before = c.loop-id.buckets in
+    let after = c.turn_list.new.buckets in
+    let which = c.args.which in
+    let own = c.args.own in
+    let old = c.args.old.now in
+    let new = c.args.new.now in
+    let ids = c.args.ids.now in
+    let k = c.loop-id.id-index in
+    let id = get_or ids k 0 in
+    let within : k < length ids = c.loop-id-test.true in
+    let more = take_more ids k 0 within in
+    let fresh = before_none ids k 0 c.requires.rise within in
+    let inv = c.loop-id.invariant in
+    let did = c.in_default.ensures in
+    let can_of : (rest now : Image) (owns : Has rest now c.args.buckets.now) → CanTurn (has old id) own
+    (finite.get ((inv.turns rest now owns).0.maps which) id) (did.turns rest (inv.turns rest now owns).0 (inv.turns rest now owns).1).2 = λ rest now owns.
+    subst (λ (b : Bool). CanTurn b own (finite.get ((inv.turns rest now owns).0.maps which) id) (did.turns rest (inv.turns rest now owns).0 (inv.turns rest now owns).1).2)
+    c.contains.ensures.value (did.turns rest (inv.turns rest now owns).0 (inv.turns rest now owns).1).3 in
+    let sets_of : (rest now : Image) (owns : Has rest now c.args.buckets.now)
+    → Sets which id (kept_list (turned (has old id) (has new id) own (did.turns rest (inv.turns rest now owns).0 (inv.turns rest now owns).1).2))
+    (inv.turns rest now owns).0 (did.turns rest (inv.turns rest now owns).0 (inv.turns rest now owns).1).0 = λ rest now owns.
+    let turns = did.turns rest (inv.turns rest now owns).0 (inv.turns rest now owns).1 in
+    subst (λ (v : Option (List ℕ)). Sets which id v (inv.turns rest now owns).0 turns.0)
+    (λ i. kept_list (turned (c.contains.ensures.value i) (c.contains-in-loop-id.ensures.value i) own turns.2)) turns.4 in
+    record {
+      some = subst (λ (n : ℕ). 1 ≤ n) (sym (count_same before after did.answers.stays)) inv.some;
+      going = did.answers.refused;
+      answers = answers_then c.args.buckets.now before after tt (Ok tt) inv.answers did.answers;
+      turns = λ rest now owns.
+          let was = inv.turns rest now owns in
+          let turns = did.turns rest was.0 was.1 in (
+            turns.0,
+            turns.1,
+            only_then which now was.0 turns.0 was.2 turns.4.only,
+            subst (λ (l : List ℕ). TurnsAt own old new l (now.maps which) (turns.0.maps which)) (sym more)
+                (turns_more own which old new (take k ids) now was.0 turns.0 id turns.2 fresh was.3 (can_of rest now owns) (sets_of rest now owns)),
+          );
+      fine = λ rest now owns.
+          let was = inv.turns rest now owns in
+          let turns = did.turns rest was.0 was.1 in
+          subst (λ (l : List ℕ). AllByRecursion (IsFine now own) (map (visit_of which old new) l)) (sym more)
+          (all_more (IsFine now own) (visit_of which old new) (take k ids) id (inv.fine rest now owns)
+          (fine_more own which old new (take k ids) now was.0 turns.0 id turns.2 fresh was.3 (can_of rest now owns) (sets_of rest now owns)));
+    }
+
+pub returns-in-Err-clause-stops : goal.returns-in-Err-clause-stops
+returns-in-Err-clause-stops g c rest now owns =
+    let which = c.args.which in
+    let own = c.args.own in
+    let old = c.args.old.now in
+    let new = c.args.new.now in
+    let ids = c.args.ids.now in
+    let k = c.loop-id.id-index in
+    let id = get_or ids k 0 in
+    let within : k < length ids = c.loop-id-test.true in
+    let fresh = before_none ids k 0 c.requires.rise within in
+    let inv = c.loop-id.invariant in
+    let was = inv.turns rest now owns in
+    let visit : Visit = record { which = which; id = id; was = c.contains.result; is = c.contains-in-loop-id.result } in
+    let still : IsFine now own (visit_of which old new id) → IsFine was.0 own visit = λ fine. (
+      fine.0,
+      subst (λ (o : Option (List ℕ)). CanTurn c.contains.result own o fine.0) (sym (was.3.others id fresh))
+          (subst (λ (b : Bool). CanTurn b own (finite.get (now.maps which) id) fine.0) (sym c.contains.ensures.value) fine.1),
+    ) in
+    refuses_more (λ at. (¬ IsFine was.0 own visit) × (at ≡ page_at c.loop-id.buckets visit))
+    (StopsAt (IsFine now own) (page_at c.args.buckets.now) (map (visit_of which old new) ids))
+    (λ at bad. stops_there (IsFine now own) (page_at c.args.buckets.now) (visit_of which old new) ids k id at within (get_or_default ids k 0 id within)
+    (inv.fine rest now owns) (λ fine. bad.0 (still fine)) (bad.1 ∙ page_same c.args.buckets.now c.loop-id.buckets which id inv.answers.stays))
+    c.in-Err.fault (c.in-Err.ensures.stops rest was.0 was.1)
+
+pub returns-clause-turns : goal.returns-clause-turns
+returns-clause-turns g c rest now owns =
+    let was = c.loop-id.invariant.turns rest now owns in (
+      was.0,
+      was.1,
+      was.2,
+      subst (λ (l : List ℕ). TurnsAt c.args.own c.args.old.now c.args.new.now l (now.maps c.args.which) (was.0.maps c.args.which))
+          (take_all c.loop-id.id-index c.args.ids.now c.loop-id-test.false) was.3,
+    )

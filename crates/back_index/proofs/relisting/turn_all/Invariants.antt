@@ -1,0 +1,20 @@
+use Rattle.std.proofs.Common.{◌≡◌, ◌≤◌, false, map, take}
+use Rattle.std.specs.List.{AllByRecursion}
+use Rattle.bucket_store.specs.Buckets.{bucket_count}
+use Rattle.bucket_store.specs.Image.{Has, Image}
+use Rattle.bucket_store.specs.Transaction.{chains_of, has_refused}
+use Rattle.back_index.specs.Relisting.{TurnsAt}
+use Rattle.back_index.specs.Visits.{IsFine, OnlyMap, visit_of}
+use Rattle.back_index.proofs.Chained.{StillAnswers}
+use Rattle.back_index.proofs.relisting.turn_all.Given as goal
+
+-- the lists of the ids so far are turned
+abbrev pub invariant-loop-id : goal.invariant-loop-id
+invariant-loop-id g l = record {
+  some : 1 ≤ bucket_count (chains_of l.buckets);
+  going : has_refused l.buckets ≡ false;
+  answers : StillAnswers l.initial.buckets l.buckets;
+  turns : (rest now : Image) → Has rest now l.initial.buckets → (after : Image) × Has rest after l.buckets × OnlyMap l.which now after
+      × TurnsAt l.own l.old l.new (take l.id-index l.ids) (now.maps l.which) (after.maps l.which);
+  fine : (rest now : Image) → Has rest now l.initial.buckets → AllByRecursion (IsFine now l.own) (map (visit_of l.which l.old l.new) (take l.id-index l.ids));
+}
