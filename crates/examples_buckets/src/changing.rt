@@ -1,0 +1,119 @@
+//! Deeds that change a store.
+ghost use Rattle.std.specs.Prelude.{◌≡◌, false, OnOk};
+ghost use Rattle.bucket_store.specs.Transaction.{has_refused};
+
+use crate::deeds::{key_of, none, string_of};
+use bucket_store::Buckets;
+use chain_store::Root;
+use example_table::{number_of, row_of};
+use osm_base::Bytes;
+use outside::MemDisk;
+use page_journal::StoreFault;
+use std::alloc::Global;
+
+/// Sets the value of a key.
+pub fn put(
+    alloc: Global,
+    buckets: &mut Buckets<'_, MemDisk>,
+    text: &str,
+) -> Result<String, StoreFault>
+    requires { has_refused buckets.old ≡ false }
+    ensures { OnOk result (has_refused buckets.new ≡ false) }
+{
+    let Some((which, key, value)) = key_of(text) else {
+        return none(alloc);
+    };
+    if buckets.root().buckets == 0 {
+        return none(alloc);
+    }
+    match buckets.put(which, key, value.as_bytes()) {
+        Ok(()) => Ok(String::from_str(alloc, "ok")?),
+        Err(fault) => Err(fault),
+    }
+}
+
+/// Takes a key out, and answers whether it was there.
+pub fn remove(
+    alloc: Global,
+    buckets: &mut Buckets<'_, MemDisk>,
+    text: &str,
+) -> Result<String, StoreFault>
+    requires { has_refused buckets.old ≡ false }
+    ensures { OnOk result (has_refused buckets.new ≡ false) }
+{
+    let Some((which, key, _)) = key_of(text) else {
+        return none(alloc);
+    };
+    if buckets.root().buckets == 0 {
+        return none(alloc);
+    }
+    match buckets.remove(which, key) {
+        Ok(was) => Ok(format!(in alloc; "{was}")?),
+        Err(fault) => Err(fault),
+    }
+}
+
+/// Gives a string a text.
+pub fn give(
+    alloc: Global,
+    buckets: &mut Buckets<'_, MemDisk>,
+    text: &str,
+) -> Result<String, StoreFault>
+    requires { has_refused buckets.old ≡ false }
+    ensures { OnOk result (has_refused buckets.new ≡ false) }
+{
+    let Some((n, text)) = string_of(text) else {
+        return none(alloc);
+    };
+    let bytes = Vec::from_slice(alloc, text.as_bytes())?;
+    match buckets.store(n, Bytes::from_vec(bytes)) {
+        Ok(()) => Ok(String::from_str(alloc, "ok")?),
+        Err(fault) => Err(fault),
+    }
+}
+
+/// Gives the store another format, state and number of changes.
+pub fn fields(
+    alloc: Global,
+    buckets: &mut Buckets<'_, MemDisk>,
+    text: &str,
+) -> Result<String, StoreFault>
+    requires { has_refused buckets.old ≡ false }
+    ensures { OnOk result (has_refused buckets.new ≡ false) }
+{
+    let Some((format, state, changes)) = fields_of(text) else {
+        return none(alloc);
+    };
+    let buckets_now = buckets.root().buckets;
+    buckets.set_root(Root {
+        format,
+        state,
+        changes,
+        buckets: buckets_now,
+    });
+    Ok(String::from_str(alloc, "ok")?)
+}
+
+/// Gives a store without buckets some.
+pub fn settle(
+    alloc: Global,
+    buckets: &mut Buckets<'_, MemDisk>,
+    text: &str,
+) -> Result<String, StoreFault>
+    requires { has_refused buckets.old ≡ false }
+    ensures { OnOk result (has_refused buckets.new ≡ false) }
+{
+    let count = number_of(text).unwrap_or(0);
+    if !count.is_power_of_two() || count > 65536 || buckets.root().buckets != 0 {
+        return none(alloc);
+    }
+    buckets.set_buckets(count);
+    Ok(String::from_str(alloc, "ok")?)
+}
+
+// Three numbers.
+fn fields_of(text: &str) -> Option<(u64, u64, u64)> {
+    let (format, behind) = row_of(text)?;
+    let (state, changes) = row_of(behind)?;
+    Some((number_of(format)?, number_of(state)?, number_of(changes)?))
+}

@@ -1,0 +1,65 @@
+//! The deeds of the examples, by their words.
+ghost use Rattle.std.specs.Prelude.{◌≡◌, ◌<◌, false, IfSome, OnOk};
+ghost use Rattle.bucket_store.specs.Transaction.{has_refused};
+
+use crate::changing::{fields, give, put, remove, settle};
+use crate::looking::{get, listed, load, root_text};
+use bucket_store::Buckets;
+use example_table::{number_of, row_of};
+use outside::MemDisk;
+use page_journal::StoreFault;
+use std::alloc::Global;
+
+/// What a deed answers.
+pub fn answer_of(
+    alloc: Global,
+    buckets: &mut Buckets<'_, MemDisk>,
+    deed: &str,
+) -> Result<String, StoreFault>
+    requires { has_refused buckets.old ≡ false }
+    ensures { OnOk result (has_refused buckets.new ≡ false) }
+{
+    let (word, text) = row_of(deed).unwrap_or((deed, ""));
+    match word {
+        "get" => get(alloc, buckets, text),
+        "records" => listed(alloc, buckets, text),
+        "load" => load(alloc, buckets, text),
+        "root" => root_text(alloc, buckets),
+        "put" => put(alloc, buckets, text),
+        "remove" => remove(alloc, buckets, text),
+        "store" => give(alloc, buckets, text),
+        "fields" => fields(alloc, buckets, text),
+        "buckets" => settle(alloc, buckets, text),
+        _ => none(alloc),
+    }
+}
+
+/// The answer of a deed that is none.
+pub fn none(alloc: Global) -> Result<String, StoreFault> {
+    Ok(String::from_str(alloc, "no deed")?)
+}
+
+/// A map, a key of it, and the text behind them. `None`: there is no such map.
+pub fn key_of(text: &str) -> Option<(u8, u64, &str)>
+    ensures { IfSome result (λ found. found.0 < 8) }
+{
+    let (which, behind) = row_of(text)?;
+    let (key, rest) = row_of(behind)?;
+    let which = u8::try_from(number_of(which)?).ok()?;
+    if which >= 8 {
+        return None;
+    }
+    Some((which, number_of(key)?, rest))
+}
+
+/// A string of the store, and the text behind it. `None`: there is no such string.
+pub fn string_of(text: &str) -> Option<(u32, &str)>
+    ensures { IfSome result (λ found. found.0 < 8) }
+{
+    let (n, rest) = row_of(text)?;
+    let n = u32::try_from(number_of(n)?).ok()?;
+    if n >= 8 {
+        return None;
+    }
+    Some((n, rest))
+}
