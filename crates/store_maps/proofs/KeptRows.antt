@@ -123,7 +123,6 @@ rise row_at (suc count) first least low =
       | Some row ↦ (low, rise row_at count (first + 1) (first + 1) (omega arith))
     ]
 
-
 fit : (tables : List TableDef) (row_at : ℕ → Option Row) → ((table : ℕ) (row : Row) → row_at table ≡ Some row → length row.cells ≡ columns_in tables table)
     → (count first : ℕ) → first + count ≤ length tables → AllByRecursion (Fits tables) (filter_map (λ number. in_table number (row_at number)) (range_with_len first count))
 fit tables row_at has zero first within = tt

@@ -1,0 +1,9 @@
+pub mod Asking
+pub mod Building
+pub mod DueLaws
+pub mod Endings
+pub mod EntryLists
+pub mod KeyedLists
+pub mod PendingKeys
+pub mod Trees
+pub mod Whole

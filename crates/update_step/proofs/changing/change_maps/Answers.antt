@@ -1,0 +1,119 @@
+use Rattle.std.proofs.Common.{◌≡◌, ◌≤◌, ◌||◌, ℕ, Bool, List, length, sym, subst, ap, ◌∙◌, arith}
+use Rattle.std.specs.FinMap as finite
+use Rattle.osm_base.specs.declared.values.row.RowChange.{RowChange}
+use Rattle.osm_base.specs.map.Objects.{ObjectSet, folded_all}
+use Rattle.osm_base.specs.map.Pending.{PendingOf}
+use Rattle.row_map.specs.Condition.{reaches_nodes}
+use Rattle.row_map.specs.Row.{tables}
+use Rattle.row_map.specs.Rows.{rows_in}
+use Rattle.dep_closure.specs.PendingSet.{size}
+use Rattle.geom_workers.specs.Keys.{keys_of}
+use Rattle.tile_cover.specs.Runs.{has}
+use Rattle.store_maps.specs.Append.{appended}
+use Rattle.store_maps.specs.Delta.{IsDelta}
+use Rattle.store_maps.specs.Maps.{Maps}
+use Rattle.store_maps.specs.Step.{change_on}
+use Rattle.store_maps.proofs.DeltaLaws.{delta-applied}
+use Rattle.store_maps.proofs.ObjectMaps.{entries_stand}
+use Rattle.store_maps.proofs.Standing.{appended_stands}
+use Rattle.update_step.proofs.Endings.{ends-then, if_err-then, if_ok-then, on_ok-then}
+use Rattle.update_step.proofs.EntryLists.{change_proper}
+use Rattle.update_step.proofs.PendingKeys.{keys-size, outside-rows, pending-rows, same-size}
+use Rattle.update_step.proofs.Whole.{delta-is, due-is}
+use Rattle.update_step.proofs.changing.change_maps.Goals as goal
+
+pub rebuild-requires-clause-style : goal.rebuild-requires-clause-style
+rebuild-requires-clause-style g c _ _ =
+    let first = c.args.store.now in
+    g.met.S.MapStore.same_style first c.changed_keys.new.store (c.changed_keys.ensures.looked first (g.met.S.MapStore.looked_none first)) ∙ c.requires.style
+
+pub rebuild-requires-clause-few : goal.rebuild-requires-clause-few
+rebuild-requires-clause-few g c =
+    let count = keys-size c.in-Ok.set in
+    let few = c.in-Ok.ensures.few in
+    let number = c.pending-most.ensures.number in
+    let most = c.pending-most.ensures.most in
+    omega (arith, count, few, number, most)
+
+pub returns-in-Ok-clause-stands : goal.returns-in-Ok-clause-stands
+returns-in-Ok-clause-stands g c =
+    on_ok-then c.rebuild.result c.rebuild.ensures.holds (λ holds under maps objects held stands.
+    let style = c.args.style.now in
+    let change = c.args.change.now in
+    let set = c.in-Ok.set in
+    let proper = change_proper change c.entries-entries.ensures.rise in
+    let after : ObjectSet = folded_all objects change in
+    let both = c.in-Ok.ensures.pending under maps objects held stands.on in
+    let changed : Maps = change_on maps change in
+    let read = c.in-Ok.ensures.holds under maps held in
+    let on = entries_stand (reaches_nodes style) change maps objects stands.on proper in
+    let built = pending-rows style maps objects change on set both.0 in
+    (appended maps change (rows_in style after) (keys_of set), holds under changed (rows_in style after) read built, appended_stands style maps objects change (keys_of set) stands proper (outside-rows style objects change set both.1)))
+
+pub returns-in-Ok-clause-told : goal.returns-in-Ok-clause-told
+returns-in-Ok-clause-told g c =
+    if_ok-then c.rebuild.result c.rebuild.ensures.told (λ changes told under maps objects held stands.
+    let style = c.args.style.now in
+    let change = c.args.change.now in
+    let set = c.in-Ok.set in
+    let proper = change_proper change c.entries-entries.ensures.rise in
+    let after : ObjectSet = folded_all objects change in
+    let both = c.in-Ok.ensures.pending under maps objects held stands.on in
+    let changed : Maps = change_on maps change in
+    let read = c.in-Ok.ensures.holds under maps held in
+    let on = entries_stand (reaches_nodes style) change maps objects stands.on proper in
+    let built = pending-rows style maps objects change on set both.0 in
+    subst (λ (own : List RowChange). IsDelta (finite.get (tables style objects)) (finite.get (tables style after)) own) (sym (told under changed (rows_in style after) read built)) (delta-is style maps objects change set stands both.0 both.1))
+
+pub returns-in-Ok-clause-applied : goal.returns-in-Ok-clause-applied
+returns-in-Ok-clause-applied g c =
+    if_ok-then c.rebuild.result c.rebuild.ensures.told (λ changes told under maps objects held stands.
+    let style = c.args.style.now in
+    let change = c.args.change.now in
+    let set = c.in-Ok.set in
+    let proper = change_proper change c.entries-entries.ensures.rise in
+    let after : ObjectSet = folded_all objects change in
+    let both = c.in-Ok.ensures.pending under maps objects held stands.on in
+    let changed : Maps = change_on maps change in
+    let read = c.in-Ok.ensures.holds under maps held in
+    let on = entries_stand (reaches_nodes style) change maps objects stands.on proper in
+    let built = pending-rows style maps objects change on set both.0 in
+    delta-applied (tables style objects) (tables style after) changes
+    (subst (λ (own : List RowChange). IsDelta (finite.get (tables style objects)) (finite.get (tables style after)) own) (sym (told under changed (rows_in style after) read built)) (delta-is style maps objects change set stands both.0 both.1)))
+
+pub returns-in-Ok-clause-due : goal.returns-in-Ok-clause-due
+returns-in-Ok-clause-due g c =
+    on_ok-then c.rebuild.result c.rebuild.ensures.due (λ due under maps objects held stands zoom x y.
+    let style = c.args.style.now in
+    let change = c.args.change.now in
+    let set = c.in-Ok.set in
+    let proper = change_proper change c.entries-entries.ensures.rise in
+    let after : ObjectSet = folded_all objects change in
+    let both = c.in-Ok.ensures.pending under maps objects held stands.on in
+    let changed : Maps = change_on maps change in
+    let read = c.in-Ok.ensures.holds under maps held in
+    let on = entries_stand (reaches_nodes style) change maps objects stands.on proper in
+    let built = pending-rows style maps objects change on set both.0 in
+    due under changed (rows_in style after) read built zoom x y ∙ ap (λ (b : Bool). has c.args.due.now zoom x y || b) (due-is style maps objects change set stands both.0 both.1 c.args.bounds.now zoom x y))
+
+pub returns-in-Ok-clause-few : goal.returns-in-Ok-clause-few
+returns-in-Ok-clause-few g c =
+    on_ok-then c.rebuild.result c.rebuild.ensures.spent (λ _ under maps objects held stands own pending.
+    let both = c.in-Ok.ensures.pending under maps objects held stands.on in
+    subst (λ (count : ℕ). count ≤ c.args.limits.now.pending) (same-size c.args.style.now objects c.args.change.now c.in-Ok.set own both.0 pending) c.in-Ok.ensures.few)
+
+pub returns-in-Ok-clause-ends : goal.returns-in-Ok-clause-ends
+returns-in-Ok-clause-ends g c =
+    if_err-then c.rebuild.result c.rebuild.ensures.ends (λ why ends.
+    ends-then _ _ _ _ _ _ why (λ refusal bears first looked. bears first (c.changed_keys.ensures.looked first looked)) (λ unspent. unspent) (λ value never. absurd never) ends)
+
+pub returns-in-Ok-clause-allowed : goal.returns-in-Ok-clause-allowed
+returns-in-Ok-clause-allowed g c under maps objects held stands =
+    c.rebuild.ensures.allowed under (change_on maps c.args.change.now) (c.in-Ok.ensures.holds under maps held)
+
+pub returns-in-Err-clause-ends : goal.returns-in-Err-clause-ends
+returns-in-Err-clause-ends g c =
+    ends-then _ _ _ _ _ _ c.in-Err.why (λ refusal bears. bears) (λ unspent. unspent) (λ value many under maps objects held stands. many under maps objects held stands.on) c.in-Err.ensures.ends
+
+pub returns-in-Err-clause-allowed : goal.returns-in-Err-clause-allowed
+returns-in-Err-clause-allowed g c under maps objects held stands = c.in-Err.ensures.allowed under maps objects held stands.on

@@ -1,0 +1,17 @@
+use Rattle.std.proofs.Common.{rules}
+use Rattle.store_maps.specs.Named.{known_on}
+use Rattle.update_step.specs.Gather.{gathered_in, member_asks}
+use Rattle.update_step.proofs.Asking.{more-gathers}
+use Rattle.update_step.proofs.gathering.gather_members.Goals as goal
+
+pub loop-member-preserved : goal.loop-member-preserved
+loop-member-preserved g c =
+    record {
+      gathers = λ under maps held.
+          more-gathers (member_asks (known_on maps)) (known_on maps) (gathered_in c.args.answers.now) (gathered_in c.loop-member.answers) (gathered_in c.gather_member.new.answers)
+          c.args.members.now c.loop-member.member-index c.member-item.result c.member-item.result c.loop-member-test.true c.member-item.is
+          (c.loop-member.invariant.gathers under maps held) (c.in_ok-gather_member.ensures.gathers under maps (c.loop-member.invariant.holds under maps held));
+      holds = search rules;
+      looked = search rules;
+      spent = search rules;
+    }

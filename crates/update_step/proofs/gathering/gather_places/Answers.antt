@@ -1,0 +1,18 @@
+use Rattle.std.proofs.Common.{rules, ℕ, List, get_or, refl}
+use Rattle.store_maps.specs.Named.{known_on}
+use Rattle.update_step.specs.Gather.{AtNode, gathered_in}
+use Rattle.update_step.proofs.Asking.{one-more-gathers}
+use Rattle.update_step.proofs.gathering.gather_places.Goals as goal
+
+pub loop-id-preserved : goal.loop-id-preserved
+loop-id-preserved g c =
+    let ids : List ℕ = c.args.ids.now in
+    let at : ℕ = c.loop-id.id-index in
+    record {
+      gathers = λ under maps held.
+          one-more-gathers AtNode (known_on maps) (gathered_in c.args.answers.now) (gathered_in c.loop-id.answers) (gathered_in c.gather_place.new.answers) ids at (get_or ids at 0) 0 c.loop-id-test.true refl
+          (c.loop-id.invariant.gathers under maps held) (c.in_ok-gather_place.ensures.gathers under maps (c.loop-id.invariant.holds under maps held));
+      holds = search rules;
+      looked = search rules;
+      spent = search rules;
+    }

@@ -1,0 +1,139 @@
+-- What rows are built of, as it is asked of a store and kept.
+-- osm2pgsql manual, "Updating an Existing Database": an object that is processed again is read with all that its rows depend on: the nodes of
+-- a way, the ways of a relation, and the relations that it is a member of.
+use Rattle.std.specs.Prelude.{◌≡◌, ℕ, Bool, true, List, [], ◌∷◌, ◌++◌, map, if◌then◌else◌, Option, None, Some}
+use Rattle.std.specs.BTreeMap.{BTreeMap}
+use Rattle.std.specs.FinMap as finite
+use Rattle.std.specs.List.{AllByRecursion, flat_map}
+use Rattle.std.specs.Option.{is_some, unwrap_or}
+use Rattle.std.specs.Ordering.{nat_cmp}
+use Rattle.osm_base.specs.declared.values.key.Kind.TheVariants as kinds
+use Rattle.osm_base.specs.declared.values.object.Member.{Member}
+use Rattle.osm_base.specs.declared.values.object.Object.{Object}
+use Rattle.osm_base.specs.declared.values.object.Object.TheVariants.{Way, Relation}
+use Rattle.osm_base.specs.map.Known.{Known}
+use Rattle.osm_base.specs.map.Listers.{is_kind}
+use Rattle.osm_base.specs.values.Key.{KeyOf, relation_key}
+use Rattle.osm_base.specs.values.KeyOrder.{key_cmp}
+use Rattle.osm_base.specs.values.Place.{PlaceOf}
+use Rattle.object_fold.specs.Listing.{ListingOf}
+use Rattle.update_step.specs.declared.answers.Answers.{Answers}
+
+-- the answers that are kept: that there is nothing is an answer too
+pub record Gathered : Type 0 where
+  pub places : finite.FinMap nat_cmp (Option PlaceOf)
+  pub forms : finite.FinMap key_cmp (Option Object)
+  pub along_ways : ListingOf
+  pub around_nodes : ListingOf
+
+-- those of trees
+abbrev pub gathered_in : Answers → Gathered
+gathered_in answers = record {
+  places = finite.from_entries answers.places.entries;
+  forms = finite.from_entries answers.forms.entries;
+  along_ways = finite.from_entries answers.along_ways.entries;
+  around_nodes = finite.from_entries answers.around_nodes.entries;
+}
+
+abbrev pub joined : {X : Type 0} → Option (Option X) → Option X
+joined (Some found) = found
+joined None = None
+
+-- what is known by these answers
+abbrev pub known_in : Gathered → Known
+known_in gathered = record {
+  place = λ id. joined (finite.get gathered.places id);
+  object = λ own. joined (finite.get gathered.forms own);
+  relations_of_way = λ id. unwrap_or (finite.get gathered.along_ways id) [];
+  relations_of_node = λ id. unwrap_or (finite.get gathered.around_nodes id) [];
+}
+
+-- what may be asked: the place of a node, the object of a key, and the relations that have a way or a node as a member
+pub data Ask : Type 0 where
+  AtNode : ℕ → Ask
+  OfKey : KeyOf → Ask
+  AlongWay : ℕ → Ask
+  AroundNode : ℕ → Ask
+
+-- two know the same of it
+abbrev pub Same : Known → Known → Ask → Type 0
+Same one other (AtNode id) = one.place id ≡ other.place id
+Same one other (OfKey own) = one.object own ≡ other.object own
+Same one other (AlongWay id) = one.relations_of_way id ≡ other.relations_of_way id
+Same one other (AroundNode id) = one.relations_of_node id ≡ other.relations_of_node id
+
+abbrev pub was_asked : Gathered → Ask → Bool
+was_asked gathered (AtNode id) = is_some (finite.get gathered.places id)
+was_asked gathered (OfKey own) = is_some (finite.get gathered.forms own)
+was_asked gathered (AlongWay id) = is_some (finite.get gathered.along_ways id)
+was_asked gathered (AroundNode id) = is_some (finite.get gathered.around_nodes id)
+
+-- each answer is right
+abbrev pub IsRight : Gathered → Known → Type 0
+IsRight gathered to = (ask : Ask) → was_asked gathered ask ≡ true → Same (known_in gathered) to ask
+
+-- nothing that was asked is forgotten
+abbrev pub Grows : Gathered → Gathered → Type 0
+Grows old new = (ask : Ask) → was_asked old ask ≡ true → was_asked new ask ≡ true
+
+abbrev pub AreAsked : Gathered → List Ask → Type 0
+AreAsked gathered asks = AllByRecursion (λ ask. was_asked gathered ask ≡ true) asks
+
+-- the nodes of an object that is a way
+abbrev pub place_asks : Option Object → List Ask
+place_asks (Some (Way nodes tags)) = map AtNode nodes
+place_asks _ = []
+
+abbrev pub relation_asks : List ℕ → List Ask
+relation_asks ids = map (λ id. OfKey (relation_key id)) ids
+
+-- an object, with its nodes if it is a way
+abbrev pub form_asks : Known → KeyOf → List Ask
+form_asks to own = OfKey own ∷ place_asks (to.object own)
+
+-- so each member that is a way
+abbrev pub member_asks : Known → Member → List Ask
+member_asks to member = if is_kind kinds.Way member.key.kind then form_asks to member.key else []
+
+abbrev pub way_asks : Known → Option Object → List Ask
+way_asks to (Some (Relation members tags)) = flat_map (member_asks to) members
+way_asks to _ = []
+
+module _ (reaches : Bool) (to : Known) where
+  -- the relations that have it as a member: of a node only where selections reach nodes
+  abbrev pub lister_asks : KeyOf → List Ask
+  lister_asks own = elim own.kind as (λ _. List Ask) [
+    | kinds.Node ↦ if reaches then AroundNode own.id ∷ relation_asks (to.relations_of_node own.id) else []
+    | kinds.Way ↦ AlongWay own.id ∷ relation_asks (to.relations_of_way own.id)
+    | kinds.Relation ↦ []
+  ]
+
+  -- what the rows of a key are built of
+  abbrev pub needs : KeyOf → List Ask
+  needs own = form_asks to own ++ (way_asks to (to.object own) ++ lister_asks own)
+
+  abbrev pub all_needs : List KeyOf → List Ask
+  all_needs keys = flat_map needs keys
+
+-- more was asked, of what is known so
+pub record Gathers (to : Known) (old new : Gathered) (asks : List Ask) : Type 0 where
+  pub right : IsRight old to → IsRight new to
+  pub grows : Grows old new
+  pub asked : AreAsked new asks
+
+-- one answer more
+abbrev pub with_place : Gathered → ℕ → Option PlaceOf → Gathered
+with_place gathered id place = record gathered { places = finite.insert gathered.places id place }
+
+abbrev pub with_form : Gathered → KeyOf → Option Object → Gathered
+with_form gathered own form = record gathered { forms = finite.insert gathered.forms own form }
+
+abbrev pub with_along : Gathered → ℕ → List ℕ → Gathered
+with_along gathered id ids = record gathered { along_ways = finite.insert gathered.along_ways id ids }
+
+abbrev pub with_around : Gathered → ℕ → List ℕ → Gathered
+with_around gathered id ids = record gathered { around_nodes = finite.insert gathered.around_nodes id ids }
+
+-- nothing was asked
+abbrev pub nothing_gathered : Gathered
+nothing_gathered = record { places = finite.empty; forms = finite.empty; along_ways = finite.empty; around_nodes = finite.empty }

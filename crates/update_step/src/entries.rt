@@ -1,0 +1,99 @@
+//! What the entries of a change make of the maps, and the forms that they replace.
+ghost use Rattle.std.specs.Prelude.{◌≡◌, ◌∷◌, ◌+◌, ℕ, Bool, false, fold, IfOk, IfErr, OnOk};
+ghost use Rattle.std.specs.FinMap as finite;
+ghost use Rattle.osm_base.specs.map.Objects.{ObjectSet};
+ghost use Rattle.object_fold.specs.Change.{IsProper};
+ghost use Rattle.store_maps.specs.Maps.{Maps, form_in};
+ghost use Rattle.store_maps.specs.Stands.{StandsOn};
+ghost use Rattle.store_maps.specs.Step.{AreTold, change_on, entry_on};
+ghost use Rattle.update_step.specs.Ends.{Ends, MayRefuse};
+ghost use Rattle.update_step.specs.Old.{with_old};
+
+use crate::StepFault;
+use object_fold::{Change, Objects};
+use osm_base::{Entry, Kind};
+use std::alloc::Global;
+use store_maps::MapStore;
+
+/// What an entry says is so in the maps.
+fn apply_entry<S: MapStore>(store: &mut S, entry: &Entry) -> Result<(), S::Refusal>
+    requires spent { S.spent store.old ≡ false }
+    requires proper { IsProper entry.now }
+    ensures holds { OnOk result ((under : S.Under) (maps : Maps) → S.holds store.old under maps → S.holds store.new under (entry_on maps entry.now)) }
+    ensures looked { (first : S) → S.looked first store.old → S.looked first store.new }
+    ensures spent { OnOk result (S.spent store.new ≡ false) }
+    ensures refused { IfErr result (λ refusal. (first : S) → S.looked first store.old → S.bears store.new (S.faults first) refusal) }
+    ensures allowed { (under : S.Under) (maps : Maps) → S.holds store.old under maps
+        → AreTold maps entry.now.key (form_in maps entry.now.key.kind entry.now.key.id) → IfErr result S.allowed }
+{
+    let old = store.form(entry.key)?;
+    store.relist(entry.key, &old, &entry.object)?;
+    store.set(entry.key, &entry.object)?;
+    Ok(())
+}
+
+/// What the entries of a change say is so in the maps.
+pub(crate) fn apply_change<S: MapStore>(store: &mut S, change: &Change) -> Result<(), S::Refusal>
+    requires spent { S.spent store.old ≡ false }
+    ensures holds { OnOk result ((under : S.Under) (maps : Maps) → S.holds store.old under maps → S.holds store.new under (change_on maps change.now)) }
+    ensures looked { (first : S) → S.looked first store.old → S.looked first store.new }
+    ensures spent { OnOk result (S.spent store.new ≡ false) }
+    ensures refused { IfErr result (λ refusal. (first : S) → S.looked first store.old → S.bears store.new (S.faults first) refusal) }
+    ensures allowed { (under : S.Under) (maps : Maps) → S.holds store.old under maps
+        → (reaches : Bool) (objects : ObjectSet) → StandsOn reaches maps objects → IfErr result S.allowed }
+{
+    for entry in change.entries() {
+        apply_entry(store, entry)?;
+    }
+    Ok(())
+}
+
+/// Adds the relation that an entry replaces.
+fn add_old<S: MapStore>(
+    store: &mut S,
+    objects: &mut Objects,
+    entry: &Entry,
+) -> Result<(), StepFault<S::Refusal>>
+    requires spent { S.spent store.old ≡ false }
+    ensures old { OnOk result ((under : S.Under) (maps : Maps) → S.holds store.old under maps → objects.new ≡ with_old maps objects.old entry.now) }
+    ensures holds { OnOk result ((under : S.Under) (maps : Maps) → S.holds store.old under maps → S.holds store.new under maps) }
+    ensures looked { (first : S) → S.looked first store.old → S.looked first store.new }
+    ensures spent { OnOk result (S.spent store.new ≡ false) }
+    ensures ends { IfErr result (Ends
+        (λ refusal. (first : S) → S.looked first store.old → S.bears store.new (S.faults first) refusal)
+        (S.spent store.new ≡ false)
+        (λ _. ⊥)) }
+    ensures allowed { (under : S.Under) (maps : Maps) → S.holds store.old under maps → IfErr result (MayRefuse S.allowed) }
+{
+    let key = entry.key;
+    if key.kind != Kind::Relation {
+        return Ok(());
+    }
+    let object = store.form(key).map_err(StepFault::Store)?;
+    objects.apply(Entry { key, object })?;
+    Ok(())
+}
+
+/// The relations that a change replaces.
+pub(crate) fn old_relations<S: MapStore>(
+    alloc: Global,
+    store: &mut S,
+    change: &Change,
+) -> Result<Objects, StepFault<S::Refusal>>
+    requires spent { S.spent store.old ≡ false }
+    ensures old { IfOk result (λ objects. (under : S.Under) (maps : Maps) → S.holds store.old under maps → objects ≡ fold (with_old maps) finite.empty change.now) }
+    ensures holds { OnOk result ((under : S.Under) (maps : Maps) → S.holds store.old under maps → S.holds store.new under maps) }
+    ensures looked { (first : S) → S.looked first store.old → S.looked first store.new }
+    ensures spent { OnOk result (S.spent store.new ≡ false) }
+    ensures ends { IfErr result (Ends
+        (λ refusal. (first : S) → S.looked first store.old → S.bears store.new (S.faults first) refusal)
+        (S.spent store.new ≡ false)
+        (λ _. ⊥)) }
+    ensures allowed { (under : S.Under) (maps : Maps) → S.holds store.old under maps → IfErr result (MayRefuse S.allowed) }
+{
+    let mut objects = Objects::new(alloc);
+    for entry in change.entries() {
+        add_old(store, &mut objects, entry)?;
+    }
+    Ok(objects)
+}

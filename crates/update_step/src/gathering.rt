@@ -1,0 +1,395 @@
+//! What rows are built of, gathered from a store.
+ghost use Rattle.std.specs.Prelude.{◌≡◌, [], ◌∷◌, map, flat_map, false, IfOk, IfErr, OnOk};
+ghost use Rattle.osm_base.specs.declared.values.key.Kind.TheVariants as kinds;
+ghost use Rattle.osm_base.specs.values.Ids.{AreRisingIds};
+ghost use Rattle.osm_base.specs.values.Key.{IsId, relation_key};
+ghost use Rattle.std.specs.List.{AllByRecursion};
+ghost use Rattle.store_maps.specs.Maps.{Maps};
+ghost use Rattle.store_maps.specs.Named.{known_on};
+ghost use Rattle.update_step.specs.Ends.{Ends, MayRefuse};
+ghost use Rattle.update_step.specs.Gather.{AlongWay, AreAsked, AroundNode, AtNode, Gathers, IsRight, OfKey, all_needs, form_asks, gathered_in, lister_asks, member_asks, needs, place_asks, relation_asks, way_asks};
+
+use crate::StepFault;
+use crate::answers::Answers;
+use crate::listers::Listers;
+use osm_base::{Key, Kind, Member, Object};
+use std::alloc::Global;
+use store_maps::MapStore;
+
+/// Gathers the place of a node.
+fn gather_place<S: MapStore>(
+    store: &mut S,
+    answers: &mut Answers,
+    id: u64,
+) -> Result<(), StepFault<S::Refusal>>
+    requires spent { S.spent store.old ≡ false }
+    ensures gathers { OnOk result ((under : S.Under) (maps : Maps) → S.holds store.old under maps
+        → Gathers (known_on maps) (gathered_in answers.old) (gathered_in answers.new) (AtNode id ∷ [])) }
+    ensures holds { OnOk result ((under : S.Under) (maps : Maps) → S.holds store.old under maps → S.holds store.new under maps) }
+    ensures looked { (first : S) → S.looked first store.old → S.looked first store.new }
+    ensures spent { OnOk result (S.spent store.new ≡ false) }
+    ensures ends { IfErr result (Ends
+        (λ refusal. (first : S) → S.looked first store.old → S.bears store.new (S.faults first) refusal)
+        (S.spent store.new ≡ false)
+        (λ _. ⊥)) }
+    ensures allowed { (under : S.Under) (maps : Maps) → S.holds store.old under maps → IfErr result (MayRefuse S.allowed) }
+{
+    if answers.has_place(id) {
+        return Ok(());
+    }
+    let place = store.place(id).map_err(StepFault::Store)?;
+    answers.put_place(id, place)?;
+    Ok(())
+}
+
+/// Gathers the places of nodes.
+fn gather_places<S: MapStore>(
+    store: &mut S,
+    answers: &mut Answers,
+    ids: &[u64],
+) -> Result<(), StepFault<S::Refusal>>
+    requires spent { S.spent store.old ≡ false }
+    ensures gathers { OnOk result ((under : S.Under) (maps : Maps) → S.holds store.old under maps
+        → Gathers (known_on maps) (gathered_in answers.old) (gathered_in answers.new) (map AtNode ids.now)) }
+    ensures holds { OnOk result ((under : S.Under) (maps : Maps) → S.holds store.old under maps → S.holds store.new under maps) }
+    ensures looked { (first : S) → S.looked first store.old → S.looked first store.new }
+    ensures spent { OnOk result (S.spent store.new ≡ false) }
+    ensures ends { IfErr result (Ends
+        (λ refusal. (first : S) → S.looked first store.old → S.bears store.new (S.faults first) refusal)
+        (S.spent store.new ≡ false)
+        (λ _. ⊥)) }
+    ensures allowed { (under : S.Under) (maps : Maps) → S.holds store.old under maps → IfErr result (MayRefuse S.allowed) }
+{
+    for &id in ids {
+        gather_place(store, answers, id)?;
+    }
+    Ok(())
+}
+
+/// Gathers the places of the nodes of an object that is a way.
+fn gather_nodes<S: MapStore>(
+    store: &mut S,
+    answers: &mut Answers,
+    form: &Option<Object>,
+) -> Result<(), StepFault<S::Refusal>>
+    requires spent { S.spent store.old ≡ false }
+    ensures gathers { OnOk result ((under : S.Under) (maps : Maps) → S.holds store.old under maps
+        → Gathers (known_on maps) (gathered_in answers.old) (gathered_in answers.new) (place_asks form.now)) }
+    ensures holds { OnOk result ((under : S.Under) (maps : Maps) → S.holds store.old under maps → S.holds store.new under maps) }
+    ensures looked { (first : S) → S.looked first store.old → S.looked first store.new }
+    ensures spent { OnOk result (S.spent store.new ≡ false) }
+    ensures ends { IfErr result (Ends
+        (λ refusal. (first : S) → S.looked first store.old → S.bears store.new (S.faults first) refusal)
+        (S.spent store.new ≡ false)
+        (λ _. ⊥)) }
+    ensures allowed { (under : S.Under) (maps : Maps) → S.holds store.old under maps → IfErr result (MayRefuse S.allowed) }
+{
+    match form {
+        Some(Object::Way { nodes, .. }) => gather_places(store, answers, nodes.as_slice()),
+        _ => Ok(()),
+    }
+}
+
+/// Gathers an object, with its nodes if it is a way.
+fn gather_form<S: MapStore>(
+    store: &mut S,
+    answers: &mut Answers,
+    key: Key,
+) -> Result<(), StepFault<S::Refusal>>
+    requires spent { S.spent store.old ≡ false }
+    ensures gathers { OnOk result ((under : S.Under) (maps : Maps) → S.holds store.old under maps
+        → Gathers (known_on maps) (gathered_in answers.old) (gathered_in answers.new) (form_asks (known_on maps) key)) }
+    ensures holds { OnOk result ((under : S.Under) (maps : Maps) → S.holds store.old under maps → S.holds store.new under maps) }
+    ensures looked { (first : S) → S.looked first store.old → S.looked first store.new }
+    ensures spent { OnOk result (S.spent store.new ≡ false) }
+    ensures ends { IfErr result (Ends
+        (λ refusal. (first : S) → S.looked first store.old → S.bears store.new (S.faults first) refusal)
+        (S.spent store.new ≡ false)
+        (λ _. ⊥)) }
+    ensures allowed { (under : S.Under) (maps : Maps) → S.holds store.old under maps → IfErr result (MayRefuse S.allowed) }
+{
+    let form = store.object(key).map_err(StepFault::Store)?;
+    gather_nodes(store, answers, &form)?;
+    answers.put_form(key, form)?;
+    Ok(())
+}
+
+/// Gathers a member that is a way.
+fn gather_member<S: MapStore>(
+    store: &mut S,
+    answers: &mut Answers,
+    member: &Member,
+) -> Result<(), StepFault<S::Refusal>>
+    requires spent { S.spent store.old ≡ false }
+    ensures gathers { OnOk result ((under : S.Under) (maps : Maps) → S.holds store.old under maps
+        → Gathers (known_on maps) (gathered_in answers.old) (gathered_in answers.new) (member_asks (known_on maps) member.now)) }
+    ensures holds { OnOk result ((under : S.Under) (maps : Maps) → S.holds store.old under maps → S.holds store.new under maps) }
+    ensures looked { (first : S) → S.looked first store.old → S.looked first store.new }
+    ensures spent { OnOk result (S.spent store.new ≡ false) }
+    ensures ends { IfErr result (Ends
+        (λ refusal. (first : S) → S.looked first store.old → S.bears store.new (S.faults first) refusal)
+        (S.spent store.new ≡ false)
+        (λ _. ⊥)) }
+    ensures allowed { (under : S.Under) (maps : Maps) → S.holds store.old under maps → IfErr result (MayRefuse S.allowed) }
+{
+    if member.key.kind == Kind::Way {
+        return gather_form(store, answers, member.key);
+    }
+    Ok(())
+}
+
+/// Gathers the members that are ways.
+fn gather_members<S: MapStore>(
+    store: &mut S,
+    answers: &mut Answers,
+    members: &[Member],
+) -> Result<(), StepFault<S::Refusal>>
+    requires spent { S.spent store.old ≡ false }
+    ensures gathers { OnOk result ((under : S.Under) (maps : Maps) → S.holds store.old under maps
+        → Gathers (known_on maps) (gathered_in answers.old) (gathered_in answers.new) (flat_map (member_asks (known_on maps)) members.now)) }
+    ensures holds { OnOk result ((under : S.Under) (maps : Maps) → S.holds store.old under maps → S.holds store.new under maps) }
+    ensures looked { (first : S) → S.looked first store.old → S.looked first store.new }
+    ensures spent { OnOk result (S.spent store.new ≡ false) }
+    ensures ends { IfErr result (Ends
+        (λ refusal. (first : S) → S.looked first store.old → S.bears store.new (S.faults first) refusal)
+        (S.spent store.new ≡ false)
+        (λ _. ⊥)) }
+    ensures allowed { (under : S.Under) (maps : Maps) → S.holds store.old under maps → IfErr result (MayRefuse S.allowed) }
+{
+    for member in members {
+        gather_member(store, answers, member)?;
+    }
+    Ok(())
+}
+
+/// Gathers the ways among the members of an object that is a relation.
+fn gather_ways<S: MapStore>(
+    store: &mut S,
+    answers: &mut Answers,
+    form: &Option<Object>,
+) -> Result<(), StepFault<S::Refusal>>
+    requires spent { S.spent store.old ≡ false }
+    ensures gathers { OnOk result ((under : S.Under) (maps : Maps) → S.holds store.old under maps
+        → Gathers (known_on maps) (gathered_in answers.old) (gathered_in answers.new) (way_asks (known_on maps) form.now)) }
+    ensures holds { OnOk result ((under : S.Under) (maps : Maps) → S.holds store.old under maps → S.holds store.new under maps) }
+    ensures looked { (first : S) → S.looked first store.old → S.looked first store.new }
+    ensures spent { OnOk result (S.spent store.new ≡ false) }
+    ensures ends { IfErr result (Ends
+        (λ refusal. (first : S) → S.looked first store.old → S.bears store.new (S.faults first) refusal)
+        (S.spent store.new ≡ false)
+        (λ _. ⊥)) }
+    ensures allowed { (under : S.Under) (maps : Maps) → S.holds store.old under maps → IfErr result (MayRefuse S.allowed) }
+{
+    match form {
+        Some(Object::Relation { members, .. }) => {
+            gather_members(store, answers, members.as_slice())
+        }
+        _ => Ok(()),
+    }
+}
+
+/// Gathers a relation.
+fn gather_relation<S: MapStore>(
+    store: &mut S,
+    answers: &mut Answers,
+    id: u64,
+) -> Result<(), StepFault<S::Refusal>>
+    requires spent { S.spent store.old ≡ false }
+    requires id { IsId id }
+    ensures gathers { OnOk result ((under : S.Under) (maps : Maps) → S.holds store.old under maps
+        → Gathers (known_on maps) (gathered_in answers.old) (gathered_in answers.new) (OfKey (relation_key id) ∷ [])) }
+    ensures holds { OnOk result ((under : S.Under) (maps : Maps) → S.holds store.old under maps → S.holds store.new under maps) }
+    ensures looked { (first : S) → S.looked first store.old → S.looked first store.new }
+    ensures spent { OnOk result (S.spent store.new ≡ false) }
+    ensures ends { IfErr result (Ends
+        (λ refusal. (first : S) → S.looked first store.old → S.bears store.new (S.faults first) refusal)
+        (S.spent store.new ≡ false)
+        (λ _. ⊥)) }
+    ensures allowed { (under : S.Under) (maps : Maps) → S.holds store.old under maps → IfErr result (MayRefuse S.allowed) }
+{
+    let key = Key::new(Kind::Relation, id);
+    let form = store.object(key).map_err(StepFault::Store)?;
+    answers.put_form(key, form)?;
+    Ok(())
+}
+
+/// Gathers relations.
+fn gather_relations<S: MapStore>(
+    store: &mut S,
+    answers: &mut Answers,
+    ids: &[u64],
+) -> Result<(), StepFault<S::Refusal>>
+    requires spent { S.spent store.old ≡ false }
+    requires ids { AllByRecursion IsId ids.now }
+    ensures gathers { OnOk result ((under : S.Under) (maps : Maps) → S.holds store.old under maps
+        → Gathers (known_on maps) (gathered_in answers.old) (gathered_in answers.new) (relation_asks ids.now)) }
+    ensures holds { OnOk result ((under : S.Under) (maps : Maps) → S.holds store.old under maps → S.holds store.new under maps) }
+    ensures looked { (first : S) → S.looked first store.old → S.looked first store.new }
+    ensures spent { OnOk result (S.spent store.new ≡ false) }
+    ensures ends { IfErr result (Ends
+        (λ refusal. (first : S) → S.looked first store.old → S.bears store.new (S.faults first) refusal)
+        (S.spent store.new ≡ false)
+        (λ _. ⊥)) }
+    ensures allowed { (under : S.Under) (maps : Maps) → S.holds store.old under maps → IfErr result (MayRefuse S.allowed) }
+{
+    for &id in ids {
+        gather_relation(store, answers, id)?;
+    }
+    Ok(())
+}
+
+/// Gathers the relations that have a way as a member.
+fn gather_along<S: MapStore>(
+    store: &mut S,
+    answers: &mut Answers,
+    id: u64,
+) -> Result<(), StepFault<S::Refusal>>
+    requires spent { S.spent store.old ≡ false }
+    ensures gathers { OnOk result ((under : S.Under) (maps : Maps) → S.holds store.old under maps
+        → Gathers (known_on maps) (gathered_in answers.old) (gathered_in answers.new) (AlongWay id ∷ relation_asks ((known_on maps).relations_of_way id))) }
+    ensures holds { OnOk result ((under : S.Under) (maps : Maps) → S.holds store.old under maps → S.holds store.new under maps) }
+    ensures looked { (first : S) → S.looked first store.old → S.looked first store.new }
+    ensures spent { OnOk result (S.spent store.new ≡ false) }
+    ensures ends { IfErr result (Ends
+        (λ refusal. (first : S) → S.looked first store.old → S.bears store.new (S.faults first) refusal)
+        (S.spent store.new ≡ false)
+        (λ _. ⊥)) }
+    ensures allowed { (under : S.Under) (maps : Maps) → S.holds store.old under maps → IfErr result (MayRefuse S.allowed) }
+{
+    let ids = store.along_way(id).map_err(StepFault::Store)?;
+    gather_relations(store, answers, ids.as_slice())?;
+    answers.put_along(id, Listers::new(ids))?;
+    Ok(())
+}
+
+/// Gathers the relations that have a node as a member.
+fn gather_around<S: MapStore>(
+    store: &mut S,
+    answers: &mut Answers,
+    id: u64,
+) -> Result<(), StepFault<S::Refusal>>
+    requires spent { S.spent store.old ≡ false }
+    ensures gathers { OnOk result ((under : S.Under) (maps : Maps) → S.holds store.old under maps
+        → Gathers (known_on maps) (gathered_in answers.old) (gathered_in answers.new) (AroundNode id ∷ relation_asks ((known_on maps).relations_of_node id))) }
+    ensures holds { OnOk result ((under : S.Under) (maps : Maps) → S.holds store.old under maps → S.holds store.new under maps) }
+    ensures looked { (first : S) → S.looked first store.old → S.looked first store.new }
+    ensures spent { OnOk result (S.spent store.new ≡ false) }
+    ensures ends { IfErr result (Ends
+        (λ refusal. (first : S) → S.looked first store.old → S.bears store.new (S.faults first) refusal)
+        (S.spent store.new ≡ false)
+        (λ _. ⊥)) }
+    ensures allowed { (under : S.Under) (maps : Maps) → S.holds store.old under maps → IfErr result (MayRefuse S.allowed) }
+{
+    let ids = store.around_node(id).map_err(StepFault::Store)?;
+    gather_relations(store, answers, ids.as_slice())?;
+    answers.put_around(id, Listers::new(ids))?;
+    Ok(())
+}
+
+/// Gathers the relations that may select an object: of a node none, where no selection reaches nodes.
+fn gather_listers<S: MapStore>(
+    store: &mut S,
+    answers: &mut Answers,
+    reaches: bool,
+    key: Key,
+) -> Result<(), StepFault<S::Refusal>>
+    requires spent { S.spent store.old ≡ false }
+    ensures gathers { OnOk result ((under : S.Under) (maps : Maps) → S.holds store.old under maps
+        → Gathers (known_on maps) (gathered_in answers.old) (gathered_in answers.new) (lister_asks reaches (known_on maps) key)) }
+    ensures holds { OnOk result ((under : S.Under) (maps : Maps) → S.holds store.old under maps → S.holds store.new under maps) }
+    ensures looked { (first : S) → S.looked first store.old → S.looked first store.new }
+    ensures spent { OnOk result (S.spent store.new ≡ false) }
+    ensures ends { IfErr result (Ends
+        (λ refusal. (first : S) → S.looked first store.old → S.bears store.new (S.faults first) refusal)
+        (S.spent store.new ≡ false)
+        (λ _. ⊥)) }
+    ensures allowed { (under : S.Under) (maps : Maps) → S.holds store.old under maps → IfErr result (MayRefuse S.allowed) }
+{
+    match key.kind {
+        Kind::Node => {
+            if reaches {
+                return gather_around(store, answers, key.id);
+            }
+            Ok(())
+        }
+        Kind::Way => gather_along(store, answers, key.id),
+        Kind::Relation => Ok(()),
+    }
+}
+
+/// Gathers what the rows of a key are built of.
+fn gather_key<S: MapStore>(
+    store: &mut S,
+    answers: &mut Answers,
+    reaches: bool,
+    key: Key,
+) -> Result<(), StepFault<S::Refusal>>
+    requires spent { S.spent store.old ≡ false }
+    ensures gathers { OnOk result ((under : S.Under) (maps : Maps) → S.holds store.old under maps
+        → Gathers (known_on maps) (gathered_in answers.old) (gathered_in answers.new) (needs reaches (known_on maps) key)) }
+    ensures holds { OnOk result ((under : S.Under) (maps : Maps) → S.holds store.old under maps → S.holds store.new under maps) }
+    ensures looked { (first : S) → S.looked first store.old → S.looked first store.new }
+    ensures spent { OnOk result (S.spent store.new ≡ false) }
+    ensures ends { IfErr result (Ends
+        (λ refusal. (first : S) → S.looked first store.old → S.bears store.new (S.faults first) refusal)
+        (S.spent store.new ≡ false)
+        (λ _. ⊥)) }
+    ensures allowed { (under : S.Under) (maps : Maps) → S.holds store.old under maps → IfErr result (MayRefuse S.allowed) }
+{
+    let form = store.object(key).map_err(StepFault::Store)?;
+    gather_nodes(store, answers, &form)?;
+    gather_ways(store, answers, &form)?;
+    gather_listers(store, answers, reaches, key)?;
+    answers.put_form(key, form)?;
+    Ok(())
+}
+
+/// Gathers what the rows of these keys are built of.
+fn gather_keys<S: MapStore>(
+    store: &mut S,
+    answers: &mut Answers,
+    reaches: bool,
+    keys: &[Key],
+) -> Result<(), StepFault<S::Refusal>>
+    requires spent { S.spent store.old ≡ false }
+    ensures gathers { OnOk result ((under : S.Under) (maps : Maps) → S.holds store.old under maps
+        → Gathers (known_on maps) (gathered_in answers.old) (gathered_in answers.new) (all_needs reaches (known_on maps) keys.now)) }
+    ensures holds { OnOk result ((under : S.Under) (maps : Maps) → S.holds store.old under maps → S.holds store.new under maps) }
+    ensures looked { (first : S) → S.looked first store.old → S.looked first store.new }
+    ensures spent { OnOk result (S.spent store.new ≡ false) }
+    ensures ends { IfErr result (Ends
+        (λ refusal. (first : S) → S.looked first store.old → S.bears store.new (S.faults first) refusal)
+        (S.spent store.new ≡ false)
+        (λ _. ⊥)) }
+    ensures allowed { (under : S.Under) (maps : Maps) → S.holds store.old under maps → IfErr result (MayRefuse S.allowed) }
+{
+    for &key in keys {
+        gather_key(store, answers, reaches, key)?;
+    }
+    Ok(())
+}
+
+/// What the rows of these keys are built of, as a store has it.
+pub(crate) fn gathered<S: MapStore>(
+    alloc: Global,
+    store: &mut S,
+    reaches: bool,
+    keys: &[Key],
+) -> Result<Answers, StepFault<S::Refusal>>
+    requires spent { S.spent store.old ≡ false }
+    ensures right { IfOk result (λ answers. (under : S.Under) (maps : Maps) → S.holds store.old under maps → IsRight (gathered_in answers) (known_on maps)) }
+    ensures asked { IfOk result (λ answers. (under : S.Under) (maps : Maps) → S.holds store.old under maps
+        → AreAsked (gathered_in answers) (all_needs reaches (known_on maps) keys.now)) }
+    ensures holds { OnOk result ((under : S.Under) (maps : Maps) → S.holds store.old under maps → S.holds store.new under maps) }
+    ensures looked { (first : S) → S.looked first store.old → S.looked first store.new }
+    ensures spent { OnOk result (S.spent store.new ≡ false) }
+    ensures ends { IfErr result (Ends
+        (λ refusal. (first : S) → S.looked first store.old → S.bears store.new (S.faults first) refusal)
+        (S.spent store.new ≡ false)
+        (λ _. ⊥)) }
+    ensures allowed { (under : S.Under) (maps : Maps) → S.holds store.old under maps → IfErr result (MayRefuse S.allowed) }
+{
+    let mut answers = Answers::new(alloc);
+    gather_keys(store, &mut answers, reaches, keys)?;
+    Ok(answers)
+}

@@ -1,0 +1,21 @@
+//! One change of a map on the maps of a store.
+//!
+//! It stands between the maps of a store and the flow of changes. `change_maps` sets what a change says, reads what the rows of
+//! the pending keys are built of, builds these rows, and sets them; it tells how rows differ and which tiles that makes due. What
+//! it leaves in the maps stands for the objects after the change with all their rows, as if they had been imported anew.
+#![tactic(auto)]
+
+mod answers;
+mod changing;
+mod entries;
+mod expiring;
+mod fault;
+mod gathering;
+mod listers;
+mod pending_keys;
+mod rebuilding;
+mod row_lists;
+mod telling;
+
+pub use changing::change_maps;
+pub use fault::StepFault;

@@ -1,0 +1,92 @@
+//! A change in the maps, and the keys whose rows it may change.
+ghost use Rattle.std.specs.Prelude.{◌≡◌, ◌≤◌, false, IfOk, IfErr, OnOk};
+ghost use Rattle.osm_base.specs.map.Objects.{ObjectSet, folded_all};
+ghost use Rattle.row_map.specs.Condition.{reaches_nodes};
+ghost use Rattle.dep_closure.specs.PendingSet.{AreTooMany, HasOldForms, IsPendingOf, LeavesRows, size};
+ghost use Rattle.store_maps.specs.Maps.{Maps};
+ghost use Rattle.store_maps.specs.Named.{WaysAreThere};
+ghost use Rattle.store_maps.specs.Stands.{StandsOn};
+ghost use Rattle.store_maps.specs.Step.{change_on};
+ghost use Rattle.update_step.specs.Ends.{Ends, MayRefuse, of_pending};
+
+use crate::StepFault;
+use crate::entries::{apply_change, old_relations};
+use dep_closure::{PendingFault, pending};
+use object_fold::{Change, Objects};
+use osm_base::{Limits, PendingSet};
+use std::alloc::Global;
+use store_maps::MapStore;
+use style_read::Style;
+
+/// Why a change is not made, where the search for what it makes due ended so.
+fn step_fault<E>(why: PendingFault<E>) -> StepFault<E>
+    ensures same { result ≡ of_pending why }
+{
+    match why {
+        PendingFault::Back(refusal) => StepFault::Store(refusal),
+        PendingFault::TooMany { value } => StepFault::TooMany { value },
+        PendingFault::OutOfMemory => StepFault::OutOfMemory,
+    }
+}
+
+/// The keys whose rows a change may change, which the maps have seen. `old` has the relations that it replaced.
+fn keys_due<S: MapStore>(
+    alloc: Global,
+    store: &mut S,
+    style: &Style,
+    change: &Change,
+    old: &Objects,
+    limits: &Limits,
+) -> Result<PendingSet, StepFault<S::Refusal>>
+    requires spent { S.spent store.old ≡ false }
+    ensures pending { IfOk result (λ set. (objects : ObjectSet) → HasOldForms old.now objects change.now → (under : S.Under) (maps : Maps) → S.holds store.old under maps
+        → StandsOn (reaches_nodes style.now) maps (folded_all objects change.now)
+        → IsPendingOf style.now objects change.now set × LeavesRows style.now objects change.now set) }
+    ensures few { IfOk result (λ set. size set ≤ limits.now.pending) }
+    ensures holds { OnOk result ((under : S.Under) (maps : Maps) → S.holds store.old under maps → S.holds store.new under maps) }
+    ensures looked { (first : S) → S.looked first store.old → S.looked first store.new }
+    ensures spent { OnOk result (S.spent store.new ≡ false) }
+    ensures ends { IfErr result (Ends
+        (λ refusal. (first : S) → S.looked first store.old → S.bears store.new (S.faults first) refusal)
+        (S.spent store.new ≡ false)
+        (λ value. (objects : ObjectSet) → HasOldForms old.now objects change.now → (under : S.Under) (maps : Maps) → S.holds store.old under maps
+        → StandsOn (reaches_nodes style.now) maps (folded_all objects change.now)
+        → AreTooMany limits.now.pending (λ set. IsPendingOf style.now objects change.now set) value)) }
+    ensures allowed { (under : S.Under) (maps : Maps) → S.holds store.old under maps → WaysAreThere maps → IfErr result (MayRefuse S.allowed) }
+{
+    match pending(alloc, style, change, store, old, limits) {
+        Ok(set) => Ok(set),
+        Err(why) => Err(step_fault(why)),
+    }
+}
+
+/// Sets what a change says, and finds the keys whose rows it may change.
+pub(crate) fn changed_keys<S: MapStore>(
+    alloc: Global,
+    store: &mut S,
+    style: &Style,
+    change: &Change,
+    limits: &Limits,
+) -> Result<PendingSet, StepFault<S::Refusal>>
+    requires spent { S.spent store.old ≡ false }
+    ensures pending { IfOk result (λ set. (under : S.Under) (maps : Maps) (objects : ObjectSet) → S.holds store.old under maps → StandsOn (reaches_nodes style.now) maps objects
+        → IsPendingOf style.now objects change.now set × LeavesRows style.now objects change.now set) }
+    ensures few { IfOk result (λ set. size set ≤ limits.now.pending) }
+    ensures holds { OnOk result ((under : S.Under) (maps : Maps) → S.holds store.old under maps → S.holds store.new under (change_on maps change.now)) }
+    ensures looked { (first : S) → S.looked first store.old → S.looked first store.new }
+    ensures spent { OnOk result (S.spent store.new ≡ false) }
+    ensures ends { IfErr result (Ends
+        (λ refusal. (first : S) → S.looked first store.old → S.bears store.new (S.faults first) refusal)
+        (S.spent store.new ≡ false)
+        (λ value. (under : S.Under) (maps : Maps) (objects : ObjectSet) → S.holds store.old under maps → StandsOn (reaches_nodes style.now) maps objects
+        → AreTooMany limits.now.pending (λ set. IsPendingOf style.now objects change.now set) value)) }
+    ensures allowed { (under : S.Under) (maps : Maps) (objects : ObjectSet) → S.holds store.old under maps → StandsOn (reaches_nodes style.now) maps objects
+        → IfErr result (MayRefuse S.allowed) }
+{
+    let _entries = change.entries();
+    let old = old_relations(alloc, store, change)?;
+    match apply_change(store, change) {
+        Ok(()) => keys_due(alloc, store, style, change, &old, limits),
+        Err(refusal) => Err(StepFault::Store(refusal)),
+    }
+}

@@ -1,0 +1,83 @@
+//! The rows of pending keys, built anew.
+ghost use Rattle.std.specs.Prelude.{◌≡◌, ◌≤◌, ◌||◌, ℕ, List, length, false, IfOk, IfErr, OnOk};
+ghost use Rattle.std.specs.List.{list_any};
+ghost use Rattle.osm_base.specs.declared.values.row.TableRow.{TableRow};
+ghost use Rattle.osm_base.specs.values.Key.{KeyOf};
+ghost use Rattle.geom_workers.specs.Keys.{keys_of};
+ghost use Rattle.tile_cover.specs.Runs.{has};
+ghost use Rattle.store_maps.specs.Append.{set_all_rows};
+ghost use Rattle.store_maps.specs.Maps.{Maps, all_kept};
+ghost use Rattle.store_maps.specs.Told.{told_all};
+ghost use Rattle.update_step.specs.Due.{is_due_key};
+ghost use Rattle.update_step.specs.Ends.{Ends, MayRefuse};
+ghost use Rattle.update_step.specs.Suffices.{IsBuilt};
+
+use crate::StepFault;
+use crate::expiring::add_all;
+use crate::gathering::gathered;
+use crate::row_lists::{all_before, keys_in, put_rows};
+use crate::telling::tell_all;
+use dep_closure::reaches_nodes;
+use geom_workers::{MAX_KEYS, build_all};
+use osm_base::{PendingSet, RowChanges};
+use outside::Gate;
+use std::alloc::Global;
+use std::thread::Threads;
+use store_maps::MapStore;
+use style_read::Style;
+use tile_cover::{Bounds, TileRuns};
+
+/// How many tables a style has.
+fn table_count(style: &Style) -> u32
+    ensures count { result ≡ length style.now.tables }
+{
+    style.tables.as_slice().len() as u32
+}
+
+/// Builds the rows of pending keys anew and sets them. Answers how they differ from those that were there, and puts to `due` the
+/// tiles that this makes due.
+pub(crate) fn rebuild<S: MapStore, R: Threads + Sync, G: Gate>(
+    rt: &R,
+    alloc: Global,
+    store: &mut S,
+    style: &Style,
+    bounds: &Bounds,
+    pending: &PendingSet,
+    workers: u32,
+    gate: &G,
+    due: &mut TileRuns,
+) -> Result<RowChanges, StepFault<S::Refusal>>
+    requires spent { S.spent store.old ≡ false }
+    requires style { S.style store.old ≡ style.now }
+    requires one_worker { 1 ≤ workers }
+    requires few_workers { workers ≤ 64 }
+    requires few { length (keys_of pending.now) ≤ MAX_KEYS }
+    ensures holds { OnOk result ((under : S.Under) (maps : Maps) (rows : KeyOf → List TableRow) → S.holds store.old under maps → IsBuilt style.now maps (keys_of pending.now) rows
+        → S.holds store.new under (set_all_rows maps rows (keys_of pending.now))) }
+    ensures told { IfOk result (λ changes. (under : S.Under) (maps : Maps) (rows : KeyOf → List TableRow) → S.holds store.old under maps → IsBuilt style.now maps (keys_of pending.now) rows
+        → changes ≡ told_all (length style.now.tables) (all_kept maps) rows (keys_of pending.now)) }
+    ensures due { OnOk result ((under : S.Under) (maps : Maps) (rows : KeyOf → List TableRow) → S.holds store.old under maps → IsBuilt style.now maps (keys_of pending.now) rows
+        → (zoom x y : ℕ) → has due.new zoom x y ≡ (has due.old zoom x y
+        || list_any (λ key. is_due_key style.now bounds.now (all_kept maps key) (rows key) zoom x y) (keys_of pending.now))) }
+    ensures looked { (first : S) → S.looked first store.old → S.looked first store.new }
+    ensures spent { OnOk result (S.spent store.new ≡ false) }
+    ensures ends { IfErr result (Ends
+        (λ refusal. (first : S) → S.looked first store.old → S.bears store.new (S.faults first) refusal)
+        (S.spent store.new ≡ false)
+        (λ _. ⊥)) }
+    ensures allowed { (under : S.Under) (maps : Maps) → S.holds store.old under maps → IfErr result (MayRefuse S.allowed) }
+{
+    let keys = keys_in(alloc, pending)?;
+    let keys = keys.as_slice();
+    let known = gathered(alloc, store, reaches_nodes(style), keys)?;
+    let built = build_all(rt, alloc, workers, style, pending, &known, gate)?;
+    let news = built.rows.as_slice();
+    let before = all_before(alloc, store, keys)?;
+    let olds = before.as_slice();
+    let changes = tell_all(alloc, table_count(style), keys, olds, news)?;
+    add_all(alloc, style, bounds, due, keys, olds, news)?;
+    match put_rows(store, keys, news) {
+        Ok(()) => Ok(changes),
+        Err(refusal) => Err(StepFault::Store(refusal)),
+    }
+}
