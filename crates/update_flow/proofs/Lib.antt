@@ -1,0 +1,4 @@
+pub mod Blank
+pub mod Openings
+pub mod Resting
+pub mod Running

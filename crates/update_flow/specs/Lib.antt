@@ -1,0 +1,11 @@
+pub mod Due
+pub mod Faults
+pub mod Roots
+pub mod State
+pub mod History
+pub mod Refusals
+pub mod Stands
+pub mod AtRest
+pub mod Changes
+pub mod Opening
+pub mod Within

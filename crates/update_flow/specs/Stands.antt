@@ -1,0 +1,57 @@
+-- The bytes of a store that stands for a state.
+-- docs/FILES.md, "The root page" and "Chains": state 0 of a store that was only made, all of whose strings are empty; state 1 of an
+-- imported one, with the style's bytes as string 1 and the due set as string 2.
+use Rattle.std.specs.Prelude.{◌≡◌, ◌≢◌, ◌<◌, ◌≤◌, ℕ, List, [], Ok, IsTrue}
+use Rattle.std.specs.Int.{is_power_of_two}
+use Rattle.style_read.specs.Reading.{reading}
+use Rattle.tile_cover.specs.declared.runs.Run.{Run}
+use Rattle.tile_cover.specs.Runs.{IsTileSet, has}
+use Rattle.due_tiles.specs.Spelling.{set_bytes}
+use Rattle.bucket_store.specs.Image.{HasImage, Image}
+use Rattle.store_maps.specs.Maps.{Maps}
+use Rattle.store_maps.specs.Stands.{Stands}
+use Rattle.kept_maps.specs.Kept.{HoldsMaps}
+use Rattle.update_flow.specs.Due.{Tiles}
+use Rattle.update_flow.specs.State.{Holding, State, formatted, imported}
+use Rattle.update_flow.specs.declared.fault.TheConstants.{LAST_CHANGE}
+use Rattle.update_flow.specs.declared.fields.TheConstants.{BLANK, BLANK_FORMAT, DUE_TEXT, IMPORTED, IMPORTED_FORMAT, STYLE_TEXT}
+
+-- these bytes are those of this set of tiles
+pub record AreDue (bytes : List ℕ) (due : Tiles) : Type 0 where
+  pub runs : List Run
+  pub is : IsTileSet runs
+  pub bytes_are : bytes ≡ set_bytes runs
+  pub tiles : (zoom x y : ℕ) → has runs zoom x y ≡ due zoom x y
+
+-- a store that was only made
+pub record IsBlank (image : Image) : Type 0 where
+  pub root : image.root ≡ record { format = BLANK_FORMAT; state = BLANK; changes = 0; buckets = 0 }
+  pub texts : (n : ℕ) → n < 8 → image.texts n ≡ []
+
+-- the maps of a store stand for what it holds
+pub record HasMapsOf (held : Holding) (image : Image) : Type 0 where
+  pub maps : Maps
+  pub kept : HoldsMaps held.style.tables image.maps maps
+  pub stand : Stands held.style maps held.objects
+
+-- an imported store that holds this
+pub record IsImported (held : Holding) (image : Image) : Type 0 where
+  pub root : image.root ≡ record { format = IMPORTED_FORMAT; state = IMPORTED; changes = held.changes; buckets = held.buckets }
+  pub counted : held.changes ≤ LAST_CHANGE
+  pub some : 1 ≤ held.buckets
+  pub power : IsTrue (is_power_of_two held.buckets)
+  pub few : held.buckets ≤ 65536
+  pub style_text : image.texts STYLE_TEXT ≡ held.style_bytes
+  pub style : reading held.style_bytes ≡ Ok held.style
+  pub due : AreDue (image.texts DUE_TEXT) held.due
+  pub others : (n : ℕ) → n < 8 → n ≢ STYLE_TEXT → n ≢ DUE_TEXT → image.texts n ≡ []
+  pub maps : HasMapsOf held image
+
+-- a store means a state
+abbrev pub Means : State → Image → Type 0
+Means formatted image = IsBlank image
+Means (imported held) image = IsImported held image
+
+-- the bytes of a store stand for this state
+unfoldable pub StandsFor : List ℕ → State → Type 0
+StandsFor bytes state = (image : Image) × Means state image × HasImage image bytes

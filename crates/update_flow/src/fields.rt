@@ -1,0 +1,41 @@
+//! What the root of a store says of it, and which of its texts says what.
+ghost use Rattle.std.specs.Prelude.{◌≡◌};
+ghost use Rattle.update_flow.specs.Roots.{is_blank, is_imported};
+
+use crate::LAST_CHANGE;
+use chain_store::Root;
+
+/// The format of a store that was only made.
+pub const BLANK_FORMAT: u64 = 1;
+
+/// The state of a store that was only made.
+pub const BLANK: u64 = 0;
+
+/// The format of an imported store.
+pub const IMPORTED_FORMAT: u64 = 2;
+
+/// The state of an imported store.
+pub const IMPORTED: u64 = 1;
+
+/// The text with the bytes of the style.
+pub const STYLE_TEXT: u32 = 1;
+
+/// The text with the bytes of the due set.
+pub const DUE_TEXT: u32 = 2;
+
+/// Whether these may be the fields of a store that was only made.
+pub fn is_blank(root: Root) -> bool
+    ensures { result ≡ is_blank root }
+{
+    root.format == BLANK_FORMAT && root.state == BLANK && root.buckets == 0
+}
+
+/// Whether these may be those of an imported store.
+pub fn is_imported(root: Root) -> bool
+    ensures { result ≡ is_imported root }
+{
+    root.format == IMPORTED_FORMAT
+        && root.state == IMPORTED
+        && root.buckets != 0
+        && root.changes <= LAST_CHANGE
+}

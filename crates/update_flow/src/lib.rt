@@ -1,0 +1,16 @@
+//! The store of a map, as an operator uses it: which states it goes through, and which bytes stand for which of them.
+//!
+//! On the path of the data it is where the disk is met: above it commands speak of states alone, and below it stand the buckets of a
+//! store. `State`, `Step` and `History` of the specs say what an import, a change and a clearing make of a store, `StandsFor` which
+//! bytes are a store of a state, and `FlowFault` why a step is refused.
+#![tactic(auto)]
+
+mod fault;
+mod fields;
+mod opened;
+
+pub use fault::{FlowFault, LAST_CHANGE, store_fault};
+pub use fields::{
+    BLANK, BLANK_FORMAT, DUE_TEXT, IMPORTED, IMPORTED_FORMAT, STYLE_TEXT, is_blank, is_imported,
+};
+pub use opened::Opened;
