@@ -1,11 +1,10 @@
 -- Rows out of what was gathered are those of the objects for which the maps stand.
-use Rattle.std.proofs.Common.{◌≡◌, ℕ, zero, suc, Bool, true, false, not, ◌&&◌, ◌||◌, cond, if◌then◌else◌, List, [], ◌∷◌, ◌++◌, length, map, fold, Option, Some, None, refl, sym, ap, subst, ◌∙◌, nat_eq}
-use mathlib.Core.Bool.{false≢true, true≢false}
+use Rattle.std.proofs.Common.{◌≡◌, ℕ, zero, suc, Bool, true, false, not, ◌&&◌, ◌||◌, cond, List, [], ◌∷◌, ◌++◌, length, map, fold, Option, Some, None, refl, sym, ap, subst, ◌∙◌, nat_eq}
+use mathlib.Core.Bool.{false≢true}
 use Rattle.std.specs.Prelude.{IfSome}
 use Rattle.std.specs.FinMap as finite
-use Rattle.std.specs.List.{AllByRecursion, cons_option, filter_map, flat_map, list_any, slice_get}
+use Rattle.std.specs.List.{AllByRecursion, cons_option, flat_map, list_any, slice_get}
 use Rattle.std.specs.Option.{option_and_then}
-use Rattle.std.specs.Ordering.{nat_cmp}
 use Rattle.osm_base.specs.declared.values.key.Kind.{Kind}
 use Rattle.osm_base.specs.declared.values.key.Kind.TheVariants as kinds
 use Rattle.osm_base.specs.declared.values.object.Member.{Member}
@@ -22,11 +21,10 @@ use Rattle.style_read.specs.declared.style.Source.{Source}
 use Rattle.style_read.specs.declared.style.Source.TheVariants as sources
 use Rattle.style_read.specs.declared.style.TableDef.{TableDef}
 use Rattle.style_read.specs.Style.{StyleOf}
-use Rattle.object_fold.proofs.Listers.{kind_same}
 use Rattle.object_fold.specs.Change.{IsOfKind}
 use Rattle.row_map.specs.Agree.{Agree, IsSameWay, SameNodes, SamePlaces, SameWays}
 use Rattle.row_map.specs.Condition.{is_of_nodes, names_selection, reaches_nodes}
-use Rattle.row_map.specs.Material.{Material, material_known, material_of, relations_with, selecting_among, selecting_tags}
+use Rattle.row_map.specs.Material.{Material, material_known, material_of, selecting_among, selecting_tags}
 use Rattle.row_map.specs.Objects.{is_of_kind}
 use Rattle.row_map.specs.Row.{cells_of, row, row_from, row_of, wants, with_geometry}
 use Rattle.row_map.specs.Rows.{rows_below, rows_in, rows_known}
@@ -36,7 +34,7 @@ use Rattle.store_maps.specs.Maps.{Maps}
 use Rattle.store_maps.specs.Named.{known_on}
 use Rattle.store_maps.specs.Stands.{StandsOn}
 use Rattle.store_maps.proofs.KnownMaps.{KnowsTags, object_is, place_is, relations_of_node-are, relations_of_way-are}
-use Rattle.update_step.specs.Gather.{AlongWay, AreAsked, AroundNode, Ask, AtNode, Gathered, IsRight, OfKey, form_asks, known_in, lister_asks, member_asks, needs, place_asks, relation_asks, was_asked, way_asks}
+use Rattle.update_step.specs.Gather.{AlongWay, AreAsked, AroundNode, AtNode, Gathered, IsRight, OfKey, form_asks, known_in, lister_asks, member_asks, needs, place_asks, relation_asks, was_asked, way_asks}
 use Rattle.update_step.proofs.Asking.{asked-back, asked-front}
 
 all_pushed : (P : KeyOf → Type 0) (keys : List KeyOf) (key : KeyOf) → AllByRecursion P keys → P key → AllByRecursion P (keys ++ key ∷ [])

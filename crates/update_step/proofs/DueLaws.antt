@@ -1,6 +1,6 @@
 -- The tiles that rows of keys make due are those that the tables do.
-use Rattle.std.proofs.Common.{◌≡◌, ◌<◌, ◌≤◌, ℕ, zero, suc, ◌+◌, Bool, true, false, not, ◌&&◌, ◌||◌, List, [], ◌∷◌, ◌++◌, length, Option, Some, None, refl, sym, ap, subst, ◌∙◌, arith, inl, inr, ◌⊎◌}
-use mathlib.Core.Bool.{false≢true, true≢false}
+use Rattle.std.proofs.Common.{◌≡◌, ◌<◌, ◌≤◌, ℕ, zero, suc, ◌+◌, Bool, true, false, not, ◌&&◌, ◌||◌, List, [], ◌∷◌, ◌++◌, length, Option, Some, None, refl, sym, ap, ◌∙◌, arith, inl, inr, ◌⊎◌}
+use mathlib.Core.Bool.{false≢true}
 use Rattle.std.specs.Cmp.{Equal-is}
 use Rattle.std.specs.declared.cmp.Ordering.{Ordering}
 use Rattle.std.specs.FinMap as finite
@@ -23,7 +23,7 @@ use Rattle.store_maps.specs.Delta.{RowsAt, row_in}
 use Rattle.store_maps.specs.SameRows.{same_found}
 use Rattle.store_maps.proofs.RowEquality.{same_found-itself}
 use Rattle.tile_cover.specs.Table.{BoundsOf}
-use Rattle.update_step.specs.Due.{differs_at, due_of, is_due_at, is_due_in, is_due_key, met_under}
+use Rattle.update_step.specs.Due.{differs_at, due_of, is_due_at, is_due_key, met_under}
 
 alike : (a b : Bool) → (a ≡ true → b ≡ true) → (b ≡ true → a ≡ true) → a ≡ b
 alike true b one other = sym (one refl)

@@ -1,5 +1,5 @@
 -- The entries of a change, one by one.
-use Rattle.std.proofs.Common.{◌≡◌, ◌<◌, ℕ, zero, suc, List, [], ◌∷◌, length, take, slice_index_or, Option, Some, None, refl, sym, subst, arith}
+use Rattle.std.proofs.Common.{◌≡◌, ◌<◌, ℕ, zero, suc, List, [], ◌∷◌, length, take, slice_index_or, Option, Some, None, sym, subst, arith}
 use Rattle.osm_base.specs.declared.values.object.Entry.{Entry}
 use Rattle.osm_base.specs.values.Key.{KeyOf}
 use Rattle.object_fold.specs.Change.{IsChange, IsProper, RiseFrom}

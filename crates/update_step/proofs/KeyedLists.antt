@@ -1,6 +1,5 @@
 -- Lists of rows beside the keys to which they belong, and numbers of tables.
 use Rattle.std.proofs.Common.{◌≡◌, ◌≢◌, ◌<◌, ℕ, zero, suc, ◌+◌, Bool, true, false, ◌||◌, List, [], ◌∷◌, ◌++◌, add-one, append_assoc, drop, get_or, length, map, take, Option, Some, None, refl, sym, ap, subst, ◌∙◌, arith, nat_eq}
-use mathlib.Core.Bool.{false≢true}
 use Rattle.std.specs.Prelude.{IsTrue, if◌then◌else◌}
 use Rattle.std.specs.List.{AllByRecursion, cons_option, filter_map, flat_map, fold, list_any, range_with_len}
 use Rattle.std.proofs.lemmas.List.Sums.{fold_more}

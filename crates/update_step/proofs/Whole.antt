@@ -1,5 +1,5 @@
 -- A change, whole: its delta and the tiles that it makes due.
-use Rattle.std.proofs.Common.{◌≡◌, ◌≤◌, ℕ, false, List, length, None, refl, sym, ap, ◌∙◌}
+use Rattle.std.proofs.Common.{◌≡◌, ◌≤◌, ℕ, false, List, length, sym, ap, ◌∙◌}
 use Rattle.std.specs.FinMap as finite
 use Rattle.std.specs.List.{list_any}
 use Rattle.std.specs.Ordering.{eq_by_cmp}
@@ -11,7 +11,7 @@ use Rattle.osm_base.specs.values.Key.{KeyOf}
 use Rattle.osm_base.specs.values.KeyOrder.{key_cmp}
 use Rattle.style_read.specs.Style.{StyleOf}
 use Rattle.row_map.specs.Material.{material_of}
-use Rattle.row_map.specs.Row.{row, tables}
+use Rattle.row_map.specs.Row.{tables}
 use Rattle.row_map.specs.Rows.{rows_in}
 use Rattle.row_map.proofs.TableMap.{get-tables}
 use Rattle.dep_closure.specs.PendingSet.{IsPendingOf, LeavesRows}

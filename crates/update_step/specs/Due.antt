@@ -1,7 +1,7 @@
 -- The tiles that a change of the objects makes due.
 -- osm2pgsql manual, "Tile Expiry": a tile expires where an object that was added, changed or deleted touches it, as the object was and
 -- as it is. A row that is there before and not equally after counts, and so does one that is there after and not equally before.
-use Rattle.std.specs.Prelude.{ℕ, Bool, false, not, ◌&&◌, ◌||◌, List, ◌++◌, length, slice_get, Option, None, Some}
+use Rattle.std.specs.Prelude.{ℕ, Bool, false, not, ◌&&◌, ◌||◌, List, ◌++◌, length, slice_get, Option, Some}
 use Rattle.std.specs.List.{list_any, range_with_len}
 use Rattle.std.specs.FinMap as finite
 use Rattle.osm_base.specs.declared.values.row.Row.{Row}

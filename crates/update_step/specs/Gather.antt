@@ -2,7 +2,6 @@
 -- osm2pgsql manual, "Updating an Existing Database": an object that is processed again is read with all that its rows depend on: the nodes of
 -- a way, the ways of a relation, and the relations that it is a member of.
 use Rattle.std.specs.Prelude.{◌≡◌, ℕ, Bool, true, List, [], ◌∷◌, ◌++◌, map, if◌then◌else◌, Option, None, Some}
-use Rattle.std.specs.BTreeMap.{BTreeMap}
 use Rattle.std.specs.FinMap as finite
 use Rattle.std.specs.List.{AllByRecursion, flat_map}
 use Rattle.std.specs.Option.{is_some, unwrap_or}

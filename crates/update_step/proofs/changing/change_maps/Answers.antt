@@ -1,12 +1,10 @@
-use Rattle.std.proofs.Common.{◌≡◌, ◌≤◌, ◌||◌, ℕ, Bool, List, length, sym, subst, ap, ◌∙◌, arith}
+use Rattle.std.proofs.Common.{◌≤◌, ◌||◌, ℕ, Bool, List, sym, subst, ap, ◌∙◌, arith}
 use Rattle.std.specs.FinMap as finite
 use Rattle.osm_base.specs.declared.values.row.RowChange.{RowChange}
 use Rattle.osm_base.specs.map.Objects.{ObjectSet, folded_all}
-use Rattle.osm_base.specs.map.Pending.{PendingOf}
 use Rattle.row_map.specs.Condition.{reaches_nodes}
 use Rattle.row_map.specs.Row.{tables}
 use Rattle.row_map.specs.Rows.{rows_in}
-use Rattle.dep_closure.specs.PendingSet.{size}
 use Rattle.geom_workers.specs.Keys.{keys_of}
 use Rattle.tile_cover.specs.Runs.{has}
 use Rattle.store_maps.specs.Append.{appended}

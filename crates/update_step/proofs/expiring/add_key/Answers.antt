@@ -1,4 +1,4 @@
-use Rattle.std.proofs.Common.{◌≡◌, ◌||◌, Bool, sym, ap, ◌∙◌}
+use Rattle.std.proofs.Common.{◌||◌, Bool, sym, ap, ◌∙◌}
 use Rattle.std.specs.List.{list_any, range_with_len}
 use Rattle.tile_cover.specs.Runs.{has}
 use Rattle.update_step.specs.Due.{is_due_in}

@@ -1,4 +1,4 @@
-use Rattle.std.proofs.Common.{rules, ◌≡◌, [], ◌∷◌, ap, ◌∙◌, sym, subst}
+use Rattle.std.proofs.Common.{rules, ◌≡◌, [], ◌∷◌, sym, subst}
 use Rattle.osm_base.specs.values.Key.{KeyOf, relation_key}
 use Rattle.store_maps.specs.Named.{known_on}
 use Rattle.update_step.specs.Gather.{Gathered, Gathers, OfKey, gathered_in}

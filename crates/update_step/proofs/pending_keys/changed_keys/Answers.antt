@@ -1,11 +1,7 @@
-use Rattle.std.proofs.Common.{◌≡◌, ℕ, false, fold, sym, subst}
-use Rattle.std.specs.FinMap as finite
+use Rattle.std.proofs.Common.{sym, subst}
 use Rattle.osm_base.specs.map.Objects.{ObjectSet, folded_all}
-use Rattle.osm_base.specs.map.Pending.{PendingOf}
 use Rattle.row_map.specs.Condition.{reaches_nodes}
-use Rattle.dep_closure.specs.PendingSet.{AreTooMany, HasOldForms, IsPendingOf}
-use Rattle.store_maps.specs.Maps.{Maps}
-use Rattle.store_maps.specs.Stands.{StandsOn}
+use Rattle.dep_closure.specs.PendingSet.{HasOldForms}
 use Rattle.store_maps.specs.Step.{change_on}
 use Rattle.store_maps.proofs.IndexLaws.{ways_are_there}
 use Rattle.store_maps.proofs.ObjectMaps.{entries_stand}

@@ -2,7 +2,6 @@ use Rattle.std.proofs.Common.{◌≡◌, ℕ, false, sym, subst}
 use Rattle.osm_base.specs.map.Known.{Index}
 use Rattle.osm_base.specs.map.Listers.{index_of}
 use Rattle.osm_base.specs.map.Objects.{ObjectSet, folded_all}
-use Rattle.osm_base.specs.map.Pending.{PendingOf}
 use Rattle.row_map.specs.Condition.{reaches_nodes}
 use Rattle.dep_closure.specs.PendingSet.{AreTooMany, HasOldForms, IsPendingOf, OfKnown}
 use Rattle.store_maps.specs.Maps.{Maps}

@@ -1,4 +1,3 @@
-use Rattle.std.proofs.Common.{◌≡◌}
 use Rattle.update_step.proofs.KeyedLists.{found_here, found_later}
 use Rattle.update_step.proofs.telling.find_row.Goals as goal
 
