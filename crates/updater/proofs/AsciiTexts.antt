@@ -16,8 +16,11 @@ use Rattle.opl_object.specs.declared.why.Why.{Why}
 use Rattle.opl_object.specs.declared.why.Why.TheVariants as causes
 use Rattle.opl_object.specs.Why.{number_of}
 use Rattle.updater.specs.declared.fault.Fault.{Fault}
-use Rattle.updater.specs.declared.fault.Fault.TheVariants.{Usage, Malformed, Limit, ReadFault, NotFormatted, NotEmpty, BadStore, WriteFault, DiskFault, OutOfMemory}
-use Rattle.updater.specs.Faults.{fault_text, kind_text, key_text, limit_text, order_text}
+use Rattle.updater.specs.declared.fault.Fault.TheVariants.{Usage, Malformed, BadStyle, BadBounds, Limit, ReadFault, NotFormatted, NotEmpty, NotImported, AlreadyImported, UnknownTable, BadStore, WriteFault, DiskFault, OutOfMemory}
+use Rattle.style_read.specs.declared.fault.StylePart.{StylePart}
+use Rattle.style_read.specs.declared.fault.StylePart.TheVariants as parts
+use Rattle.style_read.specs.Why.{number_of as style_number}
+use Rattle.updater.specs.Faults.{fault_text, kind_text, key_text, limit_text, order_text, part_text}
 
 IsAscii-cons : (byte : ℕ) (bytes : List ℕ) → byte < 128 → IsAscii bytes → IsAscii (byte ∷ bytes)
 IsAscii-cons byte bytes first others zero = first
@@ -91,11 +94,33 @@ IsAscii-malformed file line number =
     let of : IsAscii (codes "malformed file " ++ decimal file ++ codes " line " ++ decimal line ++ codes " cause ") = IsAscii-append (codes "malformed file " ++ decimal file ++ codes " line " ++ decimal line) (codes " cause ") in_line (IsAscii-words (codes " cause ") refl) in
     IsAscii-append (codes "malformed file " ++ decimal file ++ codes " line " ++ decimal line ++ codes " cause ") (decimal number) of (IsAscii-any_decimal number)
 
+-- words and a number, and then the same again
+IsAscii-two : (one other : List ℕ) (first second : ℕ) → IsAscii one → IsAscii other → IsAscii (one ++ decimal first ++ other ++ decimal second)
+IsAscii-two one other first second h k =
+    let in_one : IsAscii (one ++ decimal first) = IsAscii-append one (decimal first) h (IsAscii-any_decimal first) in
+    let at : IsAscii (one ++ decimal first ++ other) = IsAscii-append (one ++ decimal first) other in_one k in
+    IsAscii-append (one ++ decimal first ++ other) (decimal second) at (IsAscii-any_decimal second)
+
+IsAscii-part_text : (part : StylePart) → IsAscii (part_text part)
+IsAscii-part_text parts.Top = IsAscii-words (codes "top") refl
+IsAscii-part_text (parts.Selection number) = IsAscii-append (codes "selection ") (decimal number) (IsAscii-words (codes "selection ") refl) (IsAscii-any_decimal number)
+IsAscii-part_text (parts.Table number) = IsAscii-append (codes "table ") (decimal number) (IsAscii-words (codes "table ") refl) (IsAscii-any_decimal number)
+
+IsAscii-bad_style : (file number : ℕ) → IsAscii (codes "bad style file " ++ decimal file ++ codes " cause " ++ decimal number ++ codes " part ")
+IsAscii-bad_style file number = IsAscii-append (codes "bad style file " ++ decimal file ++ codes " cause " ++ decimal number) (codes " part ")
+    (IsAscii-two (codes "bad style file ") (codes " cause ") file number (IsAscii-words (codes "bad style file ") refl) (IsAscii-words (codes " cause ") refl))
+    (IsAscii-words (codes " part ") refl)
+
 IsAscii-fault_text : (fault : Fault) → IsAscii (fault_text fault)
 IsAscii-fault_text Usage = IsAscii-words (codes "usage") refl
 IsAscii-fault_text (Malformed file line why) =
     IsAscii-append (codes "malformed file " ++ decimal file ++ codes " line " ++ decimal line ++ codes " cause " ++ decimal (number_of why)) (order_text why)
     (IsAscii-malformed file line (number_of why)) (IsAscii-order_text why)
+IsAscii-fault_text (BadStyle file why part) =
+    IsAscii-append (codes "bad style file " ++ decimal file ++ codes " cause " ++ decimal (style_number why) ++ codes " part ") (part_text part)
+    (IsAscii-bad_style file (style_number why)) (IsAscii-part_text part)
+IsAscii-fault_text (BadBounds file line) =
+    IsAscii-two (codes "bad bounds file ") (codes " line ") file line (IsAscii-words (codes "bad bounds file ") refl) (IsAscii-words (codes " line ") refl)
 IsAscii-fault_text (Limit which value) =
     let name : IsAscii (codes "limit " ++ limit_text which) = IsAscii-append (codes "limit ") (limit_text which) (IsAscii-words (codes "limit ") refl) (IsAscii-limit_text which) in
     let before : IsAscii (codes "limit " ++ limit_text which ++ codes " value ") = IsAscii-append (codes "limit " ++ limit_text which) (codes " value ") name (IsAscii-words (codes " value ") refl) in
@@ -103,6 +128,9 @@ IsAscii-fault_text (Limit which value) =
 IsAscii-fault_text (ReadFault file) = IsAscii-append (codes "read fault file ") (decimal file) (IsAscii-words (codes "read fault file ") refl) (IsAscii-any_decimal file)
 IsAscii-fault_text NotFormatted = IsAscii-words (codes "not formatted") refl
 IsAscii-fault_text NotEmpty = IsAscii-words (codes "not empty") refl
+IsAscii-fault_text NotImported = IsAscii-words (codes "not imported") refl
+IsAscii-fault_text AlreadyImported = IsAscii-words (codes "already imported") refl
+IsAscii-fault_text UnknownTable = IsAscii-words (codes "unknown table") refl
 IsAscii-fault_text (BadStore page) = IsAscii-append (codes "bad store page ") (decimal page) (IsAscii-words (codes "bad store page ") refl) (IsAscii-any_decimal page)
 IsAscii-fault_text WriteFault = IsAscii-words (codes "write fault") refl
 IsAscii-fault_text DiskFault = IsAscii-words (codes "disk fault") refl

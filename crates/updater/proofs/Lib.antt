@@ -14,3 +14,7 @@ pub mod Turns
 pub mod RowMapLaws
 pub mod WayLaws
 pub mod TrimmedLaws
+pub mod BlameLaws
+pub mod SafeLaws
+pub mod HistoryLaws
+pub mod FileLaws

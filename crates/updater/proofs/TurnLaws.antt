@@ -1,103 +1,123 @@
--- A fault that names a file names the one whose turn it was.
-use Rattle.std.proofs.Common.{◌≡◌, ◌≤◌, ◌<◌, ◌+◌, ℕ, zero, suc, Some, List, [], ◌++◌, Result, Ok, ⊎_elim, inl, inr, refl, sym, ◌∙◌, subst, arith}
+-- A fault that names a file names the one whose turn it was, and has its cause.
+use Rattle.std.proofs.Common.{◌≡◌, ◌≢◌, ◌+◌, ℕ, Some, List, [], Result, Ok, Err, inl, inr, refl, sym, ◌∙◌, subst, arith}
 use Rattle.std.specs.Prelude.{IsOk}
-use Rattle.std.proofs.lemmas.Bool.{cases_lt}
 use Rattle.osm_base.specs.declared.values.object.Entry.{Entry}
-use Rattle.outside.specs.Bytes.{IfTold}
 use Rattle.updater.specs.declared.fault.Fault.{Fault}
 use Rattle.updater.specs.declared.fault.Fault.TheVariants as faults
 use Rattle.updater.specs.declared.files.Files.{Files}
-use Rattle.updater.specs.Comes.{Comes, BreaksIn, unread, short, refused, IsOfFile}
-use Rattle.updater.specs.Command.{CommandOf, points_of, lines_of, init_of, Names}
-use Rattle.updater.specs.Course.{Course, ends, writes}
-use Rattle.updater.specs.Courses.{course_of, gathers}
-use Rattle.updater.specs.Files.{change_in}
+use Rattle.updater.specs.Causes.{Cause, HasStore, MakesStore, OpensStore}
+use Rattle.updater.specs.Comes.{Comes}
+use Rattle.updater.specs.Command.{CommandOf, points_of, lines_of, init_of, files_of, Use, no_store, new_store, old_store, use_of}
+use Rattle.updater.specs.Courses.{course_of}
+use Rattle.updater.specs.Files.{IsChange}
 use Rattle.updater.specs.InTurn.{FaultNames, IsInTurn}
-use Rattle.updater.specs.Progress.{Progress, Ending, begun, at, at_file, past, IsIn}
-use Rattle.updater.specs.World.{Before}
+use Rattle.updater.specs.Leaves.{HasCause}
+use Rattle.updater.specs.Progress.{Standing, unused, unknown, Progress, Ending, begun}
+use Rattle.updater.specs.Reading.{Accepts, HasFault, ReadsFirst}
+use Rattle.updater.specs.Runs.{MayBegin}
+use Rattle.updater.specs.World.{Before, World}
+use Rattle.updater.proofs.BlameLaws.{Blame, IsUpTo, KeepsTo, Tells, Terms, comes_told, gathers_to}
+
+-- what makes a store has one
+pub owns_made : (way : Use) → way ≡ new_store → way ≢ no_store
+owns_made way makes none = absurd (let two : new_store ≡ no_store = sym makes ∙ none in cc)
+
+begins_with : (way : Use) (start : Progress) → MayBegin way start → (store : Standing) × (cut : ℕ) × (start ≡ begun store cut) × (store ≡ unknown → way ≡ old_store)
+begins_with no_store start is = (unused, 0, is, λ e. absurd (cc))
+begins_with new_store start is = (unused, 0, is, λ e. absurd (cc))
+begins_with old_store start (store, cut, is) = (store, cut, is, λ _. refl)
+
+-- the terms of a command
+abbrev pub terms_of : CommandOf → Terms
+terms_of command = record {
+  from = (files_of command).first;
+  end = (files_of command).first + (files_of command).count;
+  accepts = Accepts command;
+  faulty = HasFault command;
+  early = ReadsFirst command;
+  store = HasStore command;
+  makes = MakesStore command;
+  opening = OpensStore command;
+  owns = owns_made (use_of command);
+}
 
 is_ok : (A E : Type 0) (result : Result A E) (found : A) → result ≡ Ok found → IsOk result
 is_ok A E result found is = subst (λ (own : Result A E). IsOk own) (sym is) refl
 
--- an end whose fault names no file
-names_none : (ending own : Ending) (file : ℕ) (P : Type 0) → ending ≡ own → (FaultNames own.fault file → ⊥) → FaultNames ending.fault file → P
-names_none ending own file P is none names = absurd (none (subst (λ (end : Ending). FaultNames end.fault file) is names))
+-- each file of these commands holds changes
+points_change : (key : List ℕ) (files : Files) (file : ℕ) → ((bytes : List ℕ) (fault : Fault) → IsChange file bytes (Err fault) → HasFault (points_of key files) file bytes fault)
+    × ((bytes : List ℕ) (found : List Entry) → IsChange file bytes (Ok found) → Accepts (points_of key files) file bytes)
+points_change key files file = (λ bytes fault is. is, λ bytes found is. is_ok (List Entry) Fault _ found is)
 
-module _ (old : Before) (text_of : List Entry → List ℕ) where
-  abbrev written : List Entry → Course
-  written entries = writes (text_of entries) ends
+lines_change : (key : List ℕ) (files : Files) (file : ℕ) → ((bytes : List ℕ) (fault : Fault) → IsChange file bytes (Err fault) → HasFault (lines_of key files) file bytes fault)
+    × ((bytes : List ℕ) (found : List Entry) → IsChange file bytes (Ok found) → Accepts (lines_of key files) file bytes)
+lines_change key files file = (λ bytes fault is. is, λ bytes found is. is_ok (List Entry) Fault _ found is)
 
-  written_none : (text : List ℕ) (done : Progress) (ending : Ending) (file : ℕ) (P : Type 0) → Comes old (writes text ends) done ending → FaultNames ending.fault file → P
-  written_none text done ending file P (inl is) names = names_none ending _ file P is (λ h. h) names
-  written_none text done ending file P (inr (own, told, inl is)) names = names_none ending _ file P is (λ h. h) names
-  written_none text done ending file P (inr (own, told, inr is)) names = names_none ending _ file P is (λ h. h) names
+-- each command reads its files in turn
+keeps_to : (command : CommandOf) → KeepsTo (terms_of command) (files_of command).first (Unit {0}) (course_of command)
+keeps_to (points_of key files) =
+    gathers_to (terms_of (points_of key files)) (λ file low high. points_change key files file) files.first files.count (Unit {0}) [] _ (omega arith) refl (λ early. tt) (λ entries. tt)
+keeps_to (lines_of key files) =
+    gathers_to (terms_of (lines_of key files)) (λ file low high. lines_change key files file) files.first files.count (Unit {0}) [] _ (omega arith) refl (λ early. tt) (λ entries. tt)
+keeps_to (init_of store) = (refl, (refl, (λ e. absurd (cc)), tt))
 
-  -- the file that is read is the one that is named
-  in_file : (file : ℕ) (done : Progress) (ending : Ending) (at : ℕ) → BreaksIn (List Entry) file (old.left file) (change_in file) done ending → FaultNames ending.fault at
-      → (fault : Fault) × (ending ≡ at_file file done fault) × (file ≡ at)
-  in_file file done ending at (unread is) names = (faults.ReadFault file, is, subst (λ (end : Ending). FaultNames end.fault at) is names)
-  in_file file done ending at (short is) names = names_none ending _ at _ is (λ h. h) names
-  in_file file done ending at (refused fault of_file told is) names = (fault, is, same file at fault of_file (subst (λ (end : Ending). FaultNames end.fault at) is names))
-    where
-      same : (file at : ℕ) (fault : Fault) → IsOfFile file fault → FaultNames (Some fault) at → file ≡ at
-      same file at (faults.Malformed own line why) of_file names = sym of_file ∙ names
-      same file at (faults.Limit which value) of_file names = absurd names
-      same file at faults.Usage of_file names = absurd names
-      same file at (faults.ReadFault own) of_file names = absurd of_file
-      same file at faults.NotFormatted of_file names = absurd names
-      same file at faults.NotEmpty of_file names = absurd names
-      same file at (faults.BadStore page) of_file names = absurd names
-      same file at faults.WriteFault of_file names = absurd names
-      same file at faults.DiskFault of_file names = absurd names
-      same file at faults.OutOfMemory of_file names = absurd names
+-- before anything is done
+none_done : (command : CommandOf) (old : Before) (store : Standing) (cut : ℕ) → (store ≡ unknown → OpensStore command) → IsUpTo (terms_of command) old (files_of command).first (Unit {0}) (begun store cut)
+none_done command old store cut opening = record {
+  low = omega arith;
+  high = omega arith;
+  read = λ other from less. absurd (omega (arith, from, less));
+  accepted = λ other from less. absurd (omega (arith, from, less));
+  only = λ other read. absurd read;
+  unwritten = λ _. refl;
+  vague = λ un bytes told. opening un;
+}
 
-  module _ (command : CommandOf) (first end : ℕ) (named : (other : ℕ) → Names command other → first ≤ other) (among : (other : ℕ) → first ≤ other → other < end → Names command other) where
-    turn_at : (file : ℕ) (done : Progress) (ending : Ending) (fault : Fault) → ending ≡ at_file file done fault → first ≤ file → file < end
-        → ((other : ℕ) → first ≤ other → other < file → IsIn done.read other) → ((other : ℕ) → first ≤ other → other < file → IfTold (old.left other) (λ bytes. IsOk (change_in other bytes)))
-        → ((other : ℕ) → file ≤ other → ¬ IsIn done.read other) → done.written ≡ [] → IsInTurn command old ending file
-    turn_at file done ending fault is low high read accepted untouched unwritten = subst (λ (own : Ending). IsInTurn command old own file) (sym is) (record {
-      named = among file low high;
-      reading = refl;
-      read = λ other names less. read other (named other names) less;
-      accepted = λ other names less. accepted other (named other names) less;
-      untouched = untouched;
-      unwritten = unwritten;
-      unbegun = refl;
-    })
+-- what the end of a command tells
+pub told_of : (command : CommandOf) (old : Before) (store : Standing) (cut : ℕ) (ending : Ending) → (store ≡ unknown → OpensStore command) → Comes old (course_of command) (begun store cut) ending
+    → Tells (terms_of command) old ending
+told_of command old store cut ending opening comes =
+    comes_told (terms_of command) old (course_of command) (files_of command).first (Unit {0}) (begun store cut) ending (keeps_to command) (none_done command old store cut opening) comes
 
-    -- files that are gathered, from this one on
-    gathers_turn : (file count : ℕ) (entries : List Entry) (done : Progress) (ending : Ending) (at : ℕ) → first ≤ file → file + count ≡ end
-        → ((other : ℕ) → first ≤ other → other < file → IsIn done.read other) → ((other : ℕ) → first ≤ other → other < file → IfTold (old.left other) (λ bytes. IsOk (change_in other bytes)))
-        → ((other : ℕ) → file ≤ other → ¬ IsIn done.read other) → done.written ≡ []
-        → Comes old (gathers file count entries written) done ending → FaultNames ending.fault at → IsInTurn command old ending at
-    unfolding gathers
-    gathers_turn file zero entries done ending at low all read accepted untouched unwritten comes names = written_none (text_of entries) done ending at _ comes names
-    gathers_turn file (suc count) entries done ending at low all read accepted untouched unwritten (inl breaks) names =
-        let own = in_file file done ending at breaks names in
-        subst (IsInTurn command old ending) own.2 (turn_at file done ending own.0 own.1 low (omega (arith, all)) read accepted untouched unwritten)
-    gathers_turn file (suc count) entries done ending at low all read accepted untouched unwritten (inr (found, told, comes)) names =
-        gathers_turn (file + 1) count (entries ++ found) (past file done) ending at (omega (arith, low)) (omega (arith, all))
-        (λ other from less. ⊎_elim (λ (below : other < file). inr (read other from below)) (λ (above : file ≤ other). inl (omega (arith, above, less))) (cases_lt other file))
-        (λ other from less. ⊎_elim (λ (below : other < file). accepted other from below)
-        (λ (above : file ≤ other). let same : file ≡ other = omega (arith, above, less) in
-        subst (λ (own : ℕ). IfTold (old.left own) (λ bytes. IsOk (change_in own bytes))) same (λ bytes is. is_ok (List Entry) Fault (change_in file bytes) found (told bytes is))) (cases_lt other file))
-        (λ other above in_it. ⊎_elim (λ (same : other ≡ file). omega (arith, above, same)) (λ in_done. untouched other (omega (arith, above)) in_done) in_it) unwritten comes names
+-- the file that is named is the one that comes next
+pub in_turn : (command : CommandOf) (old : Before) (store : Standing) (cut : ℕ) (ending : Ending) (file : ℕ) → (store ≡ unknown → OpensStore command) → Comes old (course_of command) (begun store cut) ending
+    → FaultNames ending.fault file → IsInTurn command old ending file
+in_turn command old store cut ending file opening comes names =
+    let told = told_of command old store cut ending opening comes in
+    let reading = told.names file names in
+    let next = told.reading file (sym reading) in
+    record {
+      named = (omega (arith, next.same, told.up_to.low), omega (arith, next.same, next.within));
+      reading = reading;
+      read = λ other own less. told.up_to.read other own.0 (omega (arith, next.same, less));
+      accepted = λ other own less. told.up_to.accepted other own.0 (omega (arith, next.same, less));
+      untouched = λ other above read. omega (arith, next.same, above, (told.up_to.only other read).1);
+      unwritten = next.unwritten;
+      unbegun = next.unbegun;
+    }
 
-  text_turn : (command : CommandOf) (files : Files) → ((other : ℕ) → Names command other → files.first ≤ other) → ((other : ℕ) → files.first ≤ other → other < files.first + files.count → Names command other)
-      → (ending : Ending) (at : ℕ) → Comes old (gathers files.first files.count [] written) begun ending → FaultNames ending.fault at → IsInTurn command old ending at
-  text_turn command files named among ending at comes names =
-      gathers_turn command files.first (files.first + files.count) named among files.first files.count [] begun ending at (omega arith) refl
-      (λ other from less. absurd (omega (arith, from, less))) (λ other from less. absurd (omega (arith, from, less))) (λ other above in_it. in_it) refl comes names
+-- whatever the beginning of the command
+pub in_turn_from : (command : CommandOf) (old : Before) (start : Progress) (ending : Ending) (file : ℕ) → MayBegin (use_of command) start → Comes old (course_of command) start ending
+    → FaultNames ending.fault file → IsInTurn command old ending file
+in_turn_from command old start ending file begins comes names =
+    let from = begins_with (use_of command) start begins in
+    in_turn command old from.0 from.1 ending file from.3 (subst (λ (own : Progress). Comes old (course_of command) own ending) from.2 comes) names
 
-init_none : (old : Before) (store : List ℕ) (ending : Ending) (file : ℕ) (P : Type 0) → Comes old (course_of (init_of store)) begun ending → FaultNames ending.fault file → P
-init_none old store ending file P (inl is) names = names_none ending _ file P is (λ h. h) names
-init_none old store ending file P (inr (inl (told, is))) names = names_none ending _ file P is (λ h. h) names
-init_none old store ending file P (inr (inr (told, inl is))) names = names_none ending _ file P is (λ h. h) names
-init_none old store ending file P (inr (inr (told, inr (inl is)))) names = names_none ending _ file P is (λ h. h) names
-init_none old store ending file P (inr (inr (told, inr (inr is)))) names = names_none ending _ file P is (λ h. h) names
-
--- of each command
-pub in_turn : (command : CommandOf) (old : Before) (ending : Ending) (file : ℕ) → Comes old (course_of command) begun ending → FaultNames ending.fault file → IsInTurn command old ending file
-in_turn (points_of key files) old ending file comes names = text_turn old _ (points_of key files) files (λ other names. names.0) (λ other low high. (low, high)) ending file comes names
-in_turn (lines_of key files) old ending file comes names = text_turn old _ (lines_of key files) files (λ other names. names.0) (λ other low high. (low, high)) ending file comes names
-in_turn (init_of store) old ending file comes names = init_none old store ending file _ comes names
+-- the cause of a fault, by what the words and bytes show and the call that failed
+pub cause_of : (command : CommandOf) (old : Before) (new : World) (own : Fault) → Blame (terms_of command) old (Some own) → HasCause old new (Some own) → Cause command old new own
+cause_of command old new faults.Usage blame failed = blame
+cause_of command old new (faults.Malformed file line why) blame failed = ((blame.0, blame.1), blame.2)
+cause_of command old new (faults.BadStyle file why part) blame failed = ((blame.0, blame.1), blame.2)
+cause_of command old new (faults.BadBounds file line) blame failed = ((blame.0, blame.1), blame.2)
+cause_of command old new (faults.Limit which value) (inl over) failed = inl over
+cause_of command old new (faults.Limit which value) (inr (file, (low, high, told))) failed = inr (file, ((low, high), told))
+cause_of command old new (faults.ReadFault file) blame failed = (blame, failed)
+cause_of command old new faults.NotFormatted blame failed = blame
+cause_of command old new faults.NotEmpty blame failed = blame
+cause_of command old new faults.NotImported blame failed = blame
+cause_of command old new faults.AlreadyImported blame failed = blame
+cause_of command old new faults.UnknownTable blame failed = blame
+cause_of command old new (faults.BadStore page) blame failed = blame
+cause_of command old new faults.WriteFault blame failed = failed
+cause_of command old new faults.DiskFault blame failed = (blame, failed)
+cause_of command old new faults.OutOfMemory blame failed = tt

@@ -20,18 +20,18 @@ use Rattle.object_fold.specs.Stops.{Stops}
 use Rattle.updater.specs.declared.fault.Fault.{Fault}
 use Rattle.updater.specs.declared.fault.Fault.TheVariants as faults
 use Rattle.updater.specs.Comes.{Comes, BreaksIn, unread, short, refused}
-use Rattle.updater.specs.Course.{Course, ends, reads, writes}
+use Rattle.updater.specs.Course.{Course, ends, reads, writes_text}
 use Rattle.updater.specs.Courses.{gathers}
-use Rattle.updater.specs.Files.{fault_in, of_file, change_in}
+use Rattle.updater.specs.Files.{IsChange, fault_in, of_file, change_in}
 use Rattle.updater.specs.Leaves.{Leaves, StandsOn, HasCause}
-use Rattle.updater.specs.Progress.{Standing, Ending, begun, at, at_file, at_text, past, plus, IsIn}
+use Rattle.updater.specs.Progress.{Standing, unused, Ending, begun, at, at_file, at_text, past, plus, IsIn}
 use Rattle.updater.specs.Runs.{GoesBy}
 use Rattle.updater.specs.Turns.{IsTurn}
 use Rattle.updater.specs.World.{World, world, Before, remembered, Took, GrewBy}
 use Rattle.updater.proofs.Deeds.{took_nothing, took_all, took_front}
 
 gathers-step : (file left count : ℕ) (entries : List Entry) (rest : List Entry → Course) → left ≡ suc count
-    → gathers file left entries rest ≡ reads file (change_in file) (λ more. gathers (file + 1) count (entries ++ more) rest)
+    → gathers file left entries rest ≡ reads file (IsChange file) (λ more. gathers (file + 1) count (entries ++ more) rest)
 unfolding gathers
 gathers-step file left count entries rest is = ap (λ n. gathers file n entries rest) is
 
@@ -97,11 +97,11 @@ module _ {K : Type 0} (after : K → Entry → K) (start : K) (rest : List Entry
   -- nothing is read yet
   pub first_turn : (file left : ℕ) (now : K) → now ≡ start → course ≡ gathers file left [] rest → Turn file left now files
   first_turn file left now none is = record {
-    done = begun;
+    done = begun unused 0;
     entries = [];
     untouched = refl;
     unwritten = refl;
-    leads_back = λ ending comes. subst (λ (own : Course). Comes old own begun ending) (sym is) comes;
+    leads_back = λ ending comes. subst (λ (own : Course). Comes old own (begun unused 0) ending) (sym is) comes;
     made = λ _. none;
     unread = λ other _ h. h;
     at_end = λ other h. absurd h;
@@ -117,7 +117,7 @@ module _ {K : Type 0} (after : K → Entry → K) (start : K) (rest : List Entry
     elsewhere : (other : ℕ) → IsIn turn.done.read other → new.left other ≡ between.left other
     elsewhere other read = others other (λ same. turn.unread file (omega arith) (subst (IsIn turn.done.read) same read))
 
-    leads : (ending : Ending) → Comes old (reads file (change_in file) (λ more. gathers (file + 1) count (turn.entries ++ more) rest)) turn.done ending → Comes old course begun ending
+    leads : (ending : Ending) → Comes old (reads file (IsChange file) (λ more. gathers (file + 1) count (turn.entries ++ more) rest)) turn.done ending → Comes old course (begun unused 0) ending
     leads ending comes = turn.leads_back ending (subst (λ (own : Course). Comes old own turn.done ending) (sym (gathers-step file left count turn.entries rest many)) comes)
 
     -- one file more is read
@@ -140,7 +140,7 @@ module _ {K : Type 0} (after : K → Entry → K) (start : K) (rest : List Entry
         }
 
     breaks : (fault : FileFault) → Stops (IsFaultOf standard (files.left file)) (Rose between.faults new.faults) fault
-        → BreaksIn (List Entry) file (files.left file) (change_in file) turn.done (at_file file turn.done (fault_in file fault))
+        → BreaksIn (List Entry) file (files.left file) (IsChange file) turn.done (at_file file turn.done (fault_in file fault))
     breaks (file_faults.Malformed line why) h = refused (faults.Malformed file line why) refl (of_told file (file_faults.Malformed line why) (files.left file) h) refl
     breaks (file_faults.Limit which value) h = refused (faults.Limit which value) tt (of_told file (file_faults.Limit which value) (files.left file) h) refl
     breaks file_faults.ReadFault h = unread refl
@@ -148,7 +148,7 @@ module _ {K : Type 0} (after : K → Entry → K) (start : K) (rest : List Entry
 
     -- the run ends in this file
     pub ends_in_file : (fault : FileFault) → Stops (IsFaultOf standard (between.left file)) (Rose between.faults new.faults) fault
-        → GoesBy course (Some (fault_in file fault)) (world files disk output) (world new disk output)
+        → GoesBy course (begun unused 0) (Some (fault_in file fault)) (world files disk output) (world new disk output)
     ends_in_file fault stops =
         let at_old = subst (λ (told : Option (List ℕ)). Stops (IsFaultOf standard told) (Rose between.faults new.faults) fault) here stops in (
           at_file file turn.done (fault_in file fault),
@@ -159,6 +159,7 @@ module _ {K : Type 0} (after : K → Entry → K) (start : K) (rest : List Entry
             at_end = λ other read bytes told. elsewhere other read ∙ turn.at_end other read bytes told;
             others = λ other not elsewhere. others other (λ same. elsewhere (ap Some same)) ∙ turn.others other not;
             store = subst (λ (store : Standing). StandsOn (Some (fault_in file fault)) store old disk) (sym turn.untouched) refl;
+            moments = tt;
             cause = file_cause old (world new disk output) file fault (IsFaultOf standard (files.left file)) (Rose between.faults new.faults)
                 (λ rose. rose_later files.faults between.faults new.faults turn.later rose) at_old;
             reads = omega (arith, turn.later, later);
@@ -168,27 +169,28 @@ module _ {K : Type 0} (after : K → Entry → K) (start : K) (rest : List Entry
         )
 
   module _ (file left : ℕ) (none : left ≡ 0) (now : K) (between : FilesView) (turn : Turn file left now between) where
-    pub leads_on : (ending : Ending) → Comes old (rest turn.entries) turn.done ending → Comes old course begun ending
+    pub leads_on : (ending : Ending) → Comes old (rest turn.entries) turn.done ending → Comes old course (begun unused 0) ending
     leads_on ending comes = turn.leads_back ending (subst (λ (own : Course). Comes old own turn.done ending) (sym (gathers-none file left turn.entries rest none)) comes)
 
 -- a run that writes a text of the entries of all its files
 module _ {K : Type 0} (after : K → Entry → K) (start : K) (text_of : List Entry → List ℕ) (made_text : K → List ℕ) (law : (entries : List Entry) → made_text (fold after start entries) ≡ text_of entries)
     (course : Course) (files : FilesView) (disk : DiskView) (output : SinkView) (file left : ℕ) (none : left ≡ 0) (now : K) (between : FilesView)
-    (turn : IsTurn after start (λ entries. writes (text_of entries) ends) course file left (remembered (world files disk output)) now between) where
+    (turn : IsTurn after start (λ entries. writes_text (text_of entries) ends) course file left (remembered (world files disk output)) now between) where
   abbrev before : Before
   before = remembered (world files disk output)
 
-  leads_text : (ending : Ending) → Comes before (writes (text_of turn.entries) ends) turn.done ending → Comes before course begun ending
-  leads_text ending comes = leads_on after start (λ entries. writes (text_of entries) ends) course files disk output file left none now between turn ending comes
+  leads_text : (ending : Ending) → Comes before (writes_text (text_of turn.entries) ends) turn.done ending → Comes before course (begun unused 0) ending
+  leads_text ending comes = leads_on after start (λ entries. writes_text (text_of entries) ends) course files disk output file left none now between turn ending comes
 
   leaves : (written half : List ℕ) (fault : Option Fault) (new : SinkView) → BothKnown output.taken new.taken (GrewBy written half)
       → HasCause before (world between disk new) fault → output.faults ≤ new.faults
-      → Leaves (record { done = record turn.done { written = written }; reading = None; writing = half; fault = fault }) before (world between disk new)
+      → Leaves (begun unused 0) (record { done = record turn.done { written = written }; reading = None; writing = half; fault = fault }) before (world between disk new)
   leaves written half fault new took cause later = record {
     output = took;
     at_end = turn.at_end;
     others = λ other not _. turn.others other not;
     store = subst (λ (store : Standing). StandsOn fault store before disk) (sym turn.untouched) refl;
+    moments = tt;
     cause = cause;
     reads = turn.later;
     writes = later;
@@ -199,8 +201,8 @@ module _ {K : Type 0} (after : K → Entry → K) (start : K) (text_of : List En
   from_none whole half new took = subst (λ (written : List ℕ). BothKnown output.taken new.taken (GrewBy (written ++ whole) half)) (sym turn.unwritten) took
 
   -- there is no memory for the text
-  pub ends_short : (fault : Option Fault) → fault ≡ Some faults.OutOfMemory → GoesBy course fault (world files disk output) (world between disk output)
-  ends_short fault is = subst (λ (own : Option Fault). GoesBy course own (world files disk output) (world between disk output)) (sym is) (
+  pub ends_short : (fault : Option Fault) → fault ≡ Some faults.OutOfMemory → GoesBy course (begun unused 0) fault (world files disk output) (world between disk output)
+  ends_short fault is = subst (λ (own : Option Fault). GoesBy course (begun unused 0) own (world files disk output) (world between disk output)) (sym is) (
     at turn.done (Some faults.OutOfMemory),
     refl,
     leads_text (at turn.done (Some faults.OutOfMemory)) (inl refl),
@@ -211,17 +213,17 @@ module _ {K : Type 0} (after : K → Entry → K) (start : K) (text_of : List En
   -- the text is written, or the output fails
   pub ends_told : (text : List ℕ) (new : SinkView) (result : Result (Unit {0}) Fault) → text ≡ made_text now → OnOk result (Appends output.taken new.taken text)
       → OnErr result (AppendsPrefix output.taken new.taken text) → IfErr result (λ fault. fault ≡ faults.WriteFault) → HasCauseOf output.faults new.faults result
-      → GoesBy course (result_err result) (world files disk output) (world between disk new)
+      → GoesBy course (begun unused 0) (result_err result) (world files disk output) (world between disk new)
   ends_told text new (Ok value) is all front alone cause = (
     at (plus text turn.done) None,
     refl,
-    leads_text (at (plus text turn.done) None) (inr (text, λ told. is ∙ ap made_text (turn.made told) ∙ law turn.entries, inr refl)),
+    leads_text (at (plus text turn.done) None) (inr (text, λ told _. is ∙ ap made_text (turn.made told) ∙ law turn.entries, inr refl)),
     leaves (turn.done.written ++ text) [] None new (from_none text [] new (took_all output.taken new.taken text all)) tt cause.later,
   )
   ends_told text new (Err fault) is all front alone cause = (
     at_text text turn.done faults.WriteFault,
     ap Some (sym alone),
-    leads_text (at_text text turn.done faults.WriteFault) (inr (text, λ told. is ∙ ap made_text (turn.made told) ∙ law turn.entries, inl refl)),
+    leads_text (at_text text turn.done faults.WriteFault) (inr (text, λ told _. is ∙ ap made_text (turn.made told) ∙ law turn.entries, inl refl)),
     leaves turn.done.written text (Some faults.WriteFault) new
         (subst (λ (written : List ℕ). BothKnown output.taken new.taken (GrewBy written text)) (sym turn.unwritten) (took_front output.taken new.taken text front)) cause.failed cause.later,
   )

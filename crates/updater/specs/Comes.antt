@@ -1,12 +1,21 @@
 -- To which endings a run on a course may come. Each deed of the course is done, or the run ends in it: for what the bytes that
 -- are told say, for a part of the outside that failed, or for want of memory.
-use Rattle.std.specs.Prelude.{◌≡◌, ◌≢◌, ◌⊎◌, ℕ, List, length, Option, Some, None, Result, Ok, Err}
+use Rattle.std.specs.Prelude.{◌≡◌, ◌≢◌, ◌⊎◌, ◌≤◌, ℕ, List, length, Option, Some, None, Result, Ok, Err}
 use Rattle.outside.specs.Bytes.{IfTold, IsTold}
+use Rattle.page_journal.specs.Home.{IsFormatted}
 use Rattle.updater.specs.declared.fault.Fault.{Fault}
-use Rattle.updater.specs.declared.fault.Fault.TheVariants.{Malformed, Limit, ReadFault, NotEmpty, WriteFault, DiskFault, OutOfMemory}
-use Rattle.updater.specs.Course.{Course, ends, reads, wants_empty, formats, tells, writes}
-use Rattle.updater.specs.History.{fresh}
-use Rattle.updater.specs.Progress.{Standing, unused, keeps, half_made, Progress, Ending, at, at_file, at_text, past, plus, with_store, IsIn}
+use Rattle.updater.specs.declared.fault.Fault.TheVariants.{Malformed, BadStyle, BadBounds, Limit, ReadFault, NotFormatted, NotEmpty, WriteFault, DiskFault, OutOfMemory}
+use Rattle.osm_base.specs.bounds.Limits.{standard}
+use Rattle.page_journal.specs.declared.fault.StoreFault.TheVariants as stores
+use Rattle.update_flow.specs.History.{state_after}
+use Rattle.update_flow.specs.Refusals.{OrFull, Refuses}
+use Rattle.update_flow.specs.State.{State, Step}
+use Rattle.update_flow.specs.declared.fault.FlowFault.{FlowFault}
+use Rattle.update_flow.specs.declared.fault.FlowFault.TheVariants as flow
+use Rattle.updater.specs.Course.{Course, ends, refuses, reads, wants_empty, formats, opens, looks, commits, tells, writes}
+use Rattle.updater.specs.Faults.{flow_fault}
+use Rattle.updater.specs.Keeps.{Kept, first}
+use Rattle.updater.specs.Progress.{Standing, unused, unknown, keeps, half_made, Progress, Ending, at, at_file, at_text, past, plus, with_store, made, opened, committed, in_doubt, IsIn}
 use Rattle.updater.specs.World.{Before}
 
 -- the disk was at most looked at, and this is so
@@ -14,9 +23,17 @@ abbrev pub IfUnused : Standing → Type 0 → Type 0
 IfUnused unused P = P
 IfUnused _ P = ⊥
 
+-- the disk keeps a history, of which this is so; or nothing is known of it, and that is so
+abbrev pub ByStore : Standing → (Kept → Type 0) → Type 0 → Type 0
+ByStore (keeps kept) P Q = P kept
+ByStore unknown P Q = Q
+ByStore _ P Q = ⊥
+
 -- a fault that the bytes of this file may have
 abbrev pub IsOfFile : ℕ → Fault → Type 0
 IsOfFile file (Malformed own line why) = own ≡ file
+IsOfFile file (BadStyle own why part) = own ≡ file
+IsOfFile file (BadBounds own line) = own ≡ file
 IsOfFile file (Limit which value) = Unit {0}
 IsOfFile file _ = ⊥
 
@@ -24,25 +41,78 @@ IsOfFile file _ = ⊥
 abbrev pub AreTold : Before → List ℕ → Type 0
 AreTold old read = (file : ℕ) → IsIn read file → IsTold (old.left file)
 
+-- what the store holds is not unknown
+abbrev pub IsCertain : Standing → Type 0
+IsCertain unknown = ⊥
+IsCertain _ = Unit {0}
+
 -- a run ends in the middle of this file: a read failed, memory ran out, or its bytes have a fault
-pub data BreaksIn (A : Type 0) (file : ℕ) (told : Option (List ℕ)) (parse : List ℕ → Result A Fault) (done : Progress) (ending : Ending) : Type 0 where
-  unread : ending ≡ at_file file done (ReadFault file) → BreaksIn A file told parse done ending
-  short : ending ≡ at_file file done OutOfMemory → BreaksIn A file told parse done ending
-  refused : (fault : Fault) → IsOfFile file fault → IfTold told (λ bytes. parse bytes ≡ Err fault) → ending ≡ at_file file done fault → BreaksIn A file told parse done ending
+pub data BreaksIn (A : Type 0) (file : ℕ) (told : Option (List ℕ)) (Reads : List ℕ → Result A Fault → Type 0) (done : Progress) (ending : Ending) : Type 0 where
+  unread : ending ≡ at_file file done (ReadFault file) → BreaksIn A file told Reads done ending
+  short : ending ≡ at_file file done OutOfMemory → BreaksIn A file told Reads done ending
+  refused : (fault : Fault) → IsOfFile file fault → IfTold told (λ bytes. Reads bytes (Err fault)) → ending ≡ at_file file done fault → BreaksIn A file told Reads done ending
+
+-- the disk failed, or memory ran out
+abbrev pub Breaks : Progress → Ending → Type 0
+Breaks done ending = (ending ≡ at done (Some DiskFault)) ⊎ (ending ≡ at done (Some OutOfMemory))
+
+-- nothing is known of the store, and this is so
+abbrev pub IfUnknown : Standing → Type 0 → Type 0
+IfUnknown unknown P = P
+IfUnknown _ P = ⊥
+
+-- the disk holds bytes, where it tells what it holds
+abbrev pub HoldsBytes : Before → Progress → Ending → Type 0
+HoldsBytes old done ending = IfTold old.content (λ bytes. length bytes ≢ 0) × (ending ≡ at done (Some NotEmpty))
+
+-- a disk of which nothing is known holds no store
+abbrev pub IsNoStore : Before → Progress → Ending → Type 0
+IsNoStore old done ending = IfTold old.content (λ bytes. ¬ IsFormatted bytes) × (ending ≡ at done (Some NotFormatted))
+
+-- a fault that tells of a damaged page
+abbrev pub IsBadStore : FlowFault → Type 0
+IsBadStore (flow.Store (stores.BadStore page)) = Unit {0}
+IsBadStore _ = ⊥
+
+-- a fault for which an open store may refuse a step, whatever it holds
+abbrev pub IsStepFault : FlowFault → Type 0
+IsStepFault (flow.Store (stores.BadStore page)) = Unit {0}
+IsStepFault (flow.Store (stores.StoreFull pages)) = Unit {0}
+IsStepFault (flow.Store _) = ⊥
+IsStepFault flow.OutOfMemory = ⊥
+IsStepFault _ = Unit {0}
+
+-- and for which one of this state refuses it
+abbrev pub IsRefusal : State → Step → FlowFault → Type 0
+IsRefusal state step fault = IsStepFault fault × OrFull standard (Some fault) (Refuses standard state step (Some fault))
+
+-- the run ends in a step that is refused for such a fault
+abbrev pub IsRefusedFor : (FlowFault → Type 0) → Progress → Ending → Type 0
+IsRefusedFor IsWhy done ending = (fault : FlowFault) × IsWhy fault × (ending ≡ at done (Some (flow_fault fault)))
 
 abbrev pub Comes : Before → Course → Progress → Ending → Type 0
 Comes old ends done ending = ending ≡ at done None
-Comes old (reads {A} file parse rest) done ending = BreaksIn A file (old.left file) parse done ending
-    ⊎ ((found : A) × IfTold (old.left file) (λ bytes. parse bytes ≡ Ok found) × Comes old (rest found) (past file done) ending)
+Comes old (refuses fault) done ending = ending ≡ at done (Some fault)
+Comes old (reads {A} file Reads rest) done ending = BreaksIn A file (old.left file) Reads done ending
+    ⊎ ((found : A) × IfTold (old.left file) (λ bytes. Reads bytes (Ok found)) × Comes old (rest found) (past file done) ending)
 Comes old (wants_empty rest) done ending = (ending ≡ at done (Some DiskFault))
-    ⊎ (IfTold old.content (λ bytes. length bytes ≢ 0) × (ending ≡ at done (Some NotEmpty)))
+    ⊎ HoldsBytes old done ending
     ⊎ (IfTold old.content (λ bytes. length bytes ≡ 0) × Comes old rest done ending)
-Comes old (formats rest) done ending =
-    IfUnused done.store ((ending ≡ at (with_store half_made done) (Some DiskFault)) ⊎ Comes old rest (with_store (keeps fresh) done) ending)
+Comes old (formats rest) done ending = IfUnused done.store (HoldsBytes old done ending
+    ⊎ (ending ≡ at (with_store half_made done) (Some DiskFault)) ⊎ Comes old rest (with_store (made old.content) done) ending)
+Comes old (opens rest) done ending = Breaks done ending ⊎ ByStore done.store
+    (λ kept. (cut : ℕ) × (kept.least ≤ cut) × (cut ≤ kept.most) × Comes old (rest (state_after (first cut kept.history))) (opened kept cut done) ending)
+    (IsNoStore old done ending ⊎ IsRefusedFor IsBadStore done ending ⊎ ((state : State) × Comes old (rest state) done ending))
+Comes old (looks rest) done ending = Breaks done ending ⊎ IfUnknown done.store (IsRefusedFor IsStepFault done ending) ⊎ Comes old rest done ending
+Comes old (commits step rest) done ending = Breaks done ending ⊎ ByStore done.store
+    (λ kept. (ending ≡ at (in_doubt step kept done) (Some DiskFault)) ⊎ IsRefusedFor (IsRefusal (state_after kept.history) step) done ending
+    ⊎ (Refuses standard (state_after kept.history) step None × Comes old rest (committed step kept done) ending))
+    (IsRefusedFor IsStepFault done ending ⊎ Comes old rest done ending)
 Comes old (tells text rest) done ending = (ending ≡ at_text text done WriteFault) ⊎ Comes old rest (plus text done) ending
--- what files that are not told hold is not known, and neither is their text
-Comes old (writes text rest) done ending = (ending ≡ at done (Some OutOfMemory))
-    ⊎ ((own : List ℕ) × (AreTold old done.read → own ≡ text) × ((ending ≡ at_text own done WriteFault) ⊎ Comes old rest (plus own done) ending))
+-- what files that are not told hold is not known, nor what an unknown store holds, and neither is their text
+Comes old (writes Fits rest) done ending = (ending ≡ at done (Some OutOfMemory))
+    ⊎ ((own : List ℕ) × (AreTold old done.read → IsCertain done.store → Fits own)
+    × ((ending ≡ at_text own done WriteFault) ⊎ Comes old rest (plus own done) ending))
 
 -- the fault blames the outside, or the want of memory
 abbrev pub IsOutside : Option Fault → Type 0
@@ -55,11 +125,21 @@ IsOutside _ = ⊥
 -- the end that is due: that to which a run comes if nothing outside fails and there is memory
 abbrev pub IsDue : Before → Course → Progress → Ending → Type 0
 IsDue old ends done ending = ending ≡ at done None
-IsDue old (reads {A} file parse rest) done ending =
-    ((fault : Fault) × IsOfFile file fault × IfTold (old.left file) (λ bytes. parse bytes ≡ Err fault) × (ending ≡ at_file file done fault))
-    ⊎ ((found : A) × IfTold (old.left file) (λ bytes. parse bytes ≡ Ok found) × IsDue old (rest found) (past file done) ending)
-IsDue old (wants_empty rest) done ending = (IfTold old.content (λ bytes. length bytes ≢ 0) × (ending ≡ at done (Some NotEmpty)))
+IsDue old (refuses fault) done ending = ending ≡ at done (Some fault)
+IsDue old (reads {A} file Reads rest) done ending =
+    ((fault : Fault) × IsOfFile file fault × IfTold (old.left file) (λ bytes. Reads bytes (Err fault)) × (ending ≡ at_file file done fault))
+    ⊎ ((found : A) × IfTold (old.left file) (λ bytes. Reads bytes (Ok found)) × IsDue old (rest found) (past file done) ending)
+IsDue old (wants_empty rest) done ending = HoldsBytes old done ending
     ⊎ (IfTold old.content (λ bytes. length bytes ≡ 0) × IsDue old rest done ending)
-IsDue old (formats rest) done ending = IfUnused done.store (IsDue old rest (with_store (keeps fresh) done) ending)
+IsDue old (formats rest) done ending = IfUnused done.store (HoldsBytes old done ending
+    ⊎ IsDue old rest (with_store (made old.content) done) ending)
+IsDue old (opens rest) done ending = ByStore done.store
+    (λ kept. (cut : ℕ) × (kept.least ≤ cut) × (cut ≤ kept.most) × IsDue old (rest (state_after (first cut kept.history))) (opened kept cut done) ending)
+    (IsNoStore old done ending ⊎ IsRefusedFor IsBadStore done ending ⊎ ((state : State) × IsDue old (rest state) done ending))
+IsDue old (looks rest) done ending = IfUnknown done.store (IsRefusedFor IsStepFault done ending) ⊎ IsDue old rest done ending
+IsDue old (commits step rest) done ending = ByStore done.store
+    (λ kept. IsRefusedFor (IsRefusal (state_after kept.history) step) done ending ⊎ (Refuses standard (state_after kept.history) step None × IsDue old rest (committed step kept done) ending))
+    (IsRefusedFor IsStepFault done ending ⊎ IsDue old rest done ending)
 IsDue old (tells text rest) done ending = IsDue old rest (plus text done) ending
-IsDue old (writes text rest) done ending = (own : List ℕ) × (AreTold old done.read → own ≡ text) × IsDue old rest (plus own done) ending
+IsDue old (writes Fits rest) done ending =
+    (own : List ℕ) × (AreTold old done.read → IsCertain done.store → Fits own) × IsDue old rest (plus own done) ending

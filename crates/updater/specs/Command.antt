@@ -10,7 +10,7 @@ use Rattle.updater.specs.commands.Init as init
 use Rattle.updater.specs.commands.Lines as lines
 use Rattle.updater.specs.commands.Points as points
 use Rattle.updater.specs.declared.words.TheConstants.{MAX_WORDS}
-pub use Rattle.updater.specs.CommandOf.{CommandOf, points_of, lines_of, init_of, seen, store_of, files_of, Names, Fit, FilesFit}
+pub use Rattle.updater.specs.CommandOf.{CommandOf, points_of, lines_of, init_of, seen, store_of, Use, no_store, new_store, old_store, use_of, files_of, Names, Fit, FilesFit}
 
 -- what remains from the first on that fails a test
 abbrev pub behind : {A : Type 0} → (A → Bool) → List A → List A

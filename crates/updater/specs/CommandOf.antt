@@ -21,6 +21,17 @@ abbrev pub store_of : Option CommandOf → Option (List ℕ)
 store_of (Some (init_of store)) = Some store
 store_of _ = None
 
+-- how a command takes its disk: it has none, it makes a store on it, or the store is there
+pub data Use : Type 0 where
+  no_store : Use
+  new_store : Use
+  old_store : Use
+
+abbrev pub use_of : CommandOf → Use
+use_of (points_of key files) = no_store
+use_of (lines_of key files) = no_store
+use_of (init_of store) = new_store
+
 -- the files that a command names, by the places of their words
 abbrev pub files_of : CommandOf → Files
 files_of (points_of key files) = files

@@ -1,21 +1,105 @@
 -- The commands: what each does, in order.
-use Rattle.std.specs.Prelude.{ℕ, zero, suc, ◌+◌, List, [], ◌++◌, codes}
+use Rattle.std.specs.Prelude.{◌≡◌, ℕ, zero, suc, ◌+◌, ◌-◌, Bool, true, false, List, [], ◌++◌, Option, Some, None, codes}
+use Rattle.std.specs.Fmt.{decimal}
 use Rattle.osm_base.specs.declared.values.object.Entry.{Entry}
+use Rattle.due_tiles.specs.TileText.{tile_text}
+use Rattle.row_map.specs.Row.{tables}
+use Rattle.row_text.specs.Table.{table_text}
+use Rattle.style_read.specs.Style.{StyleOf, table_of}
+use Rattle.tile_cover.specs.Runs.{has}
+use Rattle.tile_cover.specs.Table.{BoundsOf}
+use Rattle.tile_cover.specs.declared.runs.Run.{Run}
+use Rattle.update_flow.specs.Due.{Tiles}
+use Rattle.update_flow.specs.State.{Holding, State, formatted, imported, Import, Append, Clear, fresh, changed}
+use Rattle.updater.specs.declared.fault.Fault.TheVariants.{AlreadyImported, NotImported, UnknownTable}
+use Rattle.updater.specs.declared.files.Files.{Files}
 use Rattle.updater.specs.Command.{CommandOf, points_of, lines_of, init_of}
-use Rattle.updater.specs.Course.{Course, ends, reads, wants_empty, formats, tells, writes}
-use Rattle.updater.specs.Files.{change_in}
+use Rattle.updater.specs.Course.{Course, ends, refuses, reads, wants_empty, formats, looks, commits, tells, writes, writes_text}
+use Rattle.updater.specs.Files.{IsBounds, IsChange, IsStyle}
 use Rattle.updater.specs.commands.Lines.{lines_text_of}
 use Rattle.updater.specs.commands.Points.{points_text_of}
 
 -- the entries of so many files from this one on, one after another
 unfoldable pub gathers : (file count : ℕ) → List Entry → (List Entry → Course) → Course
 gathers file zero entries rest = rest entries
-gathers file (suc count) entries rest = reads file (change_in file) (λ more. gathers (file + 1) count (entries ++ more) rest)
+gathers file (suc count) entries rest = reads file (IsChange file) (λ more. gathers (file + 1) count (entries ++ more) rest)
 
 abbrev pub init_course : Course
 init_course = wants_empty (formats (tells (codes "formatted\n") ends))
 
+-- nothing may have been imported into the store before, or something must have been
+abbrev pub if_formatted : Course → State → Course
+if_formatted rest formatted = rest
+if_formatted rest (imported held) = refuses AlreadyImported
+
+abbrev pub if_imported : (Holding → Course) → State → Course
+if_imported rest formatted = refuses NotImported
+if_imported rest (imported held) = rest held
+
+-- the line that tells of so many changes
+abbrev pub version_line : ℕ → List ℕ
+version_line changes = codes "version " ++ decimal changes ++ codes "\n"
+
+-- a file is imported under a style, in one commit, and that is told
+abbrev pub imports : (style : StyleOf × List ℕ) → (buckets : ℕ) → (file : ℕ) → (Holding → Course) → Course
+imports style buckets file rest = reads file (IsChange file) (λ entries.
+    commits (Import style.0 style.1 buckets entries)
+    (tells (version_line 0)
+    (rest (fresh style.0 style.1 buckets entries))))
+
+-- a change file is read whole, appended in one commit, and told
+abbrev pub appends_one : BoundsOf → Holding → (file : ℕ) → (Holding → Course) → Course
+appends_one bounds held file rest = reads file (IsChange file) (λ change.
+    commits (Append bounds change)
+    (tells (version_line (held.changes + 1))
+    (rest (changed bounds change held))))
+
+-- so many change files from this one on, one after another
+unfoldable pub appends : BoundsOf → Holding → (file count : ℕ) → (Holding → Course) → Course
+appends bounds held file zero rest = rest held
+appends bounds held file (suc count) rest = appends_one bounds held file (λ next. appends bounds next (file + 1) count rest)
+
+-- the text of due tiles, from a least zoom on
+abbrev pub IsTileText : Tiles → (least : ℕ) → List ℕ → Type 0
+IsTileText due least text = (runs : List Run) × ((zoom x y : ℕ) → has runs zoom x y ≡ due zoom x y) × (text ≡ tile_text runs least)
+
+-- what comes when a version of the store was told: nothing, or change files
+pub data Onward : Type 0 where
+  finished : Onward
+  appending : (bounds : BoundsOf) → (file count : ℕ) → Onward → Onward
+
+abbrev pub onward : Onward → Holding → Course
+onward finished held = ends
+onward (appending bounds file count last) held = appends bounds held file count (onward last)
+
+-- the text of a table, where there is one of the name
+abbrev pub exports : Holding → Option ℕ → Course
+exports held None = refuses UnknownTable
+exports held (Some table) = looks (writes_text (table_text held.style (tables held.style held.objects) table) ends)
+
+-- no tile is due any more, where this is asked for
+abbrev pub clears : Bool → Course
+clears false = ends
+clears true = commits Clear ends
+
+-- the courses of commands over a store that is there, once it is open: an import, changes, a table, the tiles that are due
+abbrev pub import_into : Files → (buckets : ℕ) → State → Course
+import_into files buckets state = if_formatted
+    (reads files.first (IsStyle files.first) (λ style.
+    imports style buckets (files.first + 1) (onward finished))) state
+
+abbrev pub append_to : Files → State → Course
+append_to files state = if_imported (λ held.
+    reads files.first (IsBounds files.first) (λ bounds.
+    appends bounds held (files.first + 1) (files.count - 1) (onward finished))) state
+
+abbrev pub export_from : (table : List ℕ) → State → Course
+export_from table state = if_imported (λ held. exports held (table_of held.style.tables table)) state
+
+abbrev pub tiles_of_store : (least : ℕ) → (clear : Bool) → State → Course
+tiles_of_store least clear state = if_imported (λ held. looks (writes (IsTileText held.due least) (clears clear))) state
+
 abbrev pub course_of : CommandOf → Course
-course_of (points_of key files) = gathers files.first files.count [] (λ entries. writes (points_text_of key entries) ends)
-course_of (lines_of key files) = gathers files.first files.count [] (λ entries. writes (lines_text_of key entries) ends)
+course_of (points_of key files) = gathers files.first files.count [] (λ entries. writes_text (points_text_of key entries) ends)
+course_of (lines_of key files) = gathers files.first files.count [] (λ entries. writes_text (lines_text_of key entries) ends)
 course_of (init_of store) = init_course

@@ -1,12 +1,27 @@
--- What the bytes of a file of changes read as, and its fault as that of a run. A file is numbered by the place of its word.
-use Rattle.std.specs.Prelude.{ℕ, List, Result, Ok, Err}
+-- What the bytes of the files of a command are read as, and their faults as those of a run. A file is numbered by the place of its
+-- word.
+use Rattle.std.specs.Prelude.{◌≡◌, ◌≤◌, ◌<◌, ◌+◌, ℕ, List, length, Result, Ok, Err}
 use Rattle.osm_base.specs.bounds.Limits.{standard}
 use Rattle.osm_base.specs.declared.values.object.Entry.{Entry}
 use Rattle.object_fold.specs.Entries.{entries_of}
 use Rattle.object_fold.specs.declared.fault.FileFault.{FileFault}
 use Rattle.object_fold.specs.declared.fault.FileFault.TheVariants as file_faults
+use Rattle.object_fold.specs.declared.whole.WholeFault.{WholeFault}
+use Rattle.object_fold.specs.declared.whole.WholeFault.TheVariants as wholes
+use Rattle.opl_lines.specs.Lines.{lines_of}
+use Rattle.osm_base.specs.declared.bounds.limits.LimitKind.{LimitKind}
+use Rattle.osm_base.specs.declared.bounds.limits.LimitKind.TheVariants.{StyleBytes, BoundsBytes}
+use Rattle.style_read.specs.Reading.{reading}
+use Rattle.style_read.specs.Style.{StyleOf}
+use Rattle.style_read.specs.declared.fault.StyleFault.{StyleFault}
+use Rattle.style_read.specs.declared.fault.StyleFault.TheVariants as styles
+use Rattle.tile_cover.specs.Boundaries.{IsBadLine, IsTableOf, lats_of}
+use Rattle.tile_cover.specs.Table.{BoundsOf}
+use Rattle.tile_cover.specs.declared.fault.BoundsFault.{BoundsFault}
+use Rattle.tile_cover.specs.declared.fault.BoundsFault.TheVariants as bounds
+use Rattle.updater.specs.declared.file_reads.TheConstants.{MAX_WHOLE}
 use Rattle.updater.specs.declared.fault.Fault.{Fault}
-use Rattle.updater.specs.declared.fault.Fault.TheVariants.{Malformed, Limit, ReadFault, OutOfMemory}
+use Rattle.updater.specs.declared.fault.Fault.TheVariants.{Malformed, BadStyle, BadBounds, Limit, ReadFault, OutOfMemory}
 
 -- the fault of a file, as that of a run
 abbrev pub fault_in : ℕ → FileFault → Fault
@@ -23,3 +38,36 @@ of_file file (Err fault) = Err (fault_in file fault)
 -- the entries of a file with these bytes, or its fault
 abbrev pub change_in : (file : ℕ) → List ℕ → Result (List Entry) Fault
 change_in file bytes = of_file file (entries_of standard bytes)
+
+-- a file with these bytes is read as such entries, or has such a fault
+abbrev pub IsChange : (file : ℕ) → List ℕ → Result (List Entry) Fault → Type 0
+IsChange file bytes found = change_in file bytes ≡ found
+
+-- a file with these bytes is read as such a style with its bytes, or has such a fault
+abbrev pub IsStyle : (file : ℕ) → List ℕ → Result (StyleOf × List ℕ) Fault → Type 0
+IsStyle file bytes (Ok found) = (length bytes ≤ MAX_WHOLE) × (found.1 ≡ bytes) × (reading bytes ≡ Ok found.0)
+IsStyle file bytes (Err (BadStyle own why part)) = (length bytes ≤ MAX_WHOLE) × (own ≡ file) × (reading bytes ≡ Err (why, part))
+IsStyle file bytes (Err (Limit StyleBytes value)) = (MAX_WHOLE < length bytes) × (value ≡ MAX_WHOLE + 1)
+IsStyle file bytes (Err _) = ⊥
+
+-- a file with these bytes is read as such boundaries, or has such a fault
+abbrev pub IsBounds : (file : ℕ) → List ℕ → Result BoundsOf Fault → Type 0
+IsBounds file bytes (Ok found) = (length bytes ≤ MAX_WHOLE) × IsTableOf (lines_of bytes) found.zoom × (found.lats ≡ lats_of (lines_of bytes))
+IsBounds file bytes (Err (BadBounds own line)) = (length bytes ≤ MAX_WHOLE) × (own ≡ file) × IsBadLine (lines_of bytes) line
+IsBounds file bytes (Err (Limit BoundsBytes value)) = (MAX_WHOLE < length bytes) × (value ≡ MAX_WHOLE + 1)
+IsBounds file bytes (Err _) = ⊥
+
+-- the fault of a file that is read whole, as that of a run
+abbrev pub whole_fault : ℕ → LimitKind → WholeFault → Fault
+whole_fault file which wholes.TooLong = Limit which (MAX_WHOLE + 1)
+whole_fault file which wholes.ReadFault = ReadFault file
+whole_fault file which wholes.OutOfMemory = OutOfMemory
+
+-- and that of a style, and of boundaries
+abbrev pub style_fault : ℕ → StyleFault → Fault
+style_fault file (styles.Bad why part) = BadStyle file why part
+style_fault file styles.OutOfMemory = OutOfMemory
+
+abbrev pub bounds_fault : ℕ → BoundsFault → Fault
+bounds_fault file (bounds.Bad line) = BadBounds file line
+bounds_fault file bounds.OutOfMemory = OutOfMemory

@@ -7,7 +7,9 @@ pub mod Courses
 pub mod Faults
 pub mod Files
 pub mod Forms
-pub mod History
+pub mod Keeps
+pub mod Reading
+pub mod Safety
 pub mod InTurn
 pub mod Leaves
 pub mod PointRows
@@ -19,3 +21,4 @@ pub mod Turns
 pub mod WayRows
 pub mod World
 pub mod commands
+pub mod FileReads

@@ -1,17 +1,21 @@
 -- How far a run has come, and how it ended.
 use Rattle.std.specs.Prelude.{◌≡◌, ◌⊎◌, ℕ, List, [], ◌∷◌, ◌++◌, Option, Some, None}
+use Rattle.update_flow.specs.State.{Step}
 use Rattle.updater.specs.declared.fault.Fault.{Fault}
-use Rattle.updater.specs.History.{History}
+use Rattle.updater.specs.Keeps.{Kept, blank, first, perhaps, whole, with_step}
 
--- what is known of the disk: it was at most looked at, it keeps a history, or the making of a store was cut short
+-- what is known of the disk: it was at most looked at; nothing; it keeps a history; or the making of a store was cut short
 pub data Standing : Type 0 where
   unused : Standing
-  keeps : History → Standing
+  unknown : Standing
+  keeps : Kept → Standing
   half_made : Standing
 
--- what was done whole: what became of the disk, the files that were read, the last one first, and the text that was written
+-- what was done whole: what became of the disk, and from which step of its history on it is this run that takes it further;
+-- the files that were read, the last one first; and the text that was written
 pub record Progress : Type 0 where
   pub store : Standing
+  pub cut : ℕ
   pub read : List ℕ
   pub written : List ℕ
 
@@ -23,8 +27,8 @@ pub record Ending : Type 0 where
   pub fault : Option Fault
 
 -- nothing is done yet
-abbrev pub begun : Progress
-begun = record { store = unused; read = []; written = [] }
+abbrev pub begun : Standing → ℕ → Progress
+begun store cut = record { store = store; cut = cut; read = []; written = [] }
 
 -- with nothing done by half
 abbrev pub at : Progress → Option Fault → Ending
@@ -49,6 +53,23 @@ plus text done = record done { written = done.written ++ text }
 -- with another standing of the disk
 abbrev pub with_store : Standing → Progress → Progress
 with_store store done = record done { store = store }
+
+-- a store that was made on a disk, which keeps its history where the disk tells what it holds
+abbrev pub made : Option (List ℕ) → Standing
+made None = unknown
+made (Some bytes) = keeps (whole blank)
+
+-- after the store was opened, which has so many steps of its history
+abbrev pub opened : Kept → ℕ → Progress → Progress
+opened kept cut done = record done { store = keeps (whole (first cut kept.history)); cut = cut }
+
+-- after a step was committed
+abbrev pub committed : Step → Kept → Progress → Progress
+committed step kept done = with_store (keeps (with_step step kept)) done
+
+-- after the commit of a step was begun and cut short
+abbrev pub in_doubt : Step → Kept → Progress → Progress
+in_doubt step kept done = with_store (keeps (perhaps step kept)) done
 
 -- the file is among these
 abbrev pub IsIn : List ℕ → ℕ → Type 0

@@ -1,22 +1,38 @@
 -- What a run does to the outside.
-use Rattle.std.specs.Prelude.{◌≡◌, ◌≢◌, ℕ, List, [], length, Option, Some, None}
+use Rattle.std.specs.Prelude.{◌≡◌, ◌≢◌, ◌≤◌, ◌<◌, ◌+◌, ◌⊎◌, ℕ, List, [], length, Option, Some}
 use Rattle.std.specs.List.{AllByRecursion}
 use Rattle.outside.specs.Bytes.{IfTold}
 use Rattle.outside.specs.Disk.{DiskView, NoneNew, Stays}
 use Rattle.updater.specs.declared.fault.Fault.{Fault}
-use Rattle.updater.specs.declared.fault.Fault.TheVariants.{Usage}
+use Rattle.updater.specs.declared.fault.Fault.TheVariants.{Usage, NotFormatted}
 use Rattle.updater.specs.Causes.{Cause}
 use Rattle.updater.specs.Comes.{Comes}
-use Rattle.updater.specs.Command.{CommandOf, Names, store_of}
+use Rattle.updater.specs.Command.{CommandOf, Names, Use, no_store, new_store, old_store, use_of}
 use Rattle.updater.specs.Course.{Course}
 use Rattle.updater.specs.Courses.{course_of}
+use Rattle.updater.specs.Keeps.{Kept, IsKept}
 use Rattle.updater.specs.Leaves.{Leaves}
-use Rattle.updater.specs.Progress.{Ending, begun}
+use Rattle.updater.specs.Progress.{Standing, unused, unknown, keeps, Progress, Ending, begun}
 use Rattle.updater.specs.World.{World, remembered}
 
--- the run went by this course, to an end that the course may have
-abbrev pub GoesBy : Course → Option Fault → World → World → Type 0
-GoesBy course fault old new = (ending : Ending) × (ending.fault ≡ fault) × Comes (remembered old) course begun ending × Leaves ending (remembered old) new
+-- from such a beginning the run went by this course, to an end that the course may have
+abbrev pub GoesBy : Course → (start : Progress) → Option Fault → World → World → Type 0
+GoesBy course start fault old new =
+    (ending : Ending) × (ending.fault ≡ fault) × Comes (remembered old) course start ending × Leaves start ending (remembered old) new
+
+-- what a run may begin with: a disk that it does not look at before it makes a store on it; or a store of which nothing is known,
+-- and which keeps a history where it does
+abbrev pub Begins : Use → World → Progress → Type 0
+Begins no_store old start = start ≡ begun unused 0
+Begins new_store old start = start ≡ begun unused 0
+Begins old_store old start =
+    (start ≡ begun unknown 0) ⊎ ((kept : Kept) × IsKept old.disk kept × (start ≡ begun (keeps kept) kept.least))
+
+-- a beginning of such a command
+abbrev pub MayBegin : Use → Progress → Type 0
+MayBegin no_store start = start ≡ begun unused 0
+MayBegin new_store start = start ≡ begun unused 0
+MayBegin old_store start = (store : Standing) × (cut : ℕ) × (start ≡ begun store cut)
 
 -- the disk was not touched
 pub record IsSpared (old new : DiskView) : Type 0 where
@@ -30,18 +46,23 @@ pub record IsSpared (old new : DiskView) : Type 0 where
 abbrev pub AsksOnly : (asks : List ℕ → Type 0) (named : ℕ → Type 0) → Type 0
 AsksOnly asks named = (files : List ℕ) × asks files × AllByRecursion named files
 
+-- so many files from this one on
+abbrev pub Among : (first count : ℕ) → ℕ → Type 0
+Among first count file = (first ≤ file) × (file < first + count)
+
 -- a run of a command, in which the inputs were asked for these files
 pub record Runs (command : CommandOf) (asks : List ℕ → Type 0) (old new : World) (fault : Option Fault) : Type 0 where
   -- it goes by the course of the command
-  pub course : GoesBy (course_of command) fault old new
+  pub course : (start : Progress) → Begins (use_of command) old start → GoesBy (course_of command) start fault old new
   -- each fault has its cause
   pub cause : (own : Fault) → fault ≡ Some own → Cause command (remembered old) new own
   -- files that the command does not name are not asked for and not touched, and neither is the disk where it names no store
   pub asked : AsksOnly asks (Names command)
   pub unnamed : (file : ℕ) → ¬ Names command file → new.files.left file ≡ old.files.left file
-  pub spared : store_of (Some command) ≡ None → IsSpared old.disk new.disk
-  -- a disk that holds bytes where none should be is only looked at
-  pub looked : IfTold old.disk.content (λ bytes. length bytes ≢ 0 → Stays old.disk new.disk)
+  pub spared : use_of command ≡ no_store → IsSpared old.disk new.disk
+  -- a disk that holds bytes where none should be is only looked at, and so is one that holds no store where one should be
+  pub looked : use_of command ≢ old_store → IfTold old.disk.content (λ bytes. length bytes ≢ 0 → Stays old.disk new.disk)
+  pub unformatted : fault ≡ Some NotFormatted → Stays old.disk new.disk
 
 -- words that are no command touch nothing
 pub record IsWrongUse (asks : List ℕ → Type 0) (old new : World) (fault : Option Fault) : Type 0 where

@@ -16,7 +16,7 @@ pub record IsTurn {K : Type 0} (after : K → Entry → K) (start : K) (rest : L
   pub entries : List Entry
   pub untouched : done.store ≡ unused
   pub unwritten : done.written ≡ []
-  pub leads_back : (ending : Ending) → Comes old (gathers file count entries rest) done ending → Comes old course begun ending
+  pub leads_back : (ending : Ending) → Comes old (gathers file count entries rest) done ending → Comes old course (begun unused 0) ending
   pub made : AreTold old done.read → now ≡ fold after start entries
   pub unread : (other : ℕ) → file ≤ other → ¬ IsIn done.read other
   pub at_end : (other : ℕ) → IsIn done.read other → IfTold (old.left other) (λ _. files.left other ≡ Some [])

@@ -15,11 +15,12 @@ abbrev pub world : FilesView → DiskView → SinkView → World
 world files disk output = record { files = files; disk = disk; output = output }
 
 -- what is remembered of the outside as a run began: the bytes in each file, on the disk and in the output, where they are
--- told, and the counts of faults
+-- told, the moment, and the counts of faults
 pub record Before : Type 0 where
   pub left : ℕ → Option (List ℕ)
   pub read_faults : ℕ
   pub content : Option (List ℕ)
+  pub moment : ℕ
   pub disk_faults : ℕ
   pub taken : Option (List ℕ)
   pub write_faults : ℕ
@@ -29,6 +30,7 @@ remembered old = record {
   left = old.files.left;
   read_faults = old.files.faults;
   content = old.disk.content;
+  moment = old.disk.crashes.moment;
   disk_faults = old.disk.faults;
   taken = old.output.taken;
   write_faults = old.output.faults;

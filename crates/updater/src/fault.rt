@@ -1,15 +1,19 @@
 //! Why a run ended early, with its status and its line of text.
 ghost use Rattle.std.specs.Prelude.{◌≡◌, IfOk, [], ◌∷◌};
-ghost use Rattle.updater.specs.Faults.{fault_of, fault_text, kind_text, status_of};
-ghost use Rattle.updater.specs.Files.{fault_in};
+ghost use Rattle.updater.specs.Faults.{fault_of, fault_text, flow_fault, kind_text, status_of};
+ghost use Rattle.updater.specs.Files.{bounds_fault, fault_in, style_fault, whole_fault};
 
-use object_fold::FileFault;
+use crate::file_reads::MAX_WHOLE;
+use object_fold::{FileFault, WholeFault};
 use opl_object::Why;
 use osm_base::{Kind, LimitKind, OutOfMemory, Text};
 use page_journal::StoreFault;
 use std::alloc::Global;
 use std::error::Error;
 use std::fmt;
+use style_read::{StyleFault, StylePart, StyleWhy};
+use tile_cover::BoundsFault;
+use update_flow::{FlowFault, LAST_CHANGE};
 
 /// Why a run did not do all that it was asked to. A file is told by the place of its word.
 #[derive(Clone, Copy, Debug, PartialEq, Eq)]
@@ -17,17 +21,45 @@ pub enum Fault {
     /// The words are no command.
     Usage,
     /// A line of a file is not in its form or not in its place.
-    Malformed { file: u32, line: u32, why: Why },
+    Malformed {
+        file: u32,
+        line: u32,
+        why: Why,
+    },
+    /// A file is no style: this stands against this part of it.
+    BadStyle {
+        file: u32,
+        why: StyleWhy,
+        part: StylePart,
+    },
+    /// A file is no table of boundaries: this line is not good.
+    BadBounds {
+        file: u32,
+        line: u32,
+    },
     /// There is more of something than there may be.
-    Limit { which: LimitKind, value: u64 },
+    Limit {
+        which: LimitKind,
+        value: u64,
+    },
     /// A file could not be read.
-    ReadFault { file: u32 },
+    ReadFault {
+        file: u32,
+    },
     /// The disk holds no store.
     NotFormatted,
     /// The store is to be made on a disk that holds bytes.
     NotEmpty,
+    /// Nothing was imported into the store yet.
+    NotImported,
+    /// Something was imported into the store before.
+    AlreadyImported,
+    /// The store has no table of this name.
+    UnknownTable,
     /// This page shows that the store is damaged.
-    BadStore { page: u64 },
+    BadStore {
+        page: u64,
+    },
     /// The output took no more bytes.
     WriteFault,
     /// The disk of the store failed.
@@ -46,6 +78,60 @@ impl Fault {
             FileFault::Limit { which, value } => Fault::Limit { which, value },
             FileFault::ReadFault => Fault::ReadFault { file },
             FileFault::OutOfMemory => Fault::OutOfMemory,
+        }
+    }
+
+    /// The fault of this file, which is read whole under a limit.
+    pub fn in_whole(file: u32, which: LimitKind, fault: WholeFault) -> Self
+        ensures fault { result ≡ whole_fault file which fault }
+    {
+        match fault {
+            WholeFault::TooLong => Fault::Limit {
+                which,
+                value: MAX_WHOLE + 1,
+            },
+            WholeFault::ReadFault => Fault::ReadFault { file },
+            WholeFault::OutOfMemory => Fault::OutOfMemory,
+        }
+    }
+
+    /// The fault of the style in this file.
+    pub fn in_style(file: u32, fault: StyleFault) -> Self
+        ensures fault { result ≡ style_fault file fault }
+    {
+        match fault {
+            StyleFault::Bad { why, part } => Fault::BadStyle { file, why, part },
+            StyleFault::OutOfMemory => Fault::OutOfMemory,
+        }
+    }
+
+    /// The fault of the boundaries in this file.
+    pub fn in_bounds(file: u32, fault: BoundsFault) -> Self
+        ensures fault { result ≡ bounds_fault file fault }
+    {
+        match fault {
+            BoundsFault::Bad { line } => Fault::BadBounds { file, line },
+            BoundsFault::OutOfMemory => Fault::OutOfMemory,
+        }
+    }
+
+    /// The fault of a call on a store that is to be opened or is open.
+    pub fn in_flow(fault: FlowFault) -> Self
+        ensures fault { result ≡ flow_fault fault }
+    {
+        match fault {
+            FlowFault::Store(fault) => Fault::in_store(fault),
+            FlowFault::NotImported => Fault::NotImported,
+            FlowFault::AlreadyImported => Fault::AlreadyImported,
+            FlowFault::LastChange => Fault::Limit {
+                which: LimitKind::Changes,
+                value: LAST_CHANGE + 1,
+            },
+            FlowFault::TooMany { value } => Fault::Limit {
+                which: LimitKind::Pending,
+                value,
+            },
+            FlowFault::OutOfMemory => Fault::OutOfMemory,
         }
     }
 
@@ -96,12 +182,21 @@ impl Outcome {
             None => 0,
             Some(Fault::Usage) => 2,
             Some(Fault::Malformed { .. }) => 3,
-            Some(Fault::NotFormatted | Fault::NotEmpty | Fault::BadStore { .. }) => 6,
+            Some(Fault::BadStyle { .. }) => 4,
+            Some(Fault::BadBounds { .. }) => 5,
+            Some(
+                Fault::NotFormatted
+                | Fault::NotEmpty
+                | Fault::NotImported
+                | Fault::AlreadyImported
+                | Fault::BadStore { .. },
+            ) => 6,
             Some(Fault::ReadFault { .. }) => 7,
             Some(Fault::WriteFault) => 8,
             Some(Fault::DiskFault) => 9,
             Some(Fault::Limit { .. }) => 10,
             Some(Fault::OutOfMemory) => 11,
+            Some(Fault::UnknownTable) => 12,
         };
         Self { status, fault }
     }
@@ -139,6 +234,13 @@ impl fmt::Display for Fault {
                     why.number()
                 ),
             },
+            Fault::BadStyle { file, why, part } => write!(
+                f,
+                "bad style file {file} cause {} part {}",
+                why.number(),
+                PartName { part: *part }
+            ),
+            Fault::BadBounds { file, line } => write!(f, "bad bounds file {file} line {line}"),
             Fault::Limit { which, value } => match which {
                 LimitKind::LineBytes => write!(f, "limit line-bytes value {value}"),
                 LimitKind::FileLines => write!(f, "limit file-lines value {value}"),
@@ -153,6 +255,9 @@ impl fmt::Display for Fault {
             Fault::ReadFault { file } => write!(f, "read fault file {file}"),
             Fault::NotFormatted => write!(f, "not formatted"),
             Fault::NotEmpty => write!(f, "not empty"),
+            Fault::NotImported => write!(f, "not imported"),
+            Fault::AlreadyImported => write!(f, "already imported"),
+            Fault::UnknownTable => write!(f, "unknown table"),
             Fault::BadStore { page } => write!(f, "bad store page {page}"),
             Fault::WriteFault => write!(f, "write fault"),
             Fault::DiskFault => write!(f, "disk fault"),
@@ -162,6 +267,27 @@ impl fmt::Display for Fault {
 }
 
 impl Error for Fault {}
+
+/// A part of a style, as a line of text names it.
+#[derive(Drop)]
+struct PartName {
+    part: StylePart,
+}
+
+impl fmt::Display for PartName {
+    ghost use Rattle.std.specs.Prelude.{Some};
+    ghost use Rattle.updater.specs.Faults.{part_text};
+
+    ghost output = { λ own. Some (part_text own.part) };
+
+    fn fmt<W: fmt::Write>(&self, f: &mut fmt::Formatter<W>) -> fmt::Result {
+        match self.part {
+            StylePart::Top => write!(f, "top"),
+            StylePart::Selection(number) => write!(f, "selection {number}"),
+            StylePart::Table(number) => write!(f, "table {number}"),
+        }
+    }
+}
 
 impl From<OutOfMemory> for Fault {
     ghost use Rattle.std.specs.Prelude.{◌≡◌};

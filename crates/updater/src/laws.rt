@@ -1,20 +1,21 @@
 //! What holds of the runs of every command, by their courses.
 ghost use Rattle.std.specs.Prelude.{ℕ};
 ghost use Rattle.updater.specs.Comes.{Comes, IsDue, IsOutside};
-ghost use Rattle.updater.specs.Command.{CommandOf};
+ghost use Rattle.updater.specs.Command.{CommandOf, use_of};
 ghost use Rattle.updater.specs.Courses.{course_of};
 ghost use Rattle.updater.specs.InTurn.{FaultNames, IsInTurn};
-ghost use Rattle.updater.specs.Progress.{Ending, begun};
+ghost use Rattle.updater.specs.Progress.{Ending, Progress};
+ghost use Rattle.updater.specs.Runs.{MayBegin};
 ghost use Rattle.updater.specs.World.{Before};
 
 /// A run whose fault blames nothing outside, nor the want of memory, came to the end that is due.
 pub fn ends_are_due()
-    ensures due { (command : CommandOf) (old : Before) (ending : Ending) → Comes old (course_of command) begun ending
-        → ¬ IsOutside ending.fault → IsDue old (course_of command) begun ending }
+    ensures due { (command : CommandOf) (old : Before) (start : Progress) (ending : Ending) → Comes old (course_of command) start ending
+        → ¬ IsOutside ending.fault → IsDue old (course_of command) start ending }
 {}
 
 /// A fault that names a file names the one whose turn it was.
 pub fn faults_come_in_turn()
-    ensures turn { (command : CommandOf) (old : Before) (ending : Ending) (file : ℕ) → Comes old (course_of command) begun ending
-        → FaultNames ending.fault file → IsInTurn command old ending file }
+    ensures turn { (command : CommandOf) (old : Before) (start : Progress) (ending : Ending) (file : ℕ) → MayBegin (use_of command) start
+        → Comes old (course_of command) start ending → FaultNames ending.fault file → IsInTurn command old ending file }
 {}

@@ -14,6 +14,7 @@
 
 mod commands;
 mod fault;
+mod file_reads;
 mod files;
 mod forms;
 mod laws;

@@ -1,5 +1,5 @@
 //! `init STORE`: an empty store on an empty disk.
-ghost use Rattle.std.specs.Prelude.{◌≡◌, ◌≢◌, length, map, IfSome};
+ghost use Rattle.std.specs.Prelude.{◌≡◌, ◌≢◌, length, map, Some, IfSome};
 ghost use Rattle.std.specs.Option.{option_map};
 ghost use Rattle.std.specs.String.{string_bytes};
 ghost use Rattle.updater.specs.CommandOf.{FilesFit, seen};
@@ -8,6 +8,7 @@ ghost use Rattle.std.specs.Result.{result_err};
 ghost use Rattle.outside.specs.Bytes.{IfTold};
 ghost use Rattle.outside.specs.Disk.{Stays};
 ghost use Rattle.updater.specs.Courses.{init_course};
+ghost use Rattle.updater.specs.Progress.{begun, unused};
 ghost use Rattle.updater.specs.Runs.{GoesBy};
 ghost use Rattle.updater.specs.World.{world};
 
@@ -32,9 +33,10 @@ pub fn form<'a>(options: &[String], form: &'a [String]) -> Option<Command<'a>>
 
 /// Makes an empty store on an empty disk, and tells so.
 pub fn init<I: Inputs, D: Disk, S: Sink>(inputs: &I, disk: &mut D, out: &mut S) -> Result<(), Fault>
-    ensures course { GoesBy init_course (result_err result)
+    ensures course { GoesBy init_course (begun unused 0) (result_err result)
         (world (I.view inputs.now) (D.view disk.old) (S.view out.old))
         (world (I.view inputs.now) (D.view disk.new) (S.view out.new)) }
+    ensures no_store { result_err result ≡ Some Fault.NotFormatted → Stays (D.view disk.old) (D.view disk.new) }
     ensures looked { IfTold (D.view disk.old).content (λ bytes. length bytes ≢ 0 → Stays (D.view disk.old) (D.view disk.new)) }
 {
     if let Err(fault) = format(disk) {

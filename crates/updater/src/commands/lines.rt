@@ -9,6 +9,7 @@ ghost use Rattle.object_fold.specs.Reading.{IsFaultOf, ReadsAll};
 ghost use Rattle.object_fold.specs.Stops.{Stops};
 ghost use Rattle.updater.specs.CommandOf.{FilesFit, Fit, Names, lines_of, seen};
 ghost use Rattle.updater.specs.Courses.{course_of};
+ghost use Rattle.updater.specs.Progress.{begun, unused};
 ghost use Rattle.updater.specs.Runs.{AsksOnly, GoesBy};
 ghost use Rattle.updater.specs.WayRows.{after_way, no_ways};
 ghost use Rattle.updater.specs.World.{world};
@@ -46,7 +47,7 @@ pub fn lines<I: Inputs, D: Disk, S: Sink>(
     out: &mut S,
 ) -> Result<(), Fault>
     requires fits { Fit files }
-    ensures course { GoesBy (course_of (lines_of key.now files)) (result_err result)
+    ensures course { GoesBy (course_of (lines_of key.now files)) (begun unused 0) (result_err result)
         (world (I.view inputs.old) (D.view disk.now) (S.view out.old))
         (world (I.view inputs.new) (D.view disk.now) (S.view out.new)) }
     ensures asked { AsksOnly (λ asked. I.reads inputs.old asked inputs.new) (Names (lines_of key.now files)) }

@@ -5,6 +5,7 @@ ghost use Rattle.std.specs.String.{string_bytes};
 ghost use Rattle.std.specs.Result.{result_err};
 ghost use Rattle.updater.specs.CommandOf.{FilesFit, Fit, Names, points_of, seen};
 ghost use Rattle.updater.specs.Courses.{course_of};
+ghost use Rattle.updater.specs.Progress.{begun, unused};
 ghost use Rattle.updater.specs.Runs.{AsksOnly, GoesBy};
 ghost use Rattle.updater.specs.World.{world};
 ghost use Rattle.updater.specs.commands.Points as spec;
@@ -41,7 +42,7 @@ pub fn points<I: Inputs, D: Disk, S: Sink>(
     out: &mut S,
 ) -> Result<(), Fault>
     requires fits { Fit files }
-    ensures course { GoesBy (course_of (points_of key.now files)) (result_err result)
+    ensures course { GoesBy (course_of (points_of key.now files)) (begun unused 0) (result_err result)
         (world (I.view inputs.old) (D.view disk.now) (S.view out.old))
         (world (I.view inputs.new) (D.view disk.now) (S.view out.new)) }
     ensures asked { AsksOnly (λ asked. I.reads inputs.old asked inputs.new) (Names (points_of key.now files)) }

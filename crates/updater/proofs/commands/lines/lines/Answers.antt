@@ -6,7 +6,7 @@ use Rattle.object_fold.specs.Reading.{IsFaultOf, ReadsAll}
 use Rattle.object_fold.specs.Stops.{Stops}
 use Rattle.outside.specs.Causes.{Rose}
 use Rattle.updater.specs.Command.{Names, lines_of}
-use Rattle.updater.specs.Course.{ends, writes}
+use Rattle.updater.specs.Course.{ends, writes_text}
 use Rattle.updater.specs.Courses.{course_of}
 use Rattle.updater.specs.WayRows.{WaysRead, after_way, no_ways}
 use Rattle.updater.specs.commands.Lines.{lines_text, lines_text_of}
@@ -23,10 +23,10 @@ returns-in-Err g c =
     let files = c.args.files in
     let file = files.first in
     rw c.in_file.ensures.fault (record {
-      course = ends_in_file after_way (no_ways (chars key)) (λ entries. writes (lines_text_of key entries) ends) (course_of (lines_of key files))
+      course = ends_in_file after_way (no_ways (chars key)) (λ entries. writes_text (lines_text_of key entries) ends) (course_of (lines_of key files))
           (g.I.Inputs.view c.args.inputs.now) (g.D.Disk.view c.args.disk.now) (g.S.Sink.view c.args.out.now) file files.count (files.count - 1) (omega (arith, c.requires.fits.some))
           (no_ways (chars key)) (g.I.Inputs.view c.args.inputs.now) (g.I.Inputs.view c.import.new.inputs)
-          (first_turn after_way (no_ways (chars key)) (λ entries. writes (lines_text_of key entries) ends) (course_of (lines_of key files))
+          (first_turn after_way (no_ways (chars key)) (λ entries. writes_text (lines_text_of key entries) ends) (course_of (lines_of key files))
           (g.I.Inputs.view c.args.inputs.now) (g.D.Disk.view c.args.disk.now) (g.S.Sink.view c.args.out.now) files.first files.count (no_ways (chars key)) refl refl) c.import.ensures.others c.import.ensures.later c.in-Err.fault
           (subst (λ (limits : LimitNumbers). Stops (IsFaultOf limits ((g.I.Inputs.view c.args.inputs.now).left file))
           (Rose (g.I.Inputs.view c.args.inputs.now).faults (g.I.Inputs.view c.import.new.inputs).faults) c.in-Err.fault) c.standard-limits.ensures.numbers c.in-Err.ensures.stopped);
@@ -43,10 +43,10 @@ loop-file-init g c =
       least = omega arith;
       asked = asked_more g.I.Inputs.reads laws.reads_then (Names (lines_of key files)) c.args.inputs.now c.args.inputs.now c.import.new.inputs file (asked_none g.I.Inputs.reads (Names (lines_of key files)) c.args.inputs.now (laws.reads_none c.args.inputs.now)) c.import.ensures.read (omega arith, omega (arith, c.requires.fits.some));
       within = omega (arith, c.requires.fits.some);
-      turn = next_turn after_way (no_ways (chars key)) (λ entries. writes (lines_text_of key entries) ends) (course_of (lines_of key files))
+      turn = next_turn after_way (no_ways (chars key)) (λ entries. writes_text (lines_text_of key entries) ends) (course_of (lines_of key files))
           (g.I.Inputs.view c.args.inputs.now) (g.D.Disk.view c.args.disk.now) (g.S.Sink.view c.args.out.now) file files.count (files.first + files.count - (files.first + 1)) (omega (arith, c.requires.fits.some))
           (no_ways (chars key)) (g.I.Inputs.view c.args.inputs.now) (g.I.Inputs.view c.import.new.inputs)
-          (first_turn after_way (no_ways (chars key)) (λ entries. writes (lines_text_of key entries) ends) (course_of (lines_of key files))
+          (first_turn after_way (no_ways (chars key)) (λ entries. writes_text (lines_text_of key entries) ends) (course_of (lines_of key files))
           (g.I.Inputs.view c.args.inputs.now) (g.D.Disk.view c.args.disk.now) (g.S.Sink.view c.args.out.now) files.first files.count (no_ways (chars key)) refl refl) c.import.ensures.others c.import.ensures.later c.in-Ok.rows
           (subst (λ (limits : LimitNumbers). ReadsAll after_way limits (no_ways (chars key)) c.in-Ok.rows ((g.I.Inputs.view c.args.inputs.now).left file) ((g.I.Inputs.view c.import.new.inputs).left file))
           c.standard-limits.ensures.numbers c.in-Ok.ensures.ok);
@@ -59,7 +59,7 @@ returns-in-Err-change g c =
     let files = c.args.files in
     let file = c.loop-file.file in
     rw c.in_file-in-Err-change.ensures.fault (record {
-      course = ends_in_file after_way (no_ways (chars key)) (λ entries. writes (lines_text_of key entries) ends) (course_of (lines_of key files))
+      course = ends_in_file after_way (no_ways (chars key)) (λ entries. writes_text (lines_text_of key entries) ends) (course_of (lines_of key files))
           (g.I.Inputs.view c.args.inputs.now) (g.D.Disk.view c.args.disk.now) (g.S.Sink.view c.args.out.now) file (files.first + files.count - file) (files.first + files.count - (file + 1)) (omega (arith, c.loop-file-test.true))
           c.loop-file.rows (g.I.Inputs.view c.loop-file.inputs) (g.I.Inputs.view c.change.new.inputs) c.loop-file.invariant.turn c.change.ensures.others c.change.ensures.later c.in-Err-change.fault
           (subst (λ (limits : LimitNumbers). Stops (IsFaultOf limits ((g.I.Inputs.view c.loop-file.inputs).left file))
@@ -77,7 +77,7 @@ loop-file-preserved g c =
       least = omega (arith, c.loop-file.invariant.least);
       asked = asked_more g.I.Inputs.reads laws.reads_then (Names (lines_of key files)) c.args.inputs.now c.loop-file.inputs c.change.new.inputs file c.loop-file.invariant.asked c.change.ensures.read (c.loop-file.invariant.least, omega (arith, c.loop-file-test.true));
       within = omega (arith, c.loop-file-test.true);
-      turn = next_turn after_way (no_ways (chars key)) (λ entries. writes (lines_text_of key entries) ends) (course_of (lines_of key files))
+      turn = next_turn after_way (no_ways (chars key)) (λ entries. writes_text (lines_text_of key entries) ends) (course_of (lines_of key files))
           (g.I.Inputs.view c.args.inputs.now) (g.D.Disk.view c.args.disk.now) (g.S.Sink.view c.args.out.now) file (files.first + files.count - file) (files.first + files.count - (file + 1)) (omega (arith, c.loop-file-test.true))
           c.loop-file.rows (g.I.Inputs.view c.loop-file.inputs) (g.I.Inputs.view c.change.new.inputs) c.loop-file.invariant.turn c.change.ensures.others c.change.ensures.later c.change.new.rows
           (subst (λ (limits : LimitNumbers). ReadsAll after_way limits c.loop-file.rows c.change.new.rows ((g.I.Inputs.view c.loop-file.inputs).left file) ((g.I.Inputs.view c.change.new.inputs).left file))

@@ -1,7 +1,7 @@
 use Rattle.std.proofs.Common.{◌≤◌, ◌-◌}
 use Rattle.std.specs.Str.{chars}
 use Rattle.updater.specs.Command.{Names, lines_of}
-use Rattle.updater.specs.Course.{ends, writes}
+use Rattle.updater.specs.Course.{ends, writes_text}
 use Rattle.updater.specs.Courses.{course_of}
 use Rattle.updater.specs.WayRows.{after_way, no_ways}
 use Rattle.updater.specs.commands.Lines.{lines_text_of}
@@ -16,7 +16,7 @@ invariant-loop-file g l = record {
   least : l.fn.files.first ≤ l.file;
   within : l.file ≤ l.end;
   asked : AsksOnly (λ asked. g.I.Inputs.reads l.fn.inputs asked l.inputs) (Names (lines_of l.fn.key l.fn.files));
-  turn : IsTurn after_way (no_ways (chars l.fn.key)) (λ entries. writes (lines_text_of l.fn.key entries) ends) (course_of (lines_of l.fn.key l.fn.files)) l.file (l.end - l.file)
+  turn : IsTurn after_way (no_ways (chars l.fn.key)) (λ entries. writes_text (lines_text_of l.fn.key entries) ends) (course_of (lines_of l.fn.key l.fn.files)) l.file (l.end - l.file)
       (remembered (world (g.I.Inputs.view l.fn.inputs) (g.D.Disk.view l.fn.disk) (g.S.Sink.view l.fn.out))) l.rows (g.I.Inputs.view l.inputs);
 }
 

@@ -6,7 +6,7 @@ use Rattle.object_fold.specs.Reading.{IsFaultOf, ReadsAll}
 use Rattle.object_fold.specs.Stops.{Stops}
 use Rattle.outside.specs.Causes.{Rose}
 use Rattle.updater.specs.Command.{Names, points_of}
-use Rattle.updater.specs.Course.{ends, writes}
+use Rattle.updater.specs.Course.{ends, writes_text}
 use Rattle.updater.specs.Courses.{course_of, gathers}
 use Rattle.updater.specs.PointRows.{after_entry, no_rows, rows_text}
 use Rattle.updater.specs.commands.Points.{points_text_of}
@@ -25,9 +25,9 @@ loop-file-init g c =
       least = omega arith;
       asked = asked_none g.I.Inputs.reads (Names (points_of key files)) c.args.inputs.now (laws.reads_none c.args.inputs.now);
       within = omega arith;
-      turn = first_turn after_entry (no_rows (chars key)) (λ entries. writes (points_text_of key entries) ends) (course_of (points_of key files))
+      turn = first_turn after_entry (no_rows (chars key)) (λ entries. writes_text (points_text_of key entries) ends) (course_of (points_of key files))
           (g.I.Inputs.view c.args.inputs.now) (g.D.Disk.view c.args.disk.now) (g.S.Sink.view c.args.out.now) files.first (files.first + files.count - files.first)
-          c.new-rows.result c.new-rows.ensures.start (ap (λ count. gathers files.first count [] (λ entries. writes (points_text_of key entries) ends)) (omega arith));
+          c.new-rows.result c.new-rows.ensures.start (ap (λ count. gathers files.first count [] (λ entries. writes_text (points_text_of key entries) ends)) (omega arith));
     }
 
 pub returns-in-Err : goal.returns-in-Err
@@ -37,7 +37,7 @@ returns-in-Err g c =
     let files = c.args.files in
     let file = c.loop-file.file in
     rw c.in_file.ensures.fault (record {
-      course = ends_in_file after_entry (no_rows (chars key)) (λ entries. writes (points_text_of key entries) ends) (course_of (points_of key files))
+      course = ends_in_file after_entry (no_rows (chars key)) (λ entries. writes_text (points_text_of key entries) ends) (course_of (points_of key files))
           (g.I.Inputs.view c.args.inputs.now) (g.D.Disk.view c.args.disk.now) (g.S.Sink.view c.args.out.now) file (files.first + files.count - file) (files.first + files.count - (file + 1)) (omega (arith, c.loop-file-test.true))
           c.loop-file.rows (g.I.Inputs.view c.loop-file.inputs) (g.I.Inputs.view c.scan_file.new.inputs) c.loop-file.invariant.turn c.scan_file.ensures.others c.scan_file.ensures.later c.in-Err.fault
           (subst (λ (limits : LimitNumbers). Stops (IsFaultOf limits ((g.I.Inputs.view c.loop-file.inputs).left file))
@@ -55,7 +55,7 @@ loop-file-preserved g c =
       least = omega (arith, c.loop-file.invariant.least);
       asked = asked_more g.I.Inputs.reads laws.reads_then (Names (points_of key files)) c.args.inputs.now c.loop-file.inputs c.scan_file.new.inputs file c.loop-file.invariant.asked c.scan_file.ensures.read (c.loop-file.invariant.least, omega (arith, c.loop-file-test.true));
       within = omega (arith, c.loop-file-test.true);
-      turn = next_turn after_entry (no_rows (chars key)) (λ entries. writes (points_text_of key entries) ends) (course_of (points_of key files))
+      turn = next_turn after_entry (no_rows (chars key)) (λ entries. writes_text (points_text_of key entries) ends) (course_of (points_of key files))
           (g.I.Inputs.view c.args.inputs.now) (g.D.Disk.view c.args.disk.now) (g.S.Sink.view c.args.out.now) file (files.first + files.count - file) (files.first + files.count - (file + 1)) (omega (arith, c.loop-file-test.true))
           c.loop-file.rows (g.I.Inputs.view c.loop-file.inputs) (g.I.Inputs.view c.scan_file.new.inputs) c.loop-file.invariant.turn c.scan_file.ensures.others c.scan_file.ensures.later c.scan_file.new.keeper
           (subst (λ (limits : LimitNumbers). ReadsAll after_entry limits c.loop-file.rows c.scan_file.new.keeper ((g.I.Inputs.view c.loop-file.inputs).left file) ((g.I.Inputs.view c.scan_file.new.inputs).left file))

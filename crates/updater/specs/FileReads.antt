@@ -1,0 +1,29 @@
+-- What reading a file of a command comes to.
+use Rattle.std.specs.Prelude.{◌≡◌, ◌≢◌, ◌≤◌, ℕ, List, [], Some, Result, Ok, Err}
+use Rattle.outside.specs.Bytes.{IfTold}
+use Rattle.outside.specs.Causes.{Rose}
+use Rattle.outside.specs.Inputs.{FilesView}
+use Rattle.updater.specs.declared.fault.Fault.{Fault}
+use Rattle.updater.specs.declared.fault.Fault.TheVariants.{ReadFault, OutOfMemory}
+use Rattle.updater.specs.Comes.{IsOfFile}
+
+-- no other file was touched, and the count of faults did not fall
+pub record IsReadAlone (file : ℕ) (old new : FilesView) : Type 0 where
+  pub others : (other : ℕ) → other ≢ file → new.left other ≡ old.left other
+  pub later : old.faults ≤ new.faults
+
+-- the file was read to its end, and as this
+pub record IsRead {A : Type 0} (Reads : List ℕ → Result A Fault → Type 0) (file : ℕ) (found : A) (old new : FilesView) : Type 0 where
+  pub accepted : IfTold (old.left file) (λ bytes. Reads bytes (Ok found))
+  pub at_end : IfTold (old.left file) (λ _. new.left file ≡ Some [])
+  pub alone : IsReadAlone file old new
+
+-- why it was not: a read failed, memory ran out, or its bytes have this fault
+abbrev pub StopsFor : {A : Type 0} → (List ℕ → Result A Fault → Type 0) → (file : ℕ) → Fault → FilesView → FilesView → Type 0
+StopsFor Reads file (ReadFault own) old new = (own ≡ file) × Rose old.faults new.faults
+StopsFor Reads file OutOfMemory old new = Unit {0}
+StopsFor Reads file fault old new = IsOfFile file fault × IfTold (old.left file) (λ bytes. Reads bytes (Err fault))
+
+pub record IsUnread {A : Type 0} (Reads : List ℕ → Result A Fault → Type 0) (file : ℕ) (fault : Fault) (old new : FilesView) : Type 0 where
+  pub why : StopsFor Reads file fault old new
+  pub alone : IsReadAlone file old new

@@ -1,0 +1,85 @@
+//! The files of a command, read.
+ghost use Rattle.std.specs.Prelude.{◌≡◌, ◌≤◌, ℕ, Ok, replicate, length, IfOk, IfErr};
+ghost use Rattle.style_read.specs.Reading.{reading};
+ghost use Rattle.updater.specs.FileReads.{IsRead, IsUnread};
+ghost use Rattle.updater.specs.Files.{IsBounds, IsChange, IsStyle};
+
+use crate::fault::Fault;
+use object_fold::{Change, read_all, read_file};
+use osm_base::{Bytes, LimitKind, Limits, MAX_ENTRIES};
+use outside::Inputs;
+use std::alloc::Global;
+use style_read::{Style, read_style};
+use tile_cover::{Bounds, read_bounds};
+
+/// The most bytes of a STYLE or of BOUNDS.
+pub const MAX_WHOLE: u64 = 1_048_576;
+
+/// A style, and the bytes that write it.
+#[derive(Drop)]
+pub struct StyleFile {
+    pub style: Style,
+    pub bytes: Bytes,
+}
+
+/// The entries of a file.
+pub fn read_change<I: Inputs>(alloc: Global, inputs: &mut I, file: u32) -> Result<Change, Fault>
+    ensures ok { IfOk result (λ change. IsRead (IsChange file) file change (I.view inputs.old) (I.view inputs.new)) }
+    ensures few { IfOk result (λ change. length change ≤ MAX_ENTRIES) }
+    ensures err { IfErr result (λ fault. IsUnread (IsChange file) file fault (I.view inputs.old) (I.view inputs.new)) }
+    ensures asked { (count : ℕ) × I.reads inputs.old (replicate count file) inputs.new }
+{
+    let change = match read_file(alloc, inputs, file, &Limits::standard()) {
+        Ok(change) => change,
+        Err(fault) => return Err(Fault::in_file(file, fault)),
+    };
+    // Where nobody tells what a file holds, no clause of its reading says how many entries it has.
+    if change.entries().len() as u64 > MAX_ENTRIES {
+        return Err(Fault::Limit {
+            which: LimitKind::FileEntries,
+            value: MAX_ENTRIES + 1,
+        });
+    }
+    Ok(change)
+}
+
+/// The style of a file.
+pub fn read_style_file<I: Inputs>(
+    alloc: Global,
+    inputs: &mut I,
+    file: u32,
+) -> Result<StyleFile, Fault>
+    ensures ok { IfOk result (λ own. IsRead (IsStyle file) file (own.style, own.bytes) (I.view inputs.old) (I.view inputs.new)) }
+    ensures reads { IfOk result (λ own. reading own.bytes ≡ Ok own.style) }
+    ensures err { IfErr result (λ fault. IsUnread (IsStyle file) file fault (I.view inputs.old) (I.view inputs.new)) }
+    ensures asked { (count : ℕ) × I.reads inputs.old (replicate count file) inputs.new }
+{
+    let bytes = match read_all(alloc, inputs, file, MAX_WHOLE) {
+        Ok(bytes) => bytes,
+        Err(fault) => return Err(Fault::in_whole(file, LimitKind::StyleBytes, fault)),
+    };
+    match read_style(alloc, bytes.as_slice()) {
+        Ok(style) => Ok(StyleFile { style, bytes }),
+        Err(fault) => Err(Fault::in_style(file, fault)),
+    }
+}
+
+/// The boundaries of a file.
+pub fn read_bounds_file<I: Inputs>(
+    alloc: Global,
+    inputs: &mut I,
+    file: u32,
+) -> Result<Bounds, Fault>
+    ensures ok { IfOk result (λ bounds. IsRead (IsBounds file) file bounds (I.view inputs.old) (I.view inputs.new)) }
+    ensures err { IfErr result (λ fault. IsUnread (IsBounds file) file fault (I.view inputs.old) (I.view inputs.new)) }
+    ensures asked { (count : ℕ) × I.reads inputs.old (replicate count file) inputs.new }
+{
+    let bytes = match read_all(alloc, inputs, file, MAX_WHOLE) {
+        Ok(bytes) => bytes,
+        Err(fault) => return Err(Fault::in_whole(file, LimitKind::BoundsBytes, fault)),
+    };
+    match read_bounds(alloc, bytes.as_slice()) {
+        Ok(bounds) => Ok(bounds),
+        Err(fault) => Err(Fault::in_bounds(file, fault)),
+    }
+}
