@@ -18,3 +18,10 @@ pub mod BlameLaws
 pub mod SafeLaws
 pub mod HistoryLaws
 pub mod FileLaws
+pub mod HeadLaws
+pub mod StoreDeeds
+pub mod OpenDeeds
+pub mod OpenRuns
+pub mod VersionRuns
+pub mod AppendRuns
+pub mod StoreRuns

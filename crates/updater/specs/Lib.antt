@@ -7,6 +7,8 @@ pub mod Courses
 pub mod Faults
 pub mod Files
 pub mod Forms
+pub mod Handle
+pub mod Heads
 pub mod Keeps
 pub mod Reading
 pub mod Safety

@@ -1,0 +1,188 @@
+-- A store is opened.
+use Rattle.std.proofs.Common.{◌≡◌, ◌≤◌, ◌<◌, ◌⊎◌, ℕ, true, false, Option, Some, None, List, [], length, ⊎_elim, inl, inr, refl, sym, ap, subst, arith}
+use Rattle.std.specs.Prelude.{is_some}
+use Rattle.std.specs.FinMap as finite
+use Rattle.std.proofs.lemmas.List.{length-take-le}
+use Rattle.std.proofs.lemmas.Bool.{cases_lt}
+use Rattle.osm_base.specs.bounds.Limits.{standard}
+use Rattle.outside.specs.Bytes.{IfTold, IsTold}
+use Rattle.outside.specs.Disk.{Crashes, DiskView, Goes}
+use Rattle.outside.specs.Inputs.{FilesView}
+use Rattle.outside.specs.Sink.{SinkView}
+use Rattle.page_journal.specs.Home.{IsFormatted}
+use Rattle.page_journal.specs.declared.fault.StoreFault.TheVariants as stores
+use Rattle.style_read.specs.Style.{StyleOf}
+use Rattle.update_flow.specs.AtRest.{HasFlowCause, IsAt, IsAtEither, IsOfEither, Opens}
+use Rattle.update_flow.specs.Due.{no_tiles}
+use Rattle.update_flow.specs.History.{state_after}
+use Rattle.update_flow.specs.Refusals.{IsNoDiskFault, IsOpenFault}
+use Rattle.update_flow.specs.Stands.{StandsFor}
+use Rattle.update_flow.specs.State.{State, formatted, imported}
+use Rattle.updater.specs.Handle.{Handle, IsOpen, Shows, changes_of, is_imported, is_whole, limits_of, style_of, view_of}
+use Rattle.update_flow.specs.declared.fault.FlowFault.{FlowFault}
+use Rattle.update_flow.specs.declared.fault.FlowFault.TheVariants as flow
+use Rattle.updater.specs.declared.fault.Fault.{Fault}
+use Rattle.updater.specs.declared.fault.Fault.TheVariants as faults
+use Rattle.updater.specs.Comes.{Comes}
+use Rattle.updater.specs.Course.{Course, opens}
+use Rattle.updater.specs.Faults.{flow_fault}
+use Rattle.updater.specs.Heads.{IsHead}
+use Rattle.updater.specs.Keeps.{IsFit, IsKept, IsOneOf, Kept, first, whole}
+use Rattle.updater.specs.Leaves.{HasCause, Leaves, StandsOn, SurvivesFrom}
+use Rattle.updater.specs.Progress.{Standing, unknown, keeps, Progress, Ending, at, begun, opened}
+use Rattle.updater.specs.Runs.{GoesBy}
+use Rattle.updater.specs.World.{Before, remembered, world}
+use Rattle.updater.proofs.Deeds.{took_nothing}
+use Rattle.updater.proofs.HistoryLaws.{one_of_all}
+
+-- a state that tells so of itself
+abbrev shown_state : Option StyleOf → ℕ → State
+shown_state None changes = formatted
+shown_state (Some style) changes = imported (record { style = style; style_bytes = []; buckets = 0; objects = finite.empty; changes = changes; due = no_tiles })
+
+shows_it : (updater : Handle) (style : Option StyleOf) → style_of updater ≡ style → (is_imported updater ≡ false → changes_of updater ≡ 0) → Shows (shown_state style (changes_of updater)) updater
+shows_it updater None is none = record { changes_are = none (let own : is_imported updater ≡ false = ap (λ (style : Option StyleOf). is_some style) is in own); imported_is = ap (λ (style : Option StyleOf). is_some style) is; style_is = is }
+shows_it updater (Some style) is none = record { changes_are = refl; imported_is = ap (λ (style : Option StyleOf). is_some style) is; style_is = is }
+
+-- the bytes are those of one of two states: after the fewest steps, or after the most
+either_kept : (kept : Kept) → IsFit kept → (left : List ℕ) → IsOneOf kept left → IsOfEither (state_after (first kept.least kept.history)) (state_after (first kept.most kept.history)) left
+either_kept kept fit left (steps, low, high, is) = ⊎_elim
+    (λ (below : steps < kept.most). inl (let same : steps ≡ kept.least = omega (arith, low, below, fit.one) in subst (λ (count : ℕ). StandsFor left (state_after (first count kept.history))) same is.stands))
+    (λ (above : kept.most ≤ steps). inr (let same : steps ≡ kept.most = omega (arith, high, above) in subst (λ (count : ℕ). StandsFor left (state_after (first count kept.history))) same is.stands))
+    (cases_lt steps kept.most)
+
+kept_either : (kept : Kept) → IsFit kept → (left : List ℕ) → IsOfEither (state_after (first kept.least kept.history)) (state_after (first kept.most kept.history)) left → IsOneOf kept left
+kept_either kept fit left (inl stands) = (kept.least, omega arith, fit.order, record { within = omega (arith, fit.order, fit.last); stands = stands })
+kept_either kept fit left (inr stands) = (kept.most, fit.order, omega arith, record { within = omega (arith, fit.last); stands = stands })
+
+pub at_either : (disk : DiskView) (kept : Kept) → IsKept disk kept → IsAtEither (state_after (first kept.least kept.history)) (state_after (first kept.most kept.history)) disk
+at_either disk kept is = record { told = is.told; only = λ left out. either_kept kept is.fit left (is.keeps left out) }
+
+-- the store that was opened: at which state, and where the run goes on
+pub record IsBegun (start : Progress) (next : ℕ) (old : Before) (files : FilesView) (updater : Handle) (output : SinkView) : Type 1 where
+  pub state : State
+  pub further : Progress
+  pub head : IsHead start further state next old files updater output
+  pub leads : (rest : State → Course) (ending : Ending) → Comes old (rest state) further ending → Comes old (opens rest) start ending
+
+module _ (files : FilesView) (view : DiskView) (output : SinkView) (only_now : (left : List ℕ) → view.crashes.outcomes_since view.crashes.moment left → view.crashes.outcomes left) where
+  abbrev old : Before
+  old = remembered (world files view output)
+
+  begun_leaves : (store : Standing) (cut : ℕ) (from : Standing) (least : ℕ) (fault : Option Fault) (now : DiskView) → StandsOn fault store old now → SurvivesFrom from cut store view.crashes.moment now.crashes
+      → HasCause old (world files now output) fault → view.faults ≤ now.faults → Leaves (begun from least) (at (begun store cut) fault) old (world files now output)
+  begun_leaves store cut from least fault now stands moments cause later = record {
+    output = took_nothing output.taken;
+    at_end = λ file read. absurd read;
+    others = λ file _ _. refl;
+    store = stands;
+    moments = moments;
+    cause = cause;
+    reads = omega arith;
+    writes = omega arith;
+    disk = later;
+  }
+
+  module _ (kept : Kept) (is : IsKept view kept) where
+    abbrev one : State
+    one = state_after (first kept.least kept.history)
+
+    abbrev other : State
+    other = state_after (first kept.most kept.history)
+
+    begun_moments : (cut : ℕ) (store : Standing) (now : Crashes) → Goes (IsOfEither one other) view.crashes now → SurvivesFrom (keeps kept) cut store view.crashes.moment now
+    begun_moments cut store now goes = record {
+      later = goes.later;
+      each = λ left out. inl (⊎_elim (λ (earlier : view.crashes.outcomes_since view.crashes.moment left). is.keeps left (only_now left earlier))
+          (λ (either : IsOfEither one other left). kept_either kept is.fit left either) (goes.each view.crashes.moment left (omega arith) out));
+    }
+
+    module _ (updater : Handle) (next : ℕ) (limits : limits_of updater ≡ standard) (later : view.faults ≤ (view_of updater).faults)
+        (goes : Goes (IsOfEither one other) view.crashes (view_of updater).crashes) where
+      begun_at : (cut : ℕ) → kept.least ≤ cut → cut ≤ kept.most → IsOpen (state_after (first cut kept.history)) updater → IsBegun (begun (keeps kept) kept.least) next old files updater output
+      begun_at cut low high rests =
+          let within : cut ≤ length kept.history.steps = omega (arith, high, is.fit.last) in
+          record {
+            state = state_after (first cut kept.history);
+            further = opened kept cut (begun (keeps kept) kept.least);
+            head = record {
+              here = record { all = refl; cut_within = (let long = length-take-le cut kept.history.steps within in omega (arith, long)); stands = refl; rests = rests };
+              vague = λ e. absurd (cc);
+              limits = limits;
+              unread = λ file above read. read;
+              so_far = begun_leaves (keeps (whole (first cut kept.history))) cut (keeps kept) kept.least None (view_of updater) (
+                (λ left out. subst (λ (bytes : List ℕ). IsOneOf (whole (first cut kept.history)) bytes) (sym (rests.at_rest.only left out)) (one_of_all rests.at_rest.bytes (first cut kept.history) rests.at_rest.stands)),
+                λ _. (rests.at_rest.bytes, rests.at_rest.told),
+              )
+                  (begun_moments cut (keeps (whole (first cut kept.history))) (view_of updater).crashes goes) tt later;
+            };
+            leads = λ rest ending comes. inr (cut, low, high, comes);
+          }
+
+      pub begun_kept : (IsAt one (view_of updater) ⊎ IsAt other (view_of updater)) → ((state : State) → IsAt state (view_of updater) → IsOpen state updater)
+          → IsBegun (begun (keeps kept) kept.least) next old files updater output
+      begun_kept (inl rests) open_so = begun_at kept.least (omega arith) is.fit.order (open_so one rests)
+      begun_kept (inr rests) open_so = begun_at kept.most is.fit.order (omega arith) (open_so other rests)
+
+    -- the opening is refused
+    pub refused_kept : (fault : FlowFault) (now : DiskView) (rest : State → Course) → Opens one other (Some fault) view now → (IsNoDiskFault (Some fault) → IsTold now.content) → HasFlowCause (Some fault) view now
+        → GoesBy (opens rest) (begun (keeps kept) kept.least) (Some (flow_fault fault)) (world files view output) (world files now output)
+    refused_kept (flow.Store stores.DiskFault) now rest opened told cause = (
+      at (begun (keeps kept) kept.least) (Some faults.DiskFault),
+      refl,
+      inl (inl refl),
+      begun_leaves (keeps kept) kept.least (keeps kept) kept.least (Some faults.DiskFault) now ((λ left out. kept_either kept is.fit left (opened.moments.now left out)), λ not. absurd (not refl))
+          (begun_moments kept.least (keeps kept) now.crashes opened.moments) (cause.failed refl) cause.later,
+    )
+    refused_kept flow.OutOfMemory now rest opened told cause = (
+      at (begun (keeps kept) kept.least) (Some faults.OutOfMemory),
+      refl,
+      inl (inr refl),
+      begun_leaves (keeps kept) kept.least (keeps kept) kept.least (Some faults.OutOfMemory) now ((λ left out. kept_either kept is.fit left (opened.moments.now left out)), λ not. told tt)
+          (begun_moments kept.least (keeps kept) now.crashes opened.moments) tt cause.later,
+    )
+    refused_kept (flow.Store stores.NotFormatted) now rest opened told cause = absurd (let none : Some (flow.Store stores.NotFormatted) ≡ None = opened.answer in cc)
+    refused_kept (flow.Store stores.NotEmpty) now rest opened told cause = absurd (let none : Some (flow.Store stores.NotEmpty) ≡ None = opened.answer in cc)
+    refused_kept (flow.Store (stores.BadStore page)) now rest opened told cause = absurd (let none : Some (flow.Store (stores.BadStore page)) ≡ None = opened.answer in cc)
+    refused_kept (flow.Store (stores.StoreFull pages)) now rest opened told cause = absurd (let none : Some (flow.Store (stores.StoreFull pages)) ≡ None = opened.answer in cc)
+    refused_kept (flow.Store stores.Broken) now rest opened told cause = absurd (let none : Some (flow.Store stores.Broken) ≡ None = opened.answer in cc)
+    refused_kept (flow.Store stores.OutOfMemory) now rest opened told cause = absurd (let none : Some (flow.Store stores.OutOfMemory) ≡ None = opened.answer in cc)
+    refused_kept flow.NotImported now rest opened told cause = absurd (let none : Some flow.NotImported ≡ None = opened.answer in cc)
+    refused_kept flow.AlreadyImported now rest opened told cause = absurd (let none : Some flow.AlreadyImported ≡ None = opened.answer in cc)
+    refused_kept flow.LastChange now rest opened told cause = absurd (let none : Some flow.LastChange ≡ None = opened.answer in cc)
+    refused_kept (flow.TooMany value) now rest opened told cause = absurd (let none : Some (flow.TooMany value) ≡ None = opened.answer in cc)
+
+  -- whatever the disk holds
+  pub begun_vague : (updater : Handle) (next : ℕ) → limits_of updater ≡ standard → is_whole updater ≡ true → (is_imported updater ≡ false → changes_of updater ≡ 0) → view.faults ≤ (view_of updater).faults
+      → IsBegun (begun unknown 0) next old files updater output
+  begun_vague updater next limits sound none later = record {
+    state = shown_state (style_of updater) (changes_of updater);
+    further = begun unknown 0;
+    head = record {
+      here = record { shows = shows_it updater (style_of updater) refl none; whole = sound };
+      vague = λ _. tt;
+      limits = limits;
+      unread = λ file above read. read;
+      so_far = begun_leaves unknown 0 unknown 0 None (view_of updater) tt tt tt later;
+    };
+    leads = λ rest ending comes. inr (inr (inr (shown_state (style_of updater) (changes_of updater), comes)));
+  }
+
+  pub refused_vague : (fault : FlowFault) (now : DiskView) (rest : State → Course) → IsOpenFault fault → (fault ≡ flow.Store stores.NotFormatted → IfTold view.content (λ bytes. ¬ IsFormatted bytes)) → HasFlowCause (Some fault) view now
+      → GoesBy (opens rest) (begun unknown 0) (Some (flow_fault fault)) (world files view output) (world files now output)
+  refused_vague (flow.Store stores.NotFormatted) now rest alone none cause =
+      (at (begun unknown 0) (Some faults.NotFormatted), refl, inr (inl (none refl, refl)), begun_leaves unknown 0 unknown 0 (Some faults.NotFormatted) now tt tt tt cause.later)
+  refused_vague (flow.Store (stores.BadStore page)) now rest alone none cause =
+      (at (begun unknown 0) (Some (faults.BadStore page)), refl, inr (inr (inl (flow.Store (stores.BadStore page), tt, refl))), begun_leaves unknown 0 unknown 0 (Some (faults.BadStore page)) now tt tt tt cause.later)
+  refused_vague (flow.Store stores.DiskFault) now rest alone none cause =
+      (at (begun unknown 0) (Some faults.DiskFault), refl, inl (inl refl), begun_leaves unknown 0 unknown 0 (Some faults.DiskFault) now tt tt (cause.failed refl) cause.later)
+  refused_vague flow.OutOfMemory now rest alone none cause =
+      (at (begun unknown 0) (Some faults.OutOfMemory), refl, inl (inr refl), begun_leaves unknown 0 unknown 0 (Some faults.OutOfMemory) now tt tt tt cause.later)
+  refused_vague (flow.Store stores.NotEmpty) now rest alone none cause = absurd alone
+  refused_vague (flow.Store (stores.StoreFull pages)) now rest alone none cause = absurd alone
+  refused_vague (flow.Store stores.Broken) now rest alone none cause = absurd alone
+  refused_vague (flow.Store stores.OutOfMemory) now rest alone none cause = absurd alone
+  refused_vague flow.NotImported now rest alone none cause = absurd alone
+  refused_vague flow.AlreadyImported now rest alone none cause = absurd alone
+  refused_vague flow.LastChange now rest alone none cause = absurd alone
+  refused_vague (flow.TooMany value) now rest alone none cause = absurd alone

@@ -1,0 +1,61 @@
+-- A run that opens its store first.
+use Rattle.std.proofs.Common.{◌≡◌, ℕ, true, false, Option, Some, None, List, inl, inr, refl, sym, subst}
+use Rattle.osm_base.specs.bounds.Limits.{standard}
+use Rattle.outside.specs.Bytes.{IfTold, IsTold}
+use Rattle.outside.specs.Disk.{DiskView}
+use Rattle.outside.specs.Inputs.{FilesView}
+use Rattle.outside.specs.Sink.{SinkView}
+use Rattle.page_journal.specs.Home.{IsFormatted}
+use Rattle.page_journal.specs.declared.fault.StoreFault.TheVariants as stores
+use Rattle.update_flow.specs.AtRest.{HasFlowCause, IsAt, IsAtEither, Opens}
+use Rattle.update_flow.specs.Refusals.{IsNoDiskFault, IsOpenFault}
+use Rattle.update_flow.specs.State.{State}
+use Rattle.updater.specs.Handle.{Handle, IsOpen, changes_of, is_imported, is_whole, limits_of, view_of}
+use Rattle.update_flow.specs.declared.fault.FlowFault.{FlowFault}
+use Rattle.update_flow.specs.declared.fault.FlowFault.TheVariants as flow
+use Rattle.updater.specs.declared.fault.Fault.{Fault}
+use Rattle.updater.specs.Command.{old_store}
+use Rattle.updater.specs.Course.{Course, opens}
+use Rattle.updater.specs.Faults.{flow_fault}
+use Rattle.updater.specs.Heads.{GoesOn, IsHead}
+use Rattle.updater.specs.Progress.{Progress}
+use Rattle.updater.specs.Runs.{Begins, GoesBy}
+use Rattle.updater.specs.World.{Before, World, remembered, world}
+use Rattle.updater.proofs.OpenDeeds.{IsBegun, at_either, begun_kept, begun_vague, refused_kept, refused_vague}
+use Rattle.updater.proofs.VersionRuns.{goes_back}
+
+module _ (files : FilesView) (view : DiskView) (output : SinkView) (only_now : (left : List ℕ) → view.crashes.outcomes_since view.crashes.moment left → view.crashes.outcomes left)
+    (start : Progress) (begins : Begins old_store (world files view output) start) where
+  abbrev Old : Before
+  Old = remembered (world files view output)
+
+  -- the opening is refused
+  pub unopened : (fault : FlowFault) (now : DiskView) (rest : State → Course) → ((one other : State) → IsAtEither one other view → Opens one other (Some fault) view now)
+      → (IsTold view.content → IsNoDiskFault (Some fault) → IsTold now.content) → IsOpenFault fault → (fault ≡ flow.Store stores.NotFormatted → IfTold view.content (λ bytes. ¬ IsFormatted bytes)) → HasFlowCause (Some fault) view now
+      → GoesBy (opens rest) start (Some (flow_fault fault)) (world files view output) (world files now output)
+  unopened fault now rest opened told alone none cause = by begins
+    where
+      by : Begins old_store (world files view output) start → GoesBy (opens rest) start (Some (flow_fault fault)) (world files view output) (world files now output)
+      by (inl is) = subst (λ (own : Progress). GoesBy (opens rest) own (Some (flow_fault fault)) (world files view output) (world files now output)) (sym is)
+          (refused_vague files view output only_now fault now rest alone none cause)
+      by (inr (kept, fits, is)) = subst (λ (own : Progress). GoesBy (opens rest) own (Some (flow_fault fault)) (world files view output) (world files now output)) (sym is)
+          (refused_kept files view output only_now kept fits fault now rest (opened _ _ (at_either view kept fits)) (told fits.told) cause)
+
+  module _ (updater : Handle) (next : ℕ) (opened : (one other : State) → IsAtEither one other view → Opens one other None view (view_of updater))
+      (open_so : (state : State) → IsAt state (view_of updater) → IsOpen state updater) (limits : limits_of updater ≡ standard) (sound : is_whole updater ≡ true)
+      (none : is_imported updater ≡ false → changes_of updater ≡ 0) (cause : HasFlowCause None view (view_of updater)) where
+    is_begun : IsBegun start next Old files updater output
+    is_begun = by begins
+      where
+        by : Begins old_store (world files view output) start → IsBegun start next Old files updater output
+        by (inl is) = subst (λ (own : Progress). IsBegun own next Old files updater output) (sym is) (begun_vague files view output only_now updater next limits sound none cause.later)
+        by (inr (kept, fits, is)) = subst (λ (own : Progress). IsBegun own next Old files updater output) (sym is)
+            (let own = opened _ _ (at_either view kept fits) in begun_kept files view output only_now kept fits updater next limits cause.later own.moments (own.found refl) open_so)
+
+    -- the run goes on over the open store
+    pub goes_opened : (rest : State → Course) (fault : Option Fault) (new : World)
+        → ((old : Before) (start done : Progress) (state : State) → IsHead start done state next old files updater output → GoesOn (rest state) start done fault old new)
+        → GoesBy (opens rest) start fault (world files view output) new
+    goes_opened rest fault new goes =
+        let own = is_begun in
+        goes_back (opens rest) (rest own.state) start start own.further fault Old new (goes Old start own.further own.state own.head) (own.leads rest)

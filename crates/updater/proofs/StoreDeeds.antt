@@ -1,0 +1,382 @@
+-- The deeds of a run on its open store.
+use Rattle.std.proofs.Common.{◌≡◌, ◌≤◌, ◌+◌, ◌⊎◌, ℕ, true, false, Option, Some, None, List, [], ◌∷◌, length, ⊎_elim, inl, inr, refl, sym, ◌∙◌, ap, subst, arith}
+use Rattle.osm_base.specs.bounds.Limits.{standard}
+use Rattle.osm_base.specs.declared.bounds.limits.LimitNumbers.{LimitNumbers}
+use Rattle.outside.specs.Causes.{Rose}
+use Rattle.outside.specs.Disk.{Crashes, Goes}
+use Rattle.outside.specs.Inputs.{FilesView}
+use Rattle.outside.specs.Sink.{SinkView}
+use Rattle.page_journal.specs.declared.fault.StoreFault.TheVariants as stores
+use Rattle.update_flow.specs.AtRest.{HasFlowCause, IsAt, IsOfEither, RestsAt}
+use Rattle.update_flow.specs.History.{History, state_after}
+use Rattle.update_flow.specs.Refusals.{IsCallFault, IsNoDiskFault, MayAnswer, MayLook, OrFull, Refuses, RefusesLook}
+use Rattle.update_flow.specs.Stands.{StandsFor}
+use Rattle.update_flow.specs.State.{Holding, State, imported, Step, after}
+use Rattle.updater.specs.Handle.{Handle, IsOpen, Looks, Shows, Takes, is_whole, limits_of, view_of}
+use Rattle.update_flow.specs.declared.fault.FlowFault.{FlowFault}
+use Rattle.update_flow.specs.declared.fault.FlowFault.TheVariants as flow
+use Rattle.updater.specs.declared.fault.Fault.{Fault}
+use Rattle.updater.specs.declared.fault.Fault.TheVariants as faults
+use Rattle.updater.specs.Comes.{Comes, ByStore, IfUnknown, IsRefusal, IsRefusedFor, IsStepFault}
+use Rattle.updater.specs.Course.{Course, looks, commits}
+use Rattle.updater.specs.Faults.{flow_fault}
+use Rattle.updater.specs.Heads.{GoesOn, IsHead, IsHere, IsRested, IsShown, KeptNone}
+use Rattle.updater.specs.Keeps.{Is, IsOneOf, Kept, perhaps, whole, with_step, with_steps}
+use Rattle.updater.specs.Leaves.{HasCause, IsPast, Leaves, StandsOn, SurvivesFrom}
+use Rattle.updater.specs.Progress.{Standing, unused, unknown, keeps, half_made, Progress, Ending, at, committed, in_doubt}
+use Rattle.updater.specs.World.{Before, World, world}
+use Rattle.updater.proofs.HistoryLaws.{is_all, is_more, is_next, length_more, one_of_all, state-more}
+
+-- a fault that is neither the disk's nor want of memory
+record IsPlain (fault : FlowFault) : Type 1 where
+  step : IsStepFault fault
+  causeless : (old : Before) (new : World) → HasCause old new (Some (flow_fault fault))
+  no_disk : IsNoDiskFault (Some fault)
+  answers : (limits : LimitNumbers) (state : State) (step : Step) → MayAnswer limits state step (Some fault) → OrFull limits (Some fault) (Refuses limits state step (Some fault))
+  looks_so : (state : State) → MayLook state (Some fault) → RefusesLook state (Some fault)
+
+data Kinds (fault : FlowFault) : Type 1 where
+  of_disk : fault ≡ flow.Store stores.DiskFault → Kinds fault
+  of_memory : fault ≡ flow.OutOfMemory → Kinds fault
+  plain : IsPlain fault → Kinds fault
+
+kind_of : (fault : FlowFault) → IsCallFault fault → (fault ≡ flow.Store stores.Broken → ⊥) → Kinds fault
+kind_of (flow.Store stores.DiskFault) call sound = of_disk refl
+kind_of flow.OutOfMemory call sound = of_memory refl
+kind_of (flow.Store stores.Broken) call sound = absurd (sound refl)
+kind_of (flow.Store stores.NotFormatted) call sound = absurd call
+kind_of (flow.Store stores.NotEmpty) call sound = absurd call
+kind_of (flow.Store stores.OutOfMemory) call sound = absurd call
+kind_of (flow.Store (stores.BadStore page)) call sound = plain (record { step = tt; causeless = λ old new. tt; no_disk = tt; answers = λ limits state step h. h; looks_so = λ state h. h })
+kind_of (flow.Store (stores.StoreFull pages)) call sound = plain (record { step = tt; causeless = λ old new. tt; no_disk = tt; answers = λ limits state step h. h; looks_so = λ state h. h })
+kind_of flow.NotImported call sound = plain (record { step = tt; causeless = λ old new. tt; no_disk = tt; answers = λ limits state step h. h; looks_so = λ state h. h })
+kind_of flow.AlreadyImported call sound = plain (record { step = tt; causeless = λ old new. tt; no_disk = tt; answers = λ limits state step h. h; looks_so = λ state h. h })
+kind_of flow.LastChange call sound = plain (record { step = tt; causeless = λ old new. tt; no_disk = tt; answers = λ limits state step h. h; looks_so = λ state h. h })
+kind_of (flow.TooMany value) call sound = plain (record { step = tt; causeless = λ old new. tt; no_disk = tt; answers = λ limits state step h. h; looks_so = λ state h. h })
+
+-- what was so at each moment is so when the run goes on
+moments_on : (from : Standing) (cut : ℕ) (store further : Standing) (moment : ℕ) (one other : Crashes) (P : List ℕ → Type 0) → SurvivesFrom from cut store moment one → Goes P one other
+    → ((left : List ℕ) → IsPast cut store left → IsPast cut further left) → ((left : List ℕ) → P left → IsPast cut further left) → SurvivesFrom from cut further moment other
+moments_on unused cut store further moment one other P so_far goes lifts news = tt
+moments_on unknown cut store further moment one other P so_far goes lifts news = tt
+moments_on half_made cut store further moment one other P so_far goes lifts news = tt
+moments_on (keeps kept) cut store further moment one other P so_far goes lifts news = record {
+  later = omega (arith, so_far.later, goes.later);
+  each = λ left out. ⊎_elim
+      (λ (earlier : one.outcomes_since moment left). ⊎_elim (λ (own : IsOneOf kept left). inl own) (λ (own : IsPast cut store left). inr (lifts left own)) (so_far.each left earlier))
+      (λ (own : P left). inr (news left own)) (goes.each moment left so_far.later out);
+}
+
+no_moments : (from : Standing) (cut : ℕ) (store : Standing) (moment : ℕ) (crashes : Crashes) → KeptNone from → SurvivesFrom from cut store moment crashes
+no_moments unused cut store moment crashes none = tt
+no_moments unknown cut store moment crashes none = tt
+no_moments half_made cut store moment crashes none = tt
+no_moments (keeps kept) cut store moment crashes none = absurd none
+
+-- the progress with this standing and cut
+abbrev standing : Standing → ℕ → Progress → Progress
+standing store cut done = record { store = store; cut = cut; read = done.read; written = done.written }
+
+module _ (start done : Progress) (state : State) (next : ℕ) (old : Before) (files : FilesView) (before now : Handle) (output : SinkView)
+    (head : IsHead start done state next old files before output) where
+  store_leaves : (store : Standing) (cut : ℕ) (fault : Option Fault) → StandsOn fault store old (view_of now) → SurvivesFrom start.store cut store old.moment (view_of now).crashes
+      → HasCause old (world files (view_of now) output) fault → (view_of before).faults ≤ (view_of now).faults → Leaves start (at (standing store cut done) fault) old (world files (view_of now) output)
+  store_leaves store cut fault stands moments cause later = record {
+    output = head.so_far.output;
+    at_end = head.so_far.at_end;
+    others = head.so_far.others;
+    store = stands;
+    moments = moments;
+    cause = cause;
+    reads = head.so_far.reads;
+    writes = head.so_far.writes;
+    disk = omega (arith, head.so_far.disk, later);
+  }
+
+  -- nothing is known of the store
+  module _ (is : done.store ≡ unknown) (later : (view_of before).faults ≤ (view_of now).faults) where
+    vague_leaves : (fault : Option Fault) → HasCause old (world files (view_of now) output) fault → Leaves start (at done fault) old (world files (view_of now) output)
+    vague_leaves fault cause = store_leaves done.store done.cut fault (subst (λ (store : Standing). StandsOn fault store old (view_of now)) (sym is) tt)
+        (no_moments start.store done.cut done.store old.moment (view_of now).crashes (head.vague is)) cause later
+
+    vague_head : (other : State) → IsShown other now → limits_of now ≡ limits_of before → IsHead start done other next old files now output
+    vague_head other shown same = record {
+      here = subst (λ (store : Standing). IsHere store done.cut other now) (sym is) shown;
+      vague = head.vague;
+      limits = same ∙ head.limits;
+      unread = head.unread;
+      so_far = vague_leaves None tt;
+    }
+
+  -- the store keeps a history
+  module _ (kept : Kept) (is : done.store ≡ keeps kept) (here : IsRested kept done.cut state before) (later : (view_of before).faults ≤ (view_of now).faults) where
+    past_here : (left : List ℕ) → IsPast done.cut done.store left → (steps : ℕ) × (done.cut ≤ steps) × Is left kept.history steps
+    past_here left past = subst (λ (store : Standing). IsPast done.cut store left) is past
+
+    all_here : (left : List ℕ) → StandsFor left state → Is left kept.history (length kept.history.steps)
+    all_here left stands = is_all left kept.history (subst (λ (own : State). StandsFor left own) (sym here.stands) stands)
+
+    past_there : (left : List ℕ) → StandsFor left state → IsPast done.cut done.store left
+    past_there left stands = subst (λ (store : Standing). IsPast done.cut store left) (sym is) (length kept.history.steps, here.cut_within, all_here left stands)
+
+    -- and rests at its state
+    rested_stands : (fault : Option Fault) → IsAt state (view_of now) → StandsOn fault done.store old (view_of now)
+    rested_stands fault rests = subst (λ (store : Standing). StandsOn fault store old (view_of now)) (sym is) (
+      (λ left out. subst (λ (own : Kept). IsOneOf own left) (sym here.all) (subst (λ (bytes : List ℕ). IsOneOf (whole kept.history) bytes) (sym (rests.only left out))
+          (one_of_all rests.bytes kept.history (subst (λ (own : State). StandsFor rests.bytes own) (sym here.stands) rests.stands)))),
+      λ _. (rests.bytes, rests.told),
+    )
+
+    rested_moments : RestsAt state (view_of before) (view_of now) → SurvivesFrom start.store done.cut done.store old.moment (view_of now).crashes
+    rested_moments goes = moments_on start.store done.cut done.store done.store old.moment (view_of before).crashes (view_of now).crashes (λ left. StandsFor left state) head.so_far.moments goes (λ left past. past) past_there
+
+    rested_leaves : (fault : Option Fault) → IsAt state (view_of now) → RestsAt state (view_of before) (view_of now) → HasCause old (world files (view_of now) output) fault
+        → Leaves start (at done fault) old (world files (view_of now) output)
+    rested_leaves fault rests goes cause = store_leaves done.store done.cut fault (rested_stands fault rests) (rested_moments goes) cause later
+
+    rested_head : IsOpen state now → RestsAt state (view_of before) (view_of now) → limits_of now ≡ limits_of before → IsHead start done state next old files now output
+    rested_head rests goes same = record {
+      here = subst (λ (store : Standing). IsHere store done.cut state now) (sym is) (record { all = here.all; cut_within = here.cut_within; stands = here.stands; rests = rests });
+      vague = head.vague;
+      limits = same ∙ head.limits;
+      unread = head.unread;
+      so_far = rested_leaves None rests.at_rest goes tt;
+    }
+
+    -- the disk failed in a look
+    failed_leaves : RestsAt state (view_of before) (view_of now) → HasCause old (world files (view_of now) output) (Some faults.DiskFault)
+        → Leaves start (at done (Some faults.DiskFault)) old (world files (view_of now) output)
+    failed_leaves goes cause = store_leaves done.store done.cut (Some faults.DiskFault)
+        (subst (λ (store : Standing). StandsOn (Some faults.DiskFault) store old (view_of now)) (sym is) (
+          (λ left out. subst (λ (own : Kept). IsOneOf own left) (sym here.all) (one_of_all left kept.history (subst (λ (own : State). StandsFor left own) (sym here.stands) (goes.now left out)))),
+          λ not. absurd (not refl),
+        ))
+        (rested_moments goes) cause later
+
+    -- a step was begun
+    module _ (step : Step) (goes : Goes (IsOfEither state (after state step)) (view_of before).crashes (view_of now).crashes) where
+      next_here : (left : List ℕ) → StandsFor left (after state step) → Is left (with_steps (step ∷ []) kept.history) (length kept.history.steps + 1)
+      next_here left stands = is_next left kept.history step (subst (λ (own : State). StandsFor left (after own step)) (sym here.stands) stands)
+
+      grown_moments : (other : Kept) → other.history ≡ with_steps (step ∷ []) kept.history → SurvivesFrom start.store done.cut (keeps other) old.moment (view_of now).crashes
+      grown_moments other same = moments_on start.store done.cut done.store (keeps other) old.moment (view_of before).crashes (view_of now).crashes (IsOfEither state (after state step)) head.so_far.moments goes
+          (λ left past. let own = past_here left past in (own.0, own.1, subst (λ (history : History). Is left history own.0) (sym same) (is_more left kept.history (step ∷ []) own.0 own.2)))
+          (λ left either. ⊎_elim
+          (λ (stands : StandsFor left state). (length kept.history.steps, here.cut_within, subst (λ (history : History). Is left history (length kept.history.steps)) (sym same) (is_more left kept.history (step ∷ []) (length kept.history.steps) (all_here left stands))))
+          (λ (stands : StandsFor left (after state step)). (length kept.history.steps + 1, omega (arith, here.cut_within), subst (λ (history : History). Is left history (length kept.history.steps + 1)) (sym same) (next_here left stands))) either)
+
+      -- and is done
+      stepped_head : IsOpen (after state step) now → limits_of now ≡ limits_of before → IsHead start (committed step kept done) (after state step) next old files now output
+      stepped_head rests same = record {
+        here = record {
+          all = refl;
+          cut_within = omega (arith, here.cut_within, length_more kept.history.steps step);
+          stands = state-more step kept.history ∙ ap (λ (own : State). after own step) here.stands;
+          rests = rests;
+        };
+        vague = λ e. absurd (cc);
+        limits = same ∙ head.limits;
+        unread = head.unread;
+        so_far = store_leaves (keeps (with_step step kept)) done.cut None (
+          (λ left out. subst (λ (bytes : List ℕ). IsOneOf (with_step step kept) bytes) (sym (rests.at_rest.only left out))
+              (one_of_all rests.at_rest.bytes (with_steps (step ∷ []) kept.history)
+              (subst (λ (own : State). StandsFor rests.at_rest.bytes own) (sym (state-more step kept.history ∙ ap (λ (own : State). after own step) here.stands)) rests.at_rest.stands))),
+          λ _. (rests.at_rest.bytes, rests.at_rest.told),
+        )
+            (grown_moments (with_step step kept) refl) tt later;
+      }
+
+      -- or the disk failed in it
+      doubt_leaves : HasCause old (world files (view_of now) output) (Some faults.DiskFault) → Leaves start (at (in_doubt step kept done) (Some faults.DiskFault)) old (world files (view_of now) output)
+      doubt_leaves cause = store_leaves (keeps (perhaps step kept)) done.cut (Some faults.DiskFault) (
+        (λ left out. ⊎_elim
+            (λ (stands : StandsFor left state). (length kept.history.steps, omega arith, omega arith, is_more left kept.history (step ∷ []) (length kept.history.steps) (all_here left stands)))
+            (λ (stands : StandsFor left (after state step)). (length kept.history.steps + 1, omega arith, omega arith, next_here left stands)) (goes.now left out)),
+        λ not. absurd (not refl),
+      )
+          (grown_moments (perhaps step kept) refl) cause later
+
+-- a step that was taken: how far the run has come, and where it goes on
+pub record IsStepped (start done : Progress) (state : State) (next : ℕ) (old : Before) (files : FilesView) (updater : Handle) (output : SinkView) (step : Step) : Type 1 where
+  pub further : Progress
+  pub head : IsHead start further (after state step) next old files updater output
+  pub leads : (rest : Course) (ending : Ending) → Comes old rest further ending → Comes old (commits step rest) done ending
+
+module _ (start done : Progress) (state : State) (next : ℕ) (old : Before) (files : FilesView) (before now : Handle) (output : SinkView)
+    (head : IsHead start done state next old files before output) where
+  rose_disk : (fault : FlowFault) → fault ≡ flow.Store stores.DiskFault → HasFlowCause (Some fault) (view_of before) (view_of now) → Rose old.disk_faults (view_of now).faults
+  rose_disk fault is cause = let rose = cause.failed (ap Some is) in omega (arith, head.so_far.disk, rose)
+
+  sound_here : (store : Standing) → IsHere store done.cut state before → is_whole before ≡ true
+  sound_here unused here = absurd here
+  sound_here unknown here = here.whole
+  sound_here (keeps kept) here = here.rests.sound
+  sound_here half_made here = absurd here
+
+  not_broken : (fault : FlowFault) → (fault ≡ flow.Store stores.Broken → is_whole before ≡ false) → fault ≡ flow.Store stores.Broken → ⊥
+  not_broken fault broken is = absurd (let two : true ≡ false = sym (sound_here done.store head.here) ∙ broken is in cc)
+
+  -- a step is taken
+  module _ (step : Step) (takes : (own : State) → IsOpen own before → Takes own step None before now) (shows : Shows state before → Shows (after state step) now)
+      (sound : is_whole now ≡ true) (same : limits_of now ≡ limits_of before) (cause : HasFlowCause None (view_of before) (view_of now)) where
+    taken_by : (store : Standing) → done.store ≡ store → IsHere store done.cut state before → IsStepped start done state next old files now output step
+    taken_by unused is here = absurd here
+    taken_by half_made is here = absurd here
+    taken_by unknown is here = record {
+      further = done;
+      head = vague_head start done state next old files before now output head is cause.later (after state step) (record { shows = shows here.shows; whole = sound }) same;
+      leads = λ rest ending comes. inr (subst (λ (store : Standing). ByStore store
+          (λ kept. (ending ≡ at (in_doubt step kept done) (Some faults.DiskFault)) ⊎ IsRefusedFor (IsRefusal (state_after kept.history) step) done ending
+          ⊎ (Refuses standard (state_after kept.history) step None × Comes old rest (committed step kept done) ending))
+          (IsRefusedFor IsStepFault done ending ⊎ Comes old rest done ending)) (sym is) (inr comes));
+    }
+    taken_by (keeps kept) is here =
+        let own = takes state here.rests in
+        let answer : Refuses standard state step None = subst (λ (limits : LimitNumbers). Refuses limits state step None) head.limits own.answer in
+        record {
+          further = committed step kept done;
+          head = stepped_head start done state next old files before now output head kept is here cause.later step own.moments (own.done refl) same;
+          leads = λ rest ending comes. inr (subst (λ (store : Standing). ByStore store
+              (λ kept. (ending ≡ at (in_doubt step kept done) (Some faults.DiskFault)) ⊎ IsRefusedFor (IsRefusal (state_after kept.history) step) done ending
+              ⊎ (Refuses standard (state_after kept.history) step None × Comes old rest (committed step kept done) ending))
+              (IsRefusedFor IsStepFault done ending ⊎ Comes old rest done ending)) (sym is)
+              (inr (inr (subst (λ (own : State). Refuses standard own step None) (sym here.stands) answer, comes))));
+        }
+
+    pub taken : IsStepped start done state next old files now output step
+    taken = taken_by done.store refl head.here
+
+  -- a step is refused
+  module _ (step : Step) (fault : FlowFault) (takes : (own : State) → IsOpen own before → Takes own step (Some fault) before now) (call : IsCallFault fault)
+      (broken : fault ≡ flow.Store stores.Broken → is_whole before ≡ false) (cause : HasFlowCause (Some fault) (view_of before) (view_of now)) (rest : Course) where
+    abbrev Goal : Type 0
+    Goal = GoesOn (commits step rest) start done (Some (flow_fault fault)) old (world files (view_of now) output)
+
+    abbrev Known : Ending → Kept → Type 0
+    Known ending kept = (ending ≡ at (in_doubt step kept done) (Some faults.DiskFault)) ⊎ IsRefusedFor (IsRefusal (state_after kept.history) step) done ending
+        ⊎ (Refuses standard (state_after kept.history) step None × Comes old rest (committed step kept done) ending)
+
+    abbrev Vague : Ending → Type 0
+    Vague ending = IsRefusedFor IsStepFault done ending ⊎ Comes old rest done ending
+
+    refused_vague : done.store ≡ unknown → Kinds fault → Goal
+    refused_vague is (of_disk own) = (
+      at done (Some faults.DiskFault),
+      ap Some (sym (ap flow_fault own)),
+      inl (inl refl),
+      vague_leaves start done state next old files before now output head is cause.later (Some faults.DiskFault) (rose_disk fault own cause),
+    )
+    refused_vague is (of_memory own) = (
+      at done (Some faults.OutOfMemory),
+      ap Some (sym (ap flow_fault own)),
+      inl (inr refl),
+      vague_leaves start done state next old files before now output head is cause.later (Some faults.OutOfMemory) tt,
+    )
+    refused_vague is (plain own) = (
+      at done (Some (flow_fault fault)),
+      refl,
+      inr (subst (λ (store : Standing). ByStore store (Known (at done (Some (flow_fault fault)))) (Vague (at done (Some (flow_fault fault))))) (sym is) (inl (fault, own.step, refl))),
+      vague_leaves start done state next old files before now output head is cause.later (Some (flow_fault fault)) (own.causeless old (world files (view_of now) output)),
+    )
+
+    refused_known : (kept : Kept) → done.store ≡ keeps kept → IsRested kept done.cut state before → Kinds fault → Goal
+    refused_known kept is here (of_disk own) = (
+      at (in_doubt step kept done) (Some faults.DiskFault),
+      ap Some (sym (ap flow_fault own)),
+      inr (subst (λ (store : Standing). ByStore store (Known (at (in_doubt step kept done) (Some faults.DiskFault))) (Vague (at (in_doubt step kept done) (Some faults.DiskFault)))) (sym is) (inl refl)),
+      doubt_leaves start done state next old files before now output head kept is here cause.later step (takes state here.rests).moments (rose_disk fault own cause),
+    )
+    refused_known kept is here (of_memory own) =
+        let rested = (takes state here.rests).refused (λ e. absurd (cc)) (subst (λ (own : FlowFault). IsNoDiskFault (Some own)) (sym own) tt) in (
+          at done (Some faults.OutOfMemory),
+          ap Some (sym (ap flow_fault own)),
+          inl (inr refl),
+          rested_leaves start done state next old files before now output head kept is here cause.later (Some faults.OutOfMemory) rested.0.at_rest rested.1 tt,
+        )
+    refused_known kept is here (plain own) =
+        let rested = (takes state here.rests).refused (λ e. absurd (cc)) own.no_disk in
+        let why = own.answers standard state step (subst (λ (limits : LimitNumbers). MayAnswer limits state step (Some fault)) head.limits (takes state here.rests).answer) in (
+          at done (Some (flow_fault fault)),
+          refl,
+          inr (subst (λ (store : Standing). ByStore store (Known (at done (Some (flow_fault fault)))) (Vague (at done (Some (flow_fault fault))))) (sym is)
+              (inr (inl (fault, (own.step, subst (λ (state : State). OrFull standard (Some fault) (Refuses standard state step (Some fault))) (sym here.stands) why), refl)))),
+          rested_leaves start done state next old files before now output head kept is here cause.later (Some (flow_fault fault)) rested.0.at_rest rested.1 (own.causeless old (world files (view_of now) output)),
+        )
+
+    refused_by : (store : Standing) → done.store ≡ store → IsHere store done.cut state before → Goal
+    refused_by unused is here = absurd here
+    refused_by half_made is here = absurd here
+    refused_by unknown is here = refused_vague is (kind_of fault call (not_broken fault broken))
+    refused_by (keeps kept) is here = refused_known kept is here (kind_of fault call (not_broken fault broken))
+
+    pub refused_step : Goal
+    refused_step = refused_by done.store refl head.here
+
+module _ (start done : Progress) (held : Holding) (next : ℕ) (old : Before) (files : FilesView) (before now : Handle) (output : SinkView)
+    (head : IsHead start done (imported held) next old files before output) where
+  -- the store is looked at
+  module _ (looked : (own : State) → IsOpen own before → Looks own None before now) (shows : Shows (imported held) before → Shows (imported held) now)
+      (sound : is_whole now ≡ true) (same : limits_of now ≡ limits_of before) (cause : HasFlowCause None (view_of before) (view_of now)) where
+    looked_by : (store : Standing) → done.store ≡ store → IsHere store done.cut (imported held) before → IsHead start done (imported held) next old files now output
+    looked_by unused is here = absurd here
+    looked_by half_made is here = absurd here
+    looked_by unknown is here = vague_head start done (imported held) next old files before now output head is cause.later (imported held) (record { shows = shows here.shows; whole = sound }) same
+    looked_by (keeps kept) is here =
+        let own = looked (imported held) here.rests in
+        rested_head start done (imported held) next old files before now output head kept is here cause.later (own.stays tt) own.moments same
+
+    pub looked_at : IsHead start done (imported held) next old files now output
+    looked_at = looked_by done.store refl head.here
+
+  -- a look is refused
+  module _ (fault : FlowFault) (looked : (own : State) → IsOpen own before → Looks own (Some fault) before now) (call : IsCallFault fault)
+      (broken : fault ≡ flow.Store stores.Broken → is_whole before ≡ false) (cause : HasFlowCause (Some fault) (view_of before) (view_of now)) (rest : Course) where
+    abbrev Unlooked : Type 0
+    Unlooked = GoesOn (looks rest) start done (Some (flow_fault fault)) old (world files (view_of now) output)
+
+    unlooked_vague : done.store ≡ unknown → Kinds fault → Unlooked
+    unlooked_vague is (of_disk own) = (
+      at done (Some faults.DiskFault),
+      ap Some (sym (ap flow_fault own)),
+      inl (inl refl),
+      vague_leaves start done (imported held) next old files before now output head is cause.later (Some faults.DiskFault)
+          (rose_disk start done (imported held) next old files before now output head fault own cause),
+    )
+    unlooked_vague is (of_memory own) = (
+      at done (Some faults.OutOfMemory),
+      ap Some (sym (ap flow_fault own)),
+      inl (inr refl),
+      vague_leaves start done (imported held) next old files before now output head is cause.later (Some faults.OutOfMemory) tt,
+    )
+    unlooked_vague is (plain own) = (
+      at done (Some (flow_fault fault)),
+      refl,
+      inr (inl (subst (λ (store : Standing). IfUnknown store (IsRefusedFor IsStepFault done (at done (Some (flow_fault fault))))) (sym is) (fault, own.step, refl))),
+      vague_leaves start done (imported held) next old files before now output head is cause.later (Some (flow_fault fault)) (own.causeless old (world files (view_of now) output)),
+    )
+
+    unlooked_known : (kept : Kept) → done.store ≡ keeps kept → IsRested kept done.cut (imported held) before → Kinds fault → Unlooked
+    unlooked_known kept is here (of_disk own) = (
+      at done (Some faults.DiskFault),
+      ap Some (sym (ap flow_fault own)),
+      inl (inl refl),
+      failed_leaves start done (imported held) next old files before now output head kept is here cause.later (looked (imported held) here.rests).moments
+          (rose_disk start done (imported held) next old files before now output head fault own cause),
+    )
+    unlooked_known kept is here (of_memory own) =
+        let rested = (looked (imported held) here.rests).stays (subst (λ (own : FlowFault). IsNoDiskFault (Some own)) (sym own) tt) in (
+          at done (Some faults.OutOfMemory),
+          ap Some (sym (ap flow_fault own)),
+          inl (inr refl),
+          rested_leaves start done (imported held) next old files before now output head kept is here cause.later (Some faults.OutOfMemory) rested.at_rest (looked (imported held) here.rests).moments tt,
+        )
+    unlooked_known kept is here (plain own) = absurd (let none : Some fault ≡ None = own.looks_so (imported held) (looked (imported held) here.rests).answer in cc)
+
+    unlooked_by : (store : Standing) → done.store ≡ store → IsHere store done.cut (imported held) before → Unlooked
+    unlooked_by unused is here = absurd here
+    unlooked_by half_made is here = absurd here
+    unlooked_by unknown is here = unlooked_vague is (kind_of fault call (not_broken start done (imported held) next old files before now output head fault broken))
+    unlooked_by (keeps kept) is here = unlooked_known kept is here (kind_of fault call (not_broken start done (imported held) next old files before now output head fault broken))
+
+    pub unlooked : Unlooked
+    unlooked = unlooked_by done.store refl head.here

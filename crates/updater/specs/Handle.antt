@@ -1,0 +1,67 @@
+-- What a run sees of its open store, whatever holds it: the disk under it, the limits that it keeps, and what it tells of itself.
+use Rattle.std.specs.Prelude.{◌≡◌, ◌≢◌, ℕ, Bool, true, Option, None, is_some}
+use Rattle.osm_base.specs.declared.bounds.limits.LimitNumbers.{LimitNumbers}
+use Rattle.outside.specs.Disk.{DiskView, Goes}
+use Rattle.style_read.specs.Style.{StyleOf}
+use Rattle.update_flow.specs.AtRest.{IsAt, IsOfEither, RestsAt}
+use Rattle.update_flow.specs.Refusals.{IsNoDiskFault, MayAnswer, MayLook}
+use Rattle.update_flow.specs.State.{State, Step, after, changes_in, style_in, was_imported}
+use Rattle.update_flow.specs.declared.fault.FlowFault.{FlowFault}
+
+-- the disk, the limits, whether no call of the disk has failed, the number of changes since the import, and the style where it was
+-- imported
+pub record Handle : Type 1 where
+  pub view : DiskView
+  pub limits : LimitNumbers
+  pub whole : Bool
+  pub changes : ℕ
+  pub style : Option StyleOf
+
+abbrev pub view_of : Handle → DiskView
+view_of store = store.view
+
+abbrev pub limits_of : Handle → LimitNumbers
+limits_of store = store.limits
+
+abbrev pub is_whole : Handle → Bool
+is_whole store = store.whole
+
+abbrev pub changes_of : Handle → ℕ
+changes_of store = store.changes
+
+abbrev pub is_imported : Handle → Bool
+is_imported store = is_some store.style
+
+abbrev pub style_of : Handle → Option StyleOf
+style_of store = store.style
+
+-- it tells the same
+pub record TellsAs (old new : Handle) : Type 0 where
+  pub changes_same : changes_of new ≡ changes_of old
+  pub imported_same : is_imported new ≡ is_imported old
+  pub style_same : style_of new ≡ style_of old
+
+-- it tells what is so of a state
+pub record Shows (state : State) (store : Handle) : Type 0 where
+  pub changes_are : changes_of store ≡ changes_in state
+  pub imported_is : is_imported store ≡ was_imported state
+  pub style_is : style_of store ≡ style_in state
+
+-- the store is at rest on its disk at this state, and no call of the disk has failed
+pub record IsOpen (state : State) (store : Handle) : Type 0 where
+  pub at_rest : IsAt state (view_of store)
+  pub sound : is_whole store ≡ true
+  pub shows : Shows state store
+
+-- an open store is taken a step further, whole or not at all. One that is refused otherwise than by its disk was never begun.
+pub record Takes (state : State) (step : Step) (fault : Option FlowFault) (old new : Handle) : Type 0 where
+  pub answer : MayAnswer (limits_of old) state step fault
+  pub done : fault ≡ None → IsOpen (after state step) new
+  pub refused : fault ≢ None → IsNoDiskFault fault → IsOpen state new × RestsAt state (view_of old) (view_of new)
+  pub moments : Goes (IsOfEither state (after state step)) (view_of old).crashes (view_of new).crashes
+
+-- an open store is looked at
+pub record Looks (state : State) (fault : Option FlowFault) (old new : Handle) : Type 0 where
+  pub answer : MayLook state fault
+  pub stays : IsNoDiskFault fault → IsOpen state new
+  pub moments : RestsAt state (view_of old) (view_of new)
