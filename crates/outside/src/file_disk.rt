@@ -6,14 +6,15 @@ ghost use Rattle.outside.specs.FileDisk.{silent};
 
 use crate::overwrite::MAX_LEN;
 use crate::{Disk, Failed};
-use std::fs::{self, OpenFile, OpenOptions};
+use std::fs::{self, File, OpenFile, OpenOptions};
 use std::io::{self, ErrorKind, Read, Seek, SeekFrom, Write};
 use std::marker::Model;
 use std::path::Path;
 use std::rt::Files;
 
-/// The file at a path, which is opened at the first call. Every error of the system is a fault, and so
-/// is a file of more than 2^62 bytes. No bytes are told, since no proof says what a file holds.
+/// The file at a path, which is opened and locked for this disk alone at the first call. Every error of
+/// the system is a fault, and so are a file that another process has locked and one of more than 2^62
+/// bytes. No bytes are told, since no proof says what a file holds.
 #[derive(Drop)]
 pub struct FileDisk<'p, R: Files> {
     rt: R,
@@ -50,8 +51,9 @@ impl<'p, R: Files> FileDisk<'p, R> {
     }
 }
 
-impl<R: Files + Drop> FileDisk<'_, R> {
-    // Opens the file, if no earlier call has.
+impl<R: Files<File = File> + Drop> FileDisk<'_, R> {
+    // Opens and locks the file, if no earlier call has: an opening of a store may finish a commit, and two
+    // processes that write would destroy it.
     fn begin(&mut self) -> io::Result<()>
         ensures same { self.new ≡ self.old }
     {
@@ -60,7 +62,9 @@ impl<R: Files + Drop> FileDisk<'_, R> {
             options.read(true);
             options.write(true);
             options.create(self.make);
-            self.open = Some(options.open(&self.rt, self.path)?);
+            let file = options.open(&self.rt, self.path)?;
+            file.try_lock()?;
+            self.open = Some(file);
         }
         Ok(())
     }
@@ -157,10 +161,7 @@ fn told<T: Drop>(outcome: io::Result<T>, faults: &mut u64) -> Result<T, Failed>
     }
 }
 
-impl<R: Files + Drop + Send> Disk for FileDisk<'_, R>
-where
-    R::File: Send,
-{
+impl<R: Files<File = File> + Drop> Disk for FileDisk<'_, R> {
     ghost view = { silent };
 
     ghost reads_stay = { λ disk content told. Prim.cc };
