@@ -1,8 +1,8 @@
 //! A store is opened on a disk that stays with its owner.
 ghost use Rattle.std.specs.Prelude.{◌≡◌, ◌≢◌, ◌+◌, ◌*◌, ◌^◌, ◌≤◌, List, ℕ, false, length, IfOk, IsErrOf, OnOk};
-ghost use Rattle.outside.specs.Bytes.{IfTold};
+ghost use Rattle.outside.specs.Bytes.{IfTold, IsTold};
 ghost use Rattle.outside.specs.Disk.{DiskView, Goes, ReadsAtMost, Stays, Tells, Within};
-ghost use Rattle.page_journal.specs.Answers.{HasDiskCause};
+ghost use Rattle.page_journal.specs.Answers.{HasDiskCause, answers_disk_fault};
 ghost use Rattle.page_journal.specs.Crash.{IsAtRest};
 ghost use Rattle.page_journal.specs.Home.{HasOpenJournal};
 ghost use Rattle.page_journal.specs.declared.fault.StoreFault.TheVariants.{NotFormatted};
@@ -37,6 +37,7 @@ pub fn open<D: Disk>(alloc: Global, disk: &mut D, limits: &Limits) -> Result<Ope
     // Only a well-formed journal that is open lets it write.
     ensures looked { IfTold (D.view disk.old).content (λ bytes. ¬ HasOpenJournal bytes → Stays (D.view disk.old) (D.view disk.new)) }
     ensures refused { IsErrOf result NotFormatted → Stays (D.view disk.old) (D.view disk.new) }
+    ensures told { (bytes : List ℕ) → Tells (D.view disk.old) bytes → answers_disk_fault result ≡ false → IsTold (D.view disk.new).content }
     ensures cause { HasDiskCause (D.view disk.old).faults (D.view disk.new).faults result }
 {
     let pages = match page_journal::open(disk) {

@@ -1,9 +1,9 @@
 //! A store is opened: a journal that a crash has left open is finished.
-ghost use Rattle.std.specs.Prelude.{◌≡◌, ◌≢◌, ◌⊎◌, ◌↔◌, ◌+◌, ◌*◌, ◌^◌, ◌<◌, ◌≤◌, List, ℕ, None, false, length, IfOk, IfSome, OnOk, IsErrOf, IsTrue};
+ghost use Rattle.std.specs.Prelude.{◌≡◌, ◌≢◌, ◌⊎◌, ◌↔◌, ◌+◌, ◌*◌, ◌^◌, ◌<◌, ◌≤◌, List, ℕ, None, false, length, IfErr, IfOk, IfSome, OnOk, IsErrOf, IsTrue};
 ghost use Rattle.outside.specs.Causes.{HasCause};
-ghost use Rattle.outside.specs.Bytes.{IfTold};
+ghost use Rattle.outside.specs.Bytes.{IfTold, IsTold};
 ghost use Rattle.outside.specs.Disk.{Elapses, Follows, Only, Tells, Torn, overlaid, Goes, Stays, Within, ReadsAtMost};
-ghost use Rattle.page_journal.specs.Answers.{Counts, Finishes, HasDiskCause, IsOpenAnswer, Looks, Opens, Prepares};
+ghost use Rattle.page_journal.specs.Answers.{Counts, Finishes, HasDiskCause, IsOpenAnswer, Looks, Opens, Prepares, answers_disk_fault, is_disk_fault};
 ghost use Rattle.page_journal.specs.Crash.{AllHome, BesidePages, IsAtRest, IsLikeOne, Spares};
 ghost use Rattle.page_journal.specs.Home.{AreRising, HasOpenJournal, Home, IsFormatted, IsWellFormed};
 ghost use Rattle.page_journal.specs.Pages.{body_at, entry, first_page, gate, head_of, number, number_pages, page_count, page_from};
@@ -36,6 +36,7 @@ pub fn open<D: Disk>(disk: &mut D) -> Result<u64, StoreFault>
     // Whatever the answer, only a well-formed journal that is open lets it write.
     ensures looked { IfTold (D.view disk.old).content (λ bytes. ¬ HasOpenJournal bytes → Stays (D.view disk.old) (D.view disk.new)) }
     ensures refused { IsErrOf result NotFormatted → Stays (D.view disk.old) (D.view disk.new) }
+    ensures told { (bytes : List ℕ) → Tells (D.view disk.old) bytes → answers_disk_fault result ≡ false → IsTold (D.view disk.new).content }
     ensures one_read { IfTold (D.view disk.old).content (λ bytes. gate bytes ≢ OPEN
         → ReadsAtMost 1 (length bytes) (D.view disk.old) (D.view disk.new)) }
     ensures reads { IfTold (D.view disk.old).content (λ bytes.
@@ -147,6 +148,7 @@ fn finish<D: Disk>(disk: &mut D, head: &[u8; HEAD], len: u64) -> Result<bool, St
         → Only bytes (D.view disk.old).crashes → len ≡ length bytes → Home pages bytes → head.now ≡ head_of bytes
         → Goes (Home pages) (D.view disk.old).crashes (D.view disk.new).crashes }
     ensures idle { IfOk result (λ moved. moved ≡ false → Stays (D.view disk.old) (D.view disk.new)) }
+    ensures refused { IfErr result (λ fault. is_disk_fault fault ≡ false → Stays (D.view disk.old) (D.view disk.new)) }
     ensures looked { (bytes : List ℕ) → Tells (D.view disk.old) bytes → IsFormatted bytes → len ≡ length bytes
         → head.now ≡ head_of bytes → ¬ HasOpenJournal bytes → Stays (D.view disk.old) (D.view disk.new) }
     ensures shut { (bytes : List ℕ) → IsFormatted bytes → head.now ≡ head_of bytes → gate bytes ≢ OPEN

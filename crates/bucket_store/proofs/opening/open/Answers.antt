@@ -1,4 +1,5 @@
 -- The journal is finished, and then what is kept is read.
+use Rattle.std.proofs.Common.{refl, ◌∙◌}
 use Rattle.bucket_store.proofs.Reopened.{goes_meant, holds_found, image_state, rests_stays, sound_kept, sound_open}
 use Rattle.bucket_store.specs.Opening.{MeansOne}
 use Rattle.bucket_store.specs.declared.opened.Opened.{Opened}
@@ -46,3 +47,13 @@ returns-in-Err-kept_on-clause-any_moment g c bytes told meant =
     let old = (g.D.Disk.view c.args.disk.now).crashes in
     goes_stays (MeansOne old) old (g.D.Disk.view c.open.new.disk) (g.D.Disk.view c.kept_on.new.disk)
     (goes_meant old (g.D.Disk.view c.open.new.disk).crashes meant (c.open.ensures.any_moment bytes told)) c.kept_on.ensures.stays
+
+pub returns-in-Ok-kept_on-clause-told : goal.returns-in-Ok-kept_on-clause-told
+returns-in-Ok-kept_on-clause-told g c = λ bytes told quiet.
+    let now = c.in-Ok.ensures.told bytes told refl in
+    (now.0, c.kept_on.ensures.stays.content ∙ now.1)
+
+pub returns-in-Err-kept_on-clause-told : goal.returns-in-Err-kept_on-clause-told
+returns-in-Err-kept_on-clause-told g c = λ bytes told quiet.
+    let now = c.in-Ok.ensures.told bytes told refl in
+    (now.0, c.kept_on.ensures.stays.content ∙ now.1)

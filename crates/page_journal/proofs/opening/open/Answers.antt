@@ -190,3 +190,24 @@ returns-in-Err-count_home-clause-reads g c = λ bytes told.
     let last = reads_more 1 1 8192 (length bytes) _ _ (omega arith) (omega (arith, ready.0.long)) c.count_home.ensures.reads in
     reads_more (1 + 3 * page_count bytes + 1) (2 + 3 * page_count bytes) _ _ _ _ (omega arith) (omega arith)
     (reads_then (1 + 3 * page_count bytes) 1 (length bytes) _ _ _ first last)
+
+pub returns-in-Err-count_home-clause-told : goal.returns-in-Err-count_home-clause-told
+returns-in-Err-count_home-clause-told g c = λ bytes told quiet.
+    let ready = c.in-Ok.ensures.answers bytes told in
+    let told1 = c.prepare.ensures.stays.content ∙ told in
+    let done = c.in-Ok-finish.ensures.done bytes told1 (c.in-Ok.ensures.durable bytes told) ready.0 ready.1 (c.in-Ok.ensures.head bytes told) in
+    (done.0, c.count_home.ensures.stays.content ∙ done.1)
+
+pub returns-in-Ok-count_home-clause-told : goal.returns-in-Ok-count_home-clause-told
+returns-in-Ok-count_home-clause-told g c = λ bytes told quiet.
+    let ready = c.in-Ok.ensures.answers bytes told in
+    let told1 = c.prepare.ensures.stays.content ∙ told in
+    let done = c.in-Ok-finish.ensures.done bytes told1 (c.in-Ok.ensures.durable bytes told) ready.0 ready.1 (c.in-Ok.ensures.head bytes told) in
+    (done.0, c.count_home.ensures.stays.content ∙ done.1)
+
+pub returns-in-Err-finish-clause-told : goal.returns-in-Err-finish-clause-told
+returns-in-Err-finish-clause-told g c = λ bytes told quiet.
+    (bytes, (c.in-Err-finish.ensures.refused quiet).content ∙ (c.prepare.ensures.stays.content ∙ told))
+
+pub returns-in-Err-clause-told : goal.returns-in-Err-clause-told
+returns-in-Err-clause-told g c = λ bytes told quiet. (bytes, c.prepare.ensures.stays.content ∙ told)
