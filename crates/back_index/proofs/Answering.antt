@@ -69,6 +69,7 @@ module _ {D : Type 0} {g : Ghosts D} where
       whole = λ going. answers.broken ∙ or_none (is_broken (journal_of (chains_of old)));
       refused = λ is. absurd (clash (has_refused old) is (spent_going old fresh));
       kept = λ is. refl;
+      going = λ none. refl;
       why = λ going refused. absurd (clash (has_refused new) refused answers.refused);
     }
 
@@ -90,6 +91,7 @@ module _ {D : Type 0} {g : Ghosts D} where
       whole = λ going. absurd (clash (has_refused new) answers.refused going);
       refused = λ is. absurd (clash (has_refused old) is (spent_going old fresh));
       kept = λ is. absurd (clash (has_refused old) is (spent_going old fresh));
+      going = λ none. absurd (clash (has_refused new) answers.refused none);
       why = λ going refused other is rest now owns. subst (λ f. Refuses (IsDamaged old now) f) (the_same fault other is) (stops rest now owns);
     }
 

@@ -83,6 +83,7 @@ module _ {D : Type 0} {g : Ghosts D} where
     whole = λ going. refl;
     refused = λ is. is;
     kept = λ is. refl;
+    going = λ none. refl;
     why = λ going refused. absurd (clash (has_refused buckets) refused going);
   }
 
@@ -100,6 +101,7 @@ module _ {D : Type 0} {g : Ghosts D} where
         whole = λ going. again.whole going ∙ once.whole (going_before going);
         refused = λ is. again.refused (once.refused is);
         kept = λ is. again.kept (once.refused is) ∙ once.kept is;
+        going = λ none. again.going none ∙ once.going (going_before none);
         why = λ going refused fault is rest now owns. elim (has_refused second)
             as (λ b. has_refused second ≡ b → Refuses (IsDamaged first now) fault) [
               | true ↦ λ stops. once.why going stops fault (sym (again.kept stops) ∙ is) rest now owns

@@ -140,5 +140,6 @@ pub record Asked {D : Type 0} {g : Ghosts D} (old : Buckets D g) (was : Option S
   pub whole : has_refused new ≡ false → is_broken (journal_of (chains_of new)) ≡ is_broken (journal_of (chains_of old))
   pub refused : has_refused old ≡ true → has_refused new ≡ true
   pub kept : has_refused old ≡ true → stopped ≡ was
+  pub going : has_refused new ≡ false → stopped ≡ was
   pub why : has_refused old ≡ false → has_refused new ≡ true → (fault : StoreFault) → stopped ≡ Some fault → (rest now : Image) → Has rest now old
       → Refuses (IsDamaged old now) fault

@@ -1,5 +1,5 @@
 //! The index of a store, as who asks for it sees it.
-ghost use Rattle.std.specs.Prelude.{◌≡◌};
+ghost use Rattle.std.specs.Prelude.{◌≡◌, None};
 ghost use Rattle.chain_store.specs.Chains.{disk_of};
 ghost use Rattle.bucket_store.specs.Transaction.{chains_of};
 ghost use Rattle.back_index.specs.Asking.{asked_none, asked_then, bears_fewer};
@@ -27,6 +27,7 @@ impl<'d, D: Disk> Indexed<'d, D> {
     /// The index of these buckets.
     pub fn over(alloc: Global, buckets: Buckets<'d, D>) -> Self
         ensures buckets { result.buckets ≡ buckets.entry }
+        ensures going { result.stopped ≡ None }
     {
         Self {
             buckets,
