@@ -1,8 +1,7 @@
 -- A store by what it means: its fields, its texts and its eight finite maps; and what a transaction makes of it.
-use Rattle.std.specs.Prelude.{◌≡◌, ◌≢◌, ◌⊎◌, ℕ, ◌+◌, ◌*◌, ◌%◌, ◌==◌, ◌<◌, ◌≤◌, false, List, [], Option, None, Some, Result, Ok, Err, if◌then◌else◌}
+use Rattle.std.specs.Prelude.{◌≡◌, ◌≢◌, ℕ, ◌+◌, ◌*◌, ◌%◌, ◌==◌, ◌<◌, ◌≤◌, false, List, [], Option, None, Some, Result, Ok, Err, if◌then◌else◌}
 use Rattle.std.specs.FinMap as map
-use Rattle.outside.specs.Bytes.{IsTold}
-use Rattle.outside.specs.Disk.{DiskView, Only, Tells, Within}
+use Rattle.outside.specs.Disk.{DiskView, Only, Tells}
 use Rattle.outside.specs.declared.disk.Disk.{Ghosts}
 use Rattle.page_journal.specs.Journal.{is_broken}
 use Rattle.page_journal.specs.Pages.{gate}
@@ -62,13 +61,6 @@ pub record HoldsImage (image : Image) (view : DiskView) : Type 0 where
   pub only : Only bytes view.crashes
   pub shut : gate bytes ≢ OPEN
   pub has : HasImage image bytes
-
--- a crash leaves one of these two, and the disk tells what it gives
-abbrev pub IsEither : Image → Image → List ℕ → Type 0
-IsEither one other left = HasImage one left ⊎ HasImage other left
-
-abbrev pub IsToldEither : Image → Image → DiskView → Type 0
-IsToldEither one other view = IsTold view.content × Within (IsEither one other) view.crashes
 
 -- a map with this value for a key, or without the key
 abbrev pub with_entry : ℕ → Option (List ℕ) → BucketMap → BucketMap

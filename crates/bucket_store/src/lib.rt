@@ -5,13 +5,10 @@
 //! transaction reads a bucket at most once, looks at its values where they lie, changes them in memory,
 //! and writes each changed bucket once, in one commit.
 //!
-//! `Buckets` keeps these promises over any disk. `bring`, `get`, `put` and `remove` answer as the finite
-//! map of the bucket does, by `Content` of `specs/Transaction.antt`, with the transaction's own changes
-//! seen, and leave every other bucket; `BadStore` comes exactly where the bucket was not read yet and its
-//! chain is refused at that page, or spells no records and begins there. What is read of the disk is at
-//! most the chain of the key's bucket. `commit` makes the chains' bytes, those of the changed buckets
-//! among them, stand all or not at all: at every moment a crash leaves the store as it was or as it is to
-//! be (`given` of `specs/Committing.antt`).
+//! A store means an `Image`: its fields, its strings and eight finite maps. `open` finds what the bytes of a disk mean, the calls
+//! of `Buckets` answer by what the transaction has made of it and change it there, and `commit` leaves the one or the other at
+//! every moment. On a disk whose bytes mean nothing each call still answers page by page, by `Content` of
+//! `specs/Transaction.antt`: a bucket is read at most once, and no more of the disk than its chain.
 #![tactic(auto)]
 
 mod buckets;
