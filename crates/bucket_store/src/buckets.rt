@@ -1,5 +1,5 @@
 //! The buckets of an open store, and one transaction over them.
-ghost use Rattle.std.specs.Prelude.{◌≡◌, ◌≢◌, ◌⊎◌, ◌*◌, ◌+◌, ◌≤◌, ◌<◌, ◌||◌, List, ℕ, None, Some, false, true, is_err, IfOk, IsErr, IsSome, OnOk, MatchOption};
+ghost use Rattle.std.specs.Prelude.{◌≡◌, ◌≢◌, ◌⊎◌, ◌*◌, ◌+◌, ◌≤◌, ◌<◌, ◌||◌, List, ℕ, None, Some, false, true, not, is_err, is_some, IfOk, IfSome, IsErr, IsSome, OnOk, MatchOption};
 ghost use Rattle.std.specs.FinMap as map;
 ghost use Rattle.page_journal.specs.Answers.{HasDiskCause, answers_disk_fault};
 ghost use Rattle.page_journal.specs.Journal.{home_count, is_broken, loan_of, page_limit};
@@ -75,15 +75,22 @@ impl<'d, D: Disk> Buckets<'d, D> {
         Self::over(alloc, Chains::over(alloc, journal, kept))
     }
 
-    /// Hands the disk back, and what is kept of the store: `on` takes both again.
-    pub fn hand_back(self) -> (&'d mut D, Opened)
-        ensures same_disk { result.0.ghost_name ≡ loan_of (journal_of (chains_of self.entry)) }
-        ensures disk { result.0.now ≡ disk_under (journal_of (chains_of self.entry)) }
-        ensures fits { (image : Image) → RestsAt image self.entry → Fits result.1 (disk_of (chains_of self.entry)) }
+    /// Hands the disk back, and leaves behind `kept` what is kept of the store, for `on`: nothing once a call of the disk has failed.
+    pub fn hand_back(self, kept: &mut Option<Opened>) -> &'d mut D
+        ensures same_disk { result.ghost_name ≡ loan_of (journal_of (chains_of self.entry)) }
+        ensures disk { result.now ≡ disk_under (journal_of (chains_of self.entry)) }
+        ensures whole { is_some kept.new ≡ not (is_broken (journal_of (chains_of self.entry))) }
+        ensures fits { IfSome kept.new (λ opened. (image : Image) → RestsAt image self.entry → Fits opened (disk_of (chains_of self.entry))) }
     {
-        let (journal, kept) = self.close().into_parts();
+        let broken = self.is_broken();
+        let (journal, own) = self.close().into_parts();
+        if broken {
+            *kept = None;
+            return journal.close();
+        }
         let pages = journal.pages();
-        (journal.close(), Opened { pages, kept })
+        *kept = Some(Opened { pages, kept: own });
+        journal.close()
     }
 
     /// Hands the chains back.

@@ -23,7 +23,8 @@ pub fn transaction(
     };
     let mut buckets = Buckets::on(alloc, disk, &limits, opened);
     let answers = answers_of(alloc, &mut buckets, deeds, stands);
-    let _parts = buckets.hand_back();
+    let mut kept = None;
+    let _disk = buckets.hand_back(&mut kept);
     answers
 }
 
