@@ -1,0 +1,78 @@
+-- The shape of a history's entries.
+use Rattle.std.proofs.Common.{◌≡◌, ℕ, suc, ◌≤◌, Bool, true, false, List, [], ◌∷◌, ◌++◌, length, map, refl, ap, sym, ◌∙◌, subst, arith}
+use Rattle.std.proofs.lemmas.List.{length-map}
+use Rattle.std.specs.Bool.{OnTrue}
+use Rattle.std.proofs.lemmas.Bool.Decides.{nat_tests}
+use lib.Dec.{leb}
+use mathlib.Core.List.{IsPrefix}
+use Rattle.logbook.specs.Pages.{Book}
+use Rattle.osm_base.specs.declared.values.row.Delta.{Delta}
+use Rattle.osm_base.specs.map.Spots.{TableMap}
+use Rattle.delta_log.specs.declared.rule.Entry.{Entry}
+use Rattle.delta_log.specs.declared.rule.Entry.TheVariants.{Opens, Adds}
+use Rattle.delta_log.specs.Fronts.{Begins, base_of, deltas_in, entries, first_of, front_of}
+use Rattle.delta_log.proofs.Beginnings.{prefix_shorter}
+
+-- the deltas of added deltas
+pub deltas_in-added : (log : List Delta) → deltas_in (map Adds log) ≡ log
+deltas_in-added [] = refl
+deltas_in-added (delta ∷ log) = ap (λ xs. delta ∷ xs) (deltas_in-added log)
+
+-- one more
+pub map-snoc : (log : List Delta) (delta : Delta) → map Adds log ++ Adds delta ∷ [] ≡ map Adds (log ++ delta ∷ [])
+map-snoc [] delta = refl
+map-snoc (x ∷ log) delta = ap (λ xs. Adds x ∷ xs) (map-snoc log delta)
+
+-- a log has the shape of a history
+abbrev pub IsShaped : List Entry → Type 0
+IsShaped log = log ≡ entries (first_of log) (base_of log) (deltas_in log)
+
+pub shaped-length : (log : List Entry) → IsShaped log → length log ≡ suc (length (deltas_in log))
+shaped-length log is =
+    let all : length (map Adds (deltas_in log)) ≡ length (deltas_in log) = length-map (deltas_in log) Adds in
+    ap length is ∙ ap suc all
+
+pub added : (book : Book) (log : List Entry) (delta : Delta) → IsShaped log
+    → IsShaped (log ++ Adds delta ∷ []) × (front_of book (log ++ Adds delta ∷ []) ≡ record (front_of book log) { log = deltas_in log ++ delta ∷ [] })
+added book log delta is =
+    let first = first_of log in
+    let base = base_of log in
+    let deltas = deltas_in log in
+    let whole : log ++ Adds delta ∷ [] ≡ entries first base (deltas ++ delta ∷ []) =
+    ap (λ xs. xs ++ Adds delta ∷ []) is ∙ ap (λ xs. Opens first base ∷ xs) (map-snoc deltas delta) in
+    let plain : deltas_in (map Adds (deltas ++ delta ∷ [])) ≡ deltas ++ delta ∷ [] = deltas_in-added (deltas ++ delta ∷ []) in
+    let shaped : IsShaped (entries first base (deltas ++ delta ∷ [])) = ap (λ xs. Opens first base ∷ map Adds xs) (sym plain) in
+    let shown : front_of book (entries first base (deltas ++ delta ∷ [])) ≡ record { book = book; first = first; base = base; log = deltas ++ delta ∷ [] } =
+    ap (λ xs. record { book = book; first = first; base = base; log = xs }) plain in
+    (subst IsShaped (sym whole) shaped, ap (front_of book) whole ∙ shown)
+
+-- the deltas of a beginning are a beginning of the deltas
+pub adds_prefix : (xs ys : List Delta) → IsPrefix (map Adds xs) (map Adds ys) → IsPrefix xs ys
+adds_prefix [] ys p = (ys, refl)
+adds_prefix (x ∷ xs) [] p = absurd (cc (p.1))
+adds_prefix (x ∷ xs) (y ∷ ys) p =
+    let heads : x ≡ y = cc (p.1) in
+    let rest = adds_prefix xs ys (p.0, cc (p.1)) in
+    (rest.0, cc (heads, rest.1))
+
+pub shapes_begin : (book : Book) (first first' : TableMap) (base base' : ℕ) (xs ys : List Delta) → IsPrefix (entries first base xs) (entries first' base' ys)
+    → Begins (record { book = book; first = first; base = base; log = xs }) (record { book = book; first = first'; base = base'; log = ys })
+shapes_begin book first first' base base' xs ys p = record {
+  first = sym (ap first_of p.1);
+  base = sym (ap base_of p.1);
+  log = adds_prefix xs ys (p.0, cc (p.1));
+}
+
+-- what a comparison of lengths tells
+pub begins_other : (one two : Book) (xs ys zs : List Entry) (m n : ℕ) → two ≡ one → IsShaped xs → IsShaped ys → m ≡ length (deltas_in xs) → n ≡ length (deltas_in ys)
+    → IsPrefix xs zs → IsPrefix ys zs → OnTrue (leb m n) (Begins (front_of one xs) (front_of two ys))
+begins_other one two xs ys zs m n same s t e f p q = go (leb m n) refl
+  where
+    go : (b : Bool) → leb m n ≡ b → OnTrue b (Begins (front_of one xs) (front_of two ys))
+    go true le =
+        let le' : m ≤ n = grind (arith, nat_tests) in
+        let shorter : IsPrefix xs ys = prefix_shorter xs ys zs p q (omega (arith, e, f, le', shaped-length xs s, shaped-length ys t)) in
+        let begins = shapes_begin one (first_of xs) (first_of ys) (base_of xs) (base_of ys) (deltas_in xs) (deltas_in ys)
+        (subst (λ a. IsPrefix a (entries (first_of ys) (base_of ys) (deltas_in ys))) s (subst (λ a. IsPrefix xs a) t shorter)) in
+        record { first = begins.first; base = begins.base; log = begins.log }
+    go false le = tt
