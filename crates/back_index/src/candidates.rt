@@ -15,7 +15,7 @@ ghost use Rattle.back_index.specs.Calls.{Answers};
 ghost use Rattle.back_index.specs.Index.{HasNodeless, HasNodes, HasUnread, HoldsIndex, HoldsWays, IsNodeless};
 ghost use Rattle.back_index.specs.Visits.{Refuses, StopsAt};
 
-use crate::listers::{listers, refused};
+use crate::lists::{listers, refused};
 use crate::visit::{WAYS, WAYS_OF_BLOCKS};
 use bucket_store::Buckets;
 use object_fold::RisingIds;

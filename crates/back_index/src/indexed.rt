@@ -6,7 +6,7 @@ ghost use Rattle.back_index.specs.Asking.{asked_none, asked_then, bears_fewer};
 ghost use Rattle.back_index.specs.Index.{Asked, Bears, Knows, is_spent};
 
 use crate::candidates::ways_of_node;
-use crate::listers::listers;
+use crate::lists::listers;
 use crate::visit::{RELATIONS_OF_NODES, RELATIONS_OF_WAYS};
 use bucket_store::Buckets;
 use osm_base::{Back, Ids};

@@ -15,11 +15,12 @@ mod candidates;
 mod ids;
 mod indexed;
 mod listed_ids;
-mod listers;
+mod lists;
 mod relisting;
 mod visit;
 
 pub use ids::{ids_bytes, read_ids};
 pub use indexed::Indexed;
+pub use lists::listers;
 pub use relisting::relist;
 pub use visit::{RELATIONS_OF_NODES, RELATIONS_OF_WAYS, Visit, WAYS, WAYS_OF_BLOCKS};

@@ -15,7 +15,7 @@ ghost use Rattle.back_index.specs.Relisting.{CanTurn, Turns, TurnsAt, in_order, 
 ghost use Rattle.back_index.specs.Visits.{IsFine, OnlyMap, Refuses, Sets, StopsAt, visit_of, visits};
 
 use crate::listed_ids::{rising_blocks, rising_listed};
-use crate::listers::{keep_list, listers, refused};
+use crate::lists::{keep_list, listers, refused};
 use crate::visit::{RELATIONS_OF_NODES, RELATIONS_OF_WAYS, Visit, WAYS_OF_BLOCKS};
 use bucket_store::Buckets;
 use object_fold::RisingIds;

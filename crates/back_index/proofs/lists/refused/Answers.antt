@@ -1,6 +1,6 @@
 -- The transaction has refused a call, and has what it had.
 use Rattle.back_index.proofs.Chained.{has_same}
-use Rattle.back_index.proofs.listers.refused.Goals as goal
+use Rattle.back_index.proofs.lists.refused.Goals as goal
 
 pub returns-in-NotSpelled-clause-marks : goal.returns-in-NotSpelled-clause-marks
 returns-in-NotSpelled-clause-marks g c = record {

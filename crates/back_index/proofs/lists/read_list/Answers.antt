@@ -6,7 +6,7 @@ use Rattle.bucket_store.specs.Image.{Has}
 use Rattle.back_index.specs.Relisting.{ReadsIds}
 use Rattle.back_index.proofs.Held.{no_ids}
 use Rattle.back_index.proofs.Reading.{read_some, unread_some}
-use Rattle.back_index.proofs.listers.read_list.Goals as goal
+use Rattle.back_index.proofs.lists.read_list.Goals as goal
 
 pub returns-in-Some-clause-ids : goal.returns-in-Some-clause-ids
 returns-in-Some-clause-ids g c =

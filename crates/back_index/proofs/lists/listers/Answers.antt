@@ -6,7 +6,7 @@ use Rattle.back_index.specs.Relisting.{IsUnread}
 use Rattle.back_index.specs.Visits.{Refuses}
 use Rattle.back_index.proofs.Chained.{has_read, page_same, sound_refuses}
 use Rattle.back_index.proofs.Reading.{needs_refuses}
-use Rattle.back_index.proofs.listers.listers.Goals as goal
+use Rattle.back_index.proofs.lists.listers.Goals as goal
 
 pub returns-in-Err-clause-has : goal.returns-in-Err-clause-has
 returns-in-Err-clause-has g c none rest now has =
