@@ -1,6 +1,7 @@
 -- The shape of a history's entries.
-use Rattle.std.proofs.Common.{◌≡◌, ℕ, suc, ◌≤◌, Bool, true, false, List, [], ◌∷◌, ◌++◌, length, map, refl, ap, sym, ◌∙◌, subst, arith}
+use Rattle.std.proofs.Common.{◌≡◌, ℕ, suc, ◌≤◌, Bool, true, false, List, [], ◌∷◌, ◌++◌, length, map, IsTrue, ◌↔◌, refl, ap, sym, ◌∙◌, subst, arith}
 use Rattle.std.proofs.lemmas.List.{length-map}
+use mathlib.Core.Bool.{false≢true}
 use Rattle.std.specs.Bool.{OnTrue}
 use Rattle.std.proofs.lemmas.Bool.Decides.{nat_tests}
 use lib.Dec.{leb}
@@ -10,8 +11,8 @@ use Rattle.osm_base.specs.declared.values.row.Delta.{Delta}
 use Rattle.osm_base.specs.map.Spots.{TableMap}
 use Rattle.delta_log.specs.declared.rule.Entry.{Entry}
 use Rattle.delta_log.specs.declared.rule.Entry.TheVariants.{Opens, Adds}
-use Rattle.delta_log.specs.Fronts.{Begins, base_of, deltas_in, entries, first_of, front_of}
-use Rattle.delta_log.proofs.Beginnings.{prefix_shorter}
+use Rattle.delta_log.specs.Fronts.{Begins, FrontOf, base_of, deltas_in, entries, first_of, front_of}
+use Rattle.delta_log.proofs.Beginnings.{prefix_self, prefix_shorter}
 
 -- the deltas of added deltas
 pub deltas_in-added : (log : List Delta) → deltas_in (map Adds log) ≡ log
@@ -76,3 +77,14 @@ begins_other one two xs ys zs m n same s t e f p q = go (leb m n) refl
         (subst (λ a. IsPrefix a (entries (first_of ys) (base_of ys) (deltas_in ys))) s (subst (λ a. IsPrefix xs a) t shorter)) in
         record { first = begins.first; base = begins.base; log = begins.log }
     go false le = tt
+
+pub begins_itself : (front : FrontOf) → Begins front front
+begins_itself front = record { first = refl; base = refl; log = prefix_self front.log }
+
+-- where a front does not begin another by their lengths, the other begins it
+pub begins_back : (one other : FrontOf) (forth back : Bool) → (IsTrue forth ↔ (length one.log ≤ length other.log)) → (IsTrue back ↔ (length other.log ≤ length one.log))
+    → OnTrue back (Begins other one) → forth ≡ false → Begins other one
+begins_back one other forth true long short begins is = begins
+begins_back one other forth false long short begins is =
+    let less : ¬ (length one.log ≤ length other.log) = λ le. false≢true (sym is ∙ long.1 le) in
+    absurd (false≢true (short.1 (omega (arith, less))))

@@ -1,5 +1,5 @@
 //! What was seen of a history.
-ghost use Rattle.std.specs.Prelude.{◌≡◌, ◌≤◌, ◌<◌, ◌^◌, ◌++◌, ◌∷◌, [], length, IsTrue, ◌↔◌};
+ghost use Rattle.std.specs.Prelude.{◌≡◌, ◌≤◌, ◌<◌, ◌^◌, ◌++◌, ◌∷◌, [], length, IsTrue, ◌↔◌, ◌⊎◌};
 ghost use Rattle.std.specs.Bool.{OnTrue, OnFalse};
 ghost use Rattle.delta_log.specs.Fronts.{Begins, FrontOf};
 
@@ -91,6 +91,20 @@ impl Front {
         let mut both = self.seen.again();
         both.learn(&other.seen);
         self.deltas <= other.deltas
+    }
+
+    /// The longer of two fronts of one history, which the other begins.
+    pub fn longer(&self, other: &Front) -> Front
+        requires { other.now.book ≡ self.now.book }
+        ensures one { (result ≡ self.now) ⊎ (result ≡ other.now) }
+        ensures this { Begins self.now result }
+        ensures that { Begins other.now result }
+    {
+        if self.begins(other) {
+            return other.again();
+        }
+        let _shorter = other.begins(self);
+        self.again()
     }
 
     /// Adds a delta to all that was seen, in one step, and says whether it did. It did not where the history is longer.
