@@ -1,4 +1,5 @@
 pub mod Blank
+pub mod Looking
 pub mod Openings
 pub mod Resting
 pub mod Running

@@ -1,28 +1,35 @@
 -- A store of a state is found where it is opened.
-use Rattle.std.proofs.Common.{◌≡◌, ◌≢◌, ◌⊎◌, ◌≤◌, ◌<◌, ◌==◌, ◌&&◌, not, inl, inr, ℕ, Bool, true, false, List, Option, Some, None, Result, Ok, Err, refl, sym, ap, subst, ◌∙◌, arith, nat_le}
+use Rattle.std.proofs.Common.{◌≡◌, ◌⊎◌, ◌≤◌, ◌==◌, ◌&&◌, not, inl, inr, ℕ, Bool, true, false, List, Option, Some, None, Result, Ok, Err, refl, sym, ap, subst, ◌∙◌, arith, nat_le}
 use Rattle.std.proofs.lemmas.Bool.Decides.{nat_tests}
+use Rattle.std.proofs.lemmas.Option.{same_Some}
+use Rattle.std.specs.Prelude.{IfOk, IsErrOf, is_some}
+use Rattle.std.specs.Result.{result_err}
+use Rattle.page_journal.specs.Answers.{answers_disk_fault}
 use Rattle.outside.specs.Disk.{Crashes, DiskView, Goes, Stays, Within}
 use Rattle.chain_store.specs.declared.root.Root.{Root}
-use Rattle.page_journal.specs.Crash.{IsAtRest}
 use Rattle.page_journal.proofs.Moments.{goes_stays, goes_weaker}
 use Rattle.page_journal.specs.declared.fault.StoreFault.{StoreFault}
 use Rattle.page_journal.specs.declared.fault.StoreFault.TheVariants as store
+use Rattle.chain_store.specs.Answers.{IsReadAnswer}
 use Rattle.bucket_store.specs.Image.{HasImage, HoldsImage, Image, IsSoundAnswer}
-use Rattle.bucket_store.specs.Opening.{Fits, IsMeant, IsOpeningAnswer, MeansOne, OpensStore, opened_root}
+use Rattle.bucket_store.specs.Opening.{Fits, IsMeant, IsOpeningAnswer, MeansOne, opened_root}
 use Rattle.bucket_store.specs.declared.opened.Opened.{Opened}
 use Rattle.bucket_store.proofs.Reopened.{rests_stays, root_found}
 use Rattle.update_flow.specs.declared.fault.FlowFault.{FlowFault}
 use Rattle.update_flow.specs.declared.fault.FlowFault.TheVariants as flow
-use Rattle.update_flow.specs.AtRest.{IsAt, IsAtEither, IsOfEither}
+use Rattle.style_read.specs.Reading.{reading}
+use Rattle.style_read.specs.Style.{StyleOf}
+use Rattle.update_flow.specs.AtRest.{IsAt, IsOfEither, Opens, OpensAs}
 use Rattle.update_flow.specs.Faults.{of_store}
-use Rattle.update_flow.specs.Opening.{HoldsState}
-use Rattle.update_flow.specs.Refusals.{IsOpenFault, MayFind, OrBreaks}
+use Rattle.update_flow.specs.Opening.{Found, HoldsState}
+use Rattle.update_flow.specs.Refusals.{IsNoDiskFault, IsOpenFault, MayFind, OrBreaks}
 use Rattle.update_flow.specs.Roots.{is_blank, is_imported}
-use Rattle.update_flow.specs.Stands.{IsBlank, IsImported, Means, StandsFor}
-use Rattle.update_flow.specs.State.{Holding, State, formatted, imported}
+use Rattle.update_flow.specs.Stands.{IsBlank, IsImported, StandsFor}
+use Rattle.update_flow.specs.State.{Holding, State, formatted, imported, style_in, was_imported}
 use Rattle.update_flow.specs.Within.{IsSound}
 use Rattle.update_flow.specs.declared.fault.TheConstants.{LAST_CHANGE}
-use Rattle.update_flow.specs.declared.fields.TheConstants.{BLANK, BLANK_FORMAT, IMPORTED, IMPORTED_FORMAT}
+use Rattle.update_flow.specs.declared.fields.TheConstants.{STYLE_TEXT}
+use Rattle.update_flow.specs.declared.opened.Opened.{Opened as Judged}
 
 -- the two ways of saying that a disk holds a state
 pub state_here : (state : State) (view : DiskView) → IsAt state view → HoldsState state view
@@ -142,3 +149,132 @@ opens_alone T store.DiskFault alone = tt
 opens_alone T (store.StoreFull pages) alone = absurd alone
 opens_alone T store.Broken alone = absurd alone
 opens_alone T store.OutOfMemory alone = tt
+
+pub sound_answer : (fault : Option FlowFault) → IsSound fault → OrBreaks fault (fault ≡ None)
+sound_answer None sound = refl
+sound_answer (Some fault) sound = sound_breaks fault (Some fault ≡ None) sound
+
+-- and whatever it holds, a store is opened or found bad, or the disk fails or memory runs out
+pub reads_alone : (T : Type 0) (broken : Bool) (fault : StoreFault) → broken ≡ false → IsReadAnswer {T = T} broken (Err fault) → MayFind (of_store fault)
+reads_alone T broken store.NotFormatted whole alone = absurd alone
+reads_alone T broken store.NotEmpty whole alone = absurd alone
+reads_alone T broken (store.BadStore page) whole alone = tt
+reads_alone T broken store.DiskFault whole alone = tt
+reads_alone T broken (store.StoreFull pages) whole alone = absurd alone
+reads_alone T broken store.Broken whole alone = absurd (cc (whole, alone))
+reads_alone T broken store.OutOfMemory whole alone = tt
+
+-- a store that was found is of a state, and only looked at since
+pub opens_as : (state : State) (mid new : DiskView) (fault : Option FlowFault) → HoldsState state mid → Stays mid new → IsSound fault
+    → OpensAs state fault new
+opens_as state mid new fault holds stays sound = record {
+  answer = sound_answer fault sound;
+  found = λ none. at_state state new (state_stays state mid new stays holds);
+}
+
+-- the same of one of two states
+pub opens_either : (one other : State) (old mid new : DiskView) (fault : Option FlowFault) → HoldsState one mid ⊎ HoldsState other mid → Stays mid new
+    → (((state : State) → HoldsState state mid → IsSound fault)) → Goes (IsOfEither one other) old.crashes mid.crashes → Opens one other fault old new
+opens_either one other old mid new fault (inl holds) stays sound goes = record {
+  answer = sound_answer fault (sound one holds);
+  found = λ none. inl (at_state one new (state_stays one mid new stays holds));
+  moments = goes_stays (IsOfEither one other) old.crashes mid new goes stays;
+}
+opens_either one other old mid new fault (inr holds) stays sound goes = record {
+  answer = sound_answer fault (sound other holds);
+  found = λ none. inr (at_state other new (state_stays other mid new stays holds));
+  moments = goes_stays (IsOfEither one other) old.crashes mid new goes stays;
+}
+
+-- a refusal of the store below that is no disk fault
+pub quiet_fault : (T : Type 0) (fault : StoreFault) → IsNoDiskFault (Some (of_store fault)) → answers_disk_fault {T = T} (Err fault) ≡ false
+quiet_fault T store.NotFormatted quiet = refl
+quiet_fault T store.NotEmpty quiet = refl
+quiet_fault T (store.BadStore page) quiet = refl
+quiet_fault T store.DiskFault quiet = absurd quiet
+quiet_fault T (store.StoreFull pages) quiet = refl
+quiet_fault T store.Broken quiet = refl
+quiet_fault T store.OutOfMemory quiet = refl
+
+-- the fields of a store that was only made are blank
+pub none_blank : (view : DiskView) (opened : Opened) (root : Root) → root ≡ opened_root opened → is_blank root ≡ false → Fits opened view
+    → HoldsState formatted view → ⊥
+none_blank view opened root same blank fits holds =
+    let here : is_blank root ≡ is_blank holds.image.root = ap (λ (r : Root). is_blank r) (same ∙ root_of formatted view opened fits holds) in
+    let is : is_blank holds.image.root ≡ true = blank_root holds.image holds.means in
+    absurd (cc (here, is, blank))
+
+-- those of a store of a state are so, or those of an imported one
+pub is_one : (state : State) (view : DiskView) (opened : Opened) (root : Root) → root ≡ opened_root opened → is_blank root ≡ false
+    → is_imported root ≡ false → Fits opened view → HoldsState state view → ⊥
+is_one formatted view opened root same blank other fits holds = none_blank view opened root same blank fits holds
+is_one (imported held) view opened root same blank other fits holds =
+    let here : is_imported root ≡ is_imported holds.image.root = ap (λ (r : Root). is_imported r) (same ∙ root_of (imported held) view opened fits holds) in
+    let is : is_imported holds.image.root ≡ true = imported_root held holds.image holds.means in
+    absurd (cc (here, is, other))
+
+-- and not both
+pub none_imported : (held : Holding) (view : DiskView) (opened : Opened) (root : Root) → root ≡ opened_root opened → is_blank root ≡ true → Fits opened view
+    → HoldsState (imported held) view → ⊥
+none_imported held view opened root same blank fits holds =
+    let here : is_blank root ≡ is_blank holds.image.root = ap (λ (r : Root). is_blank r) (same ∙ root_of (imported held) view opened fits holds) in
+    let is : is_blank holds.image.root ≡ false = imported_apart held holds.image holds.means in
+    absurd (cc (here, is, blank))
+
+-- what was found of an imported store is what was found of a store
+pub found_of : (root : Root) (view new : DiskView) (found : Opened) (result : Result Judged FlowFault) → root ≡ opened_root found → is_blank root ≡ false
+    → IfOk result (λ opened. opened.changes ≡ root.changes)
+    → IfOk result (λ opened. Fits found view → (held : Holding) → HoldsState (imported held) view → (opened.style ≡ Some held.style) × Fits opened.store new)
+    → IfOk result (λ opened. Fits found view → (state : State) → HoldsState state view → Found state new opened)
+found_of root view new found (Err fault) same blank changes rest = tt
+found_of root view new found (Ok opened) same blank changes rest = λ fits state holds. by fits state holds
+  where
+    by : Fits found view → (state : State) → HoldsState state view → Found state new opened
+    by fits formatted holds = absurd (none_blank view found root same blank fits holds)
+    by fits (imported held) holds =
+        let are : root ≡ holds.image.root = same ∙ root_of (imported held) view found fits holds in
+        let is : IsImported held holds.image = holds.means in
+        let own = rest fits held holds in
+        record {
+          changes_are = changes ∙ ap (λ (r : Root). r.changes) (are ∙ is.root);
+          style_is = own.0;
+          fits = own.1;
+        }
+
+pub sound_of : (root : Root) (view : DiskView) (found : Opened) (fault : Option FlowFault) → root ≡ opened_root found → is_blank root ≡ false
+    → (Fits found view → (held : Holding) → HoldsState (imported held) view → IsSound fault) → Fits found view → (state : State) → HoldsState state view
+    → IsSound fault
+sound_of root view found fault same blank sound fits formatted holds = absurd (none_blank view found root same blank fits holds)
+sound_of root view found fault same blank sound fits (imported held) holds = sound fits held holds
+
+-- a disk that was only looked at held what it holds
+pub state_before : (state : State) (mid new : DiskView) (found : Opened) → Fits found mid → Stays mid new → IsAt state new → HoldsState state mid
+unfolding StandsFor
+state_before state mid new found fits stays at =
+    let here : at.bytes ≡ fits.rests.0 = same_Some at.bytes fits.rests.0 (sym at.told ∙ stays.content ∙ fits.rests.1.told) in
+    record {
+      image = at.stands.0;
+      holds = record {
+        bytes = fits.rests.0;
+        told = fits.rests.1.told;
+        only = fits.rests.1.only;
+        shut = fits.rests.1.shut;
+        has = subst (λ (b : List ℕ). HasImage at.stands.0 b) here at.stands.2;
+      };
+      means = at.stands.1;
+    }
+
+-- the style of an imported store is the one that its text spells
+pub style_one : (held : Holding) (image : Image) (style : StyleOf) → IsImported held image → reading (image.texts STYLE_TEXT) ≡ Ok style → style ≡ held.style
+style_one held image style is read =
+    let own : reading (image.texts STYLE_TEXT) ≡ Ok held.style = ap (λ (b : List ℕ). reading b) is.style_text ∙ is.style in
+    cc (read, own)
+
+-- no answer of a store that means a state is that it is bad
+pub bad_none : (T : Type 0) (result : Result T FlowFault) (page : ℕ) → IsErrOf result (flow.Store (store.BadStore page)) → IsSound (result_err result) → ⊥
+bad_none T result page is sound = subst (λ (r : Result T FlowFault). IsSound (result_err r)) is sound
+
+-- a style tells that there was an import
+pub style_tells : (state : State) → is_some (style_in state) ≡ was_imported state
+style_tells formatted = refl
+style_tells (imported held) = refl

@@ -1,6 +1,5 @@
 -- A store at rest that was not touched.
-use Rattle.std.specs.Prelude.{◌≡◌, List, ℕ}
-use Rattle.std.proofs.Common.{refl, sym, subst, inl, inr}
+use Rattle.std.proofs.Common.{sym, subst, inl}
 use Rattle.outside.specs.Disk.{DiskView, Goes}
 use Rattle.page_journal.proofs.Moments.{started}
 use Rattle.update_flow.specs.AtRest.{IsAt, IsAtEither, IsOfEither, RestsAt}

@@ -1,21 +1,18 @@
 -- Calls of the buckets, as calls within a transaction.
-use Rattle.std.proofs.Common.{◌≡◌, ◌≢◌, ◌||◌, ℕ, Bool, true, false, Option, Some, None, Result, Ok, Err, refl, sym, ap, ◌∙◌}
-use Rattle.outside.specs.Causes.{Rose}
+use Rattle.std.proofs.Common.{◌≡◌, ◌||◌, ℕ, Bool, true, false, Some, None, Err, refl, ◌∙◌}
 use Rattle.outside.specs.declared.disk.Disk.{Ghosts}
 use Rattle.page_journal.specs.Answers.{HasDiskCause, answers_disk_fault}
 use Rattle.page_journal.specs.Journal.{is_broken}
 use Rattle.page_journal.specs.declared.fault.StoreFault.{StoreFault}
 use Rattle.page_journal.specs.declared.fault.StoreFault.TheVariants as store
 use Rattle.chain_store.specs.Answers.{IsReadAnswer}
-use Rattle.chain_store.specs.Chains.{disk_of, journal_of}
+use Rattle.chain_store.specs.Chains.{journal_of}
 use Rattle.bucket_store.specs.Image.{OnlyLooks}
 use Rattle.bucket_store.specs.Transaction.{chains_of}
 use Rattle.bucket_store.specs.declared.buckets.Buckets.{Buckets}
-use Rattle.update_flow.specs.declared.fault.FlowFault.{FlowFault}
 use Rattle.update_flow.specs.declared.fault.FlowFault.TheVariants as flow
 use Rattle.update_flow.specs.Faults.{of_store}
-use Rattle.update_flow.specs.Refusals.{IsNoDiskFault}
-use Rattle.update_flow.specs.Within.{MayRun, Runs, faults_in, is_whole_store}
+use Rattle.update_flow.specs.Within.{Runs, faults_in, is_whole_store}
 
 or_none : (b : Bool) → (b || false) ≡ b
 or_none true = refl

@@ -9,3 +9,5 @@ pub mod AtRest
 pub mod Changes
 pub mod Opening
 pub mod Within
+pub mod Handle
+pub mod Updater

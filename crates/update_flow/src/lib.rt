@@ -8,9 +8,15 @@
 mod fault;
 mod fields;
 mod opened;
+mod opening;
+mod style_text;
+mod updater;
 
 pub use fault::{FlowFault, LAST_CHANGE, store_fault};
 pub use fields::{
     BLANK, BLANK_FORMAT, DUE_TEXT, IMPORTED, IMPORTED_FORMAT, STYLE_TEXT, is_blank, is_imported,
 };
 pub use opened::Opened;
+pub use opening::open;
+pub use style_text::load_style;
+pub use updater::Updater;

@@ -4,7 +4,7 @@ use Rattle.outside.specs.Inputs.{FilesView}
 use Rattle.outside.specs.Sink.{SinkView}
 use Rattle.tile_cover.specs.Table.{BoundsOf}
 use Rattle.update_flow.specs.State.{Holding, imported}
-use Rattle.updater.specs.Handle.{Handle, view_of}
+use Rattle.update_flow.specs.Handle.{Handle, view_of}
 use Rattle.updater.specs.declared.fault.Fault.{Fault}
 use Rattle.updater.specs.Comes.{Comes}
 use Rattle.updater.specs.Course.{Course}

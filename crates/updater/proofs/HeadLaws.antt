@@ -8,7 +8,7 @@ use Rattle.outside.specs.Disk.{DiskView}
 use Rattle.outside.specs.Inputs.{FilesView}
 use Rattle.outside.specs.Sink.{SinkView}
 use Rattle.update_flow.specs.State.{State}
-use Rattle.updater.specs.Handle.{Handle, view_of}
+use Rattle.update_flow.specs.Handle.{Handle, view_of}
 use Rattle.updater.specs.declared.fault.Fault.{Fault}
 use Rattle.updater.specs.declared.fault.Fault.TheVariants as faults
 use Rattle.updater.specs.Comes.{AreTold, Comes, IsCertain, BreaksIn, unread, short, refused}

@@ -18,7 +18,7 @@ use Rattle.update_flow.specs.History.{state_after}
 use Rattle.update_flow.specs.Refusals.{IsNoDiskFault, IsOpenFault}
 use Rattle.update_flow.specs.Stands.{StandsFor}
 use Rattle.update_flow.specs.State.{State, formatted, imported}
-use Rattle.updater.specs.Handle.{Handle, IsOpen, Shows, changes_of, is_imported, is_whole, limits_of, style_of, view_of}
+use Rattle.update_flow.specs.Handle.{Handle, IsOpen, Shows, changes_of, is_imported, is_whole, limits_of, style_of, view_of}
 use Rattle.update_flow.specs.declared.fault.FlowFault.{FlowFault}
 use Rattle.update_flow.specs.declared.fault.FlowFault.TheVariants as flow
 use Rattle.updater.specs.declared.fault.Fault.{Fault}

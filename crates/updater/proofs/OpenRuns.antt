@@ -10,7 +10,7 @@ use Rattle.page_journal.specs.declared.fault.StoreFault.TheVariants as stores
 use Rattle.update_flow.specs.AtRest.{HasFlowCause, IsAt, IsAtEither, Opens}
 use Rattle.update_flow.specs.Refusals.{IsNoDiskFault, IsOpenFault}
 use Rattle.update_flow.specs.State.{State}
-use Rattle.updater.specs.Handle.{Handle, IsOpen, changes_of, is_imported, is_whole, limits_of, view_of}
+use Rattle.update_flow.specs.Handle.{Handle, IsOpen, changes_of, is_imported, is_whole, limits_of, view_of}
 use Rattle.update_flow.specs.declared.fault.FlowFault.{FlowFault}
 use Rattle.update_flow.specs.declared.fault.FlowFault.TheVariants as flow
 use Rattle.updater.specs.declared.fault.Fault.{Fault}

@@ -12,7 +12,7 @@ use Rattle.update_flow.specs.History.{History, state_after}
 use Rattle.update_flow.specs.Refusals.{IsCallFault, IsNoDiskFault, MayAnswer, MayLook, OrFull, Refuses, RefusesLook}
 use Rattle.update_flow.specs.Stands.{StandsFor}
 use Rattle.update_flow.specs.State.{Holding, State, imported, Step, after}
-use Rattle.updater.specs.Handle.{Handle, IsOpen, Looks, Shows, Takes, is_whole, limits_of, view_of}
+use Rattle.update_flow.specs.Handle.{Handle, IsOpen, Looks, Shows, Takes, is_whole, limits_of, view_of}
 use Rattle.update_flow.specs.declared.fault.FlowFault.{FlowFault}
 use Rattle.update_flow.specs.declared.fault.FlowFault.TheVariants as flow
 use Rattle.updater.specs.declared.fault.Fault.{Fault}

@@ -11,7 +11,7 @@ use Rattle.style_read.specs.Style.{StyleOf, table_of}
 use Rattle.update_flow.specs.AtRest.{HasFlowCause}
 use Rattle.update_flow.specs.Refusals.{IsCallFault}
 use Rattle.update_flow.specs.State.{Holding, State, formatted, imported, Clear, after}
-use Rattle.updater.specs.Handle.{Handle, IsOpen, Looks, Shows, Takes, TellsAs, is_imported, is_whole, limits_of, style_of, view_of}
+use Rattle.update_flow.specs.Handle.{Handle, IsOpen, Looks, Shows, Takes, TellsAs, is_imported, is_whole, limits_of, style_of, view_of}
 use Rattle.update_flow.specs.declared.fault.FlowFault.{FlowFault}
 use Rattle.update_flow.specs.declared.fault.FlowFault.TheVariants as flow
 use Rattle.updater.specs.declared.fault.Fault.{Fault}

@@ -11,7 +11,7 @@ use Rattle.page_journal.specs.declared.fault.StoreFault.TheVariants as stores
 use Rattle.update_flow.specs.AtRest.{HasFlowCause}
 use Rattle.update_flow.specs.Refusals.{IsCallFault}
 use Rattle.update_flow.specs.State.{Holding, State, imported, Step, after}
-use Rattle.updater.specs.Handle.{Handle, IsOpen, Shows, Takes, is_whole, limits_of, view_of}
+use Rattle.update_flow.specs.Handle.{Handle, IsOpen, Shows, Takes, is_whole, limits_of, view_of}
 use Rattle.update_flow.specs.declared.fault.FlowFault.{FlowFault}
 use Rattle.update_flow.specs.declared.fault.FlowFault.TheVariants as flow
 use Rattle.updater.specs.declared.fault.Fault.{Fault}

@@ -5,7 +5,7 @@ use Rattle.outside.specs.Sink.{SinkView}
 use Rattle.osm_base.specs.bounds.Limits.{standard}
 use Rattle.update_flow.specs.History.{state_after}
 use Rattle.update_flow.specs.State.{Holding, State, imported}
-use Rattle.updater.specs.Handle.{Handle, IsOpen, Shows, is_whole, limits_of, view_of}
+use Rattle.update_flow.specs.Handle.{Handle, IsOpen, Shows, is_whole, limits_of, view_of}
 use Rattle.updater.specs.declared.fault.Fault.{Fault}
 use Rattle.updater.specs.Comes.{Comes}
 use Rattle.updater.specs.Course.{Course}

@@ -7,7 +7,6 @@ pub mod Courses
 pub mod Faults
 pub mod Files
 pub mod Forms
-pub mod Handle
 pub mod Heads
 pub mod Keeps
 pub mod Reading

@@ -1,4 +1,4 @@
--- What a run sees of its open store, whatever holds it: the disk under it, the limits that it keeps, and what it tells of itself.
+-- What is seen of an open store, whatever holds it: the disk under it, the limits that it keeps, and what it tells of itself.
 use Rattle.std.specs.Prelude.{◌≡◌, ◌≢◌, ℕ, Bool, true, Option, None, is_some}
 use Rattle.osm_base.specs.declared.bounds.limits.LimitNumbers.{LimitNumbers}
 use Rattle.outside.specs.Disk.{DiskView, Goes}
@@ -8,14 +8,15 @@ use Rattle.update_flow.specs.Refusals.{IsNoDiskFault, MayAnswer, MayLook}
 use Rattle.update_flow.specs.State.{State, Step, after, changes_in, style_in, was_imported}
 use Rattle.update_flow.specs.declared.fault.FlowFault.{FlowFault}
 
--- the disk, the limits, whether no call of the disk has failed, the number of changes since the import, and the style where it was
--- imported
+-- the disk, the limits, whether no call of the disk has failed, the number of changes since the import, the style where it was
+-- imported, and whether what it keeps in memory is so of the store on its disk
 pub record Handle : Type 1 where
   pub view : DiskView
   pub limits : LimitNumbers
   pub whole : Bool
   pub changes : ℕ
   pub style : Option StyleOf
+  pub keeps : Type 0
 
 abbrev pub view_of : Handle → DiskView
 view_of store = store.view
@@ -52,6 +53,7 @@ pub record IsOpen (state : State) (store : Handle) : Type 0 where
   pub at_rest : IsAt state (view_of store)
   pub sound : is_whole store ≡ true
   pub shows : Shows state store
+  pub fits : store.keeps
 
 -- an open store is taken a step further, whole or not at all. One that is refused otherwise than by its disk was never begun.
 pub record Takes (state : State) (step : Step) (fault : Option FlowFault) (old new : Handle) : Type 0 where

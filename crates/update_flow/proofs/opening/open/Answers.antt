@@ -1,0 +1,109 @@
+-- What the buckets found is judged.
+use Rattle.std.proofs.Common.{◌⊎◌, inl, inr, Some, Err, refl, sym, subst, ◌∙◌}
+use Rattle.std.specs.Result.{result_err}
+use Rattle.std.proofs.lemmas.Result.{IfOk-weaker}
+use Rattle.outside.specs.Bytes.{IsTold}
+use Rattle.outside.specs.Disk.{Goes}
+use Rattle.bucket_store.specs.Image.{IsSoundAnswer}
+use Rattle.bucket_store.specs.Opening.{Fits}
+use Rattle.bucket_store.specs.declared.opened.Opened.{Opened as Stored}
+use Rattle.update_flow.specs.AtRest.{IsAt, IsOfEither}
+use Rattle.update_flow.specs.Opening.{Found, HoldsState}
+use Rattle.update_flow.specs.Refusals.{IsNoDiskFault}
+use Rattle.update_flow.specs.Stands.{StandsFor}
+use Rattle.update_flow.specs.State.{State}
+use Rattle.update_flow.specs.Within.{IsSound}
+use Rattle.update_flow.specs.declared.fault.FlowFault.{FlowFault}
+use Rattle.update_flow.specs.declared.opened.Opened.{Opened}
+use Rattle.update_flow.proofs.Openings.{bad_none, each_meant, goes_either, opens_as, opens_either, quiet_fault, sound_answer, sound_store, state_before}
+use Rattle.update_flow.proofs.opening.open.Goals as goal
+
+pub returns-in-Ok-clause-reads : goal.returns-in-Ok-clause-reads
+unfolding StandsFor
+returns-in-Ok-clause-reads g c = λ bytes state told stands.
+    let mid = g.D.Disk.view c.open.new.disk in
+    let holds : HoldsState state mid = record { image = stands.0; holds = c.in-Ok.ensures.found bytes told stands.0 stands.2; means = stands.1 } in
+    opens_as state mid (g.D.Disk.view c.judged.new.disk) (result_err c.judged.result) holds c.judged.ensures.stays
+    (c.judged.ensures.sound (c.in-Ok.ensures.fits bytes told) state holds)
+
+pub returns-in-Ok-clause-opens : goal.returns-in-Ok-clause-opens
+unfolding StandsFor
+returns-in-Ok-clause-opens g c = λ one other either.
+    let old = g.D.Disk.view c.args.disk.now in
+    let mid = g.D.Disk.view c.open.new.disk in
+    let new = g.D.Disk.view c.judged.new.disk in
+    let bytes = either.told.0 in
+    let told = either.told.1 in
+    let goes : Goes (IsOfEither one other) old.crashes mid.crashes =
+    goes_either one other old.crashes mid.crashes either.only (c.open.ensures.any_moment bytes told (each_meant one other old.crashes either.only)) in
+    let here : (state : State) → StandsFor bytes state → HoldsState state mid = λ state stands.
+    record { image = stands.0; holds = c.in-Ok.ensures.found bytes told stands.0 stands.2; means = stands.1 } in
+    let holds : HoldsState one mid ⊎ HoldsState other mid = elim (either.only bytes (g.met.D.Disk.reads_stay c.args.disk.now bytes told)) [
+      | inl stands ↦ inl (here one stands)
+      | inr stands ↦ inr (here other stands)
+    ] in
+    opens_either one other old mid new (result_err c.judged.result) holds c.judged.ensures.stays
+    (c.judged.ensures.sound (c.in-Ok.ensures.fits bytes told)) goes
+
+pub returns-in-Ok-clause-found : goal.returns-in-Ok-clause-found
+returns-in-Ok-clause-found g c =
+    let mid = g.D.Disk.view c.open.new.disk in
+    let new = g.D.Disk.view c.judged.new.disk in
+    IfOk-weaker c.judged.result
+    (λ opened. Fits c.in-Ok.found mid → (state : State) → HoldsState state mid → Found state new opened)
+    (λ opened. IsTold (g.D.Disk.view c.args.disk.now).content → (state : State) → IsAt state new → Found state new opened)
+    (λ opened own told state at.
+    let fits = c.in-Ok.ensures.fits told.0 told.1 in
+    own fits state (state_before state mid new c.in-Ok.found fits c.judged.ensures.stays at))
+    c.judged.ensures.found
+
+pub returns-in-Ok-clause-bad : goal.returns-in-Ok-clause-bad
+unfolding StandsFor
+returns-in-Ok-clause-bad g c = λ page is bytes told state stands.
+    let mid = g.D.Disk.view c.open.new.disk in
+    let holds : HoldsState state mid = record { image = stands.0; holds = c.in-Ok.ensures.found bytes told stands.0 stands.2; means = stands.1 } in
+    bad_none Opened c.judged.result page is (c.judged.ensures.sound (c.in-Ok.ensures.fits bytes told) state holds)
+
+pub returns-in-Err-clause-reads : goal.returns-in-Err-clause-reads
+unfolding StandsFor
+returns-in-Err-clause-reads g c = λ bytes state told stands.
+    let sound : IsSound (Some c.store_fault.result) =
+    subst (λ (f : FlowFault). IsSound (Some f)) (sym c.store_fault.ensures)
+    (sound_store Stored c.in-Err.fault (c.in-Err.ensures.sound bytes told stands.0 stands.2)) in
+    record { answer = sound_answer (Some c.store_fault.result) sound; found = λ none. absurd (cc) }
+
+pub returns-in-Err-clause-opens : goal.returns-in-Err-clause-opens
+unfolding StandsFor
+returns-in-Err-clause-opens g c = λ one other either.
+    let old = g.D.Disk.view c.args.disk.now in
+    let new = g.D.Disk.view c.open.new.disk in
+    let bytes = either.told.0 in
+    let told = either.told.1 in
+    let meant : IsSoundAnswer {T = Stored} (Err c.in-Err.fault) = elim (either.only bytes (g.met.D.Disk.reads_stay c.args.disk.now bytes told)) [
+      | inl stands ↦ c.in-Err.ensures.sound bytes told stands.0 stands.2
+      | inr stands ↦ c.in-Err.ensures.sound bytes told stands.0 stands.2
+    ] in
+    let sound : IsSound (Some c.store_fault.result) =
+    subst (λ (f : FlowFault). IsSound (Some f)) (sym c.store_fault.ensures) (sound_store Stored c.in-Err.fault meant) in
+    record {
+      answer = sound_answer (Some c.store_fault.result) sound;
+      found = λ none. absurd {A = IsAt one new ⊎ IsAt other new} (cc);
+      moments = goes_either one other old.crashes new.crashes either.only (c.open.ensures.any_moment bytes told (each_meant one other old.crashes either.only));
+    }
+
+pub returns-in-Err-clause-bad : goal.returns-in-Err-clause-bad
+unfolding StandsFor
+returns-in-Err-clause-bad g c = λ page is bytes told state stands.
+    let sound : IsSound (Some c.store_fault.result) =
+    subst (λ (f : FlowFault). IsSound (Some f)) (sym c.store_fault.ensures)
+    (sound_store Stored c.in-Err.fault (c.in-Err.ensures.sound bytes told stands.0 stands.2)) in
+    bad_none Opened (Err c.store_fault.result) page is sound
+
+pub returns-in-Ok-clause-told : goal.returns-in-Ok-clause-told
+returns-in-Ok-clause-told g c = λ told no.
+    let mid = c.in-Ok.ensures.told told.0 told.1 refl in
+    (mid.0, c.judged.ensures.stays.content ∙ mid.1)
+
+pub returns-in-Err-clause-told : goal.returns-in-Err-clause-told
+returns-in-Err-clause-told g c = λ told no.
+    c.in-Err.ensures.told told.0 told.1 (quiet_fault Stored c.in-Err.fault (subst (λ (f : FlowFault). IsNoDiskFault (Some f)) c.store_fault.ensures no))

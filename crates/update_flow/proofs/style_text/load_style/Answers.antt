@@ -1,0 +1,33 @@
+use Rattle.std.proofs.Common.{◌≡◌, ◌∙◌, ℕ, List, Some, Ok, Err, sym, ap, subst}
+use Rattle.style_read.specs.declared.fault.StyleFault.{StyleFault}
+use Rattle.style_read.specs.declared.fault.StyleFault.TheVariants.{Bad}
+use Rattle.style_read.specs.Reading.{Gives, reading}
+use Rattle.page_journal.specs.Journal.{is_broken}
+use Rattle.chain_store.specs.Chains.{journal_of}
+use Rattle.bucket_store.specs.Transaction.{chains_of}
+use Rattle.update_flow.specs.Refusals.{MayFind}
+use Rattle.update_flow.specs.Within.{IsSound}
+use Rattle.update_flow.specs.declared.fault.FlowFault.{FlowFault}
+use Rattle.update_flow.proofs.Openings.{reads_alone, sound_store}
+use Rattle.update_flow.proofs.style_text.load_style.Goals as goal
+
+pub returns-in-Err-clause-sound : goal.returns-in-Err-clause-sound
+returns-in-Err-clause-sound g c = λ rest now held has is.
+    subst (λ (f : FlowFault). IsSound (Some f)) (sym c.store_fault.ensures) (sound_store (List ℕ) c.in-Err.fault (c.in-Err.ensures.sound rest now has))
+
+pub returns-in-Ok-read_style-clause-style : goal.returns-in-Ok-read_style-clause-style
+returns-in-Ok-read_style-clause-style g c = λ rest now has.
+    ap (λ (b : List ℕ). reading b) (sym (c.in-Ok.ensures.found rest now has) ∙ sym c.as_slice.ensures.items) ∙ c.in-Ok-read_style.ensures.exact
+
+pub returns-in-Err-Bad-clause-sound : goal.returns-in-Err-Bad-clause-sound
+returns-in-Err-Bad-clause-sound g c = λ rest now held has is.
+    let good : reading c.as_slice.result.now ≡ Ok held.style =
+    ap (λ (b : List ℕ). reading b) (c.as_slice.ensures.items ∙ c.in-Ok.ensures.found rest now has ∙ is.style_text) ∙ is.style in
+    let bad : Gives (Err (Bad c.in-Err-Bad.field-0-0 c.in-Err-Bad.field-0-1)) (reading c.as_slice.result.now) =
+    subst (λ (f : StyleFault). Gives (Err f) (reading c.as_slice.result.now)) c.in-Err-Bad.field-0-is c.in-Err-Bad.ensures.exact in
+    absurd (cc (bad, good))
+
+pub returns-in-Err-clause-alone : goal.returns-in-Err-clause-alone
+returns-in-Err-clause-alone g c =
+    subst (λ (f : FlowFault). MayFind f) (sym c.store_fault.ensures)
+    (reads_alone (List ℕ) (is_broken (journal_of (chains_of c.args.buckets.now))) c.in-Err.fault c.requires.whole c.in-Err.ensures.alone)

@@ -1,0 +1,18 @@
+-- What was found is told.
+use Rattle.std.proofs.Common.{Option, refl, ap, ◌∙◌}
+use Rattle.std.specs.Prelude.{is_some}
+use Rattle.style_read.specs.Style.{StyleOf}
+use Rattle.update_flow.proofs.Openings.{style_tells}
+use Rattle.update_flow.proofs.updater.Updater.over.Goals as goal
+
+pub returns-clause-open : goal.returns-clause-open
+returns-clause-open g c = λ state at found. record {
+  at_rest = at;
+  sound = refl;
+  shows = record {
+    changes_are = found.changes_are;
+    imported_is = ap (λ (s : Option StyleOf). is_some s) found.style_is ∙ style_tells state;
+    style_is = found.style_is;
+  };
+  fits = (c.args.opened.store, refl, found.fits);
+}

@@ -1,0 +1,115 @@
+//! A store is opened on a disk that stays with its owner.
+ghost use Rattle.std.specs.Prelude.{◌≡◌, ◌≤◌, List, ℕ, Some, IfOk, IfErr, IsErrOf};
+ghost use Rattle.std.specs.Result.{result_err};
+ghost use Rattle.outside.specs.Bytes.{IfTold, IsTold};
+ghost use Rattle.outside.specs.Disk.{Stays, Tells};
+ghost use Rattle.page_journal.specs.Home.{IsFormatted};
+ghost use Rattle.page_journal.specs.declared.fault.StoreFault.TheVariants.{BadStore, NotFormatted};
+ghost use Rattle.bucket_store.specs.Opening.{Fits};
+ghost use Rattle.update_flow.specs.AtRest.{HasFlowCause, IsAt, IsAtEither, Opens, OpensAs, StandsForNone};
+ghost use Rattle.update_flow.specs.State.{Holding, State, imported};
+ghost use Rattle.update_flow.specs.Stands.{StandsFor};
+ghost use Rattle.update_flow.specs.Refusals.{IsNoDiskFault, IsOpenFault, MayFind};
+ghost use Rattle.update_flow.specs.Opening.{Found, HoldsState};
+ghost use Rattle.update_flow.specs.Within.{IsSound};
+ghost use Rattle.update_flow.specs.declared.fault.FlowFault.TheVariants.{Store};
+ghost use Rattle.update_flow.specs.declared.fault.TheConstants.{LAST_CHANGE};
+
+use crate::fault::store_fault;
+use crate::fields::{is_blank, is_imported};
+use crate::style_text::load_style;
+use crate::{FlowFault, Opened};
+use bucket_store::{Buckets, Opened as Stored};
+use osm_base::Limits;
+use outside::Disk;
+use page_journal::StoreFault;
+use std::alloc::Global;
+
+/// Opens the store on this disk, which stays with its owner: a refusal loses nothing. `Updater::over` goes on from there.
+pub fn open<D: Disk>(alloc: Global, disk: &mut D, limits: &Limits) -> Result<Opened, FlowFault>
+    // A disk that reads as a store of a state is opened as one.
+    ensures reads { (bytes : List ℕ) (state : State) → Tells (D.view disk.old) bytes → StandsFor bytes state
+        → OpensAs state (result_err result) (D.view disk.new) }
+    ensures opens { (one other : State) → IsAtEither one other (D.view disk.old)
+        → Opens one other (result_err result) (D.view disk.old) (D.view disk.new) }
+    ensures found { IfOk result (λ opened. IsTold (D.view disk.old).content → (state : State) → IsAt state (D.view disk.new)
+        → Found state (D.view disk.new) opened) }
+
+    // Whatever the disk holds.
+    ensures alone { IfErr result IsOpenFault }
+    ensures no_store { IsErrOf result (Store NotFormatted) → IfTold (D.view disk.old).content (λ bytes. ¬ IsFormatted bytes) }
+    ensures untouched { IsErrOf result (Store NotFormatted) → Stays (D.view disk.old) (D.view disk.new) }
+    ensures told { IsTold (D.view disk.old).content → IsNoDiskFault (result_err result) → IsTold (D.view disk.new).content }
+    ensures bad { (page : ℕ) → IsErrOf result (Store (BadStore page)) → IfTold (D.view disk.old).content StandsForNone }
+    ensures cause { HasFlowCause (result_err result) (D.view disk.old) (D.view disk.new) }
+{
+    match bucket_store::open(alloc, disk, limits) {
+        Ok(found) => judged(alloc, disk, limits, found),
+        Err(fault) => Err(store_fault(fault)),
+    }
+}
+
+/// The state of a store of which this was read. `BadStore` comes with the root page where its fields are none of a
+/// store, or its style does not read.
+fn judged<D: Disk>(
+    alloc: Global,
+    disk: &mut D,
+    limits: &Limits,
+    found: Stored,
+) -> Result<Opened, FlowFault>
+    ensures found { IfOk result (λ opened. Fits found (D.view disk.old) → (state : State) → HoldsState state (D.view disk.old)
+        → Found state (D.view disk.new) opened) }
+    ensures sound { Fits found (D.view disk.old) → (state : State) → HoldsState state (D.view disk.old) → IsSound (result_err result) }
+    ensures alone { IfErr result MayFind }
+    ensures stays { Stays (D.view disk.old) (D.view disk.new) }
+    ensures cause { HasFlowCause (result_err result) (D.view disk.old) (D.view disk.new) }
+{
+    let root = found.root();
+    if is_blank(root) {
+        return Ok(Opened {
+            store: found,
+            changes: 0,
+            style: None,
+        });
+    }
+    if !is_imported(root) {
+        return Err(FlowFault::Store(StoreFault::BadStore { page: 1 }));
+    }
+    with_style(alloc, disk, limits, found, root.changes)
+}
+
+/// An imported store with so many changes, of which this was read. `BadStore` comes with the root page where its style does
+/// not read.
+fn with_style<D: Disk>(
+    alloc: Global,
+    disk: &mut D,
+    limits: &Limits,
+    found: Stored,
+    changes: u64,
+) -> Result<Opened, FlowFault>
+    requires counted { changes ≤ LAST_CHANGE }
+    ensures changes { IfOk result (λ opened. opened.changes ≡ changes) }
+    ensures found { IfOk result (λ opened. Fits found (D.view disk.old) → (held : Holding) → HoldsState (imported held) (D.view disk.old)
+        → (opened.style ≡ Some held.style) × Fits opened.store (D.view disk.new)) }
+    ensures sound { Fits found (D.view disk.old) → (held : Holding) → HoldsState (imported held) (D.view disk.old) → IsSound (result_err result) }
+    ensures alone { IfErr result MayFind }
+    ensures stays { Stays (D.view disk.old) (D.view disk.new) }
+    ensures cause { HasFlowCause (result_err result) (D.view disk.old) (D.view disk.new) }
+{
+    let mut buckets = Buckets::on(alloc, disk, limits, found);
+    let read = load_style(alloc, &mut buckets);
+    let mut kept = None;
+    let _disk = buckets.hand_back(&mut kept);
+    let style = match read {
+        Ok(style) => style,
+        Err(fault) => return Err(fault),
+    };
+    match kept {
+        Some(store) => Ok(Opened {
+            store,
+            changes,
+            style: Some(style),
+        }),
+        None => unreachable!(),
+    }
+}

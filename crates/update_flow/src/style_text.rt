@@ -1,0 +1,39 @@
+//! The style of a store: its bytes are one of the store's texts.
+ghost use Rattle.std.specs.Prelude.{◌≡◌, ℕ, Ok, false, IfErr, IfOk};
+ghost use Rattle.std.specs.Result.{result_err};
+ghost use Rattle.style_read.specs.Reading.{reading};
+ghost use Rattle.bucket_store.specs.Image.{Has, Image};
+ghost use Rattle.bucket_store.specs.Transaction.{has_refused};
+ghost use Rattle.update_flow.specs.Refusals.{MayFind};
+ghost use Rattle.update_flow.specs.Stands.{IsImported};
+ghost use Rattle.update_flow.specs.State.{Holding};
+ghost use Rattle.update_flow.specs.Within.{IsSound, Runs, is_whole_store};
+ghost use Rattle.update_flow.specs.declared.fields.TheConstants.{STYLE_TEXT};
+
+use crate::fault::store_fault;
+use crate::{FlowFault, STYLE_TEXT};
+use bucket_store::Buckets;
+use outside::Disk;
+use page_journal::StoreFault;
+use std::alloc::Global;
+use style_read::{Style, StyleFault, read_style};
+
+/// The style of an imported store. `BadStore` comes with the root page where its bytes do not read.
+pub fn load_style<D: Disk>(alloc: Global, buckets: &mut Buckets<'_, D>) -> Result<Style, FlowFault>
+    requires going { has_refused buckets.old ≡ false }
+    requires whole { is_whole_store buckets.old }
+    ensures style { IfOk result (λ style. (rest now : Image) → Has rest now buckets.old → reading (now.texts STYLE_TEXT) ≡ Ok style) }
+    ensures sound { (rest now : Image) (held : Holding) → Has rest now buckets.old → IsImported held now → IsSound (result_err result) }
+    ensures alone { IfErr result MayFind }
+    ensures runs { Runs buckets.old buckets.new (result_err result) }
+{
+    let bytes = match buckets.load(STYLE_TEXT) {
+        Ok(bytes) => bytes,
+        Err(fault) => return Err(store_fault(fault)),
+    };
+    match read_style(alloc, bytes.as_slice()) {
+        Ok(style) => Ok(style),
+        Err(StyleFault::Bad { .. }) => Err(FlowFault::Store(StoreFault::BadStore { page: 1 })),
+        Err(StyleFault::OutOfMemory) => Err(FlowFault::OutOfMemory),
+    }
+}
