@@ -1,1 +1,4 @@
 pub mod MapsKept
+pub mod Settings
+pub mod Findings
+pub mod Keeping

@@ -1,0 +1,36 @@
+-- What the call on the buckets answers is what the maps answer.
+use Rattle.std.proofs.Common.{Ok, Err}
+use Rattle.kept_maps.specs.Laws.{over_going, over_some}
+use Rattle.kept_maps.proofs.Keeping.{allowed_sound, bears_refused, fresh_answered, looks_answered}
+use Rattle.kept_maps.proofs.kept.KeptMapsMapStore.set_rows.Goals as goal
+
+pub keep_rows-requires-clause-some : goal.keep_rows-requires-clause-some
+keep_rows-requires-clause-some g c = over_some c.args.self.now c.requires.spent
+
+pub keep_rows-requires-clause-going : goal.keep_rows-requires-clause-going
+keep_rows-requires-clause-going g c = over_going c.args.self.now c.requires.spent
+
+pub returns-in-Ok-clause-holds : goal.returns-in-Ok-clause-holds
+returns-in-Ok-clause-holds g c under maps had = c.in-Ok.ensures.sets under maps had
+
+pub returns-in-Ok-clause-looked : goal.returns-in-Ok-clause-looked
+returns-in-Ok-clause-looked g c first later = record {
+  looks = looks_answered c.args.self.now c.keep_rows.new.buckets (Ok tt) first later c.in-Ok.ensures.answers;
+  same_style = later.same_style;
+}
+
+pub returns-in-Ok-clause-spent : goal.returns-in-Ok-clause-spent
+returns-in-Ok-clause-spent g c = fresh_answered c.args.self.now c.keep_rows.new.buckets tt c.requires.spent c.in-Ok.ensures.answers
+
+pub returns-in-Err-clause-looked : goal.returns-in-Err-clause-looked
+returns-in-Err-clause-looked g c first later = record {
+  looks = looks_answered c.args.self.now c.keep_rows.new.buckets {T = Unit {0}} (Err c.in-Err.fault) first later c.in-Err.ensures.answers;
+  same_style = later.same_style;
+}
+
+pub returns-in-Err-clause-refused : goal.returns-in-Err-clause-refused
+returns-in-Err-clause-refused g c first later =
+    bears_refused c.args.self.now c.keep_rows.new.buckets {T = Unit {0}} c.in-Err.fault c.requires.spent c.in-Err.ensures.answers first later
+
+pub returns-in-Err-clause-allowed : goal.returns-in-Err-clause-allowed
+returns-in-Err-clause-allowed g c under maps had = allowed_sound (Unit {0}) c.in-Err.fault (c.in-Err.ensures.sound under.rest had.now had.has)

@@ -1,0 +1,22 @@
+-- What is taken out of the buckets is taken out of the maps.
+use Rattle.std.proofs.Common.{Bool, None}
+use Rattle.kept_maps.proofs.Findings.{sound_of, told_err, told_ok, touched}
+use Rattle.kept_maps.proofs.Settings.{node_set}
+use Rattle.kept_maps.proofs.setting.take_node.Goals as goal
+
+pub returns-in-Ok-clause-sets : goal.returns-in-Ok-clause-sets
+returns-in-Ok-clause-sets g c definitions under maps had =
+    node_set c.args.buckets.now c.remove.new.buckets definitions under maps c.args.id None tt
+    (λ rest now has. (c.in-Ok.ensures.value.has rest now has).1) had
+
+pub returns-in-Ok-clause-answers : goal.returns-in-Ok-clause-answers
+returns-in-Ok-clause-answers g c =
+    told_ok c.args.buckets.now c.remove.new.buckets c.in-Ok.field-0 tt (touched c.args.buckets.now c.remove.new.buckets 0 c.args.id _ c.in-Ok.ensures.touches)
+
+pub returns-in-Err-clause-sound : goal.returns-in-Err-clause-sound
+returns-in-Err-clause-sound g c rest now has = sound_of Bool (Unit {0}) c.in-Err.fault (c.in-Err.ensures.value.sound rest now has)
+
+pub returns-in-Err-clause-answers : goal.returns-in-Err-clause-answers
+returns-in-Err-clause-answers g c =
+    told_err c.args.buckets.now c.remove.new.buckets Bool (Unit {0}) c.in-Err.fault
+    (touched c.args.buckets.now c.remove.new.buckets 0 c.args.id _ c.in-Err.ensures.touches)

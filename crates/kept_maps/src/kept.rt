@@ -1,0 +1,216 @@
+//! The maps of an open store, within a transaction.
+ghost use Rattle.std.specs.Prelude.{◌≡◌, None};
+
+use crate::finding::{find_form, find_object, find_place, find_rows};
+use crate::setting::{keep_object, keep_rows, turn_lists};
+use back_index::{Indexed, RELATIONS_OF_NODES, RELATIONS_OF_WAYS, listers};
+use bucket_store::Buckets;
+use osm_base::{Back, Ids, Key, Object, Place, TableRows};
+use outside::Disk;
+use page_journal::StoreFault;
+use std::alloc::Global;
+use store_maps::MapStore;
+use style_read::Style;
+
+/// The maps of an open store, within a transaction, with rows of a style.
+#[derive(Drop)]
+pub struct KeptMaps<'d, 's, D: Disk> {
+    pub indexed: Indexed<'d, D>,
+    style: &'s Style,
+    alloc: Global,
+}
+
+impl<'d, 's, D: Disk> KeptMaps<'d, 's, D> {
+    ghost use Rattle.kept_maps.specs.Calls.{buckets_of, stop_of, style_in};
+
+    /// The maps in these buckets, with rows of this style.
+    pub fn over(alloc: Global, buckets: Buckets<'d, D>, style: &'s Style) -> Self
+        ensures buckets { buckets_of result ≡ buckets.entry }
+        ensures style { style_in result ≡ style.now }
+        ensures going { stop_of result ≡ None }
+    {
+        Self {
+            indexed: Indexed::over(alloc, buckets),
+            style,
+            alloc,
+        }
+    }
+
+    /// Hands the buckets back.
+    pub fn close(self) -> Buckets<'d, D>
+        ensures { result ≡ buckets_of self.entry }
+    {
+        let Self {
+            indexed,
+            style: _,
+            alloc: _,
+        } = self;
+        indexed.close()
+    }
+}
+
+impl<D: Disk> Back for KeptMaps<'_, '_, D> {
+    ghost use Rattle.back_index.specs.Index.{Knows};
+    ghost use Rattle.kept_maps.specs.Calls.{AreAsked, WasRefused, buckets_of, faults_of, is_over};
+    ghost use Rattle.kept_maps.specs.Laws.{are_asked_none, are_asked_then, was_fewer};
+
+    type Refusal = StoreFault;
+
+    ghost knows = { λ kept index. Knows (buckets_of kept) index };
+
+    ghost faults = { λ kept. faults_of kept };
+
+    ghost spent = { λ kept. is_over kept };
+
+    ghost bears = { λ kept count refusal. WasRefused kept count refusal };
+
+    ghost asks = { λ old questions new. AreAsked old new };
+
+    fn ways_of_node(&mut self, id: u64) -> Result<Ids, StoreFault> {
+        self.indexed.ways_of_node(id)
+    }
+
+    fn relations_of_node(&mut self, id: u64) -> Result<Ids, StoreFault> {
+        self.indexed.relations_of_node(id)
+    }
+
+    fn relations_of_way(&mut self, id: u64) -> Result<Ids, StoreFault> {
+        self.indexed.relations_of_way(id)
+    }
+
+    ghost bears_fewer = { λ kept fewer more refusal le was. was_fewer kept fewer more refusal le was };
+
+    ghost asks_none = { λ kept. are_asked_none kept };
+
+    ghost asks_then = { λ first second third before after once again. are_asked_then first second third once again };
+}
+
+impl<D: Disk> MapStore for KeptMaps<'_, '_, D> {
+    ghost use Rattle.kept_maps.specs.Calls.{IsAllowed, IsLater, Keeps, style_in};
+    ghost use Rattle.kept_maps.specs.Held.{Beside};
+    ghost use Rattle.kept_maps.specs.Laws.{asked_allowed, asked_keeps, asked_later, asked_refused, keeps_index, later_same};
+
+    ghost Under = { Beside };
+
+    ghost style = { λ kept. style_in kept };
+
+    ghost holds = { λ kept under maps. Keeps kept under maps };
+
+    ghost looked = { λ first last. IsLater first last };
+
+    ghost allowed = { λ refusal. IsAllowed refusal };
+
+    fn form(&mut self, key: Key) -> Result<Option<Object>, StoreFault> {
+        match find_form(self.alloc, &mut self.indexed.buckets, key) {
+            Ok(found) => Ok(found),
+            Err(fault) => {
+                self.indexed.stopped = Some(fault);
+                Err(fault)
+            }
+        }
+    }
+
+    fn relist(
+        &mut self,
+        key: Key,
+        old: &Option<Object>,
+        new: &Option<Object>,
+    ) -> Result<(), StoreFault> {
+        match turn_lists(self.alloc, &mut self.indexed.buckets, key, old, new) {
+            Ok(()) => Ok(()),
+            Err(fault) => {
+                self.indexed.stopped = Some(fault);
+                Err(fault)
+            }
+        }
+    }
+
+    fn set(&mut self, key: Key, object: &Option<Object>) -> Result<(), StoreFault> {
+        match keep_object(self.alloc, &mut self.indexed.buckets, key, object) {
+            Ok(()) => Ok(()),
+            Err(fault) => {
+                self.indexed.stopped = Some(fault);
+                Err(fault)
+            }
+        }
+    }
+
+    fn rows(&mut self, key: Key) -> Result<Option<TableRows>, StoreFault> {
+        match find_rows(self.alloc, &mut self.indexed.buckets, self.style, key) {
+            Ok(found) => Ok(found),
+            Err(fault) => {
+                self.indexed.stopped = Some(fault);
+                Err(fault)
+            }
+        }
+    }
+
+    fn set_rows(&mut self, key: Key, rows: &TableRows) -> Result<(), StoreFault> {
+        match keep_rows(self.alloc, &mut self.indexed.buckets, self.style, key, rows) {
+            Ok(()) => Ok(()),
+            Err(fault) => {
+                self.indexed.stopped = Some(fault);
+                Err(fault)
+            }
+        }
+    }
+
+    fn place(&mut self, id: u64) -> Result<Option<Place>, StoreFault> {
+        match find_place(self.alloc, &mut self.indexed.buckets, id) {
+            Ok(found) => Ok(found),
+            Err(fault) => {
+                self.indexed.stopped = Some(fault);
+                Err(fault)
+            }
+        }
+    }
+
+    fn object(&mut self, key: Key) -> Result<Option<Object>, StoreFault> {
+        match find_object(self.alloc, &mut self.indexed.buckets, key) {
+            Ok(found) => Ok(found),
+            Err(fault) => {
+                self.indexed.stopped = Some(fault);
+                Err(fault)
+            }
+        }
+    }
+
+    fn along_way(&mut self, id: u64) -> Result<Ids, StoreFault> {
+        match listers(self.alloc, &mut self.indexed.buckets, RELATIONS_OF_WAYS, id) {
+            Ok(ids) => Ok(ids),
+            Err(fault) => {
+                self.indexed.stopped = Some(fault);
+                Err(fault)
+            }
+        }
+    }
+
+    fn around_node(&mut self, id: u64) -> Result<Ids, StoreFault> {
+        match listers(
+            self.alloc,
+            &mut self.indexed.buckets,
+            RELATIONS_OF_NODES,
+            id,
+        ) {
+            Ok(ids) => Ok(ids),
+            Err(fault) => {
+                self.indexed.stopped = Some(fault);
+                Err(fault)
+            }
+        }
+    }
+
+    ghost looked_none = { λ kept. later_same kept };
+
+    ghost same_style = { λ old new later. later.same_style };
+
+    ghost tells = { λ kept under maps had. keeps_index kept under maps had };
+
+    ghost asked = { λ first old new questions later are. asked_later old new are first later };
+
+    ghost asked_holds = { λ old new questions are fresh under maps had. asked_keeps old new are fresh under maps had };
+
+    ghost asked_bears = { λ first old new questions refusal later are was. asked_refused old new are first refusal later was };
+
+    ghost asked_allowed = { λ old new questions fresh are under maps had there refusal was. asked_allowed old new are fresh under maps had there refusal was };
+}
