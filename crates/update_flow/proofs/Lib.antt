@@ -1,5 +1,10 @@
+pub mod Becoming
 pub mod Blank
+pub mod Carrying
+pub mod Handles
+pub mod Loading
 pub mod Looking
 pub mod Openings
 pub mod Resting
 pub mod Running
+pub mod Turning

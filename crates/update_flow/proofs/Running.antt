@@ -10,6 +10,7 @@ use Rattle.chain_store.specs.Chains.{journal_of}
 use Rattle.bucket_store.specs.Image.{OnlyLooks}
 use Rattle.bucket_store.specs.Transaction.{chains_of}
 use Rattle.bucket_store.specs.declared.buckets.Buckets.{Buckets}
+use Rattle.bucket_store.proofs.Holding.{looks_same}
 use Rattle.update_flow.specs.declared.fault.FlowFault.TheVariants as flow
 use Rattle.update_flow.specs.Faults.{of_store}
 use Rattle.update_flow.specs.Within.{Runs, faults_in, is_whole_store}
@@ -45,3 +46,12 @@ module _ {D : Type 0} {g : Ghosts D} (old new : Buckets D g) (looks : OnlyLooks 
   runs_refused T (store.StoreFull pages) alone broken cause = absurd alone
   runs_refused T store.Broken alone broken cause = absurd (cc (alone, whole))
   runs_refused T store.OutOfMemory alone broken cause = runs_short broken
+
+-- nothing was called, and memory ran out
+pub runs_idle : {D : Type 0} {g : Ghosts D} (buckets : Buckets D g) → is_whole_store buckets → Runs buckets buckets (Some flow.OutOfMemory)
+runs_idle buckets whole = record { looks = looks_same buckets; alone = tt; whole = λ no. whole; failed = λ is. absurd (cc (is)) }
+
+-- or something was not as it is to be
+pub runs_unfit : {D : Type 0} {g : Ghosts D} (buckets : Buckets D g) (page : ℕ) → is_whole_store buckets
+    → Runs buckets buckets (Some (flow.Store (store.BadStore page)))
+runs_unfit buckets page whole = record { looks = looks_same buckets; alone = tt; whole = λ no. whole; failed = λ is. absurd (cc (is)) }

@@ -11,3 +11,5 @@ pub mod Opening
 pub mod Within
 pub mod Handle
 pub mod Updater
+pub mod Turning
+pub mod Settling

@@ -8,6 +8,7 @@ use Rattle.tile_cover.specs.declared.runs.Run.{Run}
 use Rattle.tile_cover.specs.Runs.{IsTileSet, has}
 use Rattle.due_tiles.specs.Spelling.{set_bytes}
 use Rattle.bucket_store.specs.Image.{HasImage, Image}
+use Rattle.object_fold.specs.Listings.{HasIds}
 use Rattle.store_maps.specs.Maps.{Maps}
 use Rattle.store_maps.specs.Stands.{Stands}
 use Rattle.kept_maps.specs.Kept.{HoldsMaps}
@@ -45,6 +46,7 @@ pub record IsImported (held : Holding) (image : Image) : Type 0 where
   pub style : reading held.style_bytes ≡ Ok held.style
   pub due : AreDue (image.texts DUE_TEXT) held.due
   pub others : (n : ℕ) → n < 8 → n ≢ STYLE_TEXT → n ≢ DUE_TEXT → image.texts n ≡ []
+  pub ids : HasIds held.objects
   pub maps : HasMapsOf held image
 
 -- a store means a state

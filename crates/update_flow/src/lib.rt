@@ -5,10 +5,16 @@
 //! bytes are a store of a state, and `FlowFault` why a step is refused.
 #![tactic(auto)]
 
+mod clearing;
+mod due_text;
 mod fault;
 mod fields;
+mod finishing;
 mod opened;
 mod opening;
+mod over_disk;
+mod reading;
+mod settling;
 mod style_text;
 mod updater;
 

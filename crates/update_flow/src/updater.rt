@@ -7,6 +7,9 @@ ghost use Rattle.update_flow.specs.Opening.{Found};
 ghost use Rattle.update_flow.specs.State.{State};
 ghost use Rattle.update_flow.specs.declared.fault.TheConstants.{LAST_CHANGE};
 
+mod looking;
+mod turning;
+
 use crate::Opened;
 use bucket_store::Opened as Stored;
 use osm_base::Limits;

@@ -1,0 +1,130 @@
+-- An open store, as its calls leave it.
+use Rattle.std.proofs.Common.{◌≡◌, ◌≢◌, Bool, true, false, Option, Some, None, Result, Ok, Err, refl, sym, ap, subst, ◌∙◌, arith}
+use Rattle.std.specs.Prelude.{IfErr, IsErrOf, OnOk, is_some}
+use Rattle.std.specs.Result.{result_err}
+use Rattle.outside.specs.Disk.{DiskView}
+use Rattle.page_journal.specs.declared.fault.StoreFault.TheVariants as store
+use Rattle.std.proofs.lemmas.Option.{same_Some}
+use Rattle.bucket_store.specs.Opening.{Fits}
+use Rattle.bucket_store.specs.declared.opened.Opened.{Opened}
+use Rattle.update_flow.specs.AtRest.{HasFlowCause}
+use Rattle.update_flow.specs.Handle.{Handle, IsOpen, Looks, Shows, Takes, TellsAs, is_imported, is_whole, limits_of, view_of}
+use Rattle.update_flow.specs.Refusals.{IsCallFault, MayAnswer}
+use Rattle.update_flow.specs.State.{Clear, Holding, State, Step, after, cleared, formatted, imported}
+use Rattle.update_flow.specs.Turning.{EndsOn, IsKept, LooksOn, MayEnd, TurnsOn}
+use Rattle.update_flow.specs.Updater.{KeptFits}
+use Rattle.update_flow.specs.declared.fault.FlowFault.{FlowFault}
+use Rattle.update_flow.specs.declared.fault.FlowFault.TheVariants as flow
+use Rattle.update_flow.proofs.Openings.{at_state}
+use Rattle.update_flow.proofs.Resting.{either_done, nothing_done}
+
+-- a call that may end so is refused so
+pub ends_alone : (fault : FlowFault) → MayEnd (Some fault) → IsCallFault fault
+ends_alone (flow.Store store.NotFormatted) may = absurd may
+ends_alone (flow.Store store.NotEmpty) may = absurd may
+ends_alone (flow.Store (store.BadStore page)) may = tt
+ends_alone (flow.Store store.DiskFault) may = tt
+ends_alone (flow.Store (store.StoreFull pages)) may = tt
+ends_alone (flow.Store store.Broken) may = absurd may
+ends_alone (flow.Store store.OutOfMemory) may = absurd may
+ends_alone flow.NotImported may = absurd may
+ends_alone flow.AlreadyImported may = absurd may
+ends_alone flow.LastChange may = absurd may
+ends_alone (flow.TooMany value) may = tt
+ends_alone flow.OutOfMemory may = tt
+
+-- so whatever the answer is
+pub call_alone : {T : Type 0} (r : Result T FlowFault) → MayEnd (result_err r) → IfErr r IsCallFault
+call_alone (Ok t) may = tt
+call_alone (Err fault) may = ends_alone fault may
+
+pub never_broken : {T : Type 0} (r : Result T FlowFault) (P : Type 0) → MayEnd (result_err r) → IsErrOf r (flow.Store store.Broken) → P
+never_broken {T} r P may is = absurd (subst (λ (o : Result T FlowFault). MayEnd (result_err o)) is may)
+
+pub whole_still : {T : Type 0} (r : Result T FlowFault) (old new : DiskView) (kept : Option Opened) (was : Bool) → was ≡ true
+    → EndsOn (result_err r) old new kept → OnOk r (is_some kept ≡ was)
+whole_still (Ok t) old new kept was is ends = ends.whole tt ∙ sym is
+whole_still (Err fault) old new kept was is ends = tt
+
+-- nothing was done
+pub nothing_caused : (fault : FlowFault) (disk : DiskView) → (Some fault ≡ Some (flow.Store store.DiskFault) → ⊥) → HasFlowCause (Some fault) disk disk
+nothing_caused fault disk other = record { later = omega arith; failed = λ is. absurd (other is) }
+
+pub takes_none : (state : State) (step : Step) (fault : FlowFault) (handle : Handle) → IsOpen state handle → MayAnswer (limits_of handle) state step (Some fault)
+    → Takes state step (Some fault) handle handle
+takes_none state step fault handle opened may = record {
+  answer = may;
+  done = λ is. absurd (cc (is));
+  refused = λ not no. (opened, nothing_done state (view_of handle) opened.at_rest);
+  moments = either_done state (after state step) (view_of handle) opened.at_rest;
+}
+
+-- the state of a store that tells that it was imported, or was not
+module _ (handle : Handle) where
+  pub told_imported : (held : Holding) → IsOpen (imported held) handle → is_imported handle ≡ false → ⊥
+  told_imported held opened is = absurd (cc (is, opened.shows.imported_is))
+
+  pub told_blank : IsOpen formatted handle → is_imported handle ≡ true → ⊥
+  told_blank opened is = absurd (cc (is, opened.shows.imported_is))
+
+  -- one that is broken is not open
+  pub told_broken : (state : State) → IsOpen state handle → is_whole handle ≡ false → ⊥
+  told_broken state opened is = absurd (cc (is, opened.sound))
+
+  pub clear_unasked : (state : State) → is_imported handle ≡ false → IsOpen state handle → Takes state Clear (Some flow.NotImported) handle handle
+  clear_unasked formatted is opened = takes_none formatted Clear flow.NotImported handle opened refl
+  clear_unasked (imported held) is opened = absurd (told_imported held opened is)
+
+  pub look_unasked : (state : State) → is_imported handle ≡ false → IsOpen state handle → Looks state (Some flow.NotImported) handle handle
+  look_unasked formatted is opened = record { answer = refl; stays = λ no. opened; moments = nothing_done formatted (view_of handle) opened.at_rest }
+  look_unasked (imported held) is opened = absurd (told_imported held opened is)
+
+-- what was done on the disk was done to the store
+module _ (old new : Handle) (kept : Option Opened) (whole : is_some kept ≡ is_whole new) (keeps : KeptFits kept (view_of new) → new.keeps) where
+  open_kept : (state : State) → IsKept state (view_of new) kept → Shows state new → IsOpen state new
+  open_kept state is shows = record {
+    at_rest = at_state state (view_of new) is.holds;
+    sound = sym whole ∙ ap (λ (o : Option Opened). is_some o) is.fits.1;
+    shows = shows;
+    fits = keeps is.fits;
+  }
+
+  pub takes_on : (state : State) (step : Step) (fault : Option FlowFault) → TurnsOn (limits_of old) state step fault (view_of old) (view_of new) kept
+      → (fault ≡ None → Shows (after state step) new) → (fault ≢ None → Shows state new) → Takes state step fault old new
+  takes_on state step fault turns done refused = record {
+    answer = turns.answer;
+    done = λ is. open_kept (after state step) (turns.done is) (done is);
+    refused = λ not no. let stays = turns.refused not no in (open_kept state stays.0 (refused not), stays.1);
+    moments = turns.moments;
+  }
+
+  pub looks_on : (state : State) (fault : Option FlowFault) → LooksOn state fault (view_of old) (view_of new) kept → Shows state new → Looks state fault old new
+  looks_on state fault looks shows = record { answer = looks.answer; stays = λ no. open_kept state (looks.stays no) shows; moments = looks.moments }
+
+  -- due tiles are cleared
+  module _ (tells : TellsAs old new) (is : is_imported old ≡ true) (fault : Option FlowFault) where
+    shows_still : (state : State) → Shows state old → Shows state new
+    shows_still state shows = record {
+      changes_are = tells.changes_same ∙ shows.changes_are;
+      imported_is = tells.imported_same ∙ shows.imported_is;
+      style_is = tells.style_same ∙ shows.style_is;
+    }
+
+    shows_cleared : (held : Holding) → Shows (imported held) new → Shows (imported (cleared held)) new
+    shows_cleared held shows = record { changes_are = shows.changes_are; imported_is = shows.imported_is; style_is = shows.style_is }
+
+    pub clear_taken : ((held : Holding) → IsOpen (imported held) old → TurnsOn (limits_of old) (imported held) Clear fault (view_of old) (view_of new) kept)
+        → (state : State) → IsOpen state old → Takes state Clear fault old new
+    clear_taken turns formatted opened = absurd (told_blank old opened is)
+    clear_taken turns (imported held) opened =
+        let shows = shows_still (imported held) opened.shows in
+        takes_on (imported held) Clear fault (turns held opened) (λ _. shows_cleared held shows) (λ _. shows)
+
+    pub look_taken : ((held : Holding) → IsOpen (imported held) old → LooksOn (imported held) fault (view_of old) (view_of new) kept)
+        → (state : State) → IsOpen state old → Looks state fault old new
+    look_taken looks formatted opened = absurd (told_blank old opened is)
+    look_taken looks (imported held) opened = looks_on (imported held) fault (looks held opened) (shows_still (imported held) opened.shows)
+
+-- what is kept of an open store fits its disk
+pub kept_fits : (kept : Option Opened) (own : Opened) (disk : DiskView) → kept ≡ Some own → KeptFits kept disk → Fits own disk
+kept_fits kept own disk is fits = subst (λ (o : Opened). Fits o disk) (same_Some fits.0 own (sym fits.1 ∙ is)) fits.2

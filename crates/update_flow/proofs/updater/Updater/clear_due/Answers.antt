@@ -1,0 +1,13 @@
+-- The store that was open is the one on the disk.
+use Rattle.std.proofs.Common.{◌∙◌, refl, sym}
+use Rattle.std.specs.Result.{result_err}
+use Rattle.update_flow.specs.Updater.{handle_of}
+use Rattle.update_flow.proofs.Handles.{clear_taken, kept_fits}
+use Rattle.update_flow.proofs.Openings.{state_here}
+use Rattle.update_flow.proofs.updater.Updater.clear_due.Goals as goal
+
+pub returns-clause-takes : goal.returns-clause-takes
+returns-clause-takes g c =
+    clear_taken (handle_of c.args.self.now) _ c.clear_on.new.kept refl (λ fits. fits)
+    (record { changes_same = refl; imported_same = refl; style_same = refl }) (sym (c.if-not-imported.ensures.is)) (result_err c.clear_on.result)
+    (λ held opened. c.clear_on.ensures.turns held (kept_fits c.args.self.now.store c.in-Some.store _ (sym c.take.ensures.value ∙ c.in-Some.is) opened.fits) (state_here _ _ opened.at_rest))

@@ -1,0 +1,68 @@
+//! The due tiles of a store: they are one of its texts.
+ghost use Rattle.std.specs.Prelude.{◌≡◌, ℕ, false, IfOk, OnOk};
+ghost use Rattle.std.specs.Result.{result_err};
+ghost use Rattle.tile_cover.specs.Runs.{has};
+ghost use Rattle.due_tiles.specs.Spelling.{set_bytes};
+ghost use Rattle.bucket_store.specs.Image.{Has, Image, with_text};
+ghost use Rattle.bucket_store.specs.Transaction.{has_refused};
+ghost use Rattle.update_flow.specs.Stands.{IsImported};
+ghost use Rattle.update_flow.specs.State.{Holding};
+ghost use Rattle.update_flow.specs.Within.{IsSound, Runs, is_whole_store};
+ghost use Rattle.update_flow.specs.declared.fields.TheConstants.{DUE_TEXT};
+
+use crate::fault::store_fault;
+use crate::{DUE_TEXT, FlowFault};
+use bucket_store::Buckets;
+use due_tiles::{DueFault, decode, encode};
+use outside::Disk;
+use page_journal::StoreFault;
+use std::alloc::Global;
+use tile_cover::TileRuns;
+
+/// The tiles that are due. `BadStore` comes with the root page where the text spells none.
+pub(crate) fn load_due<D: Disk>(
+    alloc: Global,
+    buckets: &mut Buckets<'_, D>,
+) -> Result<TileRuns, FlowFault>
+    requires going { has_refused buckets.old ≡ false }
+    requires whole { is_whole_store buckets.old }
+    ensures due { IfOk result (λ found. (rest now : Image) (held : Holding) → Has rest now buckets.old → IsImported held now
+        → (zoom x y : ℕ) → has found zoom x y ≡ held.due zoom x y) }
+    ensures has { OnOk result ((rest now : Image) → Has rest now buckets.old → Has rest now buckets.new) }
+    ensures going { OnOk result (has_refused buckets.new ≡ false) }
+    ensures sound { (rest now : Image) (held : Holding) → Has rest now buckets.old → IsImported held now → IsSound (result_err result) }
+    ensures runs { Runs buckets.old buckets.new (result_err result) }
+{
+    let bytes = match buckets.load(DUE_TEXT) {
+        Ok(bytes) => bytes,
+        Err(fault) => return Err(store_fault(fault)),
+    };
+    match decode(alloc, bytes.as_slice()) {
+        Ok(due) => Ok(due),
+        Err(DueFault::NotSpelled) => Err(FlowFault::Store(StoreFault::BadStore { page: 1 })),
+        Err(DueFault::OutOfMemory) => Err(FlowFault::OutOfMemory),
+    }
+}
+
+/// These tiles are due.
+pub(crate) fn store_due<D: Disk>(
+    alloc: Global,
+    buckets: &mut Buckets<'_, D>,
+    due: &TileRuns,
+) -> Result<(), FlowFault>
+    requires going { has_refused buckets.old ≡ false }
+    requires whole { is_whole_store buckets.old }
+    ensures stored { OnOk result ((rest now : Image) → Has rest now buckets.old → Has rest (with_text DUE_TEXT (set_bytes due.now) now) buckets.new) }
+    ensures going { OnOk result (has_refused buckets.new ≡ false) }
+    ensures sound { (rest now : Image) → Has rest now buckets.old → IsSound (result_err result) }
+    ensures runs { Runs buckets.old buckets.new (result_err result) }
+{
+    let bytes = match encode(alloc, due) {
+        Ok(bytes) => bytes,
+        Err(_) => return Err(FlowFault::OutOfMemory),
+    };
+    match buckets.store(DUE_TEXT, bytes) {
+        Ok(()) => Ok(()),
+        Err(fault) => Err(store_fault(fault)),
+    }
+}

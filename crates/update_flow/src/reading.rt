@@ -1,0 +1,43 @@
+//! The rows of a store are read whole.
+ghost use Rattle.std.specs.Prelude.{◌≡◌, false, IfOk};
+ghost use Rattle.std.specs.Result.{result_err};
+ghost use Rattle.row_map.specs.Row.{tables};
+ghost use Rattle.bucket_store.specs.Image.{Has, Image};
+ghost use Rattle.bucket_store.specs.Transaction.{has_refused};
+ghost use Rattle.update_flow.specs.Stands.{IsImported};
+ghost use Rattle.update_flow.specs.State.{Holding};
+ghost use Rattle.update_flow.specs.Within.{IsSound, Runs, is_whole_store};
+
+use crate::FlowFault;
+use crate::fault::store_fault;
+use bucket_store::Buckets;
+use osm_base::Tables;
+use outside::Disk;
+use page_journal::StoreFault;
+use row_store::load;
+use std::alloc::Global;
+use style_read::Style;
+
+/// The rows of all tables of a store with this style. `BadStore` comes with the root page where there are no buckets.
+pub(crate) fn load_rows<D: Disk>(
+    alloc: Global,
+    buckets: &mut Buckets<'_, D>,
+    style: &Style,
+) -> Result<Tables, FlowFault>
+    requires going { has_refused buckets.old ≡ false }
+    requires whole { is_whole_store buckets.old }
+    ensures tables { IfOk result (λ found. (rest now : Image) (held : Holding) → Has rest now buckets.old → IsImported held now → held.style ≡ style.now
+        → found ≡ tables held.style held.objects) }
+    ensures sound { (rest now : Image) (held : Holding) → Has rest now buckets.old → IsImported held now → held.style ≡ style.now
+        → IsSound (result_err result) }
+    ensures runs { Runs buckets.old buckets.new (result_err result) }
+{
+    if buckets.root().buckets == 0 {
+        return Err(FlowFault::Store(StoreFault::BadStore { page: 1 }));
+    }
+    let mut tables = Tables::new(alloc);
+    match load(alloc, buckets, style, None, &mut tables) {
+        Ok(()) => Ok(tables),
+        Err(fault) => Err(store_fault(fault)),
+    }
+}

@@ -1,0 +1,44 @@
+//! What a change leaves beside the maps of a store is committed with them.
+ghost use Rattle.std.specs.Prelude.{◌≡◌, false};
+ghost use Rattle.std.specs.Result.{result_err};
+ghost use Rattle.osm_base.specs.declared.bounds.limits.LimitNumbers.{LimitNumbers};
+ghost use Rattle.bucket_store.specs.Image.{Has, Image};
+ghost use Rattle.bucket_store.specs.Transaction.{has_refused};
+ghost use Rattle.update_flow.specs.Settling.{settled};
+ghost use Rattle.update_flow.specs.Turning.{CommitsTo, EndsIn, limit_in};
+ghost use Rattle.update_flow.specs.Within.{is_whole_store};
+
+use crate::FlowFault;
+use crate::due_text::store_due;
+use crate::finishing::finish;
+use bucket_store::Buckets;
+use chain_store::Root;
+use outside::Disk;
+use std::alloc::Global;
+use tile_cover::TileRuns;
+
+/// Commits what the transaction has changed, with these due tiles and this number of changes.
+pub(crate) fn settle<D: Disk>(
+    alloc: Global,
+    buckets: &mut Buckets<'_, D>,
+    due: &TileRuns,
+    number: u64,
+) -> Result<(), FlowFault>
+    requires going { has_refused buckets.old ≡ false }
+    requires whole { is_whole_store buckets.old }
+    ensures commits { (limits : LimitNumbers) (rest now : Image) → limit_in buckets.old ≡ limits.pages → Has rest now buckets.old
+        → CommitsTo limits rest (settled number due.now now) (result_err result) buckets.old buckets.new }
+    ensures ends { EndsIn (result_err result) buckets.old buckets.new }
+{
+    match store_due(alloc, buckets, due) {
+        Ok(()) => {
+            let root = buckets.root();
+            buckets.set_root(Root {
+                changes: number,
+                ..root
+            });
+            finish(buckets)
+        }
+        Err(fault) => Err(fault),
+    }
+}

@@ -1,0 +1,77 @@
+//! An open store is looked at.
+ghost use Rattle.std.specs.Prelude.{◌≡◌, ℕ, true, false, IfErr, IfOk, IsErrOf, OnOk};
+ghost use Rattle.std.specs.Result.{result_err};
+ghost use Rattle.page_journal.specs.declared.fault.StoreFault.TheVariants.{Broken};
+ghost use Rattle.row_map.specs.Row.{tables};
+ghost use Rattle.tile_cover.specs.Runs.{has};
+ghost use Rattle.update_flow.specs.AtRest.{HasFlowCause};
+ghost use Rattle.update_flow.specs.Handle.{IsOpen, Looks, TellsAs, is_imported, is_whole, view_of};
+ghost use Rattle.update_flow.specs.Refusals.{IsCallFault};
+ghost use Rattle.update_flow.specs.State.{Holding, State, imported};
+ghost use Rattle.update_flow.specs.declared.fault.FlowFault.TheVariants.{NotImported, Store};
+
+use super::Updater;
+use crate::FlowFault;
+use crate::over_disk::{due_on, rows_on};
+use osm_base::Tables;
+use outside::Disk;
+use page_journal::StoreFault;
+use tile_cover::TileRuns;
+
+impl<D: Disk> Updater<'_, D> {
+    ghost use Rattle.update_flow.specs.Updater.{StaysOver, handle_of};
+
+    /// The rows of all tables: those of a fresh import.
+    pub fn load_tables(&mut self) -> Result<Tables, FlowFault>
+        ensures looks { (state : State) → IsOpen state (handle_of self.old) → Looks state (result_err result) (handle_of self.old) (handle_of self.new) }
+        ensures tables { IfOk result (λ found. (held : Holding) → IsOpen (imported held) (handle_of self.old) → found ≡ tables held.style held.objects) }
+
+        // Whatever the disk holds.
+        ensures not_imported { is_imported (handle_of self.old) ≡ false → IsErrOf result NotImported }
+        ensures tells { TellsAs (handle_of self.old) (handle_of self.new) }
+        ensures stays { StaysOver self.old self.new }
+        ensures alone { IfErr result IsCallFault }
+        ensures whole { OnOk result (is_whole (handle_of self.new) ≡ is_whole (handle_of self.old)) }
+        ensures broken { IsErrOf result (Store Broken) → is_whole (handle_of self.old) ≡ false }
+        ensures cause { HasFlowCause (result_err result) (view_of (handle_of self.old)) (view_of (handle_of self.new)) }
+    {
+        let Some(style) = &self.style else {
+            return Err(FlowFault::NotImported);
+        };
+        let Some(store) = self.store.take() else {
+            return Err(FlowFault::Store(StoreFault::Broken));
+        };
+        rows_on(
+            self.alloc,
+            self.disk,
+            &self.limits,
+            store,
+            &mut self.store,
+            style,
+        )
+    }
+
+    /// The tiles that are due.
+    pub fn due(&mut self) -> Result<TileRuns, FlowFault>
+        ensures looks { (state : State) → IsOpen state (handle_of self.old) → Looks state (result_err result) (handle_of self.old) (handle_of self.new) }
+        ensures due { IfOk result (λ found. (held : Holding) → IsOpen (imported held) (handle_of self.old)
+            → (zoom x y : ℕ) → has found zoom x y ≡ held.due zoom x y) }
+
+        // Whatever the disk holds.
+        ensures not_imported { is_imported (handle_of self.old) ≡ false → IsErrOf result NotImported }
+        ensures tells { TellsAs (handle_of self.old) (handle_of self.new) }
+        ensures stays { StaysOver self.old self.new }
+        ensures alone { IfErr result IsCallFault }
+        ensures whole { OnOk result (is_whole (handle_of self.new) ≡ is_whole (handle_of self.old)) }
+        ensures broken { IsErrOf result (Store Broken) → is_whole (handle_of self.old) ≡ false }
+        ensures cause { HasFlowCause (result_err result) (view_of (handle_of self.old)) (view_of (handle_of self.new)) }
+    {
+        if !self.imported() {
+            return Err(FlowFault::NotImported);
+        }
+        let Some(store) = self.store.take() else {
+            return Err(FlowFault::Store(StoreFault::Broken));
+        };
+        due_on(self.alloc, self.disk, &self.limits, store, &mut self.store)
+    }
+}
