@@ -8,3 +8,4 @@ pub mod Openings
 pub mod Resting
 pub mod Running
 pub mod Turning
+pub mod OneTable

@@ -29,6 +29,8 @@ use Rattle.store_maps.specs.Delta.{kept_row, row_in}
 use Rattle.store_maps.specs.Maps.{Maps, kept_rows, rows_at, unless_empty}
 use Rattle.store_maps.specs.Stands.{HoldsRows}
 use Rattle.store_maps.proofs.KeptRows.{kept_row-tables}
+use Rattle.update_flow.specs.Within.{wanted_of}
+use Rattle.update_flow.proofs.OneTable.{wanted_get}
 
 -- the row that maps hold at a spot, if it is wanted
 abbrev pub wanted_row : Option ℕ → Maps → RowsBySpot
@@ -182,24 +184,35 @@ module _ (rows : RowsBySpot) (definitions : List TableDef) (which : ℕ) (bytes 
 row_none : (found : Option (List TableRow)) (table : ℕ) → found ≡ None → row_in (kept_rows found) table ≡ None
 row_none found table is = ap (λ (o : Option (List TableRow)). row_in (kept_rows o) table) is
 
-module _ (style : StyleOf) (kept : ℕ → BucketMap) (maps : Maps) (objects : ObjectSet) (new : TableMap) (holds : HoldsRows maps (rows_in style objects))
-    (nodes : HoldsMap rows_bytes (AreRows style.tables) (kept 6) maps.node_rows) (others : HoldsMap rows_bytes (AreRows style.tables) (kept 7) maps.other_rows)
-    (first : Fills 6 (wanted_row None maps) (λ n. IsSome (map.get (kept 6) n)) map.empty new)
-    (second : Fills 7 (wanted_row None maps) (λ n. IsSome (map.get (kept 7) n)) map.empty new) where
-  loaded_at : (table : ℕ) (kind : Kind) (id : ℕ) → map.get new (record { table = table; key = record { kind = kind; id = id } })
-      ≡ kept_row maps (record { table = table; key = record { kind = kind; id = id } })
-  loaded_at table kinds.Node id =
-      filled_at (wanted_row None maps) style.tables 6 (kept 6) maps.node_rows new nodes first id (record { table = table; key = record { kind = kinds.Node; id = id } })
-      refl (λ none. row_none (map.get maps.node_rows id) table none)
-  loaded_at table kinds.Way id =
-      filled_at (wanted_row None maps) style.tables 7 (kept 7) maps.other_rows new others second (2 * id)
-      (record { table = table; key = record { kind = kinds.Way; id = id } }) (way_spot id table) (λ none. row_none (map.get maps.other_rows (2 * id)) table none)
-  loaded_at table kinds.Relation id =
-      filled_at (wanted_row None maps) style.tables 7 (kept 7) maps.other_rows new others second (2 * id + 1)
-      (record { table = table; key = record { kind = kinds.Relation; id = id } }) (relation_spot id table)
-      (λ none. row_none (map.get maps.other_rows (2 * id + 1)) table none)
+unwanted : (b : Bool) (found : Option Row) → found ≡ None → (if b then found else None) ≡ None
+unwanted true found none = none
+unwanted false found none = refl
 
-  pub all_loaded : new ≡ tables style objects
+module _ (style : StyleOf) (wanted : Option ℕ) (kept : ℕ → BucketMap) (maps : Maps) (objects : ObjectSet) (new : TableMap) (holds : HoldsRows maps (rows_in style objects))
+    (nodes : HoldsMap rows_bytes (AreRows style.tables) (kept 6) maps.node_rows) (others : HoldsMap rows_bytes (AreRows style.tables) (kept 7) maps.other_rows)
+    (first : Fills 6 (wanted_row wanted maps) (λ n. IsSome (map.get (kept 6) n)) map.empty new)
+    (second : Fills 7 (wanted_row wanted maps) (λ n. IsSome (map.get (kept 7) n)) map.empty new) where
+  none_here : (table : ℕ) (found : Option Row) → found ≡ None → (if is_wanted wanted table then found else None) ≡ None
+  none_here table found none = unwanted (is_wanted wanted table) found none
+
+  loaded_at : (table : ℕ) (kind : Kind) (id : ℕ) → map.get new (record { table = table; key = record { kind = kind; id = id } })
+      ≡ wanted_row wanted maps (record { table = table; key = record { kind = kind; id = id } })
+  loaded_at table kinds.Node id =
+      filled_at (wanted_row wanted maps) style.tables 6 (kept 6) maps.node_rows new nodes first id (record { table = table; key = record { kind = kinds.Node; id = id } })
+      refl (λ none. none_here table (row_in (kept_rows (map.get maps.node_rows id)) table) (row_none (map.get maps.node_rows id) table none))
+  loaded_at table kinds.Way id =
+      filled_at (wanted_row wanted maps) style.tables 7 (kept 7) maps.other_rows new others second (2 * id)
+      (record { table = table; key = record { kind = kinds.Way; id = id } }) (way_spot id table)
+      (λ none. none_here table (row_in (kept_rows (map.get maps.other_rows (2 * id))) table) (row_none (map.get maps.other_rows (2 * id)) table none))
+  loaded_at table kinds.Relation id =
+      filled_at (wanted_row wanted maps) style.tables 7 (kept 7) maps.other_rows new others second (2 * id + 1)
+      (record { table = table; key = record { kind = kinds.Relation; id = id } }) (relation_spot id table)
+      (λ none. none_here table (row_in (kept_rows (map.get maps.other_rows (2 * id + 1))) table) (row_none (map.get maps.other_rows (2 * id + 1)) table none))
+
+  pub all_loaded : new ≡ wanted_of wanted (tables style objects)
   all_loaded =
-      map.same_map spot_cmp_total spot_cmp-IsAntisymmetric new (tables style objects)
-      (λ spot. loaded_at spot.table spot.key.kind spot.key.id ∙ kept_row-tables style maps objects holds spot)
+      map.same_map spot_cmp_total spot_cmp-IsAntisymmetric new (wanted_of wanted (tables style objects))
+      (λ spot.
+      loaded_at spot.table spot.key.kind spot.key.id
+      ∙ ap (λ (found : Option Row). if is_wanted wanted spot.table then found else None) (kept_row-tables style maps objects holds spot)
+      ∙ sym (wanted_get wanted (tables style objects) spot))

@@ -7,6 +7,7 @@ ghost use Rattle.bucket_store.specs.Opening.{Fits};
 ghost use Rattle.update_flow.specs.Opening.{HoldsState};
 ghost use Rattle.update_flow.specs.State.{Clear, Holding, imported};
 ghost use Rattle.update_flow.specs.Turning.{EndsOn, LooksOn, TurnsOn};
+ghost use Rattle.update_flow.specs.Within.{wanted_of};
 
 use crate::FlowFault;
 use crate::clearing::clear;
@@ -57,7 +58,7 @@ pub(crate) fn due_on<D: Disk>(
     due
 }
 
-/// The rows of all tables of a store with this style.
+/// The rows of one table of a store with this style, or of all.
 pub(crate) fn rows_on<D: Disk>(
     alloc: Global,
     disk: &mut D,
@@ -65,15 +66,16 @@ pub(crate) fn rows_on<D: Disk>(
     store: Stored,
     kept: &mut Option<Stored>,
     style: &Style,
+    wanted: Option<u32>,
 ) -> Result<Tables, FlowFault>
     ensures looks { (held : Holding) → Fits store (D.view disk.old) → HoldsState (imported held) (D.view disk.old) → held.style ≡ style.now
         → LooksOn (imported held) (result_err result) (D.view disk.old) (D.view disk.new) kept.new }
     ensures tables { IfOk result (λ found. (held : Holding) → Fits store (D.view disk.old) → HoldsState (imported held) (D.view disk.old)
-        → held.style ≡ style.now → found ≡ tables held.style held.objects) }
+        → held.style ≡ style.now → found ≡ wanted_of wanted (tables held.style held.objects)) }
     ensures ends { EndsOn (result_err result) (D.view disk.old) (D.view disk.new) kept.new }
 {
     let mut buckets = Buckets::on(alloc, disk, limits, store);
-    let rows = load_rows(alloc, &mut buckets, style);
+    let rows = load_rows(alloc, &mut buckets, style, wanted);
     let _disk = buckets.hand_back(kept);
     rows
 }

@@ -1,4 +1,4 @@
-//! The rows of a store are read whole.
+//! The rows of a store are read, of all tables or of one.
 ghost use Rattle.std.specs.Prelude.{◌≡◌, false, IfOk};
 ghost use Rattle.std.specs.Result.{result_err};
 ghost use Rattle.row_map.specs.Row.{tables};
@@ -6,7 +6,7 @@ ghost use Rattle.bucket_store.specs.Image.{Has, Image};
 ghost use Rattle.bucket_store.specs.Transaction.{has_refused};
 ghost use Rattle.update_flow.specs.Stands.{IsImported};
 ghost use Rattle.update_flow.specs.State.{Holding};
-ghost use Rattle.update_flow.specs.Within.{IsSound, Runs, is_whole_store};
+ghost use Rattle.update_flow.specs.Within.{IsSound, Runs, is_whole_store, wanted_of};
 
 use crate::FlowFault;
 use crate::fault::store_fault;
@@ -18,16 +18,17 @@ use row_store::load;
 use std::alloc::Global;
 use style_read::Style;
 
-/// The rows of all tables of a store with this style. `BadStore` comes with the root page where there are no buckets.
+/// The rows of one table of a store with this style, or of all. `BadStore` comes with the root page where there are no buckets.
 pub(crate) fn load_rows<D: Disk>(
     alloc: Global,
     buckets: &mut Buckets<'_, D>,
     style: &Style,
+    wanted: Option<u32>,
 ) -> Result<Tables, FlowFault>
     requires going { has_refused buckets.old ≡ false }
     requires whole { is_whole_store buckets.old }
     ensures tables { IfOk result (λ found. (rest now : Image) (held : Holding) → Has rest now buckets.old → IsImported held now → held.style ≡ style.now
-        → found ≡ tables held.style held.objects) }
+        → found ≡ wanted_of wanted (tables held.style held.objects)) }
     ensures sound { (rest now : Image) (held : Holding) → Has rest now buckets.old → IsImported held now → held.style ≡ style.now
         → IsSound (result_err result) }
     ensures runs { Runs buckets.old buckets.new (result_err result) }
@@ -36,7 +37,7 @@ pub(crate) fn load_rows<D: Disk>(
         return Err(FlowFault::Store(StoreFault::BadStore { page: 1 }));
     }
     let mut tables = Tables::new(alloc);
-    match load(alloc, buckets, style, None, &mut tables) {
+    match load(alloc, buckets, style, wanted, &mut tables) {
         Ok(()) => Ok(tables),
         Err(fault) => Err(store_fault(fault)),
     }

@@ -5,6 +5,7 @@ ghost use Rattle.page_journal.specs.declared.fault.StoreFault.TheVariants.{Broke
 ghost use Rattle.row_map.specs.Row.{tables};
 ghost use Rattle.tile_cover.specs.Runs.{has};
 ghost use Rattle.update_flow.specs.AtRest.{HasFlowCause};
+ghost use Rattle.update_flow.specs.Changes.{only_table};
 ghost use Rattle.update_flow.specs.Handle.{IsOpen, Looks, TellsAs, is_imported, is_whole, view_of};
 ghost use Rattle.update_flow.specs.Refusals.{IsCallFault};
 ghost use Rattle.update_flow.specs.State.{Holding, State, imported};
@@ -48,6 +49,38 @@ impl<D: Disk> Updater<'_, D> {
             store,
             &mut self.store,
             style,
+            None,
+        )
+    }
+
+    /// The rows of the table with this number, from 0, and of no other.
+    pub fn load_table(&mut self, table: u32) -> Result<Tables, FlowFault>
+        ensures looks { (state : State) → IsOpen state (handle_of self.old) → Looks state (result_err result) (handle_of self.old) (handle_of self.new) }
+        ensures table { IfOk result (λ found. (held : Holding) → IsOpen (imported held) (handle_of self.old) → found ≡ only_table table (tables held.style held.objects)) }
+
+        // Whatever the disk holds.
+        ensures not_imported { is_imported (handle_of self.old) ≡ false → IsErrOf result NotImported }
+        ensures tells { TellsAs (handle_of self.old) (handle_of self.new) }
+        ensures stays { StaysOver self.old self.new }
+        ensures alone { IfErr result IsCallFault }
+        ensures whole { OnOk result (is_whole (handle_of self.new) ≡ is_whole (handle_of self.old)) }
+        ensures broken { IsErrOf result (Store Broken) → is_whole (handle_of self.old) ≡ false }
+        ensures cause { HasFlowCause (result_err result) (view_of (handle_of self.old)) (view_of (handle_of self.new)) }
+    {
+        let Some(style) = &self.style else {
+            return Err(FlowFault::NotImported);
+        };
+        let Some(store) = self.store.take() else {
+            return Err(FlowFault::Store(StoreFault::Broken));
+        };
+        rows_on(
+            self.alloc,
+            self.disk,
+            &self.limits,
+            store,
+            &mut self.store,
+            style,
+            Some(table),
         )
     }
 

@@ -1,5 +1,5 @@
 -- The rows of nodes and those of ways and relations are all rows.
-use Rattle.std.proofs.Common.{◌≡◌, ◌∙◌, ℕ, None, Some, sym, ap, subst, arith}
+use Rattle.std.proofs.Common.{◌≡◌, ◌∙◌, ℕ, Option, Some, sym, ap, subst, arith}
 use Rattle.std.specs.FinMap as map
 use Rattle.std.specs.Option.{IsSome}
 use Rattle.osm_base.specs.map.Spots.{TableMap}
@@ -16,17 +16,17 @@ use Rattle.chain_store.specs.declared.root.Root.{Root}
 use Rattle.update_flow.proofs.Running.{runs_done, runs_refused, runs_unfit}
 use Rattle.update_flow.proofs.reading.load_rows.Goals as goal
 
-told_nodes : (style : StyleOf) (image : Image) (held : Holding) → (is : IsImported held image) → held.style ≡ style
-    → AreTold style.tables None 6 (wanted_row None is.maps.maps) (image.maps 6)
-told_nodes style image held is same =
-    subst (λ (s : StyleOf). AreTold s.tables None 6 (wanted_row None is.maps.maps) (image.maps 6)) same
-    (nodes_told held.style None image.maps is.maps.maps held.objects is.maps.stand.rows is.ids is.maps.kept.node_rows)
+told_nodes : (style : StyleOf) (wanted : Option ℕ) (image : Image) (held : Holding) → (is : IsImported held image) → held.style ≡ style
+    → AreTold style.tables wanted 6 (wanted_row wanted is.maps.maps) (image.maps 6)
+told_nodes style wanted image held is same =
+    subst (λ (s : StyleOf). AreTold s.tables wanted 6 (wanted_row wanted is.maps.maps) (image.maps 6)) same
+    (nodes_told held.style wanted image.maps is.maps.maps held.objects is.maps.stand.rows is.ids is.maps.kept.node_rows)
 
-told_others : (style : StyleOf) (image : Image) (held : Holding) → (is : IsImported held image) → held.style ≡ style
-    → AreTold style.tables None 7 (wanted_row None is.maps.maps) (image.maps 7)
-told_others style image held is same =
-    subst (λ (s : StyleOf). AreTold s.tables None 7 (wanted_row None is.maps.maps) (image.maps 7)) same
-    (others_told held.style None image.maps is.maps.maps held.objects is.maps.stand.rows is.ids is.maps.kept.other_rows)
+told_others : (style : StyleOf) (wanted : Option ℕ) (image : Image) (held : Holding) → (is : IsImported held image) → held.style ≡ style
+    → AreTold style.tables wanted 7 (wanted_row wanted is.maps.maps) (image.maps 7)
+told_others style wanted image held is same =
+    subst (λ (s : StyleOf). AreTold s.tables wanted 7 (wanted_row wanted is.maps.maps) (image.maps 7)) same
+    (others_told held.style wanted image.maps is.maps.maps held.objects is.maps.stand.rows is.ids is.maps.kept.other_rows)
 
 filled : (which : ℕ) (rows : RowsBySpot) (image : Image) (old new : TableMap) → old ≡ map.empty → Fills which rows (λ n. IsSome (map.get (image.maps which) n)) old new
     → Fills which rows (λ n. IsSome (map.get (image.maps which) n)) map.empty new
@@ -34,10 +34,10 @@ filled which rows image old new none fills = subst (λ (t : TableMap). Fills whi
 
 pub returns-in-Ok-clause-tables : goal.returns-in-Ok-clause-tables
 returns-in-Ok-clause-tables g c = λ rest now held has is same.
-    let rows = wanted_row None is.maps.maps in
-    let nodes = told_nodes c.args.style.now now held is same in
-    let others = told_others c.args.style.now now held is same in
-    all_loaded held.style now.maps is.maps.maps held.objects c.load.new.tables is.maps.stand.rows is.maps.kept.node_rows is.maps.kept.other_rows
+    let rows = wanted_row c.args.wanted is.maps.maps in
+    let nodes = told_nodes c.args.style.now c.args.wanted now held is same in
+    let others = told_others c.args.style.now c.args.wanted now held is same in
+    all_loaded held.style c.args.wanted now.maps is.maps.maps held.objects c.load.new.tables is.maps.stand.rows is.maps.kept.node_rows is.maps.kept.other_rows
     (filled 6 rows now c.new-tables.result c.load.new.tables c.new-tables.ensures.empty (c.in-Ok.ensures.nodes rest now rows has nodes others))
     (filled 7 rows now c.new-tables.result c.load.new.tables c.new-tables.ensures.empty (c.in-Ok.ensures.others rest now rows has nodes others))
 
@@ -48,8 +48,8 @@ returns-in-Ok-clause-runs g c =
 pub returns-in-Err-clause-sound : goal.returns-in-Err-clause-sound
 returns-in-Err-clause-sound g c = λ rest now held has is same.
     subst (λ (f : FlowFault). IsSound (Some f)) (sym c.store_fault.ensures)
-    (sound_store (Unit {0}) c.in-Err.fault (c.in-Err.ensures.sound rest now (wanted_row None is.maps.maps) has
-    (told_nodes c.args.style.now now held is same) (told_others c.args.style.now now held is same)))
+    (sound_store (Unit {0}) c.in-Err.fault (c.in-Err.ensures.sound rest now (wanted_row c.args.wanted is.maps.maps) has
+    (told_nodes c.args.style.now c.args.wanted now held is same) (told_others c.args.style.now c.args.wanted now held is same)))
 
 pub returns-in-Err-clause-runs : goal.returns-in-Err-clause-runs
 returns-in-Err-clause-runs g c =
