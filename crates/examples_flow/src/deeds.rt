@@ -1,0 +1,129 @@
+//! What is done to the disk of an example.
+ghost use Rattle.std.specs.Prelude.{◌≡◌, false, OnOk};
+ghost use Rattle.bucket_store.specs.Transaction.{has_refused};
+
+use bucket_store::Buckets;
+use chain_store::Root;
+use example_table::{bytes_of, number_of, row_of};
+use osm_base::{Bytes, Ids, Limits};
+use outside::{Fails, MemDisk};
+use page_journal::{StoreFault, format};
+use std::alloc::{AllocError, Global};
+use update_flow::STYLE_TEXT;
+
+/// A change of a store.
+#[derive(Drop)]
+enum Change {
+    /// It has so many buckets.
+    Buckets(u64),
+    /// Its fields are so.
+    Fields {
+        format: u64,
+        state: u64,
+        changes: u64,
+    },
+    /// Its style has these bytes.
+    Style(Vec<u8>),
+}
+
+/// The disk after a deed. `None`: there is no such deed, or the disk refuses it.
+pub fn done(alloc: Global, disk: MemDisk, deed: &str) -> Result<Option<MemDisk>, AllocError> {
+    let mut disk = disk;
+    let Some((word, text)) = row_of(deed) else {
+        return Ok(None);
+    };
+    match word {
+        "none" => Ok(Some(disk)),
+        "format" => Ok(if format(&mut disk).is_ok() { Some(disk) } else { None }),
+        "bytes" => holding(alloc, bytes_of(alloc, text)?),
+        "cut" => holding(alloc, front_of(alloc, disk.bytes(), text)?),
+        _ => {
+            let Some(change) = change_of(alloc, word, text)? else {
+                return Ok(None);
+            };
+            Ok(if changed(alloc, &mut disk, change).is_ok() { Some(disk) } else { None })
+        }
+    }
+}
+
+// A disk with these bytes.
+fn holding(alloc: Global, bytes: Option<Vec<u8>>) -> Result<Option<MemDisk>, AllocError> {
+    let Some(bytes) = bytes else {
+        return Ok(None);
+    };
+    if bytes.len() > 1_048_576 {
+        return Ok(None);
+    }
+    let whole = Fails::new(Ids::new(alloc), 0);
+    Ok(Some(MemDisk::new(alloc, Bytes::from_vec(bytes), whole)))
+}
+
+// So many of these bytes, from the first on.
+fn front_of(alloc: Global, bytes: &[u8], text: &str) -> Result<Option<Vec<u8>>, AllocError> {
+    let Some(count) = number_of(text) else {
+        return Ok(None);
+    };
+    let count = usize::try_from(count).unwrap_or(bytes.len()).min(bytes.len());
+    Ok(Some(Vec::from_slice(alloc, &bytes[..count])?))
+}
+
+// The change that a deed writes.
+fn change_of(alloc: Global, word: &str, text: &str) -> Result<Option<Change>, AllocError> {
+    match word {
+        "buckets" => Ok(number_of(text).map(|count| Change::Buckets(count))),
+        "fields" => Ok(fields_of(text)),
+        "style" => Ok(bytes_of(alloc, text)?.map(|bytes| Change::Style(bytes))),
+        _ => Ok(None),
+    }
+}
+
+// The format, the state and the number of changes.
+fn fields_of(text: &str) -> Option<Change> {
+    let (format, behind) = row_of(text)?;
+    let (state, changes) = row_of(behind)?;
+    Some(Change::Fields {
+        format: number_of(format)?,
+        state: number_of(state)?,
+        changes: number_of(changes)?,
+    })
+}
+
+// Makes a change in one transaction.
+fn changed(alloc: Global, disk: &mut MemDisk, change: Change) -> Result<(), StoreFault> {
+    let limits = Limits::standard();
+    let opened = bucket_store::open(alloc, disk, &limits)?;
+    let mut buckets = Buckets::on(alloc, disk, &limits, opened);
+    make(&mut buckets, change)?;
+    buckets.commit()
+}
+
+// Makes a change within the transaction.
+fn make(buckets: &mut Buckets<'_, MemDisk>, change: Change) -> Result<(), StoreFault>
+    requires { has_refused buckets.old ≡ false }
+    ensures { OnOk result (has_refused buckets.new ≡ false) }
+{
+    let now = buckets.root().buckets;
+    match change {
+        Change::Buckets(count) => {
+            if !count.is_power_of_two() || count > 65536 || now != 0 {
+                return Err(StoreFault::NotEmpty);
+            }
+            buckets.set_buckets(count);
+            Ok(())
+        }
+        Change::Fields {
+            format,
+            state,
+            changes,
+        } => {
+            buckets.set_root(Root {
+                format,
+                state,
+                changes,
+                buckets: now,
+            });
+            Ok(())
+        }
+        Change::Style(bytes) => buckets.store(STYLE_TEXT, Bytes::from_vec(bytes)),
+    }
+}
