@@ -11,6 +11,7 @@ mod entries;
 mod expiring;
 mod fault;
 mod gathering;
+mod importing;
 mod listers;
 mod pending_keys;
 mod rebuilding;
@@ -19,3 +20,4 @@ mod telling;
 
 pub use changing::change_maps;
 pub use fault::StepFault;
+pub use importing::import_maps;
