@@ -3,7 +3,9 @@ pub mod Building
 pub mod DueLaws
 pub mod Endings
 pub mod EntryLists
+pub mod Imported
 pub mod KeyedLists
+pub mod NamedKeys
 pub mod PendingKeys
 pub mod Trees
 pub mod Whole

@@ -1,5 +1,6 @@
 pub mod Due
 pub mod Ends
 pub mod Gather
+pub mod Importing
 pub mod Old
 pub mod Suffices

@@ -1,29 +1,165 @@
 //! The first import.
-ghost use Rattle.std.specs.Prelude.{◌≡◌, ◌≤◌, ℕ, false, length, IfErr, OnOk};
+ghost use Rattle.std.specs.Prelude.{◌≡◌, ◌≤◌, ℕ, List, [], None, false, length, map, IfOk, IfErr, OnOk};
 ghost use Rattle.std.specs.FinMap as finite;
+ghost use Rattle.std.specs.List.{AllByRecursion};
+ghost use Rattle.osm_base.specs.declared.values.row.TableRow.{TableRow};
 ghost use Rattle.osm_base.specs.map.Objects.{folded_all};
-ghost use Rattle.store_maps.specs.Maps.{Maps, empty_maps};
+ghost use Rattle.osm_base.specs.values.Ids.{AreRisingIds};
+ghost use Rattle.osm_base.specs.values.Key.{KeyOf};
+ghost use Rattle.row_map.specs.Rows.{rows_in};
+ghost use Rattle.object_fold.specs.Change.{IsProper};
+ghost use Rattle.geom_workers.specs.Keys.{keys_of};
+ghost use Rattle.store_maps.specs.Append.{MayKeep, set_all_rows};
+ghost use Rattle.store_maps.specs.Maps.{Maps, empty_maps, form_in, rows_at, set_rows};
 ghost use Rattle.store_maps.specs.Stands.{Stands};
+ghost use Rattle.store_maps.specs.Step.{change_on, entry_on};
 ghost use Rattle.update_step.specs.Ends.{Ends, MayRefuse};
+ghost use Rattle.update_step.specs.Importing.{LacksRows, ids_named, keys_named};
 
 use crate::StepFault;
-use object_fold::Change;
-use osm_base::MAX_PENDING;
+use geom_workers::{Built, MAX_KEYS, build_all, key_count, key_of};
+use object_fold::{Change, Objects};
+use osm_base::{
+    Entry, Ids, Key, Kind, MAX_ID, MAX_PENDING, OutOfMemory, PendingSet, RowLists, TableRows,
+};
 use outside::Gate;
 use std::alloc::Global;
 use std::thread::Threads;
 use store_maps::MapStore;
 use style_read::Style;
 
+/// The ids of the entries of one kind.
+fn ids_of(alloc: Global, kind: Kind, change: &Change) -> Result<Ids, OutOfMemory>
+    ensures ids { IfOk result (λ ids. ids ≡ ids_named kind change.now) }
+    ensures rising { IfOk result AreRisingIds }
+{
+    let mut ids = Vec::new(alloc);
+    for entry in change.entries() {
+        let key = entry.key;
+        prove!(1 <= key.id && key.id <= MAX_ID);
+        if key.kind == kind {
+            ids.push(key.id)?;
+        }
+    }
+    Ok(Ids::from_vec(ids))
+}
+
+/// The keys of the entries.
+fn keys_in_change(alloc: Global, change: &Change) -> Result<PendingSet, OutOfMemory>
+    ensures keys { IfOk result (λ keys. keys_of keys ≡ keys_named change.now) }
+{
+    let _entries = change.entries();
+    let nodes = ids_of(alloc, Kind::Node, change)?;
+    let ways = ids_of(alloc, Kind::Way, change)?;
+    let relations = ids_of(alloc, Kind::Relation, change)?;
+    Ok(PendingSet::new(nodes, ways, relations))
+}
+
+/// What an entry says is so in the maps, where its key has no form yet: none is looked up.
+fn add_entry<S: MapStore>(store: &mut S, entry: &Entry) -> Result<(), S::Refusal>
+    requires spent { S.spent store.old ≡ false }
+    requires proper { IsProper entry.now }
+    ensures holds { OnOk result ((under : S.Under) (maps : Maps) → S.holds store.old under maps
+        → form_in maps entry.now.key.kind entry.now.key.id ≡ None → S.holds store.new under (entry_on maps entry.now)) }
+    ensures looked { (first : S) → S.looked first store.old → S.looked first store.new }
+    ensures spent { OnOk result (S.spent store.new ≡ false) }
+    ensures refused { IfErr result (λ refusal. (first : S) → S.looked first store.old → S.bears store.new (S.faults first) refusal) }
+    ensures allowed { (under : S.Under) (maps : Maps) → S.holds store.old under maps → IfErr result S.allowed }
+{
+    let none = None;
+    store.relist(entry.key, &none, &entry.object)?;
+    store.set(entry.key, &entry.object)?;
+    Ok(())
+}
+
+/// What the entries of a change say is so in maps without a value.
+fn add_entries<S: MapStore>(store: &mut S, change: &Change) -> Result<(), S::Refusal>
+    requires spent { S.spent store.old ≡ false }
+    ensures holds { OnOk result ((under : S.Under) → S.holds store.old under empty_maps → S.holds store.new under (change_on empty_maps change.now)) }
+    ensures looked { (first : S) → S.looked first store.old → S.looked first store.new }
+    ensures spent { OnOk result (S.spent store.new ≡ false) }
+    ensures refused { IfErr result (λ refusal. (first : S) → S.looked first store.old → S.bears store.new (S.faults first) refusal) }
+    ensures allowed { (under : S.Under) → S.holds store.old under empty_maps → IfErr result S.allowed }
+{
+    for entry in change.entries() {
+        add_entry(store, entry)?;
+    }
+    Ok(())
+}
+
+/// The rows of these keys, which so many workers build of the objects of the entries, in memory.
+fn rows_of<R: Threads + Sync, G: Gate>(
+    rt: &R,
+    alloc: Global,
+    style: &Style,
+    change: Change,
+    keys: &PendingSet,
+    workers: u32,
+    gate: &G,
+) -> Result<RowLists, OutOfMemory>
+    requires one_worker { 1 ≤ workers }
+    requires few_workers { workers ≤ 64 }
+    requires few { length (keys_of keys.now) ≤ MAX_KEYS }
+    ensures rows { IfOk result (λ rows. rows ≡ map (rows_in style.now (folded_all finite.empty change)) (keys_of keys.now)) }
+    ensures kept { IfOk result (AllByRecursion (MayKeep style.now.tables)) }
+{
+    let mut objects = Objects::new(alloc);
+    objects.fold(change)?;
+    let Built { rows, .. } = build_all(rt, alloc, workers, style, keys, &objects, gate)?;
+    Ok(rows)
+}
+
+/// A key without rows has these; where there are none, nothing is to be done.
+fn put_some<S: MapStore>(store: &mut S, key: Key, rows: &TableRows) -> Result<(), S::Refusal>
+    requires spent { S.spent store.old ≡ false }
+    requires kept { MayKeep (S.style store.old).tables rows.now }
+    ensures holds { OnOk result ((under : S.Under) (maps : Maps) → S.holds store.old under maps
+        → (rows.now ≡ [] → rows_at maps key.kind key.id ≡ None) → S.holds store.new under (set_rows maps key.kind key.id rows.now)) }
+    ensures looked { (first : S) → S.looked first store.old → S.looked first store.new }
+    ensures spent { OnOk result (S.spent store.new ≡ false) }
+    ensures refused { IfErr result (λ refusal. (first : S) → S.looked first store.old → S.bears store.new (S.faults first) refusal) }
+    ensures allowed { (under : S.Under) (maps : Maps) → S.holds store.old under maps → IfErr result S.allowed }
+{
+    if rows.as_slice().is_empty() {
+        return Ok(());
+    }
+    store.set_rows(key, rows)?;
+    Ok(())
+}
+
+/// Each of these keys, which have no rows yet, has its rows.
+fn put_all<S: MapStore>(
+    store: &mut S,
+    keys: &PendingSet,
+    rows: &[TableRows],
+) -> Result<(), S::Refusal>
+    requires spent { S.spent store.old ≡ false }
+    requires few { length (keys_of keys.now) ≤ MAX_KEYS }
+    requires count { length rows.now ≡ length (keys_of keys.now) }
+    requires kept { AllByRecursion (MayKeep (S.style store.old).tables) rows.now }
+    ensures holds { OnOk result ((under : S.Under) (maps : Maps) (new : KeyOf → List TableRow) → rows.now ≡ map new (keys_of keys.now)
+        → LacksRows maps new → S.holds store.old under maps → S.holds store.new under (set_all_rows maps new (keys_of keys.now))) }
+    ensures looked { (first : S) → S.looked first store.old → S.looked first store.new }
+    ensures spent { OnOk result (S.spent store.new ≡ false) }
+    ensures refused { IfErr result (λ refusal. (first : S) → S.looked first store.old → S.bears store.new (S.faults first) refusal) }
+    ensures allowed { (under : S.Under) (maps : Maps) (new : KeyOf → List TableRow) → rows.now ≡ map new (keys_of keys.now)
+        → LacksRows maps new → S.holds store.old under maps → IfErr result S.allowed }
+{
+    for index in 0..key_count(keys) {
+        put_some(store, key_of(keys, index as u32), &rows[index])?;
+    }
+    Ok(())
+}
+
 /// Puts the objects of entries into a store without any, with their rows, which so many workers build.
 pub fn import_maps<S: MapStore, R: Threads + Sync, G: Gate>(
-    _rt: &R,
-    _alloc: Global,
+    rt: &R,
+    alloc: Global,
     store: &mut S,
     style: &Style,
     change: Change,
     workers: u32,
-    _gate: &G,
+    gate: &G,
 ) -> Result<(), StepFault<S::Refusal>>
     requires spent { S.spent store.old ≡ false }
     requires style { S.style store.old ≡ style.now }
@@ -42,6 +178,12 @@ pub fn import_maps<S: MapStore, R: Threads + Sync, G: Gate>(
         (λ _. ⊥)) }
     ensures allowed { (under : S.Under) → S.holds store.old under empty_maps → IfErr result (MayRefuse S.allowed) }
 {
-    let _store = store;
-    Err(StepFault::OutOfMemory)
+    let _entries = change.entries();
+    let keys = keys_in_change(alloc, &change)?;
+    add_entries(store, &change).map_err(StepFault::Store)?;
+    let rows = rows_of(rt, alloc, style, change, &keys, workers, gate)?;
+    match put_all(store, &keys, rows.as_slice()) {
+        Ok(()) => Ok(()),
+        Err(refusal) => Err(StepFault::Store(refusal)),
+    }
 }
