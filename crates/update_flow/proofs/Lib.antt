@@ -2,10 +2,13 @@ pub mod Becoming
 pub mod Blank
 pub mod Carrying
 pub mod Handles
+pub mod Imports
+pub mod Keyed
 pub mod Loading
 pub mod Looking
 pub mod Openings
 pub mod Resting
 pub mod Running
+pub mod Steps
 pub mod Turning
 pub mod OneTable

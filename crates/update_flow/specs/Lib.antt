@@ -13,3 +13,5 @@ pub mod Handle
 pub mod Updater
 pub mod Turning
 pub mod Settling
+pub mod Steps
+pub mod Ids

@@ -1,12 +1,14 @@
 //! Why a store cannot be opened, looked at or taken a step further.
 ghost use Rattle.std.specs.Prelude.{◌≡◌};
 ghost use Rattle.update_flow.specs.Faults.{of_store};
+ghost use Rattle.update_flow.specs.Steps.{of_step};
 ghost use Rattle.update_flow.specs.declared.fault.FlowFault.TheVariants.{OutOfMemory};
 
 use osm_base::OutOfMemory as NoMemory;
 use page_journal::StoreFault;
 use std::alloc::{AllocError, AllocFailed};
 use thiserror::Error;
+use update_step::StepFault;
 
 /// The number of changes after which no further one can be counted.
 pub const LAST_CHANGE: u64 = 9_223_372_036_854_775_807;
@@ -62,5 +64,16 @@ pub fn store_fault(fault: StoreFault) -> FlowFault
     match fault {
         StoreFault::OutOfMemory => FlowFault::OutOfMemory,
         fault => FlowFault::Store(fault),
+    }
+}
+
+/// A refusal of the step below.
+pub(crate) fn step_fault(why: StepFault<StoreFault>) -> FlowFault
+    ensures { result ≡ of_step why }
+{
+    match why {
+        StepFault::Store(fault) => store_fault(fault),
+        StepFault::TooMany { value } => FlowFault::TooMany { value },
+        StepFault::OutOfMemory => FlowFault::OutOfMemory,
     }
 }

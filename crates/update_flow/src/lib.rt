@@ -10,6 +10,8 @@ mod due_text;
 mod fault;
 mod fields;
 mod finishing;
+mod ids;
+mod importing;
 mod opened;
 mod opening;
 mod over_disk;

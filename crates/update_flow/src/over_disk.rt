@@ -1,22 +1,28 @@
 //! A store stands on its disk between two calls. For a call its buckets are laid over the disk, and taken off again.
 ghost use Rattle.std.specs.Prelude.{◌≡◌, ◌≤◌, ◌+◌, ℕ, Ok, IsTrue, IfOk, length};
+ghost use Rattle.std.specs.Int.{is_power_of_two};
 ghost use Rattle.std.specs.Result.{result_err};
+ghost use Rattle.style_read.specs.Reading.{reading};
 ghost use Rattle.row_map.specs.Row.{tables};
 ghost use Rattle.tile_cover.specs.Runs.{has};
 ghost use Rattle.bucket_store.specs.Opening.{Fits};
 ghost use Rattle.update_flow.specs.Opening.{HoldsState};
-ghost use Rattle.update_flow.specs.State.{Clear, Holding, imported};
+ghost use Rattle.update_flow.specs.State.{Clear, Holding, Import, formatted, imported};
 ghost use Rattle.update_flow.specs.Turning.{EndsOn, LooksOn, TurnsOn};
 ghost use Rattle.update_flow.specs.Within.{wanted_of};
 
 use crate::FlowFault;
 use crate::clearing::clear;
 use crate::due_text::load_due;
+use crate::importing::import;
 use crate::reading::load_rows;
 use bucket_store::{Buckets, Opened as Stored};
+use kept_maps::KeptMaps;
+use object_fold::Change;
 use osm_base::{Limits, Tables};
-use outside::Disk;
+use outside::{Disk, Gate};
 use std::alloc::Global;
+use std::thread::Threads;
 use style_read::Style;
 use tile_cover::TileRuns;
 
@@ -78,4 +84,46 @@ pub(crate) fn rows_on<D: Disk>(
     let rows = load_rows(alloc, &mut buckets, style, wanted);
     let _disk = buckets.hand_back(kept);
     rows
+}
+
+/// The first import, in one commit.
+pub(crate) fn import_on<D: Disk, R: Threads + Sync, G: Gate>(
+    rt: &R,
+    alloc: Global,
+    disk: &mut D,
+    limits: &Limits,
+    store: Stored,
+    kept: &mut Option<Stored>,
+    style_bytes: &[u8],
+    style: &Style,
+    change: Change,
+    buckets: u64,
+    workers: u32,
+    gate: &G,
+) -> Result<(), FlowFault>
+    requires reads { reading style_bytes.now ≡ Ok style.now }
+    requires power { IsTrue (is_power_of_two buckets) }
+    requires few_buckets { buckets ≤ 65536 }
+    requires few { length change ≤ 16777216 }
+    requires one_worker { 1 ≤ workers }
+    requires few_workers { workers ≤ 64 }
+    ensures turns { Fits store (D.view disk.old) → HoldsState formatted (D.view disk.old)
+        → TurnsOn limits.now formatted (Import style.now style_bytes.now buckets change) (result_err result) (D.view disk.old) (D.view disk.new) kept.new }
+    ensures ends { EndsOn (result_err result) (D.view disk.old) (D.view disk.new) kept.new }
+{
+    let opened = Buckets::on(alloc, disk, limits, store);
+    let mut maps = KeptMaps::over(alloc, opened, style);
+    let done = import(
+        rt,
+        alloc,
+        &mut maps,
+        style_bytes,
+        style,
+        change,
+        buckets,
+        workers,
+        gate,
+    );
+    let _disk = maps.close().hand_back(kept);
+    done
 }

@@ -1,8 +1,8 @@
 //! The style of a store: its bytes are one of the store's texts.
-ghost use Rattle.std.specs.Prelude.{◌≡◌, ℕ, Ok, false, IfErr, IfOk};
+ghost use Rattle.std.specs.Prelude.{◌≡◌, ℕ, Ok, false, IfErr, IfOk, OnOk};
 ghost use Rattle.std.specs.Result.{result_err};
 ghost use Rattle.style_read.specs.Reading.{reading};
-ghost use Rattle.bucket_store.specs.Image.{Has, Image};
+ghost use Rattle.bucket_store.specs.Image.{Has, Image, with_text};
 ghost use Rattle.bucket_store.specs.Transaction.{has_refused};
 ghost use Rattle.update_flow.specs.Refusals.{MayFind};
 ghost use Rattle.update_flow.specs.Stands.{IsImported};
@@ -13,6 +13,7 @@ ghost use Rattle.update_flow.specs.declared.fields.TheConstants.{STYLE_TEXT};
 use crate::fault::store_fault;
 use crate::{FlowFault, STYLE_TEXT};
 use bucket_store::Buckets;
+use osm_base::Bytes;
 use outside::Disk;
 use page_journal::StoreFault;
 use std::alloc::Global;
@@ -35,5 +36,28 @@ pub fn load_style<D: Disk>(alloc: Global, buckets: &mut Buckets<'_, D>) -> Resul
         Ok(style) => Ok(style),
         Err(StyleFault::Bad { .. }) => Err(FlowFault::Store(StoreFault::BadStore { page: 1 })),
         Err(StyleFault::OutOfMemory) => Err(FlowFault::OutOfMemory),
+    }
+}
+
+/// These are the bytes of the style.
+pub(crate) fn store_style<D: Disk>(
+    alloc: Global,
+    buckets: &mut Buckets<'_, D>,
+    style_bytes: &[u8],
+) -> Result<(), FlowFault>
+    requires going { has_refused buckets.old ≡ false }
+    requires whole { is_whole_store buckets.old }
+    ensures stored { OnOk result ((rest now : Image) → Has rest now buckets.old → Has rest (with_text STYLE_TEXT style_bytes.now now) buckets.new) }
+    ensures going { OnOk result (has_refused buckets.new ≡ false) }
+    ensures sound { (rest now : Image) → Has rest now buckets.old → IsSound (result_err result) }
+    ensures runs { Runs buckets.old buckets.new (result_err result) }
+{
+    let bytes = match Vec::from_slice(alloc, style_bytes) {
+        Ok(bytes) => Bytes::from_vec(bytes),
+        Err(_) => return Err(FlowFault::OutOfMemory),
+    };
+    match buckets.store(STYLE_TEXT, bytes) {
+        Ok(()) => Ok(()),
+        Err(fault) => Err(store_fault(fault)),
     }
 }

@@ -1,0 +1,112 @@
+-- The maps are filled, and all is committed with the style.
+use Rattle.std.proofs.Common.{◌≡◌, ◌∙◌, nat_eq, List, Some, ap, refl, sym, subst}
+use Rattle.osm_base.specs.declared.values.object.Entry.{Entry}
+use Rattle.update_flow.specs.Ids.{AreIdEntries}
+use Rattle.store_maps.specs.Maps.{empty_maps}
+use Rattle.style_read.specs.Style.{StyleOf}
+use Rattle.chain_store.specs.declared.root.Root.{Root}
+use Rattle.page_journal.specs.Journal.{is_broken}
+use Rattle.bucket_store.specs.Image.{with_buckets, with_root}
+use Rattle.bucket_store.proofs.Holding.{looks_then, rests_under}
+use Rattle.bucket_store.proofs.Images.{maps_with_root, root_with_root, texts_with_root}
+use Rattle.back_index.specs.Index.{is_spent}
+use Rattle.kept_maps.specs.Calls.{buckets_of, style_in}
+use Rattle.kept_maps.specs.Held.{Beside, HasMaps}
+use Rattle.kept_maps.specs.Laws.{later_same, over_going, over_none, over_whole}
+use Rattle.kept_maps.proofs.MapsKept.{empty_kept}
+use Rattle.update_flow.specs.State.{Import, formatted}
+use Rattle.update_flow.specs.Turning.{EndsIn, TurnsIn}
+use Rattle.update_flow.specs.declared.fault.FlowFault.{FlowFault}
+use Rattle.update_flow.proofs.Steps.{none_spent, step_ends}
+use Rattle.update_flow.proofs.Imports.{begun_becomes, power_counts, step_begins}
+use Rattle.update_flow.proofs.Turning.{ends_then, turns_committed, turns_refused}
+use Rattle.update_flow.proofs.importing.import.Goals as goal
+
+-- the root says that there are buckets already
+pub returns-then-root-ne0-clause-turns : goal.returns-then-root-ne0-clause-turns
+returns-then-root-ne0-clause-turns g c limits rest same has blank =
+    absurd (c.if-root-ne0.true (ap (λ (r : Root). r.buckets) (c.root.ensures ∙ has.root ∙ blank.root)))
+
+pub import_maps-requires-clause-spent : goal.import_maps-requires-clause-spent
+import_maps-requires-clause-spent g c lifetimes lives =
+    over_none c.args.maps.now.indexed.stopped (is_spent c.set_buckets.new.self) c.requires.fresh
+    (none_spent c.set_buckets.new.self c.set_buckets.ensures.going (ap (λ j. is_broken j) c.set_buckets.ensures.journal ∙ c.requires.whole)
+    (ap (λ (r : Root). nat_eq r.buckets 0) c.set_buckets.ensures.root ∙ power_counts c.args.buckets c.requires.power))
+
+pub begin-requires-clause-going : goal.begin-requires-clause-going
+begin-requires-clause-going g c = over_going c.import_maps.new.store c.in-Ok.ensures.spent
+
+pub begin-requires-clause-whole : goal.begin-requires-clause-whole
+begin-requires-clause-whole g c = over_whole c.import_maps.new.store c.in-Ok.ensures.spent
+
+pub returns-in-Ok-clause-turns : goal.returns-in-Ok-clause-turns
+returns-in-Ok-clause-turns g c limits rest same has blank =
+    let old = buckets_of c.args.maps.now in
+    let mid = c.set_buckets.new.self in
+    let last = c.import_maps.new.store in
+    let count = c.args.buckets in
+    let later = c.import_maps.ensures.looked _ (later_same _) in
+    let numbered = with_root (with_buckets count rest.root) rest in
+    let root = root_with_root (with_buckets count rest.root) rest in
+    let texts = texts_with_root (with_buckets count rest.root) rest in
+    let none : rest.root.buckets ≡ 0 = ap (λ (r : Root). r.buckets) blank.root in
+    let under : Beside = record { rest = rest; root = with_buckets count rest.root; texts = rest.texts } in
+    let keeps : HasMaps (style_in c.args.maps.now).tables under empty_maps mid =
+    record {
+      now = numbered;
+      has = c.set_buckets.ensures.has rest rest has;
+      root = root;
+      texts = λ n below. texts n;
+      kept = empty_kept (style_in c.args.maps.now).tables numbered.maps (λ m below. maps_with_root (with_buckets count rest.root) rest m ∙ has.none none m below);
+    } in
+    let made = c.in-Ok.ensures.stands under keeps in
+    let after = made.0 in
+    let kept : HasMaps c.args.style.now.tables under after (buckets_of last) =
+    subst (λ (s : StyleOf). HasMaps s.tables under after (buckets_of last)) (later.same_style ∙ c.requires.style) made.1 in
+    let becomes = begun_becomes c.args.style.now c.args.style_bytes.now count c.args.change rest kept.now after blank c.requires.reads c.requires.power
+    c.requires.few_buckets (ap (λ (r : Root). r.buckets) kept.root) kept.texts kept.kept made.2
+    (subst (λ (l : List Entry). AreIdEntries l) c.entries.ensures.entries c.known_ids.ensures) in
+    let looks = looks_then old mid (buckets_of last) c.set_buckets.ensures.same later.looks in
+    turns_committed limits formatted (Import c.args.style.now c.args.style_bytes.now count c.args.change) _ rest _ old (buckets_of last) c.begin.new.buckets
+    (rests_under rest rest old has) blank looks becomes refl (c.begin.ensures.commits limits rest kept.now (looks.looked.limit ∙ same) kept.has)
+
+pub returns-in-Ok-clause-ends : goal.returns-in-Ok-clause-ends
+returns-in-Ok-clause-ends g c =
+    let later = c.import_maps.ensures.looked _ (later_same _) in
+    ends_then _ (buckets_of c.args.maps.now) (buckets_of c.import_maps.new.store) c.begin.new.buckets
+    (looks_then (buckets_of c.args.maps.now) c.set_buckets.new.self (buckets_of c.import_maps.new.store) c.set_buckets.ensures.same later.looks) c.begin.ensures.ends
+
+pub returns-in-Err-clause-turns : goal.returns-in-Err-clause-turns
+returns-in-Err-clause-turns g c limits rest same has blank =
+    let old = buckets_of c.args.maps.now in
+    let mid = c.set_buckets.new.self in
+    let last = c.import_maps.new.store in
+    let count = c.args.buckets in
+    let step = Import c.args.style.now c.args.style_bytes.now count c.args.change in
+    let later = c.import_maps.ensures.looked _ (later_same _) in
+    let numbered = with_root (with_buckets count rest.root) rest in
+    let none : rest.root.buckets ≡ 0 = ap (λ (r : Root). r.buckets) blank.root in
+    let under : Beside = record { rest = rest; root = with_buckets count rest.root; texts = rest.texts } in
+    let keeps : HasMaps (style_in c.args.maps.now).tables under empty_maps mid =
+    record {
+      now = numbered;
+      has = c.set_buckets.ensures.has rest rest has;
+      root = root_with_root (with_buckets count rest.root) rest;
+      texts = λ n below. texts_with_root (with_buckets count rest.root) rest n;
+      kept = empty_kept (style_in c.args.maps.now).tables numbered.maps (λ m below. maps_with_root (with_buckets count rest.root) rest m ∙ has.none none m below);
+    } in
+    subst (λ (f : FlowFault). TurnsIn limits formatted step (Some f) old (buckets_of last)) (sym c.step_fault.ensures)
+    (turns_refused limits formatted step _ rest old (buckets_of last) (rests_under rest rest old has) blank
+    (looks_then old mid (buckets_of last) c.set_buckets.ensures.same later.looks)
+    (step_begins limits step _ _ c.in-Err.why c.in-Err.ensures.ends (c.in-Err.ensures.allowed under keeps)))
+
+pub returns-in-Err-clause-ends : goal.returns-in-Err-clause-ends
+returns-in-Err-clause-ends g c =
+    let old = buckets_of c.args.maps.now in
+    let mid = c.set_buckets.new.self in
+    let last = c.import_maps.new.store in
+    let later = c.import_maps.ensures.looked _ (later_same _) in
+    subst (λ (f : FlowFault). EndsIn (Some f) old (buckets_of last)) (sym c.step_fault.ensures)
+    (ends_then _ old mid (buckets_of last) c.set_buckets.ensures.same
+    (step_ends mid (buckets_of last) later.looks _ _ _ c.in-Err.why c.in-Err.ensures.ends
+    (λ fault refused. (refused _ (later_same _)).1) (λ fresh. over_whole last fresh)))

@@ -1,0 +1,85 @@
+//! The first import into an open store.
+ghost use Rattle.std.specs.Prelude.{◌≡◌, ◌≤◌, Ok, Some, IsTrue, true, false, length, IfErr, IsErr, IsErrOf, OnOk};
+ghost use Rattle.std.specs.Int.{is_power_of_two};
+ghost use Rattle.std.specs.Result.{result_err};
+ghost use Rattle.page_journal.specs.declared.fault.StoreFault.TheVariants.{Broken};
+ghost use Rattle.style_read.specs.Reading.{reading};
+ghost use Rattle.update_flow.specs.AtRest.{HasFlowCause};
+ghost use Rattle.update_flow.specs.Handle.{IsOpen, Takes, TellsAs, changes_of, is_imported, is_whole, style_of, view_of};
+ghost use Rattle.update_flow.specs.Refusals.{IsCallFault};
+ghost use Rattle.update_flow.specs.State.{Import, State};
+ghost use Rattle.update_flow.specs.declared.fault.FlowFault.TheVariants.{AlreadyImported, Store};
+
+use super::Updater;
+use crate::FlowFault;
+use crate::over_disk::import_on;
+use object_fold::Change;
+use outside::{Disk, Gate};
+use page_journal::StoreFault;
+use std::thread::Threads;
+use style_read::Style;
+
+impl<D: Disk> Updater<'_, D> {
+    ghost use Rattle.update_flow.specs.Updater.{StaysOver, handle_of};
+
+    /// The first import, in one commit: the entries' objects with their rows under the style. Each of the eight maps has so many
+    /// buckets from then on. The rows are built by so many workers, which pass the gate at `Drawn` and `Built`.
+    pub fn import<R: Threads + Sync, G: Gate>(
+        &mut self,
+        rt: &R,
+        style_bytes: &[u8],
+        style: Style,
+        change: Change,
+        buckets: u64,
+        workers: u32,
+        gate: &G,
+    ) -> Result<(), FlowFault>
+        requires style { reading style_bytes.now ≡ Ok style }
+        requires power { IsTrue (is_power_of_two buckets) }
+        requires few_buckets { buckets ≤ 65536 }
+        requires one_worker { 1 ≤ workers }
+        requires few_workers { workers ≤ 64 }
+        requires few { length change ≤ 16777216 }
+        ensures takes { (state : State) → IsOpen state (handle_of self.old)
+            → Takes state (Import style style_bytes.now buckets change) (result_err result) (handle_of self.old) (handle_of self.new) }
+
+        // Whatever the disk holds.
+        ensures again { is_imported (handle_of self.old) ≡ true → IsErrOf result AlreadyImported }
+        ensures imported { OnOk result ((is_imported (handle_of self.new) ≡ true) × (changes_of (handle_of self.new) ≡ 0)
+            × (style_of (handle_of self.new) ≡ Some style)) }
+        ensures tells { IsErr result → TellsAs (handle_of self.old) (handle_of self.new) }
+        ensures stays { StaysOver self.old self.new }
+        ensures alone { IfErr result IsCallFault }
+        ensures whole { OnOk result (is_whole (handle_of self.new) ≡ is_whole (handle_of self.old)) }
+        ensures broken { IsErrOf result (Store Broken) → is_whole (handle_of self.old) ≡ false }
+        ensures cause { HasFlowCause (result_err result) (view_of (handle_of self.old)) (view_of (handle_of self.new)) }
+    {
+        if self.imported() {
+            return Err(FlowFault::AlreadyImported);
+        }
+        let Some(store) = self.store.take() else {
+            return Err(FlowFault::Store(StoreFault::Broken));
+        };
+        match import_on(
+            rt,
+            self.alloc,
+            self.disk,
+            &self.limits,
+            store,
+            &mut self.store,
+            style_bytes,
+            &style,
+            change,
+            buckets,
+            workers,
+            gate,
+        ) {
+            Ok(()) => {
+                self.changes = 0;
+                self.style = Some(style);
+                Ok(())
+            }
+            Err(fault) => Err(fault),
+        }
+    }
+}
