@@ -1,5 +1,5 @@
 -- Maps that were filled by entries stand for the objects of these.
-use Rattle.std.proofs.Common.{◌≡◌, ◌<◌, ◌+◌, ◌*◌, ℕ, Bool, true, false, cond, List, [], ◌∷◌, length, map, take, slice_index_or, Option, Some, None, refl, sym, ap, subst, ◌∙◌, nat_eq}
+use Rattle.std.proofs.Common.{◌≡◌, ◌<◌, ◌+◌, ◌*◌, ℕ, true, false, cond, List, [], ◌∷◌, length, map, take, slice_index_or, None, refl, sym, ap, ◌∙◌, nat_eq}
 use Rattle.std.specs.Prelude.{if◌then◌else◌}
 use Rattle.std.specs.Cmp.{nat_cmp_total}
 use Rattle.std.specs.FinMap as finite
@@ -24,7 +24,7 @@ use Rattle.row_map.specs.Condition.{reaches_nodes}
 use Rattle.row_map.specs.Rows.{rows_in, rows_known}
 use Rattle.row_map.proofs.TableRows.{rows_known-none}
 use Rattle.store_maps.specs.Append.{MayKeep, appended, set_all_rows}
-use Rattle.store_maps.specs.Maps.{Maps, empty_maps, form_in, rows_at, set, set_rows, unless_empty}
+use Rattle.store_maps.specs.Maps.{Maps, empty_maps, form_in, rows_at, set_rows, unless_empty}
 use Rattle.store_maps.specs.Stands.{Stands, StandsOn}
 use Rattle.store_maps.specs.Step.{AllListed, AreTold, change_on}
 use Rattle.store_maps.specs.Turns.{blocks_in, ids_for, listed_by}

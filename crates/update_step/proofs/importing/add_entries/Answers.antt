@@ -1,4 +1,4 @@
-use Rattle.std.proofs.Common.{rules, ◌≡◌, ℕ, List, sym, subst, take}
+use Rattle.std.proofs.Common.{rules, ℕ, List, sym, subst, take}
 use Rattle.osm_base.specs.declared.values.object.Entry.{Entry}
 use Rattle.object_fold.specs.Change.{IsChange}
 use Rattle.store_maps.specs.Maps.{empty_maps}

@@ -1,5 +1,4 @@
 use Rattle.std.proofs.Common.{◌≡◌, ◌==◌, List, [], ◌∷◌, length, true, refl, sym, subst, ◌∙◌, arith}
-use Rattle.osm_base.specs.declared.values.row.TableRow.{TableRow}
 use Rattle.store_maps.proofs.IdLists.{same_as}
 use Rattle.update_step.proofs.Imported.{none-set}
 use Rattle.update_step.proofs.importing.put_some.Goals as goal
