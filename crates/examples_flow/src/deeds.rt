@@ -34,14 +34,22 @@ pub fn done(alloc: Global, disk: MemDisk, deed: &str) -> Result<Option<MemDisk>,
     };
     match word {
         "none" => Ok(Some(disk)),
-        "format" => Ok(if format(&mut disk).is_ok() { Some(disk) } else { None }),
+        "format" => Ok(if format(&mut disk).is_ok() {
+            Some(disk)
+        } else {
+            None
+        }),
         "bytes" => holding(alloc, bytes_of(alloc, text)?),
         "cut" => holding(alloc, front_of(alloc, disk.bytes(), text)?),
         _ => {
             let Some(change) = change_of(alloc, word, text)? else {
                 return Ok(None);
             };
-            Ok(if changed(alloc, &mut disk, change).is_ok() { Some(disk) } else { None })
+            Ok(if changed(alloc, &mut disk, change).is_ok() {
+                Some(disk)
+            } else {
+                None
+            })
         }
     }
 }
@@ -63,7 +71,9 @@ fn front_of(alloc: Global, bytes: &[u8], text: &str) -> Result<Option<Vec<u8>>, 
     let Some(count) = number_of(text) else {
         return Ok(None);
     };
-    let count = usize::try_from(count).unwrap_or(bytes.len()).min(bytes.len());
+    let count = usize::try_from(count)
+        .unwrap_or(bytes.len())
+        .min(bytes.len());
     Ok(Some(Vec::from_slice(alloc, &bytes[..count])?))
 }
 

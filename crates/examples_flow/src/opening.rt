@@ -8,11 +8,7 @@ use update_flow::{Updater, open};
 
 /// What the opening answers once these deeds are done to an empty disk. `None`: one of them is no deed.
 pub fn opened(alloc: Global, deeds: &str) -> Result<Option<String>, AllocError> {
-    let mut disk = MemDisk::new(
-        alloc,
-        Bytes::new(alloc),
-        Fails::new(Ids::new(alloc), 0),
-    );
+    let mut disk = MemDisk::new(alloc, Bytes::new(alloc), Fails::new(Ids::new(alloc), 0));
     for deed in deeds.split(';') {
         match done(alloc, disk, deed)? {
             Some(after) => disk = after,
