@@ -5,6 +5,7 @@
 //! bytes are a store of a state, and `FlowFault` why a step is refused.
 #![tactic(auto)]
 
+mod appending;
 mod clearing;
 mod due_text;
 mod fault;

@@ -2,29 +2,33 @@
 ghost use Rattle.std.specs.Prelude.{◌≡◌, ◌≤◌, ◌+◌, ℕ, Ok, IsTrue, IfOk, length};
 ghost use Rattle.std.specs.Int.{is_power_of_two};
 ghost use Rattle.std.specs.Result.{result_err};
+ghost use Rattle.osm_base.specs.map.Objects.{folded_all};
 ghost use Rattle.style_read.specs.Reading.{reading};
 ghost use Rattle.row_map.specs.Row.{tables};
 ghost use Rattle.tile_cover.specs.Runs.{has};
 ghost use Rattle.bucket_store.specs.Opening.{Fits};
+ghost use Rattle.update_flow.specs.Changes.{AreChanges};
 ghost use Rattle.update_flow.specs.Opening.{HoldsState};
-ghost use Rattle.update_flow.specs.State.{Clear, Holding, Import, formatted, imported};
+ghost use Rattle.update_flow.specs.State.{Append, Clear, Holding, Import, formatted, imported};
 ghost use Rattle.update_flow.specs.Turning.{EndsOn, LooksOn, TurnsOn};
 ghost use Rattle.update_flow.specs.Within.{wanted_of};
+ghost use Rattle.update_flow.specs.declared.fault.TheConstants.{LAST_CHANGE};
 
-use crate::FlowFault;
+use crate::appending::append;
 use crate::clearing::clear;
 use crate::due_text::load_due;
 use crate::importing::import;
 use crate::reading::load_rows;
+use crate::{FlowFault, LAST_CHANGE};
 use bucket_store::{Buckets, Opened as Stored};
 use kept_maps::KeptMaps;
 use object_fold::Change;
-use osm_base::{Limits, Tables};
+use osm_base::{Limits, RowChanges, Tables};
 use outside::{Disk, Gate};
 use std::alloc::Global;
 use std::thread::Threads;
 use style_read::Style;
-use tile_cover::TileRuns;
+use tile_cover::{Bounds, TileRuns};
 
 /// No tile is due any more, by one commit.
 pub(crate) fn clear_on<D: Disk>(
@@ -126,4 +130,38 @@ pub(crate) fn import_on<D: Disk, R: Threads + Sync, G: Gate>(
     );
     let _disk = maps.close().hand_back(kept);
     done
+}
+
+/// A change, in one commit, which makes so many changes. Answers how the rows of the tables differ from then on.
+pub(crate) fn append_on<D: Disk, R: Threads + Sync, G: Gate>(
+    rt: &R,
+    alloc: Global,
+    disk: &mut D,
+    limits: &Limits,
+    store: Stored,
+    kept: &mut Option<Stored>,
+    style: &Style,
+    bounds: &Bounds,
+    change: &Change,
+    number: u64,
+    workers: u32,
+    gate: &G,
+) -> Result<RowChanges, FlowFault>
+    requires counted { number ≤ LAST_CHANGE }
+    requires one_worker { 1 ≤ workers }
+    requires few_workers { workers ≤ 64 }
+    ensures turns { (held : Holding) → Fits store (D.view disk.old) → HoldsState (imported held) (D.view disk.old) → held.style ≡ style.now
+        → held.changes + 1 ≡ number
+        → TurnsOn limits.now (imported held) (Append bounds.now change.now) (result_err result) (D.view disk.old) (D.view disk.new) kept.new }
+    ensures changes { IfOk result (λ changes. (held : Holding) → Fits store (D.view disk.old) → HoldsState (imported held) (D.view disk.old)
+        → held.style ≡ style.now → AreChanges (tables held.style held.objects) (tables held.style (folded_all held.objects change.now)) changes) }
+    ensures ends { EndsOn (result_err result) (D.view disk.old) (D.view disk.new) kept.new }
+{
+    let buckets = Buckets::on(alloc, disk, limits, store);
+    let mut maps = KeptMaps::over(alloc, buckets, style);
+    let told = append(
+        rt, alloc, &mut maps, style, bounds, change, limits, number, workers, gate,
+    );
+    let _disk = maps.close().hand_back(kept);
+    told
 }

@@ -7,6 +7,7 @@ ghost use Rattle.update_flow.specs.Opening.{Found};
 ghost use Rattle.update_flow.specs.State.{State};
 ghost use Rattle.update_flow.specs.declared.fault.TheConstants.{LAST_CHANGE};
 
+mod appending;
 mod importing;
 mod looking;
 mod turning;

@@ -1,0 +1,183 @@
+-- The maps are changed, and all is committed with the due tiles and the number of changes.
+use Rattle.std.proofs.Common.{◌≡◌, ◌∙◌, ◌||◌, ◌+◌, ◌<◌, ℕ, Bool, List, Some, ap, arith, refl, sym, subst}
+use Rattle.std.specs.Result.{result_err}
+use Rattle.osm_base.specs.map.Objects.{folded_all}
+use Rattle.osm_base.specs.map.Pending.{PendingOf}
+use Rattle.dep_closure.specs.PendingSet.{AreTooMany, IsPendingOf, size}
+use Rattle.row_map.specs.Row.{tables}
+use Rattle.store_maps.specs.Stands.{Stands}
+use Rattle.style_read.specs.Style.{StyleOf}
+use Rattle.osm_base.specs.declared.values.object.Entry.{Entry}
+use Rattle.tile_cover.specs.Runs.{IsTileSet, has}
+use Rattle.tile_cover.specs.declared.runs.Run.{Run}
+use Rattle.update_flow.specs.Ids.{AreIdEntries}
+use Rattle.bucket_store.proofs.Holding.{looks_then, rests_under}
+use Rattle.chain_store.specs.declared.root.Root.{Root}
+use Rattle.bucket_store.specs.Buckets.{bucket_count}
+use Rattle.bucket_store.specs.Transaction.{chains_of}
+use Rattle.back_index.specs.Index.{is_spent}
+use Rattle.kept_maps.specs.Calls.{buckets_of, stop_of, style_in}
+use Rattle.kept_maps.specs.Held.{Beside, HasMaps}
+use Rattle.kept_maps.specs.Laws.{later_same, over_going, over_none, over_whole}
+use Rattle.update_flow.specs.Changes.{AreChanges}
+use Rattle.update_flow.specs.Due.{both, due_between}
+use Rattle.update_flow.specs.State.{Append, imported}
+use Rattle.update_flow.specs.Turning.{EndsIn, TurnsIn}
+use Rattle.update_flow.specs.declared.fault.FlowFault.{FlowFault}
+use Rattle.update_flow.proofs.Changed.{append_becomes, not_zero, step_answers}
+use Rattle.update_flow.proofs.Steps.{none_spent, step_ends}
+use Rattle.update_flow.proofs.Running.{runs_unread}
+use Rattle.update_flow.proofs.Turning.{ends_then, runs_ended, sound_answers, turns_committed, turns_refused}
+use Rattle.update_flow.proofs.appending.append.Goals as goal
+
+pub change_maps-requires-clause-spent : goal.change_maps-requires-clause-spent
+change_maps-requires-clause-spent g c =
+    λ lifetimes within.
+    over_none (stop_of c.args.maps.now) (is_spent c.load_due.new.buckets) c.requires.fresh (none_spent c.load_due.new.buckets c.in-Ok.ensures.going (c.in-Ok.ensures.runs.whole tt)
+    (not_zero (bucket_count (chains_of c.load_due.new.buckets)) (λ zero. c.if-root-eq0.false (ap (λ (r : Root). r.buckets) c.root.ensures ∙ zero))))
+
+pub settle-requires-clause-going : goal.settle-requires-clause-going
+settle-requires-clause-going g c = over_going c.change_maps.new.store c.in-Ok-change_maps.ensures.spent
+
+pub settle-requires-clause-whole : goal.settle-requires-clause-whole
+settle-requires-clause-whole g c = over_whole c.change_maps.new.store c.in-Ok-change_maps.ensures.spent
+
+-- the due tiles are not read
+pub returns-in-Err-clause-turns : goal.returns-in-Err-clause-turns
+returns-in-Err-clause-turns g c held rest same was is style next =
+    turns_refused c.args.limits.now (imported held) (Append c.args.bounds.now c.args.change.now) c.in-Err.fault rest (buckets_of c.args.maps.now) c.load_due.new.buckets
+    (rests_under rest rest (buckets_of c.args.maps.now) was) is c.in-Err.ensures.runs.looks
+    (sound_answers c.args.limits.now c.in-Err.fault _ (c.in-Err.ensures.sound rest rest held was is))
+
+pub returns-in-Err-clause-ends : goal.returns-in-Err-clause-ends
+returns-in-Err-clause-ends g c = runs_ended _ (buckets_of c.args.maps.now) c.load_due.new.buckets c.in-Err.ensures.runs
+
+-- the change is refused
+pub returns-in-Err-change_maps-clause-turns : goal.returns-in-Err-change_maps-clause-turns
+returns-in-Err-change_maps-clause-turns g c held rest same was is style next =
+    let old = buckets_of c.args.maps.now in
+    let mid = c.load_due.new.buckets in
+    let last = c.change_maps.new.store in
+    let change = c.args.change.now in
+    let limits = c.args.limits.now in
+    let later = c.change_maps.ensures.looked _ (later_same _) in
+    let own : style_in c.args.maps.now ≡ held.style = c.requires.style ∙ sym style in
+    let under : Beside = record { rest = rest; root = rest.root; texts = rest.texts } in
+    let keeps : HasMaps (style_in c.args.maps.now).tables under is.maps.maps mid =
+    subst (λ (s : StyleOf). HasMaps s.tables under is.maps.maps mid) (sym own)
+    (record { now = rest; has = c.in-Ok.ensures.has rest rest was; root = refl; texts = λ n below. refl; kept = is.maps.kept }) in
+    let stand : Stands c.args.style.now is.maps.maps held.objects = subst (λ (s : StyleOf). Stands s is.maps.maps held.objects) style is.maps.stand in
+    let answers = step_answers limits held c.args.bounds.now change _ _ _ c.in-Err-change_maps.why c.in-Err-change_maps.ensures.ends
+    (c.in-Err-change_maps.ensures.allowed under is.maps.maps held.objects keeps stand)
+    (λ value many. (
+      (λ last. absurd (omega (arith, last, next, c.requires.counted))),
+      subst (λ (s : StyleOf). AreTooMany limits.pending (λ set. IsPendingOf s held.objects change set) value) (sym style)
+          (many under is.maps.maps held.objects keeps stand),
+    )) in
+    subst (λ (f : FlowFault). TurnsIn limits (imported held) (Append c.args.bounds.now change) (Some f) old (buckets_of last)) (sym c.step_fault.ensures)
+    (turns_refused limits (imported held) (Append c.args.bounds.now change) _ rest old (buckets_of last) (rests_under rest rest old was) is
+    (looks_then old mid (buckets_of last) c.in-Ok.ensures.runs.looks later.looks) answers)
+
+pub returns-in-Err-change_maps-clause-ends : goal.returns-in-Err-change_maps-clause-ends
+returns-in-Err-change_maps-clause-ends g c =
+    let old = buckets_of c.args.maps.now in
+    let mid = c.load_due.new.buckets in
+    let last = c.change_maps.new.store in
+    let later = c.change_maps.ensures.looked _ (later_same _) in
+    subst (λ (f : FlowFault). EndsIn (Some f) old (buckets_of last)) (sym c.step_fault.ensures)
+    (ends_then _ old mid (buckets_of last) c.in-Ok.ensures.runs.looks
+    (step_ends mid (buckets_of last) later.looks _ _ _ c.in-Err-change_maps.why c.in-Err-change_maps.ensures.ends
+    (λ fault refused. (refused _ (later_same _)).1) (λ fresh. over_whole last fresh)))
+
+-- all is committed, or nothing
+pub returns-in-Ok-settle-clause-changes : goal.returns-in-Ok-settle-clause-changes
+returns-in-Ok-settle-clause-changes g c held rest was is style =
+    let mid = c.load_due.new.buckets in
+    let change = c.args.change.now in
+    let own : style_in c.args.maps.now ≡ held.style = c.requires.style ∙ sym style in
+    let under : Beside = record { rest = rest; root = rest.root; texts = rest.texts } in
+    let keeps : HasMaps (style_in c.args.maps.now).tables under is.maps.maps mid =
+    subst (λ (s : StyleOf). HasMaps s.tables under is.maps.maps mid) (sym own)
+    (record { now = rest; has = c.in-Ok.ensures.has rest rest was; root = refl; texts = λ n below. refl; kept = is.maps.kept }) in
+    let stand : Stands c.args.style.now is.maps.maps held.objects = subst (λ (s : StyleOf). Stands s is.maps.maps held.objects) style is.maps.stand in
+    let told = c.in-Ok-change_maps.ensures.told under is.maps.maps held.objects keeps stand in
+    subst (λ (s : StyleOf). AreChanges (tables s held.objects) (tables s (folded_all held.objects change)) c.in-Ok-change_maps.told) (sym style)
+    (record { each = told.each; all = told.all; applied = c.in-Ok-change_maps.ensures.applied under is.maps.maps held.objects keeps stand })
+
+pub returns-in-Ok-settle-clause-turns : goal.returns-in-Ok-settle-clause-turns
+returns-in-Ok-settle-clause-turns g c held rest same was is style next =
+    let old = buckets_of c.args.maps.now in
+    let mid = c.load_due.new.buckets in
+    let last = c.change_maps.new.store in
+    let change = c.args.change.now in
+    let limits = c.args.limits.now in
+    let later = c.change_maps.ensures.looked _ (later_same _) in
+    let done = c.in-Ok-change_maps.ensures in
+    let own : style_in c.args.maps.now ≡ held.style = c.requires.style ∙ sym style in
+    let under : Beside = record { rest = rest; root = rest.root; texts = rest.texts } in
+    let keeps : HasMaps (style_in c.args.maps.now).tables under is.maps.maps mid =
+    subst (λ (s : StyleOf). HasMaps s.tables under is.maps.maps mid) (sym own)
+    (record { now = rest; has = c.in-Ok.ensures.has rest rest was; root = refl; texts = λ n below. refl; kept = is.maps.kept }) in
+    let stand : Stands c.args.style.now is.maps.maps held.objects = subst (λ (s : StyleOf). Stands s is.maps.maps held.objects) style is.maps.stand in
+    let made = done.stands under is.maps.maps held.objects keeps stand in
+    let after = made.0 in
+    let kept : HasMaps held.style.tables under after (buckets_of last) =
+    subst (λ (s : StyleOf). HasMaps s.tables under after (buckets_of last)) (later.same_style ∙ own) made.1 in
+    let stands : Stands held.style after (folded_all held.objects change) =
+    subst (λ (s : StyleOf). Stands s after (folded_all held.objects change)) (sym style) made.2 in
+    let due = c.change_maps.new.due in
+    let tiles : (zoom x y : ℕ) → has due zoom x y ≡ both held.due (due_between held.style c.args.bounds.now held.objects (folded_all held.objects change)) zoom x y = λ zoom x y.
+        done.due under is.maps.maps held.objects keeps stand zoom x y
+        ∙ ap (λ (b : Bool). b || due_between c.args.style.now c.args.bounds.now held.objects (folded_all held.objects change) zoom x y)
+        (c.in-Ok.ensures.due rest rest held was is zoom x y)
+        ∙ ap (λ (s : StyleOf). held.due zoom x y || due_between s c.args.bounds.now held.objects (folded_all held.objects change) zoom x y) (sym style) in
+    let becomes = append_becomes held rest c.args.bounds.now change c.args.number due after (buckets_of last) is kept stands (subst (λ (l : List Run). IsTileSet l) c.as_slice-runs.ensures.runs c.as_slice-runs.ensures.tiles) tiles next c.requires.counted
+    (subst (λ (l : List Entry). AreIdEntries l) c.entries.ensures.entries c.known_ids.ensures) in
+    let looks = looks_then old mid (buckets_of last) c.in-Ok.ensures.runs.looks later.looks in
+    turns_committed limits (imported held) (Append c.args.bounds.now change) _ rest _ old (buckets_of last) c.settle.new.buckets
+    (rests_under rest rest old was) is looks becomes
+    ((λ last. absurd (omega (arith, last, next, c.requires.counted))),
+    (λ set pending. done.few under is.maps.maps held.objects keeps stand set (subst (λ (s : StyleOf). IsPendingOf s held.objects change set) style pending)))
+    (c.in-Ok-settle.ensures.commits limits rest kept.now (looks.looked.limit ∙ same) kept.has)
+
+pub returns-in-Ok-settle-clause-ends : goal.returns-in-Ok-settle-clause-ends
+returns-in-Ok-settle-clause-ends g c =
+    let later = c.change_maps.ensures.looked _ (later_same _) in
+    ends_then _ (buckets_of c.args.maps.now) (buckets_of c.change_maps.new.store) c.settle.new.buckets
+    (looks_then (buckets_of c.args.maps.now) c.load_due.new.buckets (buckets_of c.change_maps.new.store) c.in-Ok.ensures.runs.looks later.looks) c.in-Ok-settle.ensures.ends
+
+pub returns-clause-turns : goal.returns-clause-turns
+returns-clause-turns g c held rest same was is style next =
+    let old = buckets_of c.args.maps.now in
+    let mid = c.load_due.new.buckets in
+    let last = c.change_maps.new.store in
+    let change = c.args.change.now in
+    let limits = c.args.limits.now in
+    let later = c.change_maps.ensures.looked _ (later_same _) in
+    let done = c.in-Ok-change_maps.ensures in
+    let own : style_in c.args.maps.now ≡ held.style = c.requires.style ∙ sym style in
+    let under : Beside = record { rest = rest; root = rest.root; texts = rest.texts } in
+    let keeps : HasMaps (style_in c.args.maps.now).tables under is.maps.maps mid =
+    subst (λ (s : StyleOf). HasMaps s.tables under is.maps.maps mid) (sym own)
+    (record { now = rest; has = c.in-Ok.ensures.has rest rest was; root = refl; texts = λ n below. refl; kept = is.maps.kept }) in
+    let stand : Stands c.args.style.now is.maps.maps held.objects = subst (λ (s : StyleOf). Stands s is.maps.maps held.objects) style is.maps.stand in
+    let made = done.stands under is.maps.maps held.objects keeps stand in
+    let after = made.0 in
+    let kept : HasMaps held.style.tables under after (buckets_of last) =
+    subst (λ (s : StyleOf). HasMaps s.tables under after (buckets_of last)) (later.same_style ∙ own) made.1 in
+    let stands : Stands held.style after (folded_all held.objects change) =
+    subst (λ (s : StyleOf). Stands s after (folded_all held.objects change)) (sym style) made.2 in
+    let due = c.change_maps.new.due in
+    let tiles : (zoom x y : ℕ) → has due zoom x y ≡ both held.due (due_between held.style c.args.bounds.now held.objects (folded_all held.objects change)) zoom x y = λ zoom x y.
+        done.due under is.maps.maps held.objects keeps stand zoom x y
+        ∙ ap (λ (b : Bool). b || due_between c.args.style.now c.args.bounds.now held.objects (folded_all held.objects change) zoom x y)
+        (c.in-Ok.ensures.due rest rest held was is zoom x y)
+        ∙ ap (λ (s : StyleOf). held.due zoom x y || due_between s c.args.bounds.now held.objects (folded_all held.objects change) zoom x y) (sym style) in
+    let becomes = append_becomes held rest c.args.bounds.now change c.args.number due after (buckets_of last) is kept stands (subst (λ (l : List Run). IsTileSet l) c.as_slice-runs.ensures.runs c.as_slice-runs.ensures.tiles) tiles next c.requires.counted
+    (subst (λ (l : List Entry). AreIdEntries l) c.entries.ensures.entries c.known_ids.ensures) in
+    let looks = looks_then old mid (buckets_of last) c.in-Ok.ensures.runs.looks later.looks in
+    turns_committed limits (imported held) (Append c.args.bounds.now change) _ rest _ old (buckets_of last) c.settle.new.buckets
+    (rests_under rest rest old was) is looks becomes
+    ((λ last. absurd (omega (arith, last, next, c.requires.counted))),
+    (λ set pending. done.few under is.maps.maps held.objects keeps stand set (subst (λ (s : StyleOf). IsPendingOf s held.objects change set) style pending)))
+    (c.in-Err-settle.ensures.commits limits rest kept.now (looks.looked.limit ∙ same) kept.has)

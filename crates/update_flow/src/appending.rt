@@ -1,0 +1,79 @@
+//! A change is made in a store, within its buckets.
+ghost use Rattle.std.specs.Prelude.{◌≡◌, ◌≤◌, ◌+◌, None, false, IfOk};
+ghost use Rattle.std.specs.Result.{result_err};
+ghost use Rattle.osm_base.specs.map.Objects.{folded_all};
+ghost use Rattle.row_map.specs.Row.{tables};
+ghost use Rattle.bucket_store.specs.Image.{Has, Image};
+ghost use Rattle.bucket_store.specs.Transaction.{has_refused};
+ghost use Rattle.kept_maps.specs.Calls.{buckets_of, stop_of, style_in};
+ghost use Rattle.update_flow.specs.Changes.{AreChanges};
+ghost use Rattle.update_flow.specs.Stands.{IsImported};
+ghost use Rattle.update_flow.specs.State.{Append, Holding, imported};
+ghost use Rattle.update_flow.specs.Turning.{EndsIn, TurnsIn, limit_in};
+ghost use Rattle.update_flow.specs.Within.{is_whole_store};
+ghost use Rattle.update_flow.specs.declared.fault.TheConstants.{LAST_CHANGE};
+
+use crate::due_text::load_due;
+use crate::fault::step_fault;
+use crate::ids::known_ids;
+use crate::settling::settle;
+use crate::{FlowFault, LAST_CHANGE};
+use kept_maps::KeptMaps;
+use object_fold::Change;
+use osm_base::{Limits, RowChanges};
+use outside::{Disk, Gate};
+use page_journal::StoreFault;
+use std::alloc::Global;
+use std::thread::Threads;
+use style_read::Style;
+use tile_cover::Bounds;
+use update_step::change_maps;
+
+/// Makes a change in the maps of a store, puts the tiles that it makes due to those that are, and commits both with this number of
+/// changes. Answers how the rows of the tables differ from then on.
+pub(crate) fn append<D: Disk, R: Threads + Sync, G: Gate>(
+    rt: &R,
+    alloc: Global,
+    maps: &mut KeptMaps<'_, '_, D>,
+    style: &Style,
+    bounds: &Bounds,
+    change: &Change,
+    limits: &Limits,
+    number: u64,
+    workers: u32,
+    gate: &G,
+) -> Result<RowChanges, FlowFault>
+    requires going { has_refused (buckets_of maps.old) ≡ false }
+    requires whole { is_whole_store (buckets_of maps.old) }
+    requires fresh { stop_of maps.old ≡ None }
+    requires style { style_in maps.old ≡ style.now }
+    requires counted { number ≤ LAST_CHANGE }
+    requires one_worker { 1 ≤ workers }
+    requires few_workers { workers ≤ 64 }
+    ensures turns { (held : Holding) (rest : Image) → limit_in (buckets_of maps.old) ≡ limits.now.pages → Has rest rest (buckets_of maps.old)
+        → IsImported held rest → held.style ≡ style.now → held.changes + 1 ≡ number
+        → TurnsIn limits.now (imported held) (Append bounds.now change.now) (result_err result) (buckets_of maps.old) (buckets_of maps.new) }
+    ensures changes { IfOk result (λ changes. (held : Holding) (rest : Image) → Has rest rest (buckets_of maps.old) → IsImported held rest
+        → held.style ≡ style.now → AreChanges (tables held.style held.objects) (tables held.style (folded_all held.objects change.now)) changes) }
+    ensures ends { EndsIn (result_err result) (buckets_of maps.old) (buckets_of maps.new) }
+{
+    let mut due = match load_due(alloc, &mut maps.indexed.buckets) {
+        Ok(due) => due,
+        Err(fault) => return Err(fault),
+    };
+    if maps.indexed.buckets.root().buckets == 0 {
+        return Err(FlowFault::Store(StoreFault::BadStore { page: 1 }));
+    }
+    let told = match change_maps(
+        rt, alloc, maps, style, bounds, change, limits, workers, gate, &mut due,
+    ) {
+        Ok(told) => told,
+        Err(why) => return Err(step_fault(why)),
+    };
+    let _runs = due.as_slice();
+    known_ids(change.entries());
+    match settle(alloc, &mut maps.indexed.buckets, &due, number) {
+        Ok(()) => Ok(told),
+        Err(fault) => Err(fault),
+    }
+}

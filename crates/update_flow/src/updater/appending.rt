@@ -1,0 +1,87 @@
+//! A change of an open store.
+ghost use Rattle.std.specs.Prelude.{◌≡◌, ◌≤◌, ◌+◌, true, false, IfErr, IfOk, IsErr, IsErrOf, OnOk};
+ghost use Rattle.std.specs.Result.{result_err};
+ghost use Rattle.osm_base.specs.map.Objects.{folded_all};
+ghost use Rattle.page_journal.specs.declared.fault.StoreFault.TheVariants.{Broken};
+ghost use Rattle.update_flow.specs.AtRest.{HasFlowCause};
+ghost use Rattle.update_flow.specs.Changes.{IsDeltaOf};
+ghost use Rattle.update_flow.specs.Handle.{IsOpen, Takes, TellsAs, changes_of, is_imported, is_whole, style_of, view_of};
+ghost use Rattle.update_flow.specs.Refusals.{IsCallFault};
+ghost use Rattle.update_flow.specs.State.{Append, Holding, State, imported};
+ghost use Rattle.update_flow.specs.declared.fault.FlowFault.TheVariants.{NotImported, Store};
+
+use super::Updater;
+use crate::over_disk::append_on;
+use crate::{FlowFault, LAST_CHANGE};
+use object_fold::Change;
+use osm_base::Delta;
+use outside::{Disk, Gate};
+use page_journal::StoreFault;
+use std::thread::Threads;
+use tile_cover::Bounds;
+
+impl<D: Disk> Updater<'_, D> {
+    ghost use Rattle.update_flow.specs.Updater.{StaysOver, handle_of};
+
+    /// A change, in one commit: the objects, the rows that depend on them and the tiles that are due. Answers how the tables differ
+    /// from then on. The rows are built by so many workers, which pass the gate at `Drawn` and `Built`.
+    pub fn append_one<R: Threads + Sync, G: Gate>(
+        &mut self,
+        rt: &R,
+        bounds: &Bounds,
+        change: Change,
+        workers: u32,
+        gate: &G,
+    ) -> Result<Delta, FlowFault>
+        requires one_worker { 1 ≤ workers }
+        requires few_workers { workers ≤ 64 }
+        ensures takes { (state : State) → IsOpen state (handle_of self.old)
+            → Takes state (Append bounds.now change) (result_err result) (handle_of self.old) (handle_of self.new) }
+        ensures delta { IfOk result (λ delta. (held : Holding) → IsOpen (imported held) (handle_of self.old)
+            → IsDeltaOf held.style held.objects (folded_all held.objects change) (held.changes + 1) delta) }
+
+        // Whatever the disk holds.
+        ensures not_imported { is_imported (handle_of self.old) ≡ false → IsErrOf result NotImported }
+        ensures version { IfOk result (λ delta. delta.version ≡ changes_of (handle_of self.old) + 1) }
+        ensures changes { OnOk result (changes_of (handle_of self.new) ≡ changes_of (handle_of self.old) + 1) }
+        ensures style { OnOk result ((is_imported (handle_of self.new) ≡ true) × (style_of (handle_of self.new) ≡ style_of (handle_of self.old))) }
+        ensures tells { IsErr result → TellsAs (handle_of self.old) (handle_of self.new) }
+        ensures stays { StaysOver self.old self.new }
+        ensures alone { IfErr result IsCallFault }
+        ensures whole { OnOk result (is_whole (handle_of self.new) ≡ is_whole (handle_of self.old)) }
+        ensures broken { IsErrOf result (Store Broken) → is_whole (handle_of self.old) ≡ false }
+        ensures cause { HasFlowCause (result_err result) (view_of (handle_of self.old)) (view_of (handle_of self.new)) }
+    {
+        let Some(style) = &self.style else {
+            return Err(FlowFault::NotImported);
+        };
+        if self.changes == LAST_CHANGE {
+            return Err(FlowFault::LastChange);
+        }
+        let Some(store) = self.store.take() else {
+            return Err(FlowFault::Store(StoreFault::Broken));
+        };
+        let version = self.changes + 1;
+        let appended = append_on(
+            rt,
+            self.alloc,
+            self.disk,
+            &self.limits,
+            store,
+            &mut self.store,
+            style,
+            bounds,
+            &change,
+            version,
+            workers,
+            gate,
+        );
+        match appended {
+            Ok(changes) => {
+                self.changes = version;
+                Ok(Delta { version, changes })
+            }
+            Err(fault) => Err(fault),
+        }
+    }
+}
