@@ -1,0 +1,38 @@
+//! What all histories share: a style with each kind of table, and boundaries.
+
+use crate::end::End;
+use osm_base::OutOfMemory;
+use std::alloc::Global;
+use style_read::{Style, read_style};
+use tile_cover::{Bounds, read_bounds};
+
+/// The bytes of the style.
+pub const STYLE: &str = "
+select = [{ name = 'bus', where = ['type=route', 'route=bus'], take = 'ref' }]
+table = [
+  { name = 'cafes', source = 'node', geometry = 'point', where = ['amenity=cafe'], column = [{ name = 'name', from = 'tag:name' }] },
+  { name = 'roads', source = 'way', geometry = 'line', where = ['highway'], column = [{ name = 'lanes', from = 'tag:lanes', type = 'int' }, { name = 'buses', from = 'selected:bus' }] },
+  { name = 'areas', source = 'area', geometry = 'polygon', any = ['landuse', 'type=multipolygon'], expire = 'full-area', column = [{ name = 'tags', from = 'tags' }] },
+  { name = 'trails', source = 'relation', geometry = 'lines', where = ['type=route'] },
+]
+";
+
+/// The boundaries of zoom 2.
+const BOUNDS: &str = "850511288\n665132604\n0\n-665132604\n-850511288\n";
+
+/// How a history is run.
+#[derive(Clone, Copy)]
+pub struct Setting {
+    pub workers: u32,
+    pub buckets: u64,
+}
+
+/// The style.
+pub fn style(alloc: Global) -> Result<Style, End> {
+    Ok(read_style(alloc, STYLE.as_bytes()).map_err(|_| OutOfMemory)?)
+}
+
+/// The boundaries.
+pub fn bounds(alloc: Global) -> Result<Bounds, End> {
+    Ok(read_bounds(alloc, BOUNDS.as_bytes()).map_err(|_| OutOfMemory)?)
+}
