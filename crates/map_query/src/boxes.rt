@@ -7,7 +7,7 @@ use lanes_geo::box_of;
 use osm_base::{GeoBox, Geometry, LineList, Place, Places};
 
 /// The least and the greatest longitude and latitude of a geometry. `None`: it has no place.
-pub(crate) fn box_of_geometry(geometry: &Geometry) -> Option<GeoBox>
+pub fn box_of_geometry(geometry: &Geometry) -> Option<GeoBox>
     ensures sides { result ≡ box_around (places_of geometry.now) }
 {
     match geometry {

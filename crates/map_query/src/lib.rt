@@ -15,6 +15,7 @@ mod reading;
 mod words;
 
 pub use answering::{Found, answer};
+pub use boxes::box_of_geometry;
 pub use fault::{QueryFault, QueryWhy};
 pub use query::{Queries, Query};
 pub use reading::read_queries;

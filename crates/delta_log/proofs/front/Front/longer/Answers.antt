@@ -15,5 +15,5 @@ returns-clause-this c = subst (λ (front : FrontOf). Begins c.args.self.now fron
 pub returns-clause-that : goal.returns-clause-that
 returns-clause-that c =
     let back : Begins c.args.other.now c.args.self.now =
-      begins_back c.args.self.now c.args.other.now _ _ c.if-begins.ensures.len c.begins-shorter.ensures.len c.begins-shorter.ensures.begins refl in
+    begins_back c.args.self.now c.args.other.now _ _ c.if-begins.ensures.len c.begins-shorter.ensures.len c.begins-shorter.ensures.begins refl in
     subst (λ (front : FrontOf). Begins c.args.other.now front) (sym c.again-2.ensures.same) back

@@ -1,0 +1,10 @@
+//! The boxes of rows, kept beside the tables that the rows stand in.
+//!
+//! It stands on the tables of `osm_base`, the grids of `grid_index` and the queries of `map_query`, for the versions that
+//! map readers are shown. `boxes_of` gives a grid with just the boxes of the rows of tables, and `box_in` the box that
+//! goes with a change of a row.
+#![tactic(auto)]
+
+mod boxed;
+
+pub use boxed::{box_in, boxes_of};

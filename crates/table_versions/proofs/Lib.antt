@@ -1,0 +1,5 @@
+pub mod Answered
+pub mod NewReaders
+pub mod Rounds
+pub mod Stepping
+pub mod Turns

@@ -1,0 +1,5 @@
+pub mod Answers
+pub mod Rule
+pub mod Steps
+pub mod Versions
+pub mod Views
