@@ -59,6 +59,7 @@ adds_prefix (x ∷ xs) (y ∷ ys) p =
 pub shapes_begin : (book : Book) (first first' : TableMap) (base base' : ℕ) (xs ys : List Delta) → IsPrefix (entries first base xs) (entries first' base' ys)
     → Begins (record { book = book; first = first; base = base; log = xs }) (record { book = book; first = first'; base = base'; log = ys })
 shapes_begin book first first' base base' xs ys p = record {
+  book = refl;
   first = sym (ap first_of p.1);
   base = sym (ap base_of p.1);
   log = adds_prefix xs ys (p.0, cc (p.1));
@@ -75,11 +76,11 @@ begins_other one two xs ys zs m n same s t e f p q = go (leb m n) refl
         let shorter : IsPrefix xs ys = prefix_shorter xs ys zs p q (omega (arith, e, f, le', shaped-length xs s, shaped-length ys t)) in
         let begins = shapes_begin one (first_of xs) (first_of ys) (base_of xs) (base_of ys) (deltas_in xs) (deltas_in ys)
         (subst (λ a. IsPrefix a (entries (first_of ys) (base_of ys) (deltas_in ys))) s (subst (λ a. IsPrefix xs a) t shorter)) in
-        record { first = begins.first; base = begins.base; log = begins.log }
+        record { book = same; first = begins.first; base = begins.base; log = begins.log }
     go false le = tt
 
 pub begins_itself : (front : FrontOf) → Begins front front
-begins_itself front = record { first = refl; base = refl; log = prefix_self front.log }
+begins_itself front = record { book = refl; first = refl; base = refl; log = prefix_self front.log }
 
 -- where a front does not begin another by their lengths, the other begins it
 pub begins_back : (one other : FrontOf) (forth back : Bool) → (IsTrue forth ↔ (length one.log ≤ length other.log)) → (IsTrue back ↔ (length other.log ≤ length one.log))

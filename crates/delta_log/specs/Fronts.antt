@@ -26,6 +26,7 @@ front_code =
 
 -- a front is of the same history as another, and its deltas begin those of the other
 pub record Begins (one other : FrontOf) : Type 0 where
+  pub book : other.book ≡ one.book
   pub first : other.first ≡ one.first
   pub base : other.base ≡ one.base
   pub log : IsPrefix one.log other.log

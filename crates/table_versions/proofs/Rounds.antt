@@ -14,7 +14,7 @@ prefix_trans : {A : Type 0} (xs ys zs : List A) → IsPrefix xs ys → IsPrefix 
 prefix_trans xs ys zs p q = (p.0 ++ q.0, sym (append_assoc xs p.0 q.0) ∙ (ap (λ w. w ++ q.0) p.1 ∙ q.1))
 
 pub begins_trans : (one two three : FrontOf) → Begins one two → Begins two three → Begins one three
-begins_trans one two three p q = record { first = q.first ∙ p.first; base = q.base ∙ p.base; log = prefix_trans one.log two.log three.log p.log q.log }
+begins_trans one two three p q = record { book = q.book ∙ p.book; first = q.first ∙ p.first; base = q.base ∙ p.base; log = prefix_trans one.log two.log three.log p.log q.log }
 
 -- what a reader was is what it is, but for what it saw and how often it was not let in
 abbrev pub OnlyLooked : (old now : ReaderOf) → Type 0

@@ -1,4 +1,4 @@
-use Rattle.std.proofs.Common.{◌≡◌, refl, sym, subst}
+use Rattle.std.proofs.Common.{refl, sym, subst}
 use Rattle.delta_log.specs.Fronts.{Begins, FrontOf}
 use Rattle.delta_log.proofs.Shapes.{begins_back, begins_itself}
 use Rattle.delta_log.proofs.front.Front.longer.Goals as goal
