@@ -9,6 +9,7 @@ use Rattle.updater.specs.Course.{Course}
 use Rattle.updater.specs.Courses.{course_of}
 use Rattle.updater.specs.Leaves.{HasCause}
 use Rattle.updater.specs.Progress.{Standing, unused, unknown, Progress, begun}
+use Rattle.updater.specs.Reading.{HasItsFiles}
 use Rattle.updater.specs.Runs.{AsksOnly, Begins, GoesBy, IsSpared, Runs}
 use Rattle.updater.specs.World.{World, remembered}
 use Rattle.updater.proofs.BlameLaws.{Blame}
@@ -31,15 +32,15 @@ only_old new_store is = absurd (cc)
 only_old old_store is = refl
 
 -- a run by the course of its command
-pub runs_by : (command : CommandOf) (asks : List ℕ → Type 0) (fault : Option Fault) (old new : World) → AsksOnly asks (Names command)
+pub runs_by : (command : CommandOf) (asks : List ℕ → Type 0) (fault : Option Fault) (old new : World) → HasItsFiles command → AsksOnly asks (Names command)
     → ((start : Progress) → Begins (use_of command) old start → GoesBy (course_of command) start fault old new)
     → (use_of command ≡ no_store → IsSpared old.disk new.disk)
     → (use_of command ≢ old_store → IfTold old.disk.content (λ bytes. length bytes ≢ 0 → Stays old.disk new.disk))
     → (fault ≡ Some faults.NotFormatted → Stays old.disk new.disk)
     → Runs command asks old new fault
-runs_by command asks fault old new asked course spared looked unformatted =
+runs_by command asks fault old new its asked course spared looked unformatted =
     let run = course (begun (start_of (use_of command)) 0) (begins_so (use_of command) old) in
-    let told = told_of command (remembered old) (start_of (use_of command)) 0 run.0 (only_old (use_of command)) run.2 in
+    let told = told_of command (remembered old) (start_of (use_of command)) 0 run.0 its (only_old (use_of command)) run.2 in
     record {
       course = course;
       cause = λ own own_is.

@@ -18,6 +18,7 @@ pub mod BlameLaws
 pub mod SafeLaws
 pub mod HistoryLaws
 pub mod FileLaws
+pub mod SoFarLaws
 pub mod HeadLaws
 pub mod StoreDeeds
 pub mod OpenDeeds
@@ -25,3 +26,8 @@ pub mod OpenRuns
 pub mod VersionRuns
 pub mod AppendRuns
 pub mod StoreRuns
+pub mod MakeRuns
+pub mod FillRuns
+pub mod TableTexts
+pub mod OptionLaws
+pub mod TableLaws

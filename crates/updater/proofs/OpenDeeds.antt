@@ -36,11 +36,11 @@ use Rattle.updater.proofs.Deeds.{took_nothing}
 use Rattle.updater.proofs.HistoryLaws.{one_of_all}
 
 -- a state that tells so of itself
-abbrev shown_state : Option StyleOf → ℕ → State
+abbrev pub shown_state : Option StyleOf → ℕ → State
 shown_state None changes = formatted
 shown_state (Some style) changes = imported (record { style = style; style_bytes = []; buckets = 0; objects = finite.empty; changes = changes; due = no_tiles })
 
-shows_it : (updater : Handle) (style : Option StyleOf) → style_of updater ≡ style → (is_imported updater ≡ false → changes_of updater ≡ 0) → Shows (shown_state style (changes_of updater)) updater
+pub shows_it : (updater : Handle) (style : Option StyleOf) → style_of updater ≡ style → (is_imported updater ≡ false → changes_of updater ≡ 0) → Shows (shown_state style (changes_of updater)) updater
 shows_it updater None is none = record { changes_are = none (let own : is_imported updater ≡ false = ap (λ (style : Option StyleOf). is_some style) is in own); imported_is = ap (λ (style : Option StyleOf). is_some style) is; style_is = is }
 shows_it updater (Some style) is none = record { changes_are = refl; imported_is = ap (λ (style : Option StyleOf). is_some style) is; style_is = is }
 

@@ -5,12 +5,15 @@ use Rattle.outside.specs.Bytes.{IfTold, IsTold}
 use Rattle.outside.specs.Disk.{DiskView}
 use Rattle.outside.specs.Inputs.{FilesView}
 use Rattle.outside.specs.Sink.{SinkView}
+use Rattle.outside.specs.declared.disk.Disk.{Ghosts}
 use Rattle.page_journal.specs.Home.{IsFormatted}
 use Rattle.page_journal.specs.declared.fault.StoreFault.TheVariants as stores
 use Rattle.update_flow.specs.AtRest.{HasFlowCause, IsAt, IsAtEither, Opens}
 use Rattle.update_flow.specs.Refusals.{IsNoDiskFault, IsOpenFault}
 use Rattle.update_flow.specs.State.{State}
 use Rattle.update_flow.specs.Handle.{Handle, IsOpen, changes_of, is_imported, is_whole, limits_of, view_of}
+use Rattle.update_flow.specs.Updater.{disk_of, handle_of}
+use Rattle.update_flow.specs.declared.updater.Updater.{Updater}
 use Rattle.update_flow.specs.declared.fault.FlowFault.{FlowFault}
 use Rattle.update_flow.specs.declared.fault.FlowFault.TheVariants as flow
 use Rattle.updater.specs.declared.fault.Fault.{Fault}
@@ -42,7 +45,7 @@ module _ (files : FilesView) (view : DiskView) (output : SinkView) (only_now : (
           (refused_kept files view output only_now kept fits fault now rest (opened _ _ (at_either view kept fits)) (told fits.told) cause)
 
   module _ (updater : Handle) (next : ℕ) (opened : (one other : State) → IsAtEither one other view → Opens one other None view (view_of updater))
-      (open_so : (state : State) → IsAt state (view_of updater) → IsOpen state updater) (limits : limits_of updater ≡ standard) (sound : is_whole updater ≡ true)
+      (open_so : IsTold view.content → (state : State) → IsAt state (view_of updater) → IsOpen state updater) (limits : limits_of updater ≡ standard) (sound : is_whole updater ≡ true)
       (none : is_imported updater ≡ false → changes_of updater ≡ 0) (cause : HasFlowCause None view (view_of updater)) where
     is_begun : IsBegun start next Old files updater output
     is_begun = by begins
@@ -50,7 +53,7 @@ module _ (files : FilesView) (view : DiskView) (output : SinkView) (only_now : (
         by : Begins old_store (world files view output) start → IsBegun start next Old files updater output
         by (inl is) = subst (λ (own : Progress). IsBegun own next Old files updater output) (sym is) (begun_vague files view output only_now updater next limits sound none cause.later)
         by (inr (kept, fits, is)) = subst (λ (own : Progress). IsBegun own next Old files updater output) (sym is)
-            (let own = opened _ _ (at_either view kept fits) in begun_kept files view output only_now kept fits updater next limits cause.later own.moments (own.found refl) open_so)
+            (let own = opened _ _ (at_either view kept fits) in begun_kept files view output only_now kept fits updater next limits cause.later own.moments (own.found refl) (open_so fits.told))
 
     -- the run goes on over the open store
     pub goes_opened : (rest : State → Course) (fault : Option Fault) (new : World)
@@ -59,3 +62,19 @@ module _ (files : FilesView) (view : DiskView) (output : SinkView) (only_now : (
     goes_opened rest fault new goes =
         let own = is_begun in
         goes_back (opens rest) (rest own.state) start start own.further fault Old new (goes Old start own.further own.state own.head) (own.leads rest)
+
+-- the same over the disk that was opened, and that is handed back
+pub goes_over : {D : Type 0} {g : Ghosts D} (files : FilesView) (view : DiskView) (output : SinkView)
+    (only_now : (left : List ℕ) → view.crashes.outcomes_since view.crashes.moment left → view.crashes.outcomes left)
+    (start : Progress) (begins : Begins old_store (world files view output) start) (disk : D) (updater : Updater D g) (next : ℕ) → disk_of updater ≡ disk
+    → ((one other : State) → IsAtEither one other view → Opens one other None view (g.view disk)) → (IsTold view.content → (state : State) → IsAt state (g.view disk) → IsOpen state (handle_of updater))
+    → limits_of (handle_of updater) ≡ standard → is_whole (handle_of updater) ≡ true → (is_imported (handle_of updater) ≡ false → changes_of (handle_of updater) ≡ 0) → HasFlowCause None view (g.view disk)
+    → (rest : State → Course) (fault : Option Fault) (final : Updater D g) (last : D) → last ≡ disk_of final → (read : FilesView) (told : SinkView)
+    → ((old : Before) (start done : Progress) (state : State) → IsHead start done state next old files (handle_of updater) output → GoesOn (rest state) start done fault old (world read (view_of (handle_of final)) told))
+    → GoesBy (opens rest) start fault (world files view output) (world read (g.view last) told)
+goes_over {D} {g} files view output only_now start begins disk updater next same opened open_so limits sound none cause rest fault final last closed read told goes =
+    subst (λ (own : D). GoesBy (opens rest) start fault (world files view output) (world read (g.view own) told)) (sym closed)
+    (goes_opened files view output only_now start begins (handle_of updater) next
+    (λ one other at. subst (λ (own : D). Opens one other None view (g.view own)) (sym same) (opened one other at))
+    (λ told_before state at. open_so told_before state (subst (λ (own : D). IsAt state (g.view own)) same at))
+    limits sound none (subst (λ (own : D). HasFlowCause None view (g.view own)) (sym same) cause) rest fault (world read (view_of (handle_of final)) told) goes)

@@ -1,19 +1,23 @@
 -- What a store keeps through a run, by its course.
-use Rattle.std.proofs.Common.{◌≡◌, ◌≤◌, ◌⊎◌, ℕ, Option, Some, None, List, [], ◌∷◌, ◌++◌, length, Result, ⊎_elim, inl, inr, refl, sym, ◌∙◌, ap, subst, arith}
+use Rattle.std.proofs.Common.{◌≡◌, ◌≤◌, ◌+◌, ◌-◌, ◌⊎◌, ℕ, zero, suc, Bool, true, false, Option, Some, None, List, [], ◌∷◌, ◌++◌, length, Result, ⊎_elim, inl, inr, refl, sym, ◌∙◌, ap, subst, arith}
 use Rattle.std.proofs.lemmas.List.{append-nil}
 use Rattle.osm_base.specs.bounds.Limits.{standard}
 use Rattle.update_flow.specs.History.{History, state_after}
 use Rattle.update_flow.specs.Refusals.{Refuses}
-use Rattle.update_flow.specs.State.{State, Step}
+use Rattle.update_flow.specs.State.{Holding, State, formatted, imported, Step, changed}
 use Rattle.updater.specs.declared.fault.Fault.{Fault}
 use Rattle.updater.specs.declared.fault.Fault.TheVariants as faults
 use Rattle.updater.specs.Comes.{Comes, Breaks, BreaksIn, HoldsBytes, IsRefusal, IsRefusedFor, IsStepFault, unread, short, refused}
+use Rattle.updater.specs.Command.{CommandOf, points_of, lines_of, init_of, import_of, append_of, export_of, tiles_of, replay_of, Use, old_store, use_of}
 use Rattle.updater.specs.Course.{Course, ends, refuses, reads, wants_empty, formats, opens, looks, commits, tells, writes}
+use Rattle.style_read.specs.Style.{table_of}
+use Rattle.tile_cover.specs.Table.{BoundsOf}
+use Rattle.updater.specs.Courses.{append_to, appends, course_of, export_from, exports, finished, import_into, onward, tiles_of_store}
 use Rattle.updater.specs.Keeps.{Kept, IsFit, IsOneOf, first, perhaps, whole, with_steps}
 use Rattle.updater.specs.Leaves.{IsPast, StandsOn}
 use Rattle.updater.specs.Progress.{Standing, unused, unknown, keeps, half_made, Progress, Ending, at, begun, past, plus, with_store, made, opened, committed, in_doubt}
-use Rattle.updater.specs.Runs.{GoesBy}
-use Rattle.updater.specs.Safety.{Preserves}
+use Rattle.updater.specs.Runs.{Begins, GoesBy, Runs}
+use Rattle.updater.specs.Safety.{IsSafe, Preserves}
 use Rattle.updater.specs.World.{Before, World, remembered}
 use Rattle.updater.proofs.HistoryLaws.{append_more, length_more}
 use Rattle.updater.proofs.CourseLaws.{of_store, of_unknown, of_unused, three}
@@ -201,3 +205,46 @@ goes_safe before course fault old new first fit (ending, same, comes, leaves) =
       moments = λ left out. ⊎_elim (λ (own : IsOneOf before left). inl own)
           (λ (own : IsPast ending.done.cut ending.done.store left). inr (subst (λ (store : Standing). IsPast ending.done.cut store left) there.is own)) (leaves.moments.each left out);
     }
+
+appends_none : (bounds : BoundsOf) (held : Holding) (file count : ℕ) → OpensNone (appends bounds held file count (onward finished))
+unfolding appends
+appends_none bounds held file zero = tt
+appends_none bounds held file (suc count) = λ found. appends_none bounds (changed bounds found held) (file + 1) count
+
+-- the courses over a store that is there open it first
+opens_first : (command : CommandOf) → use_of command ≡ old_store → OpensFirst (course_of command)
+opens_first (points_of key files) is = absurd (cc)
+opens_first (lines_of key files) is = absurd (cc)
+opens_first (init_of store) is = absurd (cc)
+opens_first (import_of store files buckets workers) is = into
+  where
+    into : (state : State) → OpensNone (import_into files buckets state)
+    into formatted = λ style entries. tt
+    into (imported held) = tt
+opens_first (append_of store files workers) is = into
+  where
+    into : (state : State) → OpensNone (append_to files state)
+    into formatted = tt
+    into (imported held) = λ bounds. appends_none bounds held (files.first + 1) (files.count - 1)
+opens_first (export_of store table) is = into
+  where
+    from : (held : Holding) (found : Option ℕ) → OpensNone (exports held found)
+    from held None = tt
+    from held (Some number) = tt
+
+    into : (state : State) → OpensNone (export_from table state)
+    into formatted = tt
+    into (imported held) = from held (table_of held.style.tables table)
+opens_first (tiles_of store least clear) is = into clear
+  where
+    into : (clear : Bool) (state : State) → OpensNone (tiles_of_store least clear state)
+    into clear formatted = tt
+    into false (imported held) = tt
+    into true (imported held) = tt
+opens_first (replay_of store files workers) is = absurd (cc)
+
+-- a run of each command
+pub runs_safe : (command : CommandOf) (asks : List ℕ → Type 0) (old new : World) (fault : Option Fault) → Runs command asks old new fault → IsSafe command old new fault
+runs_safe command asks old new fault runs is before kept =
+    goes_safe before (course_of command) fault old new (opens_first command is) kept.fit
+    (runs.course (begun (keeps before) before.least) (subst (λ (way : Use). Begins way old (begun (keeps before) before.least)) (sym is) (inr (before, kept, refl))))

@@ -218,13 +218,13 @@ module _ (start done : Progress) (state : State) (next : ℕ) (old : Before) (fi
 
   -- a step is taken
   module _ (step : Step) (takes : (own : State) → IsOpen own before → Takes own step None before now) (shows : Shows state before → Shows (after state step) now)
-      (sound : is_whole now ≡ true) (same : limits_of now ≡ limits_of before) (cause : HasFlowCause None (view_of before) (view_of now)) where
+      (sound : is_whole now ≡ is_whole before) (same : limits_of now ≡ limits_of before) (cause : HasFlowCause None (view_of before) (view_of now)) where
     taken_by : (store : Standing) → done.store ≡ store → IsHere store done.cut state before → IsStepped start done state next old files now output step
     taken_by unused is here = absurd here
     taken_by half_made is here = absurd here
     taken_by unknown is here = record {
       further = done;
-      head = vague_head start done state next old files before now output head is cause.later (after state step) (record { shows = shows here.shows; whole = sound }) same;
+      head = vague_head start done state next old files before now output head is cause.later (after state step) (record { shows = shows here.shows; whole = sound ∙ here.whole }) same;
       leads = λ rest ending comes. inr (subst (λ (store : Standing). ByStore store
           (λ kept. (ending ≡ at (in_doubt step kept done) (Some faults.DiskFault)) ⊎ IsRefusedFor (IsRefusal (state_after kept.history) step) done ending
           ⊎ (Refuses standard (state_after kept.history) step None × Comes old rest (committed step kept done) ending))
@@ -316,11 +316,11 @@ module _ (start done : Progress) (held : Holding) (next : ℕ) (old : Before) (f
     (head : IsHead start done (imported held) next old files before output) where
   -- the store is looked at
   module _ (looked : (own : State) → IsOpen own before → Looks own None before now) (shows : Shows (imported held) before → Shows (imported held) now)
-      (sound : is_whole now ≡ true) (same : limits_of now ≡ limits_of before) (cause : HasFlowCause None (view_of before) (view_of now)) where
+      (sound : is_whole now ≡ is_whole before) (same : limits_of now ≡ limits_of before) (cause : HasFlowCause None (view_of before) (view_of now)) where
     looked_by : (store : Standing) → done.store ≡ store → IsHere store done.cut (imported held) before → IsHead start done (imported held) next old files now output
     looked_by unused is here = absurd here
     looked_by half_made is here = absurd here
-    looked_by unknown is here = vague_head start done (imported held) next old files before now output head is cause.later (imported held) (record { shows = shows here.shows; whole = sound }) same
+    looked_by unknown is here = vague_head start done (imported held) next old files before now output head is cause.later (imported held) (record { shows = shows here.shows; whole = sound ∙ here.whole }) same
     looked_by (keeps kept) is here =
         let own = looked (imported held) here.rests in
         rested_head start done (imported held) next old files before now output head kept is here cause.later (own.stays tt) own.moments same

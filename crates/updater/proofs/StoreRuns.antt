@@ -115,7 +115,7 @@ module _ (start done : Progress) (held : Holding) (next : ℕ) (old : Before) (f
       → HasFlowCause (Some fault) (view_of before) (view_of now) → (rest : Course) → GoesOn (looks rest) start done (Some (flow_fault fault)) old (world files (view_of now) output)
   look_refused fault looked call broken cause rest = unlooked start done held next old files before now output head fault looked call broken cause rest
 
-  pub look_done : ((own : State) → IsOpen own before → Looks own None before now) → TellsAs before now → is_whole now ≡ true → limits_of now ≡ limits_of before → HasFlowCause None (view_of before) (view_of now)
+  pub look_done : ((own : State) → IsOpen own before → Looks own None before now) → TellsAs before now → is_whole now ≡ is_whole before → limits_of now ≡ limits_of before → HasFlowCause None (view_of before) (view_of now)
       → IsHead start done (imported held) next old files now output
   look_done looked tells sound same cause = looked_at start done held next old files before now output head looked
       (λ shows. record { changes_are = tells.changes_same ∙ shows.changes_are; imported_is = tells.imported_same ∙ shows.imported_is; style_is = tells.style_same ∙ shows.style_is }) sound same cause
@@ -168,7 +168,7 @@ module _ (start done : Progress) (held : Holding) (next : ℕ) (old : Before) (f
 -- no tile is due any more
 module _ (start done : Progress) (held : Holding) (next : ℕ) (old : Before) (files : FilesView) (before now : Handle) (output : SinkView)
     (head : IsHead start done (imported held) next old files before output) where
-  pub clear_done : ((own : State) → IsOpen own before → Takes own Clear None before now) → TellsAs before now → is_whole now ≡ true → limits_of now ≡ limits_of before → HasFlowCause None (view_of before) (view_of now)
+  pub clear_done : ((own : State) → IsOpen own before → Takes own Clear None before now) → TellsAs before now → is_whole now ≡ is_whole before → limits_of now ≡ limits_of before → HasFlowCause None (view_of before) (view_of now)
       → GoesOn (clears true) start done None old (world files (view_of now) output)
   clear_done takes tells sound same cause =
       let own = taken start done (imported held) next old files before now output head Clear takes

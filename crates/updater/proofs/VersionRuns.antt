@@ -64,7 +64,7 @@ module _ (start done : Progress) (state : State) (file : ℕ) (old : Before) (fi
         (refused_step start (past file done) state (file + 1) old read before now output head_read (step entries) fault takes call broken cause (tells line (onward last (next entries)))) (leads_read last)
 
     module _ (takes : (own : State) → IsOpen own before → Takes own (step entries) None before now) (shows : Shows state before → Shows (after state (step entries)) now)
-        (sound : is_whole now ≡ true) (same : limits_of now ≡ limits_of before) (cause : HasFlowCause None (view_of before) (view_of now)) where
+        (sound : is_whole now ≡ is_whole before) (same : limits_of now ≡ limits_of before) (cause : HasFlowCause None (view_of before) (view_of now)) where
       stepped : IsStepped start (past file done) state (file + 1) old read now output (step entries)
       stepped = taken start (past file done) state (file + 1) old read before now output head_read (step entries) takes shows sound same cause
 

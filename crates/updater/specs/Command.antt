@@ -6,11 +6,16 @@
 use Rattle.std.specs.Prelude.{ℕ, ◌-◌, Bool, nat_lt, nat_le, ◌&&◌, if◌then◌else◌, Option, None, List, [], ◌∷◌, length, drop, take_while, codes, nat_eq}
 use Rattle.std.specs.List.{prefix_len, starts_with}
 use Rattle.std.specs.Str.{bytes_eq}
+use Rattle.updater.specs.commands.Append as append
+use Rattle.updater.specs.commands.Export as export
+use Rattle.updater.specs.commands.Import as import
 use Rattle.updater.specs.commands.Init as init
 use Rattle.updater.specs.commands.Lines as lines
 use Rattle.updater.specs.commands.Points as points
+use Rattle.updater.specs.commands.Replay as replay
+use Rattle.updater.specs.commands.Tiles as tiles
 use Rattle.updater.specs.declared.words.TheConstants.{MAX_WORDS}
-pub use Rattle.updater.specs.CommandOf.{CommandOf, points_of, lines_of, init_of, seen, store_of, Use, no_store, new_store, old_store, use_of, files_of, Names, Fit, FilesFit}
+pub use Rattle.updater.specs.CommandOf.{CommandOf, points_of, lines_of, init_of, import_of, append_of, export_of, tiles_of, replay_of, seen, store_of, makes_store, Use, no_store, new_store, old_store, use_of, files_of, Names, Fit, FitFrom, AreBuckets, AreWorkers, FilesFit}
 
 -- what remains from the first on that fails a test
 abbrev pub behind : {A : Type 0} → (A → Bool) → List A → List A
@@ -42,7 +47,12 @@ abbrev pub named : (name : List ℕ) → (options form : List (List ℕ)) → (p
 named name options form place =
     if bytes_eq name (codes "points") then points.form options form place else
     if bytes_eq name (codes "lines") then lines.form options form place else
-    if bytes_eq name (codes "init") then init.form options form else None
+    if bytes_eq name (codes "init") then init.form options form else
+    if bytes_eq name (codes "import") then import.form options form place else
+    if bytes_eq name (codes "append") then append.form options form place else
+    if bytes_eq name (codes "export") then export.form options form else
+    if bytes_eq name (codes "tiles") then tiles.form options form else
+    if bytes_eq name (codes "replay") then replay.form options form place else None
 
 -- what all words ask for, where they ask for something
 unfoldable pub command : List (List ℕ) → Option CommandOf

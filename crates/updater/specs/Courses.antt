@@ -1,7 +1,10 @@
 -- The commands: what each does, in order.
-use Rattle.std.specs.Prelude.{◌≡◌, ℕ, zero, suc, ◌+◌, ◌-◌, Bool, true, false, List, [], ◌++◌, Option, Some, None, codes}
+use Rattle.std.specs.Prelude.{◌≡◌, ℕ, zero, suc, ◌+◌, ◌-◌, Bool, true, false, List, [], ◌++◌, Option, Some, None, codes, encode_utf8_all, flat_map, length, slice_get}
 use Rattle.std.specs.Fmt.{decimal}
+use Rattle.std.specs.List.{range_with_len}
+use Rattle.std.specs.Option.{option_map_or}
 use Rattle.osm_base.specs.declared.values.object.Entry.{Entry}
+use Rattle.osm_base.specs.map.Spots.{TableMap}
 use Rattle.due_tiles.specs.TileText.{tile_text}
 use Rattle.row_map.specs.Row.{tables}
 use Rattle.row_text.specs.Table.{table_text}
@@ -13,8 +16,8 @@ use Rattle.update_flow.specs.Due.{Tiles}
 use Rattle.update_flow.specs.State.{Holding, State, formatted, imported, Import, Append, Clear, fresh, changed}
 use Rattle.updater.specs.declared.fault.Fault.TheVariants.{AlreadyImported, NotImported, UnknownTable}
 use Rattle.updater.specs.declared.files.Files.{Files}
-use Rattle.updater.specs.Command.{CommandOf, points_of, lines_of, init_of}
-use Rattle.updater.specs.Course.{Course, ends, refuses, reads, wants_empty, formats, looks, commits, tells, writes, writes_text}
+use Rattle.updater.specs.Command.{CommandOf, points_of, lines_of, init_of, import_of, append_of, export_of, tiles_of, replay_of}
+use Rattle.updater.specs.Course.{Course, ends, refuses, reads, wants_empty, formats, opens, looks, commits, tells, writes, writes_text}
 use Rattle.updater.specs.Files.{IsBounds, IsChange, IsStyle}
 use Rattle.updater.specs.commands.Lines.{lines_text_of}
 use Rattle.updater.specs.commands.Points.{points_text_of}
@@ -63,14 +66,29 @@ appends bounds held file (suc count) rest = appends_one bounds held file (λ nex
 abbrev pub IsTileText : Tiles → (least : ℕ) → List ℕ → Type 0
 IsTileText due least text = (runs : List Run) × ((zoom x y : ℕ) → has runs zoom x y ≡ due zoom x y) × (text ≡ tile_text runs least)
 
--- what comes when a version of the store was told: nothing, or change files
+-- the text of all tables, each behind a line with its name
+abbrev pub named_text : StyleOf → TableMap → (table : ℕ) → List ℕ
+named_text style all table =
+    option_map_or (λ definition. codes "table " ++ encode_utf8_all definition.name ++ codes "\n" ++ table_text style all table) (slice_get style.tables table) []
+
+abbrev pub tables_text : StyleOf → TableMap → List ℕ
+tables_text style all = flat_map (named_text style all) (range_with_len 0 (length style.tables))
+
+-- and that of the due tiles behind it
+abbrev pub IsWholeText : (least : ℕ) → Holding → List ℕ → Type 0
+IsWholeText least held text =
+    (tiles : List ℕ) × IsTileText held.due least tiles × (text ≡ tables_text held.style (tables held.style held.objects) ++ codes "tiles\n" ++ tiles)
+
+-- what comes when a version of the store was told: nothing, change files, or the whole text
 pub data Onward : Type 0 where
   finished : Onward
   appending : (bounds : BoundsOf) → (file count : ℕ) → Onward → Onward
+  telling : (least : ℕ) → Onward
 
 abbrev pub onward : Onward → Holding → Course
 onward finished held = ends
 onward (appending bounds file count last) held = appends bounds held file count (onward last)
+onward (telling least) held = looks (writes (IsWholeText least held) ends)
 
 -- the text of a table, where there is one of the name
 abbrev pub exports : Holding → Option ℕ → Course
@@ -82,7 +100,7 @@ abbrev pub clears : Bool → Course
 clears false = ends
 clears true = commits Clear ends
 
--- the courses of commands over a store that is there, once it is open: an import, changes, a table, the tiles that are due
+-- the courses of the commands over a store that is there, once it is open
 abbrev pub import_into : Files → (buckets : ℕ) → State → Course
 import_into files buckets state = if_formatted
     (reads files.first (IsStyle files.first) (λ style.
@@ -99,7 +117,26 @@ export_from table state = if_imported (λ held. exports held (table_of held.styl
 abbrev pub tiles_of_store : (least : ℕ) → (clear : Bool) → State → Course
 tiles_of_store least clear state = if_imported (λ held. looks (writes (IsTileText held.due least) (clears clear))) state
 
+-- a file is imported, so many behind it are appended, and all that the store holds then is told
+abbrev pub fills : (style : StyleOf × List ℕ) → BoundsOf → (file changes : ℕ) → Course
+fills style bounds file changes = imports style 1024 file (onward (appending bounds (file + 1) changes (telling bounds.zoom)))
+
+-- an empty store is made and filled
+abbrev pub replay_course : Files → Course
+replay_course files =
+    wants_empty
+    (reads files.first (IsStyle files.first) (λ style.
+    reads (files.first + 1) (IsBounds (files.first + 1)) (λ bounds.
+    formats
+    (looks
+    (fills style bounds (files.first + 2) (files.count - 3))))))
+
 abbrev pub course_of : CommandOf → Course
 course_of (points_of key files) = gathers files.first files.count [] (λ entries. writes_text (points_text_of key entries) ends)
 course_of (lines_of key files) = gathers files.first files.count [] (λ entries. writes_text (lines_text_of key entries) ends)
 course_of (init_of store) = init_course
+course_of (import_of store files buckets workers) = opens (import_into files buckets)
+course_of (append_of store files workers) = opens (append_to files)
+course_of (export_of store table) = opens (export_from table)
+course_of (tiles_of store least clear) = opens (tiles_of_store least clear)
+course_of (replay_of store files workers) = replay_course files

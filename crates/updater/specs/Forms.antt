@@ -1,5 +1,5 @@
 -- Forms of words that commands share.
-use Rattle.std.specs.Prelude.{ℕ, ◌+◌, nat_le, ◌&&◌, if◌then◌else◌, Option, Some, None, List, [], ◌∷◌, length}
+use Rattle.std.specs.Prelude.{ℕ, ◌+◌, nat_le, nat_lt, ◌&&◌, if◌then◌else◌, Option, Some, None, List, [], ◌∷◌, length}
 use Rattle.updater.specs.CommandOf.{CommandOf}
 use Rattle.updater.specs.declared.files.Files.{Files}
 use Rattle.updater.specs.declared.forms.TheConstants.{MAX_KEY}
@@ -14,3 +14,8 @@ keyed command _ _ _ = None
 abbrev pub stored : (List ℕ → CommandOf) → (options form : List (List ℕ)) → Option CommandOf
 stored command [] (store ∷ []) = Some (command store)
 stored command _ _ = None
+
+-- `STORE` and so many files or more; no other word is of the form
+abbrev pub stored_files : (fewest : ℕ) → (form : List (List ℕ)) → (place : ℕ) → Option (List ℕ × Files)
+stored_files fewest [] place = None
+stored_files fewest (store ∷ files) place = if nat_lt (length files) fewest then None else Some (store, record { first = place + 1; count = length files })

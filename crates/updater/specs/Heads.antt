@@ -1,5 +1,6 @@
 -- Between two deeds of a run over an open store.
 use Rattle.std.specs.Prelude.{◌≡◌, ◌≤◌, ℕ, true, length, Option, Some, None}
+use Rattle.outside.specs.Disk.{DiskView}
 use Rattle.outside.specs.Inputs.{FilesView}
 use Rattle.outside.specs.Sink.{SinkView}
 use Rattle.osm_base.specs.bounds.Limits.{standard}
@@ -39,6 +40,12 @@ IsHere half_made cut state updater = ⊥
 abbrev pub KeptNone : Standing → Type 0
 KeptNone (keeps kept) = ⊥
 KeptNone _ = Unit {0}
+
+-- Were the run to end here, the outside would be as an ending leaves it, with so much done, and the files from the next one on were
+-- not touched.
+pub record IsSoFar (start done : Progress) (next : ℕ) (old : Before) (files : FilesView) (disk : DiskView) (output : SinkView) : Type 0 where
+  pub unread : (file : ℕ) → next ≤ file → ¬ IsIn done.read file
+  pub so_far : Leaves start (at done None) old (world files disk output)
 
 -- Were the run to end here, the outside would be as an ending leaves it, with so much done; the store is open at this state; and
 -- the files from the next one on were not touched.

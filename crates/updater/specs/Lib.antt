@@ -9,6 +9,7 @@ pub mod Files
 pub mod Forms
 pub mod Heads
 pub mod Keeps
+pub mod Making
 pub mod Reading
 pub mod Safety
 pub mod InTurn
@@ -23,3 +24,5 @@ pub mod WayRows
 pub mod World
 pub mod commands
 pub mod FileReads
+pub mod Number
+pub mod Options

@@ -1,17 +1,52 @@
 -- What the files of a command are read as.
-use Rattle.std.specs.Prelude.{ℕ, List, IsOk, Err}
+use Rattle.std.specs.Prelude.{◌≡◌, ◌<◌, ◌≤◌, ◌+◌, ◌⊎◌, ℕ, List, IsOk, Ok, Err}
+use Rattle.style_read.specs.Style.{StyleOf}
+use Rattle.tile_cover.specs.Table.{BoundsOf}
 use Rattle.updater.specs.declared.fault.Fault.{Fault}
-use Rattle.updater.specs.Command.{CommandOf}
-use Rattle.updater.specs.Files.{IsChange, change_in}
+use Rattle.updater.specs.Command.{CommandOf, points_of, lines_of, init_of, import_of, append_of, export_of, tiles_of, replay_of}
+use Rattle.updater.specs.Files.{IsBounds, IsChange, IsStyle, change_in}
 
--- a file of the command with these bytes is accepted
+-- the bytes of a file are accepted as a style, or as boundaries
+abbrev pub AcceptsStyle : (file : ℕ) → List ℕ → Type 0
+AcceptsStyle file bytes = (found : StyleOf × List ℕ) × IsStyle file bytes (Ok found)
+
+abbrev pub AcceptsBounds : (file : ℕ) → List ℕ → Type 0
+AcceptsBounds file bytes = (found : BoundsOf) × IsBounds file bytes (Ok found)
+
+abbrev pub AcceptsChange : (file : ℕ) → List ℕ → Type 0
+AcceptsChange file bytes = IsOk (change_in file bytes)
+
+-- a file of the command with these bytes is accepted: as a style, as boundaries or as changes, by its place
 abbrev pub Accepts : CommandOf → (file : ℕ) → List ℕ → Type 0
-Accepts command file bytes = IsOk (change_in file bytes)
+Accepts (import_of store files buckets workers) file bytes =
+    ((file ≡ files.first) × AcceptsStyle file bytes) ⊎ ((files.first + 1 ≤ file) × AcceptsChange file bytes)
+Accepts (append_of store files workers) file bytes =
+    ((file ≡ files.first) × AcceptsBounds file bytes) ⊎ ((files.first + 1 ≤ file) × AcceptsChange file bytes)
+Accepts (replay_of store files workers) file bytes =
+    ((file ≡ files.first) × AcceptsStyle file bytes) ⊎ ((file ≡ files.first + 1) × AcceptsBounds file bytes)
+    ⊎ ((files.first + 2 ≤ file) × AcceptsChange file bytes)
+Accepts _ file bytes = AcceptsChange file bytes
 
 -- a file of the command with these bytes has this fault
 abbrev pub HasFault : CommandOf → (file : ℕ) → List ℕ → Fault → Type 0
-HasFault command file bytes fault = IsChange file bytes (Err fault)
+HasFault (import_of store files buckets workers) file bytes fault =
+    ((file ≡ files.first) × IsStyle file bytes (Err fault)) ⊎ ((files.first + 1 ≤ file) × IsChange file bytes (Err fault))
+HasFault (append_of store files workers) file bytes fault =
+    ((file ≡ files.first) × IsBounds file bytes (Err fault)) ⊎ ((files.first + 1 ≤ file) × IsChange file bytes (Err fault))
+HasFault (replay_of store files workers) file bytes fault =
+    ((file ≡ files.first) × IsStyle file bytes (Err fault)) ⊎ ((file ≡ files.first + 1) × IsBounds file bytes (Err fault))
+    ⊎ ((files.first + 2 ≤ file) × IsChange file bytes (Err fault))
+HasFault _ file bytes fault = IsChange file bytes (Err fault)
 
 -- the command writes nothing before all its files are read
 abbrev pub ReadsFirst : CommandOf → Type 0
-ReadsFirst command = Unit {0}
+ReadsFirst (append_of store files workers) = ⊥
+ReadsFirst (replay_of store files workers) = ⊥
+ReadsFirst _ = Unit {0}
+
+-- it has as many files as its form has
+abbrev pub HasItsFiles : CommandOf → Type 0
+HasItsFiles (import_of store files buckets workers) = files.count ≡ 2
+HasItsFiles (append_of store files workers) = 2 ≤ files.count
+HasItsFiles (replay_of store files workers) = 3 ≤ files.count
+HasItsFiles _ = Unit {0}

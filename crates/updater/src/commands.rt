@@ -1,4 +1,9 @@
 //! The commands, each in a room of its own.
+pub mod append;
+pub mod export;
+pub mod import;
 pub mod init;
 pub mod lines;
 pub mod points;
+pub mod replay;
+pub mod tiles;

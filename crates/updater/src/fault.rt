@@ -1,6 +1,7 @@
 //! Why a run ended early, with its status and its line of text.
 ghost use Rattle.std.specs.Prelude.{◌≡◌, IfOk, [], ◌∷◌};
 ghost use Rattle.updater.specs.Faults.{fault_of, fault_text, flow_fault, kind_text, status_of};
+ghost use Rattle.updater.specs.Making.{of_made};
 ghost use Rattle.updater.specs.Files.{bounds_fault, fault_in, style_fault, whole_fault};
 
 use crate::file_reads::MAX_WHOLE;
@@ -132,6 +133,16 @@ impl Fault {
                 value,
             },
             FlowFault::OutOfMemory => Fault::OutOfMemory,
+        }
+    }
+
+    /// The fault of a store that was just made.
+    pub fn in_made(fault: FlowFault) -> Self
+        ensures fault { result ≡ flow_fault (of_made fault) }
+    {
+        match fault {
+            FlowFault::Store(StoreFault::NotFormatted) => Fault::BadStore { page: 0 },
+            fault => Fault::in_flow(fault),
         }
     }
 

@@ -2,7 +2,7 @@
 ghost use Rattle.std.specs.Prelude.{◌≡◌, ◌≤◌, ℕ, List, map, length, IfSome};
 ghost use Rattle.std.specs.Option.{option_map};
 ghost use Rattle.std.specs.String.{string_bytes};
-ghost use Rattle.updater.specs.CommandOf.{CommandOf, Fit};
+ghost use Rattle.updater.specs.CommandOf.{CommandOf, Fit, FitFrom};
 ghost use Rattle.updater.specs.Forms as spec;
 ghost use Rattle.updater.specs.declared.files.Files.{Files as FilesOf};
 
@@ -40,4 +40,23 @@ pub fn stored<'a>(options: &[String], form: &'a [String]) -> Option<&'a str>
         [store] if options.is_empty() => Some(store.as_str()),
         _ => None,
     }
+}
+
+/// `STORE` and so many files or more; the first word of the form has this place.
+pub fn stored_files(form: &[String], place: u32, fewest: usize) -> Option<(&str, Files)>
+    requires place { place ≤ MAX_WORDS }
+    requires form { length form.now ≤ MAX_WORDS }
+    requires some { 1 ≤ fewest }
+    ensures stored { option_map (λ (store, files). (store.now, files)) result ≡ spec.stored_files fewest (map string_bytes form.now) place }
+    ensures fits { IfSome result (λ (_, files). FitFrom fewest files) }
+{
+    let (store, files) = form.split_first()?;
+    if files.len() < fewest {
+        return None;
+    }
+    let files = Files {
+        first: place + 1,
+        count: files.len() as u32,
+    };
+    Some((store.as_str(), files))
 }

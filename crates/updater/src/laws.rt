@@ -5,6 +5,7 @@ ghost use Rattle.updater.specs.Command.{CommandOf, use_of};
 ghost use Rattle.updater.specs.Courses.{course_of};
 ghost use Rattle.updater.specs.InTurn.{FaultNames, IsInTurn};
 ghost use Rattle.updater.specs.Progress.{Ending, Progress};
+ghost use Rattle.updater.specs.Reading.{HasItsFiles};
 ghost use Rattle.updater.specs.Runs.{MayBegin};
 ghost use Rattle.updater.specs.World.{Before};
 
@@ -14,8 +15,9 @@ pub fn ends_are_due()
         → ¬ IsOutside ending.fault → IsDue old (course_of command) start ending }
 {}
 
-/// A fault that names a file names the one whose turn it was.
+/// A fault that names a file names the one whose turn it was. Each command that words mean has its files.
 pub fn faults_come_in_turn()
-    ensures turn { (command : CommandOf) (old : Before) (start : Progress) (ending : Ending) (file : ℕ) → MayBegin (use_of command) start
+    ensures turn { (command : CommandOf) (old : Before) (start : Progress) (ending : Ending) (file : ℕ)
+        → HasItsFiles command → MayBegin (use_of command) start
         → Comes old (course_of command) start ending → FaultNames ending.fault file → IsInTurn command old ending file }
 {}

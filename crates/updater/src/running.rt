@@ -5,27 +5,34 @@ ghost use Rattle.std.specs.String.{string_bytes};
 ghost use Rattle.updater.specs.Command.{CommandOf, FilesFit, command, seen};
 ghost use Rattle.updater.specs.Faults.{status_of};
 ghost use Rattle.updater.specs.Runs.{IsWrongUse, Runs};
+ghost use Rattle.updater.specs.Safety.{IsSafe};
 ghost use Rattle.updater.specs.World.{world};
 
+use crate::commands::append::append;
+use crate::commands::export::export;
+use crate::commands::import::import;
 use crate::commands::init::init;
 use crate::commands::lines::lines;
 use crate::commands::points::points;
+use crate::commands::replay::replay;
+use crate::commands::tiles::tiles;
 use crate::fault::{Fault, Outcome};
 use crate::words::{Command, command_of};
-use outside::{Disk, Inputs, Sink};
+use outside::{Disk, Gate, Inputs, Sink};
 use std::alloc::Global;
 use std::sync::Wait;
 use std::thread::Threads;
 
 /// Does what the words behind the program's name say. A file is told by the place of its word. The disk
 /// is that of the store, if the words name one.
-pub fn run<R: Threads + Wait + Sync, I: Inputs, D: Disk, S: Sink>(
-    _rt: &R,
+pub fn run<R: Threads + Wait + Sync, I: Inputs, D: Disk, S: Sink, G: Gate>(
+    rt: &R,
     alloc: Global,
     words: &[String],
     inputs: &mut I,
     disk: &mut D,
     out: &mut S,
+    gate: &G,
 ) -> Outcome
     ensures status { result.status ≡ status_of result.fault }
 
@@ -38,23 +45,33 @@ pub fn run<R: Threads + Wait + Sync, I: Inputs, D: Disk, S: Sink>(
     ensures runs { (own : CommandOf) → command (map string_bytes words.now) ≡ Some own → Runs own (λ asked. I.reads inputs.old asked inputs.new)
         (world (I.view inputs.old) (D.view disk.old) (S.view out.old))
         (world (I.view inputs.new) (D.view disk.new) (S.view out.new)) result.fault }
+
+    // Whatever the answer, a store keeps the history that it had, and behind it the steps of this run.
+    ensures safe { (own : CommandOf) → command (map string_bytes words.now) ≡ Some own → IsSafe own
+        (world (I.view inputs.old) (D.view disk.old) (S.view out.old))
+        (world (I.view inputs.new) (D.view disk.new) (S.view out.new)) result.fault }
 {
     let Some(command) = command_of(words) else {
         return Outcome::of(Some(Fault::Usage));
     };
-    Outcome::of(run_command(alloc, command, inputs, disk, out).err())
+    Outcome::of(run_command(rt, alloc, command, inputs, disk, out, gate).err())
 }
 
 /// Does what a command asks for.
-fn run_command<I: Inputs, D: Disk, S: Sink>(
+fn run_command<R: Threads + Wait + Sync, I: Inputs, D: Disk, S: Sink, G: Gate>(
+    rt: &R,
     alloc: Global,
     command: Command,
     inputs: &mut I,
     disk: &mut D,
     out: &mut S,
+    gate: &G,
 ) -> Result<(), Fault>
     requires fits { FilesFit (seen command) }
     ensures runs { Runs (seen command.entry) (λ asked. I.reads inputs.old asked inputs.new)
+        (world (I.view inputs.old) (D.view disk.old) (S.view out.old))
+        (world (I.view inputs.new) (D.view disk.new) (S.view out.new)) (result_err result) }
+    ensures safe { IsSafe (seen command.entry)
         (world (I.view inputs.old) (D.view disk.old) (S.view out.old))
         (world (I.view inputs.new) (D.view disk.new) (S.view out.new)) (result_err result) }
 {
@@ -62,5 +79,27 @@ fn run_command<I: Inputs, D: Disk, S: Sink>(
         Command::Points { key, files } => points(alloc, key, files, inputs, disk, out),
         Command::Lines { key, files } => lines(alloc, key, files, inputs, disk, out),
         Command::Init { store: _ } => init(inputs, disk, out),
+        Command::Import {
+            store: _,
+            files,
+            buckets,
+            workers,
+        } => import(rt, alloc, files, buckets, workers, inputs, disk, out, gate),
+        Command::Append {
+            store: _,
+            files,
+            workers,
+        } => append(rt, alloc, files, workers, inputs, disk, out, gate),
+        Command::Export { store: _, table } => export(alloc, table, inputs, disk, out),
+        Command::Tiles {
+            store: _,
+            least,
+            clear,
+        } => tiles(alloc, least, clear, inputs, disk, out),
+        Command::Replay {
+            store: _,
+            files,
+            workers,
+        } => replay(rt, alloc, files, workers, inputs, disk, out, gate),
     }
 }

@@ -5,7 +5,7 @@ ghost use Rattle.std.specs.Option.{option_map};
 ghost use Rattle.std.specs.String.{string_bytes};
 ghost use Rattle.updater.specs.Command as spec;
 
-use crate::commands::{init, lines, points};
+use crate::commands::{append, export, import, init, lines, points, replay, tiles};
 use crate::files::Files;
 
 /// The most words that a command line may have, the command word counted.
@@ -15,11 +15,49 @@ pub const MAX_WORDS: usize = 4_096;
 #[derive(Clone, Copy, Debug, PartialEq, Eq)]
 pub enum Command<'a> {
     /// The nodes of the files that have the tag KEY and a place.
-    Points { key: &'a str, files: Files },
+    Points {
+        key: &'a str,
+        files: Files,
+    },
     /// The ways of the files that have the tag KEY and a line.
-    Lines { key: &'a str, files: Files },
+    Lines {
+        key: &'a str,
+        files: Files,
+    },
     /// An empty store on an empty disk.
-    Init { store: &'a str },
+    Init {
+        store: &'a str,
+    },
+    /// The first import into a store: STYLE and INPUT.
+    Import {
+        store: &'a str,
+        files: Files,
+        buckets: u64,
+        workers: u32,
+    },
+    /// Changes of a store, one after another: BOUNDS and the change files.
+    Append {
+        store: &'a str,
+        files: Files,
+        workers: u32,
+    },
+    /// The rows of a table of a store.
+    Export {
+        store: &'a str,
+        table: &'a str,
+    },
+    /// The tiles of a store that are due, from a least zoom on, and whether none is due afterwards.
+    Tiles {
+        store: &'a str,
+        least: u32,
+        clear: bool,
+    },
+    /// A store made, imported and changed, and all that it holds: STYLE, BOUNDS, INPUT and the change files.
+    Replay {
+        store: &'a str,
+        files: Files,
+        workers: u32,
+    },
 }
 
 /// The path of the store that the words of a command name.
@@ -27,9 +65,24 @@ pub fn store_of(words: &[String]) -> Option<&str>
     ensures store { option_map (λ store. store.now) result ≡ spec.store_of (spec.command (map string_bytes words.now)) }
 {
     match command_of(words)? {
-        Command::Init { store } => Some(store),
+        Command::Init { store }
+        | Command::Import { store, .. }
+        | Command::Append { store, .. }
+        | Command::Export { store, .. }
+        | Command::Tiles { store, .. }
+        | Command::Replay { store, .. } => Some(store),
         Command::Points { .. } | Command::Lines { .. } => None,
     }
+}
+
+/// Whether the words name a store that is to be made where there is none.
+pub fn makes_store(words: &[String]) -> bool
+    ensures makes { result ≡ spec.makes_store (spec.command (map string_bytes words.now)) }
+{
+    matches!(
+        command_of(words),
+        Some(Command::Init { .. } | Command::Replay { .. })
+    )
 }
 
 /// The command that the words behind the program's name ask for.
@@ -65,6 +118,11 @@ fn named<'a>(name: &str, options: &[String], form: &'a [String], place: u32) -> 
         "points" => points::form(options, form, place),
         "lines" => lines::form(options, form, place),
         "init" => init::form(options, form),
+        "import" => import::form(options, form, place),
+        "append" => append::form(options, form, place),
+        "export" => export::form(options, form),
+        "tiles" => tiles::form(options, form),
+        "replay" => replay::form(options, form, place),
         _ => None,
     }
 }

@@ -1,12 +1,14 @@
-use Rattle.std.proofs.Common.{List, ℕ, subst, sym}
+use Rattle.std.proofs.Common.{List, ℕ, refl, subst, sym}
 use Rattle.std.specs.Result.{result_err}
 use Rattle.updater.specs.declared.words.Command.{Command}
-use Rattle.updater.specs.Command.{Names, points_of, lines_of, init_of, no_store, new_store, seen}
-use Rattle.updater.specs.Courses.{course_of, init_course}
+use Rattle.updater.specs.Command.{FilesFit, Names, points_of, lines_of, init_of, import_of, append_of, export_of, tiles_of, replay_of, no_store, new_store, seen}
+use Rattle.updater.specs.Courses.{course_of, init_course, replay_course}
 use Rattle.updater.specs.Runs.{Runs}
+use Rattle.updater.specs.Safety.{IsSafe}
 use Rattle.updater.specs.World.{world}
 use Rattle.updater.proofs.Asked.{asked_none}
 use Rattle.updater.proofs.CommandRuns.{from_unused, runs_by, spared_same, stays_same}
+use Rattle.updater.proofs.SafeLaws.{runs_safe}
 use Rattle.updater.proofs.running.run_command.Goals as goal
 
 pub returns-in-Points : goal.returns-in-Points
@@ -14,9 +16,12 @@ returns-in-Points g c =
     let disk = g.D.Disk.view c.args.disk.now in
     let old = world (g.I.Inputs.view c.args.inputs.now) (g.D.Disk.view c.args.disk.now) (g.S.Sink.view c.args.out.now) in
     let new = world (g.I.Inputs.view c.points.new.inputs) (g.D.Disk.view c.args.disk.now) (g.S.Sink.view c.points.new.out) in
+    let fault = result_err c.points.result in
+    let fits = subst (λ (own : Command). FilesFit (seen own)) c.in-Points.is c.requires.fits in
+    let own = runs_by (points_of c.in-Points.key.now c.in-Points.files) (λ (asked : List ℕ). g.I.Inputs.reads c.args.inputs.now asked c.points.new.inputs) fault old new tt c.points.ensures.asked (from_unused no_store old new (course_of (points_of c.in-Points.key.now c.in-Points.files)) fault (λ e. absurd (cc)) c.points.ensures.course) (λ _. spared_same disk) (λ _ bytes told some. stays_same disk) (λ _. stays_same disk) in
     record {
-      runs = subst (λ (own : Command). Runs (seen own) (λ (asked : List ℕ). g.I.Inputs.reads c.args.inputs.now asked c.points.new.inputs) old new (result_err c.points.result)) (sym c.in-Points.is)
-          (runs_by (points_of c.in-Points.key.now c.in-Points.files) (λ (asked : List ℕ). g.I.Inputs.reads c.args.inputs.now asked c.points.new.inputs) (result_err c.points.result) old new c.points.ensures.asked (from_unused no_store old new (course_of (points_of c.in-Points.key.now c.in-Points.files)) (result_err c.points.result) (λ e. absurd (cc)) c.points.ensures.course) (λ _. spared_same disk) (λ _ bytes told some. stays_same disk) (λ _. stays_same disk));
+      runs = subst (λ (own : Command). Runs (seen own) (λ (asked : List ℕ). g.I.Inputs.reads c.args.inputs.now asked c.points.new.inputs) old new fault) (sym c.in-Points.is) own;
+      safe = subst (λ (own : Command). IsSafe (seen own) old new fault) (sym c.in-Points.is) (runs_safe (points_of c.in-Points.key.now c.in-Points.files) (λ (asked : List ℕ). g.I.Inputs.reads c.args.inputs.now asked c.points.new.inputs) old new fault own);
     }
 
 pub returns-in-Lines : goal.returns-in-Lines
@@ -24,17 +29,91 @@ returns-in-Lines g c =
     let disk = g.D.Disk.view c.args.disk.now in
     let old = world (g.I.Inputs.view c.args.inputs.now) (g.D.Disk.view c.args.disk.now) (g.S.Sink.view c.args.out.now) in
     let new = world (g.I.Inputs.view c.lines.new.inputs) (g.D.Disk.view c.args.disk.now) (g.S.Sink.view c.lines.new.out) in
+    let fault = result_err c.lines.result in
+    let fits = subst (λ (own : Command). FilesFit (seen own)) c.in-Lines.is c.requires.fits in
+    let own = runs_by (lines_of c.in-Lines.key.now c.in-Lines.files) (λ (asked : List ℕ). g.I.Inputs.reads c.args.inputs.now asked c.lines.new.inputs) fault old new tt c.lines.ensures.asked (from_unused no_store old new (course_of (lines_of c.in-Lines.key.now c.in-Lines.files)) fault (λ e. absurd (cc)) c.lines.ensures.course) (λ _. spared_same disk) (λ _ bytes told some. stays_same disk) (λ _. stays_same disk) in
     record {
-      runs = subst (λ (own : Command). Runs (seen own) (λ (asked : List ℕ). g.I.Inputs.reads c.args.inputs.now asked c.lines.new.inputs) old new (result_err c.lines.result)) (sym c.in-Lines.is)
-          (runs_by (lines_of c.in-Lines.key.now c.in-Lines.files) (λ (asked : List ℕ). g.I.Inputs.reads c.args.inputs.now asked c.lines.new.inputs) (result_err c.lines.result) old new c.lines.ensures.asked (from_unused no_store old new (course_of (lines_of c.in-Lines.key.now c.in-Lines.files)) (result_err c.lines.result) (λ e. absurd (cc)) c.lines.ensures.course) (λ _. spared_same disk) (λ _ bytes told some. stays_same disk) (λ _. stays_same disk));
+      runs = subst (λ (own : Command). Runs (seen own) (λ (asked : List ℕ). g.I.Inputs.reads c.args.inputs.now asked c.lines.new.inputs) old new fault) (sym c.in-Lines.is) own;
+      safe = subst (λ (own : Command). IsSafe (seen own) old new fault) (sym c.in-Lines.is) (runs_safe (lines_of c.in-Lines.key.now c.in-Lines.files) (λ (asked : List ℕ). g.I.Inputs.reads c.args.inputs.now asked c.lines.new.inputs) old new fault own);
     }
 
 pub returns-in-Init : goal.returns-in-Init
 returns-in-Init g c =
     let laws = g.met.I.Inputs g.world.𝓛 g.world.𝓜 g.world.𝓡 ((λ s x. x), (λ x. x), (λ x. x), λ x. x) in
+    let disk = g.D.Disk.view c.args.disk.now in
     let old = world (g.I.Inputs.view c.args.inputs.now) (g.D.Disk.view c.args.disk.now) (g.S.Sink.view c.args.out.now) in
     let new = world (g.I.Inputs.view c.args.inputs.now) (g.D.Disk.view c.init.new.disk) (g.S.Sink.view c.init.new.out) in
+    let fault = result_err c.init.result in
+    let fits = subst (λ (own : Command). FilesFit (seen own)) c.in-Init.is c.requires.fits in
+    let own = runs_by (init_of c.in-Init.store.now) (λ (asked : List ℕ). g.I.Inputs.reads c.args.inputs.now asked c.args.inputs.now) fault old new tt (asked_none g.I.Inputs.reads (Names (init_of c.in-Init.store.now)) c.args.inputs.now (laws.reads_none c.args.inputs.now)) (from_unused new_store old new init_course fault (λ e. absurd (cc)) c.init.ensures.course) (λ none. absurd (cc)) (λ _. c.init.ensures.looked) c.init.ensures.no_store in
     record {
-      runs = subst (λ (own : Command). Runs (seen own) (λ (asked : List ℕ). g.I.Inputs.reads c.args.inputs.now asked c.args.inputs.now) old new (result_err c.init.result)) (sym c.in-Init.is)
-          (runs_by (init_of c.in-Init.store.now) (λ (asked : List ℕ). g.I.Inputs.reads c.args.inputs.now asked c.args.inputs.now) (result_err c.init.result) old new (asked_none g.I.Inputs.reads (Names (init_of c.in-Init.store.now)) c.args.inputs.now (laws.reads_none c.args.inputs.now)) (from_unused new_store old new init_course (result_err c.init.result) (λ e. absurd (cc)) c.init.ensures.course) (λ none. absurd (cc)) (λ _. c.init.ensures.looked) c.init.ensures.no_store);
+      runs = subst (λ (own : Command). Runs (seen own) (λ (asked : List ℕ). g.I.Inputs.reads c.args.inputs.now asked c.args.inputs.now) old new fault) (sym c.in-Init.is) own;
+      safe = subst (λ (own : Command). IsSafe (seen own) old new fault) (sym c.in-Init.is) (runs_safe (init_of c.in-Init.store.now) (λ (asked : List ℕ). g.I.Inputs.reads c.args.inputs.now asked c.args.inputs.now) old new fault own);
+    }
+
+pub returns-in-Import : goal.returns-in-Import
+returns-in-Import g c =
+    let disk = g.D.Disk.view c.args.disk.now in
+    let old = world (g.I.Inputs.view c.args.inputs.now) (g.D.Disk.view c.args.disk.now) (g.S.Sink.view c.args.out.now) in
+    let new = world (g.I.Inputs.view c.import.new.inputs) (g.D.Disk.view c.import.new.disk) (g.S.Sink.view c.import.new.out) in
+    let fault = result_err c.import.result in
+    let fits = subst (λ (own : Command). FilesFit (seen own)) c.in-Import.is c.requires.fits in
+    let own = runs_by (import_of c.in-Import.store.now c.in-Import.files c.in-Import.buckets c.in-Import.workers) (λ (asked : List ℕ). g.I.Inputs.reads c.args.inputs.now asked c.import.new.inputs) fault old new fits.1 c.import.ensures.asked c.import.ensures.course (λ none. absurd (cc)) (λ not. absurd (not refl)) c.import.ensures.unformatted in
+    record {
+      runs = subst (λ (own : Command). Runs (seen own) (λ (asked : List ℕ). g.I.Inputs.reads c.args.inputs.now asked c.import.new.inputs) old new fault) (sym c.in-Import.is) own;
+      safe = subst (λ (own : Command). IsSafe (seen own) old new fault) (sym c.in-Import.is) (runs_safe (import_of c.in-Import.store.now c.in-Import.files c.in-Import.buckets c.in-Import.workers) (λ (asked : List ℕ). g.I.Inputs.reads c.args.inputs.now asked c.import.new.inputs) old new fault own);
+    }
+
+pub returns-in-Append : goal.returns-in-Append
+returns-in-Append g c =
+    let disk = g.D.Disk.view c.args.disk.now in
+    let old = world (g.I.Inputs.view c.args.inputs.now) (g.D.Disk.view c.args.disk.now) (g.S.Sink.view c.args.out.now) in
+    let new = world (g.I.Inputs.view c.append.new.inputs) (g.D.Disk.view c.append.new.disk) (g.S.Sink.view c.append.new.out) in
+    let fault = result_err c.append.result in
+    let fits = subst (λ (own : Command). FilesFit (seen own)) c.in-Append.is c.requires.fits in
+    let own = runs_by (append_of c.in-Append.store.now c.in-Append.files c.in-Append.workers) (λ (asked : List ℕ). g.I.Inputs.reads c.args.inputs.now asked c.append.new.inputs) fault old new fits.0.least c.append.ensures.asked c.append.ensures.course (λ none. absurd (cc)) (λ not. absurd (not refl)) c.append.ensures.unformatted in
+    record {
+      runs = subst (λ (own : Command). Runs (seen own) (λ (asked : List ℕ). g.I.Inputs.reads c.args.inputs.now asked c.append.new.inputs) old new fault) (sym c.in-Append.is) own;
+      safe = subst (λ (own : Command). IsSafe (seen own) old new fault) (sym c.in-Append.is) (runs_safe (append_of c.in-Append.store.now c.in-Append.files c.in-Append.workers) (λ (asked : List ℕ). g.I.Inputs.reads c.args.inputs.now asked c.append.new.inputs) old new fault own);
+    }
+
+pub returns-in-Export : goal.returns-in-Export
+returns-in-Export g c =
+    let laws = g.met.I.Inputs g.world.𝓛 g.world.𝓜 g.world.𝓡 ((λ s x. x), (λ x. x), (λ x. x), λ x. x) in
+    let disk = g.D.Disk.view c.args.disk.now in
+    let old = world (g.I.Inputs.view c.args.inputs.now) (g.D.Disk.view c.args.disk.now) (g.S.Sink.view c.args.out.now) in
+    let new = world (g.I.Inputs.view c.args.inputs.now) (g.D.Disk.view c.export.new.disk) (g.S.Sink.view c.export.new.out) in
+    let fault = result_err c.export.result in
+    let fits = subst (λ (own : Command). FilesFit (seen own)) c.in-Export.is c.requires.fits in
+    let own = runs_by (export_of c.in-Export.store.now c.in-Export.table.now) (λ (asked : List ℕ). g.I.Inputs.reads c.args.inputs.now asked c.args.inputs.now) fault old new tt (asked_none g.I.Inputs.reads (Names (export_of c.in-Export.store.now c.in-Export.table.now)) c.args.inputs.now (laws.reads_none c.args.inputs.now)) c.export.ensures.course (λ none. absurd (cc)) (λ not. absurd (not refl)) c.export.ensures.unformatted in
+    record {
+      runs = subst (λ (own : Command). Runs (seen own) (λ (asked : List ℕ). g.I.Inputs.reads c.args.inputs.now asked c.args.inputs.now) old new fault) (sym c.in-Export.is) own;
+      safe = subst (λ (own : Command). IsSafe (seen own) old new fault) (sym c.in-Export.is) (runs_safe (export_of c.in-Export.store.now c.in-Export.table.now) (λ (asked : List ℕ). g.I.Inputs.reads c.args.inputs.now asked c.args.inputs.now) old new fault own);
+    }
+
+pub returns-in-Tiles : goal.returns-in-Tiles
+returns-in-Tiles g c =
+    let laws = g.met.I.Inputs g.world.𝓛 g.world.𝓜 g.world.𝓡 ((λ s x. x), (λ x. x), (λ x. x), λ x. x) in
+    let disk = g.D.Disk.view c.args.disk.now in
+    let old = world (g.I.Inputs.view c.args.inputs.now) (g.D.Disk.view c.args.disk.now) (g.S.Sink.view c.args.out.now) in
+    let new = world (g.I.Inputs.view c.args.inputs.now) (g.D.Disk.view c.tiles.new.disk) (g.S.Sink.view c.tiles.new.out) in
+    let fault = result_err c.tiles.result in
+    let fits = subst (λ (own : Command). FilesFit (seen own)) c.in-Tiles.is c.requires.fits in
+    let own = runs_by (tiles_of c.in-Tiles.store.now c.in-Tiles.least c.in-Tiles.clear) (λ (asked : List ℕ). g.I.Inputs.reads c.args.inputs.now asked c.args.inputs.now) fault old new tt (asked_none g.I.Inputs.reads (Names (tiles_of c.in-Tiles.store.now c.in-Tiles.least c.in-Tiles.clear)) c.args.inputs.now (laws.reads_none c.args.inputs.now)) c.tiles.ensures.course (λ none. absurd (cc)) (λ not. absurd (not refl)) c.tiles.ensures.unformatted in
+    record {
+      runs = subst (λ (own : Command). Runs (seen own) (λ (asked : List ℕ). g.I.Inputs.reads c.args.inputs.now asked c.args.inputs.now) old new fault) (sym c.in-Tiles.is) own;
+      safe = subst (λ (own : Command). IsSafe (seen own) old new fault) (sym c.in-Tiles.is) (runs_safe (tiles_of c.in-Tiles.store.now c.in-Tiles.least c.in-Tiles.clear) (λ (asked : List ℕ). g.I.Inputs.reads c.args.inputs.now asked c.args.inputs.now) old new fault own);
+    }
+
+pub returns-in-Replay : goal.returns-in-Replay
+returns-in-Replay g c =
+    let old = world (g.I.Inputs.view c.args.inputs.now) (g.D.Disk.view c.args.disk.now) (g.S.Sink.view c.args.out.now) in
+    let new = world (g.I.Inputs.view c.replay.new.inputs) (g.D.Disk.view c.replay.new.disk) (g.S.Sink.view c.replay.new.out) in
+    let fault = result_err c.replay.result in
+    let fits = subst (λ (own : Command). FilesFit (seen own)) c.in-Replay.is c.requires.fits in
+    let command = replay_of c.in-Replay.store.now c.in-Replay.files c.in-Replay.workers in
+    let own = runs_by command (λ (asked : List ℕ). g.I.Inputs.reads c.args.inputs.now asked c.replay.new.inputs) fault old new fits.0.least c.replay.ensures.asked (from_unused new_store old new (replay_course c.in-Replay.files) fault (λ e. absurd (cc)) c.replay.ensures.course) (λ none. absurd (cc)) (λ _. c.replay.ensures.looked) (λ is. absurd (c.replay.ensures.formatted is)) in
+    record {
+      runs = subst (λ (own : Command). Runs (seen own) (λ (asked : List ℕ). g.I.Inputs.reads c.args.inputs.now asked c.replay.new.inputs) old new fault) (sym c.in-Replay.is) own;
+      safe = subst (λ (own : Command). IsSafe (seen own) old new fault) (sym c.in-Replay.is) (runs_safe command (λ (asked : List ℕ). g.I.Inputs.reads c.args.inputs.now asked c.replay.new.inputs) old new fault own);
     }

@@ -1,0 +1,49 @@
+-- Options, word after word.
+use Rattle.std.proofs.Common.{◌≡◌, ◌≤◌, ◌+◌, ◌<◌, true, arith, ℕ, Option, None, Some, List, ◌∷◌, length, drop, refl, sym, ◌∙◌, ap, subst}
+use Rattle.std.proofs.Common.{map as each}
+use Rattle.std.proofs.Common.{get_or}
+use Rattle.std.specs.Int.{is_power_of_two}
+use Rattle.std.specs.Int.Count.{ones}
+use Rattle.std.specs.Option.{option_and_then, unwrap_or}
+use Rattle.std.specs.Prelude.{IfSome}
+use Rattle.std.proofs.lemmas.List.{drop_more}
+use Rattle.updater.specs.declared.options.Allowed.{Allowed}
+use Rattle.updater.specs.declared.options.Options.{Options}
+use Rattle.updater.specs.declared.options.TheConstants.{BUCKETS, MAX_BUCKETS, MAX_WORKERS, WORKERS}
+use Rattle.updater.specs.CommandOf.{AreBuckets, AreWorkers}
+use Rattle.updater.specs.Options.{AreInRange, with_option, with_options}
+
+-- the word that comes next is read, and then those behind it
+with_next : {A : Type 0} (view : A → List ℕ) (allowed : Allowed) (options : Options) (words : List A) (i : ℕ) (word : A) → i < length words → word ≡ get_or words i word
+    → with_options allowed options (each view (drop i words)) ≡ option_and_then (λ more. with_options allowed more (each view (drop (i + 1) words))) (with_option allowed options (view word))
+with_next view allowed options words i word there is =
+    ap (λ own. with_options allowed options (each view own)) (drop_more words i word there ∙ ap (λ own. own ∷ drop (i + 1) words) (sym is))
+
+pub with_more : {A : Type 0} (view : A → List ℕ) (allowed : Allowed) (options more : Options) (words : List A) (i : ℕ) (word : A) → i < length words → word ≡ get_or words i word → Some more ≡ with_option allowed options (view word)
+    → with_options allowed options (each view (drop i words)) ≡ with_options allowed more (each view (drop (i + 1) words))
+with_more view allowed options more words i word there is read =
+    with_next view allowed options words i word there is ∙ ap (option_and_then (λ own. with_options allowed own (each view (drop (i + 1) words)))) (sym read)
+
+pub with_none : {A : Type 0} (view : A → List ℕ) (allowed : Allowed) (options : Options) (words : List A) (i : ℕ) (word : A) → i < length words → word ≡ get_or words i word → None ≡ with_option allowed options (view word)
+    → None ≡ with_options allowed options (each view (drop i words))
+with_none view allowed options words i word there is read =
+    sym (with_next view allowed options words i word there is ∙ ap (option_and_then (λ own. with_options allowed own (each view (drop (i + 1) words)))) (sym read))
+
+-- a value that stands there, or the one that is meant where none does
+workers_among : (value : Option ℕ) (workers : ℕ) → IfSome value (λ workers. (1 ≤ workers) × (workers ≤ MAX_WORKERS)) → workers ≡ unwrap_or value WORKERS → AreWorkers workers
+workers_among None workers h is = record { one = omega (arith, is); limit = omega (arith, is) }
+workers_among (Some value) workers h is = record { one = omega (arith, is, h.0); limit = omega (arith, is, h.1) }
+
+pub workers_fit : (options : Options) (workers : ℕ) → AreInRange options → workers ≡ unwrap_or options.workers WORKERS → AreWorkers workers
+workers_fit options workers range is = workers_among options.workers workers range.few_workers is
+
+pub default_power : is_power_of_two 1024 ≡ true
+unfolding ones
+default_power = refl
+
+buckets_among : (value : Option ℕ) (buckets : ℕ) → IfSome value (λ buckets. (is_power_of_two buckets ≡ true) × (buckets ≤ MAX_BUCKETS)) → buckets ≡ unwrap_or value BUCKETS → AreBuckets buckets
+buckets_among None buckets h is = subst (λ (own : ℕ). AreBuckets own) (sym is) (record { power = default_power; limit = omega arith })
+buckets_among (Some value) buckets h is = subst (λ (own : ℕ). AreBuckets own) (sym is) (record { power = h.0; limit = h.1 })
+
+pub buckets_fit : (options : Options) (buckets : ℕ) → AreInRange options → buckets ≡ unwrap_or options.buckets BUCKETS → AreBuckets buckets
+buckets_fit options buckets range is = buckets_among options.buckets buckets range.power is

@@ -1,0 +1,22 @@
+use Rattle.std.proofs.Common.{◌≤◌, ◌-◌}
+use Rattle.update_flow.specs.State.{Holding, imported}
+use Rattle.update_flow.specs.Updater.{StaysOver, handle_of}
+use Rattle.updater.specs.Heads.{IsHead, IsVersion}
+use Rattle.updater.specs.Progress.{Progress}
+use Rattle.updater.specs.Runs.{Among, AsksOnly}
+use Rattle.updater.specs.World.{Before}
+use Rattle.updater.proofs.versions.append_files.Given as goal
+
+-- the files so far are appended and told, and the rest of the course leads on
+abbrev pub invariant-loop-file : goal.invariant-loop-file
+invariant-loop-file g l = record {
+  least : l.fn.first ≤ l.file;
+  within : l.file ≤ l.end;
+  asked : AsksOnly (λ asked. g.I.Inputs.reads l.fn.inputs asked l.inputs) (Among l.fn.first l.fn.count);
+  stays : StaysOver l.fn.store l.store;
+  turn : (old : Before) (start done : Progress) (held : Holding) → IsHead start done (imported held) l.fn.first old (g.I.Inputs.view l.fn.inputs) (handle_of l.fn.store) (g.S.Sink.view l.fn.out)
+      → IsVersion l.fn.bounds held l.fn.first l.fn.count start done l.file (l.end - l.file) old (g.I.Inputs.view l.inputs) (handle_of l.store) (g.S.Sink.view l.out);
+}
+
+abbrev pub decreases-loop-file : goal.decreases-loop-file
+decreases-loop-file g l = l.end - l.file

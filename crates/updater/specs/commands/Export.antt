@@ -1,0 +1,8 @@
+-- `export STORE TABLE`.
+use Rattle.std.specs.Prelude.{ℕ, Option, Some, None, List, [], ◌∷◌}
+use Rattle.updater.specs.CommandOf.{CommandOf, export_of}
+
+-- the form of its words
+abbrev pub form : (options words : List (List ℕ)) → Option CommandOf
+form [] (store ∷ table ∷ []) = Some (export_of store table)
+form _ _ = None

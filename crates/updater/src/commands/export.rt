@@ -1,0 +1,100 @@
+//! `export STORE TABLE`: the rows of a table.
+ghost use Rattle.std.specs.Prelude.{◌≡◌, ◌≢◌, Some, map, IfSome};
+ghost use Rattle.std.specs.Option.{option_map};
+ghost use Rattle.std.specs.String.{string_bytes};
+ghost use Rattle.updater.specs.CommandOf.{FilesFit, seen};
+ghost use Rattle.updater.specs.commands.Export as spec;
+ghost use Rattle.std.specs.Result.{result_err};
+ghost use Rattle.outside.specs.Disk.{Stays};
+ghost use Rattle.update_flow.specs.State.{State};
+ghost use Rattle.update_flow.specs.Handle.{view_of};
+ghost use Rattle.update_flow.specs.Updater.{StaysOver, handle_of};
+ghost use Rattle.updater.specs.Command.{old_store};
+ghost use Rattle.updater.specs.Course.{opens};
+ghost use Rattle.updater.specs.Heads.{GoesOn, IsHead};
+ghost use Rattle.updater.specs.Progress.{Progress};
+ghost use Rattle.updater.specs.World.{Before, world};
+ghost use Rattle.updater.specs.Courses.{export_from};
+ghost use Rattle.updater.specs.Runs.{Begins, GoesBy};
+
+use crate::fault::Fault;
+use crate::telling::tell;
+use crate::words::Command;
+use osm_base::Limits;
+use outside::{Disk, Inputs, Sink};
+use row_text::table_text;
+use std::alloc::Global;
+use update_flow::{Updater, open};
+
+/// The form of its words.
+pub fn form<'a>(options: &[String], form: &'a [String]) -> Option<Command<'a>>
+    ensures form { option_map seen result ≡ spec.form (map string_bytes options.now) (map string_bytes form.now) }
+    ensures fits { IfSome result (λ command. FilesFit (seen command)) }
+{
+    match form {
+        [store, table] if options.is_empty() => Some(Command::Export {
+            store: store.as_str(),
+            table: table.as_str(),
+        }),
+        _ => None,
+    }
+}
+
+/// Opens the store, and writes the rows of the table.
+pub fn export<I: Inputs, D: Disk, S: Sink>(
+    alloc: Global,
+    table: &str,
+    inputs: &I,
+    disk: &mut D,
+    out: &mut S,
+) -> Result<(), Fault>
+    ensures course { (start : Progress) → Begins old_store (world (I.view inputs.now) (D.view disk.old) (S.view out.old)) start
+        → GoesBy (opens (export_from table.now)) start (result_err result)
+        (world (I.view inputs.now) (D.view disk.old) (S.view out.old))
+        (world (I.view inputs.now) (D.view disk.new) (S.view out.new)) }
+    ensures unformatted { result_err result ≡ Some Fault.NotFormatted → Stays (D.view disk.old) (D.view disk.new) }
+{
+    let limits = Limits::standard();
+    let opened = match open(alloc, disk, &limits) {
+        Ok(opened) => opened,
+        Err(fault) => return Err(Fault::in_flow(fault)),
+    };
+    let mut store = Updater::over(alloc, disk, opened, &limits);
+    let done = export_store(alloc, table, inputs, &mut store, out);
+    let _disk = store.close();
+    done
+}
+
+/// The same of an open store.
+fn export_store<I: Inputs, D: Disk, S: Sink>(
+    alloc: Global,
+    table: &str,
+    inputs: &I,
+    store: &mut Updater<'_, D>,
+    out: &mut S,
+) -> Result<(), Fault>
+    ensures goes_on { (old : Before) (start done : Progress) (state : State) → IsHead start done state 0 old (I.view inputs.now) (handle_of store.old) (S.view out.old)
+        → GoesOn (export_from table.now state) start done (result_err result) old (world (I.view inputs.now) (view_of (handle_of store.new)) (S.view out.new)) }
+    ensures stays { StaysOver store.old store.new }
+    ensures formatted { result_err result ≢ Some Fault.NotFormatted }
+{
+    let number = match store.style() {
+        Some(style) => style.table_named(table),
+        None => return Err(Fault::NotImported),
+    };
+    let Some(number) = number else {
+        return Err(Fault::UnknownTable);
+    };
+    let tables = match store.load_table(number) {
+        Ok(tables) => tables,
+        Err(fault) => return Err(Fault::in_flow(fault)),
+    };
+    let text = match store.style() {
+        Some(style) => table_text(alloc, style, &tables, number),
+        None => return Err(Fault::NotImported),
+    };
+    match text {
+        Ok(text) => tell(out, text.as_str().as_bytes()),
+        Err(_) => Err(Fault::OutOfMemory),
+    }
+}

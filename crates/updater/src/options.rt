@@ -1,0 +1,121 @@
+//! The options of a command.
+ghost use Rattle.std.specs.Prelude.{◌≡◌, IfSome, map};
+ghost use Rattle.std.specs.Option.{option_map};
+ghost use Rattle.std.specs.String.{string_bytes};
+ghost use Rattle.updater.specs.Options as spec;
+
+use crate::number::number_of;
+
+/// The most workers that a command may have.
+pub const MAX_WORKERS: u32 = 64;
+
+/// The most buckets that a map of a store may have.
+pub const MAX_BUCKETS: u32 = 65_536;
+
+/// The workers of a command whose options say nothing of them.
+pub const WORKERS: u32 = 4;
+
+/// And the buckets.
+pub const BUCKETS: u32 = 1_024;
+
+/// What the options of a command say.
+#[derive(Clone, Copy, Debug, PartialEq, Eq)]
+pub struct Options {
+    pub workers: Option<u32>,
+    pub buckets: Option<u32>,
+    pub clear: bool,
+}
+
+/// Which options belong to a command.
+#[derive(Clone, Copy, Debug, PartialEq, Eq)]
+pub struct Allowed {
+    pub workers: bool,
+    pub buckets: bool,
+    pub clear: bool,
+}
+
+/// What these words say. `None`: one of them does not belong to the command, stood before, or has no value in range.
+pub fn options_of(allowed: Allowed, words: &[String]) -> Option<Options>
+    ensures read { result ≡ spec.options_read allowed (map string_bytes words.now) }
+    ensures range { IfSome result spec.AreInRange }
+{
+    let mut options = Options {
+        workers: None,
+        buckets: None,
+        clear: false,
+    };
+    for word in words {
+        match with_option(allowed, options, word) {
+            Some(more) => options = more,
+            None => return None,
+        }
+    }
+    Some(options)
+}
+
+/// The options with a word more.
+#[tactic(auto, unfolding(crate::specs::Options::with_option))]
+fn with_option(allowed: Allowed, options: Options, word: &str) -> Option<Options>
+    ensures option { result ≡ spec.with_option allowed options word.now }
+    ensures range { spec.AreInRange options → IfSome result spec.AreInRange }
+{
+    if word == "clear=yes" {
+        return with_clear(allowed, options);
+    }
+    let bytes = word.as_bytes();
+    if let Some(value) = bytes.strip_prefix(b"workers=") {
+        return with_workers(allowed, options, value);
+    }
+    match bytes.strip_prefix(b"buckets=") {
+        Some(value) => with_buckets(allowed, options, value),
+        None => None,
+    }
+}
+
+/// The options with `clear=yes`.
+fn with_clear(allowed: Allowed, options: Options) -> Option<Options>
+    ensures option { result ≡ spec.with_clear allowed options }
+    ensures range { spec.AreInRange options → IfSome result spec.AreInRange }
+{
+    if !allowed.clear || options.clear {
+        return None;
+    }
+    Some(Options {
+        clear: true,
+        ..options
+    })
+}
+
+/// The options with this number of workers.
+fn with_workers(allowed: Allowed, options: Options, value: &[u8]) -> Option<Options>
+    ensures option { result ≡ spec.with_workers allowed options value.now }
+    ensures range { spec.AreInRange options → IfSome result spec.AreInRange }
+{
+    let workers = number_of(value)?;
+    if !allowed.workers || options.workers.is_some() || workers < 1 || workers > MAX_WORKERS {
+        return None;
+    }
+    Some(Options {
+        workers: Some(workers),
+        ..options
+    })
+}
+
+/// The options with this number of buckets.
+fn with_buckets(allowed: Allowed, options: Options, value: &[u8]) -> Option<Options>
+    ensures option { result ≡ spec.with_buckets allowed options value.now }
+    ensures range { spec.AreInRange options → IfSome result spec.AreInRange }
+{
+    let buckets = number_of(value)?;
+    if !allowed.buckets
+        || options.buckets.is_some()
+        || !buckets.is_power_of_two()
+        || buckets > MAX_BUCKETS
+    {
+        return None;
+    }
+    Some(Options {
+        buckets: Some(buckets),
+        ..options
+    })
+}

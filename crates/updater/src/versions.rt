@@ -1,0 +1,141 @@
+//! Versions of an open store: a file is imported or appended in one commit, and that is told.
+ghost use Rattle.std.specs.Prelude.{◌≡◌, ◌≢◌, ◌≤◌, ◌+◌, ℕ, Ok, Some, IfErr, OnErr, OnOk, replicate};
+ghost use Rattle.std.specs.Io.KnownBytes.{Appends};
+ghost use Rattle.std.specs.Result.{result_err};
+ghost use Rattle.outside.specs.Bytes.{AppendsPrefix};
+ghost use Rattle.outside.specs.Causes.{HasCause};
+ghost use Rattle.style_read.specs.Reading.{reading};
+ghost use Rattle.update_flow.specs.State.{Holding, formatted, imported};
+ghost use Rattle.update_flow.specs.Updater.{StaysOver, handle_of};
+ghost use Rattle.updater.specs.CommandOf.{AreBuckets, AreWorkers};
+ghost use Rattle.updater.specs.Courses.{appends, appends_one, imports, onward, version_line};
+ghost use Rattle.updater.specs.Heads.{IsHead, Leads};
+ghost use Rattle.updater.specs.Progress.{Progress};
+ghost use Rattle.updater.specs.Runs.{Among, AsksOnly};
+ghost use Rattle.updater.specs.World.{Before};
+
+use crate::fault::Fault;
+use crate::file_reads::{StyleFile, read_change};
+use crate::telling::tell;
+use outside::{Disk, Gate, GatePlace, Inputs, Sink};
+use std::alloc::Global;
+use std::thread::Threads;
+use tile_cover::Bounds;
+use update_flow::Updater;
+
+/// Tells the number of changes. After `Err` the output has taken some front of the line.
+pub fn tell_version<S: Sink>(out: &mut S, changes: u64) -> Result<(), Fault>
+    ensures ok { OnOk result (Appends (S.view out.old).taken (S.view out.new).taken (version_line changes)) }
+    ensures err { OnErr result (AppendsPrefix (S.view out.old).taken (S.view out.new).taken (version_line changes)) }
+    ensures alone { IfErr result (λ fault. fault ≡ Fault.WriteFault) }
+    ensures cause { HasCause (S.view out.old).faults (S.view out.new).faults result }
+{
+    let mut buffer = itoa::Buffer::new();
+    if let Err(fault) = tell(out, b"version ") {
+        return Err(fault);
+    }
+    if let Err(fault) = tell(out, buffer.format(changes).as_bytes()) {
+        return Err(fault);
+    }
+    tell(out, b"\n")
+}
+
+/// Imports a file into a store that was only made, under a style, and tells so.
+pub fn import_file<R: Threads + Sync, I: Inputs, D: Disk, S: Sink, G: Gate>(
+    rt: &R,
+    alloc: Global,
+    style: StyleFile,
+    buckets: u64,
+    workers: u32,
+    file: u32,
+    inputs: &mut I,
+    store: &mut Updater<'_, D>,
+    out: &mut S,
+    gate: &G,
+) -> Result<(), Fault>
+    requires style { reading style.bytes ≡ Ok style.style }
+    requires buckets { AreBuckets buckets }
+    requires workers { AreWorkers workers }
+    ensures leads { (old : Before) (start done : Progress) → IsHead start done formatted file old (I.view inputs.old) (handle_of store.old) (S.view out.old)
+        → Leads (λ last. imports (style.style, style.bytes) buckets file (onward last)) (result_err result) start done (file + 1) old
+        (I.view inputs.new) (handle_of store.new) (S.view out.new) }
+    ensures stays { StaysOver store.old store.new }
+    ensures asked { (count : ℕ) × I.reads inputs.old (replicate count file) inputs.new }
+    ensures formatted { result_err result ≢ Some Fault.NotFormatted }
+{
+    let StyleFile { style, bytes } = style;
+    let change = match read_change(alloc, inputs, file) {
+        Ok(change) => change,
+        Err(fault) => return Err(fault),
+    };
+    if let Err(fault) = store.import(rt, bytes.as_slice(), style, change, buckets, workers, gate) {
+        return Err(Fault::in_flow(fault));
+    }
+    tell_version(out, 0)
+}
+
+/// Appends a change file to a store that was imported, and tells so.
+pub fn append_file<R: Threads + Sync, I: Inputs, D: Disk, S: Sink, G: Gate>(
+    rt: &R,
+    alloc: Global,
+    bounds: &Bounds,
+    workers: u32,
+    file: u32,
+    inputs: &mut I,
+    store: &mut Updater<'_, D>,
+    out: &mut S,
+    gate: &G,
+) -> Result<(), Fault>
+    requires workers { AreWorkers workers }
+    ensures leads { (old : Before) (start done : Progress) (held : Holding) → IsHead start done (imported held) file old (I.view inputs.old) (handle_of store.old) (S.view out.old)
+        → Leads (λ last. appends_one bounds.now held file (onward last)) (result_err result) start done (file + 1) old
+        (I.view inputs.new) (handle_of store.new) (S.view out.new) }
+    ensures stays { StaysOver store.old store.new }
+    ensures asked { (count : ℕ) × I.reads inputs.old (replicate count file) inputs.new }
+    ensures formatted { result_err result ≢ Some Fault.NotFormatted }
+{
+    let change = match read_change(alloc, inputs, file) {
+        Ok(change) => change,
+        Err(fault) => return Err(fault),
+    };
+    let delta = match store.append_one(rt, bounds, change, workers, gate) {
+        Ok(delta) => delta,
+        Err(fault) => return Err(Fault::in_flow(fault)),
+    };
+    tell_version(out, delta.version)
+}
+
+/// Appends so many change files from this one on, one after another. The gate is passed before each, with its number from 1.
+pub fn append_files<R: Threads + Sync, I: Inputs, D: Disk, S: Sink, G: Gate>(
+    rt: &R,
+    alloc: Global,
+    bounds: &Bounds,
+    workers: u32,
+    first: u32,
+    count: u32,
+    inputs: &mut I,
+    store: &mut Updater<'_, D>,
+    out: &mut S,
+    gate: &G,
+) -> Result<(), Fault>
+    requires workers { AreWorkers workers }
+    requires fits { first + count ≤ 8192 }
+    ensures leads { (old : Before) (start done : Progress) (held : Holding) → IsHead start done (imported held) first old (I.view inputs.old) (handle_of store.old) (S.view out.old)
+        → Leads (λ last. appends bounds.now held first count (onward last)) (result_err result) start done (first + count) old
+        (I.view inputs.new) (handle_of store.new) (S.view out.new) }
+    ensures stays { StaysOver store.old store.new }
+    ensures asked { AsksOnly (λ asked. I.reads inputs.old asked inputs.new) (Among first count) }
+    ensures formatted { result_err result ≢ Some Fault.NotFormatted }
+{
+    let end = first + count;
+    let mut file = first;
+    while file < end {
+        gate.pass(GatePlace::BeforeChange, u64::from(file - first + 1));
+        match append_file(rt, alloc, bounds, workers, file, inputs, store, out, gate) {
+            Ok(()) => {}
+            Err(fault) => return Err(fault),
+        }
+        file += 1;
+    }
+    Ok(())
+}
