@@ -5,23 +5,29 @@
 ghost use Rattle.std.specs.Prelude.{◌≡◌, [], drop, map, Some, None, is_err, if◌then◌else◌};
 ghost use Rattle.std.specs.String.{string_bytes};
 ghost use Rattle.outside.specs.MemDisk.{disk_bytes};
-ghost use Rattle.updater.specs.Command.{command, store_of};
+ghost use Rattle.updater.specs.Command.{command, makes_store, store_of};
 ghost use Rattle.updater_main.specs.Asked.{asked, run_of, seen};
 
 use osm_base::Bytes;
-use outside::{Failed, Fails, FileDisk, FileInputs, MemDisk, StdSink, put_all};
+use outside::{Failed, Fails, FileDisk, FileInputs, MemDisk, OpenGate, StdSink, put_all};
 use std::alloc::Global;
 use std::process::ExitCode;
 use std::rt::Env;
 use std::{env, io};
-use updater::{Fault, Outcome, fault_line, run, store_of};
+use updater::{Fault, Outcome, fault_line, makes_store, run, store_of};
 
 const HELP: &str = "\
 usage: yilgartzu points KEY INPUT [CHANGE..]
        yilgartzu lines KEY INPUT [CHANGE..]
        yilgartzu init STORE
+       yilgartzu import [workers=N] [buckets=N] STORE STYLE INPUT
+       yilgartzu append [workers=N] STORE BOUNDS CHANGE..
+       yilgartzu export STORE TABLE
+       yilgartzu tiles [clear=yes] STORE MINZOOM
+       yilgartzu replay [workers=N] STORE STYLE BOUNDS INPUT [CHANGE..]
 
-The first two read the OPL file INPUT and the change files in order.
+INPUT and the change files are OPL files, STYLE is a TOML file that defines
+tables, and BOUNDS has the latitudes that bound the rows of tiles of a zoom.
 
   points       write a line for each node that has the tag KEY and a place: id,
                value, POINT(lon lat)
@@ -29,12 +35,25 @@ The first two read the OPL file INPUT and the change files in order.
                more: id, value, LINESTRING(lon lat,lon lat,..)
   init         make the file STORE an empty store, where there is no file or an
                empty one
+  import       read INPUT into a store that was only made, under the tables of
+               STYLE, and write `version 0`
+  append       apply the change files in order, each whole or not at all, and
+               write `version N` for each
+  export       write the rows of a table
+  tiles        write the tiles that changes have made due, from MINZOOM to zoom
+               16, as zoom/column/row; with clear=yes none is due afterwards
+  replay       init, import and append in one run, and then write each table
+               behind a line `table NAME`, and behind `tiles` the tiles that are
+               due at the zoom of BOUNDS
   --help       this text
   --version    the version
 
-A word -- ends the options. Status 0: done; 2: wrong words; 3: a line is wrong;
-6: STORE holds bytes; 7: a file could not be read; 8: the output failed; 9: the
-disk of STORE failed; 10: a limit; 11: out of memory.
+workers is 1 to 64 (4 where it is not given), buckets a power of two up to 65536
+(1024). Options stand before all other words, and a word -- ends them. Status 0:
+done; 2: wrong words; 3: a line is wrong; 4: STYLE is; 5: BOUNDS is; 6: STORE is
+no store, is damaged, or is not in the state for this; 7: a file could not be
+read; 8: the output failed; 9: the disk of STORE failed; 10: a limit; 11: out of
+memory; 12: no such table.
 ";
 
 const VERSION: &str = "yilgartzu 0.1.0\n";
@@ -48,13 +67,29 @@ fn main(rt: HostRuntime) -> ExitCode {
             match asked_of(words) {
                 Asked::Help => told(put_all(&mut out, HELP.as_bytes())),
                 Asked::Version => told(put_all(&mut out, VERSION.as_bytes())),
-                Asked::Store(path) => {
-                    let mut disk = FileDisk::new(&rt, path, true);
-                    run(&rt, rt.alloc(), words, &mut inputs, &mut disk, &mut out)
+                Asked::Store { path, make } => {
+                    let mut disk = FileDisk::new(&rt, path, make);
+                    run(
+                        &rt,
+                        rt.alloc(),
+                        words,
+                        &mut inputs,
+                        &mut disk,
+                        &mut out,
+                        &OpenGate,
+                    )
                 }
                 Asked::Run => {
                     let mut disk = no_disk(rt.alloc());
-                    run(&rt, rt.alloc(), words, &mut inputs, &mut disk, &mut out)
+                    run(
+                        &rt,
+                        rt.alloc(),
+                        words,
+                        &mut inputs,
+                        &mut disk,
+                        &mut out,
+                        &OpenGate,
+                    )
                 }
             }
         }
@@ -72,8 +107,8 @@ enum Asked<'a> {
     Help,
     /// The version.
     Version,
-    /// A run with the store at this path.
-    Store(&'a str),
+    /// A run with the store at this path, which is made where there is no file, or has to be there.
+    Store { path: &'a str, make: bool },
     /// A run without a store.
     Run,
 }
@@ -91,10 +126,13 @@ fn asked_of(words: &[String]) -> Asked<'_>
 
 /// A run of these words, with the store that they name.
 fn run_for(words: &[String]) -> Asked<'_>
-    ensures run { seen result ≡ run_of (store_of (command (map string_bytes words.now))) }
+    ensures run { seen result ≡ run_of (store_of (command (map string_bytes words.now))) (makes_store (command (map string_bytes words.now))) }
 {
     match store_of(words) {
-        Some(path) => Asked::Store(path),
+        Some(path) => Asked::Store {
+            path,
+            make: makes_store(words),
+        },
         None => Asked::Run,
     }
 }
