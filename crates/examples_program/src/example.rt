@@ -1,86 +1,67 @@
-//! A run with what is wanted of it.
+//! Runs one after another, with what is wanted of each.
 
-use crate::rows::{push_bytes, push_words, set_number};
-use crate::wanted::Wanted;
-use example_table::number_of;
+use crate::rows::push_bytes;
+use crate::texts::Texts;
+use crate::turn::Turn;
 use std::alloc::{AllocError, Global};
 
-/// The most files that a run may be given.
-const MAX_FILES: usize = 5_000;
-
-/// A run: its words, the files by the numbers of their words, what the disk holds, how often it is done one
-/// after another, and which calls of the files, of the disk and of the output fail.
+/// What the disk holds at first, and the runs, each over the disk that the one before has left.
 #[derive(Drop)]
 pub struct Example {
-    pub words: Vec<String>,
-    pub files: Vec<Vec<u8>>,
     pub held: Vec<u8>,
-    pub times: u64,
-    pub inputs: Plan,
-    pub disk: Plan,
-    pub output: Plan,
-    pub wanted: Wanted,
-}
-
-/// Which calls fail: the one with a number, and all from a number on. 0 is no call.
-#[derive(Clone, Copy)]
-pub struct Plan {
-    pub at: u64,
-    pub from: u64,
-}
-
-impl Plan {
-    /// No call fails.
-    const NEVER: Plan = Plan { at: 0, from: 0 };
+    pub turns: Vec<Turn>,
 }
 
 impl Example {
-    /// A run without words.
-    pub fn new(alloc: Global) -> Self {
-        Self {
-            words: Vec::new(alloc),
-            files: Vec::new(alloc),
+    /// One run without words.
+    pub fn new(alloc: Global) -> Result<Self, AllocError> {
+        let mut turns = Vec::new(alloc);
+        turns.push(Turn::new(alloc))?;
+        Ok(Self {
             held: Vec::new(alloc),
-            times: 1,
-            inputs: Plan::NEVER,
-            disk: Plan::NEVER,
-            output: Plan::NEVER,
-            wanted: Wanted::new(alloc),
-        }
+            turns,
+        })
     }
 
     /// Takes up what a row says. False: it is no row of a run.
-    pub fn set(&mut self, alloc: Global, word: &str, text: &str) -> Result<bool, AllocError> {
-        match word {
-            "words" | "word" | "word-times" => push_words(alloc, &mut self.words, word, text),
-            "file" => self.begin_file(alloc, text),
-            "|" | "part" | "part-times" | "each" => match self.files.last_mut() {
-                Some(file) => push_bytes(alloc, file, word, text),
-                None => Ok(false),
-            },
-            "disk" => push_bytes(alloc, &mut self.held, "part", text),
-            "times" => Ok(set_number(&mut self.times, text)),
-            "inputs-fail-from" => Ok(set_number(&mut self.inputs.from, text)),
-            "inputs-fail-at" => Ok(set_number(&mut self.inputs.at, text)),
-            "disk-fails-from" => Ok(set_number(&mut self.disk.from, text)),
-            "disk-fails-at" => Ok(set_number(&mut self.disk.at, text)),
-            "output-fails-from" => Ok(set_number(&mut self.output.from, text)),
-            "output-fails-at" => Ok(set_number(&mut self.output.at, text)),
-            _ => self.wanted.set(alloc, word, text),
+    pub fn set(
+        &mut self,
+        alloc: Global,
+        texts: &Texts,
+        word: &str,
+        text: &str,
+    ) -> Result<bool, AllocError> {
+        if word == "disk" {
+            return push_bytes(alloc, &mut self.held, "part", text);
+        }
+        if word == "then" {
+            self.begin_turn(alloc)?;
+            return self.set_last(alloc, texts, "words", text);
+        }
+        self.set_last(alloc, texts, word, text)
+    }
+
+    /// Takes up what a row says of the last run.
+    fn set_last(
+        &mut self,
+        alloc: Global,
+        texts: &Texts,
+        word: &str,
+        text: &str,
+    ) -> Result<bool, AllocError> {
+        match self.turns.last_mut() {
+            Some(turn) => turn.set(alloc, texts, word, text),
+            None => Ok(false),
         }
     }
 
-    /// Begins the file of the word with this number. The files between are empty.
-    fn begin_file(&mut self, alloc: Global, text: &str) -> Result<bool, AllocError> {
-        let Some(number) = number_of(text) else {
-            return Ok(false);
+    /// Begins one run more, with the store of the one before.
+    fn begin_turn(&mut self, alloc: Global) -> Result<(), AllocError> {
+        let next = match self.turns.last() {
+            Some(last) => Turn::behind(alloc, last)?,
+            None => Turn::new(alloc),
         };
-        if number as usize >= MAX_FILES || (number as usize) < self.files.len() {
-            return Ok(false);
-        }
-        for _ in self.files.len()..number as usize + 1 {
-            self.files.push(Vec::new(alloc))?;
-        }
-        Ok(true)
+        self.turns.push(next)?;
+        Ok(())
     }
 }

@@ -2,23 +2,28 @@
 //!
 //! `words.txt` has words and what they ask for. `runs.txt` has runs with their words, files, disk and failing
 //! calls, and with what is wanted: the status, the line of the fault, the path of the store, all bytes that
-//! are printed, and those that the disk holds then. Each run is done by `run` of `updater` over files, a disk
-//! and an output in memory, and its name is printed, up to the first that differs.
+//! are printed, and those that the disk holds then. `stores.txt` has runs one after another over one store, whose
+//! files may hold the texts of `texts.txt`. Each run is done by `run` of `updater` over files, a disk and an output
+//! in memory, and the name is printed, up to the first that differs.
 #![tactic(auto)]
 
 mod example;
 mod rows;
 mod running;
+mod texts;
+mod turn;
 mod wanted;
 mod words;
 
 use example::Example;
 use example_table::{is_told, refuse_row, row_of, sides_of};
 use running::difference;
+use std::fs::{self, Files};
+use std::io;
 use std::process::ExitCode;
 use std::sync::Wait;
 use std::thread::Threads;
-use std::{fs, io};
+use texts::Texts;
 use words::example_of;
 
 fn main(rt: HostRuntime) -> io::Result<ExitCode> {
@@ -27,8 +32,23 @@ fn main(rt: HostRuntime) -> io::Result<ExitCode> {
         return Ok(ExitCode::from(1));
     }
     let runs = fs::read_to_string(&rt, "runs.txt")?;
-    let passed = runs_pass(&rt, runs.as_str())?;
+    if !runs_pass(&rt, &Texts::new(rt.alloc()), runs.as_str())? {
+        return Ok(ExitCode::from(1));
+    }
+    let passed = stores_pass(&rt)?;
     Ok(ExitCode::from(if passed { 0 } else { 1 }))
+}
+
+/// Whether the runs over stores end as their table says.
+fn stores_pass<R: Threads + Wait + Sync + Files + Print + Eprint + AllocGlobal>(
+    rt: &R,
+) -> io::Result<bool> {
+    let named = fs::read_to_string(rt, "texts.txt")?;
+    let table = fs::read_to_string(rt, "stores.txt")?;
+    match Texts::of(rt.alloc(), named.as_str())? {
+        Some(texts) => runs_pass(rt, &texts, table.as_str()),
+        None => is_refused(rt, "texts.txt"),
+    }
 }
 
 /// Whether the words of each row ask for what it says.
@@ -57,10 +77,11 @@ fn words_pass<R: Threads + Wait + Sync + Print + Eprint + AllocGlobal>(
 /// Whether each run of the table ends as it says.
 fn runs_pass<R: Threads + Wait + Sync + Print + Eprint + AllocGlobal>(
     rt: &R,
+    texts: &Texts,
     table: &str,
 ) -> io::Result<bool> {
     let mut name = String::new(rt.alloc());
-    let mut example = Example::new(rt.alloc());
+    let mut example = Example::new(rt.alloc())?;
     for line in table.lines() {
         let Some((word, text)) = row_of(line) else {
             continue;
@@ -70,8 +91,8 @@ fn runs_pass<R: Threads + Wait + Sync + Print + Eprint + AllocGlobal>(
                 return Ok(false);
             }
             name = String::from_str(rt.alloc(), text)?;
-            example = Example::new(rt.alloc());
-        } else if !example.set(rt.alloc(), word, text)? {
+            example = Example::new(rt.alloc())?;
+        } else if !example.set(rt.alloc(), texts, word, text)? {
             return is_refused(rt, line);
         }
     }

@@ -1,9 +1,10 @@
 //! The run of an example, over files, a disk and an output in memory.
 
-use crate::example::{Example, Plan};
+use crate::example::Example;
+use crate::turn::{Plan, Put, Turn};
 use crate::wanted::{Piece, Wanted};
 use osm_base::{Bytes, FileList, Ids};
-use outside::{Fails, MemDisk, MemInputs, MemSink};
+use outside::{Fails, MemDisk, MemInputs, MemSink, OpenGate};
 use std::alloc::{AllocError, Global};
 use std::str;
 use std::sync::Wait;
@@ -13,31 +14,93 @@ use updater::{Outcome, fault_line, run, store_of};
 /// The most bytes that the disk of an example holds at first.
 const MAX_HELD: usize = 1 << 20;
 
-/// What is other than the example says, if anything. All that is owned here is let go at one exit.
+/// What the disk holds when a run has ended, and what is other than it is wanted, if anything.
+#[derive(Drop)]
+struct Ended {
+    disk: Vec<u8>,
+    other: Option<String>,
+}
+
+/// What is other than the example says, if anything.
 pub fn difference<R: Threads + Wait + Sync>(
     rt: &R,
     alloc: Global,
     example: Example,
 ) -> Result<Option<String>, AllocError> {
-    let Example {
+    let Example { held, turns } = example;
+    let mut disk = held;
+    for turn in turns {
+        let ended = ended_of(rt, alloc, turn, disk)?;
+        if ended.other.is_some() {
+            return Ok(ended.other);
+        }
+        disk = ended.disk;
+    }
+    Ok(None)
+}
+
+/// How a run ends over a disk that holds these bytes. All that is owned here is let go at one exit.
+fn ended_of<R: Threads + Wait + Sync>(
+    rt: &R,
+    alloc: Global,
+    turn: Turn,
+    held: Vec<u8>,
+) -> Result<Ended, AllocError> {
+    let Turn {
         words,
         files,
-        held,
+        cut,
+        puts,
         times,
         inputs,
         disk,
         output,
         wanted,
-        ..
-    } = example;
+    } = turn;
     let inputs_fail = fails_of(alloc, inputs)?;
     let disk_fails = fails_of(alloc, disk)?;
     let output_fails = fails_of(alloc, output)?;
+    let held = changed(held, cut, &puts);
     let mut inputs = MemInputs::new(files_of(alloc, files)?, inputs_fail);
     let mut disk = disk_of(alloc, held, disk_fails);
     let mut out = MemSink::new(alloc, output_fails);
     let outcome = outcome_of(rt, alloc, times, &words, &mut inputs, &mut disk, &mut out);
-    compared(alloc, &words, &outcome, out.taken(), disk.bytes(), &wanted)
+    let other = compared(alloc, &words, &outcome, out.taken(), disk.bytes(), &wanted);
+    kept_end(alloc, disk.bytes(), other)
+}
+
+/// The end of a run, with a copy of these bytes.
+fn kept_end(
+    alloc: Global,
+    disk: &[u8],
+    other: Result<Option<String>, AllocError>,
+) -> Result<Ended, AllocError> {
+    Ok(Ended {
+        disk: Vec::from_slice(alloc, disk)?,
+        other: other?,
+    })
+}
+
+/// The bytes cut to so many, with others put on them where they have room.
+fn changed(held: Vec<u8>, cut: Option<u64>, puts: &[Put]) -> Vec<u8> {
+    let mut bytes = held;
+    if let Some(count) = cut {
+        bytes.truncate(count as usize);
+    }
+    for put in puts {
+        put_on(&mut bytes, put);
+    }
+    bytes
+}
+
+/// Puts bytes at their place, as many as have room.
+fn put_on(bytes: &mut [u8], put: &Put) {
+    let Some(rest) = bytes.get_mut(put.at..) else {
+        return;
+    };
+    for (byte, other) in rest.iter_mut().zip(&put.bytes) {
+        *byte = *other;
+    }
 }
 
 /// The outcome of the last of so many runs, one after another.
@@ -51,9 +114,9 @@ fn outcome_of<R: Threads + Wait + Sync>(
     out: &mut MemSink,
 ) -> Outcome {
     for _ in 1..times {
-        let _ = run(rt, alloc, words, inputs, disk, out);
+        let _ = run(rt, alloc, words, inputs, disk, out, &OpenGate);
     }
-    run(rt, alloc, words, inputs, disk, out)
+    run(rt, alloc, words, inputs, disk, out, &OpenGate)
 }
 
 /// What is other than it is wanted, if anything.
@@ -81,6 +144,9 @@ fn compared(
             Ok(text) => format!(in alloc; "it prints {text:?}")?,
             Err(_) => format!(in alloc; "it prints {printed:?}")?,
         }));
+    }
+    if wanted.any_disk {
+        return Ok(None);
     }
     if disk.len() as u64 != wanted.disk_bytes {
         return Ok(Some(format!(in alloc; "the disk has {} bytes", disk.len())?));

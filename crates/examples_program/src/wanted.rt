@@ -4,13 +4,14 @@ use crate::rows::{push_bytes, set_number, set_text};
 use example_table::{bytes_of, number_of, row_of};
 use std::alloc::{AllocError, Global};
 
-/// How a run is to end. The texts are empty where there is no fault and no store.
+/// How a run is to end. The texts are empty where there is no fault and no store. What the disk holds then counts, or not.
 #[derive(Drop)]
 pub struct Wanted {
     pub status: u64,
     pub fault: String,
     pub store: String,
     pub printed: Vec<u8>,
+    pub any_disk: bool,
     pub disk_bytes: u64,
     pub pieces: Vec<Piece>,
 }
@@ -30,9 +31,18 @@ impl Wanted {
             fault: String::new(alloc),
             store: String::new(alloc),
             printed: Vec::new(alloc),
+            any_disk: false,
             disk_bytes: 0,
             pieces: Vec::new(alloc),
         }
+    }
+
+    /// A run over the store of the one before that has done all and printed nothing.
+    pub fn behind(alloc: Global, last: &Wanted) -> Result<Self, AllocError> {
+        let mut wanted = Self::new(alloc);
+        wanted.store = String::from_str(alloc, last.store.as_str())?;
+        wanted.any_disk = last.any_disk;
+        Ok(wanted)
     }
 
     /// Takes up what a row says. False: it is no row of what is wanted.
@@ -43,6 +53,10 @@ impl Wanted {
             "store" => set_text(alloc, &mut self.store, text),
             ">" => push_bytes(alloc, &mut self.printed, "|", text),
             ">each" => push_bytes(alloc, &mut self.printed, "each", text),
+            "any-disk" => {
+                self.any_disk = true;
+                Ok(text.is_empty())
+            }
             "disk-bytes" => Ok(set_number(&mut self.disk_bytes, text)),
             "disk-at" => self.push_piece(alloc, text),
             _ => Ok(false),
