@@ -1,18 +1,16 @@
 -- A store on a disk, by its state alone.
 use Rattle.std.specs.Prelude.{◌≡◌, ◌≢◌, ◌⊎◌, ◌≤◌, ℕ, List, Option, None, Some}
-use Rattle.outside.specs.Bytes.{IfTold, IsTold}
+use Rattle.outside.specs.Bytes.{IsTold}
 use Rattle.outside.specs.Causes.{Rose}
 use Rattle.outside.specs.Disk.{DiskView, Goes, Only, Tells}
-use Rattle.page_journal.specs.Home.{IsFormatted}
 use Rattle.page_journal.specs.Pages.{gate}
 use Rattle.page_journal.specs.declared.layout.TheConstants.{OPEN}
-use Rattle.page_journal.specs.declared.fault.StoreFault.{StoreFault}
 use Rattle.page_journal.specs.declared.fault.StoreFault.TheVariants as store
 use Rattle.update_flow.specs.declared.fault.FlowFault.{FlowFault}
 use Rattle.update_flow.specs.declared.fault.FlowFault.TheVariants as flow
 use Rattle.update_flow.specs.State.{State}
 use Rattle.update_flow.specs.Stands.{StandsFor}
-use Rattle.update_flow.specs.Refusals.{IsNoDiskFault, OrBreaks}
+use Rattle.update_flow.specs.Refusals.{OrBreaks}
 
 -- the bytes are those of one of two states
 abbrev pub IsOfEither : State → State → List ℕ → Type 0

@@ -1,5 +1,5 @@
 -- What the opening of a store finds.
-use Rattle.std.specs.Prelude.{◌≡◌, ℕ}
+use Rattle.std.specs.Prelude.{◌≡◌}
 use Rattle.outside.specs.Disk.{DiskView}
 use Rattle.bucket_store.specs.Image.{HoldsImage, Image}
 use Rattle.bucket_store.specs.Opening.{Fits}

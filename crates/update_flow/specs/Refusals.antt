@@ -1,10 +1,9 @@
 -- Which steps may be taken from which state, and why others are refused.
-use Rattle.std.specs.Prelude.{◌≡◌, ◌≢◌, ◌<◌, ◌≤◌, ◌^◌, ◌-◌, ℕ, List, Option, None, Some}
+use Rattle.std.specs.Prelude.{◌≡◌, ◌≢◌, ◌<◌, ◌≤◌, List, Option, None, Some}
 use Rattle.osm_base.specs.declared.bounds.limits.LimitNumbers.{LimitNumbers}
 use Rattle.osm_base.specs.declared.values.object.Entry.{Entry}
 use Rattle.osm_base.specs.map.Pending.{PendingOf}
 use Rattle.dep_closure.specs.PendingSet.{IsPendingOf, AreTooMany, size}
-use Rattle.page_journal.specs.declared.fault.StoreFault.{StoreFault}
 use Rattle.page_journal.specs.declared.fault.StoreFault.TheVariants as store
 use Rattle.update_flow.specs.declared.fault.FlowFault.{FlowFault}
 use Rattle.update_flow.specs.declared.fault.FlowFault.TheVariants as flow

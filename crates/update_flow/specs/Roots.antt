@@ -1,7 +1,7 @@
 -- The fields of a store, by its state.
 -- docs/FILES.md, "The root page": the format is 1 in state 0, of a store that was only made, and 2 in state 1, of an imported one; the buckets
 -- are none in state 0, and some in state 1.
-use Rattle.std.specs.Prelude.{ℕ, Bool, ◌&&◌, ◌==◌, not, nat_le}
+use Rattle.std.specs.Prelude.{Bool, ◌&&◌, ◌==◌, not, nat_le}
 use Rattle.chain_store.specs.declared.root.Root.{Root}
 use Rattle.update_flow.specs.declared.fault.TheConstants.{LAST_CHANGE}
 use Rattle.update_flow.specs.declared.fields.TheConstants.{BLANK, BLANK_FORMAT, IMPORTED, IMPORTED_FORMAT}

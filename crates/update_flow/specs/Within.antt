@@ -1,10 +1,9 @@
 -- Calls within a transaction on a store.
-use Rattle.std.specs.Prelude.{◌≡◌, ℕ, Bool, true, false, Option, None, Some}
+use Rattle.std.specs.Prelude.{◌≡◌, ℕ, false, Option, None, Some}
 use Rattle.outside.specs.Causes.{Rose}
 use Rattle.outside.specs.declared.disk.Disk.{Ghosts}
 use Rattle.osm_base.specs.map.Spots.{TableMap}
 use Rattle.page_journal.specs.Journal.{is_broken}
-use Rattle.page_journal.specs.declared.fault.StoreFault.{StoreFault}
 use Rattle.page_journal.specs.declared.fault.StoreFault.TheVariants as store
 use Rattle.chain_store.specs.Chains.{disk_of, journal_of}
 use Rattle.bucket_store.specs.Image.{Has, Image, OnlyLooks}

@@ -1,9 +1,7 @@
 -- The maps are changed, and all is committed with the due tiles and the number of changes.
-use Rattle.std.proofs.Common.{◌≡◌, ◌∙◌, ◌||◌, ◌+◌, ◌<◌, ℕ, Bool, List, Some, ap, arith, refl, sym, subst}
-use Rattle.std.specs.Result.{result_err}
+use Rattle.std.proofs.Common.{◌≡◌, ◌∙◌, ◌||◌, ℕ, Bool, List, Some, ap, arith, refl, sym, subst}
 use Rattle.osm_base.specs.map.Objects.{folded_all}
-use Rattle.osm_base.specs.map.Pending.{PendingOf}
-use Rattle.dep_closure.specs.PendingSet.{AreTooMany, IsPendingOf, size}
+use Rattle.dep_closure.specs.PendingSet.{AreTooMany, IsPendingOf}
 use Rattle.row_map.specs.Row.{tables}
 use Rattle.store_maps.specs.Stands.{Stands}
 use Rattle.style_read.specs.Style.{StyleOf}
@@ -26,7 +24,6 @@ use Rattle.update_flow.specs.Turning.{EndsIn, TurnsIn}
 use Rattle.update_flow.specs.declared.fault.FlowFault.{FlowFault}
 use Rattle.update_flow.proofs.Changed.{append_becomes, not_zero, step_answers}
 use Rattle.update_flow.proofs.Steps.{none_spent, step_ends}
-use Rattle.update_flow.proofs.Running.{runs_unread}
 use Rattle.update_flow.proofs.Turning.{ends_then, runs_ended, sound_answers, turns_committed, turns_refused}
 use Rattle.update_flow.proofs.appending.append.Goals as goal
 
@@ -127,17 +124,18 @@ returns-in-Ok-settle-clause-turns g c held rest same was is style next =
     subst (λ (s : StyleOf). Stands s after (folded_all held.objects change)) (sym style) made.2 in
     let due = c.change_maps.new.due in
     let tiles : (zoom x y : ℕ) → has due zoom x y ≡ both held.due (due_between held.style c.args.bounds.now held.objects (folded_all held.objects change)) zoom x y = λ zoom x y.
-        done.due under is.maps.maps held.objects keeps stand zoom x y
-        ∙ ap (λ (b : Bool). b || due_between c.args.style.now c.args.bounds.now held.objects (folded_all held.objects change) zoom x y)
-        (c.in-Ok.ensures.due rest rest held was is zoom x y)
-        ∙ ap (λ (s : StyleOf). held.due zoom x y || due_between s c.args.bounds.now held.objects (folded_all held.objects change) zoom x y) (sym style) in
+    done.due under is.maps.maps held.objects keeps stand zoom x y
+    ∙ ap (λ (b : Bool). b || due_between c.args.style.now c.args.bounds.now held.objects (folded_all held.objects change) zoom x y)
+    (c.in-Ok.ensures.due rest rest held was is zoom x y)
+    ∙ ap (λ (s : StyleOf). held.due zoom x y || due_between s c.args.bounds.now held.objects (folded_all held.objects change) zoom x y) (sym style) in
     let becomes = append_becomes held rest c.args.bounds.now change c.args.number due after (buckets_of last) is kept stands (subst (λ (l : List Run). IsTileSet l) c.as_slice-runs.ensures.runs c.as_slice-runs.ensures.tiles) tiles next c.requires.counted
     (subst (λ (l : List Entry). AreIdEntries l) c.entries.ensures.entries c.known_ids.ensures) in
     let looks = looks_then old mid (buckets_of last) c.in-Ok.ensures.runs.looks later.looks in
     turns_committed limits (imported held) (Append c.args.bounds.now change) _ rest _ old (buckets_of last) c.settle.new.buckets
-    (rests_under rest rest old was) is looks becomes
-    ((λ last. absurd (omega (arith, last, next, c.requires.counted))),
-    (λ set pending. done.few under is.maps.maps held.objects keeps stand set (subst (λ (s : StyleOf). IsPendingOf s held.objects change set) style pending)))
+    (rests_under rest rest old was) is looks becomes (
+      (λ last. absurd (omega (arith, last, next, c.requires.counted))),
+      (λ set pending. done.few under is.maps.maps held.objects keeps stand set (subst (λ (s : StyleOf). IsPendingOf s held.objects change set) style pending)),
+    )
     (c.in-Ok-settle.ensures.commits limits rest kept.now (looks.looked.limit ∙ same) kept.has)
 
 pub returns-in-Ok-settle-clause-ends : goal.returns-in-Ok-settle-clause-ends
@@ -169,15 +167,16 @@ returns-clause-turns g c held rest same was is style next =
     subst (λ (s : StyleOf). Stands s after (folded_all held.objects change)) (sym style) made.2 in
     let due = c.change_maps.new.due in
     let tiles : (zoom x y : ℕ) → has due zoom x y ≡ both held.due (due_between held.style c.args.bounds.now held.objects (folded_all held.objects change)) zoom x y = λ zoom x y.
-        done.due under is.maps.maps held.objects keeps stand zoom x y
-        ∙ ap (λ (b : Bool). b || due_between c.args.style.now c.args.bounds.now held.objects (folded_all held.objects change) zoom x y)
-        (c.in-Ok.ensures.due rest rest held was is zoom x y)
-        ∙ ap (λ (s : StyleOf). held.due zoom x y || due_between s c.args.bounds.now held.objects (folded_all held.objects change) zoom x y) (sym style) in
+    done.due under is.maps.maps held.objects keeps stand zoom x y
+    ∙ ap (λ (b : Bool). b || due_between c.args.style.now c.args.bounds.now held.objects (folded_all held.objects change) zoom x y)
+    (c.in-Ok.ensures.due rest rest held was is zoom x y)
+    ∙ ap (λ (s : StyleOf). held.due zoom x y || due_between s c.args.bounds.now held.objects (folded_all held.objects change) zoom x y) (sym style) in
     let becomes = append_becomes held rest c.args.bounds.now change c.args.number due after (buckets_of last) is kept stands (subst (λ (l : List Run). IsTileSet l) c.as_slice-runs.ensures.runs c.as_slice-runs.ensures.tiles) tiles next c.requires.counted
     (subst (λ (l : List Entry). AreIdEntries l) c.entries.ensures.entries c.known_ids.ensures) in
     let looks = looks_then old mid (buckets_of last) c.in-Ok.ensures.runs.looks later.looks in
     turns_committed limits (imported held) (Append c.args.bounds.now change) _ rest _ old (buckets_of last) c.settle.new.buckets
-    (rests_under rest rest old was) is looks becomes
-    ((λ last. absurd (omega (arith, last, next, c.requires.counted))),
-    (λ set pending. done.few under is.maps.maps held.objects keeps stand set (subst (λ (s : StyleOf). IsPendingOf s held.objects change set) style pending)))
+    (rests_under rest rest old was) is looks becomes (
+      (λ last. absurd (omega (arith, last, next, c.requires.counted))),
+      (λ set pending. done.few under is.maps.maps held.objects keeps stand set (subst (λ (s : StyleOf). IsPendingOf s held.objects change set) style pending)),
+    )
     (c.in-Err-settle.ensures.commits limits rest kept.now (looks.looked.limit ∙ same) kept.has)

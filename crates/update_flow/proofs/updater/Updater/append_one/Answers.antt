@@ -1,8 +1,7 @@
 -- The store that was open is the one on the disk, one change further.
-use Rattle.std.proofs.Common.{◌≡◌, ◌∙◌, ◌+◌, ℕ, refl, sym, ap}
+use Rattle.std.proofs.Common.{◌∙◌, ◌+◌, ℕ, refl, sym, ap}
 use Rattle.std.proofs.lemmas.Option.{same_Some}
 use Rattle.std.specs.Prelude.{Option, is_some}
-use Rattle.std.specs.Result.{result_err}
 use Rattle.style_read.specs.Style.{StyleOf}
 use Rattle.update_flow.specs.Updater.{handle_of}
 use Rattle.update_flow.proofs.Changed.{append_taken}
