@@ -1,1 +1,2 @@
 pub mod KeptBoxes
+pub mod NearRows

@@ -2,8 +2,9 @@
 use crate::answers::{Answer, Counted, LookRefused};
 use crate::looking::Reads;
 use crate::reader::{MapReader, enter};
-use map_query::{Query, answer};
+use map_query::Query;
 use osm_base::OutOfMemory;
+use row_boxes::answer_by_boxes;
 use row_text::count_rows;
 use std::alloc::Global;
 
@@ -18,7 +19,7 @@ impl Reads for MapReader {
         };
         let shown = inside.get();
         let version = shown.version;
-        let found = answer(alloc, &self.style, &shown.tables, query);
+        let found = answer_by_boxes(alloc, &self.style, &shown.tables, &shown.boxes, query);
         self.handle = Some(inside.leave());
         match found {
             Ok(found) => {
