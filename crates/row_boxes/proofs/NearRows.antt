@@ -22,7 +22,7 @@ use Rattle.osm_base.proofs.SpotOrder.{spot_cmp_total, spot_cmp-IsAntisymmetric}
 use Rattle.lanes_geo.specs.Box.{box_of, meets}
 use Rattle.grid_index.specs.Grid.{BoxMap, found_in, is_wanted, wanted}
 use Rattle.row_text.specs.Numbered.{by_number, rows_among, rows_of}
-use Rattle.row_text.proofs.Ordered.{both_left, both_right, less, entries-from_entries, once-rising}
+use Rattle.row_text.proofs.Ordered.{both_left, both_right, entries-from_entries, once-rising}
 use Rattle.row_text.proofs.TableRows.{by_number_total, by_number-IsAntisymmetric, rows_among-rising}
 use Rattle.map_query.specs.Answer.{is_in, only, places_of}
 use Rattle.row_boxes.specs.Boxed.{IsBoxed, box_in, rows_at}

@@ -1,4 +1,4 @@
-use Rattle.std.proofs.Common.{◌≡◌, sym, subst, ap}
+use Rattle.std.proofs.Common.{◌≡◌, sym, subst}
 use Rattle.osm_base.specs.map.Spots.{TableMap}
 use Rattle.osm_base.specs.map.SpotTree.{rows_in}
 use Rattle.grid_index.specs.Grid.{BoxMap}
