@@ -1,5 +1,5 @@
 -- A round of queries.
-use Rattle.std.proofs.Common.{◌≡◌, ℕ, ◌+◌, ◌≤◌, ◌<◌, List, [], ◌∷◌, ◌++◌, length, drop, get_or, refl, sym, ap, subst, ◌∙◌, arith, append_assoc, length-append}
+use Rattle.std.proofs.Common.{◌≡◌, ℕ, ◌+◌, ◌≤◌, ◌<◌, true, List, [], ◌∷◌, ◌++◌, length, drop, get_or, refl, sym, ap, subst, ◌∙◌, arith, append_assoc, length-append}
 use Rattle.std.proofs.lemmas.List.{append-nil, drop_more}
 use mathlib.Core.List.{IsPrefix}
 use Rattle.style_read.specs.Style.{StyleOf}
@@ -26,19 +26,20 @@ pub record Asked (old now : ReaderOf) (queries : List Query) (index : ℕ) (answ
   pub seen : Begins old.seen now.seen
   pub later : old.refusals ≤ now.refusals
   pub count : length answers ≡ index
+  pub handle : 0 < length answers → old.has_handle ≡ true
   pub goes : (to : FrontOf) (rest : List Answer) → AreAnswers old.style old.told now.seen to (drop index queries) rest → AreAnswers old.style old.told old.seen to queries (answers ++ rest)
 
 pub asked_nothing : (old : ReaderOf) (queries : List Query) → Asked old old queries 0 []
-asked_nothing old queries = record { same = refl; seen = begins_itself old.seen; later = omega arith; count = refl; goes = λ to rest given. given }
+asked_nothing old queries = record { same = refl; seen = begins_itself old.seen; later = omega arith; count = refl; handle = λ some. absurd (omega (arith, some)); goes = λ to rest given. given }
 
 same_both : (old now new : ReaderOf) → OnlyLooked old now → OnlyLooked now new → OnlyLooked old new
 same_both old now new one other = other ∙ ap (λ (reader : ReaderOf). record reader { seen = new.seen; refusals = new.refusals }) one
 
 -- one more was
 pub asked_more : (old now new : ReaderOf) (queries : List Query) (index : ℕ) (answers : List Answer) (query : Query) (given : Answer) → Asked old now queries index answers
-    → index < length queries → query ≡ get_or queries index query → OnlyLooked now new → Begins now.seen new.seen → now.refusals ≤ new.refusals → Begins now.told new.seen
+    → index < length queries → query ≡ get_or queries index query → OnlyLooked now new → Begins now.seen new.seen → now.refusals ≤ new.refusals → Begins now.told new.seen → now.has_handle ≡ true
     → IsAnswer now.style new.seen query given → Asked old new queries (index + 1) (answers ++ given ∷ [])
-asked_more old now new queries index answers query given asked within is same seen later told answer =
+asked_more old now new queries index answers query given asked within is same seen later told has answer =
     let style : now.style ≡ old.style = ap (λ (reader : ReaderOf). reader.style) asked.same in
     let told_old : now.told ≡ old.told = ap (λ (reader : ReaderOf). reader.told) asked.same in
     let told' : Begins old.told new.seen = subst (λ front. Begins front new.seen) told_old told in
@@ -49,6 +50,7 @@ asked_more old now new queries index answers query given asked within is same se
       seen = begins_trans old.seen now.seen new.seen asked.seen seen;
       later = omega (arith, asked.later, later);
       count = length-append answers (given ∷ []) ∙ ap (λ n. n + 1) asked.count;
+      handle = λ some. sym (ap (λ (reader : ReaderOf). reader.has_handle) asked.same) ∙ has;
       goes = λ to rest more.
           let here : AreAnswers old.style old.told now.seen to (query ∷ drop (index + 1) queries) (given ∷ rest) = (new.seen, (seen, told', answer', more)) in
           let all = asked.goes to (given ∷ rest) (subst (λ qs. AreAnswers old.style old.told now.seen to qs (given ∷ rest)) (sym left) here) in

@@ -1,5 +1,5 @@
 //! How a reader is asked a list of queries.
-ghost use Rattle.std.specs.Prelude.{◌≡◌, ◌≤◌, ◌↔◌, false, length, IfOk, IsTrue, IsFalse};
+ghost use Rattle.std.specs.Prelude.{◌≡◌, ◌<◌, ◌≤◌, ◌↔◌, false, true, length, IfOk, IsTrue, IsFalse};
 ghost use Rattle.outside.specs.Causes.{Rose};
 ghost use Rattle.delta_log.specs.Fronts.{Begins};
 ghost use Rattle.table_versions.specs.Answers.{AreAnswers};
@@ -34,6 +34,7 @@ pub fn ask<E: Reads, G: Gate>(
     ensures seen { Begins (E.state reader.old).seen (E.state reader.new).seen }
     ensures answers { IfOk result (λ round. AreAnswers (E.state reader.old).style (E.state reader.old).told (E.state reader.old).seen (E.state reader.new).seen queries.now round.answers) }
     ensures all { IfOk result (λ round. IsFalse round.shut ↔ (length round.answers ≡ length queries.now)) }
+    ensures handle { IfOk result (λ round. 0 < length round.answers → (E.state reader.old).has_handle ≡ true) }
     ensures shut { IfOk result (λ round. IsTrue round.shut → Rose (E.state reader.old).refusals (E.state reader.new).refusals) }
     ensures later { (E.state reader.old).refusals ≤ (E.state reader.new).refusals }
 {
@@ -52,6 +53,7 @@ fn ask_all<E: Reads, G: Gate>(
     ensures seen { Begins (E.state reader.old).seen (E.state reader.new).seen }
     ensures answers { IfOk result (λ round. AreAnswers (E.state reader.old).style (E.state reader.old).told (E.state reader.old).seen (E.state reader.new).seen queries.now round.answers) }
     ensures all { IfOk result (λ round. IsFalse round.shut ↔ (length round.answers ≡ length queries.now)) }
+    ensures handle { IfOk result (λ round. 0 < length round.answers → (E.state reader.old).has_handle ≡ true) }
     ensures shut { IfOk result (λ round. IsTrue round.shut → Rose (E.state reader.old).refusals (E.state reader.new).refusals) }
     ensures later { (E.state reader.old).refusals ≤ (E.state reader.new).refusals }
 {
