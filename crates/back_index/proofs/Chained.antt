@@ -146,8 +146,8 @@ module _ {D : Type 0} {g : Ghosts D} where
   content_same : (pages : List (List ℕ)) (old new : Buckets D g) (n : ℕ) (values : BucketMap) → chains_of new ≡ chains_of old → cached_of new ≡ cached_of old
       → Content pages old n values → Content pages new n values
   content_same pages old new n values chains cached content =
-      subst (λ (c : Chains D g). MatchOption (map.get (cached_of new) n) (Stored pages c n values) (λ own. own.bucket ≡ values)) (sym chains)
-      (subst (λ (k : CacheMap). MatchOption (map.get k n) (Stored pages (chains_of old) n values) (λ own. own.bucket ≡ values)) (sym cached) content)
+      subst (λ (c : Chains D g). MatchOption (map.get (cached_of new) n) (Stored pages c n values) (λ own. own.bucket.values ≡ values)) (sym chains)
+      (subst (λ (k : CacheMap). MatchOption (map.get k n) (Stored pages (chains_of old) n values) (λ own. own.bucket.values ≡ values)) (sym cached) content)
 
   -- a transaction that is refused has what it had
   pub has_same : (rest now : Image) (old new : Buckets D g) → chains_of new ≡ chains_of old → cached_of new ≡ cached_of old → Has rest now old → Has rest now new

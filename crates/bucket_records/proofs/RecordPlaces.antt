@@ -247,3 +247,10 @@ bucket_seen buckets bucket bytes starts found =
 
 pub lies_rise : (bytes starts : List ℕ) (records : List (ℕ × List ℕ)) → Lies bytes starts records → AreRecords 0 (records_at bytes starts)
 lies_rise bytes starts records lie = (lies_indexed bytes starts records lie).rise
+
+-- the bytes of the first records are the front of those of all
+pub front_bytes : (records : List (ℕ × List ℕ)) (place at : ℕ) → at ≡ length (records_bytes (take place records))
+    → take at (records_bytes records) ≡ records_bytes (take place records)
+front_bytes records place at is =
+    ap (λ (l : List ℕ). take at l) (records_bytes-cut records place)
+    ∙ take_front (records_bytes (take place records)) (records_bytes (drop place records)) at is

@@ -1,4 +1,5 @@
 pub mod Changes
+pub mod Held
 pub mod Places
 pub mod Records
 pub mod Spelling

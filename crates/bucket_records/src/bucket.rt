@@ -3,6 +3,7 @@ ghost use Rattle.std.specs.Prelude.{◌≡◌, ◌++◌, ◌+◌, ◌%◌, ◌<�
 ghost use Rattle.std.specs.FinMap as map;
 ghost use Rattle.bucket_records.specs.Records.{IsBucket, IsNoBucket, AreRecords, records_bytes};
 ghost use Rattle.bucket_records.specs.Changes.{map_of};
+ghost use Rattle.bucket_records.specs.Held.{with_values};
 ghost use Rattle.bucket_records.specs.Places.{key_of};
 ghost use Rattle.value_bytes.specs.Forms.{NeedsFor};
 
@@ -16,29 +17,30 @@ use std::collections::BTreeMap;
 use std::marker::Model;
 use value_bytes::ValueFault;
 
-/// A finite map from keys to values: records in bytes, and what was changed since they were read.
+/// A finite map from keys to values: records in bytes, and what was changed since they were read. It knows the bytes
+/// that it was read from.
 #[derive(Debug, Drop)]
 pub struct Bucket {
     alloc: Global,
     records: Records,
+    // How many of the records were read: the others were put behind them.
+    read: usize,
     // The new values of keys that stand in the records or below their last, and none where a key is removed.
     changes: BTreeMap<u64, Option<Vec<u8>>>,
 }
 
 impl Model for Bucket {
-    ghost use Rattle.std.specs.Prelude.{ℕ, List};
-    ghost use Rattle.std.specs.Coded.{coded_list, coded_ℕ};
-    ghost use Rattle.std.specs.FinMap as map;
-    ghost use Rattle.bucket_records.specs.Records.{BucketMap, AreRecords};
-    ghost use Rattle.bucket_records.specs.Changes.{changed, map_of};
+    ghost use Rattle.std.specs.Prelude.{◌≤◌, length};
+    ghost use Rattle.bucket_records.specs.Records.{AreRecords};
+    ghost use Rattle.bucket_records.specs.Held.{HeldBucket, held, held_code};
 
-    ghost Value = { BucketMap };
+    ghost Value = { HeldBucket };
 
-    ghost coded = { map.code coded_ℕ (coded_list coded_ℕ) };
+    ghost coded = { held_code };
 
-    ghost view = { λ bucket. changed (map_of bucket.records) bucket.changes.entries };
+    ghost view = { λ bucket. held bucket.records bucket.read bucket.changes.entries };
 
-    ghost invariant = { λ bucket. AreRecords 0 bucket.records };
+    ghost invariant = { λ bucket. AreRecords 0 bucket.records × (bucket.read ≤ length bucket.records) };
 }
 
 impl Bucket {
@@ -50,12 +52,14 @@ impl Bucket {
         bucket: u64,
     ) -> Result<Self, ValueFault>
         requires { 1 ≤ buckets }
-        ensures map { IfOk result (λ values. IsBucket buckets bucket bytes.items (map.entries values)) }
+        ensures map { IfOk result (λ held. IsBucket buckets bucket bytes.items (map.entries held.values)) }
+        ensures origin { IfOk result (λ held. held.origin ≡ bytes.items) }
         ensures refused { IfErr result (NeedsFor (IsNoBucket buckets bucket bytes.items)) }
     {
         match Records::read(alloc, bytes, buckets, bucket) {
             Ok(records) => Ok(Self {
                 alloc,
+                read: records.len(),
                 records,
                 changes: BTreeMap::new(alloc),
             }),
@@ -65,7 +69,7 @@ impl Bucket {
 
     /// The value of a key.
     pub fn get(&self, key: u64) -> Option<&[u8]>
-        ensures { MatchOption result (map.get self.now key ≡ None) (λ value. map.get self.now key ≡ Some value.now) }
+        ensures { MatchOption result (map.get self.now.values key ≡ None) (λ value. map.get self.now.values key ≡ Some value.now) }
     {
         match self.changes.get(&key) {
             Some(Some(value)) => Some(value.as_slice()),
@@ -76,7 +80,7 @@ impl Bucket {
 
     /// Sets the value of a key. Where it fails, the map is as it was.
     pub fn put(&mut self, key: u64, value: &[u8]) -> Result<(), OutOfMemory>
-        ensures ok { OnOk result (self.new ≡ map.insert self.old key value.now) }
+        ensures ok { OnOk result (self.new ≡ with_values self.old (map.insert self.old.values key value.now)) }
         ensures err { OnErr result (self.new ≡ self.old) }
     {
         if self.changes.is_empty() && is_above(&self.records, key) {
@@ -90,8 +94,8 @@ impl Bucket {
 
     /// Takes a key out, and answers whether it was there. Where it fails, the map is as it was.
     pub fn remove(&mut self, key: u64) -> Result<bool, OutOfMemory>
-        ensures ok { OnOk result (self.new ≡ map.remove self.old key) }
-        ensures was { IfOk result (λ was. was ≡ map.contains_key self.old key) }
+        ensures ok { OnOk result (self.new ≡ with_values self.old (map.remove self.old.values key)) }
+        ensures was { IfOk result (λ was. was ≡ map.contains_key self.old.values key) }
         ensures err { OnErr result (self.new ≡ self.old) }
     {
         if self.get(key).is_none() {
@@ -103,7 +107,7 @@ impl Bucket {
 
     /// The keys with their values, by rising key.
     pub fn records(&self) -> Result<Vec<(u64, Bytes)>, OutOfMemory>
-        ensures { IfOk result (λ records. records.items ≡ map.entries self.now) }
+        ensures { IfOk result (λ records. records.items ≡ map.entries self.now.values) }
     {
         if self.changes.is_empty() {
             return copied_records(self.alloc, &self.records);
@@ -113,20 +117,24 @@ impl Bucket {
         copied_records(self.alloc, &merged)
     }
 
-    /// The bytes of the map.
-    pub fn into_bytes(self) -> Result<Vec<u8>, OutOfMemory>
-        ensures bytes { IfOk result (λ bytes. bytes.items ≡ records_bytes (map.entries self)) }
-        ensures rise { OnOk result (AreRecords 0 (map.entries self)) }
+    /// The bytes that it was read from, and those of the map.
+    pub fn into_bytes(self) -> Result<(Vec<u8>, Vec<u8>), OutOfMemory>
+        ensures origin { IfOk result (λ (origin, bytes). origin.items ≡ self.origin) }
+        ensures bytes { IfOk result (λ (origin, bytes). bytes.items ≡ records_bytes (map.entries self.values)) }
+        ensures rise { OnOk result (AreRecords 0 (map.entries self.values)) }
     {
         let Self {
             alloc,
             records,
+            read,
             changes,
         } = self;
         if changes.is_empty() {
-            return Ok(records.into_bytes());
+            let origin = Vec::from_slice(alloc, records.between(0, read))?;
+            return Ok((origin, records.into_bytes()));
         }
-        merged_bytes(alloc, &records, &changes)
+        let bytes = merged_bytes(alloc, &records, &changes)?;
+        Ok((records.into_front(read), bytes))
     }
 }
 

@@ -130,6 +130,17 @@ impl Records {
         let Self { bytes, starts: _ } = self;
         bytes
     }
+
+    /// The bytes of the first so many of them; takes no memory.
+    pub fn into_front(self, count: usize) -> Vec<u8>
+        requires { count ≤ length self }
+        ensures { result.items ≡ records_bytes (take count self) }
+    {
+        let end = self.begin_of(count);
+        let mut bytes = self.into_bytes();
+        bytes.truncate(end);
+        bytes
+    }
 }
 
 // Where each record of the bucket begins.

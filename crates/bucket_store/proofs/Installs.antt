@@ -1,5 +1,5 @@
 -- What a commit of buckets makes of the store.
-use Rattle.std.proofs.Common.{◌≡◌, ◌⊎◌, ℕ, ◌+◌, ◌<◌, ◌≤◌, List, length, Some, Result, Ok, Err, subst, inl, inr, arith}
+use Rattle.std.proofs.Common.{◌≡◌, ◌⊎◌, ℕ, ◌+◌, List, length, Result, Ok, Err, subst, inl, inr, arith}
 use Rattle.std.specs.FinMap as map
 use Rattle.outside.specs.Disk.{DiskView, Goes, Stays}
 use Rattle.outside.specs.declared.disk.Disk.{Ghosts}
@@ -12,7 +12,7 @@ use Rattle.chain_store.specs.declared.chains.Chains.{Chains}
 use Rattle.chain_store.specs.declared.root.Root.{Root}
 use Rattle.chain_store.specs.Answers.{IsReadAnswer}
 use Rattle.chain_store.specs.Chain.{HasPages}
-use Rattle.chain_store.specs.Chains.{IsOpen, before_of, first_of, journal_of, kept_of, read_of, root_of, written_of}
+use Rattle.chain_store.specs.Chains.{IsOpen, before_of, journal_of, kept_of, read_of, root_of, written_of}
 use Rattle.chain_store.specs.Ends.{Ends, Leaves}
 use Rattle.chain_store.specs.Links.{page_in}
 use Rattle.chain_store.specs.Store.{IsRefused, kept_first}
@@ -55,8 +55,11 @@ moment_given pages old mid new root was next strings one two rests stays state r
 -- with no bucket the store is open where its chains are
 pub open_none : {D : Type 0} {g : Ghosts D} (pages : List (List ℕ)) (chains : Chains D g) (cache : CacheMap) → cache ≡ map.empty → IsOpen pages chains
     → IsOpenWith pages chains cache
-open_none pages chains cache none opens =
-    record { open_chains = opens; had = λ n own there same. absurd (nothing cache n own none there) }
+open_none pages chains cache none opens = record {
+  open_chains = opens;
+  had = λ n own there same. absurd (nothing cache n own none there);
+  origins = λ n own there. absurd (nothing cache n own none there);
+}
 
 -- what the chains answer is what the buckets answer
 module _ {D : Type 0} {g : Ghosts D} (pages : List (List ℕ)) (old mid : Chains D g) (cache : CacheMap) (kept : kept_of mid ≡ kept_of old)

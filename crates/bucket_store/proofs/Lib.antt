@@ -1,6 +1,7 @@
 pub mod BucketLaws
 pub mod Caches
 pub mod Openings
+pub mod Origins
 pub mod Writings
 pub mod Installs
 pub mod Fresh

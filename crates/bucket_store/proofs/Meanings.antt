@@ -45,10 +45,10 @@ module _ {D : Type 0} {g : Ghosts D} where
   -- what the chain of a bucket is given spells the bucket
   given_bucket : (o : Option Cached) (pages : List (List ℕ)) (chains : Chains D g) (strings : ℕ → List ℕ) (root : Root) (n : ℕ) (own : BucketMap)
       → IsOpen pages chains → IsState root strings pages → 16 ≤ n → IsChain n
-      → ((it : Cached) → o ≡ Some it → it.changed ≡ false → Stored pages chains n it.bucket)
-      → ((it : Cached) → o ≡ Some it → IsTrue it.changed → AreRecords 0 (map.entries it.bucket))
-      → ((it : Cached) → o ≡ Some it → HasKeysOf (bucket_count chains) (bucket_in n) it.bucket)
-      → MatchOption o (Stored pages chains n own) (λ it. it.bucket ≡ own)
+      → ((it : Cached) → o ≡ Some it → it.changed ≡ false → Stored pages chains n it.bucket.values)
+      → ((it : Cached) → o ≡ Some it → IsTrue it.changed → AreRecords 0 (map.entries it.bucket.values))
+      → ((it : Cached) → o ≡ Some it → HasKeysOf (bucket_count chains) (bucket_in n) it.bucket.values)
+      → MatchOption o (Stored pages chains n own) (λ it. it.bucket.values ≡ own)
       → IsBucket (bucket_count chains) (bucket_in n) (own_or (after o (map.get (written_of chains) n)) (strings n)) (map.entries own)
   given_bucket None pages chains strings root n own opens state above chain had rise keys content =
       subst (λ (l : List ℕ). IsBucket (bucket_count chains) (bucket_in n) l (map.entries own))
@@ -56,16 +56,16 @@ module _ {D : Type 0} {g : Ghosts D} where
       content.spells
   given_bucket (Some it) pages chains strings root n own opens state above chain had rise keys content = elim (cases_Bool it.changed) [
     | inl yes-changed ↦
-        let bucket = written_bucket (bucket_count chains) (bucket_in n) it.bucket (rise it refl (cc yes-changed)) (keys it refl) in
-        subst (λ (b : Bool). IsBucket (bucket_count chains) (bucket_in n) (own_or (cond b (Some (records_bytes (map.entries it.bucket))) (map.get (written_of chains) n)) (strings n)) (map.entries own))
+        let bucket = written_bucket (bucket_count chains) (bucket_in n) it.bucket.values (rise it refl (cc yes-changed)) (keys it refl) in
+        subst (λ (b : Bool). IsBucket (bucket_count chains) (bucket_in n) (own_or (cond b (Some (records_bytes (map.entries it.bucket.values))) (map.get (written_of chains) n)) (strings n)) (map.entries own))
         (sym yes-changed)
-        (subst (λ (m : BucketMap). IsBucket (bucket_count chains) (bucket_in n) (records_bytes (map.entries it.bucket)) (map.entries m)) content bucket)
+        (subst (λ (m : BucketMap). IsBucket (bucket_count chains) (bucket_in n) (records_bytes (map.entries it.bucket.values)) (map.entries m)) content bucket)
     | inr unchanged ↦
         let stored = had it refl unchanged in
-        subst (λ (b : Bool). IsBucket (bucket_count chains) (bucket_in n) (own_or (cond b (Some (records_bytes (map.entries it.bucket))) (map.get (written_of chains) n)) (strings n)) (map.entries own))
+        subst (λ (b : Bool). IsBucket (bucket_count chains) (bucket_in n) (own_or (cond b (Some (records_bytes (map.entries it.bucket.values))) (map.get (written_of chains) n)) (strings n)) (map.entries own))
         (sym unchanged)
         (subst (λ (m : BucketMap). IsBucket (bucket_count chains) (bucket_in n) (own_or (map.get (written_of chains) n) (strings n)) (map.entries m)) content
-        (subst (λ (l : List ℕ). IsBucket (bucket_count chains) (bucket_in n) l (map.entries it.bucket))
+        (subst (λ (l : List ℕ). IsBucket (bucket_count chains) (bucket_in n) l (map.entries it.bucket.values))
         (loaded_string pages (kept_of chains) root strings opens.keeps state n (map.get (written_of chains) n) stored.bytes (inr above) chain stored.loaded)
         stored.spells))
   ]
@@ -80,7 +80,7 @@ module _ {D : Type 0} {g : Ghosts D} where
 
   -- what a commit gives the chains spells what the transaction has
   pub spells_given : (rest now : Image) (buckets : Buckets D g) → (has : Has rest now buckets)
-      → ((n : ℕ) (own : Cached) → map.get (cached_of buckets) n ≡ Some own → IsTrue own.changed → AreRecords 0 (map.entries own.bucket))
+      → ((n : ℕ) (own : Cached) → map.get (cached_of buckets) n ≡ Some own → IsTrue own.changed → AreRecords 0 (map.entries own.bucket.values))
       → Spells now (given has.strings (cached_of buckets) (written_of (chains_of buckets)))
   spells_given rest now buckets has rise =
       let chains = chains_of buckets in

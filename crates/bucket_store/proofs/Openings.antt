@@ -22,9 +22,10 @@ use Rattle.chain_store.proofs.Unique.{bytes_one}
 use Rattle.bucket_records.proofs.OneSpelling.{bucket_one}
 use Rattle.bucket_records.proofs.MapLaws.{less_of, equal_of, greater_of, remove_absent}
 use Rattle.bucket_store.specs.Cache.{CacheMap}
-use Rattle.bucket_store.specs.Buckets.{Stored, AreBuckets, HasKeysOf, IsBucketChain, bucket_count, bucket_in, chain_at}
+use Rattle.bucket_store.specs.Buckets.{Stored, AreBuckets, HasKeysOf, HasOrigin, IsBucketChain, bucket_count, bucket_in, chain_at}
 use Rattle.bucket_store.specs.Transaction.{IsOpenWith}
 use Rattle.bucket_store.specs.declared.cache.Cached.{Cached}
+use Rattle.bucket_store.proofs.Origins.{origin_same}
 
 -- what a chain has is one
 pub loaded_one : (pages : List (List ℕ)) (n first : ℕ) (own : Option (List ℕ)) (one two : List ℕ) → LoadedIs pages n first own one
@@ -69,26 +70,26 @@ module _ {D : Type 0} {g : Ghosts D} where
       (subst (λ (l : List ℕ). IsBucket (bucket_count chains) (bucket_in n) l (map.entries two)) same other.spells)
 
   pub match_later : (o : Option Cached) (pages : List (List ℕ)) (chains later : Chains D g) (n : ℕ) (values : BucketMap) → OnlyRead chains later
-      → MatchOption o (Stored pages chains n values) (λ it. it.bucket ≡ values)
-      → MatchOption o (Stored pages later n values) (λ it. it.bucket ≡ values)
+      → MatchOption o (Stored pages chains n values) (λ it. it.bucket.values ≡ values)
+      → MatchOption o (Stored pages later n values) (λ it. it.bucket.values ≡ values)
   match_later None pages chains later n values stays has = stored_later pages chains later n values stays has
   match_later (Some own) pages chains later n values stays has = has
 
   -- what the transaction has in each bucket, once another is there as it stands in the store
   pub content_more : (pages : List (List ℕ)) (chains later : Chains D g) (old new : CacheMap) (n : ℕ) (own : Cached) → OnlyRead chains later
-      → new ≡ map.insert old n own → Stored pages chains n own.bucket → map.get old n ≡ None
-      → (other : ℕ) (values : BucketMap) → MatchOption (map.get old other) (Stored pages chains other values) (λ it. it.bucket ≡ values)
-      → MatchOption (map.get new other) (Stored pages later other values) (λ it. it.bucket ≡ values)
+      → new ≡ map.insert old n own → Stored pages chains n own.bucket.values → map.get old n ≡ None
+      → (other : ℕ) (values : BucketMap) → MatchOption (map.get old other) (Stored pages chains other values) (λ it. it.bucket.values ≡ values)
+      → MatchOption (map.get new other) (Stored pages later other values) (λ it. it.bucket.values ≡ values)
   content_more pages chains later old new n own stays is stands none other values has = elim (same_or other n) [
     | inl level ↦
         let absent : map.get old other ≡ None = ap (λ (k : ℕ). map.get old k) level ∙ none in
-        let stored = subst (λ (o : Option Cached). MatchOption o (Stored pages chains other values) (λ it. it.bucket ≡ values)) absent has in
+        let stored = subst (λ (o : Option Cached). MatchOption o (Stored pages chains other values) (λ it. it.bucket.values ≡ values)) absent has in
         let here = ap (λ (k : ℕ). map.get new k) level ∙ put_there old new n own is in
-        let one = stored_one pages chains n own.bucket values stands (subst (λ (k : ℕ). Stored pages chains k values) level stored) in
-        subst (λ (o : Option Cached). MatchOption o (Stored pages later other values) (λ it. it.bucket ≡ values)) (sym here) one
+        let one = stored_one pages chains n own.bucket.values values stands (subst (λ (k : ℕ). Stored pages chains k values) level stored) in
+        subst (λ (o : Option Cached). MatchOption o (Stored pages later other values) (λ it. it.bucket.values ≡ values)) (sym here) one
     | inr apart ↦
         let same = put_apart old new n own other is apart in
-        subst (λ (o : Option Cached). MatchOption o (Stored pages later other values) (λ it. it.bucket ≡ values)) (sym same)
+        subst (λ (o : Option Cached). MatchOption o (Stored pages later other values) (λ it. it.bucket.values ≡ values)) (sym same)
         (match_later (map.get old other) pages chains later other values stays has)
   ]
 
@@ -96,36 +97,45 @@ module _ {D : Type 0} {g : Ghosts D} where
       → IsOpenWith pages old cache → IsOpenWith pages new cache
   open_later pages old new cache stays opens was = record {
     open_chains = opens;
-    had = λ n own there same. stored_later pages old new n own.bucket stays (was.had n own there same);
+    had = λ n own there same. stored_later pages old new n own.bucket.values stays (was.had n own there same);
+    origins = λ n own there. origin_same pages old new n own.bucket stays.kept (ap (λ (l : Lists). map.get l n) stays.written) (was.origins n own there);
   }
 
   -- a bucket more that is so in the store
   pub open_more : (pages : List (List ℕ)) (chains : Chains D g) (old new : CacheMap) (n : ℕ) (own : Cached) → new ≡ map.insert old n own
-      → (own.changed ≡ false → Stored pages chains n own.bucket) → IsOpenWith pages chains old → IsOpenWith pages chains new
-  open_more pages chains old new n own is stands was = record {
+      → (own.changed ≡ false → Stored pages chains n own.bucket.values) → HasOrigin pages chains n own.bucket
+      → IsOpenWith pages chains old → IsOpenWith pages chains new
+  open_more pages chains old new n own is stands origin was = record {
     open_chains = was.open_chains;
     had = λ k other there same.
         let found = sym (ap (λ (m : CacheMap). map.get m k) is ∙ map.get-insert nat_cmp_total old n own k) ∙ there in
         elim (cases_order k n) [
           | inl level ↦
               let here = same_Some own other (sym (ap (λ (r : Ordering). cond (is_eq r) (Some own) (map.get old k)) (equal_of k n level)) ∙ found) in
-              subst (λ (j : ℕ). Stored pages chains j other.bucket) (sym level)
-              (subst (λ (it : Cached). Stored pages chains n it.bucket) here (stands (ap (λ (it : Cached). it.changed) here ∙ same)))
+              subst (λ (j : ℕ). Stored pages chains j other.bucket.values) (sym level)
+              (subst (λ (it : Cached). Stored pages chains n it.bucket.values) here (stands (ap (λ (it : Cached). it.changed) here ∙ same)))
           | inr (inl low) ↦ was.had k other (sym (ap (λ (r : Ordering). cond (is_eq r) (Some own) (map.get old k)) (less_of k n low)) ∙ found) same
           | inr (inr high) ↦ was.had k other (sym (ap (λ (r : Ordering). cond (is_eq r) (Some own) (map.get old k)) (greater_of k n high)) ∙ found) same
         ];
+    origins = λ k other there. elim (same_or k n) [
+      | inl level ↦
+          let here = same_Some own other (sym (ap (λ (j : ℕ). map.get new j) level ∙ put_there old new n own is) ∙ there) in
+          subst (λ (j : ℕ). HasOrigin pages chains j other.bucket) (sym level)
+          (subst (λ (it : Cached). HasOrigin pages chains n it.bucket) here origin)
+      | inr apart ↦ was.origins k other (sym (put_apart old new n own k is apart) ∙ there)
+    ];
   }
 
 -- each is a bucket still
 pub buckets_more : (buckets : ℕ) (old new : CacheMap) (n : ℕ) (own : Cached) → new ≡ map.insert old n own → AreBuckets buckets old
-    → IsBucketChain buckets n → HasKeysOf buckets (bucket_in n) own.bucket → AreBuckets buckets new
+    → IsBucketChain buckets n → HasKeysOf buckets (bucket_in n) own.bucket.values → AreBuckets buckets new
 buckets_more buckets old new n own is were here keys k other there =
     let found = sym (ap (λ (m : CacheMap). map.get m k) is ∙ map.get-insert nat_cmp_total old n own k) ∙ there in
     elim (cases_order k n) [
       | inl level ↦
           let same = same_Some own other (sym (ap (λ (r : Ordering). cond (is_eq r) (Some own) (map.get old k)) (equal_of k n level)) ∙ found) in
-          subst (λ (j : ℕ). IsBucketChain buckets j × HasKeysOf buckets (bucket_in j) other.bucket) (sym level)
-          (subst (λ (it : Cached). IsBucketChain buckets n × HasKeysOf buckets (bucket_in n) it.bucket) same (here, keys))
+          subst (λ (j : ℕ). IsBucketChain buckets j × HasKeysOf buckets (bucket_in j) other.bucket.values) (sym level)
+          (subst (λ (it : Cached). IsBucketChain buckets n × HasKeysOf buckets (bucket_in n) it.bucket.values) same (here, keys))
       | inr (inl low) ↦ were k other (sym (ap (λ (r : Ordering). cond (is_eq r) (Some own) (map.get old k)) (less_of k n low)) ∙ found)
       | inr (inr high) ↦ were k other (sym (ap (λ (r : Ordering). cond (is_eq r) (Some own) (map.get old k)) (greater_of k n high)) ∙ found)
     ]
@@ -184,24 +194,24 @@ bucket_in-chain_at buckets m key some few =
 
 -- what a bucket that is there has, and what it has then
 pub content_own : {D : Type 0} {g : Ghosts D} (pages : List (List ℕ)) (chains : Chains D g) (o : Option Cached) (n : ℕ) (own : Cached)
-    (values : BucketMap) → o ≡ Some own → MatchOption o (Stored pages chains n values) (λ it. it.bucket ≡ values) → own.bucket ≡ values
+    (values : BucketMap) → o ≡ Some own → MatchOption o (Stored pages chains n values) (λ it. it.bucket.values ≡ values) → own.bucket.values ≡ values
 content_own pages chains o n own values there has =
-    subst (λ (p : Option Cached). MatchOption p (Stored pages chains n values) (λ it. it.bucket ≡ values)) there has
+    subst (λ (p : Option Cached). MatchOption p (Stored pages chains n values) (λ it. it.bucket.values ≡ values)) there has
 
 pub content_is : {D : Type 0} {g : Ghosts D} (pages : List (List ℕ)) (chains : Chains D g) (o : Option Cached) (n : ℕ) (own : Cached)
-    (values : BucketMap) → o ≡ Some own → own.bucket ≡ values → MatchOption o (Stored pages chains n values) (λ it. it.bucket ≡ values)
+    (values : BucketMap) → o ≡ Some own → own.bucket.values ≡ values → MatchOption o (Stored pages chains n values) (λ it. it.bucket.values ≡ values)
 content_is pages chains o n own values there is =
-    subst (λ (p : Option Cached). MatchOption p (Stored pages chains n values) (λ it. it.bucket ≡ values)) (sym there) is
+    subst (λ (p : Option Cached). MatchOption p (Stored pages chains n values) (λ it. it.bucket.values ≡ values)) (sym there) is
 
 pub never_changed : true ≡ false → ⊥
 never_changed same = absurd (cc)
 
 pub content_apart : {D : Type 0} {g : Ghosts D} (pages : List (List ℕ)) (chains : Chains D g) (old new : CacheMap) (n : ℕ) (own : Cached) (other : ℕ)
     (values : BucketMap) → new ≡ map.insert old n own → other ≢ n
-    → MatchOption (map.get old other) (Stored pages chains other values) (λ it. it.bucket ≡ values)
-    → MatchOption (map.get new other) (Stored pages chains other values) (λ it. it.bucket ≡ values)
+    → MatchOption (map.get old other) (Stored pages chains other values) (λ it. it.bucket.values ≡ values)
+    → MatchOption (map.get new other) (Stored pages chains other values) (λ it. it.bucket.values ≡ values)
 content_apart pages chains old new n own other values is apart has =
-    subst (λ (o : Option Cached). MatchOption o (Stored pages chains other values) (λ it. it.bucket ≡ values))
+    subst (λ (o : Option Cached). MatchOption o (Stored pages chains other values) (λ it. it.bucket.values ≡ values))
     (sym (put_apart old new n own other is apart)) has
 
 -- a key that was taken out, or was not there
@@ -214,14 +224,14 @@ pub absent_of : (o : Option (List ℕ)) → is_some o ≡ false → o ≡ None
 absent_of None is = refl
 absent_of (Some value) is = absurd (cc)
 
-pub taken_own : (own : Cached) (key : ℕ) → map.contains_key own.bucket key ≡ false → own.bucket ≡ map.remove own.bucket key
-taken_own own key none = remove_absent own.bucket key (absent_of (map.get own.bucket key) none)
+pub taken_own : (own : Cached) (key : ℕ) → map.contains_key own.bucket.values key ≡ false → own.bucket.values ≡ map.remove own.bucket.values key
+taken_own own key none = remove_absent own.bucket.values key (absent_of (map.get own.bucket.values key) none)
 
 pub content_same : {D : Type 0} {g : Ghosts D} (pages : List (List ℕ)) (chains : Chains D g) (old new : CacheMap) (other : ℕ) (values : BucketMap)
-    → new ≡ old → MatchOption (map.get old other) (Stored pages chains other values) (λ it. it.bucket ≡ values)
-    → MatchOption (map.get new other) (Stored pages chains other values) (λ it. it.bucket ≡ values)
+    → new ≡ old → MatchOption (map.get old other) (Stored pages chains other values) (λ it. it.bucket.values ≡ values)
+    → MatchOption (map.get new other) (Stored pages chains other values) (λ it. it.bucket.values ≡ values)
 content_same pages chains old new other values same has =
-    subst (λ (m : CacheMap). MatchOption (map.get m other) (Stored pages chains other values) (λ it. it.bucket ≡ values)) (sym same) has
+    subst (λ (m : CacheMap). MatchOption (map.get m other) (Stored pages chains other values) (λ it. it.bucket.values ≡ values)) (sym same) has
 
 -- what is stored stays so where no field changes but those that tell no chain
 pub stored_like : {D : Type 0} {g : Ghosts D} (pages : List (List ℕ)) (old new : Chains D g) (n : ℕ) (values : BucketMap)
@@ -239,7 +249,8 @@ pub open_like : {D : Type 0} {g : Ghosts D} (pages : List (List ℕ)) (old new :
     → IsOpenWith pages new cache
 open_like pages old new cache opens kept written count was = record {
   open_chains = opens;
-  had = λ n own there same. stored_like pages old new n own.bucket kept written count (was.had n own there same);
+  had = λ n own there same. stored_like pages old new n own.bucket.values kept written count (was.had n own there same);
+  origins = λ n own there. origin_same pages old new n own.bucket kept (ap (λ (l : Lists). map.get l n) written) (was.origins n own there);
 }
 
 no_own : (own : Cached) → None ≡ Some own → ⊥
@@ -257,6 +268,6 @@ buckets_less buckets old new n is were k other there =
 
 -- what a bucket that is not there has
 pub none_content : {D : Type 0} {g : Ghosts D} (o : Option Cached) (pages : List (List ℕ)) (chains : Chains D g) (n : ℕ) (values : BucketMap) → o ≡ None
-    → Stored pages chains n values → MatchOption o (Stored pages chains n values) (λ it. it.bucket ≡ values)
+    → Stored pages chains n values → MatchOption o (Stored pages chains n values) (λ it. it.bucket.values ≡ values)
 none_content None pages chains n values none stored = stored
 none_content (Some own) pages chains n values none stored = absurd (no_own own (sym none))

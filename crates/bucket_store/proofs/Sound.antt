@@ -49,7 +49,7 @@ module _ {D : Type 0} {g : Ghosts D} where
   content_bad : (pages : List (List ℕ)) (buckets : Buckets D g) (n at : ℕ) (values : BucketMap) → Content pages buckets n values → IsBad pages buckets n at → ⊥
   content_bad pages buckets n at values content bad =
       stored_bad pages (chains_of buckets) n at values
-      (subst (λ (o : Option Cached). MatchOption o (Stored pages (chains_of buckets) n values) (λ own. own.bucket ≡ values)) bad.0 content) bad.1
+      (subst (λ (o : Option Cached). MatchOption o (Stored pages (chains_of buckets) n values) (λ own. own.bucket.values ≡ values)) bad.0 content) bad.1
 
   pub sound_bring : {T : Type 0} (result : Result T StoreFault) (rest now : Image) (buckets : Buckets D g) (which key : ℕ) → which < 8
       → 1 ≤ bucket_count (chains_of buckets)

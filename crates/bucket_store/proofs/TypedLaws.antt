@@ -57,8 +57,8 @@ module _ {D : Type 0} {g : Ghosts D} where
   pub content_kept : (old new : Buckets D g) → chains_of new ≡ chains_of old → cached_of new ≡ cached_of old
       → (pages : List (List ℕ)) (other : ℕ) (values : BucketMap) → Content pages old other values → Content pages new other values
   content_kept old new chains cached pages other values has =
-      subst (λ (c : Chains D g). MatchOption (map.get (cached_of new) other) (Stored pages c other values) (λ own. own.bucket ≡ values)) (sym chains)
-      (subst (λ (m : CacheMap). MatchOption (map.get m other) (Stored pages (chains_of old) other values) (λ own. own.bucket ≡ values)) (sym cached) has)
+      subst (λ (c : Chains D g). MatchOption (map.get (cached_of new) other) (Stored pages c other values) (λ own. own.bucket.values ≡ values)) (sym chains)
+      (subst (λ (m : CacheMap). MatchOption (map.get m other) (Stored pages (chains_of old) other values) (λ own. own.bucket.values ≡ values)) (sym cached) has)
 
   pub read_same : (old new : Buckets D g) → chains_of new ≡ chains_of old → OnlyRead (chains_of old) (chains_of new)
   read_same old new chains = record {

@@ -19,14 +19,14 @@ get_put old new n k bytes is = ap (λ (m : Lists). map.get m k) is ∙ map.get-i
 
 -- a changed bucket's chain is written with its bytes
 pub written_one : (old new : Lists) (n : ℕ) (own : Cached) (bytes : List ℕ) → new ≡ map.insert old n bytes
-    → bytes ≡ records_bytes (map.entries own.bucket) → own.changed ≡ true
+    → bytes ≡ records_bytes (map.entries own.bucket.values) → own.changed ≡ true
     → (k : ℕ) → map.get new k ≡ after (cond (k == n) (Some own) None) (map.get old k)
 written_one old new n own bytes is bytes-are changed k = elim (same_or k n) [
   | inl same ↦
       get_put old new n k bytes is
       ∙ ap (λ (r : Ordering). cond (is_eq r) (Some bytes) (map.get old k)) (equal_of k n same)
       ∙ ap (λ (l : List ℕ). Some l) bytes-are
-      ∙ sym (ap (λ (b : Bool). cond b (Some (records_bytes (map.entries own.bucket))) (map.get old k)) changed)
+      ∙ sym (ap (λ (b : Bool). cond b (Some (records_bytes (map.entries own.bucket.values))) (map.get old k)) changed)
       ∙ sym (ap (λ (b : Bool). after (cond b (Some own) None) (map.get old k)) (eq-eqb k n same))
   | inr apart ↦
       get_put old new n k bytes is
@@ -39,7 +39,7 @@ pub written_none : (old : Lists) (n : ℕ) (own : Cached) → own.changed ≡ fa
     → (k : ℕ) → map.get old k ≡ after (cond (k == n) (Some own) None) (map.get old k)
 written_none old n own unchanged k = elim (same_or k n) [
   | inl same ↦
-      sym (ap (λ (b : Bool). cond b (Some (records_bytes (map.entries own.bucket))) (map.get old k)) unchanged)
+      sym (ap (λ (b : Bool). cond b (Some (records_bytes (map.entries own.bucket.values))) (map.get old k)) unchanged)
       ∙ sym (ap (λ (b : Bool). after (cond b (Some own) None) (map.get old k)) (eq-eqb k n same))
   | inr apart ↦ sym (ap (λ (b : Bool). after (cond b (Some own) None) (map.get old k)) (ne_eqb k n apart))
 ]

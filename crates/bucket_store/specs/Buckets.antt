@@ -8,6 +8,7 @@ use Rattle.page_journal.specs.declared.fault.StoreFault.TheVariants.{BadStore}
 use Rattle.chain_store.specs.declared.chains.Chains.{Chains}
 use Rattle.chain_store.specs.Chains.{LoadedIs, first_of, root_of, written_of}
 use Rattle.chain_store.specs.Store.{IsRefused}
+use Rattle.bucket_records.specs.Held.{HeldBucket}
 use Rattle.bucket_records.specs.Records.{BucketMap, IsBucket, IsNoBucket}
 use Rattle.bucket_store.specs.Cache.{CacheMap}
 use Rattle.bucket_store.specs.declared.cache.Cached.{Cached}
@@ -29,6 +30,10 @@ pub record Stored {D : Type 0} {g : Ghosts D} (pages : List (List ℕ)) (chains 
   pub loaded : LoadedIs pages n (first_of chains n) (map.get (written_of chains) n) bytes
   pub spells : IsBucket (bucket_count chains) (bucket_in n) bytes (map.entries values)
 
+-- a bucket was read from what the chain has
+abbrev pub HasOrigin : {D : Type 0} {g : Ghosts D} → List (List ℕ) → Chains D g → ℕ → HeldBucket → Type 0
+HasOrigin pages chains n held = LoadedIs pages n (first_of chains n) (map.get (written_of chains) n) held.origin
+
 -- the chain is refused at this page, or spells no records and begins there
 abbrev pub IsBadChain : {D : Type 0} {g : Ghosts D} → List (List ℕ) → Chains D g → ℕ → ℕ → Type 0
 IsBadChain pages chains n at = ((map.get (written_of chains) n ≡ None) × IsRefused pages n (first_of chains n) at)
@@ -36,8 +41,8 @@ IsBadChain pages chains n at = ((map.get (written_of chains) n ≡ None) × IsRe
     × IsNoBucket (bucket_count chains) (bucket_in n) bytes × (at ≡ first_of chains n))
 
 -- reading a bucket may give this answer
-abbrev pub ReadsBucket : {D : Type 0} {g : Ghosts D} → List (List ℕ) → Chains D g → ℕ → Result BucketMap StoreFault → Type 0
-ReadsBucket pages chains n (Ok values) = Stored pages chains n values
+abbrev pub ReadsBucket : {D : Type 0} {g : Ghosts D} → List (List ℕ) → Chains D g → ℕ → Result HeldBucket StoreFault → Type 0
+ReadsBucket pages chains n (Ok held) = Stored pages chains n held.values × HasOrigin pages chains n held
 ReadsBucket pages chains n (Err (BadStore at)) = IsBadChain pages chains n at
 ReadsBucket pages chains n (Err _) = Unit {0}
 
@@ -52,4 +57,8 @@ IsBucketChain buckets n = (16 ≤ n) × (n < 524304) × (bucket_in n < buckets)
 -- each of these is a bucket of a store with so many, and has its keys
 abbrev pub AreBuckets : ℕ → CacheMap → Type 0
 AreBuckets buckets cache = (n : ℕ) (own : Cached) → map.get cache n ≡ Some own
-    → IsBucketChain buckets n × HasKeysOf buckets (bucket_in n) own.bucket
+    → IsBucketChain buckets n × HasKeysOf buckets (bucket_in n) own.bucket.values
+
+-- each of these was read from what its chain has
+abbrev pub HaveOrigins : {D : Type 0} {g : Ghosts D} → List (List ℕ) → Chains D g → CacheMap → Type 0
+HaveOrigins pages chains cache = (n : ℕ) (own : Cached) → map.get cache n ≡ Some own → HasOrigin pages chains n own.bucket

@@ -20,7 +20,7 @@ use Rattle.bucket_store.specs.declared.cache.Cached.{Cached}
 -- the bytes that a chain is written with: those of its bucket, where that was changed, and else those before
 abbrev pub after : Option Cached → Option (List ℕ) → Option (List ℕ)
 after None before = before
-after (Some own) before = if own.changed then Some (records_bytes (map.entries own.bucket)) else before
+after (Some own) before = if own.changed then Some (records_bytes (map.entries own.bucket.values)) else before
 
 -- the bytes of each chain once these buckets and strings are written
 abbrev pub given : (ℕ → List ℕ) → CacheMap → Lists → ℕ → List ℕ

@@ -8,7 +8,7 @@ use Rattle.chain_store.specs.declared.chains.Chains.{Chains}
 use Rattle.chain_store.specs.Chains.{IsOpen}
 use Rattle.bucket_records.specs.Records.{BucketMap}
 use Rattle.bucket_store.specs.Cache.{CacheMap}
-use Rattle.bucket_store.specs.Buckets.{Stored, IsBadChain}
+use Rattle.bucket_store.specs.Buckets.{HaveOrigins, Stored, IsBadChain}
 use Rattle.bucket_store.specs.declared.cache.Cached.{Cached}
 use Rattle.bucket_store.specs.declared.buckets.Buckets.{Buckets}
 
@@ -22,17 +22,19 @@ cached_of buckets = buckets.cache
 abbrev pub has_refused : {D : Type 0} {g : Ghosts D} → Buckets D g → Bool
 has_refused buckets = buckets.refused
 
--- the store is at rest with these home pages, and each bucket that was not changed is so there
+-- the store is at rest with these home pages, each bucket that was not changed is so there, and each was read from what
+-- its chain has
 pub record IsOpenWith {D : Type 0} {g : Ghosts D} (pages : List (List ℕ)) (chains : Chains D g) (cache : CacheMap) : Type 0 where
   pub open_chains : IsOpen pages chains
-  pub had : (n : ℕ) (own : Cached) → map.get cache n ≡ Some own → own.changed ≡ false → Stored pages chains n own.bucket
+  pub had : (n : ℕ) (own : Cached) → map.get cache n ≡ Some own → own.changed ≡ false → Stored pages chains n own.bucket.values
+  pub origins : HaveOrigins pages chains cache
 
 abbrev pub IsOpenStore : {D : Type 0} {g : Ghosts D} → List (List ℕ) → Buckets D g → Type 0
 IsOpenStore pages buckets = IsOpenWith pages buckets.chains buckets.cache
 
 -- the transaction has these records in the bucket
 abbrev pub Content : {D : Type 0} {g : Ghosts D} → List (List ℕ) → Buckets D g → ℕ → BucketMap → Type 0
-Content pages buckets n values = MatchOption (map.get buckets.cache n) (Stored pages buckets.chains n values) (λ own. own.bucket ≡ values)
+Content pages buckets n values = MatchOption (map.get buckets.cache n) (Stored pages buckets.chains n values) (λ own. own.bucket.values ≡ values)
 
 -- the bucket cannot be read, for this page
 abbrev pub IsBad : {D : Type 0} {g : Ghosts D} → List (List ℕ) → Buckets D g → ℕ → ℕ → Type 0

@@ -1,6 +1,7 @@
 //! Buckets by the numbers of their chains, as a transaction has them.
 ghost use Rattle.std.specs.Prelude.{◌≡◌, ◌↔◌, ℕ, Some, None, true, false, IfSome, IsNone, IsSome, IsTrue, MatchOption, IfOk, OnOk, OnErr};
 ghost use Rattle.std.specs.FinMap as map;
+ghost use Rattle.bucket_store.specs.Cache.{changed_to};
 
 use bucket_records::Bucket;
 use osm_base::{Bytes, OutOfMemory};
@@ -18,7 +19,7 @@ pub struct Cached {
 impl Cached {
     // Sets the value of a key.
     fn put(&mut self, key: u64, value: &[u8]) -> Result<(), OutOfMemory>
-        ensures ok { OnOk result (self.new ≡ record { bucket = map.insert self.old.bucket key value.now; changed = true }) }
+        ensures ok { OnOk result (self.new ≡ changed_to self.old (map.insert self.old.bucket.values key value.now)) }
         ensures err { OnErr result (self.new ≡ self.old) }
     {
         match self.bucket.put(key, value) {
@@ -32,8 +33,8 @@ impl Cached {
 
     // Takes a key out, and answers whether it was there.
     fn remove(&mut self, key: u64) -> Result<bool, OutOfMemory>
-        ensures was { IfOk result (λ was. was ≡ map.contains_key self.old.bucket key) }
-        ensures taken { IfOk result (λ was. IsTrue was → self.new ≡ record { bucket = map.remove self.old.bucket key; changed = true }) }
+        ensures was { IfOk result (λ was. was ≡ map.contains_key self.old.bucket.values key) }
+        ensures taken { IfOk result (λ was. IsTrue was → self.new ≡ changed_to self.old (map.remove self.old.bucket.values key)) }
         ensures none { IfOk result (λ was. was ≡ false → self.new ≡ self.old) }
         ensures err { OnErr result (self.new ≡ self.old) }
     {
@@ -90,7 +91,7 @@ impl Cache {
     pub fn value(&self, n: u32, key: u64) -> Option<&[u8]>
         requires { IsSome (map.get self.now n) }
         ensures value { (own : Cached) → map.get self.now n ≡ Some own
-            → MatchOption result (map.get own.bucket key ≡ None) (λ value. map.get own.bucket key ≡ Some value.now) }
+            → MatchOption result (map.get own.bucket.values key ≡ None) (λ value. map.get own.bucket.values key ≡ Some value.now) }
     {
         let Some(cached) = self.tree.get(&n) else {
             unreachable!()
@@ -101,7 +102,7 @@ impl Cache {
     /// The records of a bucket that is there, by rising key.
     pub fn records(&self, n: u32) -> Result<Vec<(u64, Bytes)>, OutOfMemory>
         requires { IsSome (map.get self.now n) }
-        ensures records { IfOk result (λ records. (own : Cached) → map.get self.now n ≡ Some own → records.items ≡ map.entries own.bucket) }
+        ensures records { IfOk result (λ records. (own : Cached) → map.get self.now n ≡ Some own → records.items ≡ map.entries own.bucket.values) }
     {
         let Some(cached) = self.tree.get(&n) else {
             unreachable!()
@@ -128,7 +129,7 @@ impl Cache {
     pub fn put(&mut self, n: u32, key: u64, value: &[u8]) -> Result<(), OutOfMemory>
         requires { IsSome (map.get self.old n) }
         ensures ok { OnOk result ((own : Cached) → map.get self.old n ≡ Some own
-            → self.new ≡ map.insert self.old n (record { bucket = map.insert own.bucket key value.now; changed = true })) }
+            → self.new ≡ map.insert self.old n (changed_to own (map.insert own.bucket.values key value.now))) }
         ensures err { OnErr result (self.new ≡ self.old) }
     {
         let Some(cached) = self.tree.get_mut(&n) else {
@@ -140,9 +141,9 @@ impl Cache {
     /// Takes a key out of a bucket that is there, and answers whether it was in it. Where it fails, it is as it was.
     pub fn remove(&mut self, n: u32, key: u64) -> Result<bool, OutOfMemory>
         requires { IsSome (map.get self.old n) }
-        ensures was { IfOk result (λ was. (own : Cached) → map.get self.old n ≡ Some own → was ≡ map.contains_key own.bucket key) }
+        ensures was { IfOk result (λ was. (own : Cached) → map.get self.old n ≡ Some own → was ≡ map.contains_key own.bucket.values key) }
         ensures taken { IfOk result (λ was. (own : Cached) → map.get self.old n ≡ Some own → IsTrue was
-            → self.new ≡ map.insert self.old n (record { bucket = map.remove own.bucket key; changed = true })) }
+            → self.new ≡ map.insert self.old n (changed_to own (map.remove own.bucket.values key))) }
         ensures none { IfOk result (λ was. was ≡ false → self.new ≡ self.old) }
         ensures err { OnErr result (self.new ≡ self.old) }
     {

@@ -6,7 +6,7 @@ ghost use Rattle.page_journal.specs.Journal.{home_count, is_broken};
 ghost use Rattle.chain_store.specs.Answers.{IsReadAnswer, Looked};
 ghost use Rattle.chain_store.specs.Chains.{IsOpen, disk_of, is_refused, journal_of, kept_of, root_of, written_of};
 ghost use Rattle.chain_store.specs.Directories.{IsString};
-ghost use Rattle.bucket_store.specs.Buckets.{AreBuckets, IsBucketChain, bucket_count};
+ghost use Rattle.bucket_store.specs.Buckets.{AreBuckets, HasOrigin, HaveOrigins, IsBucketChain, bucket_count};
 ghost use Rattle.bucket_store.specs.Committing.{WritesBuckets, after};
 ghost use Rattle.bucket_records.specs.Records.{AreRecords};
 ghost use Rattle.bucket_store.specs.declared.cache.Cached.{Cached};
@@ -25,12 +25,13 @@ pub fn store_changed<D: Disk>(
     requires buckets { AreBuckets (bucket_count chains.old) cache.old }
     requires going { is_refused chains.old ≡ false }
     ensures written { OnOk result ((n : ℕ) → map.get (written_of chains.new) n ≡ after (map.get cache.old n) (map.get (written_of chains.old) n)) }
-    ensures open { (pages : List (List ℕ)) → IsOpen pages chains.old → IsOpen pages chains.new }
+    ensures open { (pages : List (List ℕ)) → IsOpen pages chains.old → HaveOrigins pages chains.old cache.old → IsOpen pages chains.new }
     ensures kept { kept_of chains.new ≡ kept_of chains.old }
     ensures root { root_of chains.new ≡ root_of chains.old }
     ensures going { OnOk result (is_refused chains.new ≡ false) }
-    ensures rise { OnOk result ((n : ℕ) (own : Cached) → map.get cache.old n ≡ Some own → IsTrue own.changed → AreRecords 0 (map.entries own.bucket)) }
-    ensures answers { (pages : List (List ℕ)) → IsOpen pages chains.old → WritesBuckets pages (kept_of chains.old) (bucket_count chains.old) result }
+    ensures rise { OnOk result ((n : ℕ) (own : Cached) → map.get cache.old n ≡ Some own → IsTrue own.changed → AreRecords 0 (map.entries own.bucket.values)) }
+    ensures answers { (pages : List (List ℕ)) → IsOpen pages chains.old → HaveOrigins pages chains.old cache.old
+        → WritesBuckets pages (kept_of chains.old) (bucket_count chains.old) result }
     ensures alone { IsReadAnswer (is_broken (journal_of chains.old)) result }
     ensures looked { Looked (journal_of chains.old) (journal_of chains.new) }
     ensures broken { is_broken (journal_of chains.new) ≡ (is_broken (journal_of chains.old) || answers_disk_fault result) }
@@ -61,11 +62,11 @@ fn store_bucket<D: Disk>(
     requires bucket { IsBucketChain (bucket_count chains.old) n }
     requires going { is_refused chains.old ≡ false }
     ensures written { OnOk result ((k : ℕ) → map.get (written_of chains.new) k ≡ after (if k == n then Some cached else None) (map.get (written_of chains.old) k)) }
-    ensures open { (pages : List (List ℕ)) → IsOpen pages chains.old → IsOpen pages chains.new }
+    ensures open { (pages : List (List ℕ)) → IsOpen pages chains.old → HasOrigin pages chains.old n cached.bucket → IsOpen pages chains.new }
     ensures kept { kept_of chains.new ≡ kept_of chains.old }
     ensures root { root_of chains.new ≡ root_of chains.old }
     ensures going { OnOk result (is_refused chains.new ≡ false) }
-    ensures rise { OnOk result (IsTrue cached.changed → AreRecords 0 (map.entries cached.bucket)) }
+    ensures rise { OnOk result (IsTrue cached.changed → AreRecords 0 (map.entries cached.bucket.values)) }
     ensures answers { (pages : List (List ℕ)) → IsOpen pages chains.old → WritesBuckets pages (kept_of chains.old) (bucket_count chains.old) result }
     ensures alone { IsReadAnswer (is_broken (journal_of chains.old)) result }
     ensures looked { Looked (journal_of chains.old) (journal_of chains.new) }
@@ -76,11 +77,11 @@ fn store_bucket<D: Disk>(
         return Ok(());
     }
     let Cached { bucket, changed: _ } = cached;
-    let bytes = match bucket.into_bytes() {
-        Ok(bytes) => bytes,
+    let (before, bytes) = match bucket.into_bytes() {
+        Ok(both) => both,
         Err(_) => return Err(StoreFault::OutOfMemory),
     };
-    match chains.store(n, Bytes::from_vec(bytes)) {
+    match chains.store_over(n, Bytes::from_vec(before), Bytes::from_vec(bytes)) {
         Ok(()) => Ok(()),
         Err(fault) => Err(fault),
     }

@@ -26,7 +26,7 @@ pub fn read_bucket<D: Disk>(
     requires some { 1 ≤ bucket_count chains.old }
     requires going { is_refused chains.old ≡ false }
     ensures answers { (pages : List (List ℕ)) → IsOpen pages chains.old → ReadsBucket pages chains.old n result }
-    ensures own { IfOk result (λ values. HasKeysOf (bucket_count chains.old) (bucket_in n) values) }
+    ensures own { IfOk result (λ held. HasKeysOf (bucket_count chains.old) (bucket_in n) held.values) }
     ensures open { (pages : List (List ℕ)) → IsOpen pages chains.old → IsOpen pages chains.new }
     ensures alone { IsReadAnswer (is_broken (journal_of chains.old)) result }
     ensures stays { OnlyRead chains.old chains.new }

@@ -1,5 +1,5 @@
 -- A journal that is only looked at, again and again.
-use Rattle.std.proofs.Common.{◌≡◌, ◌∙◌, ℕ, List, refl, sym, ap, subst}
+use Rattle.std.proofs.Common.{◌≡◌, ◌∙◌, ℕ, List, refl, sym, subst}
 use Rattle.outside.specs.declared.disk.Disk.{Ghosts}
 use Rattle.outside.specs.Disk.{Stays}
 use Rattle.page_journal.specs.Journal.{disk_of, home_count, loan_of, page_limit, view_of}

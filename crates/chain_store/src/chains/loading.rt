@@ -7,16 +7,15 @@ ghost use Rattle.page_journal.specs.Journal.{home_count, is_broken};
 ghost use Rattle.chain_store.specs.Answers.{IsReadAnswer, Looked};
 ghost use Rattle.chain_store.specs.Directories.{IsChain, IsString};
 ghost use Rattle.chain_store.specs.Known.{MayRead};
-ghost use Rattle.chain_store.specs.Store.{HasBytes};
 
 use super::Chains;
 use crate::walking::{Walked, walk};
-use osm_base::{Bytes, Ids, TryCopy};
+use osm_base::{Bytes, Ids, OutOfMemory, TryCopy};
 use outside::Disk;
 use page_journal::StoreFault;
 
 impl<'d, D: Disk> Chains<'d, D> {
-    ghost use Rattle.chain_store.specs.Chains.{Brings, IsOpen, Loads, OnlyRead, disk_of, first_of, is_refused, journal_of, kept_of, read_of, root_of, written_of};
+    ghost use Rattle.chain_store.specs.Chains.{Brings, IsOpen, LoadedIs, Loads, OnlyRead, disk_of, first_of, is_refused, journal_of, kept_of, read_of, root_of, written_of};
 
     /// The bytes of a chain, as the transaction has them.
     pub fn load(&mut self, n: u32) -> Result<Bytes, StoreFault>
@@ -74,17 +73,16 @@ impl<'d, D: Disk> Chains<'d, D> {
         Ok(())
     }
 
-    /// The same, where these are the bytes that the chain has in the store: a page that stays as it is will not be
-    /// written again.
+    /// The same, where these are the bytes that `load` gives: a page that stays as it is will not be written again.
     pub fn store_over(&mut self, n: u32, before: Bytes, bytes: Bytes) -> Result<(), StoreFault>
         requires string { IsString (root_of self.old).buckets n }
         requires going { is_refused self.old ≡ false }
-        requires before { (pages : List (List ℕ)) → IsOpen pages self.old → HasBytes pages n (first_of self.old n) before }
         ensures written { OnOk result (written_of self.new ≡ map.insert (written_of self.old) n bytes) }
         ensures err { OnErr result (written_of self.new ≡ written_of self.old) }
         ensures answers { (pages : List (List ℕ)) → IsOpen pages self.old
             → Brings pages n (first_of self.old n) (map.get (read_of self.old) n) result }
-        ensures open { (pages : List (List ℕ)) → IsOpen pages self.old → IsOpen pages self.new }
+        ensures open { (pages : List (List ℕ)) → IsOpen pages self.old
+            → LoadedIs pages n (first_of self.old n) (map.get (written_of self.old) n) before → IsOpen pages self.new }
         ensures alone { IsReadAnswer (is_broken (journal_of self.old)) result }
         ensures looked { Looked (journal_of self.old) (journal_of self.new) }
         ensures kept { kept_of self.new ≡ kept_of self.old }
@@ -98,11 +96,36 @@ impl<'d, D: Disk> Chains<'d, D> {
         ensures refused { is_refused self.new ≡ is_err result }
         ensures cause { HasDiskCause (disk_of self.old).faults (disk_of self.new).faults result }
     {
-        if self.before.put(n, before).is_err() {
+        if let Err(fault) = self.bring(n) {
+            self.refused = true;
+            return Err(fault);
+        }
+        if self.note(n, before).is_err() {
             self.refused = true;
             return Err(StoreFault::OutOfMemory);
         }
-        self.store(n, bytes)
+        if self.written.put(n, bytes).is_err() {
+            self.refused = true;
+            return Err(StoreFault::OutOfMemory);
+        }
+        Ok(())
+    }
+
+    // Keeps the bytes that `load` gives, where they are those of the store.
+    fn note(&mut self, n: u32, bytes: Bytes) -> Result<(), OutOfMemory>
+        ensures open { (pages : List (List ℕ)) → IsOpen pages self.old
+            → LoadedIs pages n (first_of self.old n) (map.get (written_of self.old) n) bytes → IsOpen pages self.new }
+        ensures journal { journal_of self.new ≡ journal_of self.old }
+        ensures kept { kept_of self.new ≡ kept_of self.old }
+        ensures root { root_of self.new ≡ root_of self.old }
+        ensures read { read_of self.new ≡ read_of self.old }
+        ensures written { written_of self.new ≡ written_of self.old }
+        ensures going { is_refused self.new ≡ is_refused self.old }
+    {
+        if self.written.get(n).is_some() {
+            return Ok(());
+        }
+        self.before.put(n, bytes)
     }
 
     // What was written, or else what stands in the store.

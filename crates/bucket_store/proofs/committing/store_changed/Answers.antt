@@ -11,6 +11,7 @@ use Rattle.bucket_store.specs.Buckets.{bucket_count}
 use Rattle.bucket_store.proofs.BucketLaws.{chain_given}
 use Rattle.bucket_store.proofs.Caches.{fewer, rise_end, rise_less}
 use Rattle.bucket_store.proofs.Openings.{buckets_less, buckets_same}
+use Rattle.bucket_store.proofs.Origins.{origins_less}
 use Rattle.bucket_store.proofs.Writings.{after_same, after_none, still_then}
 use Rattle.bucket_store.proofs.committing.store_changed.Goals as goal
 
@@ -33,12 +34,17 @@ loop-n-preserved g c =
       going = done.going;
       written = λ n. after_same c.loop-n.cache c.pop.new.self (written_of c.loop-n.chains) (written_of c.store_bucket.new.chains) c.in-Some.n
           c.in-Some.cached c.in-Some.ensures.there c.in-Some.ensures.rest done.written n ∙ so-far.written n;
-      rise = λ n own there changed. rise_less c.loop-n.cache c.pop.new.self c.in-Some.n c.in-Some.cached n own (AreRecords 0 (map.entries own.bucket))
+      rise = λ n own there changed. rise_less c.loop-n.cache c.pop.new.self c.in-Some.n c.in-Some.cached n own (AreRecords 0 (map.entries own.bucket.values))
           c.in-Some.ensures.there c.in-Some.ensures.rest
-          (λ same. subst (λ (it : Cached). AreRecords 0 (map.entries it.bucket)) same
+          (λ same. subst (λ (it : Cached). AreRecords 0 (map.entries it.bucket.values)) same
           (done.rise (subst (λ (it : Cached). IsTrue it.changed) (sym same) changed)))
           (so-far.rise n own there changed);
-      opens = λ pages was. done.open pages (so-far.opens pages was);
+      opens = λ pages was had.
+          let here = so-far.opens pages was had in (
+            done.open pages here.0 (here.1 c.in-Some.n c.in-Some.cached c.in-Some.ensures.there),
+            origins_less pages c.loop-n.chains c.store_bucket.new.chains c.loop-n.cache c.pop.new.self c.in-Some.n c.in-Some.cached c.in-Some.ensures.rest
+                done.kept done.written here.1,
+          );
       kept = done.kept ∙ so-far.kept;
       root = done.root ∙ so-far.root;
       still = still_then (is_broken (journal_of c.args.chains.now)) (is_broken (journal_of c.loop-n.chains))
@@ -53,4 +59,4 @@ returns-clause-written g c n =
 
 pub returns-clause-rise : goal.returns-clause-rise
 returns-clause-rise g c n own there changed =
-    rise_end c.loop-n.cache n own (AreRecords 0 (map.entries own.bucket)) (c.in_default.ensures.none refl) (c.loop-n.invariant.rise n own there changed)
+    rise_end c.loop-n.cache n own (AreRecords 0 (map.entries own.bucket.values)) (c.in_default.ensures.none refl) (c.loop-n.invariant.rise n own there changed)

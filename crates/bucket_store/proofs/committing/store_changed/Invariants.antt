@@ -4,7 +4,7 @@ use Rattle.std.specs.FinMap as map
 use Rattle.chain_store.specs.Chains.{IsOpen, disk_of, is_refused, journal_of, kept_of, root_of, written_of}
 use Rattle.page_journal.specs.Journal.{is_broken}
 use Rattle.chain_store.specs.Answers.{Looked}
-use Rattle.bucket_store.specs.Buckets.{AreBuckets, bucket_count}
+use Rattle.bucket_store.specs.Buckets.{AreBuckets, HaveOrigins, bucket_count}
 use Rattle.bucket_store.specs.Committing.{after}
 use Rattle.bucket_records.specs.Records.{AreRecords}
 use Rattle.bucket_store.specs.declared.cache.Cached.{Cached}
@@ -17,8 +17,9 @@ invariant-loop-n g l = record {
   written : (n : ℕ) → after (map.get l.cache n) (map.get (written_of l.chains) n)
       ≡ after (map.get l.initial.cache n) (map.get (written_of l.initial.chains) n);
   rise : (n : ℕ) (own : Cached) → map.get l.initial.cache n ≡ Some own → IsTrue own.changed
-      → (map.get l.cache n ≡ Some own) ⊎ AreRecords 0 (map.entries own.bucket);
-  opens : (pages : List (List ℕ)) → IsOpen pages l.initial.chains → IsOpen pages l.chains;
+      → (map.get l.cache n ≡ Some own) ⊎ AreRecords 0 (map.entries own.bucket.values);
+  opens : (pages : List (List ℕ)) → IsOpen pages l.initial.chains → HaveOrigins pages l.initial.chains l.initial.cache
+      → IsOpen pages l.chains × HaveOrigins pages l.chains l.cache;
   kept : kept_of l.chains ≡ kept_of l.initial.chains;
   root : root_of l.chains ≡ root_of l.initial.chains;
   still : is_broken (journal_of l.chains) ≡ is_broken (journal_of l.initial.chains);

@@ -14,6 +14,7 @@ pub returns-clause-open : goal.returns-clause-open
 returns-clause-open g c pages was = record {
   open_chains = c.begin.ensures.open pages was.open_chains;
   had = λ n own there same. absurd (nothing c.new.result n own c.new.ensures.empty there);
+  origins = λ n own there. absurd (nothing c.new.result n own c.new.ensures.empty there);
 }
 
 pub returns-clause-has : goal.returns-clause-has
@@ -22,6 +23,7 @@ returns-clause-has g c whole rest rests =
     (record {
       open_chains = c.begin.ensures.anew rests.pages rests.rests rests.keeps;
       had = λ n own there same. absurd (nothing c.new.result n own c.new.ensures.empty there);
+      origins = λ n own there. absurd (nothing c.new.result n own c.new.ensures.empty there);
     })
     rests.state rests.spells (ap (λ j. is_broken j) c.begin.ensures.journal ∙ whole)
     (c.begin.ensures.root ∙ ap (λ page. root_in page) rests.keeps.front ∙ rests.state.fields) c.begin.ensures.written c.new.ensures.empty

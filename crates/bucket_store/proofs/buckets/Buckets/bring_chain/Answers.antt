@@ -1,6 +1,7 @@
 -- A bucket that was read is there as it is in the store, and the others are as they were.
 use Rattle.std.proofs.Common.{◌≡◌, false, sym, ap, subst}
 use Rattle.chain_store.specs.declared.root.Root.{Root}
+use Rattle.chain_store.specs.Known.{Lists}
 use Rattle.std.specs.FinMap as map
 use Rattle.bucket_store.specs.Cache.{CacheMap}
 use Rattle.bucket_store.specs.Buckets.{bucket_count}
@@ -10,6 +11,7 @@ use Rattle.bucket_store.proofs.Openings.{open_later, open_more, stored_later, bu
 use Rattle.std.proofs.Common.{◌||◌, Bool, refl, ◌∙◌}
 use Rattle.bucket_store.proofs.Holding.{has_later}
 use Rattle.bucket_store.proofs.Openings.{content_is, none_content, there_own}
+use Rattle.bucket_store.proofs.Origins.{origin_same}
 use Rattle.bucket_store.proofs.buckets.Buckets.bring_chain.Goals as goal
 
 pub returns-in-Err-clause-open : goal.returns-in-Err-clause-open
@@ -36,9 +38,11 @@ returns-in-Ok-add-clause-there g c =
 pub returns-in-Ok-add-clause-open : goal.returns-in-Ok-add-clause-open
 returns-in-Ok-add-clause-open g c pages was =
     let own : Cached = record { bucket = c.in-Ok.bucket; changed = false } in
-    let stored = stored_later pages c.args.self.now.chains c.read_bucket.new.chains c.args.n c.in-Ok.bucket c.in-Ok.ensures.stays
-    (c.in-Ok.ensures.answers pages was.open_chains) in
-    open_more pages c.read_bucket.new.chains c.args.self.now.cache c.add.new.self c.args.n own c.in-Ok-add.ensures.ok (λ same. stored)
+    let stored = stored_later pages c.args.self.now.chains c.read_bucket.new.chains c.args.n c.in-Ok.bucket.values c.in-Ok.ensures.stays
+    (c.in-Ok.ensures.answers pages was.open_chains).0 in
+    let origin = origin_same pages c.args.self.now.chains c.read_bucket.new.chains c.args.n c.in-Ok.bucket c.in-Ok.ensures.stays.kept
+    (ap (λ (l : Lists). map.get l c.args.n) c.in-Ok.ensures.stays.written) (c.in-Ok.ensures.answers pages was.open_chains).1 in
+    open_more pages c.read_bucket.new.chains c.args.self.now.cache c.add.new.self c.args.n own c.in-Ok-add.ensures.ok (λ same. stored) origin
     (open_later pages c.args.self.now.chains c.read_bucket.new.chains c.args.self.now.cache c.in-Ok.ensures.stays
     (c.in-Ok.ensures.open pages was.open_chains) was)
 
@@ -47,7 +51,7 @@ returns-in-Ok-add-clause-content g c pages was other values has =
     let own : Cached = record { bucket = c.in-Ok.bucket; changed = false } in
     let none = none_of c.has.result (map.get c.args.self.now.cache c.args.n) c.has.ensures.1 c.if-has.false in
     content_more pages c.args.self.now.chains c.read_bucket.new.chains c.args.self.now.cache c.add.new.self c.args.n own c.in-Ok.ensures.stays
-    c.in-Ok-add.ensures.ok (c.in-Ok.ensures.answers pages was.open_chains) none other values has
+    c.in-Ok-add.ensures.ok (c.in-Ok.ensures.answers pages was.open_chains).0 none other values has
 
 pub returns-in-Err-add-clause-open : goal.returns-in-Err-add-clause-open
 returns-in-Err-add-clause-open g c pages was =
@@ -58,14 +62,14 @@ returns-in-Err-add-clause-open g c pages was =
 pub returns-then-has-clause-had : goal.returns-then-has-clause-had
 returns-then-has-clause-had g c pages was =
     let found = there_own (map.get c.args.self.now.cache c.args.n) (c.has.ensures.0 c.if-has.true) in
-    (found.0.bucket, content_is pages c.args.self.now.chains (map.get c.args.self.now.cache c.args.n) c.args.n found.0 found.0.bucket found.1 refl)
+    (found.0.bucket.values, content_is pages c.args.self.now.chains (map.get c.args.self.now.cache c.args.n) c.args.n found.0 found.0.bucket.values found.1 refl)
 
 pub returns-in-Ok-add-clause-had : goal.returns-in-Ok-add-clause-had
 returns-in-Ok-add-clause-had g c pages was =
     let none = none_of c.has.result (map.get c.args.self.now.cache c.args.n) c.has.ensures.1 c.if-has.false in (
-      c.in-Ok.bucket,
-      none_content (map.get c.args.self.now.cache c.args.n) pages c.args.self.now.chains c.args.n c.in-Ok.bucket none
-          (c.in-Ok.ensures.answers pages was.open_chains),
+      c.in-Ok.bucket.values,
+      none_content (map.get c.args.self.now.cache c.args.n) pages c.args.self.now.chains c.args.n c.in-Ok.bucket.values none
+          (c.in-Ok.ensures.answers pages was.open_chains).0,
     )
 
 pub returns-in-Ok-add-clause-has : goal.returns-in-Ok-add-clause-has

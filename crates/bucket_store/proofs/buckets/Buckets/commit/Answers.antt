@@ -22,7 +22,7 @@ invariant_of-self g c =
 
 pub returns-in-Err-clause-open : goal.returns-in-Err-clause-open
 returns-in-Err-clause-open g c _ _ pages was =
-    open_none pages c.store_changed-stored.new.chains c.new.result c.new.ensures.empty (c.in-Err.ensures.open pages was.open_chains)
+    open_none pages c.store_changed-stored.new.chains c.new.result c.new.ensures.empty (c.in-Err.ensures.open pages was.open_chains was.origins)
 
 pub invariant_of-self-in-Ok : goal.invariant_of-self-in-Ok
 invariant_of-self-in-Ok g c =
@@ -40,14 +40,14 @@ returns-in-Ok-clause-any_moment g c root strings pages was state =
     moment_given pages (disk_of old) (disk_of mid) (disk_of c.commit.new.self) root (root_of mid) (root_of old) strings
     (changed strings (written_of mid)) (given strings c.args.self.now.cache (written_of old)) was.open_chains.rests.0 done.looked.stays state done.root
     (given_is strings c.args.self.now.cache (written_of old) (written_of mid) done.written)
-    (c.in-Ok.ensures.any_moment root strings pages (done.open pages was.open_chains) state)
+    (c.in-Ok.ensures.any_moment root strings pages (done.open pages was.open_chains was.origins) state)
 
 pub returns-in-Ok-clause-done : goal.returns-in-Ok-clause-done
 returns-in-Ok-clause-done g c root strings pages was state =
     let old = c.args.self.now.chains in
     let mid = c.store_changed-stored.new.chains in
     let done = c.in_default.ensures in
-    let made = c.in-Ok.ensures.done root strings pages (done.open pages was.open_chains) state in (
+    let made = c.in-Ok.ensures.done root strings pages (done.open pages was.open_chains was.origins) state in (
       made.0,
       open_none made.0 c.commit.new.self c.new.result c.new.ensures.empty made.1,
       is_given (root_of mid) (root_of old) (changed strings (written_of mid)) (given strings c.args.self.now.cache (written_of old)) made.0 done.root
@@ -62,19 +62,19 @@ returns-in-Err-commit-clause-any_moment g c root strings pages was state =
     moment_given pages (disk_of old) (disk_of mid) (disk_of c.commit.new.self) root (root_of mid) (root_of old) strings
     (changed strings (written_of mid)) (given strings c.args.self.now.cache (written_of old)) was.open_chains.rests.0 done.looked.stays state done.root
     (given_is strings c.args.self.now.cache (written_of old) (written_of mid) done.written)
-    (c.in-Err-commit.ensures.any_moment root strings pages (done.open pages was.open_chains) state)
+    (c.in-Err-commit.ensures.any_moment root strings pages (done.open pages was.open_chains was.origins) state)
 
 pub returns-in-Err-commit-clause-open : goal.returns-in-Err-commit-clause-open
 returns-in-Err-commit-clause-open g c _ no-fault pages was =
     open_none pages c.commit.new.self c.new.result c.new.ensures.empty
-    (c.in-Err-commit.ensures.open refl no-fault pages (c.in_default.ensures.open pages was.open_chains))
+    (c.in-Err-commit.ensures.open refl no-fault pages (c.in_default.ensures.open pages was.open_chains was.origins))
 
 pub returns-in-Err-clause-sound : goal.returns-in-Err-clause-sound
 returns-in-Err-clause-sound g c rest now has =
     let chains = c.args.self.now.chains in
     sound_writes has.pages (kept_of chains) rest.root has.strings has.opens.open_chains.keeps has.state (Err c.in-Err.fault) (bucket_count chains)
     (page_limit (journal_of chains)) (is_broken (journal_of chains))
-    (c.in-Err.ensures.answers has.pages has.opens.open_chains) c.in-Err.ensures.alone has.whole
+    (c.in-Err.ensures.answers has.pages has.opens.open_chains has.opens.origins) c.in-Err.ensures.alone has.whole
 
 pub returns-in-Ok-clause-images : goal.returns-in-Ok-clause-images
 returns-in-Ok-clause-images g c rest now has =
@@ -104,7 +104,7 @@ returns-in-Ok-clause-has g c rest now has =
 pub returns-in-Err-commit-clause-sound : goal.returns-in-Err-commit-clause-sound
 returns-in-Err-commit-clause-sound g c rest now has =
     let mid = c.store_changed-stored.new.chains in
-    let opens = c.in_default.ensures.open has.pages has.opens.open_chains in
+    let opens = c.in_default.ensures.open has.pages has.opens.open_chains has.opens.origins in
     let whole = c.in_default.ensures.broken ∙ ap (λ (b : Bool). b || false) has.whole in
     subst (λ (limit : ℕ). IsSoundCommit {T = Unit {0}} limit (Err c.in-Err-commit.fault)) c.in_default.ensures.looked.limit
     (sound_ends has.pages (kept_of mid) rest.root has.strings opens.keeps has.state (Err c.in-Err-commit.fault) (root_of mid) (written_of mid) (read_of mid) (before_of mid)
@@ -115,14 +115,14 @@ returns-in-Err-clause-answers g c pages was =
     let chains = c.args.self.now.chains in
     commits_none c.in-Err.fault pages chains c.args.self.now.cache (page_limit (journal_of chains))
     (home_count (journal_of c.store_changed-stored.new.chains)) (bucket_count chains)
-    (c.in-Err.ensures.answers pages was.open_chains) c.in-Err.ensures.alone
+    (c.in-Err.ensures.answers pages was.open_chains was.origins) c.in-Err.ensures.alone
 
 pub returns-in-Ok-clause-answers : goal.returns-in-Ok-clause-answers
 returns-in-Ok-clause-answers g c pages was =
     let old = c.args.self.now.chains in
     let mid = c.store_changed-stored.new.chains in
     let done = c.in_default.ensures in
-    let opens = done.open pages was.open_chains in
+    let opens = done.open pages was.open_chains was.origins in
     commits_chains pages old mid c.args.self.now.cache done.kept done.root opens done.written (Ok tt) (page_limit (journal_of mid))
     (page_limit (journal_of old)) (home_count (journal_of c.commit.new.self)) done.looked.limit (c.in-Ok.ensures.answers pages opens)
 
@@ -131,6 +131,6 @@ returns-in-Err-commit-clause-answers g c pages was =
     let old = c.args.self.now.chains in
     let mid = c.store_changed-stored.new.chains in
     let done = c.in_default.ensures in
-    let opens = done.open pages was.open_chains in
+    let opens = done.open pages was.open_chains was.origins in
     commits_chains pages old mid c.args.self.now.cache done.kept done.root opens done.written (Err c.in-Err-commit.fault) (page_limit (journal_of mid))
     (page_limit (journal_of old)) (home_count (journal_of c.commit.new.self)) done.looked.limit (c.in-Err-commit.ensures.answers pages opens)

@@ -6,5 +6,8 @@ pub invariant_of-result : goal.invariant_of-result
 invariant_of-result g c = record { going = λ _. c.requires; own = λ n own there. absurd (nothing c.new.result n own c.new.ensures.empty there) }
 
 pub returns-clause-open : goal.returns-clause-open
-returns-clause-open g c pages opens =
-    record { open_chains = opens; had = λ n own there same. absurd (nothing c.new.result n own c.new.ensures.empty there) }
+returns-clause-open g c pages opens = record {
+  open_chains = opens;
+  had = λ n own there same. absurd (nothing c.new.result n own c.new.ensures.empty there);
+  origins = λ n own there. absurd (nothing c.new.result n own c.new.ensures.empty there);
+}

@@ -1,9 +1,10 @@
 -- A value is set in the bucket of its key, and the other buckets are as they were.
-use Rattle.std.proofs.Common.{◌≡◌, ◌%◌, ℕ, true, sym, ap, subst, ◌∙◌}
+use Rattle.std.proofs.Common.{◌≡◌, ◌%◌, ℕ, sym, ap, subst, ◌∙◌}
 use Rattle.std.specs.Option.{IsSome}
 use Rattle.std.specs.FinMap as map
 use Rattle.bucket_records.specs.Records.{BucketMap}
 use Rattle.bucket_store.specs.Buckets.{bucket_count, bucket_in, chain_at}
+use Rattle.bucket_store.specs.Cache.{changed_to}
 use Rattle.bucket_store.specs.declared.cache.Cached.{Cached}
 use Rattle.bucket_store.proofs.Openings.{bucket_in-chain_at, buckets_more, content_is, content_own, content_apart, keys_put, never_changed, open_more, put_there, there_own}
 use Rattle.std.specs.FinMap as map
@@ -17,14 +18,14 @@ invariant_of-self g c =
     let n = c.chain_of-n.result in
     let count = bucket_count c.args.self.now.chains in
     let found = there_own (map.get cache n) (subst (λ (k : ℕ). IsSome (map.get cache k)) (sym c.chain_of-n.ensures.chain) c.requires.there) in
-    let own : Cached = record { bucket = map.insert found.0.bucket c.args.key c.args.value.now; changed = true } in
+    let own : Cached = changed_to found.0 (map.insert found.0.bucket.values c.args.key c.args.value.now) in
     let place : c.args.key % count ≡ bucket_in n =
     sym (bucket_in-chain_at count c.args.which c.args.key c.requires.some c.args.self.now.chains.few)
     ∙ ap (λ (k : ℕ). bucket_in k) (sym c.chain_of-n.ensures.chain) in
     record {
       going = c.args.self.now.going;
       own = buckets_more count cache c.put.new.self n own (c.in-Ok.ensures.ok found.0 found.1) c.args.self.now.own c.chain_of-n.ensures.is
-          (keys_put count (bucket_in n) found.0.bucket c.args.key c.args.value.now (c.args.self.now.own n found.0 found.1).1 place);
+          (keys_put count (bucket_in n) found.0.bucket.values c.args.key c.args.value.now (c.args.self.now.own n found.0 found.1).1 place);
     }
 
 pub returns-in-Ok-clause-put : goal.returns-in-Ok-clause-put
@@ -33,7 +34,7 @@ returns-in-Ok-clause-put g c pages was values has =
     let n = c.chain_of-n.result in
     let at = chain_at (bucket_count c.args.self.now.chains) c.args.which c.args.key in
     let found = there_own (map.get cache n) (subst (λ (k : ℕ). IsSome (map.get cache k)) (sym c.chain_of-n.ensures.chain) c.requires.there) in
-    let own : Cached = record { bucket = map.insert found.0.bucket c.args.key c.args.value.now; changed = true } in
+    let own : Cached = changed_to found.0 (map.insert found.0.bucket.values c.args.key c.args.value.now) in
     let here = ap (λ (k : ℕ). map.get cache k) (sym c.chain_of-n.ensures.chain) ∙ found.1 in
     let before = content_own pages c.args.self.now.chains (map.get cache at) at found.0 values here has in
     let there = ap (λ (k : ℕ). map.get c.put.new.self k) (sym c.chain_of-n.ensures.chain)
@@ -46,7 +47,7 @@ returns-in-Ok-clause-others g c pages was other values apart has =
     let cache = c.args.self.now.cache in
     let n = c.chain_of-n.result in
     let found = there_own (map.get cache n) (subst (λ (k : ℕ). IsSome (map.get cache k)) (sym c.chain_of-n.ensures.chain) c.requires.there) in
-    let own : Cached = record { bucket = map.insert found.0.bucket c.args.key c.args.value.now; changed = true } in
+    let own : Cached = changed_to found.0 (map.insert found.0.bucket.values c.args.key c.args.value.now) in
     content_apart pages c.args.self.now.chains cache c.put.new.self n own other values (c.in-Ok.ensures.ok found.0 found.1)
     (λ same. apart (same ∙ c.chain_of-n.ensures.chain)) has
 
@@ -55,9 +56,9 @@ returns-in-Ok-clause-open g c pages was =
     let cache = c.args.self.now.cache in
     let n = c.chain_of-n.result in
     let found = there_own (map.get cache n) (subst (λ (k : ℕ). IsSome (map.get cache k)) (sym c.chain_of-n.ensures.chain) c.requires.there) in
-    let own : Cached = record { bucket = map.insert found.0.bucket c.args.key c.args.value.now; changed = true } in
+    let own : Cached = changed_to found.0 (map.insert found.0.bucket.values c.args.key c.args.value.now) in
     open_more pages c.args.self.now.chains cache c.put.new.self n own (c.in-Ok.ensures.ok found.0 found.1)
-    (λ same. absurd (never_changed same)) was
+    (λ same. absurd (never_changed same)) (was.origins n found.0 found.1) was
 
 pub returns-in-Ok-clause-has : goal.returns-in-Ok-clause-has
 returns-in-Ok-clause-has g c rest now has =

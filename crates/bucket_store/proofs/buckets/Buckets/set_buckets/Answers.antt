@@ -15,6 +15,7 @@ pub returns-clause-open : goal.returns-clause-open
 returns-clause-open g c pages was = record {
   open_chains = c.set_root.ensures.open pages was.open_chains;
   had = λ n own there same. absurd (omega (arith, (c.args.self.now.own n own there).0.2, c.requires.none));
+  origins = λ n own there. absurd (omega (arith, (c.args.self.now.own n own there).0.2, c.requires.none));
 }
 
 pub returns-clause-has : goal.returns-clause-has

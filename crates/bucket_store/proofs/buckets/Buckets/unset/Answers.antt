@@ -1,9 +1,9 @@
 -- A key is taken out of its bucket, and the other buckets are as they were.
-use Rattle.std.proofs.Common.{ℕ, true, sym, ap, subst, ◌∙◌, inl, inr}
+use Rattle.std.proofs.Common.{ℕ, sym, ap, subst, ◌∙◌, inl, inr}
 use Rattle.std.specs.Option.{IsSome}
 use Rattle.std.specs.FinMap as map
 use Rattle.bucket_records.specs.Records.{BucketMap}
-use Rattle.bucket_store.specs.Cache.{CacheMap}
+use Rattle.bucket_store.specs.Cache.{CacheMap, changed_to}
 use Rattle.bucket_store.specs.Buckets.{AreBuckets, bucket_count, bucket_in, chain_at}
 use Rattle.bucket_store.specs.Transaction.{IsOpenWith}
 use Rattle.bucket_store.specs.declared.cache.Cached.{Cached}
@@ -19,12 +19,12 @@ invariant_of-self g c =
     let n = c.chain_of-n.result in
     let count = bucket_count c.args.self.now.chains in
     let found = there_own (map.get cache n) (subst (λ (k : ℕ). IsSome (map.get cache k)) (sym c.chain_of-n.ensures.chain) c.requires.there) in
-    let own : Cached = record { bucket = map.remove found.0.bucket c.args.key; changed = true } in
+    let own : Cached = changed_to found.0 (map.remove found.0.bucket.values c.args.key) in
     record {
       going = c.args.self.now.going;
       own = elim (took c.in-Ok.was cache c.remove.new.self n own (c.in-Ok.ensures.taken found.0 found.1) c.in-Ok.ensures.none) [
         | inl is ↦ buckets_more count cache c.remove.new.self n own is c.args.self.now.own c.chain_of-n.ensures.is
-            (keys_remove count (bucket_in n) found.0.bucket c.args.key (c.args.self.now.own n found.0 found.1).1)
+            (keys_remove count (bucket_in n) found.0.bucket.values c.args.key (c.args.self.now.own n found.0 found.1).1)
         | inr same ↦ subst (λ (m : CacheMap). AreBuckets count m) (sym same.1) c.args.self.now.own
       ];
     }
@@ -35,7 +35,7 @@ returns-in-Ok-clause-taken g c pages was values has =
     let n = c.chain_of-n.result in
     let at = chain_at (bucket_count c.args.self.now.chains) c.args.which c.args.key in
     let found = there_own (map.get cache n) (subst (λ (k : ℕ). IsSome (map.get cache k)) (sym c.chain_of-n.ensures.chain) c.requires.there) in
-    let own : Cached = record { bucket = map.remove found.0.bucket c.args.key; changed = true } in
+    let own : Cached = changed_to found.0 (map.remove found.0.bucket.values c.args.key) in
     let here = ap (λ (k : ℕ). map.get cache k) (sym c.chain_of-n.ensures.chain) ∙ found.1 in
     let before = content_own pages c.args.self.now.chains (map.get cache at) at found.0 values here has in
     let is = c.in-Ok.ensures.was found.0 found.1 in (
@@ -57,7 +57,7 @@ returns-in-Ok-clause-others g c pages was other values apart has =
     let cache = c.args.self.now.cache in
     let n = c.chain_of-n.result in
     let found = there_own (map.get cache n) (subst (λ (k : ℕ). IsSome (map.get cache k)) (sym c.chain_of-n.ensures.chain) c.requires.there) in
-    let own : Cached = record { bucket = map.remove found.0.bucket c.args.key; changed = true } in
+    let own : Cached = changed_to found.0 (map.remove found.0.bucket.values c.args.key) in
     elim (took c.in-Ok.was cache c.remove.new.self n own (c.in-Ok.ensures.taken found.0 found.1) c.in-Ok.ensures.none) [
       | inl is ↦ content_apart pages c.args.self.now.chains cache c.remove.new.self n own other values is
           (λ same. apart (same ∙ c.chain_of-n.ensures.chain)) has
@@ -69,9 +69,9 @@ returns-in-Ok-clause-open g c pages was =
     let cache = c.args.self.now.cache in
     let n = c.chain_of-n.result in
     let found = there_own (map.get cache n) (subst (λ (k : ℕ). IsSome (map.get cache k)) (sym c.chain_of-n.ensures.chain) c.requires.there) in
-    let own : Cached = record { bucket = map.remove found.0.bucket c.args.key; changed = true } in
+    let own : Cached = changed_to found.0 (map.remove found.0.bucket.values c.args.key) in
     elim (took c.in-Ok.was cache c.remove.new.self n own (c.in-Ok.ensures.taken found.0 found.1) c.in-Ok.ensures.none) [
-      | inl is ↦ open_more pages c.args.self.now.chains cache c.remove.new.self n own is (λ same. absurd (never_changed same)) was
+      | inl is ↦ open_more pages c.args.self.now.chains cache c.remove.new.self n own is (λ same. absurd (never_changed same)) (was.origins n found.0 found.1) was
       | inr same ↦ subst (λ (m : CacheMap). IsOpenWith pages c.args.self.now.chains m) (sym same.1) was
     ]
 

@@ -14,6 +14,6 @@ returns-clause-found g c rest now has =
     let own = has_bucket rest now self c.args.which c.args.key c.requires.which c.requires.some has in
     let there = there_own (map.get self.cache at) c.requires.there in
     let same = content_own has.pages self.chains (map.get self.cache at) at there.0 own.0 there.1 own.1 in
-    found_value c.value.result (λ value. value.now) (map.get there.0.bucket c.args.key) (map.get (now.maps c.args.which) c.args.key)
+    found_value c.value.result (λ value. value.now) (map.get there.0.bucket.values c.args.key) (map.get (now.maps c.args.which) c.args.key)
     (ap (λ (m : BucketMap). map.get m c.args.key) same ∙ own.2)
     (c.value.ensures.value there.0 (ap (λ (n : ℕ). map.get self.cache n) c.chain_of.ensures.chain ∙ there.1))

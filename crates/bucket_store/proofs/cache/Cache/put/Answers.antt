@@ -1,11 +1,11 @@
 -- What is written through is put at the number.
-use Rattle.std.proofs.Common.{true, ap, ◌∙◌}
+use Rattle.std.proofs.Common.{ap, ◌∙◌}
 use Rattle.std.specs.Cmp.{nat_cmp_total}
 use Rattle.std.specs.Ordering.{nat_cmp}
 use Rattle.std.specs.FinMap as map
 use Rattle.std.specs.FinMap.{nat_cmp-IsAntisymmetric}
 use Rattle.osm_base.proofs.Found.{inserted}
-use Rattle.bucket_store.specs.Cache.{CacheMap}
+use Rattle.bucket_store.specs.Cache.{CacheMap, changed_to}
 use Rattle.bucket_store.specs.declared.cache.Cached.{Cached}
 use Rattle.bucket_store.proofs.Caches.{none_there, same_there, seen_there, found_is, insert_same, on_ok, on_err}
 use Rattle.bucket_store.proofs.cache.Cache.put.Goals as goal
@@ -23,7 +23,7 @@ returns-clause-ok c =
     inserted nat_cmp nat_cmp_total nat_cmp-IsAntisymmetric c.self.inside.tree (c.get_mut.follows.lender new) c.args.n new written
     ∙ ap (λ (m : CacheMap). map.insert m c.args.n new) c.self.view_is
     ∙ ap (λ (it : Cached). map.insert c.args.self.now c.args.n it) (is
-    ∙ ap (λ (it : Cached). let more : Cached = record { bucket = map.insert it.bucket c.args.key c.args.value.now; changed = true } in more)
+    ∙ ap (λ (it : Cached). changed_to it (map.insert it.bucket.values c.args.key c.args.value.now))
     (same_there c.args.n entries c.args.self.now c.in-Some.cached.now own c.self.view_is there here)))
 
 pub returns-clause-err : goal.returns-clause-err

@@ -1,11 +1,11 @@
 -- What is written through is put at the number.
-use Rattle.std.proofs.Common.{true, ap, ◌∙◌}
+use Rattle.std.proofs.Common.{ap, ◌∙◌}
 use Rattle.std.specs.Cmp.{nat_cmp_total}
 use Rattle.std.specs.Ordering.{nat_cmp}
 use Rattle.std.specs.FinMap as map
 use Rattle.std.specs.FinMap.{nat_cmp-IsAntisymmetric}
 use Rattle.osm_base.proofs.Found.{inserted}
-use Rattle.bucket_store.specs.Cache.{CacheMap}
+use Rattle.bucket_store.specs.Cache.{CacheMap, changed_to}
 use Rattle.bucket_store.specs.declared.cache.Cached.{Cached}
 use Rattle.bucket_store.proofs.Caches.{none_there, same_there, seen_there, found_is, insert_same, if_ok, on_err}
 use Rattle.bucket_store.proofs.cache.Cache.remove.Goals as goal
@@ -18,7 +18,7 @@ returns-clause-was c =
     let entries = c.self.inside.tree.entries in
     let there = c.in-Some.ensures.value in
     if_ok c.remove.result _ _ c.remove.ensures.was (λ was is own here.
-    is ∙ ap (λ (it : Cached). map.contains_key it.bucket c.args.key)
+    is ∙ ap (λ (it : Cached). map.contains_key it.bucket.values c.args.key)
     (same_there c.args.n entries c.args.self.now c.in-Some.cached.now own c.self.view_is there here))
 
 pub returns-clause-taken : goal.returns-clause-taken
@@ -31,7 +31,7 @@ returns-clause-taken c =
     inserted nat_cmp nat_cmp_total nat_cmp-IsAntisymmetric c.self.inside.tree (c.get_mut.follows.lender new) c.args.n new written
     ∙ ap (λ (m : CacheMap). map.insert m c.args.n new) c.self.view_is
     ∙ ap (λ (it : Cached). map.insert c.args.self.now c.args.n it) (is taken
-    ∙ ap (λ (it : Cached). let less : Cached = record { bucket = map.remove it.bucket c.args.key; changed = true } in less)
+    ∙ ap (λ (it : Cached). changed_to it (map.remove it.bucket.values c.args.key))
     (same_there c.args.n entries c.args.self.now c.in-Some.cached.now own c.self.view_is there here)))
 
 pub returns-clause-none : goal.returns-clause-none

@@ -1,30 +1,37 @@
-use Rattle.std.proofs.Common.{inl, inr, sym, subst}
-use Rattle.chain_store.specs.Chains.{IsOpenStore}
-use Rattle.chain_store.specs.Known.{Lists}
-use Rattle.chain_store.proofs.Looks.{looked_same}
-use Rattle.chain_store.proofs.Puts.{open_had, put_cases}
+-- A chain more is written over bytes that may be known.
+use Rattle.std.proofs.Common.{inl, inr, sym, subst, ◌∙◌}
+use Rattle.std.specs.FinMap as map
+use Rattle.std.specs.Option.{IsSome}
+use Rattle.chain_store.specs.Directories.{IsString}
+use Rattle.chain_store.specs.Known.{AreGone, AreStored, Lists}
+use Rattle.chain_store.specs.Kept.{buckets_in}
+use Rattle.chain_store.specs.Store.{kept_first}
+use Rattle.chain_store.specs.declared.root.Root.{Root}
+use Rattle.chain_store.proofs.Puts.{gone_more, put_cases, stored_more}
 use Rattle.chain_store.proofs.chains.Chains.store_over.Goals as goal
 
-pub returns-clause-answers : goal.returns-clause-answers
-returns-clause-answers g c = λ pages opened.
-    let self = c.args.self.now in
-    let is = put_cases c.put.result self.before c.put.new.self c.args.n c.args.before c.put.ensures.ok c.put.ensures.err in
-    let now : IsOpenStore pages self.journal self.kept self.read c.put.new.self = elim is [
-      | inl put ↦ subst (λ (lists : Lists). IsOpenStore pages self.journal self.kept self.read lists) (sym put)
-          (open_had pages self.journal self.journal self.kept self.read self.before c.args.n c.args.before opened (looked_same self.journal)
-          (c.requires.before pages opened))
-      | inr same ↦ subst (λ (lists : Lists). IsOpenStore pages self.journal self.kept self.read lists) (sym same) opened
-    ] in
-    c.store.ensures.answers pages now
-
-pub returns-clause-open : goal.returns-clause-open
-returns-clause-open g c = λ pages opened.
-    let self = c.args.self.now in
-    let is = put_cases c.put.result self.before c.put.new.self c.args.n c.args.before c.put.ensures.ok c.put.ensures.err in
-    let now : IsOpenStore pages self.journal self.kept self.read c.put.new.self = elim is [
-      | inl put ↦ subst (λ (lists : Lists). IsOpenStore pages self.journal self.kept self.read lists) (sym put)
-          (open_had pages self.journal self.journal self.kept self.read self.before c.args.n c.args.before opened (looked_same self.journal)
-          (c.requires.before pages opened))
-      | inr same ↦ subst (λ (lists : Lists). IsOpenStore pages self.journal self.kept self.read lists) (sym same) opened
-    ] in
-    c.store.ensures.open pages now
+pub invariant_of-self-else-is_err-2 : goal.invariant_of-self-else-is_err-2
+invariant_of-self-else-is_err-2 g c =
+    let self = c.note.new.self in
+    let is = put_cases c.put.result self.written c.put.new.self c.args.n c.args.bytes c.put.ensures.ok c.put.ensures.err in
+    let root = c.note.ensures.root ∙ c.in_default.ensures.stays.root in
+    let string : IsString self.root.buckets c.args.n =
+    subst (λ (root : Root). IsString root.buckets c.args.n) (sym root) c.requires.string in
+    let known : IsSome (map.get self.read c.args.n) =
+    subst (λ (lists : Lists). IsSome (map.get lists c.args.n)) (sym c.note.ensures.read) c.in_default.ensures.known in
+    record {
+      known = self.known;
+      behind = self.behind;
+      stored = elim is [
+        | inl put ↦ subst (λ (lists : Lists). AreStored self.root.buckets self.read lists) (sym put)
+            (stored_more self.written c.args.n c.args.bytes self.root.buckets self.read self.stored known string self.few)
+        | inr kept ↦ subst (λ (lists : Lists). AreStored self.root.buckets self.read lists) (sym kept) self.stored
+      ];
+      gone = elim is [
+        | inl put ↦ subst (λ (lists : Lists). AreGone (buckets_in self.kept.front.items) self.root.buckets (kept_first self.kept) lists) (sym put)
+            (gone_more self.written c.args.n c.args.bytes (buckets_in self.kept.front.items) self.root.buckets (kept_first self.kept) self.gone)
+        | inr kept ↦ subst (λ (lists : Lists). AreGone (buckets_in self.kept.front.items) self.root.buckets (kept_first self.kept) lists) (sym kept) self.gone
+      ];
+      few = self.few;
+      count = self.count;
+    }
