@@ -15,6 +15,8 @@ pub mod RowMapLaws
 pub mod WayLaws
 pub mod TrimmedLaws
 pub mod BlameLaws
+pub mod LineCounts
+pub mod CourseKeeps
 pub mod SafeLaws
 pub mod HistoryLaws
 pub mod FileLaws

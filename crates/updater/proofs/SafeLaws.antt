@@ -1,250 +1,196 @@
 -- What a store keeps through a run, by its course.
-use Rattle.std.proofs.Common.{◌≡◌, ◌≤◌, ◌+◌, ◌-◌, ◌⊎◌, ℕ, zero, suc, Bool, true, false, Option, Some, None, List, [], ◌∷◌, ◌++◌, length, Result, ⊎_elim, inl, inr, refl, sym, ◌∙◌, ap, subst, arith}
+use Rattle.std.proofs.Common.{◌≡◌, ◌≢◌, ◌≤◌, ◌+◌, ◌-◌, ◌⊎◌, ℕ, zero, suc, Bool, true, false, Option, Some, None, List, [], ◌∷◌, ◌++◌, length, ⊎_elim, inl, inr, refl, sym, ◌∙◌, ap, subst, arith}
 use Rattle.std.proofs.lemmas.List.{append-nil}
-use Rattle.osm_base.specs.bounds.Limits.{standard}
-use Rattle.update_flow.specs.History.{History, state_after}
-use Rattle.update_flow.specs.Refusals.{Refuses}
-use Rattle.update_flow.specs.State.{Holding, State, formatted, imported, Step, changed}
-use Rattle.updater.specs.declared.fault.Fault.{Fault}
-use Rattle.updater.specs.declared.fault.Fault.TheVariants as faults
-use Rattle.updater.specs.Comes.{Comes, Breaks, BreaksIn, HoldsBytes, IsRefusal, IsRefusedFor, IsStepFault, unread, short, refused}
-use Rattle.updater.specs.Command.{CommandOf, points_of, lines_of, init_of, import_of, append_of, export_of, tiles_of, replay_of, Use, old_store, use_of}
-use Rattle.updater.specs.Course.{Course, ends, refuses, reads, wants_empty, formats, opens, looks, commits, tells, writes}
+use Rattle.outside.specs.Bytes.{BothKnown}
 use Rattle.style_read.specs.Style.{table_of}
 use Rattle.tile_cover.specs.Table.{BoundsOf}
-use Rattle.updater.specs.Courses.{append_to, appends, course_of, export_from, exports, finished, import_into, onward, tiles_of_store}
-use Rattle.updater.specs.Keeps.{Kept, IsFit, IsOneOf, first, perhaps, whole, with_steps}
-use Rattle.updater.specs.Leaves.{IsPast, StandsOn}
-use Rattle.updater.specs.Progress.{Standing, unused, unknown, keeps, half_made, Progress, Ending, at, begun, past, plus, with_store, made, opened, committed, in_doubt}
+use Rattle.update_flow.specs.State.{Holding, State, formatted, imported, Step, changed, fresh}
+use Rattle.updater.specs.declared.fault.Fault.{Fault}
+use Rattle.updater.specs.declared.fault.Fault.TheVariants as faults
+use Rattle.updater.specs.declared.files.Files.{Files}
+use Rattle.updater.specs.Command.{CommandOf, points_of, lines_of, init_of, import_of, append_of, export_of, tiles_of, replay_of, Use, no_store, new_store, old_store, use_of}
+use Rattle.updater.specs.Comes.{Comes}
+use Rattle.updater.specs.Course.{Course}
+use Rattle.updater.specs.Courses.{Onward, appending, telling, append_to, appends, clears, course_of, export_from, exports, finished, fills, import_into, onward, tiles_of_store, version_line}
+use Rattle.updater.specs.Keeps.{Kept, IsFit, IsOneOf, blank, whole}
+use Rattle.updater.specs.Leaves.{IsPast, Leaves, StandsOn}
+use Rattle.updater.specs.Progress.{Standing, unused, keeps, Progress, Ending, begun}
 use Rattle.updater.specs.Runs.{Begins, GoesBy, Runs}
-use Rattle.updater.specs.Safety.{IsSafe, Preserves}
-use Rattle.updater.specs.World.{Before, World, remembered}
-use Rattle.updater.proofs.HistoryLaws.{append_more, length_more}
-use Rattle.updater.proofs.CourseLaws.{of_store, of_unknown, of_unused, three}
+use Rattle.updater.specs.Safety.{Acknowledges, Extends, IsSafe, IsUnmade, Preserves, lines_in, steps_told}
+use Rattle.updater.specs.World.{Before, GrewBy, World, remembered}
+use Rattle.updater.proofs.CourseKeeps.{Counts, CountsMade, CountsOpen, IsUnmadeAt, Reaches, makes_safe, opens_safe}
+use Rattle.updater.proofs.LineCounts.{lines-grew, one_line}
 
--- a course that opens no store
-abbrev pub OpensNone : Course → Type 0
-OpensNone ends = Unit {0}
-OpensNone (refuses fault) = Unit {0}
-OpensNone (reads {A} file Reads rest) = (found : A) → OpensNone (rest found)
-OpensNone (wants_empty rest) = OpensNone rest
-OpensNone (formats rest) = OpensNone rest
-OpensNone (opens rest) = ⊥
-OpensNone (looks rest) = OpensNone rest
-OpensNone (commits step rest) = OpensNone rest
-OpensNone (tells text rest) = OpensNone rest
-OpensNone (writes Fits rest) = OpensNone rest
+-- what the output took then
+module _ (command : CommandOf) (before : Kept) (ending : Ending) (there : Reaches (steps_told command) before ending) where
+  acknowledges : (earlier later : List ℕ) → GrewBy ending.done.written ending.writing earlier later
+      → Acknowledges (steps_told command) there.now ending.done.cut there.steps ending.fault (lines_in later - lines_in earlier)
+  acknowledges earlier later grew =
+      let own = lines-grew ending.done.written ending.writing earlier later grew in
+      let all = own.1 in
+      let half = own.2 in
+      record {
+        kept = λ told most few. there.sure told most (omega (arith, few, all, half));
+        only = λ some write disk. let owed = there.only some write disk in omega (arith, owed, all);
+        last = λ is. let owed = there.last is in omega (arith, owed, all);
+      }
 
--- a course that opens the store first, and none after that
-abbrev pub OpensFirst : Course → Type 0
-OpensFirst (opens rest) = (state : State) → OpensNone (rest state)
-OpensFirst _ = ⊥
+  took : (earlier later : Option (List ℕ)) → BothKnown earlier later (GrewBy ending.done.written ending.writing)
+      → BothKnown earlier later (λ earlier later. Acknowledges (steps_told command) there.now ending.done.cut there.steps ending.fault (lines_in later - lines_in earlier))
+  took None later grew = tt
+  took (Some earlier) None grew = grew
+  took (Some earlier) (Some later) grew = acknowledges earlier later grew
 
--- the store keeps the first steps of the history that it had, and others behind them
-record IsAfter (before : Kept) (done : Progress) : Type 0 where
-  now : History
-  is : done.store ≡ keeps (whole now)
-  from : before.least ≤ done.cut
-  to : done.cut ≤ before.most
-  steps : List Step
-  extends : now ≡ with_steps steps (first done.cut before.history)
-
--- the same at an end, where the last step may be in doubt and the store may not have been opened
-pub record Reaches (before : Kept) (ending : Ending) : Type 0 where
-  pub now : Kept
-  pub is : ending.done.store ≡ keeps now
-  pub from : before.least ≤ ending.done.cut
-  pub to : ending.done.cut ≤ before.most
-  pub extends : (now ≡ before) ⊎ ((steps : List Step) × (now.history ≡ with_steps steps (first ending.done.cut before.history)))
-  pub fit : IsFit now
-  pub all : ending.fault ≡ None → now.least ≡ length now.history.steps
-
-reaches : (before : Kept) (ending own : Ending) → ending ≡ own → Reaches before own → Reaches before ending
-reaches before ending own is there = subst (Reaches before) (sym is) there
-
--- with all steps done
-reached : (before : Kept) (done : Progress) (reading : Option ℕ) (writing : List ℕ) (fault : Option Fault) → IsAfter before done
-    → Reaches before (record { done = done; reading = reading; writing = writing; fault = fault })
-reached before done reading writing fault after = record {
-  now = whole after.now;
-  is = after.is;
-  from = after.from;
-  to = after.to;
-  extends = inr (after.steps, after.extends);
-  fit = record { order = omega arith; last = refl; one = omega arith };
-  all = λ _. refl;
-}
-
-more_steps : (before : Kept) (cut : ℕ) (steps : List Step) (step : Step) (now : History) → now ≡ with_steps steps (first cut before.history)
-    → with_steps (step ∷ []) now ≡ with_steps (steps ++ step ∷ []) (first cut before.history)
-more_steps before cut steps step now is =
-    ap (with_steps (step ∷ [])) is ∙ ap (λ (own : List Step). record { base = before.history.base; steps = own }) (append_more (first cut before.history).steps steps (step ∷ []))
-
--- and with one in doubt
-doubted : (before : Kept) (step : Step) (kept : Kept) (done : Progress) (after : IsAfter before done) → done.store ≡ keeps kept
-    → Reaches before (at (in_doubt step kept done) (Some faults.DiskFault))
-doubted before step kept done after is =
-    let same : kept ≡ whole after.now = (let two : keeps kept ≡ keeps (whole after.now) = sym is ∙ after.is in cc) in
-    record {
-      now = perhaps step kept;
-      is = refl;
-      from = after.from;
-      to = after.to;
-      extends = inr (after.steps ++ step ∷ [], ap (λ (own : Kept). with_steps (step ∷ []) own.history) same ∙ more_steps before done.cut after.steps step after.now after.extends);
-      fit = record {
-        order = omega arith;
-        last = sym (length_more kept.history.steps step);
-        one = omega arith;
-      };
-      all = λ e. absurd (cc);
-    }
-
--- and with one more done
-stepped : (before : Kept) (step : Step) (kept : Kept) (done : Progress) (after : IsAfter before done) → done.store ≡ keeps kept → IsAfter before (committed step kept done)
-stepped before step kept done after is =
-    let same : kept ≡ whole after.now = (let two : keeps kept ≡ keeps (whole after.now) = sym is ∙ after.is in cc) in
-    record {
-      now = with_steps (step ∷ []) kept.history;
-      is = refl;
-      from = after.from;
-      to = after.to;
-      steps = after.steps ++ step ∷ [];
-      extends = ap (λ (own : Kept). with_steps (step ∷ []) own.history) same ∙ more_steps before done.cut after.steps step after.now after.extends;
-    }
-
-module _ (old : Before) (before : Kept) where
-  breaks_safe : (done : Progress) (ending : Ending) → IsAfter before done → Breaks done ending → Reaches before ending
-  breaks_safe done ending after (inl is) = reaches before ending _ is (reached before done None [] (Some faults.DiskFault) after)
-  breaks_safe done ending after (inr is) = reaches before ending _ is (reached before done None [] (Some faults.OutOfMemory) after)
-
-  file_safe : (A : Type 0) (file : ℕ) (told : Option (List ℕ)) (Reads : List ℕ → Result A Fault → Type 0) (done : Progress) (ending : Ending) → IsAfter before done → BreaksIn A file told Reads done ending → Reaches before ending
-  file_safe A file told Reads done ending after (unread is) = reaches before ending _ is (reached before done (Some file) [] (Some (faults.ReadFault file)) after)
-  file_safe A file told Reads done ending after (short is) = reaches before ending _ is (reached before done (Some file) [] (Some faults.OutOfMemory) after)
-  file_safe A file told Reads done ending after (refused fault own told_so is) = reaches before ending _ is (reached before done (Some file) [] (Some fault) after)
-
-  -- each end of a course behind the opening
-  comes_safe : (course : Course) (done : Progress) (ending : Ending) → OpensNone course → IsAfter before done → Comes old course done ending → Reaches before ending
-  comes_safe ends done ending none after is = reaches before ending _ is (reached before done None [] None after)
-  comes_safe (refuses fault) done ending none after is = reaches before ending _ is (reached before done None [] (Some fault) after)
-  comes_safe (reads {A} file Reads rest) done ending none after (inl breaks) = file_safe A file (old.left file) Reads done ending after breaks
-  comes_safe (reads {A} file Reads rest) done ending none after (inr (found, told, c)) = comes_safe (rest found) (past file done) ending (none found)
-      (record { now = after.now; is = after.is; from = after.from; to = after.to; steps = after.steps; extends = after.extends }) c
-  comes_safe (wants_empty rest) done ending none after (inl is) = reaches before ending _ is (reached before done None [] (Some faults.DiskFault) after)
-  comes_safe (wants_empty rest) done ending none after (inr (inl full)) = reaches before ending _ full.1 (reached before done None [] (Some faults.NotEmpty) after)
-  comes_safe (wants_empty rest) done ending none after (inr (inr (told, c))) = comes_safe rest done ending none after c
-  comes_safe (formats rest) done ending none after c =
-      let un = (of_unused done.store (HoldsBytes old done ending ⊎ (ending ≡ at (with_store half_made done) (Some faults.DiskFault)) ⊎ Comes old rest (with_store (made old.content) done) ending) c).0 in
-      absurd (let two : unused ≡ keeps (whole after.now) = sym un ∙ after.is in cc)
-  comes_safe (opens rest) done ending none after c = absurd none
-  comes_safe (looks rest) done ending none after (inl breaks) = breaks_safe done ending after breaks
-  comes_safe (looks rest) done ending none after (inr (inl why)) =
-      absurd (let two : unknown ≡ keeps (whole after.now) = sym (of_unknown done.store (IsRefusedFor IsStepFault done ending) why).0 ∙ after.is in cc)
-  comes_safe (looks rest) done ending none after (inr (inr c)) = comes_safe rest done ending none after c
-  comes_safe (commits step rest) done ending none after (inl breaks) = breaks_safe done ending after breaks
-  comes_safe (commits step rest) done ending none after (inr c) = of_store done.store
-      (λ kept. (ending ≡ at (in_doubt step kept done) (Some faults.DiskFault)) ⊎ IsRefusedFor (IsRefusal (state_after kept.history) step) done ending
-      ⊎ (Refuses standard (state_after kept.history) step None × Comes old rest (committed step kept done) ending))
-      (IsRefusedFor IsStepFault done ending ⊎ Comes old rest done ending) (Reaches before ending)
-      (λ kept is h. three (λ (doubt : ending ≡ at (in_doubt step kept done) (Some faults.DiskFault)). reaches before ending _ doubt (doubted before step kept done after is))
-      (λ (why : IsRefusedFor (IsRefusal (state_after kept.history) step) done ending). reaches before ending _ why.2 (reached before done None [] _ after))
-      (λ (c : Refuses standard (state_after kept.history) step None × Comes old rest (committed step kept done) ending). comes_safe rest (committed step kept done) ending none (stepped before step kept done after is) c.1) h)
-      (λ un h. absurd (let two : unknown ≡ keeps (whole after.now) = sym un ∙ after.is in cc)) c
-  comes_safe (tells text rest) done ending none after (inl is) = reaches before ending _ is (reached before done None text (Some faults.WriteFault) after)
-  comes_safe (tells text rest) done ending none after (inr c) = comes_safe rest (plus text done) ending none
-      (record { now = after.now; is = after.is; from = after.from; to = after.to; steps = after.steps; extends = after.extends }) c
-  comes_safe (writes Fits rest) done ending none after (inl is) = reaches before ending _ is (reached before done None [] (Some faults.OutOfMemory) after)
-  comes_safe (writes Fits rest) done ending none after (inr (own, told, inl is)) = reaches before ending _ is (reached before done None own (Some faults.WriteFault) after)
-  comes_safe (writes Fits rest) done ending none after (inr (own, told, inr c)) = comes_safe rest (plus own done) ending none
-      (record { now = after.now; is = after.is; from = after.from; to = after.to; steps = after.steps; extends = after.extends }) c
-
-  unopened : (fit : IsFit before) (fault : Fault) → Reaches before (at (begun (keeps before) before.least) (Some fault))
-  unopened fit fault = record { now = before; is = refl; from = omega arith; to = fit.order; extends = inl refl; fit = fit; all = λ e. absurd (cc) }
-
-  -- each end of a course that begins with the opening
-  pub opens_safe : (course : Course) (ending : Ending) → OpensFirst course → IsFit before → Comes old course (begun (keeps before) before.least) ending → Reaches before ending
-  opens_safe (opens rest) ending none fit (inl (inl is)) = reaches before ending _ is (unopened fit faults.DiskFault)
-  opens_safe (opens rest) ending none fit (inl (inr is)) = reaches before ending _ is (unopened fit faults.OutOfMemory)
-  opens_safe (opens rest) ending none fit (inr (cut, low, high, c)) =
-      comes_safe (rest (state_after (first cut before.history))) (opened before cut (begun (keeps before) before.least)) ending (none (state_after (first cut before.history)))
-      (record {
-        now = first cut before.history;
-        is = refl;
-        from = low;
-        to = high;
-        steps = [];
-        extends = ap (λ (own : List Step). record { base = before.history.base; steps = own }) (sym (append-nil (first cut before.history).steps));
-      }) c
-  opens_safe ends ending none fit c = absurd none
-  opens_safe (refuses fault) ending none fit c = absurd none
-  opens_safe (reads {A} file Reads rest) ending none fit c = absurd none
-  opens_safe (wants_empty rest) ending none fit c = absurd none
-  opens_safe (formats rest) ending none fit c = absurd none
-  opens_safe (looks rest) ending none fit c = absurd none
-  opens_safe (commits step rest) ending none fit c = absurd none
-  opens_safe (tells text rest) ending none fit c = absurd none
-  opens_safe (writes Fits rest) ending none fit c = absurd none
+  -- what the run makes of the history
+  abbrev extends : (start : Progress) (old new : World) → Comes (remembered old) (course_of command) start ending → Leaves start ending (remembered old) new → Extends command start before old new ending.fault
+  extends start old new comes leaves =
+      let stands : StandsOn ending.fault (keeps there.now) (remembered old) new.disk = subst (λ (own : Standing). StandsOn ending.fault own (remembered old) new.disk) there.is leaves.store in
+      record {
+        now = there.now;
+        cut = ending.done.cut;
+        steps = there.steps;
+        from = there.from;
+        to = there.to;
+        behind = there.behind;
+        comes = (ending, refl, comes, there.is, refl);
+        at_end = record {
+          keeps = stands.0;
+          fit = there.fit;
+          all = there.all;
+          told = stands.1;
+        };
+        acknowledged = took old.output.taken new.output.taken leaves.output;
+      }
 
 -- what a disk kept, it keeps
-pub goes_safe : (before : Kept) (course : Course) (fault : Option Fault) (old new : World) → OpensFirst course → IsFit before → GoesBy course (begun (keeps before) before.least) fault old new
-    → Preserves before old new fault
-goes_safe before course fault old new first fit (ending, same, comes, leaves) =
-    let there = opens_safe (remembered old) before course ending first fit comes in
-    let stands : StandsOn ending.fault (keeps there.now) (remembered old) new.disk = subst (λ (own : Standing). StandsOn ending.fault own (remembered old) new.disk) there.is leaves.store in
-    record {
-      now = there.now;
-      cut = ending.done.cut;
-      from = there.from;
-      to = there.to;
-      extends = there.extends;
-      at_end = record {
-        keeps = stands.0;
-        fit = there.fit;
-        all = λ none. there.all (same ∙ none);
-        told = λ not. stands.1 (λ is. not (sym same ∙ is));
-      };
+goes_safe : (command : CommandOf) (before : Kept) (fault : Option Fault) (old new : World) → CountsOpen (steps_told command) (course_of command) → IsFit before
+    → GoesBy (course_of command) (begun (keeps before) before.least) fault old new → Preserves command before old new fault
+goes_safe command before fault old new counts fit (ending, same, comes, leaves) =
+    let there = opens_safe (steps_told command) before (remembered old) (course_of command) ending counts fit comes in
+    subst (λ (fault : Option Fault). Preserves command before old new fault) same (record {
+      run = extends command before ending there (begun (keeps before) before.least) old new comes leaves;
       moments = λ left out. ⊎_elim (λ (own : IsOneOf before left). inl own)
           (λ (own : IsPast ending.done.cut ending.done.store left). inr (subst (λ (store : Standing). IsPast ending.done.cut store left) there.is own)) (leaves.moments.each left out);
-    }
+    })
 
-appends_none : (bounds : BoundsOf) (held : Holding) (file count : ℕ) → OpensNone (appends bounds held file count (onward finished))
+nothing : (earlier later : Option (List ℕ)) → BothKnown earlier later (GrewBy [] []) → BothKnown earlier later (λ earlier later. later ≡ earlier)
+nothing None later grew = tt
+nothing (Some earlier) None grew = grew
+nothing (Some earlier) (Some later) grew = same earlier later grew
+  where
+    empty : (front rest : List ℕ) → [] ≡ front ++ rest → front ≡ []
+    empty [] rest is = refl
+    empty (one ∷ front) rest is = absurd (cc)
+
+    same : (earlier later : List ℕ) → GrewBy [] [] earlier later → later ≡ earlier
+    same earlier later grew = grew.grown ∙ ap (λ (own : List ℕ). (earlier ++ []) ++ own) (empty grew.front grew.rest grew.cut) ∙ append-nil (earlier ++ []) ∙ append-nil earlier
+
+-- no store was made
+stays_unmade : (ending : Ending) (start : Progress) (old new : World) → IsUnmadeAt ending → Leaves start ending (remembered old) new → IsUnmade old new ending.fault
+stays_unmade ending start old new there leaves = record {
+  refused = there.some;
+  disk = ⊎_elim (λ (failed : ending.fault ≡ Some faults.DiskFault). inl failed)
+      (λ (is : ending.done.store ≡ unused). inr (subst (λ (own : Standing). StandsOn ending.fault own (remembered old) new.disk) is leaves.store)) there.disk;
+  silent = nothing old.output.taken new.output.taken
+      (subst (λ (half : List ℕ). BothKnown old.output.taken new.output.taken (GrewBy [] half)) there.unwriting
+      (subst (λ (whole : List ℕ). BothKnown old.output.taken new.output.taken (GrewBy whole ending.writing)) there.unwritten leaves.output));
+}
+
+-- what a run makes on an empty disk
+goes_made : (command : CommandOf) (fault : Option Fault) (old new : World) → CountsMade (steps_told command) (course_of command) → old.disk.content ≡ Some [] → GoesBy (course_of command) (begun unused 0) fault old new
+    → IsUnmade old new fault ⊎ Extends command (begun unused 0) (whole blank) old new fault
+goes_made command fault old new counts is (ending, same, comes, leaves) = subst (λ (fault : Option Fault). IsUnmade old new fault ⊎ Extends command (begun unused 0) (whole blank) old new fault) same
+    (⊎_elim (λ (there : IsUnmadeAt ending). inl (stays_unmade ending (begun unused 0) old new there leaves))
+    (λ (there : Reaches (steps_told command) (whole blank) ending). inr (extends command (whole blank) ending there (begun unused 0) old new comes leaves))
+    (makes_safe (steps_told command) (remembered old) [] is (course_of command) [] ending counts comes))
+
+-- change files that are appended, and what comes behind them
+appends_count : (bounds : BoundsOf) (last : Onward) → ((held : Holding) → Counts (onward last held) 0 0) → (held : Holding) (file count : ℕ) → Counts (appends bounds held file count (onward last)) 0 count
 unfolding appends
-appends_none bounds held file zero = tt
-appends_none bounds held file (suc count) = λ found. appends_none bounds (changed bounds found held) (file + 1) count
+appends_count bounds last behind held file zero = behind held
+appends_count bounds last behind held file (suc count) =
+    let line = one_line (held.changes + 1) in
+    let told : 0 ≡ 1 - lines_in (version_line (held.changes + 1)) = omega (arith, line) in
+    let taken : count ≡ suc count - 1 = omega arith in (
+      refl,
+      λ change. (
+        refl,
+        (
+          inr (omega (arith, line)),
+          subst (λ (untold : ℕ). Counts (appends bounds (changed bounds change held) (file + 1) count (onward last)) untold (suc count - 1)) told
+              (subst (λ (left : ℕ). Counts (appends bounds (changed bounds change held) (file + 1) count (onward last)) 0 left) taken
+              (appends_count bounds last behind (changed bounds change held) (file + 1) count)),
+        ),
+      ),
+    )
 
 -- the courses over a store that is there open it first
-opens_first : (command : CommandOf) → use_of command ≡ old_store → OpensFirst (course_of command)
+opens_first : (command : CommandOf) → use_of command ≡ old_store → CountsOpen (steps_told command) (course_of command)
 opens_first (points_of key files) is = absurd (cc)
 opens_first (lines_of key files) is = absurd (cc)
 opens_first (init_of store) is = absurd (cc)
 opens_first (import_of store files buckets workers) is = into
   where
-    into : (state : State) → OpensNone (import_into files buckets state)
-    into formatted = λ style entries. tt
-    into (imported held) = tt
+    into : (state : State) → Counts (import_into files buckets state) 0 1
+    into formatted = let line = one_line 0 in (refl, λ style. (refl, λ entries. (refl, (inr (omega (arith, line)), tt))))
+    into (imported held) = refl
 opens_first (append_of store files workers) is = into
   where
-    into : (state : State) → OpensNone (append_to files state)
-    into formatted = tt
-    into (imported held) = λ bounds. appends_none bounds held (files.first + 1) (files.count - 1)
+    into : (state : State) → Counts (append_to files state) 0 (files.count - 1)
+    into formatted = refl
+    into (imported held) = (refl, λ bounds. appends_count bounds finished (λ _. tt) held (files.first + 1) (files.count - 1))
 opens_first (export_of store table) is = into
   where
-    from : (held : Holding) (found : Option ℕ) → OpensNone (exports held found)
-    from held None = tt
-    from held (Some number) = tt
+    from : (held : Holding) (found : Option ℕ) → Counts (exports held found) 0 0
+    from held None = refl
+    from held (Some number) = (refl, (refl, refl, tt))
 
-    into : (state : State) → OpensNone (export_from table state)
-    into formatted = tt
+    into : (state : State) → Counts (export_from table state) 0 0
+    into formatted = refl
     into (imported held) = from held (table_of held.style.tables table)
-opens_first (tiles_of store least clear) is = into clear
+opens_first (tiles_of store least clear) is = into
   where
-    into : (clear : Bool) (state : State) → OpensNone (tiles_of_store least clear state)
-    into clear formatted = tt
-    into false (imported held) = tt
-    into true (imported held) = tt
+    behind : (clear : Bool) → Counts (clears clear) 0 0
+    behind false = tt
+    behind true = (refl, tt)
+
+    into : (state : State) → Counts (tiles_of_store least clear state) 0 0
+    into formatted = refl
+    into (imported held) = (refl, (refl, refl, behind clear))
 opens_first (replay_of store files workers) is = absurd (cc)
+
+-- and the others make it
+makes_first : (command : CommandOf) → use_of command ≡ new_store → CountsMade (steps_told command) (course_of command)
+makes_first (points_of key files) is = absurd (cc)
+makes_first (lines_of key files) is = absurd (cc)
+makes_first (init_of store) is = (inl refl, tt)
+makes_first (import_of store files buckets workers) is = absurd (cc)
+makes_first (append_of store files workers) is = absurd (cc)
+makes_first (export_of store table) is = absurd (cc)
+makes_first (tiles_of store least clear) is = absurd (cc)
+makes_first (replay_of store files workers) is = λ style bounds.
+    let line = one_line 0 in
+    let told : 0 ≡ 1 - lines_in (version_line 0) = omega (arith, line) in
+    let taken : files.count - 3 ≡ files.count - 2 - 1 = omega arith in (
+      refl,
+      (
+        refl,
+        λ entries. (
+          refl,
+          (
+            inr (omega (arith, line)),
+            subst (λ (untold : ℕ). Counts (appends bounds (fresh style.0 style.1 1024 entries) (files.first + 2 + 1) (files.count - 3) (onward (telling bounds.zoom))) untold (files.count - 2 - 1)) told
+                (subst (λ (left : ℕ). Counts (appends bounds (fresh style.0 style.1 1024 entries) (files.first + 2 + 1) (files.count - 3) (onward (telling bounds.zoom))) 0 left) taken
+                (appends_count bounds (telling bounds.zoom) (λ held. (refl, (refl, refl, tt))) (fresh style.0 style.1 1024 entries) (files.first + 2 + 1) (files.count - 3))),
+          ),
+        ),
+      ),
+    )
 
 -- a run of each command
 pub runs_safe : (command : CommandOf) (asks : List ℕ → Type 0) (old new : World) (fault : Option Fault) → Runs command asks old new fault → IsSafe command old new fault
-runs_safe command asks old new fault runs is before kept =
-    goes_safe before (course_of command) fault old new (opens_first command is) kept.fit
-    (runs.course (begun (keeps before) before.least) (subst (λ (way : Use). Begins way old (begun (keeps before) before.least)) (sym is) (inr (before, kept, refl))))
+runs_safe command asks old new fault runs = record {
+  kept = λ is before kept. goes_safe command before fault old new (opens_first command is) kept.fit
+      (runs.course (begun (keeps before) before.least) (subst (λ (way : Use). Begins way old (begun (keeps before) before.least)) (sym is) (inr (before, kept, refl))));
+  made = λ is empty. goes_made command fault old new (makes_first command is) empty (runs.course (begun unused 0) (subst (λ (way : Use). Begins way old (begun unused 0)) (sym is) refl));
+}

@@ -3,10 +3,10 @@
 //! `run` does all of it over the traits of `outside`, and its contract is the promise of each command,
 //! in three clauses for all of them: words that are no command touch nothing; a command goes by its
 //! course; and whatever the answer, a store keeps the history that it had, and behind it the steps of
-//! the run. `specs/Courses.antt` says of each command what it does, in order; `specs/Comes.antt` and
-//! `specs/Leaves.antt` say once for all courses to which ends a run may come and what it leaves, and
-//! `specs/Safety.antt` what crashes may leave meanwhile. The laws that follow for every command are the
-//! contracts of `ends_are_due` and `faults_come_in_turn`.
+//! the run, each at least whose line was taken whole. `specs/Courses.antt` says of each command what it
+//! does, in order; `specs/Comes.antt` and `specs/Leaves.antt` say once for all courses to which ends a
+//! run may come and what it leaves, and `specs/Safety.antt` what crashes may leave meanwhile. The laws
+//! that follow for every command are the contracts of `ends_are_due` and `faults_come_in_turn`.
 //!
 //! Below `run`, `command_of` says what the words mean, and each command is a module of `commands`.
 //! `PointRows` keeps the row of each node with a tag and a place while files are read, `WayRows` the

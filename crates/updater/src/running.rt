@@ -46,7 +46,8 @@ pub fn run<R: Threads + Wait + Sync, I: Inputs, D: Disk, S: Sink, G: Gate>(
         (world (I.view inputs.old) (D.view disk.old) (S.view out.old))
         (world (I.view inputs.new) (D.view disk.new) (S.view out.new)) result.fault }
 
-    // Whatever the answer, a store keeps the history that it had, and behind it the steps of this run.
+    // Whatever the answer, a store keeps the history that it had, and behind it the steps of this run: each one at least whose
+    // line was taken whole. So does one that was made on an empty disk.
     ensures safe { (own : CommandOf) → command (map string_bytes words.now) ≡ Some own → IsSafe own
         (world (I.view inputs.old) (D.view disk.old) (S.view out.old))
         (world (I.view inputs.new) (D.view disk.new) (S.view out.new)) result.fault }
