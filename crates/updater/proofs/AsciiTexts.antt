@@ -16,10 +16,11 @@ use Rattle.opl_object.specs.declared.why.Why.{Why}
 use Rattle.opl_object.specs.declared.why.Why.TheVariants as causes
 use Rattle.opl_object.specs.Why.{number_of}
 use Rattle.updater.specs.declared.fault.Fault.{Fault}
-use Rattle.updater.specs.declared.fault.Fault.TheVariants.{Usage, Malformed, BadStyle, BadBounds, Limit, ReadFault, NotFormatted, NotEmpty, NotImported, AlreadyImported, UnknownTable, BadStore, WriteFault, DiskFault, OutOfMemory}
+use Rattle.updater.specs.declared.fault.Fault.TheVariants.{Usage, Malformed, BadStyle, BadBounds, BadQuery, Limit, ReadFault, NotFormatted, NotEmpty, NotImported, AlreadyImported, UnknownTable, BadStore, WriteFault, DiskFault, OutOfMemory}
 use Rattle.style_read.specs.declared.fault.StylePart.{StylePart}
 use Rattle.style_read.specs.declared.fault.StylePart.TheVariants as parts
 use Rattle.style_read.specs.Why.{number_of as style_number}
+use Rattle.map_query.specs.Fault.{number_of as query_number}
 use Rattle.updater.specs.Faults.{fault_text, kind_text, key_text, limit_text, order_text, part_text}
 
 IsAscii-cons : (byte : ℕ) (bytes : List ℕ) → byte < 128 → IsAscii bytes → IsAscii (byte ∷ bytes)
@@ -121,6 +122,10 @@ IsAscii-fault_text (BadStyle file why part) =
     (IsAscii-bad_style file (style_number why)) (IsAscii-part_text part)
 IsAscii-fault_text (BadBounds file line) =
     IsAscii-two (codes "bad bounds file ") (codes " line ") file line (IsAscii-words (codes "bad bounds file ") refl) (IsAscii-words (codes " line ") refl)
+IsAscii-fault_text (BadQuery file line why) = IsAscii-append (codes "bad query file " ++ decimal file ++ codes " line " ++ decimal line ++ codes " cause ") (decimal (query_number why))
+    (IsAscii-append (codes "bad query file " ++ decimal file ++ codes " line " ++ decimal line) (codes " cause ")
+    (IsAscii-two (codes "bad query file ") (codes " line ") file line (IsAscii-words (codes "bad query file ") refl) (IsAscii-words (codes " line ") refl)) (IsAscii-words (codes " cause ") refl))
+    (IsAscii-any_decimal (query_number why))
 IsAscii-fault_text (Limit which value) =
     let name : IsAscii (codes "limit " ++ limit_text which) = IsAscii-append (codes "limit ") (limit_text which) (IsAscii-words (codes "limit ") refl) (IsAscii-limit_text which) in
     let before : IsAscii (codes "limit " ++ limit_text which ++ codes " value ") = IsAscii-append (codes "limit " ++ limit_text which) (codes " value ") name (IsAscii-words (codes " value ") refl) in

@@ -109,6 +109,7 @@ Blame terms old (Some faults.Usage) = ⊥
 Blame terms old (Some (faults.Malformed file line why)) = FileHas terms old file (faults.Malformed file line why)
 Blame terms old (Some (faults.BadStyle file why part)) = FileHas terms old file (faults.BadStyle file why part)
 Blame terms old (Some (faults.BadBounds file line)) = FileHas terms old file (faults.BadBounds file line)
+Blame terms old (Some (faults.BadQuery file line why)) = FileHas terms old file (faults.BadQuery file line why)
 Blame terms old (Some (faults.Limit which value)) = IsOver terms old which value
 Blame terms old (Some (faults.ReadFault file)) = (terms.from ≤ file) × (file < terms.end)
 Blame terms old (Some faults.NotFormatted) = terms.opening × IfTold old.content (λ bytes. ¬ IsFormatted bytes)
@@ -210,6 +211,8 @@ module _ (terms : Terms) (old : Before) where
       (subst (λ (at : ℕ). FileHas terms old at (faults.BadStyle own why part)) (sym of_file) (low, high, told), λ other names. sym of_file ∙ names)
   blamed_file file (faults.BadBounds own line) of_file low high told =
       (subst (λ (at : ℕ). FileHas terms old at (faults.BadBounds own line)) (sym of_file) (low, high, told), λ other names. sym of_file ∙ names)
+  blamed_file file (faults.BadQuery own line why) of_file low high told =
+      (subst (λ (at : ℕ). FileHas terms old at (faults.BadQuery own line why)) (sym of_file) (low, high, told), λ other names. sym of_file ∙ names)
   blamed_file file (faults.Limit which value) of_file low high told = (inr (file, (low, high, told)), λ other names. absurd names)
   blamed_file file faults.Usage of_file low high told = absurd of_file
   blamed_file file (faults.ReadFault own) of_file low high told = absurd of_file
@@ -248,6 +251,7 @@ module _ (terms : Terms) (old : Before) where
   told_state file quiet done (faults.Malformed own line why) none up = absurd none
   told_state file quiet done (faults.BadStyle own why part) none up = absurd none
   told_state file quiet done (faults.BadBounds own line) none up = absurd none
+  told_state file quiet done (faults.BadQuery own line why) none up = absurd none
   told_state file quiet done (faults.Limit which value) none up = absurd none
   told_state file quiet done (faults.ReadFault own) none up = absurd none
   told_state file quiet done faults.NotFormatted none up = absurd none

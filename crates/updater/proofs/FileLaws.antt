@@ -1,9 +1,16 @@
 -- What reading the files of a command comes to.
 use Rattle.std.proofs.Common.{◌≡◌, ◌≤◌, ◌<◌, ◌+◌, ℕ, Option, Some, None, List, [], length, Ok, Err, refl, sym, ◌∙◌, ap, subst, arith}
+use Rattle.std.proofs.Common.{map as each}
 use Rattle.osm_base.specs.bounds.Limits.{standard}
-use Rattle.osm_base.specs.declared.bounds.limits.LimitKind.TheVariants.{FileEntries, StyleBytes, BoundsBytes}
+use Rattle.osm_base.specs.declared.bounds.limits.LimitKind.TheVariants.{FileEntries, StyleBytes, BoundsBytes, QueryBytes}
 use Rattle.osm_base.specs.declared.bounds.limits.TheConstants.{MAX_ENTRIES}
 use Rattle.osm_base.specs.declared.values.object.Entry.{Entry}
+use Rattle.map_query.specs.Line.{query_of}
+use Rattle.map_query.specs.Reading.{HasItsCause}
+use Rattle.map_query.specs.declared.fault.QueryFault.{QueryFault}
+use Rattle.map_query.specs.declared.fault.QueryFault.TheVariants as queries
+use Rattle.map_query.specs.declared.fault.QueryWhy.{QueryWhy}
+use Rattle.map_query.specs.declared.query.Query.{Query}
 use Rattle.opl_lines.specs.Lines.{lines_of}
 use Rattle.outside.specs.Bytes.{IfTold}
 use Rattle.outside.specs.Causes.{Rose}
@@ -27,7 +34,7 @@ use Rattle.tile_cover.specs.declared.fault.BoundsFault.TheVariants as bounds
 use Rattle.updater.specs.declared.fault.Fault.TheVariants as faults
 use Rattle.updater.specs.declared.file_reads.TheConstants.{MAX_WHOLE}
 use Rattle.updater.specs.FileReads.{IsRead, IsReadAlone, IsUnread}
-use Rattle.updater.specs.Files.{IsBounds, IsChange, IsStyle, bounds_fault, change_in, fault_in, of_file, style_fault, whole_fault}
+use Rattle.updater.specs.Files.{IsBounds, IsChange, IsQueries, IsStyle, bounds_fault, change_in, fault_in, of_file, query_fault, style_fault, whole_fault}
 
 -- a fault of the bytes of a file, as that of a run
 of_told : (file : ℕ) (fault : FileFault) (told : Option (List ℕ)) → IsFaultOf standard told fault → IfTold told (λ bytes. change_in file bytes ≡ Err (fault_in file fault))
@@ -103,6 +110,23 @@ bounds_unread file bytes (bounds.Bad line) old new whole short is alone =
     record { why = (refl, λ other told. subst (λ (own : List ℕ). IsBounds file own (Err (faults.BadBounds file line))) (sym (own.0 other told)) (short, refl, is)); alone = alone }
 bounds_unread file bytes bounds.OutOfMemory old new whole short is alone = record { why = tt; alone = alone }
 
+pub queries_read : (style : StyleOf) (file : ℕ) (bytes : List ℕ) (found : List Query) (old new : FilesView) → IsWhole bytes (old.left file) (new.left file) → length bytes ≤ MAX_WHOLE
+    → each (λ (query : Query). Ok {E = QueryWhy} query) found ≡ each (query_of style) (lines_of bytes) → IsReadAlone file old new → IsRead (IsQueries style file) file found old new
+queries_read style file bytes found old new whole short is alone =
+    let own = whole_is bytes (old.left file) (new.left file) whole in
+    record {
+      accepted = λ other told. subst (λ (own : List ℕ). IsQueries style file own (Ok found)) (sym (own.0 other told)) (short, is);
+      at_end = own.1;
+      alone = alone;
+    }
+
+pub queries_unread : (style : StyleOf) (file : ℕ) (bytes : List ℕ) (fault : QueryFault) (old new : FilesView) → IsWhole bytes (old.left file) (new.left file) → length bytes ≤ MAX_WHOLE → HasItsCause style (lines_of bytes) fault
+    → IsReadAlone file old new → IsUnread (IsQueries style file) file (query_fault file fault) old new
+queries_unread style file bytes (queries.Bad line why) old new whole short is alone =
+    let own = whole_is bytes (old.left file) (new.left file) whole in
+    record { why = (refl, λ other told. subst (λ (own : List ℕ). IsQueries style file own (Err (faults.BadQuery file line why))) (sym (own.0 other told)) (short, refl, is)); alone = alone }
+queries_unread style file bytes queries.OutOfMemory old new whole short is alone = record { why = tt; alone = alone }
+
 -- a file that is not read whole
 pub style_unwhole : (file : ℕ) (fault : WholeFault) (old new : FilesView) → StopsWhole (IsOver MAX_WHOLE 0 (old.left file)) (Rose old.faults new.faults) fault → IsReadAlone file old new
     → IsUnread (IsStyle file) file (whole_fault file StyleBytes fault) old new
@@ -115,3 +139,9 @@ pub bounds_unwhole : (file : ℕ) (fault : WholeFault) (old new : FilesView) →
 bounds_unwhole file wholes.TooLong old new stops alone = record { why = (tt, λ own told. (over_is MAX_WHOLE (old.left file) stops own told, refl)); alone = alone }
 bounds_unwhole file wholes.ReadFault old new stops alone = record { why = (refl, stops); alone = alone }
 bounds_unwhole file wholes.OutOfMemory old new stops alone = record { why = tt; alone = alone }
+
+pub queries_unwhole : (style : StyleOf) (file : ℕ) (fault : WholeFault) (old new : FilesView) → StopsWhole (IsOver MAX_WHOLE 0 (old.left file)) (Rose old.faults new.faults) fault → IsReadAlone file old new
+    → IsUnread (IsQueries style file) file (whole_fault file QueryBytes fault) old new
+queries_unwhole style file wholes.TooLong old new stops alone = record { why = (tt, λ own told. (over_is MAX_WHOLE (old.left file) stops own told, refl)); alone = alone }
+queries_unwhole style file wholes.ReadFault old new stops alone = record { why = (refl, stops); alone = alone }
+queries_unwhole style file wholes.OutOfMemory old new stops alone = record { why = tt; alone = alone }

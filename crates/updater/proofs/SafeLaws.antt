@@ -8,10 +8,10 @@ use Rattle.update_flow.specs.State.{Holding, State, formatted, imported, Step, c
 use Rattle.updater.specs.declared.fault.Fault.{Fault}
 use Rattle.updater.specs.declared.fault.Fault.TheVariants as faults
 use Rattle.updater.specs.declared.files.Files.{Files}
-use Rattle.updater.specs.Command.{CommandOf, points_of, lines_of, init_of, import_of, append_of, export_of, tiles_of, replay_of, Use, no_store, new_store, old_store, use_of}
+use Rattle.updater.specs.Command.{CommandOf, points_of, lines_of, init_of, import_of, append_of, export_of, tiles_of, query_of, replay_of, Use, no_store, new_store, old_store, use_of}
 use Rattle.updater.specs.Comes.{Comes}
 use Rattle.updater.specs.Course.{Course}
-use Rattle.updater.specs.Courses.{Onward, appending, telling, append_to, appends, clears, course_of, export_from, exports, finished, fills, import_into, onward, tiles_of_store, version_line}
+use Rattle.updater.specs.Courses.{Onward, appending, telling, append_to, appends, clears, course_of, export_from, exports, finished, fills, import_into, onward, query_from, tiles_of_store, version_line}
 use Rattle.updater.specs.Keeps.{Kept, IsFit, IsOneOf, blank, whole}
 use Rattle.updater.specs.Leaves.{IsPast, Leaves, StandsOn}
 use Rattle.updater.specs.Progress.{Standing, unused, keeps, Progress, Ending, begun}
@@ -157,6 +157,11 @@ opens_first (tiles_of store least clear) is = into
     into : (state : State) → Counts (tiles_of_store least clear state) 0 0
     into formatted = refl
     into (imported held) = (refl, (refl, refl, behind clear))
+opens_first (query_of store files) is = into
+  where
+    into : (state : State) → Counts (query_from files state) 0 0
+    into formatted = refl
+    into (imported held) = (refl, λ queries. (refl, (refl, refl, tt)))
 opens_first (replay_of store files workers) is = absurd (cc)
 
 -- and the others make it
@@ -168,6 +173,7 @@ makes_first (import_of store files buckets workers) is = absurd (cc)
 makes_first (append_of store files workers) is = absurd (cc)
 makes_first (export_of store table) is = absurd (cc)
 makes_first (tiles_of store least clear) is = absurd (cc)
+makes_first (query_of store files) is = absurd (cc)
 makes_first (replay_of store files workers) is = λ style bounds.
     let line = one_line 0 in
     let told : 0 ≡ 1 - lines_in (version_line 0) = omega (arith, line) in

@@ -132,6 +132,7 @@ module _ (start done : Progress) (next : ℕ) (old : Before) (files : FilesView)
     stops_why rest (faults.Malformed own line cause) why alone = (refused (faults.Malformed own line cause) why.0 (λ bytes told. why.1 bytes (as_before ∙ told)) refl, tt)
     stops_why rest (faults.BadStyle own cause part) why alone = (refused (faults.BadStyle own cause part) why.0 (λ bytes told. why.1 bytes (as_before ∙ told)) refl, tt)
     stops_why rest (faults.BadBounds own line) why alone = (refused (faults.BadBounds own line) why.0 (λ bytes told. why.1 bytes (as_before ∙ told)) refl, tt)
+    stops_why rest (faults.BadQuery own line cause) why alone = (refused (faults.BadQuery own line cause) why.0 (λ bytes told. why.1 bytes (as_before ∙ told)) refl, tt)
     stops_why rest (faults.Limit which value) why alone = (refused (faults.Limit which value) why.0 (λ bytes told. why.1 bytes (as_before ∙ told)) refl, tt)
     stops_why rest faults.Usage why alone = absurd why.0
     stops_why rest faults.NotFormatted why alone = absurd why.0

@@ -7,12 +7,12 @@ use Rattle.updater.specs.declared.fault.Fault.TheVariants as faults
 use Rattle.updater.specs.declared.files.Files.{Files}
 use Rattle.updater.specs.Causes.{Cause, HasStore, MakesStore, OpensStore}
 use Rattle.updater.specs.Comes.{Comes}
-use Rattle.updater.specs.Command.{CommandOf, points_of, lines_of, init_of, import_of, append_of, export_of, tiles_of, replay_of, files_of, Use, no_store, new_store, old_store, use_of}
+use Rattle.updater.specs.Command.{CommandOf, points_of, lines_of, init_of, import_of, append_of, export_of, tiles_of, query_of, replay_of, files_of, Use, no_store, new_store, old_store, use_of}
 use Rattle.style_read.specs.Style.{table_of}
 use Rattle.tile_cover.specs.Table.{BoundsOf}
 use Rattle.update_flow.specs.State.{Holding, State, formatted, imported, changed, fresh}
 use Rattle.updater.specs.Course.{Course}
-use Rattle.updater.specs.Courses.{append_to, appends, course_of, export_from, exports, finished, import_into, onward, replay_course, telling, tiles_of_store}
+use Rattle.updater.specs.Courses.{append_to, appends, course_of, export_from, exports, finished, import_into, onward, query_from, replay_course, telling, tiles_of_store}
 use Rattle.updater.specs.Files.{IsChange}
 use Rattle.updater.specs.InTurn.{FaultNames, IsInTurn}
 use Rattle.updater.specs.Leaves.{HasCause}
@@ -119,6 +119,17 @@ tiles_to store least true (imported held) = (has_store, (has_store, tt))
 makes_store : new_store ≢ no_store
 makes_store = λ e. absurd (cc)
 
+query_to : (store : List ℕ) (files : Files) (state : State) → files.count ≡ 1 → KeepsTo (terms_of (query_of store files)) files.first (Unit {0}) (query_from files state)
+query_to store files formatted one = has_store
+query_to store files (imported held) one = (
+  refl,
+  omega (arith, one),
+  (λ _. tt),
+  (λ bytes fault is. (held.style, is)),
+  (λ bytes found is. (held.style, (found, is))),
+  λ found. (has_store, tt),
+)
+
 -- a command that makes its store
 makes_new : new_store ≢ no_store
 makes_new = λ e. absurd (cc)
@@ -186,6 +197,7 @@ keeps_to (import_of store files buckets workers) its = (refl, has_store, λ stat
 keeps_to (append_of store files workers) its = (refl, has_store, λ state. append_to_store store files workers state its)
 keeps_to (export_of store table) its = (refl, has_store, λ state. export_to store table state)
 keeps_to (tiles_of store least clear) its = (refl, has_store, λ state. tiles_to store least clear state)
+keeps_to (query_of store files) its = (refl, has_store, λ state. query_to store files state its)
 keeps_to (replay_of store files workers) its = replay_to store files workers its
 
 -- before anything is done
@@ -236,6 +248,7 @@ cause_of command old new faults.Usage blame failed = blame
 cause_of command old new (faults.Malformed file line why) blame failed = ((blame.0, blame.1), blame.2)
 cause_of command old new (faults.BadStyle file why part) blame failed = ((blame.0, blame.1), blame.2)
 cause_of command old new (faults.BadBounds file line) blame failed = ((blame.0, blame.1), blame.2)
+cause_of command old new (faults.BadQuery file line why) blame failed = ((blame.0, blame.1), blame.2)
 cause_of command old new (faults.Limit which value) (inl over) failed = inl over
 cause_of command old new (faults.Limit which value) (inr (file, (low, high, told))) failed = inr (file, ((low, high), told))
 cause_of command old new (faults.ReadFault file) blame failed = (blame, failed)

@@ -5,7 +5,7 @@ use Rattle.osm_base.specs.declared.bounds.limits.LimitKind.TheVariants.{Pages, P
 use Rattle.outside.specs.Bytes.{IfTold}
 use Rattle.page_journal.specs.Home.{IsFormatted}
 use Rattle.updater.specs.declared.fault.Fault.{Fault}
-use Rattle.updater.specs.declared.fault.Fault.TheVariants.{Usage, Malformed, BadStyle, BadBounds, Limit, ReadFault, NotFormatted, NotEmpty, NotImported, AlreadyImported, UnknownTable, BadStore, WriteFault, DiskFault, OutOfMemory}
+use Rattle.updater.specs.declared.fault.Fault.TheVariants.{Usage, Malformed, BadStyle, BadBounds, BadQuery, Limit, ReadFault, NotFormatted, NotEmpty, NotImported, AlreadyImported, UnknownTable, BadStore, WriteFault, DiskFault, OutOfMemory}
 use Rattle.updater.specs.Command.{CommandOf, Names, no_store, new_store, old_store, use_of}
 use Rattle.updater.specs.Reading.{HasFault}
 use Rattle.updater.specs.World.{World, Before, ReadFailed, WriteFailed, DiskFailed}
@@ -40,6 +40,7 @@ Cause command old new Usage = ⊥
 Cause command old new (Malformed file line why) = FileHas command old file (Malformed file line why)
 Cause command old new (BadStyle file why part) = FileHas command old file (BadStyle file why part)
 Cause command old new (BadBounds file line) = FileHas command old file (BadBounds file line)
+Cause command old new (BadQuery file line why) = FileHas command old file (BadQuery file line why)
 Cause command old new (Limit which value) = IsOver command old which value
 Cause command old new (ReadFault file) = Names command file × ReadFailed old new
 Cause command old new NotFormatted = OpensStore command × IfTold old.content (λ bytes. ¬ IsFormatted bytes)

@@ -4,7 +4,7 @@ use Rattle.std.specs.Prelude.{◌≡◌, ◌≢◌, ◌⊎◌, ◌≤◌, ℕ, L
 use Rattle.outside.specs.Bytes.{IfTold, IsTold}
 use Rattle.page_journal.specs.Home.{IsFormatted}
 use Rattle.updater.specs.declared.fault.Fault.{Fault}
-use Rattle.updater.specs.declared.fault.Fault.TheVariants.{Malformed, BadStyle, BadBounds, Limit, ReadFault, NotFormatted, NotEmpty, WriteFault, DiskFault, OutOfMemory}
+use Rattle.updater.specs.declared.fault.Fault.TheVariants.{Malformed, BadStyle, BadBounds, BadQuery, Limit, ReadFault, NotFormatted, NotEmpty, WriteFault, DiskFault, OutOfMemory}
 use Rattle.osm_base.specs.bounds.Limits.{standard}
 use Rattle.page_journal.specs.declared.fault.StoreFault.TheVariants as stores
 use Rattle.update_flow.specs.History.{state_after}
@@ -34,6 +34,7 @@ abbrev pub IsOfFile : ℕ → Fault → Type 0
 IsOfFile file (Malformed own line why) = own ≡ file
 IsOfFile file (BadStyle own why part) = own ≡ file
 IsOfFile file (BadBounds own line) = own ≡ file
+IsOfFile file (BadQuery own line why) = own ≡ file
 IsOfFile file (Limit which value) = Unit {0}
 IsOfFile file _ = ⊥
 

@@ -2,7 +2,7 @@
 use Rattle.std.specs.Prelude.{◌≡◌, ℕ, ◌+◌, ◌<◌, ◌≤◌, Bool, true, false, Option, Some, None, List}
 use Rattle.std.specs.Int.{is_power_of_two}
 use Rattle.updater.specs.declared.words.Command.{Command}
-use Rattle.updater.specs.declared.words.Command.TheVariants.{Points, Lines, Init, Import, Append, Export, Tiles, Replay}
+use Rattle.updater.specs.declared.words.Command.TheVariants.{Points, Lines, Init, Import, Append, Export, Tiles, Query, Replay}
 use Rattle.tile_cover.specs.declared.runs.TheConstants.{MAX_ZOOM}
 use Rattle.updater.specs.declared.files.Files.{Files}
 use Rattle.updater.specs.declared.options.TheConstants.{MAX_BUCKETS, MAX_WORKERS}
@@ -16,6 +16,7 @@ pub data CommandOf : Type 0 where
   append_of : (store : List ℕ) → (files : Files) → (workers : ℕ) → CommandOf
   export_of : (store : List ℕ) → (table : List ℕ) → CommandOf
   tiles_of : (store : List ℕ) → (least : ℕ) → (clear : Bool) → CommandOf
+  query_of : (store : List ℕ) → (files : Files) → CommandOf
   replay_of : (store : List ℕ) → (files : Files) → (workers : ℕ) → CommandOf
 
 -- a command of the program, as contracts see it
@@ -27,6 +28,7 @@ seen (Import store files buckets workers) = import_of store.now files buckets wo
 seen (Append store files workers) = append_of store.now files workers
 seen (Export store table) = export_of store.now table.now
 seen (Tiles store least clear) = tiles_of store.now least clear
+seen (Query store files) = query_of store.now files
 seen (Replay store files workers) = replay_of store.now files workers
 
 -- the path of the store that words ask for
@@ -36,6 +38,7 @@ store_of (Some (import_of store files buckets workers)) = Some store
 store_of (Some (append_of store files workers)) = Some store
 store_of (Some (export_of store table)) = Some store
 store_of (Some (tiles_of store least clear)) = Some store
+store_of (Some (query_of store files)) = Some store
 store_of (Some (replay_of store files workers)) = Some store
 store_of _ = None
 
@@ -59,6 +62,7 @@ use_of (import_of store files buckets workers) = old_store
 use_of (append_of store files workers) = old_store
 use_of (export_of store table) = old_store
 use_of (tiles_of store least clear) = old_store
+use_of (query_of store files) = old_store
 use_of (replay_of store files workers) = new_store
 
 -- the files that a command names, by the places of their words
@@ -67,6 +71,7 @@ files_of (points_of key files) = files
 files_of (lines_of key files) = files
 files_of (import_of store files buckets workers) = files
 files_of (append_of store files workers) = files
+files_of (query_of store files) = files
 files_of (replay_of store files workers) = files
 files_of _ = record { first = 0; count = 0 }
 
@@ -100,4 +105,5 @@ FilesFit (import_of store files buckets workers) = FitFrom 2 files × (files.cou
 FilesFit (append_of store files workers) = FitFrom 2 files × AreWorkers workers
 FilesFit (export_of store table) = Unit {0}
 FilesFit (tiles_of store least clear) = least ≤ MAX_ZOOM
+FilesFit (query_of store files) = FitFrom 1 files × (files.count ≡ 1)
 FilesFit (replay_of store files workers) = FitFrom 3 files × AreWorkers workers

@@ -16,9 +16,10 @@ use Rattle.update_flow.specs.Due.{Tiles}
 use Rattle.update_flow.specs.State.{Holding, State, formatted, imported, Import, Append, Clear, fresh, changed}
 use Rattle.updater.specs.declared.fault.Fault.TheVariants.{AlreadyImported, NotImported, UnknownTable}
 use Rattle.updater.specs.declared.files.Files.{Files}
-use Rattle.updater.specs.Command.{CommandOf, points_of, lines_of, init_of, import_of, append_of, export_of, tiles_of, replay_of}
+use Rattle.updater.specs.Command.{CommandOf, points_of, lines_of, init_of, import_of, append_of, export_of, tiles_of, query_of, replay_of}
 use Rattle.updater.specs.Course.{Course, ends, refuses, reads, wants_empty, formats, opens, looks, commits, tells, writes, writes_text}
-use Rattle.updater.specs.Files.{IsBounds, IsChange, IsStyle}
+use Rattle.updater.specs.Answers.{answers_text}
+use Rattle.updater.specs.Files.{IsBounds, IsChange, IsQueries, IsStyle}
 use Rattle.updater.specs.commands.Lines.{lines_text_of}
 use Rattle.updater.specs.commands.Points.{points_text_of}
 
@@ -117,6 +118,11 @@ export_from table state = if_imported (λ held. exports held (table_of held.styl
 abbrev pub tiles_of_store : (least : ℕ) → (clear : Bool) → State → Course
 tiles_of_store least clear state = if_imported (λ held. looks (writes (IsTileText held.due least) (clears clear))) state
 
+abbrev pub query_from : Files → State → Course
+query_from files state = if_imported (λ held.
+    reads files.first (IsQueries held.style files.first) (λ queries.
+    looks (writes_text (answers_text held.style (tables held.style held.objects) held.changes queries) ends))) state
+
 -- a file is imported, so many behind it are appended, and all that the store holds then is told
 abbrev pub fills : (style : StyleOf × List ℕ) → BoundsOf → (file changes : ℕ) → Course
 fills style bounds file changes = imports style 1024 file (onward (appending bounds (file + 1) changes (telling bounds.zoom)))
@@ -139,4 +145,5 @@ course_of (import_of store files buckets workers) = opens (import_into files buc
 course_of (append_of store files workers) = opens (append_to files)
 course_of (export_of store table) = opens (export_from table)
 course_of (tiles_of store least clear) = opens (tiles_of_store least clear)
+course_of (query_of store files) = opens (query_from files)
 course_of (replay_of store files workers) = replay_course files

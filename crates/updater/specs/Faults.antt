@@ -11,10 +11,11 @@ use Rattle.opl_object.specs.Why.{number_of}
 use Rattle.style_read.specs.declared.fault.StylePart.{StylePart}
 use Rattle.style_read.specs.declared.fault.StylePart.TheVariants as parts
 use Rattle.style_read.specs.Why.{number_of as style_number}
+use Rattle.map_query.specs.Fault.{number_of as query_number}
 use Rattle.page_journal.specs.declared.fault.StoreFault.{StoreFault}
 use Rattle.page_journal.specs.declared.fault.StoreFault.TheVariants as stores
 use Rattle.updater.specs.declared.fault.Fault.{Fault}
-use Rattle.updater.specs.declared.fault.Fault.TheVariants.{Usage, Malformed, BadStyle, BadBounds, Limit, ReadFault, NotFormatted, NotEmpty, NotImported, AlreadyImported, UnknownTable, BadStore, WriteFault, DiskFault, OutOfMemory}
+use Rattle.updater.specs.declared.fault.Fault.TheVariants.{Usage, Malformed, BadStyle, BadBounds, BadQuery, Limit, ReadFault, NotFormatted, NotEmpty, NotImported, AlreadyImported, UnknownTable, BadStore, WriteFault, DiskFault, OutOfMemory}
 use Rattle.update_flow.specs.declared.fault.FlowFault.{FlowFault}
 use Rattle.update_flow.specs.declared.fault.TheConstants.{LAST_CHANGE}
 use Rattle.update_flow.specs.declared.fault.FlowFault.TheVariants as flow
@@ -55,6 +56,7 @@ status_of (Some WriteFault) = 8
 status_of (Some DiskFault) = 9
 status_of (Some (Limit _ _)) = 10
 status_of (Some OutOfMemory) = 11
+status_of (Some (BadQuery _ _ _)) = 12
 status_of (Some UnknownTable) = 12
 
 -- the letter of a kind
@@ -98,6 +100,7 @@ fault_text (Malformed file line why) =
 fault_text (BadStyle file why part) =
     codes "bad style file " ++ decimal file ++ codes " cause " ++ decimal (style_number why) ++ codes " part " ++ part_text part
 fault_text (BadBounds file line) = codes "bad bounds file " ++ decimal file ++ codes " line " ++ decimal line
+fault_text (BadQuery file line why) = codes "bad query file " ++ decimal file ++ codes " line " ++ decimal line ++ codes " cause " ++ decimal (query_number why)
 fault_text (Limit which value) = codes "limit " ++ limit_text which ++ codes " value " ++ decimal value
 fault_text (ReadFault file) = codes "read fault file " ++ decimal file
 fault_text NotFormatted = codes "not formatted"

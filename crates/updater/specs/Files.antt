@@ -1,6 +1,6 @@
 -- What the bytes of the files of a command are read as, and their faults as those of a run. A file is numbered by the place of its
 -- word.
-use Rattle.std.specs.Prelude.{◌≡◌, ◌≤◌, ◌<◌, ◌+◌, ℕ, List, length, Result, Ok, Err}
+use Rattle.std.specs.Prelude.{◌≡◌, ◌≤◌, ◌<◌, ◌+◌, ℕ, List, length, map, Result, Ok, Err}
 use Rattle.osm_base.specs.bounds.Limits.{standard}
 use Rattle.osm_base.specs.declared.values.object.Entry.{Entry}
 use Rattle.object_fold.specs.Entries.{entries_of}
@@ -8,9 +8,14 @@ use Rattle.object_fold.specs.declared.fault.FileFault.{FileFault}
 use Rattle.object_fold.specs.declared.fault.FileFault.TheVariants as file_faults
 use Rattle.object_fold.specs.declared.whole.WholeFault.{WholeFault}
 use Rattle.object_fold.specs.declared.whole.WholeFault.TheVariants as wholes
+use Rattle.map_query.specs.Line.{query_of}
+use Rattle.map_query.specs.Reading.{IsFirstBad}
+use Rattle.map_query.specs.declared.fault.QueryFault.{QueryFault}
+use Rattle.map_query.specs.declared.fault.QueryFault.TheVariants as queries
+use Rattle.map_query.specs.declared.query.Query.{Query}
 use Rattle.opl_lines.specs.Lines.{lines_of}
 use Rattle.osm_base.specs.declared.bounds.limits.LimitKind.{LimitKind}
-use Rattle.osm_base.specs.declared.bounds.limits.LimitKind.TheVariants.{StyleBytes, BoundsBytes}
+use Rattle.osm_base.specs.declared.bounds.limits.LimitKind.TheVariants.{StyleBytes, BoundsBytes, QueryBytes}
 use Rattle.style_read.specs.Reading.{reading}
 use Rattle.style_read.specs.Style.{StyleOf}
 use Rattle.style_read.specs.declared.fault.StyleFault.{StyleFault}
@@ -21,7 +26,7 @@ use Rattle.tile_cover.specs.declared.fault.BoundsFault.{BoundsFault}
 use Rattle.tile_cover.specs.declared.fault.BoundsFault.TheVariants as bounds
 use Rattle.updater.specs.declared.file_reads.TheConstants.{MAX_WHOLE}
 use Rattle.updater.specs.declared.fault.Fault.{Fault}
-use Rattle.updater.specs.declared.fault.Fault.TheVariants.{Malformed, BadStyle, BadBounds, Limit, ReadFault, OutOfMemory}
+use Rattle.updater.specs.declared.fault.Fault.TheVariants.{Malformed, BadStyle, BadBounds, BadQuery, Limit, ReadFault, OutOfMemory}
 
 -- the fault of a file, as that of a run
 abbrev pub fault_in : ℕ → FileFault → Fault
@@ -57,13 +62,20 @@ IsBounds file bytes (Err (BadBounds own line)) = (length bytes ≤ MAX_WHOLE) ×
 IsBounds file bytes (Err (Limit BoundsBytes value)) = (MAX_WHOLE < length bytes) × (value ≡ MAX_WHOLE + 1)
 IsBounds file bytes (Err _) = ⊥
 
+-- a file with these bytes is read as such queries of tables under this style, or has such a fault
+abbrev pub IsQueries : StyleOf → (file : ℕ) → List ℕ → Result (List Query) Fault → Type 0
+IsQueries style file bytes (Ok found) = (length bytes ≤ MAX_WHOLE) × (map Ok found ≡ map (query_of style) (lines_of bytes))
+IsQueries style file bytes (Err (BadQuery own line why)) = (length bytes ≤ MAX_WHOLE) × (own ≡ file) × IsFirstBad style (lines_of bytes) line why
+IsQueries style file bytes (Err (Limit QueryBytes value)) = (MAX_WHOLE < length bytes) × (value ≡ MAX_WHOLE + 1)
+IsQueries style file bytes (Err _) = ⊥
+
 -- the fault of a file that is read whole, as that of a run
 abbrev pub whole_fault : ℕ → LimitKind → WholeFault → Fault
 whole_fault file which wholes.TooLong = Limit which (MAX_WHOLE + 1)
 whole_fault file which wholes.ReadFault = ReadFault file
 whole_fault file which wholes.OutOfMemory = OutOfMemory
 
--- and that of a style, and of boundaries
+-- and that of a style, of boundaries, and of queries
 abbrev pub style_fault : ℕ → StyleFault → Fault
 style_fault file (styles.Bad why part) = BadStyle file why part
 style_fault file styles.OutOfMemory = OutOfMemory
@@ -71,3 +83,7 @@ style_fault file styles.OutOfMemory = OutOfMemory
 abbrev pub bounds_fault : ℕ → BoundsFault → Fault
 bounds_fault file (bounds.Bad line) = BadBounds file line
 bounds_fault file bounds.OutOfMemory = OutOfMemory
+
+abbrev pub query_fault : ℕ → QueryFault → Fault
+query_fault file (queries.Bad line why) = BadQuery file line why
+query_fault file queries.OutOfMemory = OutOfMemory

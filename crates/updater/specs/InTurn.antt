@@ -2,7 +2,7 @@
 use Rattle.std.specs.Prelude.{◌≡◌, ◌≤◌, ◌<◌, ℕ, [], Option, Some}
 use Rattle.outside.specs.Bytes.{IfTold}
 use Rattle.updater.specs.declared.fault.Fault.{Fault}
-use Rattle.updater.specs.declared.fault.Fault.TheVariants.{Malformed, BadStyle, BadBounds, ReadFault}
+use Rattle.updater.specs.declared.fault.Fault.TheVariants.{Malformed, BadStyle, BadBounds, BadQuery, ReadFault}
 use Rattle.updater.specs.Command.{CommandOf, Names}
 use Rattle.updater.specs.Reading.{Accepts, ReadsFirst}
 use Rattle.updater.specs.Progress.{Ending, IsIn}
@@ -13,6 +13,7 @@ abbrev pub FaultNames : Option Fault → ℕ → Type 0
 FaultNames (Some (Malformed own line why)) file = own ≡ file
 FaultNames (Some (BadStyle own why part)) file = own ≡ file
 FaultNames (Some (BadBounds own line)) file = own ≡ file
+FaultNames (Some (BadQuery own line why)) file = own ≡ file
 FaultNames (Some (ReadFault own)) file = own ≡ file
 FaultNames _ file = ⊥
 

@@ -3,8 +3,9 @@ use Rattle.std.specs.Prelude.{◌≡◌, ◌<◌, ◌≤◌, ◌+◌, ◌⊎◌,
 use Rattle.style_read.specs.Style.{StyleOf}
 use Rattle.tile_cover.specs.Table.{BoundsOf}
 use Rattle.updater.specs.declared.fault.Fault.{Fault}
-use Rattle.updater.specs.Command.{CommandOf, points_of, lines_of, init_of, import_of, append_of, export_of, tiles_of, replay_of}
-use Rattle.updater.specs.Files.{IsBounds, IsChange, IsStyle, change_in}
+use Rattle.updater.specs.Command.{CommandOf, points_of, lines_of, init_of, import_of, append_of, export_of, tiles_of, query_of, replay_of}
+use Rattle.map_query.specs.declared.query.Query.{Query}
+use Rattle.updater.specs.Files.{IsBounds, IsChange, IsQueries, IsStyle, change_in}
 
 -- the bytes of a file are accepted as a style, or as boundaries
 abbrev pub AcceptsStyle : (file : ℕ) → List ℕ → Type 0
@@ -16,12 +17,17 @@ AcceptsBounds file bytes = (found : BoundsOf) × IsBounds file bytes (Ok found)
 abbrev pub AcceptsChange : (file : ℕ) → List ℕ → Type 0
 AcceptsChange file bytes = IsOk (change_in file bytes)
 
+-- the bytes are accepted as queries of some style, that of the store, which Courses names
+abbrev pub AcceptsQueries : (file : ℕ) → List ℕ → Type 0
+AcceptsQueries file bytes = (style : StyleOf) × (found : List Query) × IsQueries style file bytes (Ok found)
+
 -- a file of the command with these bytes is accepted: as a style, as boundaries or as changes, by its place
 abbrev pub Accepts : CommandOf → (file : ℕ) → List ℕ → Type 0
 Accepts (import_of store files buckets workers) file bytes =
     ((file ≡ files.first) × AcceptsStyle file bytes) ⊎ ((files.first + 1 ≤ file) × AcceptsChange file bytes)
 Accepts (append_of store files workers) file bytes =
     ((file ≡ files.first) × AcceptsBounds file bytes) ⊎ ((files.first + 1 ≤ file) × AcceptsChange file bytes)
+Accepts (query_of store files) file bytes = AcceptsQueries file bytes
 Accepts (replay_of store files workers) file bytes =
     ((file ≡ files.first) × AcceptsStyle file bytes) ⊎ ((file ≡ files.first + 1) × AcceptsBounds file bytes)
     ⊎ ((files.first + 2 ≤ file) × AcceptsChange file bytes)
@@ -33,6 +39,7 @@ HasFault (import_of store files buckets workers) file bytes fault =
     ((file ≡ files.first) × IsStyle file bytes (Err fault)) ⊎ ((files.first + 1 ≤ file) × IsChange file bytes (Err fault))
 HasFault (append_of store files workers) file bytes fault =
     ((file ≡ files.first) × IsBounds file bytes (Err fault)) ⊎ ((files.first + 1 ≤ file) × IsChange file bytes (Err fault))
+HasFault (query_of store files) file bytes fault = (style : StyleOf) × IsQueries style file bytes (Err fault)
 HasFault (replay_of store files workers) file bytes fault =
     ((file ≡ files.first) × IsStyle file bytes (Err fault)) ⊎ ((file ≡ files.first + 1) × IsBounds file bytes (Err fault))
     ⊎ ((files.first + 2 ≤ file) × IsChange file bytes (Err fault))
@@ -48,5 +55,6 @@ ReadsFirst _ = Unit {0}
 abbrev pub HasItsFiles : CommandOf → Type 0
 HasItsFiles (import_of store files buckets workers) = files.count ≡ 2
 HasItsFiles (append_of store files workers) = 2 ≤ files.count
+HasItsFiles (query_of store files) = files.count ≡ 1
 HasItsFiles (replay_of store files workers) = 3 ≤ files.count
 HasItsFiles _ = Unit {0}

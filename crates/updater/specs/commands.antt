@@ -4,5 +4,6 @@ pub mod Import
 pub mod Init
 pub mod Lines
 pub mod Points
+pub mod Query
 pub mod Replay
 pub mod Tiles

@@ -5,5 +5,6 @@ pub mod import;
 pub mod init;
 pub mod lines;
 pub mod points;
+pub mod query;
 pub mod replay;
 pub mod tiles;

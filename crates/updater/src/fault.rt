@@ -2,9 +2,10 @@
 ghost use Rattle.std.specs.Prelude.{◌≡◌, IfOk, [], ◌∷◌};
 ghost use Rattle.updater.specs.Faults.{fault_of, fault_text, flow_fault, kind_text, status_of};
 ghost use Rattle.updater.specs.Making.{of_made};
-ghost use Rattle.updater.specs.Files.{bounds_fault, fault_in, style_fault, whole_fault};
+ghost use Rattle.updater.specs.Files.{bounds_fault, fault_in, query_fault, style_fault, whole_fault};
 
 use crate::file_reads::MAX_WHOLE;
+use map_query::{QueryFault, QueryWhy};
 use object_fold::{FileFault, WholeFault};
 use opl_object::Why;
 use osm_base::{Kind, LimitKind, OutOfMemory, Text};
@@ -37,6 +38,12 @@ pub enum Fault {
     BadBounds {
         file: u32,
         line: u32,
+    },
+    /// A file asks for something in a line that is no query, for this cause.
+    BadQuery {
+        file: u32,
+        line: u32,
+        why: QueryWhy,
     },
     /// There is more of something than there may be.
     Limit {
@@ -113,6 +120,16 @@ impl Fault {
         match fault {
             BoundsFault::Bad { line } => Fault::BadBounds { file, line },
             BoundsFault::OutOfMemory => Fault::OutOfMemory,
+        }
+    }
+
+    /// The fault of the queries in this file.
+    pub fn in_queries(file: u32, fault: QueryFault) -> Self
+        ensures fault { result ≡ query_fault file fault }
+    {
+        match fault {
+            QueryFault::Bad { line, why } => Fault::BadQuery { file, line, why },
+            QueryFault::OutOfMemory => Fault::OutOfMemory,
         }
     }
 
@@ -207,7 +224,7 @@ impl Outcome {
             Some(Fault::DiskFault) => 9,
             Some(Fault::Limit { .. }) => 10,
             Some(Fault::OutOfMemory) => 11,
-            Some(Fault::UnknownTable) => 12,
+            Some(Fault::BadQuery { .. } | Fault::UnknownTable) => 12,
         };
         Self { status, fault }
     }
@@ -252,6 +269,11 @@ impl fmt::Display for Fault {
                 PartName { part: *part }
             ),
             Fault::BadBounds { file, line } => write!(f, "bad bounds file {file} line {line}"),
+            Fault::BadQuery { file, line, why } => write!(
+                f,
+                "bad query file {file} line {line} cause {}",
+                why.number()
+            ),
             Fault::Limit { which, value } => match which {
                 LimitKind::LineBytes => write!(f, "limit line-bytes value {value}"),
                 LimitKind::FileLines => write!(f, "limit file-lines value {value}"),

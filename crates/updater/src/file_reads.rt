@@ -2,9 +2,10 @@
 ghost use Rattle.std.specs.Prelude.{◌≡◌, ◌≤◌, ℕ, Ok, replicate, length, IfOk, IfErr};
 ghost use Rattle.style_read.specs.Reading.{reading};
 ghost use Rattle.updater.specs.FileReads.{IsRead, IsUnread};
-ghost use Rattle.updater.specs.Files.{IsBounds, IsChange, IsStyle};
+ghost use Rattle.updater.specs.Files.{IsBounds, IsChange, IsQueries, IsStyle};
 
 use crate::fault::Fault;
+use map_query::{Queries, read_queries};
 use object_fold::{Change, read_all, read_file};
 use osm_base::{Bytes, LimitKind, Limits, MAX_ENTRIES};
 use outside::Inputs;
@@ -12,7 +13,7 @@ use std::alloc::Global;
 use style_read::{Style, read_style};
 use tile_cover::{Bounds, read_bounds};
 
-/// The most bytes of a STYLE or of BOUNDS.
+/// The most bytes of a STYLE, of BOUNDS or of QUERIES.
 pub const MAX_WHOLE: u64 = 1_048_576;
 
 /// A style, and the bytes that write it.
@@ -81,5 +82,26 @@ pub fn read_bounds_file<I: Inputs>(
     match read_bounds(alloc, bytes.as_slice()) {
         Ok(bounds) => Ok(bounds),
         Err(fault) => Err(Fault::in_bounds(file, fault)),
+    }
+}
+
+/// The queries of a file, under a style.
+pub fn read_queries_file<I: Inputs>(
+    alloc: Global,
+    inputs: &mut I,
+    file: u32,
+    style: &Style,
+) -> Result<Queries, Fault>
+    ensures ok { IfOk result (λ queries. IsRead (IsQueries style.now file) file queries (I.view inputs.old) (I.view inputs.new)) }
+    ensures err { IfErr result (λ fault. IsUnread (IsQueries style.now file) file fault (I.view inputs.old) (I.view inputs.new)) }
+    ensures asked { (count : ℕ) × I.reads inputs.old (replicate count file) inputs.new }
+{
+    let bytes = match read_all(alloc, inputs, file, MAX_WHOLE) {
+        Ok(bytes) => bytes,
+        Err(fault) => return Err(Fault::in_whole(file, LimitKind::QueryBytes, fault)),
+    };
+    match read_queries(alloc, bytes.as_slice(), style) {
+        Ok(queries) => Ok(queries),
+        Err(fault) => Err(Fault::in_queries(file, fault)),
     }
 }

@@ -15,6 +15,7 @@
 //! the disk back. A `Fault` has its status and its one line of text.
 #![tactic(auto)]
 
+mod answers;
 mod commands;
 mod fault;
 mod file_reads;

@@ -14,6 +14,7 @@ use crate::commands::import::import;
 use crate::commands::init::init;
 use crate::commands::lines::lines;
 use crate::commands::points::points;
+use crate::commands::query::query;
 use crate::commands::replay::replay;
 use crate::commands::tiles::tiles;
 use crate::fault::{Fault, Outcome};
@@ -97,6 +98,7 @@ fn run_command<R: Threads + Wait + Sync, I: Inputs, D: Disk, S: Sink, G: Gate>(
             least,
             clear,
         } => tiles(alloc, least, clear, inputs, disk, out),
+        Command::Query { store: _, files } => query(alloc, files, inputs, disk, out),
         Command::Replay {
             store: _,
             files,

@@ -5,7 +5,7 @@ ghost use Rattle.std.specs.Option.{option_map};
 ghost use Rattle.std.specs.String.{string_bytes};
 ghost use Rattle.updater.specs.Command as spec;
 
-use crate::commands::{append, export, import, init, lines, points, replay, tiles};
+use crate::commands::{append, export, import, init, lines, points, query, replay, tiles};
 use crate::files::Files;
 
 /// The most words that a command line may have, the command word counted.
@@ -52,6 +52,11 @@ pub enum Command<'a> {
         least: u32,
         clear: bool,
     },
+    /// Answers from the tables of a store: QUERIES.
+    Query {
+        store: &'a str,
+        files: Files,
+    },
     /// A store made, imported and changed, and all that it holds: STYLE, BOUNDS, INPUT and the change files.
     Replay {
         store: &'a str,
@@ -70,6 +75,7 @@ pub fn store_of(words: &[String]) -> Option<&str>
         | Command::Append { store, .. }
         | Command::Export { store, .. }
         | Command::Tiles { store, .. }
+        | Command::Query { store, .. }
         | Command::Replay { store, .. } => Some(store),
         Command::Points { .. } | Command::Lines { .. } => None,
     }
@@ -122,6 +128,7 @@ fn named<'a>(name: &str, options: &[String], form: &'a [String], place: u32) -> 
         "append" => append::form(options, form, place),
         "export" => export::form(options, form),
         "tiles" => tiles::form(options, form),
+        "query" => query::form(options, form, place),
         "replay" => replay::form(options, form, place),
         _ => None,
     }

@@ -1,7 +1,7 @@
 use Rattle.std.proofs.Common.{List, ℕ, refl, subst, sym}
 use Rattle.std.specs.Result.{result_err}
 use Rattle.updater.specs.declared.words.Command.{Command}
-use Rattle.updater.specs.Command.{FilesFit, Names, points_of, lines_of, init_of, import_of, append_of, export_of, tiles_of, replay_of, no_store, new_store, seen}
+use Rattle.updater.specs.Command.{FilesFit, Names, points_of, lines_of, init_of, import_of, append_of, export_of, tiles_of, query_of, replay_of, no_store, new_store, seen}
 use Rattle.updater.specs.Courses.{course_of, init_course, replay_course}
 use Rattle.updater.specs.Runs.{Runs}
 use Rattle.updater.specs.Safety.{IsSafe}
@@ -116,4 +116,17 @@ returns-in-Replay g c =
     record {
       runs = subst (λ (own : Command). Runs (seen own) (λ (asked : List ℕ). g.I.Inputs.reads c.args.inputs.now asked c.replay.new.inputs) old new fault) (sym c.in-Replay.is) own;
       safe = subst (λ (own : Command). IsSafe (seen own) old new fault) (sym c.in-Replay.is) (runs_safe command (λ (asked : List ℕ). g.I.Inputs.reads c.args.inputs.now asked c.replay.new.inputs) old new fault own);
+    }
+
+pub returns-in-Query : goal.returns-in-Query
+returns-in-Query g c =
+    let old = world (g.I.Inputs.view c.args.inputs.now) (g.D.Disk.view c.args.disk.now) (g.S.Sink.view c.args.out.now) in
+    let new = world (g.I.Inputs.view c.query.new.inputs) (g.D.Disk.view c.query.new.disk) (g.S.Sink.view c.query.new.out) in
+    let fault = result_err c.query.result in
+    let fits = subst (λ (own : Command). FilesFit (seen own)) c.in-Query.is c.requires.fits in
+    let command = query_of c.in-Query.store.now c.in-Query.files in
+    let own = runs_by command (λ (asked : List ℕ). g.I.Inputs.reads c.args.inputs.now asked c.query.new.inputs) fault old new fits.1 c.query.ensures.asked c.query.ensures.course (λ none. absurd (cc)) (λ not. absurd (not refl)) c.query.ensures.unformatted in
+    record {
+      runs = subst (λ (own : Command). Runs (seen own) (λ (asked : List ℕ). g.I.Inputs.reads c.args.inputs.now asked c.query.new.inputs) old new fault) (sym c.in-Query.is) own;
+      safe = subst (λ (own : Command). IsSafe (seen own) old new fault) (sym c.in-Query.is) (runs_safe command (λ (asked : List ℕ). g.I.Inputs.reads c.args.inputs.now asked c.query.new.inputs) old new fault own);
     }
