@@ -3,8 +3,9 @@ ghost use Rattle.std.specs.Prelude.{◌≡◌, ◌++◌, List, ℕ, codes, IfOk,
 ghost use Rattle.std.specs.String.{string_bytes};
 ghost use Rattle.updater.specs.Answers.{answers_text, counted, found_text, rows_text};
 
-use map_query::{Found, Query, answer};
+use map_query::{Found, Query};
 use osm_base::{NumberedRow, OutOfMemory, Tables};
+use row_boxes::{answer_by_boxes, boxes_of};
 use row_text::push_row;
 use std::alloc::Global;
 use style_read::Style;
@@ -19,16 +20,17 @@ pub fn answers_text(
 ) -> Result<String, OutOfMemory>
     ensures text { IfOk result (λ text. string_bytes text ≡ answers_text style.now tables.now version queries.now) }
 {
+    let boxes = boxes_of(alloc, tables)?;
     let mut out = String::new(alloc);
     for query in queries {
-        let found = answer(alloc, style, tables, query)?;
+        let found = answer_by_boxes(alloc, style, tables, &boxes, query)?;
         push_found(&mut out, version, &found)?;
     }
     Ok(out)
 }
 
-/// Appends an answer.
-fn push_found(out: &mut String, version: u64, found: &Found) -> Result<(), OutOfMemory>
+/// Appends an answer of this version.
+pub fn push_found(out: &mut String, version: u64, found: &Found) -> Result<(), OutOfMemory>
     ensures text { OnOk result (string_bytes out.new ≡ string_bytes out.old ++ found_text version found.now) }
 {
     match found {

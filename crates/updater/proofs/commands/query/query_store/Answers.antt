@@ -2,6 +2,7 @@ use Rattle.std.proofs.Common.{[], List, ℕ, Option, Err, ◌≡◌, ◌+◌, �
 use Rattle.std.specs.Prelude.{is_some}
 use Rattle.std.specs.Result.{result_err}
 use Rattle.outside.specs.Inputs.{FilesView}
+use Rattle.map_query.specs.declared.query.Query.{Query}
 use Rattle.osm_base.specs.map.Spots.{TableMap}
 use Rattle.row_map.specs.Row.{tables}
 use Rattle.style_read.specs.Style.{StyleOf}
@@ -29,7 +30,7 @@ returns-in-Err-clause-goes_on g c = λ old start done state head.
     let first = c.args.files.first in
     let files = g.I.Inputs.view c.args.inputs.now in
     let output = g.S.Sink.view c.args.out.now in
-    let read = g.I.Inputs.view c.read_queries_file-read.new.inputs in
+    let read = g.I.Inputs.view c.read_queries_file.new.inputs in
     if_there start done first old files (handle_of c.args.store.now) output _ _ _ state head (ap (λ (style : Option StyleOf). is_some style) (sym c.in-Some.ensures.style))
     (λ held head. first_unread start done first old files (handle_of c.args.store.now) output (IsQueries held.style first)
     (λ queries. looks (writes_text (answers_text held.style (tables held.style held.objects) held.changes queries) ends)) (imported held) head read c.in-Err.fault
@@ -40,7 +41,7 @@ returns-in-Err-load_tables-clause-goes_on g c = rw c.in_flow.ensures.fault (λ o
     let first = c.args.files.first in
     let files = g.I.Inputs.view c.args.inputs.now in
     let output = g.S.Sink.view c.args.out.now in
-    let read = g.I.Inputs.view c.read_queries_file-read.new.inputs in
+    let read = g.I.Inputs.view c.read_queries_file.new.inputs in
     if_there start done first old files (handle_of c.args.store.now) output _ _ _ state head (ap (λ (style : Option StyleOf). is_some style) (sym c.in-Some.ensures.style))
     (λ held head. first_read start done first old files (handle_of c.args.store.now) output (IsQueries held.style first)
     (λ queries. looks (writes_text (answers_text held.style (tables held.style held.objects) held.changes queries) ends)) (imported held) head read c.in-Ok.queries
@@ -54,7 +55,7 @@ returns-in-Ok-text-clause-goes_on g c = λ old start done state head.
     let first = c.args.files.first in
     let files = g.I.Inputs.view c.args.inputs.now in
     let output = g.S.Sink.view c.args.out.now in
-    let read = g.I.Inputs.view c.read_queries_file-read.new.inputs in
+    let read = g.I.Inputs.view c.read_queries_file.new.inputs in
     let text = c.as_bytes.result.now in
     let new = g.S.Sink.view c.tell.new.out in
     if_there start done first old files (handle_of c.args.store.now) output _ (result_err c.tell.result) (world read (view_of (handle_of c.load_tables.new.self)) new) state head (ap (λ (style : Option StyleOf). is_some style) (sym c.in-Some.ensures.style))
@@ -67,6 +68,7 @@ returns-in-Ok-text-clause-goes_on g c = λ old start done state head.
     look_ends start (past first done) held (first + 1) old read (handle_of c.args.store.now) (handle_of c.load_tables.new.self) output head
     (λ (own : List ℕ). own ≡ answers_text held.style (tables held.style held.objects) held.changes c.in-Ok.queries) sure text new c.tell.result
     (λ all certain. c.as_bytes.ensures.value ∙ c.in-Ok-text.ensures.text
+    ∙ ap (λ (queries : List Query). answers_text c.in-Some-style.style.now c.in-Ok-load_tables.tables c.changes-version.result queries) c.as_slice.ensures.items
     ∙ ap (λ (style : StyleOf). answers_text style c.in-Ok-load_tables.tables c.changes-version.result c.in-Ok.queries) (same_style start (past first done) held (first + 1) old read (handle_of c.load_tables.new.self) output sure c.in-Some-style.style.now c.in-Some-style.ensures.style)
     ∙ ap (λ (found : TableMap). answers_text held.style found c.changes-version.result c.in-Ok.queries) (c.in-Ok-load_tables.ensures.tables held (held_certain (past first done) held (handle_of c.args.store.now) head.here certain))
     ∙ ap (λ (version : ℕ). answers_text held.style (tables held.style held.objects) version c.in-Ok.queries) (c.changes-version.ensures.number ∙ shown.changes_are))
@@ -77,7 +79,7 @@ returns-clause-goes_on g c = λ old start done state head.
     let first = c.args.files.first in
     let files = g.I.Inputs.view c.args.inputs.now in
     let output = g.S.Sink.view c.args.out.now in
-    let read = g.I.Inputs.view c.read_queries_file-read.new.inputs in
+    let read = g.I.Inputs.view c.read_queries_file.new.inputs in
     if_there start done first old files (handle_of c.args.store.now) output _ _ _ state head (ap (λ (style : Option StyleOf). is_some style) (sym c.in-Some.ensures.style))
     (λ held head. first_read start done first old files (handle_of c.args.store.now) output (IsQueries held.style first)
     (λ queries. looks (writes_text (answers_text held.style (tables held.style held.objects) held.changes queries) ends)) (imported held) head read c.in-Ok.queries
@@ -86,3 +88,43 @@ returns-clause-goes_on g c = λ old start done state head.
     let sure = look_done start (past first done) held (first + 1) old read (handle_of c.args.store.now) (handle_of c.load_tables.new.self) output head c.in-Ok-load_tables.ensures.looks c.in-Ok-load_tables.ensures.tells c.in-Ok-load_tables.ensures.whole c.load_tables.ensures.stays.same_limits c.in-Ok-load_tables.ensures.cause in
     look_short start (past first done) held (first + 1) old read (handle_of c.args.store.now) (handle_of c.load_tables.new.self) output head
     (λ (own : List ℕ). own ≡ answers_text held.style (tables held.style held.objects) held.changes c.in-Ok.queries) ends sure))
+
+pub returns-in-Err-clause-asked : goal.returns-in-Err-clause-asked
+returns-in-Err-clause-asked g c =
+    let laws = g.met.I.Inputs g.world.𝓛 g.world.𝓜 g.world.𝓡 ((λ s x. x), (λ x. x), (λ x. x), λ x. x) in
+    let files = c.args.files in
+    let one = (c.requires.fits []).1 in
+    asked_more g.I.Inputs.reads laws.reads_then (Among files.first files.count) c.args.inputs.now c.args.inputs.now c.read_queries_file.new.inputs files.first
+    (asked_none g.I.Inputs.reads (Among files.first files.count) c.args.inputs.now (laws.reads_none c.args.inputs.now)) c.read_queries_file.ensures.asked (omega arith, omega (arith, one))
+
+pub returns-in-Err-load_tables-clause-asked : goal.returns-in-Err-load_tables-clause-asked
+returns-in-Err-load_tables-clause-asked g c =
+    let laws = g.met.I.Inputs g.world.𝓛 g.world.𝓜 g.world.𝓡 ((λ s x. x), (λ x. x), (λ x. x), λ x. x) in
+    let files = c.args.files in
+    let one = (c.requires.fits []).1 in
+    asked_more g.I.Inputs.reads laws.reads_then (Among files.first files.count) c.args.inputs.now c.args.inputs.now c.read_queries_file.new.inputs files.first
+    (asked_none g.I.Inputs.reads (Among files.first files.count) c.args.inputs.now (laws.reads_none c.args.inputs.now)) c.read_queries_file.ensures.asked (omega arith, omega (arith, one))
+
+pub returns-in-None-style-clause-asked : goal.returns-in-None-style-clause-asked
+returns-in-None-style-clause-asked g c =
+    let laws = g.met.I.Inputs g.world.𝓛 g.world.𝓜 g.world.𝓡 ((λ s x. x), (λ x. x), (λ x. x), λ x. x) in
+    let files = c.args.files in
+    let one = (c.requires.fits []).1 in
+    asked_more g.I.Inputs.reads laws.reads_then (Among files.first files.count) c.args.inputs.now c.args.inputs.now c.read_queries_file.new.inputs files.first
+    (asked_none g.I.Inputs.reads (Among files.first files.count) c.args.inputs.now (laws.reads_none c.args.inputs.now)) c.read_queries_file.ensures.asked (omega arith, omega (arith, one))
+
+pub returns-in-Ok-text-clause-asked : goal.returns-in-Ok-text-clause-asked
+returns-in-Ok-text-clause-asked g c =
+    let laws = g.met.I.Inputs g.world.𝓛 g.world.𝓜 g.world.𝓡 ((λ s x. x), (λ x. x), (λ x. x), λ x. x) in
+    let files = c.args.files in
+    let one = (c.requires.fits []).1 in
+    asked_more g.I.Inputs.reads laws.reads_then (Among files.first files.count) c.args.inputs.now c.args.inputs.now c.read_queries_file.new.inputs files.first
+    (asked_none g.I.Inputs.reads (Among files.first files.count) c.args.inputs.now (laws.reads_none c.args.inputs.now)) c.read_queries_file.ensures.asked (omega arith, omega (arith, one))
+
+pub returns-clause-asked : goal.returns-clause-asked
+returns-clause-asked g c =
+    let laws = g.met.I.Inputs g.world.𝓛 g.world.𝓜 g.world.𝓡 ((λ s x. x), (λ x. x), (λ x. x), λ x. x) in
+    let files = c.args.files in
+    let one = (c.requires.fits []).1 in
+    asked_more g.I.Inputs.reads laws.reads_then (Among files.first files.count) c.args.inputs.now c.args.inputs.now c.read_queries_file.new.inputs files.first
+    (asked_none g.I.Inputs.reads (Among files.first files.count) c.args.inputs.now (laws.reads_none c.args.inputs.now)) c.read_queries_file.ensures.asked (omega arith, omega (arith, one))
