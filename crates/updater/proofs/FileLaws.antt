@@ -9,7 +9,6 @@ use Rattle.map_query.specs.Line.{query_of}
 use Rattle.map_query.specs.Reading.{HasItsCause}
 use Rattle.map_query.specs.declared.fault.QueryFault.{QueryFault}
 use Rattle.map_query.specs.declared.fault.QueryFault.TheVariants as queries
-use Rattle.map_query.specs.declared.fault.QueryWhy.{QueryWhy}
 use Rattle.map_query.specs.declared.query.Query.{Query}
 use Rattle.opl_lines.specs.Lines.{lines_of}
 use Rattle.outside.specs.Bytes.{IfTold}
@@ -111,7 +110,7 @@ bounds_unread file bytes (bounds.Bad line) old new whole short is alone =
 bounds_unread file bytes bounds.OutOfMemory old new whole short is alone = record { why = tt; alone = alone }
 
 pub queries_read : (style : StyleOf) (file : ℕ) (bytes : List ℕ) (found : List Query) (old new : FilesView) → IsWhole bytes (old.left file) (new.left file) → length bytes ≤ MAX_WHOLE
-    → each (λ (query : Query). Ok {E = QueryWhy} query) found ≡ each (query_of style) (lines_of bytes) → IsReadAlone file old new → IsRead (IsQueries style file) file found old new
+    → each Ok found ≡ each (query_of style) (lines_of bytes) → IsReadAlone file old new → IsRead (IsQueries style file) file found old new
 queries_read style file bytes found old new whole short is alone =
     let own = whole_is bytes (old.left file) (new.left file) whole in
     record {
