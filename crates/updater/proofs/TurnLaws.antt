@@ -126,7 +126,7 @@ query_to store files (imported held) one = (
   omega (arith, one),
   (λ _. tt),
   (λ bytes fault is. (held.style, is)),
-  (λ bytes found is. (held.style, (found, is))),
+  (λ bytes found is. (held.style, found, is)),
   λ found. (has_store, tt),
 )
 

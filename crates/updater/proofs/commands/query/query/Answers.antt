@@ -6,13 +6,13 @@ use Rattle.updater.proofs.commands.query.query.Goals as goal
 
 pub returns-in-Err-clause-course : goal.returns-in-Err-clause-course
 returns-in-Err-clause-course g c =
-    let laws = g.met.D.Disk g.world.𝓛 g.world.𝓜 g.world.𝓡 ((λ s x. x), (λ x. x), (λ x. x), λ x. x) in
+    let laws = g.met.D.Disk in
     rw c.in_flow.ensures.fault (λ start begins. unopened (g.I.Inputs.view c.args.inputs.now) (g.D.Disk.view c.args.disk.now) (g.S.Sink.view c.args.out.now) (laws.only_now c.args.disk.now) start begins
     c.in-Err.fault (g.D.Disk.view c.open.new.disk) (query_from c.args.files) c.in-Err.ensures.opens c.in-Err.ensures.told c.in-Err.ensures.alone (λ is. c.in-Err.ensures.no_store (ap Err is)) c.in-Err.ensures.cause)
 
 pub returns-clause-course : goal.returns-clause-course
 returns-clause-course g c = λ start begins.
-    let laws = g.met.D.Disk g.world.𝓛 g.world.𝓜 g.world.𝓡 ((λ s x. x), (λ x. x), (λ x. x), λ x. x) in
+    let laws = g.met.D.Disk in
     goes_over (g.I.Inputs.view c.args.inputs.now) (g.D.Disk.view c.args.disk.now) (g.S.Sink.view c.args.out.now) (laws.only_now c.args.disk.now) start begins
     c.open.new.disk c.over-store.result c.args.files.first c.over-store.ensures.disk c.in-Ok.ensures.opens (λ told state at. c.over-store.ensures.open state at (c.in-Ok.ensures.found told state at))
     (c.over-store.ensures.limits ∙ c.standard-limits.ensures.numbers) c.over-store.ensures.whole c.over-store.ensures.begun c.in-Ok.ensures.cause

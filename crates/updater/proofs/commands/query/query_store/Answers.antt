@@ -30,7 +30,7 @@ returns-in-Err-clause-goes_on g c = λ old start done state head.
     let first = c.args.files.first in
     let files = g.I.Inputs.view c.args.inputs.now in
     let output = g.S.Sink.view c.args.out.now in
-    let read = g.I.Inputs.view c.read_queries_file.new.inputs in
+    let read = g.I.Inputs.view c.read_queries_file-read.new.inputs in
     if_there start done first old files (handle_of c.args.store.now) output _ _ _ state head (ap (λ (style : Option StyleOf). is_some style) (sym c.in-Some.ensures.style))
     (λ held head. first_unread start done first old files (handle_of c.args.store.now) output (IsQueries held.style first)
     (λ queries. looks (writes_text (answers_text held.style (tables held.style held.objects) held.changes queries) ends)) (imported held) head read c.in-Err.fault
@@ -41,7 +41,7 @@ returns-in-Err-load_tables-clause-goes_on g c = rw c.in_flow.ensures.fault (λ o
     let first = c.args.files.first in
     let files = g.I.Inputs.view c.args.inputs.now in
     let output = g.S.Sink.view c.args.out.now in
-    let read = g.I.Inputs.view c.read_queries_file.new.inputs in
+    let read = g.I.Inputs.view c.read_queries_file-read.new.inputs in
     if_there start done first old files (handle_of c.args.store.now) output _ _ _ state head (ap (λ (style : Option StyleOf). is_some style) (sym c.in-Some.ensures.style))
     (λ held head. first_read start done first old files (handle_of c.args.store.now) output (IsQueries held.style first)
     (λ queries. looks (writes_text (answers_text held.style (tables held.style held.objects) held.changes queries) ends)) (imported held) head read c.in-Ok.queries
@@ -55,7 +55,7 @@ returns-in-Ok-text-clause-goes_on g c = λ old start done state head.
     let first = c.args.files.first in
     let files = g.I.Inputs.view c.args.inputs.now in
     let output = g.S.Sink.view c.args.out.now in
-    let read = g.I.Inputs.view c.read_queries_file.new.inputs in
+    let read = g.I.Inputs.view c.read_queries_file-read.new.inputs in
     let text = c.as_bytes.result.now in
     let new = g.S.Sink.view c.tell.new.out in
     if_there start done first old files (handle_of c.args.store.now) output _ (result_err c.tell.result) (world read (view_of (handle_of c.load_tables.new.self)) new) state head (ap (λ (style : Option StyleOf). is_some style) (sym c.in-Some.ensures.style))
@@ -79,7 +79,7 @@ returns-clause-goes_on g c = λ old start done state head.
     let first = c.args.files.first in
     let files = g.I.Inputs.view c.args.inputs.now in
     let output = g.S.Sink.view c.args.out.now in
-    let read = g.I.Inputs.view c.read_queries_file.new.inputs in
+    let read = g.I.Inputs.view c.read_queries_file-read.new.inputs in
     if_there start done first old files (handle_of c.args.store.now) output _ _ _ state head (ap (λ (style : Option StyleOf). is_some style) (sym c.in-Some.ensures.style))
     (λ held head. first_read start done first old files (handle_of c.args.store.now) output (IsQueries held.style first)
     (λ queries. looks (writes_text (answers_text held.style (tables held.style held.objects) held.changes queries) ends)) (imported held) head read c.in-Ok.queries
@@ -94,37 +94,37 @@ returns-in-Err-clause-asked g c =
     let laws = g.met.I.Inputs g.world.𝓛 g.world.𝓜 g.world.𝓡 ((λ s x. x), (λ x. x), (λ x. x), λ x. x) in
     let files = c.args.files in
     let one = (c.requires.fits []).1 in
-    asked_more g.I.Inputs.reads laws.reads_then (Among files.first files.count) c.args.inputs.now c.args.inputs.now c.read_queries_file.new.inputs files.first
-    (asked_none g.I.Inputs.reads (Among files.first files.count) c.args.inputs.now (laws.reads_none c.args.inputs.now)) c.read_queries_file.ensures.asked (omega arith, omega (arith, one))
+    asked_more g.I.Inputs.reads laws.reads_then (Among files.first files.count) c.args.inputs.now c.args.inputs.now c.read_queries_file-read.new.inputs files.first
+    (asked_none g.I.Inputs.reads (Among files.first files.count) c.args.inputs.now (laws.reads_none c.args.inputs.now)) c.read_queries_file-read.ensures.asked (omega arith, omega (arith, one))
 
 pub returns-in-Err-load_tables-clause-asked : goal.returns-in-Err-load_tables-clause-asked
 returns-in-Err-load_tables-clause-asked g c =
     let laws = g.met.I.Inputs g.world.𝓛 g.world.𝓜 g.world.𝓡 ((λ s x. x), (λ x. x), (λ x. x), λ x. x) in
     let files = c.args.files in
     let one = (c.requires.fits []).1 in
-    asked_more g.I.Inputs.reads laws.reads_then (Among files.first files.count) c.args.inputs.now c.args.inputs.now c.read_queries_file.new.inputs files.first
-    (asked_none g.I.Inputs.reads (Among files.first files.count) c.args.inputs.now (laws.reads_none c.args.inputs.now)) c.read_queries_file.ensures.asked (omega arith, omega (arith, one))
+    asked_more g.I.Inputs.reads laws.reads_then (Among files.first files.count) c.args.inputs.now c.args.inputs.now c.read_queries_file-read.new.inputs files.first
+    (asked_none g.I.Inputs.reads (Among files.first files.count) c.args.inputs.now (laws.reads_none c.args.inputs.now)) c.read_queries_file-read.ensures.asked (omega arith, omega (arith, one))
 
 pub returns-in-None-style-clause-asked : goal.returns-in-None-style-clause-asked
 returns-in-None-style-clause-asked g c =
     let laws = g.met.I.Inputs g.world.𝓛 g.world.𝓜 g.world.𝓡 ((λ s x. x), (λ x. x), (λ x. x), λ x. x) in
     let files = c.args.files in
     let one = (c.requires.fits []).1 in
-    asked_more g.I.Inputs.reads laws.reads_then (Among files.first files.count) c.args.inputs.now c.args.inputs.now c.read_queries_file.new.inputs files.first
-    (asked_none g.I.Inputs.reads (Among files.first files.count) c.args.inputs.now (laws.reads_none c.args.inputs.now)) c.read_queries_file.ensures.asked (omega arith, omega (arith, one))
+    asked_more g.I.Inputs.reads laws.reads_then (Among files.first files.count) c.args.inputs.now c.args.inputs.now c.read_queries_file-read.new.inputs files.first
+    (asked_none g.I.Inputs.reads (Among files.first files.count) c.args.inputs.now (laws.reads_none c.args.inputs.now)) c.read_queries_file-read.ensures.asked (omega arith, omega (arith, one))
 
 pub returns-in-Ok-text-clause-asked : goal.returns-in-Ok-text-clause-asked
 returns-in-Ok-text-clause-asked g c =
     let laws = g.met.I.Inputs g.world.𝓛 g.world.𝓜 g.world.𝓡 ((λ s x. x), (λ x. x), (λ x. x), λ x. x) in
     let files = c.args.files in
     let one = (c.requires.fits []).1 in
-    asked_more g.I.Inputs.reads laws.reads_then (Among files.first files.count) c.args.inputs.now c.args.inputs.now c.read_queries_file.new.inputs files.first
-    (asked_none g.I.Inputs.reads (Among files.first files.count) c.args.inputs.now (laws.reads_none c.args.inputs.now)) c.read_queries_file.ensures.asked (omega arith, omega (arith, one))
+    asked_more g.I.Inputs.reads laws.reads_then (Among files.first files.count) c.args.inputs.now c.args.inputs.now c.read_queries_file-read.new.inputs files.first
+    (asked_none g.I.Inputs.reads (Among files.first files.count) c.args.inputs.now (laws.reads_none c.args.inputs.now)) c.read_queries_file-read.ensures.asked (omega arith, omega (arith, one))
 
 pub returns-clause-asked : goal.returns-clause-asked
 returns-clause-asked g c =
     let laws = g.met.I.Inputs g.world.𝓛 g.world.𝓜 g.world.𝓡 ((λ s x. x), (λ x. x), (λ x. x), λ x. x) in
     let files = c.args.files in
     let one = (c.requires.fits []).1 in
-    asked_more g.I.Inputs.reads laws.reads_then (Among files.first files.count) c.args.inputs.now c.args.inputs.now c.read_queries_file.new.inputs files.first
-    (asked_none g.I.Inputs.reads (Among files.first files.count) c.args.inputs.now (laws.reads_none c.args.inputs.now)) c.read_queries_file.ensures.asked (omega arith, omega (arith, one))
+    asked_more g.I.Inputs.reads laws.reads_then (Among files.first files.count) c.args.inputs.now c.args.inputs.now c.read_queries_file-read.new.inputs files.first
+    (asked_none g.I.Inputs.reads (Among files.first files.count) c.args.inputs.now (laws.reads_none c.args.inputs.now)) c.read_queries_file-read.ensures.asked (omega arith, omega (arith, one))
