@@ -4,6 +4,7 @@ pub mod Begins
 pub mod Carried
 pub mod Commits
 pub mod Committable
+pub mod Counted
 pub mod Deals
 pub mod Directory
 pub mod FirstLaws

@@ -9,10 +9,10 @@ use Rattle.outside.specs.declared.disk.Disk.{Ghosts}
 use Rattle.page_journal.specs.declared.journal.Journal.{Journal}
 use Rattle.page_journal.proofs.Sets.{not_equal}
 use Rattle.chain_store.specs.Answers.{Looked}
-use Rattle.chain_store.specs.Chain.{AreBehindRoot, HasPages}
+use Rattle.chain_store.specs.Chain.{AreBehindRoot, HasPages, data_in}
 use Rattle.chain_store.specs.Chains.{IsOpenStore}
 use Rattle.chain_store.specs.Directories.{IsChain, IsString}
-use Rattle.chain_store.specs.Known.{AreGone, AreKnown, AreStored, Lists}
+use Rattle.chain_store.specs.Known.{AreGone, AreHeld, AreKnown, AreStored, Lists}
 use Rattle.chain_store.specs.Links.{page_in}
 use Rattle.chain_store.specs.Store.{HasBytes, kept_first}
 use Rattle.chain_store.specs.declared.kept.Kept.{Kept}
@@ -56,6 +56,12 @@ module _ (lists : Lists) (n : ℕ) (list : List ℕ) where
     | inr other ↦ ap (λ (o : Option (List ℕ)). is_some o) (get-there q other) ∙ some
   ]
 
+  pub got_some : (q : ℕ) → IsSome (map.get (map.insert lists n list) q) → IsSome (map.get lists q) ⊎ (q ≡ n)
+  got_some q some = elim (same_or q n) [
+    | inl same ↦ inr same
+    | inr other ↦ inl (ap (λ (o : Option (List ℕ)). is_some o) (sym (get-there q other)) ∙ some)
+  ]
+
   pub none_less : (q : ℕ) → map.get (map.insert lists n list) q ≡ None → map.get lists q ≡ None
   none_less q none = elim (same_or q n) [
     | inl same ↦ (let here = get-here q same in absurd (cc))
@@ -66,6 +72,15 @@ module _ (lists : Lists) (n : ℕ) (list : List ℕ) where
   known_more home known here q ns is = elim (got q ns is) [
     | inl same ↦ subst (λ (l : List ℕ). AreBehindRoot home l) same.1 here
     | inr before ↦ known q ns before
+  ]
+
+  pub held_more : (read : Lists) → AreHeld read lists → AreHeld read (map.insert lists n list)
+  held_more read held q low some = some_more q (held q low some)
+
+  pub held_read : (before : Lists) → AreHeld lists before → (n < 16 → IsSome (map.get before n)) → AreHeld (map.insert lists n list) before
+  held_read before held here q low some = elim (got_some q some) [
+    | inl earlier ↦ held q low earlier
+    | inr same ↦ subst (λ (k : ℕ). IsSome (map.get before k)) (sym same) (here (subst (λ (k : ℕ). k < 16) same low))
   ]
 
   pub stored_read : (buckets : ℕ) (written : Lists) → AreStored buckets lists written → AreStored buckets (map.insert lists n list) written
@@ -94,8 +109,28 @@ nothing lists n list none is =
 pub known_none : (lists : Lists) → lists ≡ map.empty → (home : ℕ) → AreKnown home lists
 known_none lists none home n ns is = absurd (nothing lists n ns none is)
 
+pub held_none : (read before : Lists) → read ≡ map.empty → AreHeld read before
+held_none read before none n low some =
+    let empty : map.get read n ≡ None = ap (λ (l : Lists). map.get l n) none ∙ map.get-empty nat_cmp n in
+    absurd (cc)
+
 pub stored_none : (read lists : Lists) (buckets : ℕ) → lists ≡ map.empty → AreStored buckets read lists
 stored_none read lists buckets none n bytes is = absurd (nothing lists n bytes none is)
+
+-- what was walked over is what the chain has
+pub held_bytes : (pages : List (List ℕ)) (n at first : ℕ) (ns walked bytes : List ℕ) → at ≡ first → HasPages (page_in pages) (length pages + 1) n at ns
+    → data_in (page_in pages) ns ≡ walked → bytes ≡ walked → HasBytes pages n first bytes
+held_bytes pages n at first ns walked bytes begins has held is = record {
+  ns = ns;
+  has = subst (λ (k : ℕ). HasPages (page_in pages) (length pages + 1) n k ns) begins has;
+  held = held ∙ sym is;
+}
+
+-- bytes of one chain more are known, or not
+pub held_put : (read before after : Lists) (n : ℕ) (bytes : List ℕ) → (after ≡ map.insert before n bytes) ⊎ (after ≡ before) → AreHeld read before
+    → AreHeld read after
+held_put read before after n bytes (inl put) held = subst (λ (l : Lists). AreHeld read l) (sym put) (held_more before n bytes read held)
+held_put read before after n bytes (inr same) held = subst (λ (l : Lists). AreHeld read l) (sym same) held
 
 -- a put was made, or nothing has changed
 pub put_cases : {E : Type 0} (result : Result (Unit {0}) E) (old new : Lists) (n : ℕ) (list : List ℕ) → OnOk result (new ≡ map.insert old n list)
@@ -134,3 +169,10 @@ module _ {D : Type 0} {g : Ghosts D} (pages : List (List ℕ)) (old new : Journa
       | inr earlier ↦ opened.had q found earlier
     ];
   }
+
+  pub open_held : (n : ℕ) (bytes : List ℕ) (after : Lists) → IsOpenStore pages old kept read before → Looked old new
+      → HasBytes pages n (kept_first kept n) bytes → (after ≡ map.insert before n bytes) ⊎ (after ≡ before) → IsOpenStore pages new kept read after
+  open_held n bytes after opened looked has (inl put) =
+      subst (λ (lists : Lists). IsOpenStore pages new kept read lists) (sym put) (open_had n bytes opened looked has)
+  open_held n bytes after opened looked has (inr same) =
+      subst (λ (lists : Lists). IsOpenStore pages new kept read lists) (sym same) (open_looked opened looked)

@@ -1,7 +1,12 @@
--- How many home pages a commit leaves, and which answers it gives.
-use Rattle.std.specs.Prelude.{◌≡◌, ℕ, ◌+◌, ◌==◌, ◌<◌, ◌≤◌, Bool, true, false, List, length, Result, Ok, Err}
+-- How many home pages a commit leaves, what it reads, and which answers it gives.
+use Rattle.std.specs.Prelude.{◌≡◌, ℕ, ◌+◌, ◌*◌, ◌==◌, ◌<◌, ◌≤◌, Bool, true, false, List, length, Result, Ok, Err}
+use Rattle.outside.specs.Disk.{ReadsAtMost}
+use Rattle.outside.specs.declared.disk.Disk.{Ghosts}
+use Rattle.page_journal.specs.Journal.{home_count, view_of}
+use Rattle.page_journal.specs.declared.journal.Journal.{Journal}
 use Rattle.page_journal.specs.declared.fault.StoreFault.{StoreFault}
 use Rattle.page_journal.specs.declared.fault.StoreFault.TheVariants.{BadStore, DiskFault, StoreFull, Broken, OutOfMemory}
+use Rattle.chain_store.specs.Answers.{RestsWith}
 use Rattle.chain_store.specs.Chain.{HasPages, Refused}
 use Rattle.chain_store.specs.Gathered.{AreGathered, base_parts}
 use Rattle.chain_store.specs.Kept.{buckets_in}
@@ -30,6 +35,12 @@ Ends pages kept root written read before limit home (Err (StoreFull many)) = Lea
 Ends pages kept root written read before limit home (Err (BadStore at)) =
     Refused (page_in pages) (length pages + 1) FREE (kept_first kept FREE) at
 Ends pages kept root written read before limit home (Err _) = Unit {0}
+
+-- the free list was read, and the disk at most once for each of its pages
+abbrev pub ReadsFree : {D : Type 0} {g : Ghosts D} → Journal D g → Kept → Journal D g → Type 0
+ReadsFree old kept new = (ns : List ℕ)
+    × ((pages : List (List ℕ)) → RestsWith pages old → HasPages (page_in pages) (length pages + 1) FREE (kept_first kept FREE) ns)
+    × ReadsAtMost (length ns) (4096 * home_count old) (view_of old) (view_of new)
 
 -- and whatever the disk tells, it gives no other answer than these
 abbrev pub IsCommitAnswer : {T : Type 0} → Bool → ℕ → Result T StoreFault → Type 0

@@ -23,10 +23,22 @@ AreStored buckets read written = (n : ℕ) (bytes : List ℕ) → map.get writte
 abbrev pub AreGone : ℕ → ℕ → (ℕ → ℕ) → Lists → Type 0
 AreGone before buckets first written = buckets ≢ before → (n : ℕ) → 16 ≤ n → IsChain n → map.get written n ≡ None → first n ≡ 0
 
--- no chain was read, or this one, and the disk was read at most once for each of its pages
+-- of each string below the buckets that was read the bytes are known too
+abbrev pub AreHeld : Lists → Lists → Type 0
+AreHeld read before = (n : ℕ) → n < 16 → IsSome (map.get read n) → IsSome (map.get before n)
+
+-- this chain was read, and the disk at most once for each of its pages
+abbrev pub ReadsChain : ℕ → ℕ → Lists → Lists → DiskView → DiskView → Type 0
+ReadsChain end n old new before after = (ns : List ℕ) × (new ≡ map.insert old n ns) × ReadsAtMost (length ns) end before after
+
+-- no chain was read, or this one for the first time, and the disk was read at most once for each of its pages
 abbrev pub MayRead : ℕ → ℕ → Lists → Lists → DiskView → DiskView → Type 0
 MayRead end n old new before after = ((new ≡ old) × ReadsAtMost 0 end before after)
-    ⊎ ((ns : List ℕ) × (new ≡ map.insert old n ns) × ReadsAtMost (length ns) end before after)
+    ⊎ ((map.get old n ≡ None) × ReadsChain end n old new before after)
+
+-- no chain was read, or this one, perhaps once more
+abbrev pub MayReadAgain : ℕ → ℕ → Lists → Lists → DiskView → DiskView → Type 0
+MayReadAgain end n old new before after = ((new ≡ old) × ReadsAtMost 0 end before after) ⊎ ReadsChain end n old new before after
 
 -- what was written, or else this
 abbrev pub own_or : Option (List ℕ) → List ℕ → List ℕ

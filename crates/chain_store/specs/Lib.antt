@@ -15,3 +15,4 @@ pub mod Pairs
 pub mod Firsts
 pub mod Chains
 pub mod Ends
+pub mod Reads

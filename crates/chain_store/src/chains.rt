@@ -8,7 +8,7 @@ ghost use Rattle.page_journal.specs.Journal.{disk_of as disk_under};
 ghost use Rattle.chain_store.specs.Answers.{IsReadAnswer, RestsWith};
 ghost use Rattle.chain_store.specs.Directories.{IsString};
 ghost use Rattle.chain_store.specs.Kept.{AreAllBehindRoot, buckets_in};
-ghost use Rattle.chain_store.specs.Known.{AreGone, AreKnown, AreStored, MayRead};
+ghost use Rattle.chain_store.specs.Known.{AreGone, AreHeld, AreKnown, AreStored, MayRead};
 ghost use Rattle.chain_store.specs.Store.{Keeps, kept_first};
 ghost use Rattle.chain_store.specs.Directories.{root_in};
 
@@ -37,6 +37,7 @@ pub struct Chains<'d, D: Disk> {
     refused: bool,
     ghost known: { AreKnown (home_count journal) read },
     ghost behind: { AreAllBehindRoot (home_count journal) kept.directories.items },
+    ghost held: { AreHeld read before },
     ghost stored: { AreStored root.buckets read written },
     ghost gone: { AreGone (buckets_in kept.front.items) root.buckets (kept_first kept) written },
     ghost few: { root.buckets ≤ 65536 },

@@ -11,6 +11,9 @@
 //! chain keeps its own pages as far as it needs them. Pages that chains give up are used first, then the
 //! free ones, then new ones behind the end, and a page whose bytes stay is not written.
 //!
+//! A transaction reads each chain at most once, but for a bucket that is loaded again, and a commit reads the
+//! free list besides: `reads_add_up`.
+//!
 //! Contracts speak of the pages at rest: `IsState root strings pages` says which fields and byte strings
 //! they hold, that no page is in two chains, and that each page is in one or free. A store that breaks
 //! the rules of chains is refused with the page at which it does.
@@ -21,6 +24,7 @@ mod chains;
 mod firsts;
 mod gathering;
 mod kept;
+mod laws;
 mod laying;
 mod layout;
 mod number_map;
@@ -33,4 +37,5 @@ mod walking;
 pub use attaching::read_kept;
 pub use chains::Chains;
 pub use kept::Kept;
+pub use laws::reads_add_up;
 pub use root::Root;

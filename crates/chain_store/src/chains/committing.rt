@@ -7,7 +7,7 @@ ghost use Rattle.page_journal.specs.Answers.{HasDiskCause, answers_disk_fault};
 ghost use Rattle.page_journal.specs.Journal.{home_count, is_broken, loan_of, page_limit};
 ghost use Rattle.chain_store.specs.Answers.{Looked};
 ghost use Rattle.chain_store.specs.Directories.{root_in};
-ghost use Rattle.chain_store.specs.Ends.{Ends, IsCommitAnswer};
+ghost use Rattle.chain_store.specs.Ends.{Ends, IsCommitAnswer, ReadsFree};
 ghost use Rattle.chain_store.specs.Known.{changed};
 ghost use Rattle.chain_store.specs.State.{HasState, IsState};
 ghost use Rattle.chain_store.specs.declared.root.Root.{Root};
@@ -52,6 +52,7 @@ impl<'d, D: Disk> Chains<'d, D> {
         ensures alone { IsCommitAnswer (is_broken (journal_of self.old)) (page_limit (journal_of self.old)) result }
         ensures open { IsErr result → answers_disk_fault result ≡ false → (pages : List (List ℕ)) → IsOpen pages self.old → IsOpen pages self.new }
         ensures looked { IsErr result → answers_disk_fault result ≡ false → Looked (journal_of self.old) (journal_of self.new) }
+        ensures reads { OnOk result (ReadsFree (journal_of self.old) (kept_of self.old) (journal_of self.new)) }
         ensures read { read_of self.new ≡ map.empty }
         ensures written { written_of self.new ≡ map.empty }
         ensures root { root_of self.new ≡ root_in (kept_of self.new).front.items }
@@ -113,6 +114,7 @@ impl<'d, D: Disk> Chains<'d, D> {
         ensures alone { IsCommitAnswer (is_broken (journal_of self.old)) (page_limit (journal_of self.old)) result }
         ensures open { IsErr result → answers_disk_fault result ≡ false → (pages : List (List ℕ)) → IsOpen pages self.old → IsOpen pages self.new }
         ensures looked { IsErr result → answers_disk_fault result ≡ false → Looked (journal_of self.old) (journal_of self.new) }
+        ensures reads { OnOk result (ReadsFree (journal_of self.old) (kept_of self.old) (journal_of self.new)) }
         ensures is_read { read_of self.new ≡ map.empty }
         ensures is_written { written_of self.new ≡ map.empty }
         ensures is_root { root_of self.new ≡ root_in (kept_of self.new).front.items }

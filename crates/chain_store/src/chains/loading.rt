@@ -1,23 +1,27 @@
 //! Chains are read, and what they are to have is noted.
-ghost use Rattle.std.specs.Prelude.{◌≡◌, ◌*◌, ◌⊎◌, ◌≤◌, ◌<◌, ◌||◌, List, ℕ, None, Some, false, is_err, IfOk, IsSome, OnErr, OnOk};
+ghost use Rattle.std.specs.Prelude.{◌≡◌, ◌*◌, ◌⊎◌, ◌≤◌, ◌<◌, ◌||◌, List, ℕ, None, Some, false, is_err, IfOk, IfSome, IsSome, OnErr, OnOk};
 ghost use Rattle.std.specs.FinMap as map;
+ghost use Rattle.std.specs.Option.{IsNone};
 ghost use Rattle.outside.specs.Disk.{ReadsAtMost};
 ghost use Rattle.page_journal.specs.Answers.{HasDiskCause, answers_disk_fault};
 ghost use Rattle.page_journal.specs.Journal.{home_count, is_broken};
 ghost use Rattle.chain_store.specs.Answers.{IsReadAnswer, Looked};
 ghost use Rattle.chain_store.specs.Directories.{IsChain, IsString};
-ghost use Rattle.chain_store.specs.Known.{MayRead};
+ghost use Rattle.chain_store.specs.Known.{MayRead, MayReadAgain, ReadsChain};
 
 use super::Chains;
+use crate::layout::BUCKET;
+use crate::number_map::NumberMap;
 use crate::walking::{Walked, walk};
 use osm_base::{Bytes, Ids, OutOfMemory, TryCopy};
 use outside::Disk;
 use page_journal::StoreFault;
+use std::alloc::Global;
 
 impl<'d, D: Disk> Chains<'d, D> {
-    ghost use Rattle.chain_store.specs.Chains.{Brings, IsOpen, LoadedIs, Loads, OnlyRead, disk_of, first_of, is_refused, journal_of, kept_of, read_of, root_of, written_of};
+    ghost use Rattle.chain_store.specs.Chains.{Brings, IsOpen, LoadedIs, Loads, OnlyRead, before_of, disk_of, first_of, is_refused, journal_of, kept_of, read_of, root_of, written_of};
 
-    /// The bytes of a chain, as the transaction has them.
+    /// The bytes of a chain, as the transaction has them. A bucket that is loaded again is read again.
     pub fn load(&mut self, n: u32) -> Result<Bytes, StoreFault>
         requires string { IsString (root_of self.old).buckets n }
         requires going { is_refused self.old ≡ false }
@@ -27,7 +31,9 @@ impl<'d, D: Disk> Chains<'d, D> {
         ensures alone { IsReadAnswer (is_broken (journal_of self.old)) result }
         ensures stays { OnlyRead self.old self.new }
         ensures broken { is_broken (journal_of self.new) ≡ (is_broken (journal_of self.old) || answers_disk_fault result) }
-        ensures reads { OnOk result (MayRead (4096 * home_count (journal_of self.old)) n (read_of self.old) (read_of self.new)
+        ensures reads { OnOk result (n < 16 ⊎ (map.get (read_of self.old) n ≡ None)
+            → MayRead (4096 * home_count (journal_of self.old)) n (read_of self.old) (read_of self.new) (disk_of self.old) (disk_of self.new)) }
+        ensures again { OnOk result (MayReadAgain (4096 * home_count (journal_of self.old)) n (read_of self.old) (read_of self.new)
             (disk_of self.old) (disk_of self.new)) }
         ensures own { IsSome (map.get (written_of self.old) n) → (read_of self.new ≡ read_of self.old)
             × ReadsAtMost 0 (4096 * home_count (journal_of self.old)) (disk_of self.old) (disk_of self.new) }
@@ -137,7 +143,9 @@ impl<'d, D: Disk> Chains<'d, D> {
         ensures alone { IsReadAnswer (is_broken (journal_of self.old)) result }
         ensures stays { OnlyRead self.old self.new }
         ensures broken { is_broken (journal_of self.new) ≡ (is_broken (journal_of self.old) || answers_disk_fault result) }
-        ensures reads { OnOk result (MayRead (4096 * home_count (journal_of self.old)) n (read_of self.old) (read_of self.new)
+        ensures reads { OnOk result (n < 16 ⊎ (map.get (read_of self.old) n ≡ None)
+            → MayRead (4096 * home_count (journal_of self.old)) n (read_of self.old) (read_of self.new) (disk_of self.old) (disk_of self.new)) }
+        ensures again { OnOk result (MayReadAgain (4096 * home_count (journal_of self.old)) n (read_of self.old) (read_of self.new)
             (disk_of self.old) (disk_of self.new)) }
         ensures own { IsSome (map.get (written_of self.old) n) → (read_of self.new ≡ read_of self.old)
             × ReadsAtMost 0 (4096 * home_count (journal_of self.old)) (disk_of self.old) (disk_of self.new) }
@@ -148,7 +156,22 @@ impl<'d, D: Disk> Chains<'d, D> {
         if let Some(own) = self.written.get(n) {
             return Ok(own.copy(self.alloc)?);
         }
+        if let Some(bytes) = self.held(n) {
+            return Ok(bytes.copy(self.alloc)?);
+        }
         self.fetch(n)
+    }
+
+    // The bytes of a chain that was read, where they are known.
+    fn held(&self, n: u32) -> Option<&Bytes>
+        ensures held { IfSome result (λ bytes. map.get (before_of self.now) n ≡ Some bytes.now) }
+        ensures read { IsSome result → IsSome (map.get (read_of self.now) n) }
+        ensures unread { IsNone result → n < 16 → map.get (read_of self.now) n ≡ None }
+    {
+        if self.read.get(n).is_none() {
+            return None;
+        }
+        self.before.get(n)
     }
 
     // Reads a chain of the store, where that was not done yet.
@@ -185,7 +208,7 @@ impl<'d, D: Disk> Chains<'d, D> {
         ensures alone { IsReadAnswer (is_broken (journal_of self.old)) result }
         ensures stays { OnlyRead self.old self.new }
         ensures broken { is_broken (journal_of self.new) ≡ (is_broken (journal_of self.old) || answers_disk_fault result) }
-        ensures reads { OnOk result (MayRead (4096 * home_count (journal_of self.old)) n (read_of self.old) (read_of self.new)
+        ensures reads { OnOk result (ReadsChain (4096 * home_count (journal_of self.old)) n (read_of self.old) (read_of self.new)
             (disk_of self.old) (disk_of self.new)) }
         ensures known { OnOk result (IsSome (map.get (read_of self.new) n)) }
         ensures going { is_refused self.new ≡ is_refused self.old }
@@ -197,7 +220,26 @@ impl<'d, D: Disk> Chains<'d, D> {
             Err(fault) => return Err(fault),
         };
         let Walked { pages, bytes } = walked;
+        let bytes = Bytes::from_vec(bytes);
+        hold(self.alloc, &mut self.before, n, &bytes)?;
         self.read.put(n, Ids::from_vec(pages))?;
-        Ok(Bytes::from_vec(bytes))
+        Ok(bytes)
     }
+}
+
+// Keeps the bytes of a chain, where it is none of a bucket.
+fn hold(
+    alloc: Global,
+    before: &mut NumberMap<Bytes>,
+    n: u32,
+    bytes: &Bytes,
+) -> Result<(), OutOfMemory>
+    ensures held { OnOk result (n < 16 → IsSome (map.get before.new n)) }
+    ensures more { (before.new ≡ map.insert before.old n bytes.now) ⊎ (before.new ≡ before.old) }
+{
+    if n >= BUCKET {
+        return Ok(());
+    }
+    let copy = bytes.copy(alloc)?;
+    before.put(n, copy)
 }

@@ -1,10 +1,13 @@
 use Rattle.std.proofs.Common.{◌⊎◌, ℕ, List, subst}
+use Rattle.std.specs.Result.{OnOk}
 use Rattle.outside.specs.Disk.{Goes}
 use Rattle.page_journal.specs.Journal.{view_of}
 use Rattle.chain_store.specs.Answers.{Looked}
+use Rattle.chain_store.specs.Ends.{ReadsFree}
 use Rattle.chain_store.specs.Known.{changed}
 use Rattle.chain_store.specs.Chains.{IsOpenStore}
 use Rattle.chain_store.specs.State.{HasState, IsState}
+use Rattle.chain_store.specs.declared.kept.Kept.{Kept}
 use Rattle.chain_store.specs.declared.root.Root.{Root}
 use Rattle.chain_store.proofs.Taking.{moment_taken, on_ok, opened_anew, opened_taken, state_taken}
 use Rattle.chain_store.proofs.chains.Chains.commit.Goals as goal
@@ -51,3 +54,12 @@ returns-clause-open g c = λ err fine pages opened.
 pub returns-clause-looked : goal.returns-clause-looked
 returns-clause-looked g c = λ err fine.
     subst (λ j. Looked j c.write-outcome.new.self.journal) c.take-taken.ensures.journal (c.write-outcome.ensures.looked err fine)
+
+pub returns-clause-reads : goal.returns-clause-reads
+returns-clause-reads g c =
+    let self = c.args.self.now in
+    let t = c.take-taken.ensures in
+    let mid = c.take-taken.new.self in
+    let after = c.write-outcome.new.self.journal in
+    subst (λ j. OnOk c.write-outcome.result (ReadsFree j self.kept after)) t.journal
+    (subst (λ (k : Kept). OnOk c.write-outcome.result (ReadsFree mid.journal k after)) t.kept c.write-outcome.ensures.reads)

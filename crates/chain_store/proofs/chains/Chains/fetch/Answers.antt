@@ -5,11 +5,26 @@ use Rattle.page_journal.specs.Journal.{home_count}
 use Rattle.chain_store.specs.Chain.{AreBehindRoot, HasPages}
 use Rattle.chain_store.specs.Chains.{IsOpenStore}
 use Rattle.chain_store.specs.Kept.{AreAllBehindRoot}
-use Rattle.chain_store.specs.Known.{AreKnown, AreStored, Lists}
+use Rattle.chain_store.specs.Known.{AreHeld, AreKnown, AreStored, Lists}
 use Rattle.chain_store.specs.Links.{page_in}
 use Rattle.chain_store.specs.Store.{kept_first}
-use Rattle.chain_store.proofs.Puts.{get-here, known_more, open_looked, open_more, put_cases, stored_read}
+use Rattle.chain_store.proofs.Looks.{looked_same}
+use Rattle.chain_store.proofs.Puts.{get-here, held_bytes, held_put, held_read, known_more, open_held, open_more, put_cases, stored_read}
 use Rattle.chain_store.proofs.chains.Chains.fetch.Goals as goal
+
+pub invariant_of-self-in-Break-1 : goal.invariant_of-self-in-Break-1
+invariant_of-self-in-Break-1 g c =
+    let self = c.args.self.now in
+    let same = c.in-Ok.ensures.looked.pages in
+    record {
+      known = subst (λ (home : ℕ). AreKnown home self.read) (sym same) self.known;
+      behind = subst (λ (home : ℕ). AreAllBehindRoot home self.kept.directories.items) (sym same) self.behind;
+      held = held_put self.read self.before c.hold.new.before c.args.n c.from_vec-bytes.result c.hold.ensures.more self.held;
+      stored = self.stored;
+      gone = self.gone;
+      few = self.few;
+      count = self.count;
+    }
 
 pub invariant_of-self-2 : goal.invariant_of-self-2
 invariant_of-self-2 g c =
@@ -25,6 +40,13 @@ invariant_of-self-2 g c =
         | inr kept ↦ subst (λ (lists : Lists). AreKnown (home_count self.journal) lists) (sym kept) known
       ]);
       behind = subst (λ (home : ℕ). AreAllBehindRoot home self.kept.directories.items) (sym same) self.behind;
+      held =
+          let held = held_put self.read self.before c.hold.new.before c.args.n c.from_vec-bytes.result c.hold.ensures.more self.held in
+          elim is [
+            | inl put ↦ subst (λ (lists : Lists). AreHeld lists c.hold.new.before) (sym put)
+                (held_read self.read c.args.n c.from_vec.result c.hold.new.before held c.in_ok-hold.ensures.held)
+            | inr kept ↦ subst (λ (lists : Lists). AreHeld lists c.hold.new.before) (sym kept) held
+          ];
       stored = elim is [
         | inl put ↦ subst (λ (lists : Lists). AreStored self.root.buckets lists self.written) (sym put)
             (stored_read self.read c.args.n c.from_vec.result self.root.buckets self.written self.stored)
@@ -35,20 +57,43 @@ invariant_of-self-2 g c =
       count = self.count;
     }
 
+pub returns-in_err-hold-clause-open : goal.returns-in_err-hold-clause-open
+returns-in_err-hold-clause-open g c = λ pages opened.
+    let self = c.args.self.now in
+    let walks = c.in-Ok.ensures.answers pages opened.rests in
+    open_held pages self.journal c.walk.new.journal self.kept self.read self.before c.args.n c.from_vec-bytes.result c.hold.new.before opened
+    c.in-Ok.ensures.looked
+    (held_bytes pages c.args.n c.first-first.result (kept_first self.kept c.args.n) c.in-Ok.walked.pages.items c.in-Ok.walked.bytes.items
+    c.from_vec-bytes.result c.first-first.ensures.first walks.0 walks.1 c.from_vec-bytes.ensures.items)
+    c.hold.ensures.more
+
 pub returns-in_err-put-clause-open : goal.returns-in_err-put-clause-open
 returns-in_err-put-clause-open g c = λ pages opened.
-    subst (λ (lists : Lists). IsOpenStore pages c.walk.new.journal c.args.self.now.kept lists c.args.self.now.before) (sym c.in_err-put.ensures.err)
-    (open_looked pages c.args.self.now.journal c.walk.new.journal c.args.self.now.kept c.args.self.now.read c.args.self.now.before opened c.in-Ok.ensures.looked)
+    let self = c.args.self.now in
+    let walks = c.in-Ok.ensures.answers pages opened.rests in
+    subst (λ (lists : Lists). IsOpenStore pages c.walk.new.journal self.kept lists c.hold.new.before) (sym c.in_err-put.ensures.err)
+    (open_held pages self.journal c.walk.new.journal self.kept self.read self.before c.args.n c.from_vec-bytes.result c.hold.new.before opened
+    c.in-Ok.ensures.looked
+    (held_bytes pages c.args.n c.first-first.result (kept_first self.kept c.args.n) c.in-Ok.walked.pages.items c.in-Ok.walked.bytes.items
+    c.from_vec-bytes.result c.first-first.ensures.first walks.0 walks.1 c.from_vec-bytes.ensures.items)
+    c.hold.ensures.more)
 
 pub returns-clause-open : goal.returns-clause-open
 returns-clause-open g c = λ pages opened.
     let self = c.args.self.now in
+    let walks = c.in-Ok.ensures.answers pages opened.rests in
     let has : HasPages (page_in pages) (length pages + 1) c.args.n (kept_first self.kept c.args.n) c.from_vec.result =
     subst (λ (ns : List ℕ). HasPages (page_in pages) (length pages + 1) c.args.n (kept_first self.kept c.args.n) ns) (sym c.from_vec.ensures.items)
-    (subst (λ (first : ℕ). HasPages (page_in pages) (length pages + 1) c.args.n first c.in-Ok.walked.pages.items) c.first-first.ensures.first
-    (c.in-Ok.ensures.answers pages opened.rests).0) in
-    subst (λ (lists : Lists). IsOpenStore pages c.walk.new.journal self.kept lists self.before) (sym c.in_ok-put.ensures.ok)
-    (open_more pages self.journal c.walk.new.journal self.kept self.read self.before c.args.n c.from_vec.result opened c.in-Ok.ensures.looked has)
+    (subst (λ (first : ℕ). HasPages (page_in pages) (length pages + 1) c.args.n first c.in-Ok.walked.pages.items) c.first-first.ensures.first walks.0) in
+    let held : IsOpenStore pages c.walk.new.journal self.kept self.read c.hold.new.before =
+    open_held pages self.journal c.walk.new.journal self.kept self.read self.before c.args.n c.from_vec-bytes.result c.hold.new.before opened
+    c.in-Ok.ensures.looked
+    (held_bytes pages c.args.n c.first-first.result (kept_first self.kept c.args.n) c.in-Ok.walked.pages.items c.in-Ok.walked.bytes.items
+    c.from_vec-bytes.result c.first-first.ensures.first walks.0 walks.1 c.from_vec-bytes.ensures.items)
+    c.hold.ensures.more in
+    subst (λ (lists : Lists). IsOpenStore pages c.walk.new.journal self.kept lists c.hold.new.before) (sym c.in_ok-put.ensures.ok)
+    (open_more pages c.walk.new.journal c.walk.new.journal self.kept self.read c.hold.new.before c.args.n c.from_vec.result held
+    (looked_same c.walk.new.journal) has)
 
 pub returns-clause-known : goal.returns-clause-known
 returns-clause-known g c =

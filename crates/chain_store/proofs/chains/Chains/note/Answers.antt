@@ -6,12 +6,26 @@ use Rattle.chain_store.specs.Chains.{IsOpenStore, LoadedIs}
 use Rattle.chain_store.specs.Known.{Lists}
 use Rattle.chain_store.specs.Store.{kept_first}
 use Rattle.chain_store.proofs.Looks.{looked_same}
-use Rattle.chain_store.proofs.Puts.{open_had, put_cases}
+use Rattle.chain_store.proofs.Puts.{held_put, open_had, put_cases}
 use Rattle.chain_store.proofs.chains.Chains.note.Goals as goal
 
 none_copied : {T : Type 0} (o : Option (Bor T)) (some : Bool) → some ≡ is_some o → some ≡ false → option_copied o ≡ None
 none_copied None some is not = refl
 none_copied (Some value) some is not = absurd (cc)
+
+pub invariant_of-self : goal.invariant_of-self
+invariant_of-self g c =
+    let self = c.args.self.now in
+    let is = put_cases c.put.result self.before c.put.new.self c.args.n c.args.bytes c.put.ensures.ok c.put.ensures.err in
+    record {
+      known = self.known;
+      behind = self.behind;
+      held = held_put self.read self.before c.put.new.self c.args.n c.args.bytes is self.held;
+      stored = self.stored;
+      gone = self.gone;
+      few = self.few;
+      count = self.count;
+    }
 
 pub returns-clause-open : goal.returns-clause-open
 returns-clause-open g c = λ pages opened loaded.

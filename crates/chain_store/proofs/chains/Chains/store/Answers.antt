@@ -16,6 +16,7 @@ invariant_of-self-else-is_err g c =
     record {
       known = self.known;
       behind = self.behind;
+      held = self.held;
       stored = elim is [
         | inl put ↦ subst (λ (lists : Lists). AreStored self.root.buckets self.read lists) (sym put)
             (stored_more self.written c.args.n c.args.bytes self.root.buckets self.read self.stored c.in_default.ensures.known string self.few)

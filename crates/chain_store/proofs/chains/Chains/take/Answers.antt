@@ -1,6 +1,6 @@
 use Rattle.std.proofs.Common.{ap, ◌∙◌, arith}
 use Rattle.chain_store.specs.declared.root.Root.{Root}
-use Rattle.chain_store.proofs.Puts.{known_none, stored_none}
+use Rattle.chain_store.proofs.Puts.{held_none, known_none, stored_none}
 use Rattle.chain_store.proofs.chains.Chains.take.Goals as goal
 
 pub invariant_of-self : goal.invariant_of-self
@@ -10,6 +10,7 @@ invariant_of-self g c =
     record {
       known = known_none c.replace-2.new.dest read _;
       behind = c.args.self.now.behind;
+      held = held_none c.replace-2.new.dest c.replace-3.new.dest read;
       stored = stored_none c.replace-2.new.dest c.replace.new.dest c.root-root.result.buckets written;
       gone = λ other. absurd (other (ap (λ (root : Root). root.buckets) c.root-root.ensures.root));
       few = omega (arith, ap (λ (root : Root). root.buckets) c.root-root.ensures.root, c.args.self.now.kept.few);

@@ -1,6 +1,7 @@
-use Rattle.std.proofs.Common.{◌≡◌, ◌+◌, ℕ, List, length, refl, sym, ap, subst, ◌∙◌}
+use Rattle.std.proofs.Common.{◌≡◌, ◌+◌, ◌*◌, ℕ, List, length, refl, sym, ap, subst, ◌∙◌}
 use Rattle.page_journal.specs.Journal.{home_count, view_of}
 use Rattle.page_journal.specs.PageSet.{CanCommit, overwritten}
+use Rattle.page_journal.proofs.ReadCounts.{reads_quiet}
 use Rattle.chain_store.specs.Chain.{AreBehindRoot, HasPages}
 use Rattle.chain_store.specs.Kept.{AreAllBehindRoot}
 use Rattle.chain_store.specs.Known.{AreKnown, changed}
@@ -14,7 +15,7 @@ use Rattle.chain_store.proofs.Carried.{renewed_keeps, renewed_long, renewed_stat
 use Rattle.chain_store.proofs.Commits.{behind_of, can_of, ran}
 use Rattle.chain_store.proofs.Looks.{looked_untouched, rests_looked}
 use Rattle.chain_store.proofs.NewStore.{pages_long}
-use Rattle.chain_store.proofs.Puts.{known_none, stored_none}
+use Rattle.chain_store.proofs.Puts.{held_none, known_none, stored_none}
 use Rattle.chain_store.proofs.Taking.{opened_new, plan_root}
 use Rattle.chain_store.proofs.chains.Chains.write.Goals as goal
 
@@ -67,6 +68,7 @@ invariant_of-self-2 g c =
           (subst (λ (n : ℕ). AreAllBehindRoot n self.kept.directories.items) (sym is_home) self.behind)
           c.pages-home.ensures.some
           (subst (λ (n : ℕ). AreBehindRoot n c.in-Ok.free.pages.items) (sym is_home) c.in-Ok.ensures.inside));
+      held = held_none self.read self.before c.requires.read;
       stored = stored_none self.read self.written taken.root.buckets c.requires.written;
       gone = λ other. absurd (other buckets);
       few = c.requires.may.few;
@@ -130,3 +132,14 @@ pub returns-in-Err-commit-clause-looked : goal.returns-in-Err-commit-clause-look
 returns-in-Err-commit-clause-looked g c = λ err fine.
     looked_untouched c.args.self.now.journal c.walk.new.journal c.commit.new.self c.walk.ensures.looked (c.in-Err-commit.ensures.untouched refl fine)
     c.in-Err-commit.ensures.pages c.in-Err-commit.ensures.limit c.in-Err-commit.ensures.same_disk
+
+pub returns-clause-reads : goal.returns-clause-reads
+returns-clause-reads g c =
+    let self = c.args.self.now in (
+      c.in-Ok.free.pages.items,
+      λ pages rests.
+          subst (λ (n : ℕ). HasPages (page_in pages) (length pages + 1) FREE n c.in-Ok.free.pages.items) c.first.ensures.first
+          (c.in-Ok.ensures.answers pages rests).0,
+      reads_quiet (length c.in-Ok.free.pages.items) (4096 * home_count self.journal) (view_of self.journal).reads (view_of c.walk.new.journal).reads
+          (view_of c.commit.new.self).reads c.in-Ok.ensures.reads c.in_default.ensures.reads,
+    )
