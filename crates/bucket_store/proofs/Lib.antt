@@ -7,8 +7,10 @@ pub mod Installs
 pub mod Fresh
 pub mod Holding
 pub mod Images
+pub mod KeyReads
 pub mod Meanings
 pub mod Numbered
+pub mod Once
 pub mod Reopened
 pub mod Sound
 pub mod Texts

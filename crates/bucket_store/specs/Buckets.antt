@@ -7,6 +7,7 @@ use Rattle.page_journal.specs.declared.fault.StoreFault.{StoreFault}
 use Rattle.page_journal.specs.declared.fault.StoreFault.TheVariants.{BadStore}
 use Rattle.chain_store.specs.declared.chains.Chains.{Chains}
 use Rattle.chain_store.specs.Chains.{LoadedIs, first_of, root_of, written_of}
+use Rattle.chain_store.specs.Known.{Lists}
 use Rattle.chain_store.specs.Store.{IsRefused}
 use Rattle.bucket_records.specs.Held.{HeldBucket}
 use Rattle.bucket_records.specs.Records.{BucketMap, IsBucket, IsNoBucket}
@@ -58,6 +59,15 @@ IsBucketChain buckets n = (16 ≤ n) × (n < 524304) × (bucket_in n < buckets)
 abbrev pub AreBuckets : ℕ → CacheMap → Type 0
 AreBuckets buckets cache = (n : ℕ) (own : Cached) → map.get cache n ≡ Some own
     → IsBucketChain buckets n × HasKeysOf buckets (bucket_in n) own.bucket.values
+
+-- of each of these the chain was read
+abbrev pub AreAllRead : Lists → CacheMap → Type 0
+AreAllRead read cache = (n : ℕ) → IsSome (map.get cache n) → IsSome (map.get read n)
+
+-- the transaction has just the buckets of which it has read the chains
+pub record AreRead (read : Lists) (cache : CacheMap) : Type 0 where
+  pub there : (n : ℕ) → 16 ≤ n → IsSome (map.get read n) → IsSome (map.get cache n)
+  pub all : AreAllRead read cache
 
 -- each of these was read from what its chain has
 abbrev pub HaveOrigins : {D : Type 0} {g : Ghosts D} → List (List ℕ) → Chains D g → CacheMap → Type 0

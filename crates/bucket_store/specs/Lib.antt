@@ -5,3 +5,4 @@ pub mod Committing
 pub mod Image
 pub mod Typed
 pub mod Opening
+pub mod Reads

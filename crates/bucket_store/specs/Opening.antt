@@ -8,6 +8,7 @@ use Rattle.page_journal.specs.declared.fault.StoreFault.{StoreFault}
 use Rattle.page_journal.specs.declared.fault.StoreFault.TheVariants.{NotFormatted, BadStore, DiskFault, OutOfMemory}
 use Rattle.chain_store.specs.Answers.{ReadsKept}
 use Rattle.chain_store.specs.Directories.{root_in}
+use Rattle.chain_store.specs.Kept.{page_total}
 use Rattle.chain_store.specs.Store.{Keeps}
 use Rattle.chain_store.specs.declared.root.Root.{Root}
 use Rattle.bucket_store.specs.Image.{HasImage, Image}
@@ -23,6 +24,10 @@ pub record Fits (opened : Opened) (view : DiskView) : Type 0 where
 -- the fields that were read
 abbrev pub opened_root : Opened → Root
 opened_root opened = root_in opened.kept.front.items
+
+-- how many pages the directories have together
+abbrev pub directory_pages : Opened → ℕ
+directory_pages opened = page_total opened.kept.directories.items
 
 -- a store that means something
 abbrev pub IsMeant : List ℕ → Type 0

@@ -12,7 +12,7 @@ ghost use Rattle.chain_store.specs.State.{HasState, IsState};
 ghost use Rattle.chain_store.specs.declared.root.Root.{Root};
 ghost use Rattle.bucket_store.specs.Committing.{given};
 ghost use Rattle.chain_store.specs.Known.{MayRead};
-ghost use Rattle.bucket_store.specs.Buckets.{AreBuckets, IsBucketChain, bucket_count, chain_at};
+ghost use Rattle.bucket_store.specs.Buckets.{AreBuckets, AreRead, IsBucketChain, bucket_count, chain_at};
 ghost use Rattle.bucket_records.specs.Records.{BucketMap};
 
 mod changing;
@@ -37,6 +37,7 @@ pub struct Buckets<'d, D: Disk> {
     refused: bool,
     ghost going: { refused ≡ false → is_refused chains ≡ false },
     ghost own: { AreBuckets (bucket_count chains) cache },
+    ghost once: { refused ≡ false → AreRead (read_of chains) cache },
 }
 
 impl<'d, D: Disk> Buckets<'d, D> {
@@ -44,9 +45,10 @@ impl<'d, D: Disk> Buckets<'d, D> {
     ghost use Rattle.bucket_store.specs.Opening.{Fits};
     ghost use Rattle.bucket_store.specs.Transaction.{BringsBucket, Content, IsOpenStore, cached_of, chains_of, has_refused};
 
-    /// The buckets over these chains. Reads nothing.
+    /// The buckets over these chains, of which none was read yet. Reads nothing.
     pub fn over(alloc: Global, chains: Chains<'d, D>) -> Self
-        requires { is_refused chains ≡ false }
+        requires going { is_refused chains ≡ false }
+        requires unread { read_of chains ≡ map.empty }
         ensures chains { chains_of result ≡ chains.entry }
         ensures none { cached_of result ≡ map.empty }
         ensures going { has_refused result ≡ false }

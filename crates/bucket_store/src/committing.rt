@@ -1,12 +1,13 @@
 //! What a transaction has changed is made to stand.
-ghost use Rattle.std.specs.Prelude.{◌≡◌, ◌+◌, ◌*◌, ◌≤◌, ◌<◌, ◌||◌, List, ℕ, None, Some, false, ◌==◌, if◌then◌else◌, is_err, IsTrue, OnOk};
+ghost use Rattle.std.specs.Prelude.{◌≡◌, ◌+◌, ◌*◌, ◌≤◌, ◌<◌, ◌||◌, List, ℕ, None, Some, false, ◌==◌, if◌then◌else◌, is_err, IsSome, IsTrue, OnOk};
 ghost use Rattle.std.specs.FinMap as map;
+ghost use Rattle.outside.specs.Disk.{ReadsAtMost};
 ghost use Rattle.page_journal.specs.Answers.{HasDiskCause, answers_disk_fault};
 ghost use Rattle.page_journal.specs.Journal.{home_count, is_broken};
 ghost use Rattle.chain_store.specs.Answers.{IsReadAnswer, Looked};
-ghost use Rattle.chain_store.specs.Chains.{IsOpen, disk_of, is_refused, journal_of, kept_of, root_of, written_of};
+ghost use Rattle.chain_store.specs.Chains.{IsOpen, disk_of, is_refused, journal_of, kept_of, read_of, root_of, written_of};
 ghost use Rattle.chain_store.specs.Directories.{IsString};
-ghost use Rattle.bucket_store.specs.Buckets.{AreBuckets, HasOrigin, HaveOrigins, IsBucketChain, bucket_count};
+ghost use Rattle.bucket_store.specs.Buckets.{AreAllRead, AreBuckets, HasOrigin, HaveOrigins, IsBucketChain, bucket_count};
 ghost use Rattle.bucket_store.specs.Committing.{WritesBuckets, after};
 ghost use Rattle.bucket_records.specs.Records.{AreRecords};
 ghost use Rattle.bucket_store.specs.declared.cache.Cached.{Cached};
@@ -29,6 +30,8 @@ pub fn store_changed<D: Disk>(
     ensures kept { kept_of chains.new ≡ kept_of chains.old }
     ensures root { root_of chains.new ≡ root_of chains.old }
     ensures going { OnOk result (is_refused chains.new ≡ false) }
+    ensures reads { OnOk result (AreAllRead (read_of chains.old) cache.old → (read_of chains.new ≡ read_of chains.old)
+        × ReadsAtMost 0 (4096 * home_count (journal_of chains.old)) (disk_of chains.old) (disk_of chains.new)) }
     ensures rise { OnOk result ((n : ℕ) (own : Cached) → map.get cache.old n ≡ Some own → IsTrue own.changed → AreRecords 0 (map.entries own.bucket.values)) }
     ensures answers { (pages : List (List ℕ)) → IsOpen pages chains.old → HaveOrigins pages chains.old cache.old
         → WritesBuckets pages (kept_of chains.old) (bucket_count chains.old) result }
@@ -66,6 +69,8 @@ fn store_bucket<D: Disk>(
     ensures kept { kept_of chains.new ≡ kept_of chains.old }
     ensures root { root_of chains.new ≡ root_of chains.old }
     ensures going { OnOk result (is_refused chains.new ≡ false) }
+    ensures reads { OnOk result (IsSome (map.get (read_of chains.old) n) → (read_of chains.new ≡ read_of chains.old)
+        × ReadsAtMost 0 (4096 * home_count (journal_of chains.old)) (disk_of chains.old) (disk_of chains.new)) }
     ensures rise { OnOk result (IsTrue cached.changed → AreRecords 0 (map.entries cached.bucket.values)) }
     ensures answers { (pages : List (List ℕ)) → IsOpen pages chains.old → WritesBuckets pages (kept_of chains.old) (bucket_count chains.old) result }
     ensures alone { IsReadAnswer (is_broken (journal_of chains.old)) result }

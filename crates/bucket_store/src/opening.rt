@@ -5,11 +5,13 @@ ghost use Rattle.outside.specs.Disk.{DiskView, Goes, ReadsAtMost, Stays, Tells, 
 ghost use Rattle.page_journal.specs.Answers.{HasDiskCause, answers_disk_fault};
 ghost use Rattle.page_journal.specs.Crash.{IsAtRest};
 ghost use Rattle.page_journal.specs.Home.{HasOpenJournal};
+ghost use Rattle.page_journal.specs.Pages.{gate};
+ghost use Rattle.page_journal.specs.declared.layout.TheConstants.{OPEN};
 ghost use Rattle.page_journal.specs.declared.fault.StoreFault.TheVariants.{NotFormatted};
 ghost use Rattle.chain_store.specs.Answers.{IsReadAnswer, ReadsKept};
-ghost use Rattle.chain_store.specs.Kept.{AreAllBehindRoot};
+ghost use Rattle.chain_store.specs.Kept.{AreAllBehindRoot, page_total};
 ghost use Rattle.bucket_store.specs.Image.{HasImage, HoldsImage, Image, IsSoundAnswer};
-ghost use Rattle.bucket_store.specs.Opening.{Fits, IsMeant, IsOpeningAnswer, MeansOne, OpensStore};
+ghost use Rattle.bucket_store.specs.Opening.{Fits, directory_pages, IsMeant, IsOpeningAnswer, MeansOne, OpensStore};
 
 use crate::opened::Opened;
 use chain_store::{Kept, read_kept};
@@ -38,6 +40,10 @@ pub fn open<D: Disk>(alloc: Global, disk: &mut D, limits: &Limits) -> Result<Ope
     ensures looked { IfTold (D.view disk.old).content (λ bytes. ¬ HasOpenJournal bytes → Stays (D.view disk.old) (D.view disk.new)) }
     ensures refused { IsErrOf result NotFormatted → Stays (D.view disk.old) (D.view disk.new) }
     ensures told { (bytes : List ℕ) → Tells (D.view disk.old) bytes → answers_disk_fault result ≡ false → IsTold (D.view disk.new).content }
+
+    // Where no journal is open, each page is read once: the first two in one read, the root, and those of the directories.
+    ensures reads { IfOk result (λ opened. (bytes : List ℕ) → Tells (D.view disk.old) bytes → gate bytes ≢ OPEN
+        → ReadsAtMost (2 + directory_pages opened) (length bytes) (D.view disk.old) (D.view disk.new)) }
     ensures cause { HasDiskCause (D.view disk.old).faults (D.view disk.new).faults result }
 {
     let pages = match page_journal::open(disk) {
@@ -63,6 +69,7 @@ fn kept_on<D: Disk>(
     ensures alone { IsReadAnswer false result }
     ensures inside { IfOk result (λ kept. AreAllBehindRoot pages kept.directories.items) }
     ensures stays { Stays (D.view disk.old) (D.view disk.new) }
+    ensures reads { IfOk result (λ kept. ReadsAtMost (1 + page_total kept.directories.items) (4096 * pages) (D.view disk.old) (D.view disk.new)) }
     ensures cause { HasDiskCause (D.view disk.old).faults (D.view disk.new).faults result }
 {
     let mut journal = Journal::over(disk, pages, limits);

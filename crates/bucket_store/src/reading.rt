@@ -1,5 +1,6 @@
 //! A bucket is read from its chain.
-ghost use Rattle.std.specs.Prelude.{◌≡◌, ◌*◌, ◌+◌, ◌-◌, ◌%◌, ◌<◌, ◌≤◌, ◌||◌, List, ℕ, false, IfOk, OnOk};
+ghost use Rattle.std.specs.Prelude.{◌≡◌, ◌*◌, ◌+◌, ◌-◌, ◌%◌, ◌<◌, ◌≤◌, ◌||◌, List, ℕ, None, false, IfOk, IsSome, OnOk};
+ghost use Rattle.std.specs.FinMap as map;
 ghost use Rattle.page_journal.specs.Answers.{HasDiskCause, answers_disk_fault};
 ghost use Rattle.page_journal.specs.Journal.{home_count, is_broken};
 ghost use Rattle.chain_store.specs.Answers.{IsReadAnswer};
@@ -31,8 +32,9 @@ pub fn read_bucket<D: Disk>(
     ensures alone { IsReadAnswer (is_broken (journal_of chains.old)) result }
     ensures stays { OnlyRead chains.old chains.new }
     ensures broken { is_broken (journal_of chains.new) ≡ (is_broken (journal_of chains.old) || answers_disk_fault result) }
-    ensures reads { OnOk result (MayRead (4096 * home_count (journal_of chains.old)) n (read_of chains.old) (read_of chains.new)
-        (disk_of chains.old) (disk_of chains.new)) }
+    ensures reads { OnOk result (map.get (read_of chains.old) n ≡ None → MayRead (4096 * home_count (journal_of chains.old)) n
+        (read_of chains.old) (read_of chains.new) (disk_of chains.old) (disk_of chains.new)) }
+    ensures known { OnOk result (IsSome (map.get (read_of chains.new) n)) }
     ensures going { OnOk result (is_refused chains.new ≡ false) }
     ensures cause { HasDiskCause (disk_of chains.old).faults (disk_of chains.new).faults result }
 {

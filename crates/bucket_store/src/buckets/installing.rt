@@ -5,7 +5,7 @@ ghost use Rattle.page_journal.specs.Answers.{HasDiskCause, answers_disk_fault};
 ghost use Rattle.page_journal.specs.Journal.{home_count, is_broken, loan_of, page_limit};
 ghost use Rattle.page_journal.specs.Journal.{disk_of as disk_under};
 ghost use Rattle.chain_store.specs.Answers.{IsReadAnswer};
-ghost use Rattle.chain_store.specs.Ends.{IsCommitAnswer};
+ghost use Rattle.chain_store.specs.Ends.{IsCommitAnswer, ReadsFree};
 ghost use Rattle.chain_store.specs.Chains.{IsOpen, Loads, OnlyRead, disk_of, first_of, is_refused, journal_of, kept_of, read_of, root_of, written_of};
 ghost use Rattle.chain_store.specs.Directories.{IsString, root_in};
 ghost use Rattle.outside.specs.Disk.{Goes};
@@ -44,6 +44,7 @@ impl<'d, D: Disk> Buckets<'d, D> {
             → CommitsBuckets pages (chains_of self.old) (cached_of self.old) (page_limit (journal_of (chains_of self.old)))
             (home_count (journal_of (chains_of self.new))) result }
         ensures alone { IsCommitAnswer (is_broken (journal_of (chains_of self.old))) (page_limit (journal_of (chains_of self.old))) result }
+        ensures reads { OnOk result (ReadsFree (journal_of (chains_of self.old)) (kept_of (chains_of self.old)) (journal_of (chains_of self.new))) }
         ensures none { cached_of self.new ≡ map.empty }
         ensures read { OnOk result (read_of (chains_of self.new) ≡ map.empty) }
         ensures written { OnOk result (written_of (chains_of self.new) ≡ map.empty) }

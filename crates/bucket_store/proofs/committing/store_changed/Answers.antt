@@ -1,16 +1,21 @@
 -- Each turn stores a bucket, and what will be written stays.
-use Rattle.std.proofs.Common.{IsTrue, refl, sym, ap, subst, ◌∙◌, arith}
+use Rattle.std.proofs.Common.{ℕ, ◌*◌, IsTrue, refl, sym, ap, subst, ◌∙◌, arith}
 use Rattle.std.specs.FinMap as map
+use Rattle.std.specs.Option.{IsSome}
 use Rattle.bucket_records.specs.Records.{AreRecords}
 use Rattle.bucket_store.specs.declared.cache.Cached.{Cached}
 use Rattle.chain_store.specs.declared.root.Root.{Root}
-use Rattle.chain_store.specs.Chains.{written_of, journal_of}
-use Rattle.page_journal.specs.Journal.{is_broken}
+use Rattle.chain_store.specs.Chains.{disk_of, journal_of, read_of, written_of}
+use Rattle.chain_store.specs.Known.{Lists}
+use Rattle.outside.specs.Disk.{ReadsAtMost}
+use Rattle.page_journal.specs.Journal.{home_count, is_broken}
+use Rattle.page_journal.proofs.ReadCounts.{reads_then}
 use Rattle.chain_store.proofs.Looks.{looked_then}
 use Rattle.bucket_store.specs.Buckets.{bucket_count}
+use Rattle.bucket_store.proofs.Once.{all_less}
 use Rattle.bucket_store.proofs.BucketLaws.{chain_given}
 use Rattle.bucket_store.proofs.Caches.{fewer, rise_end, rise_less}
-use Rattle.bucket_store.proofs.Openings.{buckets_less, buckets_same}
+use Rattle.bucket_store.proofs.Openings.{buckets_less, buckets_same, some_of}
 use Rattle.bucket_store.proofs.Origins.{origins_less}
 use Rattle.bucket_store.proofs.Writings.{after_same, after_none, still_then}
 use Rattle.bucket_store.proofs.committing.store_changed.Goals as goal
@@ -45,6 +50,17 @@ loop-n-preserved g c =
             origins_less pages c.loop-n.chains c.store_bucket.new.chains c.loop-n.cache c.pop.new.self c.in-Some.n c.in-Some.cached c.in-Some.ensures.rest
                 done.kept done.written here.1,
           );
+      reads = λ all.
+          let so = so-far.reads all in
+          let here : IsSome (map.get (read_of c.args.chains.now) c.in-Some.n) =
+          so.1 c.in-Some.n (some_of (map.get c.loop-n.cache c.in-Some.n) c.in-Some.cached c.in-Some.ensures.there) in
+          let one = done.reads (subst (λ (l : Lists). IsSome (map.get l c.in-Some.n)) (sym so.0) here) in (
+            one.0 ∙ so.0,
+            all_less (read_of c.args.chains.now) c.loop-n.cache c.pop.new.self c.in-Some.n c.in-Some.ensures.rest so.1,
+            reads_then 0 0 (4096 * home_count (journal_of c.args.chains.now)) (disk_of c.args.chains.now).reads (disk_of c.loop-n.chains).reads
+                (disk_of c.store_bucket.new.chains).reads so.2
+                (subst (λ (n : ℕ). ReadsAtMost 0 (4096 * n) (disk_of c.loop-n.chains) (disk_of c.store_bucket.new.chains)) so-far.looked.pages one.1),
+          );
       kept = done.kept ∙ so-far.kept;
       root = done.root ∙ so-far.root;
       still = still_then (is_broken (journal_of c.args.chains.now)) (is_broken (journal_of c.loop-n.chains))
@@ -60,3 +76,13 @@ returns-clause-written g c n =
 pub returns-clause-rise : goal.returns-clause-rise
 returns-clause-rise g c n own there changed =
     rise_end c.loop-n.cache n own (AreRecords 0 (map.entries own.bucket.values)) (c.in_default.ensures.none refl) (c.loop-n.invariant.rise n own there changed)
+
+pub returns-clause-reads : goal.returns-clause-reads
+returns-clause-reads g c all =
+    let so = c.loop-n.invariant.reads all in
+    (so.0, so.2)
+
+pub returns-in-Err-clause-open : goal.returns-in-Err-clause-open
+returns-in-Err-clause-open g c pages was had =
+    let here = c.loop-n.invariant.opens pages was had in
+    c.in-Err.ensures.open pages here.0 (here.1 c.in-Some.n c.in-Some.cached c.in-Some.ensures.there)

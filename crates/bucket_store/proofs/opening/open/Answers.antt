@@ -1,5 +1,7 @@
 -- The journal is finished, and then what is kept is read.
-use Rattle.std.proofs.Common.{refl, ◌∙◌}
+use Rattle.std.proofs.Common.{◌+◌, ◌*◌, length, refl, ◌∙◌, arith}
+use Rattle.page_journal.proofs.ReadCounts.{reads_more, reads_then}
+use Rattle.chain_store.specs.Kept.{page_total}
 use Rattle.bucket_store.proofs.Reopened.{goes_meant, holds_found, image_state, rests_stays, sound_kept, sound_open}
 use Rattle.bucket_store.specs.Opening.{MeansOne}
 use Rattle.bucket_store.specs.declared.opened.Opened.{Opened}
@@ -57,3 +59,15 @@ pub returns-in-Err-kept_on-clause-told : goal.returns-in-Err-kept_on-clause-told
 returns-in-Err-kept_on-clause-told g c = λ bytes told quiet.
     let now = c.in-Ok.ensures.told bytes told refl in
     (now.0, c.kept_on.ensures.stays.content ∙ now.1)
+
+pub returns-in-Ok-kept_on-clause-reads : goal.returns-in-Ok-kept_on-clause-reads
+returns-in-Ok-kept_on-clause-reads g c = λ bytes told shut.
+    let old = g.D.Disk.view c.args.disk.now in
+    let mid = g.D.Disk.view c.open.new.disk in
+    let new = g.D.Disk.view c.kept_on.new.disk in
+    let total = page_total c.in-Ok-kept_on.kept.directories.items in
+    let head = c.open.ensures.one_read bytes told shut in
+    let rest = reads_more (1 + total) (1 + total) (4096 * c.in-Ok.pages) (length bytes) mid.reads new.reads (omega arith)
+    (c.in-Ok.ensures.answers bytes told).3 c.in-Ok-kept_on.ensures.reads in
+    reads_more (1 + (1 + total)) (2 + total) (length bytes) (length bytes) old.reads new.reads (omega arith) (omega arith)
+    (reads_then 1 (1 + total) (length bytes) old.reads mid.reads new.reads head rest)

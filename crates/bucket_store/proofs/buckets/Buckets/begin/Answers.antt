@@ -1,4 +1,5 @@
 -- With no bucket there is nothing to show of one.
+use Rattle.bucket_store.proofs.Once.{read_none}
 use Rattle.bucket_store.proofs.Caches.{nothing}
 use Rattle.std.proofs.Common.{◌∙◌, ap}
 use Rattle.chain_store.specs.Directories.{root_in}
@@ -8,7 +9,11 @@ use Rattle.bucket_store.proofs.buckets.Buckets.begin.Goals as goal
 
 pub invariant_of-self : goal.invariant_of-self
 invariant_of-self g c =
-    record { going = λ _. c.begin.ensures.going; own = λ n own there. absurd (nothing c.new.result n own c.new.ensures.empty there) }
+    record {
+      going = λ _. c.begin.ensures.going;
+      own = λ n own there. absurd (nothing c.new.result n own c.new.ensures.empty there);
+      once = λ _. read_none _ c.new.result c.begin.ensures.read c.new.ensures.empty;
+    }
 
 pub returns-clause-open : goal.returns-clause-open
 returns-clause-open g c pages was = record {

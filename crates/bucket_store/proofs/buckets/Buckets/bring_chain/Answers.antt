@@ -1,12 +1,14 @@
 -- A bucket that was read is there as it is in the store, and the others are as they were.
 use Rattle.std.proofs.Common.{◌≡◌, false, sym, ap, subst}
 use Rattle.chain_store.specs.declared.root.Root.{Root}
+use Rattle.chain_store.specs.Chains.{disk_of}
 use Rattle.chain_store.specs.Known.{Lists}
 use Rattle.std.specs.FinMap as map
 use Rattle.bucket_store.specs.Cache.{CacheMap}
 use Rattle.bucket_store.specs.Buckets.{bucket_count}
 use Rattle.bucket_store.specs.Transaction.{IsOpenWith}
 use Rattle.bucket_store.specs.declared.cache.Cached.{Cached}
+use Rattle.bucket_store.proofs.Once.{read_more, unread_chain}
 use Rattle.bucket_store.proofs.Openings.{open_later, open_more, stored_later, buckets_more, buckets_same, put_there, some_of, none_of, content_more}
 use Rattle.std.proofs.Common.{◌||◌, Bool, refl, ◌∙◌}
 use Rattle.bucket_store.proofs.Holding.{has_later}
@@ -28,6 +30,12 @@ invariant_of-self-in-Ok-add g c =
       going = λ _. c.in-Ok.ensures.going;
       own = buckets_same _ _ c.add.new.self many (buckets_more (bucket_count c.args.self.now.chains) c.args.self.now.cache c.add.new.self c.args.n own
           c.in-Ok-add.ensures.ok c.args.self.now.own c.requires.bucket c.in-Ok.ensures.own);
+      once = λ _.
+          let none = none_of c.has.result (map.get c.args.self.now.cache c.args.n) c.has.ensures.1 c.if-has.false in
+          let are = c.args.self.now.once c.requires.going in
+          read_more c.args.self.now.cache c.add.new.self c.args.n own c.in-Ok-add.ensures.ok _ _ _
+          (disk_of c.args.self.now.chains) (disk_of c.read_bucket.new.chains)
+          (c.in-Ok.ensures.reads (unread_chain _ c.args.self.now.cache c.args.n are c.requires.bucket.0 none)) c.in-Ok.ensures.known are;
     }
 
 pub returns-in-Ok-add-clause-there : goal.returns-in-Ok-add-clause-there
@@ -76,3 +84,8 @@ pub returns-in-Ok-add-clause-has : goal.returns-in-Ok-add-clause-has
 returns-in-Ok-add-clause-has g c rest now has =
     has_later rest now c.args.self.now _ c.in-Ok.ensures.stays (c.in-Ok.ensures.broken ∙ ap (λ (b : Bool). b || false) has.whole)
     (returns-in-Ok-add-clause-open g c) (returns-in-Ok-add-clause-content g c) has
+
+pub returns-in-Ok-add-clause-reads : goal.returns-in-Ok-add-clause-reads
+returns-in-Ok-add-clause-reads g c =
+    let none = none_of c.has.result (map.get c.args.self.now.cache c.args.n) c.has.ensures.1 c.if-has.false in
+    c.in-Ok.ensures.reads (unread_chain _ c.args.self.now.cache c.args.n (c.args.self.now.once c.requires.going) c.requires.bucket.0 none)

@@ -7,6 +7,7 @@ use Rattle.chain_store.specs.State.{IsState}
 use Rattle.chain_store.specs.declared.root.Root.{Root}
 use Rattle.chain_store.specs.Known.{changed}
 use Rattle.bucket_store.specs.Committing.{given}
+use Rattle.bucket_store.proofs.Once.{free_later, read_none}
 use Rattle.bucket_store.proofs.Caches.{nothing}
 use Rattle.bucket_store.specs.Buckets.{bucket_count}
 use Rattle.bucket_store.specs.Image.{IsSoundCommit}
@@ -18,7 +19,11 @@ use Rattle.bucket_store.proofs.buckets.Buckets.commit.Goals as goal
 
 pub invariant_of-self : goal.invariant_of-self
 invariant_of-self g c =
-    record { going = λ same. absurd (cc); own = λ n own there. absurd (nothing c.new.result n own c.new.ensures.empty there) }
+    record {
+      going = λ same. absurd (cc);
+      own = λ n own there. absurd (nothing c.new.result n own c.new.ensures.empty there);
+      once = λ same. absurd (cc);
+    }
 
 pub returns-in-Err-clause-open : goal.returns-in-Err-clause-open
 returns-in-Err-clause-open g c _ _ pages was =
@@ -26,11 +31,19 @@ returns-in-Err-clause-open g c _ _ pages was =
 
 pub invariant_of-self-in-Ok : goal.invariant_of-self-in-Ok
 invariant_of-self-in-Ok g c =
-    record { going = λ same. c.in-Ok.ensures.refused; own = λ n own there. absurd (nothing c.new.result n own c.new.ensures.empty there) }
+    record {
+      going = λ same. c.in-Ok.ensures.refused;
+      own = λ n own there. absurd (nothing c.new.result n own c.new.ensures.empty there);
+      once = λ same. read_none _ c.new.result c.in-Ok.ensures.read c.new.ensures.empty;
+    }
 
 pub invariant_of-self-in-Err-commit : goal.invariant_of-self-in-Err-commit
 invariant_of-self-in-Err-commit g c =
-    record { going = λ same. absurd (cc); own = λ n own there. absurd (nothing c.new.result n own c.new.ensures.empty there) }
+    record {
+      going = λ same. absurd (cc);
+      own = λ n own there. absurd (nothing c.new.result n own c.new.ensures.empty there);
+      once = λ same. absurd (cc);
+    }
 
 pub returns-in-Ok-clause-any_moment : goal.returns-in-Ok-clause-any_moment
 returns-in-Ok-clause-any_moment g c root strings pages was state =
@@ -134,3 +147,11 @@ returns-in-Err-commit-clause-answers g c pages was =
     let opens = done.open pages was.open_chains was.origins in
     commits_chains pages old mid c.args.self.now.cache done.kept done.root opens done.written (Err c.in-Err-commit.fault) (page_limit (journal_of mid))
     (page_limit (journal_of old)) (home_count (journal_of c.commit.new.self)) done.looked.limit (c.in-Err-commit.ensures.answers pages opens)
+
+pub returns-in-Ok-clause-reads : goal.returns-in-Ok-clause-reads
+returns-in-Ok-clause-reads g c =
+    let old = c.args.self.now.chains in
+    let mid = c.store_changed-stored.new.chains in
+    let done = c.in_default.ensures in
+    free_later (journal_of old) (journal_of mid) (journal_of c.commit.new.self) (kept_of old) (kept_of mid) done.looked done.kept
+    (done.reads (c.args.self.now.once c.requires).all).1 c.in-Ok.ensures.reads

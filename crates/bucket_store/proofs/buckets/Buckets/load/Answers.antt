@@ -1,10 +1,12 @@
 -- What is read of a string changes no bucket.
+use Rattle.bucket_store.proofs.Once.{read_string}
 use Rattle.bucket_store.proofs.Openings.{open_later}
-use Rattle.std.proofs.Common.{◌||◌, Bool, false, Err, ap, ◌∙◌, inl, arith}
+use Rattle.std.proofs.Common.{◌||◌, Bool, false, Err, sym, ap, ◌∙◌, inl, arith}
 use Rattle.std.specs.FinMap as map
-use Rattle.chain_store.specs.Chains.{kept_of, written_of}
+use Rattle.chain_store.specs.Chains.{disk_of, kept_of, written_of}
 use Rattle.bucket_store.proofs.Holding.{has_later, loaded_string}
-use Rattle.bucket_store.proofs.Openings.{match_later}
+use Rattle.bucket_store.proofs.Openings.{buckets_same, match_later}
+use Rattle.chain_store.specs.declared.root.Root.{Root}
 use Rattle.bucket_store.proofs.Sound.{sound_load}
 use Rattle.bucket_store.proofs.buckets.Buckets.load.Goals as goal
 
@@ -33,3 +35,16 @@ returns-in-Ok-clause-has g c rest now has =
 pub returns-in-Err-clause-sound : goal.returns-in-Err-clause-sound
 returns-in-Err-clause-sound g c rest now has =
     sound_load (Err c.in-Err.fault) rest now c.args.self.now c.args.n c.requires.string (λ pages was. c.in-Err.ensures.answers pages was.open_chains) c.in-Err.ensures.alone has
+
+pub invariant_of-self : goal.invariant_of-self
+invariant_of-self g c =
+    let self = c.args.self.now in
+    record {
+      going = λ _. c.in-Ok.ensures.refused;
+      own = buckets_same _ _ self.cache (ap (λ (r : Root). r.buckets) (sym c.in-Ok.ensures.stays.root)) self.own;
+      once = λ _. read_string _ c.args.n _ _ self.cache (disk_of self.chains) (disk_of c.load.new.self) (omega (arith, c.requires.string))
+          (c.in-Ok.ensures.reads (inl (omega (arith, c.requires.string)))) (self.once c.requires.going);
+    }
+
+pub returns-in-Ok-clause-reads : goal.returns-in-Ok-clause-reads
+returns-in-Ok-clause-reads g c = c.in-Ok.ensures.reads (inl (omega (arith, c.requires.string)))

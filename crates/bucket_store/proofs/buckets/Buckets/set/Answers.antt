@@ -6,6 +6,7 @@ use Rattle.bucket_records.specs.Records.{BucketMap}
 use Rattle.bucket_store.specs.Buckets.{bucket_count, bucket_in, chain_at}
 use Rattle.bucket_store.specs.Cache.{changed_to}
 use Rattle.bucket_store.specs.declared.cache.Cached.{Cached}
+use Rattle.bucket_store.proofs.Once.{read_put}
 use Rattle.bucket_store.proofs.Openings.{bucket_in-chain_at, buckets_more, content_is, content_own, content_apart, keys_put, never_changed, open_more, put_there, there_own}
 use Rattle.std.specs.FinMap as map
 use Rattle.std.proofs.Common.{Some, refl}
@@ -24,6 +25,8 @@ invariant_of-self g c =
     ∙ ap (λ (k : ℕ). bucket_in k) (sym c.chain_of-n.ensures.chain) in
     record {
       going = c.args.self.now.going;
+      once = λ still. read_put cache c.put.new.self n own (c.in-Ok.ensures.ok found.0 found.1) _
+          (subst (λ (k : ℕ). IsSome (map.get cache k)) (sym c.chain_of-n.ensures.chain) c.requires.there) (c.args.self.now.once still);
       own = buckets_more count cache c.put.new.self n own (c.in-Ok.ensures.ok found.0 found.1) c.args.self.now.own c.chain_of-n.ensures.is
           (keys_put count (bucket_in n) found.0.bucket.values c.args.key c.args.value.now (c.args.self.now.own n found.0 found.1).1 place);
     }

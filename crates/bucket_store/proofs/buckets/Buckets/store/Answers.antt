@@ -1,9 +1,11 @@
 -- A string is written beside the buckets.
-use Rattle.std.proofs.Common.{◌||◌, Bool, false, Err, ap, ◌∙◌}
+use Rattle.std.proofs.Common.{◌||◌, Bool, false, Err, sym, ap, ◌∙◌, arith}
 use Rattle.std.specs.FinMap as map
+use Rattle.chain_store.specs.Chains.{disk_of}
 use Rattle.chain_store.specs.declared.root.Root.{Root}
+use Rattle.bucket_store.proofs.Once.{read_string}
 use Rattle.bucket_store.proofs.Meanings.{has_text}
-use Rattle.bucket_store.proofs.Openings.{open_like}
+use Rattle.bucket_store.proofs.Openings.{buckets_same, open_like}
 use Rattle.bucket_store.proofs.Sound.{sound_store}
 use Rattle.bucket_store.proofs.Texts.{match_like, match_text, open_text}
 use Rattle.bucket_store.proofs.buckets.Buckets.store.Goals as goal
@@ -36,3 +38,13 @@ returns-in-Err-clause-content g c pages was other values above has =
 pub returns-in-Err-clause-sound : goal.returns-in-Err-clause-sound
 returns-in-Err-clause-sound g c rest now has =
     sound_store (Err c.in-Err.fault) rest now c.args.self.now c.args.n c.requires.string (λ pages was. c.in-Err.ensures.answers pages was.open_chains) c.in-Err.ensures.alone has
+
+pub invariant_of-self : goal.invariant_of-self
+invariant_of-self g c =
+    let self = c.args.self.now in
+    record {
+      going = λ _. c.in-Ok.ensures.refused;
+      own = buckets_same _ _ self.cache (ap (λ (r : Root). r.buckets) (sym c.in-Ok.ensures.root)) self.own;
+      once = λ _. read_string _ c.args.n _ _ self.cache (disk_of self.chains) (disk_of c.store.new.self) (omega (arith, c.requires.string))
+          c.in-Ok.ensures.reads (self.once c.requires.going);
+    }

@@ -3,10 +3,12 @@ use Rattle.std.proofs.Common.{ℕ, sym, ap, subst, ◌∙◌, inl, inr}
 use Rattle.std.specs.Option.{IsSome}
 use Rattle.std.specs.FinMap as map
 use Rattle.bucket_records.specs.Records.{BucketMap}
+use Rattle.chain_store.specs.Chains.{read_of}
 use Rattle.bucket_store.specs.Cache.{CacheMap, changed_to}
-use Rattle.bucket_store.specs.Buckets.{AreBuckets, bucket_count, bucket_in, chain_at}
+use Rattle.bucket_store.specs.Buckets.{AreBuckets, AreRead, bucket_count, bucket_in, chain_at}
 use Rattle.bucket_store.specs.Transaction.{IsOpenWith}
 use Rattle.bucket_store.specs.declared.cache.Cached.{Cached}
+use Rattle.bucket_store.proofs.Once.{read_put}
 use Rattle.bucket_store.proofs.Openings.{buckets_more, content_is, content_own, content_apart, content_same, keys_remove, never_changed, open_more, put_there, taken_own, there_own, took}
 use Rattle.std.proofs.Common.{None, refl}
 use Rattle.bucket_store.proofs.Holding.{has_bucket, has_changed}
@@ -26,6 +28,11 @@ invariant_of-self g c =
         | inl is ↦ buckets_more count cache c.remove.new.self n own is c.args.self.now.own c.chain_of-n.ensures.is
             (keys_remove count (bucket_in n) found.0.bucket.values c.args.key (c.args.self.now.own n found.0 found.1).1)
         | inr same ↦ subst (λ (m : CacheMap). AreBuckets count m) (sym same.1) c.args.self.now.own
+      ];
+      once = λ still. elim (took c.in-Ok.was cache c.remove.new.self n own (c.in-Ok.ensures.taken found.0 found.1) c.in-Ok.ensures.none) [
+        | inl is ↦ read_put cache c.remove.new.self n own is (read_of c.args.self.now.chains)
+            (subst (λ (k : ℕ). IsSome (map.get cache k)) (sym c.chain_of-n.ensures.chain) c.requires.there) (c.args.self.now.once still)
+        | inr same ↦ subst (λ (m : CacheMap). AreRead (read_of c.args.self.now.chains) m) (sym same.1) (c.args.self.now.once still)
       ];
     }
 
