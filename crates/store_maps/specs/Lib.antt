@@ -1,4 +1,5 @@
 pub mod Append
+pub mod Asked
 pub mod Delta
 pub mod Maps
 pub mod Named

@@ -1,5 +1,6 @@
 //! The maps of a store, as a change meets them.
-ghost use Rattle.std.specs.Prelude.{◌≡◌, ℕ, false, List, IfOk, IfErr, IfSome, OnOk};
+ghost use Rattle.std.specs.Prelude.{◌≡◌, ℕ, true, false, List, IfOk, IfErr, IfSome, OnOk};
+ghost use Rattle.std.specs.List.{AllByRecursion};
 ghost use Rattle.std.specs.FinMap as finite;
 ghost use Rattle.osm_base.specs.map.Known.{Question};
 ghost use Rattle.osm_base.specs.values.Ids.{AreRisingIds};
@@ -7,6 +8,7 @@ ghost use Rattle.style_read.specs.Style.{StyleOf};
 ghost use Rattle.object_fold.specs.Change.{IsOfKind};
 ghost use Rattle.object_fold.specs.Listing.{listers};
 ghost use Rattle.store_maps.specs.Append.{MayKeep};
+ghost use Rattle.store_maps.specs.Asked.{May, MayAnswer, MayList, MayObject, MayRows};
 ghost use Rattle.store_maps.specs.Maps.{Maps, form_in, object_in, rows_at, set_object, set_rows};
 ghost use Rattle.store_maps.specs.Named.{WaysAreThere, index_on, place_in};
 ghost use Rattle.store_maps.specs.Step.{AreTold, relisted_to};
@@ -32,6 +34,9 @@ pub trait MapStore: Back {
     /// Calls of this trait have made the second of the first. Of what lies below they have only read.
     ghost looked: { Self → Self → Type 0 };
 
+    /// All keys that it was asked are among these.
+    ghost within: { May → Self → Type 0 };
+
     /// It may refuse so although it holds maps.
     ghost allowed: { Self.Refusal → Type 0 };
 
@@ -41,6 +46,7 @@ pub trait MapStore: Back {
         ensures form { IfOk result (λ form. (under : Under) (maps : Maps) → holds self.old under maps → form ≡ form_in maps key.kind key.id) }
         ensures holds { OnOk result ((under : Under) (maps : Maps) → holds self.old under maps → holds self.new under maps) }
         ensures looked { (first : Self) → looked first self.old → looked first self.new }
+        ensures within { (may : May) → MayObject may key → within may self.old → within may self.new }
         ensures spent { OnOk result (Self.spent self.new ≡ false) }
         ensures refused { IfErr result (λ refusal. (first : Self) → looked first self.old → Self.bears self.new (Self.faults first) refusal) }
         ensures allowed { (under : Under) (maps : Maps) → holds self.old under maps → IfErr result allowed };
@@ -56,6 +62,7 @@ pub trait MapStore: Back {
         requires proper { IfSome new.now (IsOfKind key.kind) }
         ensures holds { OnOk result ((under : Under) (maps : Maps) → holds self.old under maps → holds self.new under (relisted_to maps key old.now new.now)) }
         ensures looked { (first : Self) → looked first self.old → looked first self.new }
+        ensures within { (may : May) → MayList may key old.now → MayList may key new.now → within may self.old → within may self.new }
         ensures spent { OnOk result (Self.spent self.new ≡ false) }
         ensures refused { IfErr result (λ refusal. (first : Self) → looked first self.old → Self.bears self.new (Self.faults first) refusal) }
         ensures allowed { (under : Under) (maps : Maps) → holds self.old under maps → AreTold maps key old.now → IfErr result allowed };
@@ -66,6 +73,7 @@ pub trait MapStore: Back {
         requires proper { IfSome object.now (IsOfKind key.kind) }
         ensures holds { OnOk result ((under : Under) (maps : Maps) → holds self.old under maps → holds self.new under (set_object maps key.kind key.id object.now)) }
         ensures looked { (first : Self) → looked first self.old → looked first self.new }
+        ensures within { (may : May) → MayObject may key → within may self.old → within may self.new }
         ensures spent { OnOk result (Self.spent self.new ≡ false) }
         ensures refused { IfErr result (λ refusal. (first : Self) → looked first self.old → Self.bears self.new (Self.faults first) refusal) }
         ensures allowed { (under : Under) (maps : Maps) → holds self.old under maps → IfErr result allowed };
@@ -76,6 +84,7 @@ pub trait MapStore: Back {
         ensures rows { IfOk result (λ rows. (under : Under) (maps : Maps) → holds self.old under maps → rows ≡ rows_at maps key.kind key.id) }
         ensures holds { OnOk result ((under : Under) (maps : Maps) → holds self.old under maps → holds self.new under maps) }
         ensures looked { (first : Self) → looked first self.old → looked first self.new }
+        ensures within { (may : May) → MayRows may key → within may self.old → within may self.new }
         ensures spent { OnOk result (Self.spent self.new ≡ false) }
         ensures refused { IfErr result (λ refusal. (first : Self) → looked first self.old → Self.bears self.new (Self.faults first) refusal) }
         ensures allowed { (under : Under) (maps : Maps) → holds self.old under maps → IfErr result allowed };
@@ -86,6 +95,7 @@ pub trait MapStore: Back {
         requires kept { MayKeep (style self.old).tables rows.now }
         ensures holds { OnOk result ((under : Under) (maps : Maps) → holds self.old under maps → holds self.new under (set_rows maps key.kind key.id rows.now)) }
         ensures looked { (first : Self) → looked first self.old → looked first self.new }
+        ensures within { (may : May) → MayRows may key → within may self.old → within may self.new }
         ensures spent { OnOk result (Self.spent self.new ≡ false) }
         ensures refused { IfErr result (λ refusal. (first : Self) → looked first self.old → Self.bears self.new (Self.faults first) refusal) }
         ensures allowed { (under : Under) (maps : Maps) → holds self.old under maps → IfErr result allowed };
@@ -96,6 +106,7 @@ pub trait MapStore: Back {
         ensures place { IfOk result (λ place. (under : Under) (maps : Maps) → holds self.old under maps → place ≡ place_in (finite.get maps.nodes id)) }
         ensures holds { OnOk result ((under : Under) (maps : Maps) → holds self.old under maps → holds self.new under maps) }
         ensures looked { (first : Self) → looked first self.old → looked first self.new }
+        ensures within { (may : May) → may 0 id ≡ true → within may self.old → within may self.new }
         ensures spent { OnOk result (Self.spent self.new ≡ false) }
         ensures refused { IfErr result (λ refusal. (first : Self) → looked first self.old → Self.bears self.new (Self.faults first) refusal) }
         ensures allowed { (under : Under) (maps : Maps) → holds self.old under maps → IfErr result allowed };
@@ -106,6 +117,7 @@ pub trait MapStore: Back {
         ensures object { IfOk result (λ object. (under : Under) (maps : Maps) → holds self.old under maps → object ≡ object_in maps key.kind key.id) }
         ensures holds { OnOk result ((under : Under) (maps : Maps) → holds self.old under maps → holds self.new under maps) }
         ensures looked { (first : Self) → looked first self.old → looked first self.new }
+        ensures within { (may : May) → MayObject may key → within may self.old → within may self.new }
         ensures spent { OnOk result (Self.spent self.new ≡ false) }
         ensures refused { IfErr result (λ refusal. (first : Self) → looked first self.old → Self.bears self.new (Self.faults first) refusal) }
         ensures allowed { (under : Under) (maps : Maps) → holds self.old under maps → IfErr result allowed };
@@ -117,6 +129,7 @@ pub trait MapStore: Back {
         ensures rising { IfOk result AreRisingIds }
         ensures holds { OnOk result ((under : Under) (maps : Maps) → holds self.old under maps → holds self.new under maps) }
         ensures looked { (first : Self) → looked first self.old → looked first self.new }
+        ensures within { (may : May) → may 5 id ≡ true → within may self.old → within may self.new }
         ensures spent { OnOk result (Self.spent self.new ≡ false) }
         ensures refused { IfErr result (λ refusal. (first : Self) → looked first self.old → Self.bears self.new (Self.faults first) refusal) }
         ensures allowed { (under : Under) (maps : Maps) → holds self.old under maps → IfErr result allowed };
@@ -128,6 +141,7 @@ pub trait MapStore: Back {
         ensures rising { IfOk result AreRisingIds }
         ensures holds { OnOk result ((under : Under) (maps : Maps) → holds self.old under maps → holds self.new under maps) }
         ensures looked { (first : Self) → looked first self.old → looked first self.new }
+        ensures within { (may : May) → may 4 id ≡ true → within may self.old → within may self.new }
         ensures spent { OnOk result (Self.spent self.new ≡ false) }
         ensures refused { IfErr result (λ refusal. (first : Self) → looked first self.old → Self.bears self.new (Self.faults first) refusal) }
         ensures allowed { (under : Under) (maps : Maps) → holds self.old under maps → IfErr result allowed };
@@ -143,6 +157,10 @@ pub trait MapStore: Back {
 
     /// To ask the index is such a call.
     ghost asked: { (first old new : Self) (questions : List Question) → looked first old → Self.asks old questions new → looked first new };
+
+    /// For an answer it is asked no more than what this is made of.
+    ghost asked_within: { (old new : Self) (questions : List Question) → Self.asks old questions new → (under : Under) (maps : Maps) → holds old under maps
+        → (may : May) → AllByRecursion (MayAnswer may maps) questions → within may old → within may new };
 
     /// It keeps the maps.
     ghost asked_holds: { (old new : Self) (questions : List Question) → Self.asks old questions new → Self.spent new ≡ false
