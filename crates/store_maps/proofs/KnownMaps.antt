@@ -16,6 +16,7 @@ use Rattle.osm_base.specs.map.Listers.{known_of}
 use Rattle.osm_base.specs.map.Objects.{ObjectSet, place_in as place_of}
 use Rattle.osm_base.specs.values.Key.{KeyOf, node_key}
 use Rattle.osm_base.specs.values.KeyOrder.{key_cmp}
+use Rattle.osm_base.specs.values.Place.{PlaceOf}
 use Rattle.osm_base.specs.values.Tags.{TagMap}
 use Rattle.osm_base.proofs.KeyLaws.{key_cmp-IsAntisymmetric}
 use Rattle.middle_nodes.specs.declared.record.NodeRecord.{NodeRecord}
@@ -84,6 +85,11 @@ module _ (reaches : Bool) (maps : Maps) (objects : ObjectSet) (stands : StandsOn
 
   pub relations_of_node-are : (id : ℕ) → (known_on maps).relations_of_node id ≡ (known_of objects).relations_of_node id
   relations_of_node-are id = listers-index kinds.Relation kinds.Node objects maps.relations_of_nodes id stands.index.relations_of_nodes
+
+-- what is kept of a node is read as a node, if at all
+pub node_alone : (P : Option Object → Type 0) → P None → ((place : Option PlaceOf) (tags : TagMap) → P (Some (Node place tags))) → (kept : Option NodeRecord) → P (node_in kept)
+node_alone P none node None = none
+node_alone P none node (Some kept) = elim (kept.tags) as (λ (tags : Option TagMap). P (option_map (λ own. Node kept.place own) tags)) [ None ↦ none | Some tags ↦ node kept.place tags ]
 
 -- a node that a change names has known tags after it
 

@@ -1,3 +1,4 @@
+pub mod AfterForms
 pub mod Asking
 pub mod Building
 pub mod DueLaws
@@ -6,6 +7,8 @@ pub mod EntryLists
 pub mod Imported
 pub mod KeyedLists
 pub mod NamedKeys
+pub mod Parts
 pub mod PendingKeys
+pub mod Touching
 pub mod Trees
 pub mod Whole

@@ -28,7 +28,7 @@ less_is Less e = refl
 less_is Equal e = absurd (cc)
 less_is Greater e = absurd (cc)
 
-below_all : (first second third : KeyOf) → is_below first second ≡ true → is_below second third ≡ true → is_below first third ≡ true
+pub below_all : (first second third : KeyOf) → is_below first second ≡ true → is_below second third ≡ true → is_below first third ≡ true
 below_all first second third one other = ap is_lt (key_cmp_total.trans first second third (less_is (key_cmp first second) one) (less_is (key_cmp second third) other))
 
 -- The ids of one kind rise.

@@ -262,7 +262,7 @@ module _ (maps : Maps) where
   or-true true = refl
   or-true false = refl
 
-  each-among : (front back : List Entry) → AllByRecursion (λ (entry : Entry). list_any (λ (other : Entry). eq_by_cmp key_cmp entry.key other.key) (front ++ back) ≡ true) back
+  pub each-among : (front back : List Entry) → AllByRecursion (λ (entry : Entry). list_any (λ (other : Entry). eq_by_cmp key_cmp entry.key other.key) (front ++ back) ≡ true) back
   each-among front [] = tt
   each-among front (entry ∷ back) = (
     (list_any-append (λ (other : Entry). eq_by_cmp key_cmp entry.key other.key) front (entry ∷ back)

@@ -4,3 +4,4 @@ pub mod Gather
 pub mod Importing
 pub mod Old
 pub mod Suffices
+pub mod Touch

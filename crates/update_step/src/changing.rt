@@ -8,10 +8,12 @@ ghost use Rattle.row_map.specs.Row.{tables};
 ghost use Rattle.dep_closure.specs.PendingSet.{AreTooMany, IsPendingOf, size};
 ghost use Rattle.tile_cover.specs.Runs.{has};
 ghost use Rattle.store_maps.specs.Delta.{IsDelta};
+ghost use Rattle.store_maps.specs.Asked.{May};
 ghost use Rattle.store_maps.specs.Maps.{Maps};
 ghost use Rattle.store_maps.specs.Stands.{Stands};
 ghost use Rattle.update_step.specs.Due.{due_between};
 ghost use Rattle.update_step.specs.Ends.{Ends, MayRefuse};
+ghost use Rattle.update_step.specs.Touch.{MayTouch};
 
 use crate::StepFault;
 use crate::pending_keys::changed_keys;
@@ -61,6 +63,8 @@ pub fn change_maps<S: MapStore, R: Threads + Sync, G: Gate>(
 
     // Whatever it answers, below the maps it has only looked.
     ensures looked { (first : S) → S.looked first store.old → S.looked first store.new }
+    ensures within { (under : S.Under) (maps : Maps) (objects : ObjectSet) → S.holds store.old under maps → Stands style.now maps objects
+        → (may : May) → MayTouch style.now objects change.now may → S.within may store.old → S.within may store.new }
     ensures ends { IfErr result (Ends
         (λ refusal. (first : S) → S.looked first store.old → S.bears store.new (S.faults first) refusal)
         (S.spent store.new ≡ false)

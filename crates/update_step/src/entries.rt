@@ -3,11 +3,13 @@ ghost use Rattle.std.specs.Prelude.{◌≡◌, ◌∷◌, ◌+◌, ℕ, Bool, fa
 ghost use Rattle.std.specs.FinMap as finite;
 ghost use Rattle.osm_base.specs.map.Objects.{ObjectSet};
 ghost use Rattle.object_fold.specs.Change.{IsProper};
+ghost use Rattle.store_maps.specs.Asked.{May, MayList, MayObject};
 ghost use Rattle.store_maps.specs.Maps.{Maps, form_in};
 ghost use Rattle.store_maps.specs.Stands.{StandsOn};
 ghost use Rattle.store_maps.specs.Step.{AreTold, change_on, entry_on};
 ghost use Rattle.update_step.specs.Ends.{Ends, MayRefuse};
 ghost use Rattle.update_step.specs.Old.{with_old};
+ghost use Rattle.update_step.specs.Touch.{MayEntries, MayTurnAll};
 
 use crate::StepFault;
 use object_fold::{Change, Objects};
@@ -21,6 +23,9 @@ fn apply_entry<S: MapStore>(store: &mut S, entry: &Entry) -> Result<(), S::Refus
     requires proper { IsProper entry.now }
     ensures holds { OnOk result ((under : S.Under) (maps : Maps) → S.holds store.old under maps → S.holds store.new under (entry_on maps entry.now)) }
     ensures looked { (first : S) → S.looked first store.old → S.looked first store.new }
+    ensures within { (under : S.Under) (maps : Maps) → S.holds store.old under maps → (may : May)
+        → MayObject may entry.now.key → MayList may entry.now.key (form_in maps entry.now.key.kind entry.now.key.id) → MayList may entry.now.key entry.now.object
+        → S.within may store.old → S.within may store.new }
     ensures spent { OnOk result (S.spent store.new ≡ false) }
     ensures refused { IfErr result (λ refusal. (first : S) → S.looked first store.old → S.bears store.new (S.faults first) refusal) }
     ensures allowed { (under : S.Under) (maps : Maps) → S.holds store.old under maps
@@ -37,6 +42,8 @@ pub(crate) fn apply_change<S: MapStore>(store: &mut S, change: &Change) -> Resul
     requires spent { S.spent store.old ≡ false }
     ensures holds { OnOk result ((under : S.Under) (maps : Maps) → S.holds store.old under maps → S.holds store.new under (change_on maps change.now)) }
     ensures looked { (first : S) → S.looked first store.old → S.looked first store.new }
+    ensures within { (under : S.Under) (maps : Maps) → S.holds store.old under maps → (reaches : Bool) (objects : ObjectSet) → StandsOn reaches maps objects
+        → (may : May) → MayTurnAll objects may change.now → S.within may store.old → S.within may store.new }
     ensures spent { OnOk result (S.spent store.new ≡ false) }
     ensures refused { IfErr result (λ refusal. (first : S) → S.looked first store.old → S.bears store.new (S.faults first) refusal) }
     ensures allowed { (under : S.Under) (maps : Maps) → S.holds store.old under maps
@@ -58,6 +65,7 @@ fn add_old<S: MapStore>(
     ensures old { OnOk result ((under : S.Under) (maps : Maps) → S.holds store.old under maps → objects.new ≡ with_old maps objects.old entry.now) }
     ensures holds { OnOk result ((under : S.Under) (maps : Maps) → S.holds store.old under maps → S.holds store.new under maps) }
     ensures looked { (first : S) → S.looked first store.old → S.looked first store.new }
+    ensures within { (may : May) → MayObject may entry.now.key → S.within may store.old → S.within may store.new }
     ensures spent { OnOk result (S.spent store.new ≡ false) }
     ensures ends { IfErr result (Ends
         (λ refusal. (first : S) → S.looked first store.old → S.bears store.new (S.faults first) refusal)
@@ -84,6 +92,7 @@ pub(crate) fn old_relations<S: MapStore>(
     ensures old { IfOk result (λ objects. (under : S.Under) (maps : Maps) → S.holds store.old under maps → objects ≡ fold (with_old maps) finite.empty change.now) }
     ensures holds { OnOk result ((under : S.Under) (maps : Maps) → S.holds store.old under maps → S.holds store.new under maps) }
     ensures looked { (first : S) → S.looked first store.old → S.looked first store.new }
+    ensures within { (may : May) → MayEntries may change.now → S.within may store.old → S.within may store.new }
     ensures spent { OnOk result (S.spent store.new ≡ false) }
     ensures ends { IfErr result (Ends
         (λ refusal. (first : S) → S.looked first store.old → S.bears store.new (S.faults first) refusal)

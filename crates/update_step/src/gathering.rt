@@ -4,10 +4,12 @@ ghost use Rattle.osm_base.specs.declared.values.key.Kind.TheVariants as kinds;
 ghost use Rattle.osm_base.specs.values.Ids.{AreRisingIds};
 ghost use Rattle.osm_base.specs.values.Key.{IsId, relation_key};
 ghost use Rattle.std.specs.List.{AllByRecursion};
+ghost use Rattle.store_maps.specs.Asked.{May};
 ghost use Rattle.store_maps.specs.Maps.{Maps};
 ghost use Rattle.store_maps.specs.Named.{known_on};
 ghost use Rattle.update_step.specs.Ends.{Ends, MayRefuse};
 ghost use Rattle.update_step.specs.Gather.{AlongWay, AreAsked, AroundNode, AtNode, Gathers, IsRight, OfKey, all_needs, form_asks, gathered_in, lister_asks, member_asks, needs, place_asks, relation_asks, way_asks};
+ghost use Rattle.update_step.specs.Touch.{MayAsk, MayAskAll};
 
 use crate::StepFault;
 use crate::answers::Answers;
@@ -27,6 +29,7 @@ fn gather_place<S: MapStore>(
         → Gathers (known_on maps) (gathered_in answers.old) (gathered_in answers.new) (AtNode id ∷ [])) }
     ensures holds { OnOk result ((under : S.Under) (maps : Maps) → S.holds store.old under maps → S.holds store.new under maps) }
     ensures looked { (first : S) → S.looked first store.old → S.looked first store.new }
+    ensures within { (may : May) → MayAsk may (AtNode id) → S.within may store.old → S.within may store.new }
     ensures spent { OnOk result (S.spent store.new ≡ false) }
     ensures ends { IfErr result (Ends
         (λ refusal. (first : S) → S.looked first store.old → S.bears store.new (S.faults first) refusal)
@@ -53,6 +56,7 @@ fn gather_places<S: MapStore>(
         → Gathers (known_on maps) (gathered_in answers.old) (gathered_in answers.new) (map AtNode ids.now)) }
     ensures holds { OnOk result ((under : S.Under) (maps : Maps) → S.holds store.old under maps → S.holds store.new under maps) }
     ensures looked { (first : S) → S.looked first store.old → S.looked first store.new }
+    ensures within { (may : May) → MayAskAll may (map AtNode ids.now) → S.within may store.old → S.within may store.new }
     ensures spent { OnOk result (S.spent store.new ≡ false) }
     ensures ends { IfErr result (Ends
         (λ refusal. (first : S) → S.looked first store.old → S.bears store.new (S.faults first) refusal)
@@ -77,6 +81,7 @@ fn gather_nodes<S: MapStore>(
         → Gathers (known_on maps) (gathered_in answers.old) (gathered_in answers.new) (place_asks form.now)) }
     ensures holds { OnOk result ((under : S.Under) (maps : Maps) → S.holds store.old under maps → S.holds store.new under maps) }
     ensures looked { (first : S) → S.looked first store.old → S.looked first store.new }
+    ensures within { (may : May) → MayAskAll may (place_asks form.now) → S.within may store.old → S.within may store.new }
     ensures spent { OnOk result (S.spent store.new ≡ false) }
     ensures ends { IfErr result (Ends
         (λ refusal. (first : S) → S.looked first store.old → S.bears store.new (S.faults first) refusal)
@@ -101,6 +106,8 @@ fn gather_form<S: MapStore>(
         → Gathers (known_on maps) (gathered_in answers.old) (gathered_in answers.new) (form_asks (known_on maps) key)) }
     ensures holds { OnOk result ((under : S.Under) (maps : Maps) → S.holds store.old under maps → S.holds store.new under maps) }
     ensures looked { (first : S) → S.looked first store.old → S.looked first store.new }
+    ensures within { (under : S.Under) (maps : Maps) → S.holds store.old under maps → (may : May)
+        → MayAskAll may (form_asks (known_on maps) key) → S.within may store.old → S.within may store.new }
     ensures spent { OnOk result (S.spent store.new ≡ false) }
     ensures ends { IfErr result (Ends
         (λ refusal. (first : S) → S.looked first store.old → S.bears store.new (S.faults first) refusal)
@@ -125,6 +132,8 @@ fn gather_member<S: MapStore>(
         → Gathers (known_on maps) (gathered_in answers.old) (gathered_in answers.new) (member_asks (known_on maps) member.now)) }
     ensures holds { OnOk result ((under : S.Under) (maps : Maps) → S.holds store.old under maps → S.holds store.new under maps) }
     ensures looked { (first : S) → S.looked first store.old → S.looked first store.new }
+    ensures within { (under : S.Under) (maps : Maps) → S.holds store.old under maps → (may : May)
+        → MayAskAll may (member_asks (known_on maps) member.now) → S.within may store.old → S.within may store.new }
     ensures spent { OnOk result (S.spent store.new ≡ false) }
     ensures ends { IfErr result (Ends
         (λ refusal. (first : S) → S.looked first store.old → S.bears store.new (S.faults first) refusal)
@@ -149,6 +158,8 @@ fn gather_members<S: MapStore>(
         → Gathers (known_on maps) (gathered_in answers.old) (gathered_in answers.new) (flat_map (member_asks (known_on maps)) members.now)) }
     ensures holds { OnOk result ((under : S.Under) (maps : Maps) → S.holds store.old under maps → S.holds store.new under maps) }
     ensures looked { (first : S) → S.looked first store.old → S.looked first store.new }
+    ensures within { (under : S.Under) (maps : Maps) → S.holds store.old under maps → (may : May)
+        → MayAskAll may (flat_map (member_asks (known_on maps)) members.now) → S.within may store.old → S.within may store.new }
     ensures spent { OnOk result (S.spent store.new ≡ false) }
     ensures ends { IfErr result (Ends
         (λ refusal. (first : S) → S.looked first store.old → S.bears store.new (S.faults first) refusal)
@@ -173,6 +184,8 @@ fn gather_ways<S: MapStore>(
         → Gathers (known_on maps) (gathered_in answers.old) (gathered_in answers.new) (way_asks (known_on maps) form.now)) }
     ensures holds { OnOk result ((under : S.Under) (maps : Maps) → S.holds store.old under maps → S.holds store.new under maps) }
     ensures looked { (first : S) → S.looked first store.old → S.looked first store.new }
+    ensures within { (under : S.Under) (maps : Maps) → S.holds store.old under maps → (may : May)
+        → MayAskAll may (way_asks (known_on maps) form.now) → S.within may store.old → S.within may store.new }
     ensures spent { OnOk result (S.spent store.new ≡ false) }
     ensures ends { IfErr result (Ends
         (λ refusal. (first : S) → S.looked first store.old → S.bears store.new (S.faults first) refusal)
@@ -200,6 +213,7 @@ fn gather_relation<S: MapStore>(
         → Gathers (known_on maps) (gathered_in answers.old) (gathered_in answers.new) (OfKey (relation_key id) ∷ [])) }
     ensures holds { OnOk result ((under : S.Under) (maps : Maps) → S.holds store.old under maps → S.holds store.new under maps) }
     ensures looked { (first : S) → S.looked first store.old → S.looked first store.new }
+    ensures within { (may : May) → MayAsk may (OfKey (relation_key id)) → S.within may store.old → S.within may store.new }
     ensures spent { OnOk result (S.spent store.new ≡ false) }
     ensures ends { IfErr result (Ends
         (λ refusal. (first : S) → S.looked first store.old → S.bears store.new (S.faults first) refusal)
@@ -225,6 +239,7 @@ fn gather_relations<S: MapStore>(
         → Gathers (known_on maps) (gathered_in answers.old) (gathered_in answers.new) (relation_asks ids.now)) }
     ensures holds { OnOk result ((under : S.Under) (maps : Maps) → S.holds store.old under maps → S.holds store.new under maps) }
     ensures looked { (first : S) → S.looked first store.old → S.looked first store.new }
+    ensures within { (may : May) → MayAskAll may (relation_asks ids.now) → S.within may store.old → S.within may store.new }
     ensures spent { OnOk result (S.spent store.new ≡ false) }
     ensures ends { IfErr result (Ends
         (λ refusal. (first : S) → S.looked first store.old → S.bears store.new (S.faults first) refusal)
@@ -249,6 +264,8 @@ fn gather_along<S: MapStore>(
         → Gathers (known_on maps) (gathered_in answers.old) (gathered_in answers.new) (AlongWay id ∷ relation_asks ((known_on maps).relations_of_way id))) }
     ensures holds { OnOk result ((under : S.Under) (maps : Maps) → S.holds store.old under maps → S.holds store.new under maps) }
     ensures looked { (first : S) → S.looked first store.old → S.looked first store.new }
+    ensures within { (under : S.Under) (maps : Maps) → S.holds store.old under maps → (may : May)
+        → MayAskAll may (AlongWay id ∷ relation_asks ((known_on maps).relations_of_way id)) → S.within may store.old → S.within may store.new }
     ensures spent { OnOk result (S.spent store.new ≡ false) }
     ensures ends { IfErr result (Ends
         (λ refusal. (first : S) → S.looked first store.old → S.bears store.new (S.faults first) refusal)
@@ -273,6 +290,8 @@ fn gather_around<S: MapStore>(
         → Gathers (known_on maps) (gathered_in answers.old) (gathered_in answers.new) (AroundNode id ∷ relation_asks ((known_on maps).relations_of_node id))) }
     ensures holds { OnOk result ((under : S.Under) (maps : Maps) → S.holds store.old under maps → S.holds store.new under maps) }
     ensures looked { (first : S) → S.looked first store.old → S.looked first store.new }
+    ensures within { (under : S.Under) (maps : Maps) → S.holds store.old under maps → (may : May)
+        → MayAskAll may (AroundNode id ∷ relation_asks ((known_on maps).relations_of_node id)) → S.within may store.old → S.within may store.new }
     ensures spent { OnOk result (S.spent store.new ≡ false) }
     ensures ends { IfErr result (Ends
         (λ refusal. (first : S) → S.looked first store.old → S.bears store.new (S.faults first) refusal)
@@ -298,6 +317,8 @@ fn gather_listers<S: MapStore>(
         → Gathers (known_on maps) (gathered_in answers.old) (gathered_in answers.new) (lister_asks reaches (known_on maps) key)) }
     ensures holds { OnOk result ((under : S.Under) (maps : Maps) → S.holds store.old under maps → S.holds store.new under maps) }
     ensures looked { (first : S) → S.looked first store.old → S.looked first store.new }
+    ensures within { (under : S.Under) (maps : Maps) → S.holds store.old under maps → (may : May)
+        → MayAskAll may (lister_asks reaches (known_on maps) key) → S.within may store.old → S.within may store.new }
     ensures spent { OnOk result (S.spent store.new ≡ false) }
     ensures ends { IfErr result (Ends
         (λ refusal. (first : S) → S.looked first store.old → S.bears store.new (S.faults first) refusal)
@@ -329,6 +350,8 @@ fn gather_key<S: MapStore>(
         → Gathers (known_on maps) (gathered_in answers.old) (gathered_in answers.new) (needs reaches (known_on maps) key)) }
     ensures holds { OnOk result ((under : S.Under) (maps : Maps) → S.holds store.old under maps → S.holds store.new under maps) }
     ensures looked { (first : S) → S.looked first store.old → S.looked first store.new }
+    ensures within { (under : S.Under) (maps : Maps) → S.holds store.old under maps → (may : May)
+        → MayAskAll may (needs reaches (known_on maps) key) → S.within may store.old → S.within may store.new }
     ensures spent { OnOk result (S.spent store.new ≡ false) }
     ensures ends { IfErr result (Ends
         (λ refusal. (first : S) → S.looked first store.old → S.bears store.new (S.faults first) refusal)
@@ -356,6 +379,8 @@ fn gather_keys<S: MapStore>(
         → Gathers (known_on maps) (gathered_in answers.old) (gathered_in answers.new) (all_needs reaches (known_on maps) keys.now)) }
     ensures holds { OnOk result ((under : S.Under) (maps : Maps) → S.holds store.old under maps → S.holds store.new under maps) }
     ensures looked { (first : S) → S.looked first store.old → S.looked first store.new }
+    ensures within { (under : S.Under) (maps : Maps) → S.holds store.old under maps → (may : May)
+        → MayAskAll may (all_needs reaches (known_on maps) keys.now) → S.within may store.old → S.within may store.new }
     ensures spent { OnOk result (S.spent store.new ≡ false) }
     ensures ends { IfErr result (Ends
         (λ refusal. (first : S) → S.looked first store.old → S.bears store.new (S.faults first) refusal)
@@ -382,6 +407,8 @@ pub(crate) fn gathered<S: MapStore>(
         → AreAsked (gathered_in answers) (all_needs reaches (known_on maps) keys.now)) }
     ensures holds { OnOk result ((under : S.Under) (maps : Maps) → S.holds store.old under maps → S.holds store.new under maps) }
     ensures looked { (first : S) → S.looked first store.old → S.looked first store.new }
+    ensures within { (under : S.Under) (maps : Maps) → S.holds store.old under maps → (may : May)
+        → MayAskAll may (all_needs reaches (known_on maps) keys.now) → S.within may store.old → S.within may store.new }
     ensures spent { OnOk result (S.spent store.new ≡ false) }
     ensures ends { IfErr result (Ends
         (λ refusal. (first : S) → S.looked first store.old → S.bears store.new (S.faults first) refusal)

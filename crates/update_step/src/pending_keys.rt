@@ -3,11 +3,13 @@ ghost use Rattle.std.specs.Prelude.{◌≡◌, ◌≤◌, false, IfOk, IfErr, On
 ghost use Rattle.osm_base.specs.map.Objects.{ObjectSet, folded_all};
 ghost use Rattle.row_map.specs.Condition.{reaches_nodes};
 ghost use Rattle.dep_closure.specs.PendingSet.{AreTooMany, HasOldForms, IsPendingOf, LeavesRows, size};
+ghost use Rattle.store_maps.specs.Asked.{May};
 ghost use Rattle.store_maps.specs.Maps.{Maps};
 ghost use Rattle.store_maps.specs.Named.{WaysAreThere};
 ghost use Rattle.store_maps.specs.Stands.{StandsOn};
 ghost use Rattle.store_maps.specs.Step.{change_on};
 ghost use Rattle.update_step.specs.Ends.{Ends, MayRefuse, of_pending};
+ghost use Rattle.update_step.specs.Touch.{MayTouch};
 
 use crate::StepFault;
 use crate::entries::{apply_change, old_relations};
@@ -45,6 +47,8 @@ fn keys_due<S: MapStore>(
     ensures few { IfOk result (λ set. size set ≤ limits.now.pending) }
     ensures holds { OnOk result ((under : S.Under) (maps : Maps) → S.holds store.old under maps → S.holds store.new under maps) }
     ensures looked { (first : S) → S.looked first store.old → S.looked first store.new }
+    ensures within { (under : S.Under) (maps : Maps) (objects : ObjectSet) → S.holds store.old under maps → StandsOn (reaches_nodes style.now) maps (folded_all objects change.now)
+        → (may : May) → MayTouch style.now objects change.now may → S.within may store.old → S.within may store.new }
     ensures spent { OnOk result (S.spent store.new ≡ false) }
     ensures ends { IfErr result (Ends
         (λ refusal. (first : S) → S.looked first store.old → S.bears store.new (S.faults first) refusal)
@@ -74,6 +78,8 @@ pub(crate) fn changed_keys<S: MapStore>(
     ensures few { IfOk result (λ set. size set ≤ limits.now.pending) }
     ensures holds { OnOk result ((under : S.Under) (maps : Maps) → S.holds store.old under maps → S.holds store.new under (change_on maps change.now)) }
     ensures looked { (first : S) → S.looked first store.old → S.looked first store.new }
+    ensures within { (under : S.Under) (maps : Maps) (objects : ObjectSet) → S.holds store.old under maps → StandsOn (reaches_nodes style.now) maps objects
+        → (may : May) → MayTouch style.now objects change.now may → S.within may store.old → S.within may store.new }
     ensures spent { OnOk result (S.spent store.new ≡ false) }
     ensures ends { IfErr result (Ends
         (λ refusal. (first : S) → S.looked first store.old → S.bears store.new (S.faults first) refusal)

@@ -3,14 +3,19 @@ ghost use Rattle.std.specs.Prelude.{◌≡◌, ◌≤◌, ◌||◌, ℕ, List, l
 ghost use Rattle.std.specs.List.{list_any};
 ghost use Rattle.osm_base.specs.declared.values.row.TableRow.{TableRow};
 ghost use Rattle.osm_base.specs.values.Key.{KeyOf};
+ghost use Rattle.row_map.specs.Condition.{reaches_nodes};
 ghost use Rattle.geom_workers.specs.Keys.{keys_of};
 ghost use Rattle.tile_cover.specs.Runs.{has};
 ghost use Rattle.store_maps.specs.Append.{set_all_rows};
+ghost use Rattle.store_maps.specs.Asked.{May};
 ghost use Rattle.store_maps.specs.Maps.{Maps, all_kept};
+ghost use Rattle.store_maps.specs.Named.{known_on};
 ghost use Rattle.store_maps.specs.Told.{told_all};
 ghost use Rattle.update_step.specs.Due.{is_due_key};
 ghost use Rattle.update_step.specs.Ends.{Ends, MayRefuse};
+ghost use Rattle.update_step.specs.Gather.{all_needs};
 ghost use Rattle.update_step.specs.Suffices.{IsBuilt};
+ghost use Rattle.update_step.specs.Touch.{MayAllRows, MayAskAll};
 
 use crate::StepFault;
 use crate::expiring::add_all;
@@ -60,6 +65,8 @@ pub(crate) fn rebuild<S: MapStore, R: Threads + Sync, G: Gate>(
         → (zoom x y : ℕ) → has due.new zoom x y ≡ (has due.old zoom x y
         || list_any (λ key. is_due_key style.now bounds.now (all_kept maps key) (rows key) zoom x y) (keys_of pending.now))) }
     ensures looked { (first : S) → S.looked first store.old → S.looked first store.new }
+    ensures within { (under : S.Under) (maps : Maps) → S.holds store.old under maps → (may : May)
+        → MayAskAll may (all_needs (reaches_nodes style.now) (known_on maps) (keys_of pending.now)) → MayAllRows may (keys_of pending.now) → S.within may store.old → S.within may store.new }
     ensures spent { OnOk result (S.spent store.new ≡ false) }
     ensures ends { IfErr result (Ends
         (λ refusal. (first : S) → S.looked first store.old → S.bears store.new (S.faults first) refusal)

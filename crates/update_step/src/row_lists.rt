@@ -5,8 +5,10 @@ ghost use Rattle.osm_base.specs.declared.values.row.TableRow.{TableRow};
 ghost use Rattle.osm_base.specs.values.Key.{KeyOf};
 ghost use Rattle.geom_workers.specs.Keys.{keys_of};
 ghost use Rattle.store_maps.specs.Append.{MayKeep, set_all_rows};
+ghost use Rattle.store_maps.specs.Asked.{May, MayRows};
 ghost use Rattle.store_maps.specs.Maps.{Maps, all_kept};
 ghost use Rattle.update_step.specs.Ends.{Ends, MayRefuse};
+ghost use Rattle.update_step.specs.Touch.{MayAllRows};
 
 use crate::StepFault;
 use geom_workers::{MAX_KEYS, key_count, key_of};
@@ -37,6 +39,7 @@ fn rows_before<S: MapStore>(
     ensures kept { IfOk result (λ kept. (under : S.Under) (maps : Maps) → S.holds store.old under maps → kept ≡ all_kept maps key) }
     ensures holds { OnOk result ((under : S.Under) (maps : Maps) → S.holds store.old under maps → S.holds store.new under maps) }
     ensures looked { (first : S) → S.looked first store.old → S.looked first store.new }
+    ensures within { (may : May) → MayRows may key → S.within may store.old → S.within may store.new }
     ensures spent { OnOk result (S.spent store.new ≡ false) }
     ensures ends { IfErr result (Ends
         (λ refusal. (first : S) → S.looked first store.old → S.bears store.new (S.faults first) refusal)
@@ -61,6 +64,7 @@ pub(crate) fn all_before<S: MapStore>(
     ensures count { IfOk result (λ kept. length kept ≡ length keys.now) }
     ensures holds { OnOk result ((under : S.Under) (maps : Maps) → S.holds store.old under maps → S.holds store.new under maps) }
     ensures looked { (first : S) → S.looked first store.old → S.looked first store.new }
+    ensures within { (may : May) → MayAllRows may keys.now → S.within may store.old → S.within may store.new }
     ensures spent { OnOk result (S.spent store.new ≡ false) }
     ensures ends { IfErr result (Ends
         (λ refusal. (first : S) → S.looked first store.old → S.bears store.new (S.faults first) refusal)
@@ -88,6 +92,7 @@ pub(crate) fn put_rows<S: MapStore>(
     ensures holds { OnOk result ((under : S.Under) (maps : Maps) (new : KeyOf → List TableRow) → rows.now ≡ map new keys.now
         → S.holds store.old under maps → S.holds store.new under (set_all_rows maps new keys.now)) }
     ensures looked { (first : S) → S.looked first store.old → S.looked first store.new }
+    ensures within { (may : May) → MayAllRows may keys.now → S.within may store.old → S.within may store.new }
     ensures spent { OnOk result (S.spent store.new ≡ false) }
     ensures refused { IfErr result (λ refusal. (first : S) → S.looked first store.old → S.bears store.new (S.faults first) refusal) }
     ensures allowed { (under : S.Under) (maps : Maps) (new : KeyOf → List TableRow) → rows.now ≡ map new keys.now

@@ -17,6 +17,7 @@ use Rattle.store_maps.proofs.Standing.{appended_stands}
 use Rattle.update_step.proofs.Endings.{ends-then, if_err-then, if_ok-then, on_ok-then}
 use Rattle.update_step.proofs.EntryLists.{change_proper}
 use Rattle.update_step.proofs.PendingKeys.{keys-size, outside-rows, pending-rows, same-size}
+use Rattle.update_step.proofs.Touching.{may-needs, may-rows}
 use Rattle.update_step.proofs.Whole.{delta-is, due-is}
 use Rattle.update_step.proofs.changing.change_maps.Goals as goal
 
@@ -115,3 +116,17 @@ returns-in-Err-clause-ends g c =
 
 pub returns-in-Err-clause-allowed : goal.returns-in-Err-clause-allowed
 returns-in-Err-clause-allowed g c under maps objects held stands = c.in-Err.ensures.allowed under maps objects held stands.on
+
+pub returns-in-Ok-clause-within : goal.returns-in-Ok-clause-within
+returns-in-Ok-clause-within g c under maps objects held stands may touched before =
+    let style = c.args.style.now in
+    let change = c.args.change.now in
+    let set = c.in-Ok.set in
+    let on = entries_stand (reaches_nodes style) change maps objects stands.on (change_proper change c.entries-entries.ensures.rise) in
+    let pending = c.in-Ok.ensures.pending under maps objects held stands.on in
+    c.rebuild.ensures.within under (change_on maps change) (c.in-Ok.ensures.holds under maps held) may
+    (may-needs style objects change may touched (change_on maps change) on set pending.0) (may-rows style objects change may touched (change_on maps change) on set pending.0)
+    (c.changed_keys.ensures.within under maps objects held stands.on may touched before)
+
+pub returns-in-Err-clause-within : goal.returns-in-Err-clause-within
+returns-in-Err-clause-within g c under maps objects held stands may touched before = c.changed_keys.ensures.within under maps objects held stands.on may touched before

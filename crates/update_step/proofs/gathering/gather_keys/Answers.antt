@@ -2,6 +2,8 @@ use Rattle.std.proofs.Common.{rules}
 use Rattle.store_maps.specs.Named.{known_on}
 use Rattle.update_step.specs.Gather.{gathered_in, needs}
 use Rattle.update_step.proofs.Asking.{more-gathers}
+use Rattle.update_step.specs.Touch.{MayAsk}
+use Rattle.update_step.proofs.Parts.{flat-at}
 use Rattle.update_step.proofs.gathering.gather_keys.Goals as goal
 
 pub loop-key-preserved : goal.loop-key-preserved
@@ -13,5 +15,14 @@ loop-key-preserved g c =
           (c.loop-key.invariant.gathers under maps held) (c.in_ok-gather_key.ensures.gathers under maps (c.loop-key.invariant.holds under maps held));
       holds = search rules;
       looked = search rules;
+      within = λ under maps held may all before. c.gather_key.ensures.within under maps (c.loop-key.invariant.holds under maps held) may
+          (flat-at (MayAsk may) (needs c.args.reaches (known_on maps)) c.args.keys.now c.loop-key.key-index c.key-item.result c.key-item.result all c.loop-key-test.true c.key-item.is)
+          (c.loop-key.invariant.within under maps held may all before);
       spent = search rules;
     }
+
+pub returns-in_err-gather_key-clause-within : goal.returns-in_err-gather_key-clause-within
+returns-in_err-gather_key-clause-within g c under maps held may all before =
+    c.gather_key.ensures.within under maps (c.loop-key.invariant.holds under maps held) may
+    (flat-at (MayAsk may) (needs c.args.reaches (known_on maps)) c.args.keys.now c.loop-key.key-index c.key-item.result c.key-item.result all c.loop-key-test.true c.key-item.is)
+    (c.loop-key.invariant.within under maps held may all before)

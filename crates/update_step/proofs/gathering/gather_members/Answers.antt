@@ -2,6 +2,8 @@ use Rattle.std.proofs.Common.{rules}
 use Rattle.store_maps.specs.Named.{known_on}
 use Rattle.update_step.specs.Gather.{gathered_in, member_asks}
 use Rattle.update_step.proofs.Asking.{more-gathers}
+use Rattle.update_step.specs.Touch.{MayAsk}
+use Rattle.update_step.proofs.Parts.{flat-at}
 use Rattle.update_step.proofs.gathering.gather_members.Goals as goal
 
 pub loop-member-preserved : goal.loop-member-preserved
@@ -13,5 +15,14 @@ loop-member-preserved g c =
           (c.loop-member.invariant.gathers under maps held) (c.in_ok-gather_member.ensures.gathers under maps (c.loop-member.invariant.holds under maps held));
       holds = search rules;
       looked = search rules;
+      within = λ under maps held may all before. c.gather_member.ensures.within under maps (c.loop-member.invariant.holds under maps held) may
+          (flat-at (MayAsk may) (member_asks (known_on maps)) c.args.members.now c.loop-member.member-index c.member-item.result c.member-item.result all c.loop-member-test.true c.member-item.is)
+          (c.loop-member.invariant.within under maps held may all before);
       spent = search rules;
     }
+
+pub returns-in_err-gather_member-clause-within : goal.returns-in_err-gather_member-clause-within
+returns-in_err-gather_member-clause-within g c under maps held may all before =
+    c.gather_member.ensures.within under maps (c.loop-member.invariant.holds under maps held) may
+    (flat-at (MayAsk may) (member_asks (known_on maps)) c.args.members.now c.loop-member.member-index c.member-item.result c.member-item.result all c.loop-member-test.true c.member-item.is)
+    (c.loop-member.invariant.within under maps held may all before)

@@ -2,6 +2,8 @@ use Rattle.std.proofs.Common.{rules, ℕ, List, get_or, refl}
 use Rattle.store_maps.specs.Named.{known_on}
 use Rattle.update_step.specs.Gather.{AtNode, gathered_in}
 use Rattle.update_step.proofs.Asking.{one-more-gathers}
+use Rattle.update_step.specs.Touch.{MayAsk}
+use Rattle.update_step.proofs.Parts.{map-at}
 use Rattle.update_step.proofs.gathering.gather_places.Goals as goal
 
 pub loop-id-preserved : goal.loop-id-preserved
@@ -14,5 +16,11 @@ loop-id-preserved g c =
           (c.loop-id.invariant.gathers under maps held) (c.in_ok-gather_place.ensures.gathers under maps (c.loop-id.invariant.holds under maps held));
       holds = search rules;
       looked = search rules;
+      within = λ may all before. c.gather_place.ensures.within may
+          (map-at (MayAsk may) AtNode c.args.ids.now c.loop-id.id-index (get_or c.args.ids.now c.loop-id.id-index 0) 0 all c.loop-id-test.true refl) (c.loop-id.invariant.within may all before);
       spent = search rules;
     }
+
+pub returns-in_err-gather_place-clause-within : goal.returns-in_err-gather_place-clause-within
+returns-in_err-gather_place-clause-within g c may all before =
+    c.gather_place.ensures.within may (map-at (MayAsk may) AtNode c.args.ids.now c.loop-id.id-index (get_or c.args.ids.now c.loop-id.id-index 0) 0 all c.loop-id-test.true refl) (c.loop-id.invariant.within may all before)

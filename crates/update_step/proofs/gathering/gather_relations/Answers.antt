@@ -3,6 +3,8 @@ use Rattle.osm_base.specs.values.Key.{relation_key}
 use Rattle.store_maps.specs.Named.{known_on}
 use Rattle.update_step.specs.Gather.{OfKey, gathered_in}
 use Rattle.update_step.proofs.Asking.{one-more-gathers}
+use Rattle.update_step.specs.Touch.{MayAsk}
+use Rattle.update_step.proofs.Parts.{map-at}
 use Rattle.update_step.proofs.gathering.gather_relations.Goals as goal
 
 pub loop-id-preserved : goal.loop-id-preserved
@@ -15,5 +17,13 @@ loop-id-preserved g c =
           (c.loop-id.invariant.gathers under maps held) (c.in_ok-gather_relation.ensures.gathers under maps (c.loop-id.invariant.holds under maps held));
       holds = search rules;
       looked = search rules;
+      within = λ may all before. c.gather_relation.ensures.within may
+          (map-at (MayAsk may) (λ id. OfKey (relation_key id)) ids at (get_or ids at 0) 0 all c.loop-id-test.true refl) (c.loop-id.invariant.within may all before);
       spent = search rules;
     }
+
+pub returns-in_err-gather_relation-clause-within : goal.returns-in_err-gather_relation-clause-within
+returns-in_err-gather_relation-clause-within g c may all before =
+    let ids : List ℕ = c.args.ids.now in
+    let at : ℕ = c.loop-id.id-index in
+    c.gather_relation.ensures.within may (map-at (MayAsk may) (λ id. OfKey (relation_key id)) ids at (get_or ids at 0) 0 all c.loop-id-test.true refl) (c.loop-id.invariant.within may all before)

@@ -1,14 +1,20 @@
-use Rattle.std.proofs.Common.{◌≡◌, ℕ, false, sym, subst}
-use Rattle.osm_base.specs.map.Known.{Index}
+use Rattle.std.proofs.Common.{◌≡◌, ℕ, false, List, sym, subst, ◌∙◌}
+use Rattle.std.specs.List.{AllByRecursion}
+use Rattle.osm_base.specs.declared.values.object.Entry.{Entry}
+use Rattle.osm_base.specs.map.Known.{Index, Question}
 use Rattle.osm_base.specs.map.Listers.{index_of}
 use Rattle.osm_base.specs.map.Objects.{ObjectSet, folded_all}
 use Rattle.row_map.specs.Condition.{reaches_nodes}
 use Rattle.dep_closure.specs.PendingSet.{AreTooMany, HasOldForms, IsPendingOf, OfKnown}
+use Rattle.dep_closure.specs.Questions.{of_all}
+use Rattle.store_maps.specs.Asked.{MayAnswer}
 use Rattle.store_maps.specs.Maps.{Maps}
 use Rattle.store_maps.specs.Stands.{StandsOn}
 use Rattle.store_maps.proofs.IndexLaws.{index_is}
 use Rattle.update_step.specs.Ends.{Ends}
 use Rattle.update_step.proofs.Endings.{pending-ends}
+use Rattle.update_step.proofs.Parts.{all-front}
+use Rattle.update_step.proofs.Touching.{may-answer}
 use Rattle.update_step.proofs.pending_keys.keys_due.Goals as goal
 
 pub returns-in-Ok-clause-pending : goal.returns-in-Ok-clause-pending
@@ -38,3 +44,29 @@ returns-in-Err-clause-ends g c =
     let knows : g.S.Back.knows old (index_of after) = subst (λ (index : Index). g.S.Back.knows old index) (index_is (reaches_nodes style) maps after on) (g.met.S.MapStore.tells old under maps held) in
     record { set = most.set; pending = most.pending objects forms knows; number = most.number; over = most.over })
     c.in-Err.ensures.stopped c.in-Err.ensures.unspent)
+
+pub returns-in-Ok-clause-within : goal.returns-in-Ok-clause-within
+returns-in-Ok-clause-within g c under maps objects held on may touched before =
+    let old = c.args.store.now in
+    let new = c.pending.new.back in
+    let style = c.args.style.now in
+    let change : List Entry = c.args.change.now in
+    let after : ObjectSet = folded_all objects change in
+    let knows : g.S.Back.knows old (index_of after) = subst (λ (index : Index). g.S.Back.knows old index) (index_is (reaches_nodes style) maps after on) (g.met.S.MapStore.tells old under maps held) in
+    let asked = c.in-Ok.ensures.asked in
+    g.met.S.MapStore.asked_within old new (of_all change asked.0) asked.2 under maps held may
+    (may-answer style objects change may touched maps on asked.0 (λ way there. sym (asked.1.due (index_of after) knows way) ∙ there)) before
+
+pub returns-in-Err-clause-within : goal.returns-in-Err-clause-within
+returns-in-Err-clause-within g c under maps objects held on may touched before =
+    let old = c.args.store.now in
+    let new = c.pending.new.back in
+    let style = c.args.style.now in
+    let change : List Entry = c.args.change.now in
+    let after : ObjectSet = folded_all objects change in
+    let knows : g.S.Back.knows old (index_of after) = subst (λ (index : Index). g.S.Back.knows old index) (index_is (reaches_nodes style) maps after on) (g.met.S.MapStore.tells old under maps held) in
+    let asked = c.in-Err.ensures.asked_some in
+    let some = asked.2 in
+    g.met.S.MapStore.asked_within old new some.0 some.3 under maps held may
+    (all-front (MayAnswer may maps) some.0 some.1 (subst (λ (questions : List Question). AllByRecursion (MayAnswer may maps) questions) some.2
+    (may-answer style objects change may touched maps on asked.0 (λ way there. asked.1 (index_of after) knows way there)))) before

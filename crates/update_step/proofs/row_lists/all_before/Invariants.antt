@@ -1,5 +1,7 @@
 use Rattle.std.proofs.Common.{◌≡◌, false, length, map, take}
+use Rattle.store_maps.specs.Asked.{May}
 use Rattle.store_maps.specs.Maps.{Maps, all_kept}
+use Rattle.update_step.specs.Touch.{MayAllRows}
 use Rattle.update_step.proofs.row_lists.all_before.Given as goal
 
 -- the rows of the keys so far
@@ -9,5 +11,6 @@ invariant-loop-key g l = record {
   count : length l.all ≡ l.key-index;
   holds : (under : g.S.MapStore.Under) (maps : Maps) → g.S.MapStore.holds l.initial.store under maps → g.S.MapStore.holds l.store under maps;
   looked : (first : g.row.S.Denot) → g.S.MapStore.looked first l.initial.store → g.S.MapStore.looked first l.store;
+  within : (may : May) → MayAllRows may l.keys → g.S.MapStore.within may l.initial.store → g.S.MapStore.within may l.store;
   spent : g.S.Back.spent l.store ≡ false;
 }

@@ -3,6 +3,7 @@ use Rattle.osm_base.specs.declared.values.row.TableRow.{TableRow}
 use Rattle.osm_base.specs.values.Key.{KeyOf}
 use Rattle.style_read.specs.Style.{StyleOf}
 use Rattle.store_maps.specs.Append.{MayKeep, set_all_rows}
+use Rattle.store_maps.specs.Asked.{MayRows}
 use Rattle.store_maps.specs.Maps.{Maps, set_rows}
 use Rattle.update_step.proofs.KeyedLists.{all_at, fold-more, rows_there}
 use Rattle.update_step.proofs.row_lists.put_rows.Goals as goal
@@ -28,6 +29,8 @@ loop-index-preserved g c =
           subst (g.S.MapStore.holds c.set_rows.new.self under) (ap (set_rows before key.kind key.id) rows_are
           ∙ sym (fold-more (λ (own : Maps) (other : KeyOf). set_rows own other.kind other.id (new other)) maps keys c.loop-index.index key c.loop-index-test.true c.index-keys-index.is)) step;
       looked = search rules;
+      within = λ may all before. c.set_rows.ensures.within may (all_at (MayRows may) c.args.keys.now c.loop-index.index c.index-keys-index.result c.index-keys-index.result all c.loop-index-test.true c.index-keys-index.is)
+          (c.loop-index.invariant.within may all before);
       spent = search rules;
     }
 
@@ -35,3 +38,8 @@ pub returns-in_err-set_rows-clause-allowed : goal.returns-in_err-set_rows-clause
 returns-in_err-set_rows-clause-allowed g c under maps new are held =
     let is = c.in_err-set_rows.ensures.allowed under (set_all_rows maps new (take c.loop-index.index c.args.keys.now)) (c.loop-index.invariant.holds under maps new are held) in
     search (rules, is)
+
+pub returns-in_err-set_rows-clause-within : goal.returns-in_err-set_rows-clause-within
+returns-in_err-set_rows-clause-within g c may all before =
+    c.set_rows.ensures.within may (all_at (MayRows may) c.args.keys.now c.loop-index.index c.index-keys-index.result c.index-keys-index.result all c.loop-index-test.true c.index-keys-index.is)
+    (c.loop-index.invariant.within may all before)

@@ -2,7 +2,9 @@ use Rattle.std.proofs.Common.{◌≡◌, false, List, map, take}
 use Rattle.osm_base.specs.declared.values.row.TableRow.{TableRow}
 use Rattle.osm_base.specs.values.Key.{KeyOf}
 use Rattle.store_maps.specs.Append.{set_all_rows}
+use Rattle.store_maps.specs.Asked.{May}
 use Rattle.store_maps.specs.Maps.{Maps}
+use Rattle.update_step.specs.Touch.{MayAllRows}
 use Rattle.update_step.proofs.row_lists.put_rows.Given as goal
 
 -- the keys so far have their rows
@@ -11,5 +13,6 @@ invariant-loop-index g l = record {
   holds : (under : g.S.MapStore.Under) (maps : Maps) (new : KeyOf → List TableRow) → l.rows ≡ map new l.keys → g.S.MapStore.holds l.initial.store under maps
       → g.S.MapStore.holds l.store under (set_all_rows maps new (take l.index l.keys));
   looked : (first : g.row.S.Denot) → g.S.MapStore.looked first l.initial.store → g.S.MapStore.looked first l.store;
+  within : (may : May) → MayAllRows may l.keys → g.S.MapStore.within may l.initial.store → g.S.MapStore.within may l.store;
   spent : g.S.Back.spent l.store ≡ false;
 }
