@@ -1,7 +1,8 @@
 -- Questions to an index over buckets, by what the calls below answer.
-use Rattle.std.proofs.Common.{◌≡◌, ◌≤◌, ℕ, Bool, true, false, ◌||◌, Option, Some, Ok, Err, refl, sym, subst, ◌∙◌, arith, nat_eq}
+use Rattle.std.proofs.Common.{◌≡◌, ◌≤◌, ℕ, Bool, true, false, ◌||◌, List, Option, Some, Ok, Err, refl, sym, subst, ◌∙◌, arith, nat_eq}
 use Rattle.std.proofs.lemmas.Bool.Decides.{nat_tests}
-use Rattle.osm_base.specs.map.Known.{Index}
+use Rattle.std.specs.List.{AllByRecursion}
+use Rattle.osm_base.specs.map.Known.{Index, Question}
 use Rattle.outside.specs.declared.disk.Disk.{Ghosts}
 use Rattle.page_journal.specs.Answers.{is_disk_fault}
 use Rattle.page_journal.specs.Journal.{is_broken}
@@ -13,9 +14,14 @@ use Rattle.bucket_store.specs.Image.{Has, Image}
 use Rattle.bucket_store.specs.Transaction.{chains_of, has_refused}
 use Rattle.bucket_store.specs.declared.buckets.Buckets.{Buckets}
 use Rattle.back_index.specs.Calls.{Answers}
+use Rattle.store_maps.specs.Asked.{May, MayAnswer}
+use Rattle.store_maps.specs.Maps.{Maps}
 use Rattle.back_index.specs.Index.{Asked, Bears, IsDamaged, Knows, is_spent}
+use Rattle.back_index.specs.Index.{HoldsIndex as IndexHeld}
+use Rattle.back_index.specs.Reads.{HasReadOnly}
 use Rattle.back_index.specs.Visits.{Refuses}
 use Rattle.back_index.proofs.Chained.{count_same}
+use Rattle.back_index.proofs.ReadKeys.{reads_refused}
 
 or_none : (b : Bool) → (b || false) ≡ b
 or_none true = refl
@@ -59,9 +65,10 @@ module _ {D : Type 0} {g : Ghosts D} where
     pub fresh_after : {T : Type 0} (value : T) → Answers old new (Ok value) → is_spent new ≡ false
     fresh_after value answers = still_fresh value answers
 
-    pub asked_ok : {T : Type 0} (value : T) (stopped : Option StoreFault) → Answers old new (Ok value) → ((rest now : Image) → Has rest now old → Has rest now new)
-        → Asked old stopped new stopped
-    asked_ok value stopped answers has = record {
+    pub asked_ok : {T : Type 0} (questions : List Question) (value : T) (stopped : Option StoreFault) → Answers old new (Ok value) → ((rest now : Image) → Has rest now old → Has rest now new)
+        → ((rest now : Image) → Has rest now old → (maps : Maps) → IndexHeld now maps → (may : May) → AllByRecursion (MayAnswer may maps) questions → HasReadOnly may old → HasReadOnly may new)
+        → Asked questions old stopped new stopped
+    asked_ok questions value stopped answers has within = record {
       stays = answers.stays;
       later = answers.cause.later;
       broken = λ is. absurd (clash (is_broken (journal_of (chains_of old))) is (spent_whole old fresh));
@@ -71,6 +78,7 @@ module _ {D : Type 0} {g : Ghosts D} where
       kept = λ is. refl;
       going = λ none. refl;
       why = λ going refused. absurd (clash (has_refused new) refused answers.refused);
+      within = within;
     }
 
     none_failed : (fault : StoreFault) → is_broken (journal_of (chains_of new)) ≡ (is_broken (journal_of (chains_of old)) || is_disk_fault fault)
@@ -80,10 +88,10 @@ module _ {D : Type 0} {g : Ghosts D} where
     the_same : (fault other : StoreFault) → Some fault ≡ Some other → fault ≡ other
     the_same fault other is = cc (is)
 
-    pub asked_err : {T : Type 0} (fault : StoreFault) (stopped : Option StoreFault) → Answers {T = T} old new (Err fault)
+    pub asked_err : {T : Type 0} (questions : List Question) (fault : StoreFault) (stopped : Option StoreFault) → Answers {T = T} old new (Err fault)
         → (is_disk_fault fault ≡ false → (rest now : Image) → Has rest now old → Has rest now new)
-        → ((rest now : Image) → Has rest now old → Refuses (IsDamaged old now) fault) → Asked old stopped new (Some fault)
-    asked_err fault stopped answers has stops = record {
+        → ((rest now : Image) → Has rest now old → Refuses (IsDamaged old now) fault) → Asked questions old stopped new (Some fault)
+    asked_err questions fault stopped answers has stops = record {
       stays = answers.stays;
       later = answers.cause.later;
       broken = λ is. absurd (clash (is_broken (journal_of (chains_of old))) is (spent_whole old fresh));
@@ -93,6 +101,7 @@ module _ {D : Type 0} {g : Ghosts D} where
       kept = λ is. absurd (clash (has_refused old) is (spent_going old fresh));
       going = λ none. absurd (clash (has_refused new) answers.refused none);
       why = λ going refused other is rest now owns. subst (λ f. Refuses (IsDamaged old now) f) (the_same fault other is) (stops rest now owns);
+      within = λ rest now owns maps index may all only. reads_refused may new answers.refused;
     }
 
     pub borne : {T : Type 0} (fault : StoreFault) → Answers {T = T} old new (Err fault) → Bears new (Some fault) (disk_of (chains_of old)).faults fault

@@ -4,6 +4,7 @@ pub mod Chained
 pub mod Held
 pub mod IdLaws
 pub mod ListLaws
+pub mod ReadKeys
 pub mod Reading
 pub mod Relists
 pub mod Turning

@@ -1,5 +1,7 @@
 -- Questions to the index of a store, one after another.
-use Rattle.std.proofs.Common.{◌≡◌, inl, inr, ◌≤◌, ℕ, Bool, true, false, Option, refl, sym, ◌∙◌, arith}
+use Rattle.std.proofs.Common.{◌≡◌, inl, inr, ◌≤◌, ℕ, Bool, true, false, List, [], ◌∷◌, ◌++◌, Option, refl, sym, ◌∙◌, arith}
+use Rattle.std.specs.List.{AllByRecursion}
+use Rattle.osm_base.specs.map.Known.{Question}
 use Rattle.outside.specs.Causes.{Rose}
 use Rattle.outside.specs.declared.disk.Disk.{Ghosts}
 use Rattle.page_journal.specs.Journal.{is_broken}
@@ -13,6 +15,7 @@ use Rattle.bucket_store.specs.Buckets.{chain_at}
 use Rattle.bucket_store.specs.Image.{Image}
 use Rattle.bucket_store.specs.Transaction.{chains_of, has_refused}
 use Rattle.bucket_store.specs.declared.buckets.Buckets.{Buckets}
+use Rattle.store_maps.specs.Asked.{MayAnswer}
 use Rattle.back_index.specs.Calls.{page_in}
 use Rattle.back_index.specs.Index.{Asked, Bears, IsDamaged}
 use Rattle.back_index.specs.Visits.{Refuses}
@@ -25,6 +28,14 @@ rose_later before later now le rose = omega (arith, le, rose)
 clash : (b : Bool) → b ≡ true → b ≡ false → ⊥
 clash true is none = absurd (cc)
 clash false is none = absurd (cc)
+
+all_front : {X : Type 0} (P : X → Type 0) (xs ys : List X) → AllByRecursion P (xs ++ ys) → AllByRecursion P xs
+all_front P [] ys all = tt
+all_front P (x ∷ xs) ys all = (all.0, all_front P xs ys all.1)
+
+all_back : {X : Type 0} (P : X → Type 0) (xs ys : List X) → AllByRecursion P (xs ++ ys) → AllByRecursion P ys
+all_back P [] ys all = all
+all_back P (x ∷ xs) ys all = all_back P xs ys all.1
 
 still : (old new : Bool) → (old ≡ true → new ≡ true) → new ≡ false → old ≡ false
 still true new later none = absurd (cc (later refl, none))
@@ -74,7 +85,7 @@ module _ {D : Type 0} {g : Ghosts D} where
   refuses_before old new now OutOfMemory stays refuses = tt
 
   -- no question, and questions one after another
-  pub asked_none : (buckets : Buckets D g) (stopped : Option StoreFault) → Asked buckets stopped buckets stopped
+  pub asked_none : (buckets : Buckets D g) (stopped : Option StoreFault) → Asked [] buckets stopped buckets stopped
   asked_none buckets stopped = record {
     stays = read_same (chains_of buckets);
     later = omega arith;
@@ -85,11 +96,12 @@ module _ {D : Type 0} {g : Ghosts D} where
     kept = λ is. refl;
     going = λ none. refl;
     why = λ going refused. absurd (clash (has_refused buckets) refused going);
+    within = λ rest now owns maps index may all only. only;
   }
 
-  pub asked_then : (first second third : Buckets D g) (one two three : Option StoreFault) → Asked first one second two → Asked second two third three
-      → Asked first one third three
-  asked_then first second third one two three once again =
+  pub asked_then : (before after : List Question) (first second third : Buckets D g) (one two three : Option StoreFault) → Asked before first one second two → Asked after second two third three
+      → Asked (before ++ after) first one third three
+  asked_then before after first second third one two three once again =
       let whole_before : is_broken (journal_of (chains_of third)) ≡ false → is_broken (journal_of (chains_of second)) ≡ false = λ whole.
       still (is_broken (journal_of (chains_of second))) (is_broken (journal_of (chains_of third))) again.broken whole in
       let going_before : has_refused third ≡ false → has_refused second ≡ false = λ going. still (has_refused second) (has_refused third) again.refused going in
@@ -109,6 +121,14 @@ module _ {D : Type 0} {g : Ghosts D} where
                   let mid = once.has_still (once.whole goes ∙ owns.whole) rest now owns in
                   refuses_before first second now fault once.stays (again.why goes refused fault is rest now mid)
             ] refl;
+        within = λ rest now owns maps index may all only.
+            let may_first = all_front (MayAnswer may maps) before after all in
+            let may_later = all_back (MayAnswer may maps) before after all in
+            record {
+              each = λ going.
+                  let mid = once.has_still (once.whole (going_before going) ∙ owns.whole) rest now owns in
+                  (again.within rest now mid maps index may may_later (once.within rest now owns maps index may may_first only)).each going;
+            };
       }
 
   pub bears_fewer : (buckets : Buckets D g) (stopped : Option StoreFault) (fewer more : ℕ) (fault : StoreFault) → fewer ≤ more → Bears buckets stopped more fault

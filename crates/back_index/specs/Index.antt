@@ -4,9 +4,10 @@
 -- then looked at for its nodes; relations are kept by each node and by each way.
 use Rattle.std.specs.Prelude.{◌≡◌, ◌≢◌, ◌⊎◌, ◌≤◌, ◌||◌, ℕ, Bool, true, false, nat_eq, List, ◌++◌, Option, None, Some}
 use Rattle.std.specs.FinMap as finite
+use Rattle.std.specs.List.{AllByRecursion}
 use Rattle.osm_base.specs.declared.values.key.Kind.TheVariants as kinds
 use Rattle.osm_base.specs.declared.values.object.Object.{Object}
-use Rattle.osm_base.specs.map.Known.{Index}
+use Rattle.osm_base.specs.map.Known.{Index, Question}
 use Rattle.osm_base.specs.map.Listers.{listed}
 use Rattle.osm_base.specs.values.Ids.{has}
 use Rattle.osm_base.specs.values.Key.{KeyOf}
@@ -25,11 +26,13 @@ use Rattle.value_bytes.specs.Lists.{list_bytes, IsList}
 use Rattle.value_bytes.specs.Maps.{HoldsMap}
 use Rattle.value_bytes.specs.Numbers.{number_bytes, IsNumber}
 use Rattle.middle_objs.specs.Object.{object_bytes, IsStored}
+use Rattle.store_maps.specs.Asked.{May, MayAnswer}
 use Rattle.store_maps.specs.Maps.{Maps}
 use Rattle.store_maps.specs.Named.{index_on}
 use Rattle.store_maps.specs.Turns.{blocks_in, ids_for}
 use Rattle.back_index.specs.Calls.{page_in}
 use Rattle.back_index.specs.Ids.{ids_bytes, AreListed}
+use Rattle.back_index.specs.Reads.{HasReadOnly}
 use Rattle.back_index.specs.Relisting.{IsUnread, ReadsIds, Turns}
 use Rattle.back_index.specs.Visits.{Refuses, visits}
 use Rattle.back_index.specs.declared.visit.TheConstants.{WAYS, WAYS_OF_BLOCKS, RELATIONS_OF_NODES, RELATIONS_OF_WAYS}
@@ -130,9 +133,10 @@ Causes buckets count _ = ⊥
 abbrev pub Bears : {D : Type 0} {g : Ghosts D} → Buckets D g → Option StoreFault → ℕ → StoreFault → Type 0
 Bears buckets stopped count fault = (stopped ≡ Some fault) × Causes buckets count fault
 
--- questions were asked: the store was only read, and but for a disk fault the transaction has what it had. The first that is
+-- these questions were asked: the store was only read, and but for a disk fault the transaction has what it had. The first that is
 -- refused is the last, and a store that means something refuses it for the disk, for want of memory, or for damage.
-pub record Asked {D : Type 0} {g : Ghosts D} (old : Buckets D g) (was : Option StoreFault) (new : Buckets D g) (stopped : Option StoreFault) : Type 0 where
+-- Of the index no more was read than answers them.
+pub record Asked {D : Type 0} {g : Ghosts D} (questions : List Question) (old : Buckets D g) (was : Option StoreFault) (new : Buckets D g) (stopped : Option StoreFault) : Type 0 where
   pub stays : OnlyRead (chains_of old) (chains_of new)
   pub later : (disk_of (chains_of old)).faults ≤ (disk_of (chains_of new)).faults
   pub broken : is_broken (journal_of (chains_of old)) ≡ true → is_broken (journal_of (chains_of new)) ≡ true
@@ -143,3 +147,5 @@ pub record Asked {D : Type 0} {g : Ghosts D} (old : Buckets D g) (was : Option S
   pub going : has_refused new ≡ false → stopped ≡ was
   pub why : has_refused old ≡ false → has_refused new ≡ true → (fault : StoreFault) → stopped ≡ Some fault → (rest now : Image) → Has rest now old
       → Refuses (IsDamaged old now) fault
+  pub within : (rest now : Image) → Has rest now old → (maps : Maps) → HoldsIndex now maps → (may : May) → AllByRecursion (MayAnswer may maps) questions
+      → HasReadOnly may old → HasReadOnly may new

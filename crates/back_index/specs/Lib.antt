@@ -2,5 +2,6 @@ pub mod Asking
 pub mod Calls
 pub mod Ids
 pub mod Index
+pub mod Reads
 pub mod Relisting
 pub mod Visits

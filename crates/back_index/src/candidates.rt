@@ -1,18 +1,21 @@
 //! The ways of a block, looked at for a node.
-ghost use Rattle.std.specs.Prelude.{◌≡◌, ◌⊎◌, ◌≤◌, ◌<◌, ℕ, false, List, [], ◌∷◌, ◌++◌, if◌then◌else◌, IfOk, IfErr, IsSome, OnOk};
+ghost use Rattle.std.specs.Prelude.{◌≡◌, ◌⊎◌, ◌≤◌, ◌<◌, ℕ, true, false, List, [], ◌∷◌, ◌++◌, if◌then◌else◌, IfOk, IfErr, IsSome, OnOk};
 ghost use Rattle.std.specs.List.{AllByRecursion, filter};
 ghost use Rattle.std.specs.FinMap as finite;
+ghost use Rattle.osm_base.specs.map.Known.{WaysOfNode};
 ghost use Rattle.osm_base.specs.values.Ids.{AreRisingIds, has};
 ghost use Rattle.osm_base.specs.values.Key.{IsId};
 ghost use Rattle.page_journal.specs.Answers.{answers_disk_fault};
 ghost use Rattle.bucket_store.specs.Buckets.{bucket_count, chain_at};
 ghost use Rattle.bucket_store.specs.Image.{Has, Image};
 ghost use Rattle.bucket_store.specs.Transaction.{cached_of, chains_of, has_refused};
+ghost use Rattle.store_maps.specs.Asked.{May, MayAnswer, MayEach};
 ghost use Rattle.store_maps.specs.Maps.{Maps};
 ghost use Rattle.store_maps.specs.Named.{index_on, list_it};
 ghost use Rattle.value_bytes.specs.Forms.{NeedsFor};
 ghost use Rattle.back_index.specs.Calls.{Answers};
 ghost use Rattle.back_index.specs.Index.{HasNodeless, HasNodes, HasUnread, HoldsIndex, HoldsWays, IsNodeless};
+ghost use Rattle.back_index.specs.Reads.{HasReadOnly};
 ghost use Rattle.back_index.specs.Visits.{Refuses, StopsAt};
 
 use crate::lists::{listers, refused};
@@ -42,6 +45,8 @@ pub fn ways_of_node<D: Disk>(
     ensures has { answers_disk_fault result ≡ false → (rest now : Image) → Has rest now buckets.old → Has rest now buckets.new }
     ensures stops { (rest now : Image) → Has rest now buckets.old
         → IfErr result (Refuses (λ at. HasUnread buckets.old now at ⊎ HasNodeless buckets.old now at)) }
+    ensures within { (rest now : Image) → Has rest now buckets.old → (maps : Maps) → HoldsIndex now maps
+        → (may : May) → MayAnswer may maps (WaysOfNode id) → HasReadOnly may buckets.old → HasReadOnly may buckets.new }
     ensures answers { Answers buckets.old buckets.new result }
 {
     let block = id / BLOCK;
@@ -71,6 +76,7 @@ fn ways_with<D: Disk>(
     ensures has { answers_disk_fault result ≡ false → (rest now : Image) → Has rest now buckets.old → Has rest now buckets.new }
     ensures stops { (rest now : Image) → Has rest now buckets.old
         → IfErr result (Refuses (StopsAt (λ way. (nodes : List ℕ) × HasNodes (finite.get (now.maps WAYS) way) nodes) (λ _. page) ways.now)) }
+    ensures within { (may : May) → MayEach may WAYS ways.now → HasReadOnly may buckets.old → HasReadOnly may buckets.new }
     ensures answers { Answers buckets.old buckets.new result }
 {
     let mut found = Vec::new(alloc);
@@ -100,6 +106,7 @@ fn add_way<D: Disk>(
     ensures has { answers_disk_fault result ≡ false → (rest now : Image) → Has rest now buckets.old → Has rest now buckets.new }
     ensures stops { (rest now : Image) → Has rest now buckets.old
         → IfErr result (Refuses (λ at. (¬ ((nodes : List ℕ) × HasNodes (finite.get (now.maps WAYS) way) nodes)) × (at ≡ page))) }
+    ensures within { (may : May) → may WAYS way ≡ true → HasReadOnly may buckets.old → HasReadOnly may buckets.new }
     ensures answers { Answers buckets.old buckets.new result }
 {
     let nodes = match nodes_of(alloc, buckets, way, page) {
@@ -128,6 +135,7 @@ fn nodes_of<D: Disk>(
     ensures has { answers_disk_fault result ≡ false → (rest now : Image) → Has rest now buckets.old → Has rest now buckets.new }
     ensures stops { (rest now : Image) → Has rest now buckets.old
         → IfErr result (Refuses (λ at. (¬ ((nodes : List ℕ) × HasNodes (finite.get (now.maps WAYS) way) nodes)) × (at ≡ page))) }
+    ensures within { (may : May) → may WAYS way ≡ true → HasReadOnly may buckets.old → HasReadOnly may buckets.new }
     ensures answers { Answers buckets.old buckets.new result }
 {
     if let Err(fault) = buckets.bring(WAYS, way) {

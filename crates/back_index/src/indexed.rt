@@ -60,7 +60,7 @@ impl<D: Disk> Back for Indexed<'_, D> {
 
     ghost bears = { λ indexed count refusal. Bears indexed.buckets indexed.stopped count refusal };
 
-    ghost asks = { λ old questions new. Asked old.buckets old.stopped new.buckets new.stopped };
+    ghost asks = { λ old questions new. Asked questions old.buckets old.stopped new.buckets new.stopped };
 
     fn ways_of_node(&mut self, id: u64) -> Result<Ids, StoreFault> {
         match ways_of_node(self.alloc, &mut self.buckets, id) {
@@ -96,5 +96,5 @@ impl<D: Disk> Back for Indexed<'_, D> {
 
     ghost asks_none = { λ indexed. asked_none indexed.buckets indexed.stopped };
 
-    ghost asks_then = { λ first second third before after once again. asked_then first.buckets second.buckets third.buckets first.stopped second.stopped third.stopped once again };
+    ghost asks_then = { λ first second third before after once again. asked_then before after first.buckets second.buckets third.buckets first.stopped second.stopped third.stopped once again };
 }

@@ -1,5 +1,5 @@
 //! One list of the index in a store.
-ghost use Rattle.std.specs.Prelude.{◌≡◌, ◌≤◌, ◌<◌, ℕ, false, IfOk, IfErr, IsSome, OnOk};
+ghost use Rattle.std.specs.Prelude.{◌≡◌, ◌≤◌, ◌<◌, ℕ, true, false, IfOk, IfErr, IsSome, OnOk};
 ghost use Rattle.std.specs.FinMap as map;
 ghost use Rattle.osm_base.specs.values.Ids.{AreRisingIds};
 ghost use Rattle.page_journal.specs.Answers.{answers_disk_fault};
@@ -7,8 +7,10 @@ ghost use Rattle.chain_store.specs.Chains.{first_of};
 ghost use Rattle.bucket_store.specs.Buckets.{bucket_count, chain_at};
 ghost use Rattle.bucket_store.specs.Image.{Has, Image, with_value};
 ghost use Rattle.bucket_store.specs.Transaction.{cached_of, chains_of, has_refused};
+ghost use Rattle.store_maps.specs.Asked.{May};
 ghost use Rattle.value_bytes.specs.Forms.{NeedsFor};
 ghost use Rattle.back_index.specs.Calls.{Answers, Marks, page_in, refusal_of};
+ghost use Rattle.back_index.specs.Reads.{HasReadOnly};
 ghost use Rattle.back_index.specs.Relisting.{IsUnread, ReadsIds, kept_list};
 ghost use Rattle.back_index.specs.Visits.{Refuses};
 
@@ -35,6 +37,7 @@ pub fn listers<D: Disk>(
     ensures has { answers_disk_fault result ≡ false → (rest now : Image) → Has rest now buckets.old → Has rest now buckets.new }
     ensures stops { (rest now : Image) → Has rest now buckets.old
         → IfErr result (Refuses (λ at. IsUnread (map.get (now.maps which) id) × (at ≡ page_in buckets.old which id))) }
+    ensures within { (may : May) → may which id ≡ true → HasReadOnly may buckets.old → HasReadOnly may buckets.new }
     ensures answers { Answers buckets.old buckets.new result }
 {
     if let Err(fault) = buckets.bring(which, id) {
@@ -82,6 +85,7 @@ pub fn keep_list<D: Disk>(
     requires going { has_refused buckets.old ≡ false }
     ensures keeps { OnOk result ((rest now : Image) → Has rest now buckets.old → Has rest (with_value which id (kept_list ids.now) now) buckets.new) }
     ensures stops { (rest now : Image) → Has rest now buckets.old → IfErr result (Refuses (λ _. ⊥)) }
+    ensures within { (may : May) → may which id ≡ true → HasReadOnly may buckets.old → HasReadOnly may buckets.new }
     ensures answers { Answers buckets.old buckets.new result }
 {
     if ids.is_empty() {

@@ -1,5 +1,5 @@
 //! The index of a store, where an object comes, goes or changes.
-ghost use Rattle.std.specs.Prelude.{◌≡◌, ◌≤◌, ◌<◌, ◌++◌, ℕ, List, false, map, if◌then◌else◌, IfErr, IfOk, OnOk};
+ghost use Rattle.std.specs.Prelude.{◌≡◌, ◌≤◌, ◌<◌, ◌++◌, ℕ, List, true, false, map, if◌then◌else◌, IfErr, IfOk, OnOk};
 ghost use Rattle.std.specs.FinMap as finite;
 ghost use Rattle.osm_base.specs.values.Ids.{IsRising, has};
 ghost use Rattle.osm_base.specs.values.Key.{IsId};
@@ -9,8 +9,10 @@ ghost use Rattle.bucket_store.specs.Transaction.{chains_of, has_refused};
 ghost use Rattle.back_index.specs.Calls.{Answers, page_at};
 ghost use Rattle.back_index.specs.Index.{Relists, all_visits};
 ghost use Rattle.osm_base.specs.map.Listers.{listed};
+ghost use Rattle.store_maps.specs.Asked.{May, MayEach, MayList};
 ghost use Rattle.store_maps.specs.Step.{with_id, without_id};
 ghost use Rattle.store_maps.specs.Turns.{blocks_in, listed_by};
+ghost use Rattle.back_index.specs.Reads.{HasReadOnly};
 ghost use Rattle.back_index.specs.Relisting.{CanTurn, Turns, TurnsAt, in_order, kept_list, turned};
 ghost use Rattle.back_index.specs.Visits.{IsFine, OnlyMap, Refuses, Sets, StopsAt, visit_of, visits};
 
@@ -41,6 +43,7 @@ pub fn relist<D: Disk>(
         → (after : Image) × Has rest after buckets.new × Relists key old.now new.now now after) }
     ensures stops { (rest now : Image) → Has rest now buckets.old
         → IfErr result (Refuses (StopsAt (IsFine now key.id) (page_at buckets.old) (all_visits key old.now new.now))) }
+    ensures within { (may : May) → MayList may key old.now → MayList may key new.now → HasReadOnly may buckets.old → HasReadOnly may buckets.new }
     ensures answers { Answers buckets.old buckets.new result }
 {
     match key.kind {
@@ -88,6 +91,8 @@ fn relist_blocks<D: Disk>(
         × Turns own (listed_by blocks_in old.now) (listed_by blocks_in new.now) (now.maps WAYS_OF_BLOCKS) (after.maps WAYS_OF_BLOCKS)) }
     ensures stops { (rest now : Image) → Has rest now buckets.old → IfErr result (Refuses (StopsAt (IsFine now own) (page_at buckets.old)
         (visits WAYS_OF_BLOCKS (listed_by blocks_in old.now) (listed_by blocks_in new.now)))) }
+    ensures within { (may : May) → MayEach may WAYS_OF_BLOCKS (listed_by blocks_in old.now) → MayEach may WAYS_OF_BLOCKS (listed_by blocks_in new.now)
+        → HasReadOnly may buckets.old → HasReadOnly may buckets.new }
     ensures answers { Answers buckets.old buckets.new result }
 {
     let olds = match rising_blocks(alloc, old) {
@@ -120,6 +125,8 @@ fn relist_members<D: Disk>(
         × Turns own (listed_by (listed kind) old.now) (listed_by (listed kind) new.now) (now.maps which) (after.maps which)) }
     ensures stops { (rest now : Image) → Has rest now buckets.old → IfErr result (Refuses (StopsAt (IsFine now own) (page_at buckets.old)
         (visits which (listed_by (listed kind) old.now) (listed_by (listed kind) new.now)))) }
+    ensures within { (may : May) → MayEach may which (listed_by (listed kind) old.now) → MayEach may which (listed_by (listed kind) new.now)
+        → HasReadOnly may buckets.old → HasReadOnly may buckets.new }
     ensures answers { Answers buckets.old buckets.new result }
 {
     let olds = match rising_listed(alloc, old, kind) {
@@ -150,6 +157,7 @@ fn relist_map<D: Disk>(
         × OnlyMap which now after × Turns own old.now new.now (now.maps which) (after.maps which)) }
     ensures stops { (rest now : Image) → Has rest now buckets.old
         → IfErr result (Refuses (StopsAt (IsFine now own) (page_at buckets.old) (visits which old.now new.now))) }
+    ensures within { (may : May) → MayEach may which old.now → MayEach may which new.now → HasReadOnly may buckets.old → HasReadOnly may buckets.new }
     ensures answers { Answers buckets.old buckets.new result }
 {
     match both(alloc, old, new) {
@@ -187,6 +195,7 @@ fn turn_all<D: Disk>(
         × OnlyMap which now after × TurnsAt own old.now new.now ids.now (now.maps which) (after.maps which)) }
     ensures stops { (rest now : Image) → Has rest now buckets.old
         → IfErr result (Refuses (StopsAt (IsFine now own) (page_at buckets.old) (map (visit_of which old.now new.now) ids.now))) }
+    ensures within { (may : May) → MayEach may which ids.now → HasReadOnly may buckets.old → HasReadOnly may buckets.new }
     ensures answers { Answers buckets.old buckets.new result }
 {
     for &id in ids {
@@ -219,6 +228,7 @@ fn turn_list<D: Disk>(
         × Sets visit.which visit.id (kept_list (turned visit.was visit.is own ids)) now after) }
     ensures stops { (rest now : Image) → Has rest now buckets.old
         → IfErr result (Refuses (λ at. (¬ IsFine now own visit) × (at ≡ page_at buckets.old visit))) }
+    ensures within { (may : May) → may visit.which visit.id ≡ true → HasReadOnly may buckets.old → HasReadOnly may buckets.new }
     ensures answers { Answers buckets.old buckets.new result }
 {
     let ids = match listers(alloc, buckets, visit.which, visit.id) {

@@ -1,11 +1,12 @@
 -- The bucket is brought, and then the front of the way is read.
-use Rattle.std.proofs.Common.{◌≡◌, Err, ℕ, List, sym, subst, refl}
+use Rattle.std.proofs.Common.{◌≡◌, Err, ℕ, List, sym, subst, refl, Ok}
 use Rattle.std.specs.FinMap as map
 use Rattle.back_index.specs.Index.{HasNodes}
 use Rattle.back_index.specs.Visits.{Refuses}
 use Rattle.back_index.specs.declared.visit.TheConstants.{WAYS}
 use Rattle.back_index.proofs.Chained.{has_read, sound_refuses}
 use Rattle.back_index.proofs.Reading.{needs_refuses, nodeless_not}
+use Rattle.back_index.proofs.ReadKeys.{reads_key, reads_refused}
 use Rattle.back_index.proofs.candidates.nodes_of.Goals as goal
 
 pub returns-in-Err-clause-has : goal.returns-in-Err-clause-has
@@ -26,3 +27,15 @@ returns-in-Err-read_nodes-clause-stops g c rest now owns =
     subst (Refuses bad) (sym c.refused.ensures.fault)
     (needs_refuses bad _ c.in-Err-read_nodes.fault c.args.page c.in-Err-read_nodes.ensures.refused
     (λ none. ((λ nodes. nodeless_not found nodes.0 (none rest now (c.in_default.ensures.has rest now owns)) nodes.1), refl)))
+
+pub returns-in-Err-clause-within : goal.returns-in-Err-clause-within
+returns-in-Err-clause-within g c may allowed only =
+    reads_refused may c.bring.new.self c.in-Err.ensures.refused
+
+pub returns-in-Ok-clause-within : goal.returns-in-Ok-clause-within
+returns-in-Ok-clause-within g c may allowed only =
+    reads_key may c.args.buckets.now c.bring.new.self WAYS c.args.way c.requires.going allowed c.in_default.ensures.stays {T = Unit {0}} (Ok tt) c.in_default.ensures.reads c.in_default.ensures.refused only
+
+pub returns-in-Err-read_nodes-clause-within : goal.returns-in-Err-read_nodes-clause-within
+returns-in-Err-read_nodes-clause-within g c may allowed only =
+    reads_refused may c.refused.new.buckets c.refused.ensures.marks.refused

@@ -16,6 +16,8 @@ use Rattle.back_index.proofs.Chained.{page_same}
 use Rattle.back_index.proofs.Held.{reads_one}
 use Rattle.back_index.proofs.Reading.{if_ok, refuses_more, refuses_result}
 use Rattle.back_index.proofs.WayLaws.{has_part}
+use Rattle.store_maps.specs.Asked.{MayEach}
+use Rattle.object_fold.specs.Listing.{listers}
 use Rattle.back_index.proofs.candidates.ways_of_node.Goals as goal
 
 pub returns-in-Err-clause-stops : goal.returns-in-Err-clause-stops
@@ -58,3 +60,14 @@ returns-clause-stops g c rest now owns =
       none = stops.bad;
       page_is = stops.page_is ∙ c.page_of-page.ensures ∙ page_same old c.listers.new.buckets WAYS_OF_BLOCKS block c.in-Ok.ensures.answers.stays;
     })) (c.ways_with.ensures.stops rest now (c.in-Ok.ensures.has refl rest now owns))
+
+pub returns-in-Err-clause-within : goal.returns-in-Err-clause-within
+returns-in-Err-clause-within g c rest now owns maps index may allowed only =
+    c.in-Err.ensures.within may allowed.0 only
+
+pub returns-clause-within : goal.returns-clause-within
+returns-clause-within g c rest now owns maps index may allowed only =
+    let block = c.args.id / BLOCK in
+    let ways : c.as_slice.result.now ≡ listers maps.ways_of_blocks block = c.as_slice.ensures.items ∙ reads_one (finite.get (now.maps WAYS_OF_BLOCKS) block) c.in-Ok.ways (finite.get maps.ways_of_blocks block)
+    (c.in-Ok.ensures.ids rest now owns) (index.ways_of_blocks block) in
+    c.ways_with.ensures.within may (subst (MayEach may WAYS) (sym ways) allowed.1) (c.in-Ok.ensures.within may allowed.0 only)

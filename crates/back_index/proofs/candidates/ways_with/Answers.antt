@@ -1,5 +1,5 @@
 -- One way after another is looked at.
-use Rattle.std.proofs.Common.{◌≡◌, ◌≤◌, ◌<◌, ◌++◌, ◌∷◌, [], ◌∙◌, ℕ, List, Ok, length, take, get_or, if◌then◌else◌, sym, ap, subst, refl}
+use Rattle.std.proofs.Common.{◌≡◌, ◌≤◌, ◌<◌, ◌++◌, ◌∷◌, [], ◌∙◌, ℕ, List, Ok, true, length, take, get_or, if◌then◌else◌, sym, ap, subst, refl}
 use Rattle.std.specs.List.{AllByRecursion, filter}
 use Rattle.std.specs.FinMap as finite
 use Rattle.std.specs.Ordering.{nat_cmp}
@@ -47,6 +47,7 @@ loop-way-preserved g c =
       answers = answers_then c.args.buckets.now c.loop-way.buckets c.add_way.new.buckets tt (Ok tt) inv.answers did.answers;
       has_still = λ rest now owns. did.has refl rest now (inv.has_still rest now owns);
       ids = did.ids (at_place IsId ways k 0 within c.requires.rising.1) inv.ids;
+      within = λ may all only. did.within may (at_place (λ (id : ℕ). may WAYS id ≡ true) ways k 0 within all) (inv.within may all only);
       fine = λ rest now owns.
           let fine : ℕ → Type 0 = λ way. (nodes : List ℕ) × HasNodes (finite.get (now.maps WAYS) way) nodes in
           let found = did.found rest now (inv.has_still rest now owns) in
@@ -71,3 +72,7 @@ pub returns-clause-rising : goal.returns-clause-rising
 returns-clause-rising g c =
     subst AreRisingIds (sym c.into_ids.ensures.ids)
     (c.from_vec.ensures.rise, all_same IsId c.from_vec.result c.loop-way.found.items c.from_vec.ensures.same c.loop-way.invariant.ids)
+
+pub returns-in-Err-clause-within : goal.returns-in-Err-clause-within
+returns-in-Err-clause-within g c may all only =
+    c.in-Err.ensures.within may (at_place (λ (id : ℕ). may WAYS id ≡ true) c.args.ways.now c.loop-way.way-index 0 c.loop-way-test.true all) (c.loop-way.invariant.within may all only)

@@ -5,9 +5,11 @@ use Rattle.osm_base.specs.values.Key.{IsId}
 use Rattle.bucket_store.specs.Buckets.{bucket_count}
 use Rattle.bucket_store.specs.Image.{Has, Image}
 use Rattle.bucket_store.specs.Transaction.{chains_of, has_refused}
+use Rattle.store_maps.specs.Asked.{May, MayEach}
 use Rattle.store_maps.specs.Maps.{Maps}
 use Rattle.store_maps.specs.Named.{list_it}
 use Rattle.back_index.specs.Index.{HasNodes, HoldsWays}
+use Rattle.back_index.specs.Reads.{HasReadOnly}
 use Rattle.back_index.specs.declared.visit.TheConstants.{WAYS}
 use Rattle.back_index.proofs.Chained.{StillAnswers}
 use Rattle.back_index.proofs.candidates.ways_with.Given as goal
@@ -20,6 +22,7 @@ invariant-loop-way g l = record {
   answers : StillAnswers l.initial.buckets l.buckets;
   has_still : (rest now : Image) → Has rest now l.initial.buckets → Has rest now l.buckets;
   ids : AllByRecursion IsId l.found.items;
+  within : (may : May) → MayEach may WAYS l.ways → HasReadOnly may l.initial.buckets → HasReadOnly may l.buckets;
   fine : (rest now : Image) → Has rest now l.initial.buckets
       → AllByRecursion (λ way. (nodes : List ℕ) × HasNodes (finite.get (now.maps WAYS) way) nodes) (take l.way-index l.ways);
   filtered : (rest now : Image) → Has rest now l.initial.buckets → (maps : Maps) → HoldsWays now maps

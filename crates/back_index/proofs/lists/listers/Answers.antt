@@ -1,11 +1,12 @@
 -- The bucket is brought, and then the list is read.
-use Rattle.std.proofs.Common.{◌≡◌, ◌∙◌, Err, ℕ, sym, subst}
+use Rattle.std.proofs.Common.{◌≡◌, ◌∙◌, Err, ℕ, sym, subst, Ok}
 use Rattle.std.specs.FinMap as map
 use Rattle.back_index.specs.Calls.{page_in}
 use Rattle.back_index.specs.Relisting.{IsUnread}
 use Rattle.back_index.specs.Visits.{Refuses}
 use Rattle.back_index.proofs.Chained.{has_read, page_same, sound_refuses}
 use Rattle.back_index.proofs.Reading.{needs_refuses}
+use Rattle.back_index.proofs.ReadKeys.{reads_key, reads_refused}
 use Rattle.back_index.proofs.lists.listers.Goals as goal
 
 pub returns-in-Err-clause-has : goal.returns-in-Err-clause-has
@@ -27,3 +28,15 @@ returns-in-Err-read_list-clause-stops g c rest now has =
     subst (Refuses bad) (sym c.refused.ensures.fault)
     (needs_refuses bad _ c.in-Err-read_list.fault c.page_of-page.result c.in-Err-read_list.ensures.refused
     (λ unread. (unread rest now (c.in_default.ensures.has rest now has), c.page_of-page.ensures ∙ page_same old new c.args.which c.args.id c.in_default.ensures.stays)))
+
+pub returns-in-Err-clause-within : goal.returns-in-Err-clause-within
+returns-in-Err-clause-within g c may allowed only =
+    reads_refused may c.bring.new.self c.in-Err.ensures.refused
+
+pub returns-in-Ok-clause-within : goal.returns-in-Ok-clause-within
+returns-in-Ok-clause-within g c may allowed only =
+    reads_key may c.args.buckets.now c.bring.new.self c.args.which c.args.id c.requires.going allowed c.in_default.ensures.stays {T = Unit {0}} (Ok tt) c.in_default.ensures.reads c.in_default.ensures.refused only
+
+pub returns-in-Err-read_list-clause-within : goal.returns-in-Err-read_list-clause-within
+returns-in-Err-read_list-clause-within g c may allowed only =
+    reads_refused may c.refused.new.buckets c.refused.ensures.marks.refused

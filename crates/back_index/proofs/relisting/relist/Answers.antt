@@ -1,6 +1,7 @@
 -- The lists of each map of the index in turn.
-use Rattle.std.proofs.Common.{◌≡◌, ℕ, subst, refl}
+use Rattle.std.proofs.Common.{◌≡◌, ℕ, subst, refl, Option}
 use Rattle.osm_base.specs.declared.values.key.Kind.TheVariants as kinds
+use Rattle.osm_base.specs.declared.values.object.Object.{Object}
 use Rattle.osm_base.specs.map.Listers.{listed}
 use Rattle.osm_base.specs.values.Key.{KeyOf}
 use Rattle.store_maps.specs.Turns.{blocks_in, listed_by}
@@ -12,6 +13,9 @@ use Rattle.back_index.specs.declared.visit.Visit.{Visit}
 use Rattle.back_index.proofs.Chained.{page_same}
 use Rattle.back_index.proofs.Reading.{on_ok, refuses_more, refuses_result}
 use Rattle.back_index.proofs.Relists.{apart, at_kind, fine_as, node_relists, nodes_stop, relation_relists, stops_as, turned_fine, way_relists, way_stops, ways_stop}
+use Rattle.store_maps.specs.Asked.{MayEach}
+use Rattle.store_maps.specs.Turns.{ids_for}
+use Rattle.osm_base.specs.declared.values.key.Kind.{Kind}
 use Rattle.back_index.proofs.relisting.relist.Goals as goal
 
 pub returns-in-Node-clause-relists : goal.returns-in-Node-clause-relists
@@ -102,3 +106,23 @@ returns-in_default-clause-stops g c rest now owns =
     (apart RELATIONS_OF_WAYS RELATIONS_OF_NODES refl))
     (subst (λ (p : Visit → ℕ). StopsAt (IsFine first.0 own) p lists at) pages stops))))
     (c.relist_members-in-Relation.ensures.stops rest first.0 first.1)
+
+pub returns-in-Way-clause-within : goal.returns-in-Way-clause-within
+returns-in-Way-clause-within g c may olds news only =
+    let is : c.args.key.kind ≡ kinds.Way = subst (λ (own : KeyOf). own.kind ≡ kinds.Way) c.key.view_is (cc (c.in-Way.is)) in
+    let of : Option Object → Kind → Type 0 = λ form kind. MayEach may WAYS_OF_BLOCKS (ids_for kinds.Way blocks_in kind form) in
+    c.relist_blocks.ensures.within may (subst (of c.args.old.now) is olds.ways_of_blocks) (subst (of c.args.new.now) is news.ways_of_blocks) only
+
+pub returns-in-Err-clause-within : goal.returns-in-Err-clause-within
+returns-in-Err-clause-within g c may olds news only =
+    let is : c.args.key.kind ≡ kinds.Relation = subst (λ (own : KeyOf). own.kind ≡ kinds.Relation) c.key.view_is (cc (c.in-Relation.is)) in
+    let of : Option Object → Kind → Type 0 = λ form kind. MayEach may RELATIONS_OF_NODES (ids_for kinds.Relation (listed kinds.Node) kind form) in
+    c.in-Err.ensures.within may (subst (of c.args.old.now) is olds.relations_of_nodes) (subst (of c.args.new.now) is news.relations_of_nodes) only
+
+pub returns-in_default-clause-within : goal.returns-in_default-clause-within
+returns-in_default-clause-within g c may olds news only =
+    let is : c.args.key.kind ≡ kinds.Relation = subst (λ (own : KeyOf). own.kind ≡ kinds.Relation) c.key.view_is (cc (c.in-Relation.is)) in
+    let nodes : Option Object → Kind → Type 0 = λ form kind. MayEach may RELATIONS_OF_NODES (ids_for kinds.Relation (listed kinds.Node) kind form) in
+    let ways : Option Object → Kind → Type 0 = λ form kind. MayEach may RELATIONS_OF_WAYS (ids_for kinds.Relation (listed kinds.Way) kind form) in
+    c.relist_members-in-Relation.ensures.within may (subst (ways c.args.old.now) is olds.relations_of_ways) (subst (ways c.args.new.now) is news.relations_of_ways)
+    (c.in_default.ensures.within may (subst (nodes c.args.old.now) is olds.relations_of_nodes) (subst (nodes c.args.new.now) is news.relations_of_nodes) only)

@@ -1,5 +1,5 @@
 -- The ids of both forms are those that the forms list.
-use Rattle.std.proofs.Common.{List, subst}
+use Rattle.std.proofs.Common.{List, subst, ◌≡◌, ℕ, true}
 use Rattle.store_maps.specs.Turns.{blocks_in, listed_by}
 use Rattle.back_index.specs.Calls.{page_at}
 use Rattle.back_index.specs.Visits.{IsFine, StopsAt, visits}
@@ -7,6 +7,7 @@ use Rattle.back_index.specs.declared.visit.Visit.{Visit}
 use Rattle.back_index.specs.declared.visit.TheConstants.{WAYS_OF_BLOCKS}
 use Rattle.back_index.proofs.Reading.{on_ok, refuses_result}
 use Rattle.back_index.proofs.Turning.{turns_same, visits_same}
+use Rattle.back_index.proofs.ReadKeys.{all_among, reads_refused}
 use Rattle.back_index.proofs.relisting.relist_blocks.Goals as goal
 
 pub returns-clause-turns : goal.returns-clause-turns
@@ -33,3 +34,17 @@ returns-clause-stops g c rest now owns =
     refuses_result (Unit {0}) (StopsAt fine page (visits which olds news)) (StopsAt fine page (visits which old new)) c.relist_map.result
     (λ at stops. subst (λ (l : List Visit). StopsAt fine page l at) (visits_same olds news old new c.in-Ok.ensures.same c.in-Ok-rising_blocks.ensures.same which) stops)
     (c.relist_map.ensures.stops rest now owns)
+
+pub returns-clause-within : goal.returns-clause-within
+returns-clause-within g c may olds news only =
+    let allowed : ℕ → Type 0 = λ id. may WAYS_OF_BLOCKS id ≡ true in
+    c.relist_map.ensures.within may (all_among allowed c.in-Ok.ids (listed_by blocks_in c.args.old.now) c.in-Ok.ensures.same olds)
+    (all_among allowed c.in-Ok-rising_blocks.ids (listed_by blocks_in c.args.new.now) c.in-Ok-rising_blocks.ensures.same news) only
+
+pub returns-in-Err-clause-within : goal.returns-in-Err-clause-within
+returns-in-Err-clause-within g c may olds news only =
+    reads_refused may c.refused.new.buckets c.refused.ensures.marks.refused
+
+pub returns-in-Err-rising_blocks-clause-within : goal.returns-in-Err-rising_blocks-clause-within
+returns-in-Err-rising_blocks-clause-within g c may olds news only =
+    reads_refused may c.refused-in-Err-rising_blocks.new.buckets c.refused-in-Err-rising_blocks.ensures.marks.refused

@@ -1,5 +1,5 @@
 -- One list after another is turned.
-use Rattle.std.proofs.Common.{◌≡◌, ◌≤◌, ◌<◌, ◌∙◌, ℕ, List, Option, Bool, Ok, length, map, take, get_or, sym, subst}
+use Rattle.std.proofs.Common.{◌≡◌, ◌≤◌, ◌<◌, ◌∙◌, ℕ, List, Option, Bool, Ok, length, map, take, get_or, sym, subst, true}
 use Rattle.std.specs.List.{AllByRecursion}
 use Rattle.std.specs.FinMap as finite
 use Rattle.std.proofs.lemmas.List.{get_or_default, take_all, take_more}
@@ -12,6 +12,7 @@ use Rattle.back_index.specs.declared.visit.Visit.{Visit}
 use Rattle.back_index.proofs.Chained.{answers_none, answers_then, count_same, page_same}
 use Rattle.back_index.proofs.Reading.{refuses_more}
 use Rattle.back_index.proofs.Turning.{all_more, before_none, fine_more, only_none, only_then, stops_there, turns_more, turns_none}
+use Rattle.back_index.proofs.WayLaws.{at_place}
 use Rattle.back_index.proofs.relisting.turn_all.Goals as goal
 
 pub loop-id-init : goal.loop-id-init
@@ -19,6 +20,7 @@ loop-id-init g c = record {
   some = c.requires.some;
   going = c.requires.going;
   answers = answers_none {T = Unit {0}} c.args.buckets.now tt c.requires.going;
+  within = λ may all only. only;
   turns = λ rest now owns. (now, owns, only_none c.args.which now, turns_none c.args.own c.args.old.now c.args.new.now (now.maps c.args.which));
   fine = λ rest now owns. tt;
 }
@@ -53,6 +55,7 @@ loop-id-preserved g c =
       some = subst (λ (n : ℕ). 1 ≤ n) (sym (count_same before after did.answers.stays)) inv.some;
       going = did.answers.refused;
       answers = answers_then c.args.buckets.now before after tt (Ok tt) inv.answers did.answers;
+      within = λ may all only. did.within may (at_place (λ (id : ℕ). may which id ≡ true) ids k 0 within all) (inv.within may all only);
       turns = λ rest now owns.
           let was = inv.turns rest now owns in
           let turns = did.turns rest was.0 was.1 in (
@@ -104,3 +107,7 @@ returns-clause-turns g c rest now owns =
       subst (λ (l : List ℕ). TurnsAt c.args.own c.args.old.now c.args.new.now l (now.maps c.args.which) (was.0.maps c.args.which))
           (take_all c.loop-id.id-index c.args.ids.now c.loop-id-test.false) was.3,
     )
+
+pub returns-in-Err-clause-within : goal.returns-in-Err-clause-within
+returns-in-Err-clause-within g c may all only =
+    c.in-Err.ensures.within may (at_place (λ (id : ℕ). may c.args.which id ≡ true) c.args.ids.now c.loop-id.id-index 0 c.loop-id-test.true all) (c.loop-id.invariant.within may all only)

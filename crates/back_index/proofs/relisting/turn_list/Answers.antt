@@ -10,6 +10,7 @@ use Rattle.back_index.specs.Visits.{IsFine, Refuses, Sets}
 use Rattle.back_index.proofs.Chained.{page_same}
 use Rattle.back_index.proofs.Reading.{on_ok, reads_same, refuses_more, refuses_result, unread_not}
 use Rattle.back_index.proofs.Turning.{beq_apart, beq_same, kept_found, sets_none, sets_put, turned_none, turned_one, true_not}
+use Rattle.back_index.proofs.ReadKeys.{reads_refused}
 use Rattle.back_index.proofs.relisting.turn_list.Goals as goal
 use Rattle.back_index.proofs.relisting.turn_list.Goals.{else-visit-via-then-visit+else-not-contains, else-visit-via-else-visit}
 
@@ -91,3 +92,11 @@ pub returns-clause-stops : goal.returns-clause-stops
 returns-clause-stops g c rest now owns =
     refuses_result (Unit {0}) (λ at. ⊥) (λ at. (¬ IsFine now c.args.own c.args.visit) × (at ≡ page_at c.args.buckets.now c.args.visit)) c.keep_list.result
     (λ at none. absurd none) (c.keep_list.ensures.stops rest now (c.in-Ok.ensures.has refl rest now owns))
+
+pub returns-then-not-contains-clause-within : goal.returns-then-not-contains-clause-within
+returns-then-not-contains-clause-within g c may allowed only =
+    reads_refused may c.refused.new.buckets c.refused.ensures.marks.refused
+
+pub returns-in-Err-turn-clause-within : goal.returns-in-Err-turn-clause-within
+returns-in-Err-turn-clause-within g c may allowed only =
+    reads_refused may c.refused-in-Err-turn.new.buckets c.refused-in-Err-turn.ensures.marks.refused

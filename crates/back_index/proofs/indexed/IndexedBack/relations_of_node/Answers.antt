@@ -1,7 +1,7 @@
 -- What the call below answers is what the index answers.
-use Rattle.std.proofs.Common.{◌≡◌, inl, inr, ◌∙◌, ℕ, List, sym, ap, refl}
+use Rattle.std.proofs.Common.{◌≡◌, inl, inr, ◌∙◌, ℕ, List, sym, ap, refl, ◌∷◌, []}
 use Rattle.std.specs.FinMap as finite
-use Rattle.osm_base.specs.map.Known.{Index}
+use Rattle.osm_base.specs.map.Known.{Index, RelationsOfNode}
 use Rattle.back_index.specs.Calls.{page_in}
 use Rattle.back_index.specs.Index.{IsDamaged}
 use Rattle.back_index.specs.Relisting.{IsUnread}
@@ -31,8 +31,9 @@ returns-in-Ok-clause-spent g c = fresh_after c.args.self.now.buckets c.listers.n
 
 pub returns-in-Ok-clause-asked : goal.returns-in-Ok-clause-asked
 returns-in-Ok-clause-asked g c =
-    asked_ok c.args.self.now.buckets c.listers.new.buckets c.requires c.in-Ok.ids c.args.self.now.stopped c.in-Ok.ensures.answers
+    asked_ok c.args.self.now.buckets c.listers.new.buckets c.requires (RelationsOfNode c.args.id ∷ []) c.in-Ok.ids c.args.self.now.stopped c.in-Ok.ensures.answers
     (λ rest now owns. c.in-Ok.ensures.has refl rest now owns)
+    (λ rest now owns maps index may all. c.in-Ok.ensures.within may all.0)
 
 pub returns-in-Err-clause-index : goal.returns-in-Err-clause-index
 returns-in-Err-clause-index g c fresh = absurd (spent_refused {T = List ℕ} c.args.self.now.buckets c.listers.new.buckets c.in-Err.fault c.in-Err.ensures.answers fresh)
@@ -42,7 +43,7 @@ returns-in-Err-clause-refused g c = borne c.args.self.now.buckets c.listers.new.
 
 pub returns-in-Err-clause-asked : goal.returns-in-Err-clause-asked
 returns-in-Err-clause-asked g c =
-    asked_err c.args.self.now.buckets c.listers.new.buckets c.requires c.in-Err.fault c.args.self.now.stopped c.in-Err.ensures.answers
+    asked_err c.args.self.now.buckets c.listers.new.buckets c.requires (RelationsOfNode c.args.id ∷ []) c.in-Err.fault c.args.self.now.stopped c.in-Err.ensures.answers
     c.in-Err.ensures.has
     (λ rest now owns. refuses_more (λ at. IsUnread (finite.get (now.maps RELATIONS_OF_NODES) c.args.id) × (at ≡ page_in c.args.self.now.buckets RELATIONS_OF_NODES c.args.id))
     (IsDamaged c.args.self.now.buckets now)

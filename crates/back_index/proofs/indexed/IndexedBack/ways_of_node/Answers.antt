@@ -1,6 +1,6 @@
 -- What the call below answers is what the index answers.
-use Rattle.std.proofs.Common.{◌∙◌, ℕ, List, sym, ap, refl}
-use Rattle.osm_base.specs.map.Known.{Index}
+use Rattle.std.proofs.Common.{◌∙◌, ℕ, List, sym, ap, refl, ◌∷◌, []}
+use Rattle.osm_base.specs.map.Known.{Index, WaysOfNode}
 use Rattle.back_index.proofs.Answering.{asked_err, asked_ok, borne, fresh_after, knows_still, spent_going, spent_refused, spent_some}
 use Rattle.back_index.proofs.indexed.IndexedBack.ways_of_node.Goals as goal
 
@@ -23,8 +23,9 @@ returns-in-Ok-clause-spent g c = fresh_after c.args.self.now.buckets c.ways_of_n
 
 pub returns-in-Ok-clause-asked : goal.returns-in-Ok-clause-asked
 returns-in-Ok-clause-asked g c =
-    asked_ok c.args.self.now.buckets c.ways_of_node.new.buckets c.requires c.in-Ok.ids c.args.self.now.stopped c.in-Ok.ensures.answers
+    asked_ok c.args.self.now.buckets c.ways_of_node.new.buckets c.requires (WaysOfNode c.args.id ∷ []) c.in-Ok.ids c.args.self.now.stopped c.in-Ok.ensures.answers
     (λ rest now owns. c.in-Ok.ensures.has refl rest now owns)
+    (λ rest now owns maps index may all. c.in-Ok.ensures.within rest now owns maps index may all.0)
 
 pub returns-in-Err-clause-index : goal.returns-in-Err-clause-index
 returns-in-Err-clause-index g c fresh = absurd (spent_refused {T = List ℕ} c.args.self.now.buckets c.ways_of_node.new.buckets c.in-Err.fault c.in-Err.ensures.answers fresh)
@@ -34,6 +35,6 @@ returns-in-Err-clause-refused g c = borne c.args.self.now.buckets c.ways_of_node
 
 pub returns-in-Err-clause-asked : goal.returns-in-Err-clause-asked
 returns-in-Err-clause-asked g c =
-    asked_err c.args.self.now.buckets c.ways_of_node.new.buckets c.requires c.in-Err.fault c.args.self.now.stopped c.in-Err.ensures.answers
+    asked_err c.args.self.now.buckets c.ways_of_node.new.buckets c.requires (WaysOfNode c.args.id ∷ []) c.in-Err.fault c.args.self.now.stopped c.in-Err.ensures.answers
     c.in-Err.ensures.has
     (λ rest now owns. c.in-Err.ensures.stops rest now owns)
