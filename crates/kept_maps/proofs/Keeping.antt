@@ -1,6 +1,7 @@
 -- A call on the maps of a store, by the answer of the call on its buckets.
-use Rattle.std.proofs.Common.{◌≡◌, ◌||◌, false, Option, Some, Result, Ok, Err, ◌∙◌}
+use Rattle.std.proofs.Common.{◌≡◌, ◌||◌, false, List, Option, Some, Result, Ok, Err, ◌∙◌}
 use Rattle.std.specs.Prelude.{is_some}
+use Rattle.osm_base.specs.map.Known.{Question}
 use Rattle.outside.specs.declared.disk.Disk.{Ghosts}
 use Rattle.page_journal.specs.declared.fault.StoreFault.{StoreFault}
 use Rattle.page_journal.specs.declared.fault.StoreFault.TheVariants.{NotFormatted, NotEmpty, BadStore, DiskFault, StoreFull, Broken, OutOfMemory}
@@ -45,6 +46,6 @@ module _ {D : Type 0} {g : Ghosts D} (old : KeptMaps D g) (new : Buckets D g) wh
       (borne (buckets_of old) new (over_spent old fresh) fault answers)
 
   -- a question to the index that was answered leaves why the last one was refused
-  pub fresh_asked : (stopped : Option StoreFault) → is_over old ≡ false → Asked (buckets_of old) (stop_of old) new stopped → is_spent new ≡ false
+  pub fresh_asked : (questions : List Question) (stopped : Option StoreFault) → is_over old ≡ false → Asked questions (buckets_of old) (stop_of old) new stopped → is_spent new ≡ false
       → (is_some stopped || is_spent new) ≡ false
-  fresh_asked stopped fresh asked still = λ i. is_some ((asked.going (spent_going new still) ∙ over_stop old fresh) i) || still i
+  fresh_asked questions stopped fresh asked still = λ i. is_some ((asked.going (spent_going new still) ∙ over_stop old fresh) i) || still i

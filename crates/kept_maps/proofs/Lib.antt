@@ -2,3 +2,4 @@ pub mod MapsKept
 pub mod Settings
 pub mod Findings
 pub mod Keeping
+pub mod Within

@@ -1,5 +1,6 @@
 -- What calls on the maps of a store leave of it.
-use Rattle.std.specs.Prelude.{◌≡◌, ◌||◌, ℕ, Bool, Option, is_some}
+use Rattle.std.specs.Prelude.{◌≡◌, ◌||◌, ℕ, Bool, List, Option, is_some}
+use Rattle.osm_base.specs.map.Known.{Question}
 use Rattle.outside.specs.declared.disk.Disk.{Ghosts}
 use Rattle.page_journal.specs.declared.fault.StoreFault.{StoreFault}
 use Rattle.page_journal.specs.declared.fault.StoreFault.TheVariants.{DiskFault, OutOfMemory}
@@ -39,9 +40,9 @@ pub record IsLater {D : Type 0} {g : Ghosts D} (first last : KeptMaps D g) : Typ
   pub looks : OnlyLooks (buckets_of first) (buckets_of last)
   pub same_style : style_in last ≡ style_in first
 
--- questions to the index were asked, and nothing else was done
-pub record AreAsked {D : Type 0} {g : Ghosts D} (old new : KeptMaps D g) : Type 0 where
-  pub asked : Asked (buckets_of old) (stop_of old) (buckets_of new) (stop_of new)
+-- these questions to the index were asked, and nothing else was done
+pub record AreAsked {D : Type 0} {g : Ghosts D} (questions : List Question) (old new : KeptMaps D g) : Type 0 where
+  pub asked : Asked questions (buckets_of old) (stop_of old) (buckets_of new) (stop_of new)
   pub same_style : style_in new ≡ style_in old
 
 -- the last call that was refused may have been refused so, where the disk had met so many faults before it

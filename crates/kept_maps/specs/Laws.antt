@@ -1,6 +1,8 @@
 -- Laws of the calls on the maps of a store, one call after another.
-use Rattle.std.proofs.Common.{◌≡◌, ◌≤◌, ◌||◌, ℕ, Bool, true, false, List, Option, Some, None, refl, sym, ap, subst, ◌∙◌, true≢false}
+use Rattle.std.proofs.Common.{◌≡◌, ◌≤◌, ◌||◌, ℕ, Bool, true, false, List, [], ◌++◌, Option, Some, None, refl, sym, ap, subst, ◌∙◌, true≢false}
 use Rattle.std.specs.Prelude.{is_some}
+use Rattle.std.specs.List.{AllByRecursion}
+use Rattle.osm_base.specs.map.Known.{Question}
 use Rattle.outside.specs.declared.disk.Disk.{Ghosts}
 use Rattle.page_journal.specs.Journal.{is_broken}
 use Rattle.page_journal.specs.declared.fault.StoreFault.{StoreFault}
@@ -16,9 +18,11 @@ use Rattle.bucket_store.proofs.Holding.{looks_same, looks_then}
 use Rattle.back_index.specs.Asking.{asked_none, asked_then, bears_fewer}
 use Rattle.back_index.specs.Index.{Knows, is_spent}
 use Rattle.back_index.specs.Index.{HoldsIndex as IndexHeld}
+use Rattle.back_index.specs.Reads.{HasReadOnly}
 use Rattle.back_index.specs.Visits.{Refuses}
 use Rattle.back_index.proofs.Allowed.{questions_allowed}
 use Rattle.back_index.proofs.Answering.{spent_going, spent_some, spent_whole}
+use Rattle.store_maps.specs.Asked.{May, MayAnswer}
 use Rattle.store_maps.specs.Maps.{Maps}
 use Rattle.store_maps.specs.Named.{WaysAreThere, index_on}
 use Rattle.kept_maps.specs.Calls.{AreAsked, IsAllowed, IsLater, Keeps, WasRefused, buckets_of, faults_of, is_over, stop_of, style_in}
@@ -103,12 +107,12 @@ module _ {D : Type 0} {g : Ghosts D} where
   }
 
   -- questions, one after another
-  pub are_asked_none : (kept : KeptMaps D g) → AreAsked kept kept
+  pub are_asked_none : (kept : KeptMaps D g) → AreAsked [] kept kept
   are_asked_none kept = record { asked = asked_none (buckets_of kept) (stop_of kept); same_style = refl }
 
-  pub are_asked_then : (first second third : KeptMaps D g) → AreAsked first second → AreAsked second third → AreAsked first third
-  are_asked_then first second third once again = record {
-    asked = asked_then (buckets_of first) (buckets_of second) (buckets_of third) (stop_of first) (stop_of second) (stop_of third) once.asked again.asked;
+  pub are_asked_then : (before after : List Question) (first second third : KeptMaps D g) → AreAsked before first second → AreAsked after second third → AreAsked (before ++ after) first third
+  are_asked_then before after first second third once again = record {
+    asked = asked_then before after (buckets_of first) (buckets_of second) (buckets_of third) (stop_of first) (stop_of second) (stop_of third) once.asked again.asked;
     same_style = again.same_style ∙ once.same_style;
   }
 
@@ -127,7 +131,7 @@ module _ {D : Type 0} {g : Ghosts D} where
     index_is = refl;
   }
 
-  module _ (old new : KeptMaps D g) (are : AreAsked old new) where
+  module _ (questions : List Question) (old new : KeptMaps D g) (are : AreAsked questions old new) where
     pub asked_later : (first : KeptMaps D g) → IsLater first old → IsLater first new
     asked_later first later = later_then first old new (looks_read (buckets_of old) (buckets_of new) are.asked.stays are.asked.later) are.same_style later
 
@@ -139,6 +143,11 @@ module _ {D : Type 0} {g : Ghosts D} where
     pub asked_refused : (first : KeptMaps D g) (refusal : StoreFault) → IsLater first old → WasRefused new (faults_of old) refusal
         → WasRefused new (faults_of first) refusal
     asked_refused first refusal later was = was_fewer new (faults_of first) (faults_of old) refusal later.looks.later was
+
+    -- no more was read than answers the questions
+    pub asked_within : (under : Beside) (maps : Maps) → Keeps old under maps → (may : May) → AllByRecursion (MayAnswer may maps) questions
+        → HasReadOnly may (buckets_of old) → HasReadOnly may (buckets_of new)
+    asked_within under maps had may all only = are.asked.within under.rest had.now had.has maps (index_held (style_in old).tables had.now maps had.kept) may all only
 
     -- maps refuse a question for the disk or for want of memory alone
     pub asked_allowed : is_over old ≡ false → (under : Beside) (maps : Maps) → Keeps old under maps → WaysAreThere maps

@@ -1,5 +1,5 @@
 //! Values are read from the buckets of an open store, by the maps that it has.
-ghost use Rattle.std.specs.Prelude.{◌≡◌, ◌≤◌, List, false, IfOk, OnOk};
+ghost use Rattle.std.specs.Prelude.{◌≡◌, ◌≤◌, List, true, false, IfOk, OnOk};
 ghost use Rattle.std.specs.FinMap as finite;
 ghost use Rattle.osm_base.specs.declared.values.key.Kind.TheVariants as kinds;
 ghost use Rattle.style_read.specs.declared.style.TableDef.{TableDef};
@@ -7,6 +7,8 @@ ghost use Rattle.bucket_store.specs.Buckets.{bucket_count};
 ghost use Rattle.bucket_store.specs.Image.{Has, Image, IsSoundAnswer};
 ghost use Rattle.bucket_store.specs.Transaction.{chains_of, has_refused};
 ghost use Rattle.back_index.specs.Calls.{Answers};
+ghost use Rattle.back_index.specs.Reads.{HasReadOnly};
+ghost use Rattle.store_maps.specs.Asked.{May, MayObject, MayRows};
 ghost use Rattle.store_maps.specs.Maps.{Maps, form_in, node_in, object_in, rows_at};
 ghost use Rattle.store_maps.specs.Named.{place_in};
 ghost use Rattle.kept_maps.specs.Held.{Beside, HasMaps};
@@ -31,6 +33,7 @@ pub(crate) fn find_form<D: Disk>(
         → found ≡ form_in maps key.kind key.id) }
     ensures has { OnOk result ((rest now : Image) → Has rest now buckets.old → Has rest now buckets.new) }
     ensures sound { (definitions : List TableDef) (under : Beside) (maps : Maps) → HasMaps definitions under maps buckets.old → IsSoundAnswer result }
+    ensures within { (may : May) → MayObject may key → HasReadOnly may buckets.old → HasReadOnly may buckets.new }
     ensures answers { Answers buckets.old buckets.new result }
 {
     match key.kind {
@@ -51,6 +54,7 @@ pub(crate) fn find_object<D: Disk>(
         → found ≡ object_in maps key.kind key.id) }
     ensures has { OnOk result ((rest now : Image) → Has rest now buckets.old → Has rest now buckets.new) }
     ensures sound { (definitions : List TableDef) (under : Beside) (maps : Maps) → HasMaps definitions under maps buckets.old → IsSoundAnswer result }
+    ensures within { (may : May) → MayObject may key → HasReadOnly may buckets.old → HasReadOnly may buckets.new }
     ensures answers { Answers buckets.old buckets.new result }
 {
     match key.kind {
@@ -71,6 +75,7 @@ fn find_node<D: Disk>(
         → found ≡ object_in maps kinds.Node id) }
     ensures has { OnOk result ((rest now : Image) → Has rest now buckets.old → Has rest now buckets.new) }
     ensures sound { (definitions : List TableDef) (under : Beside) (maps : Maps) → HasMaps definitions under maps buckets.old → IsSoundAnswer result }
+    ensures within { (may : May) → may 0 id ≡ true → HasReadOnly may buckets.old → HasReadOnly may buckets.new }
     ensures answers { Answers buckets.old buckets.new result }
 {
     match middle_nodes::get(alloc, buckets, id) {
@@ -91,6 +96,7 @@ pub(crate) fn find_place<D: Disk>(
         → found ≡ place_in (finite.get maps.nodes id)) }
     ensures has { OnOk result ((rest now : Image) → Has rest now buckets.old → Has rest now buckets.new) }
     ensures sound { (definitions : List TableDef) (under : Beside) (maps : Maps) → HasMaps definitions under maps buckets.old → IsSoundAnswer result }
+    ensures within { (may : May) → may 0 id ≡ true → HasReadOnly may buckets.old → HasReadOnly may buckets.new }
     ensures answers { Answers buckets.old buckets.new result }
 {
     match middle_nodes::get(alloc, buckets, id) {
@@ -112,6 +118,7 @@ pub(crate) fn find_rows<D: Disk>(
         → found ≡ rows_at maps key.kind key.id) }
     ensures has { OnOk result ((rest now : Image) → Has rest now buckets.old → Has rest now buckets.new) }
     ensures sound { (under : Beside) (maps : Maps) → HasMaps style.now.tables under maps buckets.old → IsSoundAnswer result }
+    ensures within { (may : May) → MayRows may key → HasReadOnly may buckets.old → HasReadOnly may buckets.new }
     ensures answers { Answers buckets.old buckets.new result }
 {
     row_store::get(alloc, buckets, style, key)

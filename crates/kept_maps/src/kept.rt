@@ -64,7 +64,7 @@ impl<D: Disk> Back for KeptMaps<'_, '_, D> {
 
     ghost bears = { λ kept count refusal. WasRefused kept count refusal };
 
-    ghost asks = { λ old questions new. AreAsked old new };
+    ghost asks = { λ old questions new. AreAsked questions old new };
 
     fn ways_of_node(&mut self, id: u64) -> Result<Ids, StoreFault> {
         self.indexed.ways_of_node(id)
@@ -82,13 +82,14 @@ impl<D: Disk> Back for KeptMaps<'_, '_, D> {
 
     ghost asks_none = { λ kept. are_asked_none kept };
 
-    ghost asks_then = { λ first second third before after once again. are_asked_then first second third once again };
+    ghost asks_then = { λ first second third before after once again. are_asked_then before after first second third once again };
 }
 
 impl<D: Disk> MapStore for KeptMaps<'_, '_, D> {
-    ghost use Rattle.kept_maps.specs.Calls.{IsAllowed, IsLater, Keeps, style_in};
+    ghost use Rattle.back_index.specs.Reads.{HasReadOnly};
+    ghost use Rattle.kept_maps.specs.Calls.{IsAllowed, IsLater, Keeps, buckets_of, style_in};
     ghost use Rattle.kept_maps.specs.Held.{Beside};
-    ghost use Rattle.kept_maps.specs.Laws.{asked_allowed, asked_keeps, asked_later, asked_refused, keeps_index, later_same};
+    ghost use Rattle.kept_maps.specs.Laws.{asked_allowed, asked_keeps, asked_later, asked_refused, asked_within, keeps_index, later_same};
 
     ghost Under = { Beside };
 
@@ -97,6 +98,8 @@ impl<D: Disk> MapStore for KeptMaps<'_, '_, D> {
     ghost holds = { λ kept under maps. Keeps kept under maps };
 
     ghost looked = { λ first last. IsLater first last };
+
+    ghost within = { λ may kept. HasReadOnly may (buckets_of kept) };
 
     ghost allowed = { λ refusal. IsAllowed refusal };
 
@@ -206,11 +209,13 @@ impl<D: Disk> MapStore for KeptMaps<'_, '_, D> {
 
     ghost tells = { λ kept under maps had. keeps_index kept under maps had };
 
-    ghost asked = { λ first old new questions later are. asked_later old new are first later };
+    ghost asked = { λ first old new questions later are. asked_later questions old new are first later };
 
-    ghost asked_holds = { λ old new questions are fresh under maps had. asked_keeps old new are fresh under maps had };
+    ghost asked_within = { λ old new questions are under maps had may all only. asked_within questions old new are under maps had may all only };
 
-    ghost asked_bears = { λ first old new questions refusal later are was. asked_refused old new are first refusal later was };
+    ghost asked_holds = { λ old new questions are fresh under maps had. asked_keeps questions old new are fresh under maps had };
 
-    ghost asked_allowed = { λ old new questions fresh are under maps had there refusal was. asked_allowed old new are fresh under maps had there refusal was };
+    ghost asked_bears = { λ first old new questions refusal later are was. asked_refused questions old new are first refusal later was };
+
+    ghost asked_allowed = { λ old new questions fresh are under maps had there refusal was. asked_allowed questions old new are fresh under maps had there refusal was };
 }

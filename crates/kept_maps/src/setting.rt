@@ -1,5 +1,5 @@
 //! Values are set in the buckets of an open store, by the maps that it has.
-ghost use Rattle.std.specs.Prelude.{◌≡◌, ◌≢◌, ◌≤◌, List, [], None, Some, false, OnOk, IfSome};
+ghost use Rattle.std.specs.Prelude.{◌≡◌, ◌≢◌, ◌≤◌, List, [], None, Some, true, false, OnOk, IfSome};
 ghost use Rattle.osm_base.specs.declared.values.key.Kind.TheVariants as kinds;
 ghost use Rattle.style_read.specs.declared.style.TableDef.{TableDef};
 ghost use Rattle.object_fold.specs.Change.{IsOfKind};
@@ -7,7 +7,9 @@ ghost use Rattle.bucket_store.specs.Buckets.{bucket_count};
 ghost use Rattle.bucket_store.specs.Image.{Has, Image, IsSoundAnswer};
 ghost use Rattle.bucket_store.specs.Transaction.{chains_of, has_refused};
 ghost use Rattle.back_index.specs.Calls.{Answers};
+ghost use Rattle.back_index.specs.Reads.{HasReadOnly};
 ghost use Rattle.store_maps.specs.Append.{MayKeep};
+ghost use Rattle.store_maps.specs.Asked.{May, MayList, MayObject, MayRows};
 ghost use Rattle.store_maps.specs.Maps.{Maps, set, set_object, set_rows};
 ghost use Rattle.store_maps.specs.Step.{AreTold, relisted_to};
 ghost use Rattle.kept_maps.specs.Held.{Beside, HasMaps};
@@ -34,6 +36,7 @@ pub(crate) fn keep_object<D: Disk>(
     ensures sets { OnOk result ((definitions : List TableDef) (under : Beside) (maps : Maps) → HasMaps definitions under maps buckets.old
         → HasMaps definitions under (set_object maps key.kind key.id object.now) buckets.new) }
     ensures sound { (rest now : Image) → Has rest now buckets.old → IsSoundAnswer result }
+    ensures within { (may : May) → MayObject may key → HasReadOnly may buckets.old → HasReadOnly may buckets.new }
     ensures answers { Answers buckets.old buckets.new result }
 {
     match object {
@@ -55,6 +58,7 @@ fn put_object<D: Disk>(
     ensures sets { OnOk result ((definitions : List TableDef) (under : Beside) (maps : Maps) → HasMaps definitions under maps buckets.old
         → HasMaps definitions under (set_object maps key.kind key.id (Some object.now)) buckets.new) }
     ensures sound { (rest now : Image) → Has rest now buckets.old → IsSoundAnswer result }
+    ensures within { (may : May) → MayObject may key → HasReadOnly may buckets.old → HasReadOnly may buckets.new }
     ensures answers { Answers buckets.old buckets.new result }
 {
     match object {
@@ -76,6 +80,7 @@ fn put_node<D: Disk>(
     ensures sets { OnOk result ((definitions : List TableDef) (under : Beside) (maps : Maps) → HasMaps definitions under maps buckets.old
         → HasMaps definitions under (record maps { nodes = set maps.nodes id (Some (record { place = place; tags = Some tags.now })) }) buckets.new) }
     ensures sound { (rest now : Image) → Has rest now buckets.old → IsSoundAnswer result }
+    ensures within { (may : May) → may 0 id ≡ true → HasReadOnly may buckets.old → HasReadOnly may buckets.new }
     ensures answers { Answers buckets.old buckets.new result }
 {
     match tags.copy(alloc) {
@@ -100,6 +105,7 @@ fn take_object<D: Disk>(buckets: &mut Buckets<'_, D>, key: Key) -> Result<(), St
     ensures sets { OnOk result ((definitions : List TableDef) (under : Beside) (maps : Maps) → HasMaps definitions under maps buckets.old
         → HasMaps definitions under (set_object maps key.kind key.id None) buckets.new) }
     ensures sound { (rest now : Image) → Has rest now buckets.old → IsSoundAnswer result }
+    ensures within { (may : May) → MayObject may key → HasReadOnly may buckets.old → HasReadOnly may buckets.new }
     ensures answers { Answers buckets.old buckets.new result }
 {
     match key.kind {
@@ -115,6 +121,7 @@ fn take_node<D: Disk>(buckets: &mut Buckets<'_, D>, id: u64) -> Result<(), Store
     ensures sets { OnOk result ((definitions : List TableDef) (under : Beside) (maps : Maps) → HasMaps definitions under maps buckets.old
         → HasMaps definitions under (record maps { nodes = set maps.nodes id None }) buckets.new) }
     ensures sound { (rest now : Image) → Has rest now buckets.old → IsSoundAnswer result }
+    ensures within { (may : May) → may 0 id ≡ true → HasReadOnly may buckets.old → HasReadOnly may buckets.new }
     ensures answers { Answers buckets.old buckets.new result }
 {
     match middle_nodes::remove(buckets, id) {
@@ -131,6 +138,7 @@ fn take_form<D: Disk>(buckets: &mut Buckets<'_, D>, key: Key) -> Result<(), Stor
     ensures sets { OnOk result ((definitions : List TableDef) (under : Beside) (maps : Maps) → HasMaps definitions under maps buckets.old
         → HasMaps definitions under (set_object maps key.kind key.id None) buckets.new) }
     ensures sound { (rest now : Image) → Has rest now buckets.old → IsSoundAnswer result }
+    ensures within { (may : May) → MayObject may key → HasReadOnly may buckets.old → HasReadOnly may buckets.new }
     ensures answers { Answers buckets.old buckets.new result }
 {
     match middle_objs::remove(buckets, key) {
@@ -153,6 +161,7 @@ pub(crate) fn keep_rows<D: Disk>(
     ensures sets { OnOk result ((under : Beside) (maps : Maps) → HasMaps style.now.tables under maps buckets.old
         → HasMaps style.now.tables under (set_rows maps key.kind key.id rows.now) buckets.new) }
     ensures sound { (rest now : Image) → Has rest now buckets.old → IsSoundAnswer result }
+    ensures within { (may : May) → MayRows may key → HasReadOnly may buckets.old → HasReadOnly may buckets.new }
     ensures answers { Answers buckets.old buckets.new result }
 {
     if rows.as_slice().is_empty() {
@@ -169,6 +178,7 @@ fn take_rows<D: Disk>(buckets: &mut Buckets<'_, D>, key: Key) -> Result<(), Stor
     ensures sets { OnOk result ((definitions : List TableDef) (under : Beside) (maps : Maps) → HasMaps definitions under maps buckets.old
         → HasMaps definitions under (set_rows maps key.kind key.id []) buckets.new) }
     ensures sound { (rest now : Image) → Has rest now buckets.old → IsSoundAnswer result }
+    ensures within { (may : May) → MayRows may key → HasReadOnly may buckets.old → HasReadOnly may buckets.new }
     ensures answers { Answers buckets.old buckets.new result }
 {
     match row_store::remove(buckets, key) {
@@ -191,6 +201,7 @@ pub(crate) fn turn_lists<D: Disk>(
         → HasMaps definitions under (relisted_to maps key old.now new.now) buckets.new) }
     ensures sound { (definitions : List TableDef) (under : Beside) (maps : Maps) → HasMaps definitions under maps buckets.old
         → AreTold maps key old.now → IsSoundAnswer result }
+    ensures within { (may : May) → MayList may key old.now → MayList may key new.now → HasReadOnly may buckets.old → HasReadOnly may buckets.new }
     ensures answers { Answers buckets.old buckets.new result }
 {
     let _id = key.id;

@@ -6,6 +6,7 @@ use Rattle.middle_objs.specs.Maps.{map_of}
 use Rattle.middle_objs.specs.Object.{object_bytes, IsStored}
 use Rattle.store_maps.specs.Maps.{form_in}
 use Rattle.kept_maps.proofs.Findings.{form_found, form_sound, found_has, node_form, touched}
+use Rattle.kept_maps.proofs.Within.{object_allowed, within_touched}
 use Rattle.kept_maps.proofs.finding.find_form.Goals as goal
 
 pub returns-in-Node-clause-found : goal.returns-in-Node-clause-found
@@ -34,3 +35,7 @@ returns-in_default-clause-sound g c =
 pub returns-in_default-clause-answers : goal.returns-in_default-clause-answers
 returns-in_default-clause-answers g c =
     touched c.args.buckets.now c.get.new.buckets (map_of c.args.key.kind) c.args.key.id c.get.result c.get.ensures.touches
+
+pub returns-in_default-clause-within : goal.returns-in_default-clause-within
+returns-in_default-clause-within g c may allowed only =
+    within_touched may c.args.buckets.now c.get.new.buckets c.requires.going (map_of c.args.key.kind) c.args.key.id c.get.result (object_allowed may c.args.key.kind c.args.key.id (subst (λ (k : KeyOf). k.kind ≡ kinds.Node → ⊥) c.key.view_is c.in_default.not-Node) allowed) c.get.ensures.touches only

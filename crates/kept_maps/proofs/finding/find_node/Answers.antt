@@ -4,6 +4,7 @@ use Rattle.osm_base.specs.declared.values.object.Object.{Object}
 use Rattle.middle_nodes.specs.declared.record.NodeRecord.{NodeRecord}
 use Rattle.store_maps.specs.Maps.{node_in}
 use Rattle.kept_maps.proofs.Findings.{record_found, record_sound, told_err, told_ok, touched}
+use Rattle.kept_maps.proofs.Within.{within_touched}
 use Rattle.kept_maps.proofs.finding.find_node.Goals as goal
 
 pub returns-in-Ok-clause-found : goal.returns-in-Ok-clause-found
@@ -24,3 +25,11 @@ pub returns-in-Err-clause-answers : goal.returns-in-Err-clause-answers
 returns-in-Err-clause-answers g c =
     told_err c.args.buckets.now c.get.new.buckets (Option NodeRecord) (Option Object) c.in-Err.fault
     (touched c.args.buckets.now c.get.new.buckets 0 c.args.id _ c.in-Err.ensures.touches)
+
+pub returns-in-Ok-clause-within : goal.returns-in-Ok-clause-within
+returns-in-Ok-clause-within g c may allowed only =
+    within_touched may c.args.buckets.now c.get.new.buckets c.requires.going 0 c.args.id _ allowed c.in-Ok.ensures.touches only
+
+pub returns-in-Err-clause-within : goal.returns-in-Err-clause-within
+returns-in-Err-clause-within g c may allowed only =
+    within_touched may c.args.buckets.now c.get.new.buckets c.requires.going 0 c.args.id _ allowed c.in-Err.ensures.touches only

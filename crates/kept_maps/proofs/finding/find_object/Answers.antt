@@ -9,6 +9,7 @@ use Rattle.back_index.proofs.Reading.{if_ok}
 use Rattle.store_maps.specs.Maps.{Maps, object_in}
 use Rattle.kept_maps.specs.Held.{Beside, HasMaps}
 use Rattle.kept_maps.proofs.Findings.{object_form}
+use Rattle.kept_maps.proofs.Within.{node_allowed}
 use Rattle.kept_maps.proofs.finding.find_object.Goals as goal
 
 pub returns-in-Node-clause-found : goal.returns-in-Node-clause-found
@@ -26,3 +27,7 @@ returns-in_default-clause-found g c =
     (λ found is definitions under maps had. is definitions under maps had
     ∙ object_form maps c.args.key.kind c.args.key.id (subst (λ (k : KeyOf). k.kind ≡ kinds.Node → ⊥) c.key.view_is c.in_default.not-Node))
     c.find_form.ensures.found
+
+pub returns-in-Node-clause-within : goal.returns-in-Node-clause-within
+returns-in-Node-clause-within g c may allowed only =
+    c.find_node.ensures.within may (node_allowed may (record { kind = c.key.inside.kind; id = c.key.inside.id }) c.args.key c.key.view_is (cc (c.in-Node.is)) allowed) only

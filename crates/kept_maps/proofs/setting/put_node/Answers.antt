@@ -5,6 +5,8 @@ use Rattle.store_maps.specs.Maps.{set}
 use Rattle.kept_maps.specs.Held.{HasMaps}
 use Rattle.kept_maps.proofs.Findings.{answers_refuse, touched}
 use Rattle.kept_maps.proofs.Settings.{both_ok, node_set}
+use Rattle.kept_maps.proofs.Within.{within_touched}
+use Rattle.back_index.proofs.ReadKeys.{reads_refused}
 use Rattle.kept_maps.proofs.setting.put_node.Goals as goal
 
 pub returns-in-Ok-clause-sets : goal.returns-in-Ok-clause-sets
@@ -22,3 +24,11 @@ returns-in-Ok-clause-answers g c = touched c.args.buckets.now c.put.new.buckets 
 
 pub returns-in-Err-clause-answers : goal.returns-in-Err-clause-answers
 returns-in-Err-clause-answers g c = answers_refuse c.args.buckets.now c.refuse.new.self (Unit {0}) c.refuse.ensures.chains c.refuse.ensures.refused
+
+pub returns-in-Ok-clause-within : goal.returns-in-Ok-clause-within
+returns-in-Ok-clause-within g c may allowed only =
+    within_touched may c.args.buckets.now c.put.new.buckets c.requires.going 0 c.args.id c.put.result allowed c.put.ensures.touches only
+
+pub returns-in-Err-clause-within : goal.returns-in-Err-clause-within
+returns-in-Err-clause-within g c may allowed only =
+    reads_refused may c.refuse.new.self c.refuse.ensures.refused

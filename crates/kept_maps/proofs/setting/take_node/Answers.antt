@@ -2,6 +2,7 @@
 use Rattle.std.proofs.Common.{Bool, None}
 use Rattle.kept_maps.proofs.Findings.{sound_of, told_err, told_ok, touched}
 use Rattle.kept_maps.proofs.Settings.{node_set}
+use Rattle.kept_maps.proofs.Within.{within_touched}
 use Rattle.kept_maps.proofs.setting.take_node.Goals as goal
 
 pub returns-in-Ok-clause-sets : goal.returns-in-Ok-clause-sets
@@ -20,3 +21,11 @@ pub returns-in-Err-clause-answers : goal.returns-in-Err-clause-answers
 returns-in-Err-clause-answers g c =
     told_err c.args.buckets.now c.remove.new.buckets Bool (Unit {0}) c.in-Err.fault
     (touched c.args.buckets.now c.remove.new.buckets 0 c.args.id _ c.in-Err.ensures.touches)
+
+pub returns-in-Ok-clause-within : goal.returns-in-Ok-clause-within
+returns-in-Ok-clause-within g c may allowed only =
+    within_touched may c.args.buckets.now c.remove.new.buckets c.requires.going 0 c.args.id _ allowed c.in-Ok.ensures.touches only
+
+pub returns-in-Err-clause-within : goal.returns-in-Err-clause-within
+returns-in-Err-clause-within g c may allowed only =
+    within_touched may c.args.buckets.now c.remove.new.buckets c.requires.going 0 c.args.id _ allowed c.in-Err.ensures.touches only

@@ -4,6 +4,7 @@ use Rattle.osm_base.specs.declared.values.key.Kind.TheVariants as kinds
 use Rattle.osm_base.specs.values.Key.{KeyOf}
 use Rattle.back_index.proofs.Reading.{on_ok}
 use Rattle.kept_maps.proofs.Settings.{node_taken}
+use Rattle.kept_maps.proofs.Within.{node_allowed}
 use Rattle.kept_maps.proofs.setting.take_object.Goals as goal
 
 pub returns-in-Node-clause-sets : goal.returns-in-Node-clause-sets
@@ -16,3 +17,7 @@ returns-in-Node-clause-sets g c =
 
 pub take_form-requires-clause-kind : goal.take_form-requires-clause-kind
 take_form-requires-clause-kind g c = subst (λ (k : KeyOf). k.kind ≡ kinds.Node → ⊥) c.key.view_is c.in_default.not-Node
+
+pub returns-in-Node-clause-within : goal.returns-in-Node-clause-within
+returns-in-Node-clause-within g c may allowed only =
+    c.take_node.ensures.within may (node_allowed may (record { kind = c.key.inside.kind; id = c.key.inside.id }) c.args.key c.key.view_is (cc (c.in-Node.is)) allowed) only

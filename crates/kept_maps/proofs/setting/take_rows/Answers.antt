@@ -3,6 +3,7 @@ use Rattle.std.proofs.Common.{Bool, []}
 use Rattle.row_store.specs.Maps.{map_of, number_of}
 use Rattle.kept_maps.proofs.Findings.{sound_of, told_err, told_ok, touched}
 use Rattle.kept_maps.proofs.Settings.{rows_set}
+use Rattle.kept_maps.proofs.Within.{rows_allowed, within_touched}
 use Rattle.kept_maps.proofs.setting.take_rows.Goals as goal
 
 pub returns-in-Ok-clause-sets : goal.returns-in-Ok-clause-sets
@@ -22,3 +23,11 @@ pub returns-in-Err-clause-answers : goal.returns-in-Err-clause-answers
 returns-in-Err-clause-answers g c =
     told_err c.args.buckets.now c.remove.new.buckets Bool (Unit {0}) c.in-Err.fault
     (touched c.args.buckets.now c.remove.new.buckets (map_of c.args.key.kind) (number_of c.args.key.kind c.args.key.id) _ c.in-Err.ensures.touches)
+
+pub returns-in-Ok-clause-within : goal.returns-in-Ok-clause-within
+returns-in-Ok-clause-within g c may allowed only =
+    within_touched may c.args.buckets.now c.remove.new.buckets c.requires.going (map_of c.args.key.kind) (number_of c.args.key.kind c.args.key.id) _ (rows_allowed may c.args.key.kind c.args.key.id allowed) c.in-Ok.ensures.touches only
+
+pub returns-in-Err-clause-within : goal.returns-in-Err-clause-within
+returns-in-Err-clause-within g c may allowed only =
+    within_touched may c.args.buckets.now c.remove.new.buckets c.requires.going (map_of c.args.key.kind) (number_of c.args.key.kind c.args.key.id) _ (rows_allowed may c.args.key.kind c.args.key.id allowed) c.in-Err.ensures.touches only
