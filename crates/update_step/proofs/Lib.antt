@@ -6,6 +6,7 @@ pub mod Endings
 pub mod EntryLists
 pub mod Imported
 pub mod KeyedLists
+pub mod Manual
 pub mod NamedKeys
 pub mod Parts
 pub mod PendingKeys
