@@ -49,7 +49,8 @@ fn spread<L: Lookup, G: Gate, R: Threads + Sync>(
         let part = work(alloc, book, &mut seat, style, pending, lookup, gate)?;
         return Ok((seat, part));
     }
-    let other = book.split(&mut seat, share / 2);
+    // Each new thread is one worker, made by this one: threads that make threads at once are put on one processor.
+    let other = book.split(&mut seat, share - 1);
     let (left, right) = join(
         rt,
         || -> Result<(Seat, Part), OutOfMemory>
