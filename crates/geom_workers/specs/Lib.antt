@@ -1,3 +1,4 @@
 pub mod Builds
+pub mod Drawn
 pub mod Keys
 pub mod Rows
