@@ -35,7 +35,7 @@ inserted old n ns other there =
 
 read_before : (end n : ℕ) (old new : Lists) (before after : DiskView) → MayRead end n old new before after → (other : ℕ) → IsSome (map.get new other) → IsSome (map.get old other) ⊎ (other ≡ n)
 read_before end n old new before after (inl none) other there = inl (subst (λ (l : Lists). IsSome (map.get l other)) none.0 there)
-read_before end n old new before after (inr one) other there = inserted old n one.1.0 other (subst (λ (l : Lists). IsSome (map.get l other)) one.1.1.0 there)
+read_before end n old new before after (inr one) other there = inserted old n one.1.0 other (subst (λ (l : Lists). IsSome (map.get l other)) one.1.1 there)
 
 module _ {D : Type 0} {g : Ghosts D} (may : May) where
   pub reads_refused : (new : Buckets D g) → has_refused new ≡ true → HasReadOnly may new
