@@ -8,6 +8,7 @@ pub mod Imported
 pub mod KeyedLists
 pub mod Manual
 pub mod NamedKeys
+pub mod NewEntries
 pub mod Parts
 pub mod PendingKeys
 pub mod Touching

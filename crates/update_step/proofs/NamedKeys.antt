@@ -23,7 +23,7 @@ use Rattle.update_step.specs.Importing.{ids_named, keys_named}
 abbrev key : Kind → ℕ → KeyOf
 key kind id = record { kind = kind; id = id }
 
-less_is : (order : Ordering) → is_lt order ≡ true → order ≡ Less
+pub less_is : (order : Ordering) → is_lt order ≡ true → order ≡ Less
 less_is Less e = refl
 less_is Equal e = absurd (cc)
 less_is Greater e = absurd (cc)
@@ -163,10 +163,10 @@ none-named own (entry ∷ entries) none =
       | false ↦ λ differs not. (differs, none-named own entries not)
     ] refl none
 
-above_apart : (own other : KeyOf) → is_below own other ≡ true → eq_by_cmp key_cmp other own ≡ false
+pub above_apart : (own other : KeyOf) → is_below own other ≡ true → eq_by_cmp key_cmp other own ≡ false
 above_apart own other below = ap is_eq (key_cmp_total.antisymm other own ∙ ap ordering_reverse (less_is (key_cmp own other) below))
 
-at_above : (last : KeyOf) (entries : List Entry) (at : ℕ) (own : Entry) → RiseFrom (Some last) entries → at < length entries → is_below last (slice_index_or entries at own).key ≡ true
+pub at_above : (last : KeyOf) (entries : List Entry) (at : ℕ) (own : Entry) → RiseFrom (Some last) entries → at < length entries → is_below last (slice_index_or entries at own).key ≡ true
 at_above last [] at own rise below = absurd (omega (arith, below))
 at_above last (entry ∷ entries) zero own rise below = rise.1
 at_above last (entry ∷ entries) (suc at) own rise below =

@@ -17,8 +17,9 @@ ghost use Rattle.update_step.specs.Ends.{Ends, MayRefuse};
 ghost use Rattle.update_step.specs.Importing.{LacksRows, ids_named, keys_named};
 
 use crate::StepFault;
+use crate::new_objects::NewObjects;
 use geom_workers::{Built, MAX_KEYS, build_all, key_count, key_of};
-use object_fold::{Change, Objects};
+use object_fold::Change;
 use osm_base::{
     Entry, Ids, Key, Kind, MAX_ID, MAX_PENDING, OutOfMemory, PendingSet, RowLists, TableRows,
 };
@@ -103,8 +104,7 @@ fn rows_of<R: Threads + Sync, G: Gate>(
     ensures rows { IfOk result (λ rows. rows ≡ map (rows_in style.now (folded_all finite.empty change)) (keys_of keys.now)) }
     ensures kept { IfOk result (AllByRecursion (MayKeep style.now.tables)) }
 {
-    let mut objects = Objects::new(alloc);
-    objects.fold(change)?;
+    let objects = NewObjects::of(alloc, change)?;
     let Built { rows, .. } = build_all(rt, alloc, workers, style, keys, &objects, gate)?;
     Ok(rows)
 }

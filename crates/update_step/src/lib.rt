@@ -14,6 +14,7 @@ mod fault;
 mod gathering;
 mod importing;
 mod listers;
+mod new_objects;
 mod pending_keys;
 mod rebuilding;
 mod row_lists;
