@@ -228,40 +228,44 @@ module _ (style : StyleOf) (objects : ObjectSet) (change : List Entry) (may : Ma
     node-needs : (id : ℕ) → is_pending_node style objects change id ≡ true → MayAskAll may (needs (reaches_nodes style) to (node_key id))
     node-needs id pending =
         let form : Option Object = to.object (node_key id) in
-        let listers_asks : List Ask = lister_asks (reaches_nodes style) to (node_key id) in
-        (touched 0 id (node id pending),
-        all-append (MayAsk may) (place_asks form) (way_asks to form ++ listers_asks) (node_alone (λ (own : Option Object). MayAskAll may (place_asks own)) tt (λ place tags. tt) (finite.get maps.nodes id))
-        (all-append (MayAsk may) (way_asks to form) listers_asks (node_alone (λ (own : Option Object). MayAskAll may (way_asks to own)) tt (λ place tags. tt) (finite.get maps.nodes id))
-        (elim (reaches_nodes style) as (λ b. reaches_nodes style ≡ b → MayAskAll may (cond b (AroundNode id ∷ relation_asks (to.relations_of_node id)) [])) [
-          | true ↦ λ reaches. (
-            touched 4 id (around id pending),
-            relations-with kinds.Node id (to.relations_of_node id) (stands.index.relations_of_nodes.answers id) (λ own is. touched 2 own (relation_of_node id own reaches pending is)),
-          )
-          | false ↦ λ _. tt
-        ] refl)))
+        let listers_asks : List Ask = lister_asks (reaches_nodes style) to (node_key id) in (
+          touched 0 id (node id pending),
+          all-append (MayAsk may) (place_asks form) (way_asks to form ++ listers_asks) (node_alone (λ (own : Option Object). MayAskAll may (place_asks own)) tt (λ place tags. tt) (finite.get maps.nodes id))
+              (all-append (MayAsk may) (way_asks to form) listers_asks (node_alone (λ (own : Option Object). MayAskAll may (way_asks to own)) tt (λ place tags. tt) (finite.get maps.nodes id))
+              (elim (reaches_nodes style) as (λ b. reaches_nodes style ≡ b → MayAskAll may (cond b (AroundNode id ∷ relation_asks (to.relations_of_node id)) [])) [
+                | true ↦ λ reaches. (
+                  touched 4 id (around id pending),
+                  relations-with kinds.Node id (to.relations_of_node id) (stands.index.relations_of_nodes.answers id) (λ own is. touched 2 own (relation_of_node id own reaches pending is)),
+                )
+                | false ↦ λ _. tt
+              ] refl)),
+        )
 
     way-needs : (id : ℕ) → is_pending_way style objects change id ≡ true → MayAskAll may (needs (reaches_nodes style) to (way_key id))
     way-needs id pending =
         let form : Option Object = finite.get maps.ways id in
-        let listers_asks : List Ask = lister_asks (reaches_nodes style) to (way_key id) in
-        (touched 1 id (way id pending),
-        all-append (MayAsk may) (place_asks form) (way_asks to form ++ listers_asks)
-        (places-of-way id (λ other is. touched 0 other (node_of_way id other pending is)))
-        (all-append (MayAsk may) (way_asks to form) listers_asks
-        (no-members may to form (subst (λ (own : Option Object). IfSome own (IsOfKind kinds.Way)) (sym (form-of-way id)) (stands.proper.kinds (way_key id))))
-        (touched 5 id (along id pending),
-        relations-with kinds.Way id (to.relations_of_way id) (stands.index.relations_of_ways.answers id) (λ own is. touched 2 own (relation_of_way id own pending is)))))
+        let listers_asks : List Ask = lister_asks (reaches_nodes style) to (way_key id) in (
+          touched 1 id (way id pending),
+          all-append (MayAsk may) (place_asks form) (way_asks to form ++ listers_asks)
+              (places-of-way id (λ other is. touched 0 other (node_of_way id other pending is)))
+              (all-append (MayAsk may) (way_asks to form) listers_asks
+              (no-members may to form (subst (λ (own : Option Object). IfSome own (IsOfKind kinds.Way)) (sym (form-of-way id)) (stands.proper.kinds (way_key id)))) (
+                touched 5 id (along id pending),
+                relations-with kinds.Way id (to.relations_of_way id) (stands.index.relations_of_ways.answers id) (λ own is. touched 2 own (relation_of_way id own pending is)),
+              )),
+        )
 
     member-form : (id own : ℕ) → is_pending_relation objects change id ≡ true → is_listed_after objects change kinds.Way own (relation_key id) ≡ true → MayAskAll may (form_asks to (way_key own))
     member-form id own pending among = (touched 1 own (member id own pending among), places-of-way own (λ other is. touched 0 other (node_of_member id own other pending among is)))
 
     relation-needs : (id : ℕ) → is_pending_relation objects change id ≡ true → MayAskAll may (needs (reaches_nodes style) to (relation_key id))
     relation-needs id pending =
-        let form : Option Object = finite.get maps.relations id in
-        (touched 2 id (relation id pending),
-        subst (MayAskAll may) (ap (λ (asks : List Ask). place_asks form ++ asks) (sym (append-nil (way_asks to form))))
-        (subst (λ (own : Option Object). MayAskAll may (place_asks own ++ way_asks to own)) (sym (stands.objects.relations id))
-        (may-ways may to (finite.get after (relation_key id)) (stands.proper.kinds (relation_key id)) (λ way is. member-form id way pending is))))
+        let form : Option Object = finite.get maps.relations id in (
+          touched 2 id (relation id pending),
+          subst (MayAskAll may) (ap (λ (asks : List Ask). place_asks form ++ asks) (sym (append-nil (way_asks to form))))
+              (subst (λ (own : Option Object). MayAskAll may (place_asks own ++ way_asks to own)) (sym (stands.objects.relations id))
+              (may-ways may to (finite.get after (relation_key id)) (stands.proper.kinds (relation_key id)) (λ way is. member-form id way pending is))),
+        )
 
     module _ (set : PendingOf) (pending : IsPendingOf style objects change set) where
       each-key : (P : KeyOf → Type 0) → ((id : ℕ) → is_pending_node style objects change id ≡ true → P (node_key id)) → ((id : ℕ) → is_pending_way style objects change id ≡ true → P (way_key id))

@@ -39,30 +39,24 @@ pub data Touch (style : StyleOf) (objects : ObjectSet) (change : List Entry) : �
   node_of_way : (way id : ℕ) → is_pending_way style objects change way ≡ true → is_listed_after objects change kinds.Node id (way_key way) ≡ true → Touch style objects change 0 id
   node_of_member : (relation way id : ℕ) → is_pending_relation objects change relation ≡ true → is_listed_after objects change kinds.Way way (relation_key relation) ≡ true
       → is_listed_after objects change kinds.Node id (way_key way) ≡ true → Touch style objects change 0 id
-
   -- of the ways those that are pending, the members of pending relations, and those that list a node of the block of a node of the change
   way : (id : ℕ) → is_pending_way style objects change id ≡ true → Touch style objects change 1 id
   member : (relation id : ℕ) → is_pending_relation objects change relation ≡ true → is_listed_after objects change kinds.Way id (relation_key relation) ≡ true → Touch style objects change 1 id
   way_of_block : (node id : ℕ) → is_named change (node_key node) ≡ true → is_block_in_lists objects change (block_of node) id ≡ true → Touch style objects change 1 id
-
   -- of the relations those that are pending, those with a pending way as a member, and, where selections reach nodes, those with a pending node
   relation : (id : ℕ) → is_pending_relation objects change id ≡ true → Touch style objects change 2 id
   relation_of_way : (way id : ℕ) → is_pending_way style objects change way ≡ true → is_listed_after objects change kinds.Way way (relation_key id) ≡ true → Touch style objects change 2 id
   relation_of_node : (node id : ℕ) → reaches_nodes style ≡ true → is_pending_node style objects change node ≡ true → is_listed_after objects change kinds.Node node (relation_key id) ≡ true
       → Touch style objects change 2 id
-
   -- of the ways by blocks those of the nodes of the change, and of the nodes in the lists of its ways
   block : (node : ℕ) → is_named change (node_key node) ≡ true → Touch style objects change 3 (block_of node)
   block_of_list : (way node : ℕ) → is_named change (way_key way) ≡ true → is_in_lists objects change kinds.Node node (way_key way) ≡ true → Touch style objects change 3 (block_of node)
-
   -- of the relations by nodes those of pending nodes, and of the nodes in the lists of its relations
   around : (node : ℕ) → is_pending_node style objects change node ≡ true → Touch style objects change 4 node
   around_member : (relation node : ℕ) → is_named change (relation_key relation) ≡ true → is_in_lists objects change kinds.Node node (relation_key relation) ≡ true → Touch style objects change 4 node
-
   -- so of the relations by ways
   along : (way : ℕ) → is_pending_way style objects change way ≡ true → Touch style objects change 5 way
   along_member : (relation way : ℕ) → is_named change (relation_key relation) ≡ true → is_in_lists objects change kinds.Way way (relation_key relation) ≡ true → Touch style objects change 5 way
-
   -- and the rows of all that is pending
   rows_of_node : (id : ℕ) → is_pending_node style objects change id ≡ true → Touch style objects change 6 id
   rows_of_way : (id : ℕ) → is_pending_way style objects change id ≡ true → Touch style objects change 7 (2 * id)
