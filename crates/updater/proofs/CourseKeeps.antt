@@ -11,11 +11,11 @@ use Rattle.updater.specs.Comes.{Comes, Breaks, BreaksIn, HoldsBytes, IsRefusal, 
 use Rattle.updater.specs.Course.{Course, ends, refuses, reads, wants_empty, formats, opens, looks, commits, tells, writes}
 use Rattle.updater.specs.Keeps.{Kept, IsFit, blank, first, perhaps, whole, with_steps}
 use Rattle.updater.specs.Making.{reading_alone}
-use Rattle.updater.specs.Progress.{Standing, unused, unknown, keeps, half_made, Progress, Ending, at, begun, past, plus, with_store, made, opened, committed, in_doubt}
+use Rattle.updater.specs.Progress.{unused, unknown, keeps, half_made, Progress, Ending, at, begun, past, plus, with_store, made, opened, committed, in_doubt}
 use Rattle.updater.specs.Safety.{lines_in}
 use Rattle.updater.specs.World.{Before}
 use Rattle.updater.proofs.HistoryLaws.{append_more, length_more}
-use Rattle.updater.proofs.CourseLaws.{of_store, of_unknown, of_unused, three}
+use Rattle.updater.proofs.CourseLaws.{of_store, of_unknown, three}
 use Rattle.updater.proofs.LineCounts.{lines-append}
 
 -- a course over an open store that tells each step in a line, before it goes on: so many steps are not told yet, and so many are still

@@ -1,23 +1,21 @@
 -- What a store keeps through a run, by its course.
-use Rattle.std.proofs.Common.{◌≡◌, ◌≢◌, ◌≤◌, ◌+◌, ◌-◌, ◌⊎◌, ℕ, zero, suc, Bool, true, false, Option, Some, None, List, [], ◌∷◌, ◌++◌, length, ⊎_elim, inl, inr, refl, sym, ◌∙◌, ap, subst, arith}
+use Rattle.std.proofs.Common.{◌≡◌, ◌+◌, ◌-◌, ◌⊎◌, ℕ, zero, suc, Bool, true, false, Option, Some, None, List, [], ◌∷◌, ◌++◌, ⊎_elim, inl, inr, refl, sym, ◌∙◌, ap, subst, arith}
 use Rattle.std.proofs.lemmas.List.{append-nil}
 use Rattle.outside.specs.Bytes.{BothKnown}
 use Rattle.style_read.specs.Style.{table_of}
 use Rattle.tile_cover.specs.Table.{BoundsOf}
-use Rattle.update_flow.specs.State.{Holding, State, formatted, imported, Step, changed, fresh}
+use Rattle.update_flow.specs.State.{Holding, State, formatted, imported, changed, fresh}
 use Rattle.updater.specs.declared.fault.Fault.{Fault}
 use Rattle.updater.specs.declared.fault.Fault.TheVariants as faults
-use Rattle.updater.specs.declared.files.Files.{Files}
-use Rattle.updater.specs.Command.{CommandOf, points_of, lines_of, init_of, import_of, append_of, export_of, tiles_of, query_of, replay_of, Use, no_store, new_store, old_store, use_of}
+use Rattle.updater.specs.Command.{CommandOf, points_of, lines_of, init_of, import_of, append_of, export_of, tiles_of, query_of, replay_of, Use, new_store, old_store, use_of}
 use Rattle.updater.specs.Comes.{Comes}
-use Rattle.updater.specs.Course.{Course}
-use Rattle.updater.specs.Courses.{Onward, appending, telling, append_to, appends, clears, course_of, export_from, exports, finished, fills, import_into, onward, query_from, tiles_of_store, version_line}
+use Rattle.updater.specs.Courses.{Onward, telling, append_to, appends, clears, course_of, export_from, exports, finished, import_into, onward, query_from, tiles_of_store, version_line}
 use Rattle.updater.specs.Keeps.{Kept, IsFit, IsOneOf, blank, whole}
 use Rattle.updater.specs.Leaves.{IsPast, Leaves, StandsOn}
 use Rattle.updater.specs.Progress.{Standing, unused, keeps, Progress, Ending, begun}
 use Rattle.updater.specs.Runs.{Begins, GoesBy, Runs}
 use Rattle.updater.specs.Safety.{Acknowledges, Extends, IsSafe, IsUnmade, Preserves, lines_in, steps_told}
-use Rattle.updater.specs.World.{Before, GrewBy, World, remembered}
+use Rattle.updater.specs.World.{GrewBy, World, remembered}
 use Rattle.updater.proofs.CourseKeeps.{Counts, CountsMade, CountsOpen, IsUnmadeAt, Reaches, makes_safe, opens_safe}
 use Rattle.updater.proofs.LineCounts.{lines-grew, one_line}
 
