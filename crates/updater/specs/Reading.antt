@@ -1,9 +1,9 @@
 -- What the files of a command are read as.
-use Rattle.std.specs.Prelude.{◌≡◌, ◌<◌, ◌≤◌, ◌+◌, ◌⊎◌, ℕ, List, IsOk, Ok, Err}
+use Rattle.std.specs.Prelude.{◌≡◌, ◌≤◌, ◌+◌, ◌⊎◌, ℕ, List, IsOk, Ok, Err}
 use Rattle.style_read.specs.Style.{StyleOf}
 use Rattle.tile_cover.specs.Table.{BoundsOf}
 use Rattle.updater.specs.declared.fault.Fault.{Fault}
-use Rattle.updater.specs.Command.{CommandOf, points_of, lines_of, init_of, import_of, append_of, export_of, tiles_of, query_of, replay_of}
+use Rattle.updater.specs.Command.{CommandOf, import_of, append_of, query_of, replay_of}
 use Rattle.map_query.specs.declared.query.Query.{Query}
 use Rattle.updater.specs.Files.{IsBounds, IsChange, IsQueries, IsStyle, change_in}
 

@@ -1,7 +1,6 @@
 use Rattle.std.proofs.Common.{[], List, ℕ, Option, Err, ◌≡◌, ◌+◌, ◌∙◌, ap, arith, subst, sym}
 use Rattle.std.specs.Prelude.{is_some}
 use Rattle.std.specs.Result.{result_err}
-use Rattle.outside.specs.Inputs.{FilesView}
 use Rattle.map_query.specs.declared.query.Query.{Query}
 use Rattle.osm_base.specs.map.Spots.{TableMap}
 use Rattle.row_map.specs.Row.{tables}
