@@ -18,7 +18,7 @@ use Rattle.store_maps.specs.Asked.{May, MayAnswer}
 use Rattle.store_maps.specs.Maps.{Maps}
 use Rattle.back_index.specs.Index.{Asked, Bears, IsDamaged, Knows, is_spent}
 use Rattle.back_index.specs.Index.{HoldsIndex as IndexHeld}
-use Rattle.back_index.specs.Reads.{HasReadOnly}
+use Rattle.back_index.specs.Reads.{HasReadOnly, ReadsBuckets}
 use Rattle.back_index.specs.Visits.{Refuses}
 use Rattle.back_index.proofs.Chained.{count_same}
 use Rattle.back_index.proofs.ReadKeys.{reads_refused}
@@ -67,8 +67,8 @@ module _ {D : Type 0} {g : Ghosts D} where
 
     pub asked_ok : {T : Type 0} (questions : List Question) (value : T) (stopped : Option StoreFault) → Answers old new (Ok value) → ((rest now : Image) → Has rest now old → Has rest now new)
         → ((rest now : Image) → Has rest now old → (maps : Maps) → IndexHeld now maps → (may : May) → AllByRecursion (MayAnswer may maps) questions → HasReadOnly may old → HasReadOnly may new)
-        → Asked questions old stopped new stopped
-    asked_ok questions value stopped answers has within = record {
+        → ReadsBuckets old new → Asked questions old stopped new stopped
+    asked_ok questions value stopped answers has within reads = record {
       stays = answers.stays;
       later = answers.cause.later;
       broken = λ is. absurd (clash (is_broken (journal_of (chains_of old))) is (spent_whole old fresh));
@@ -78,6 +78,7 @@ module _ {D : Type 0} {g : Ghosts D} where
       kept = λ is. refl;
       going = λ none. refl;
       why = λ going refused. absurd (clash (has_refused new) refused answers.refused);
+      reads = λ _. reads;
       within = within;
     }
 
@@ -101,6 +102,7 @@ module _ {D : Type 0} {g : Ghosts D} where
       kept = λ is. absurd (clash (has_refused old) is (spent_going old fresh));
       going = λ none. absurd (clash (has_refused new) answers.refused none);
       why = λ going refused other is rest now owns. subst (λ f. Refuses (IsDamaged old now) f) (the_same fault other is) (stops rest now owns);
+      reads = λ going. absurd (clash (has_refused new) answers.refused going);
       within = λ rest now owns maps index may all only. reads_refused may new answers.refused;
     }
 

@@ -1,5 +1,6 @@
 -- What calls on keys have read of the buckets of a store.
-use Rattle.std.proofs.Common.{◌≡◌, ◌⊎◌, inl, inr, ℕ, ◌*◌, Bool, true, false, cond, ◌||◌, List, [], ◌∷◌, ◌++◌, Some, Result, Ok, Err, OnOk, refl, sym, ap, subst, ◌∙◌, nat_eq}
+use Rattle.chain_store.proofs.Counted.{reads_call, reads_wider}
+use Rattle.std.proofs.Common.{◌≡◌, ◌⊎◌, inl, inr, ℕ, ◌*◌, Bool, true, false, cond, ◌||◌, List, [], ◌∷◌, ◌++◌, Some, Result, Ok, Err, OnOk, refl, sym, ap, subst, ◌∙◌, nat_eq, ◌+◌, ◌%◌, ◌≤◌, arith}
 use mathlib.Core.Bool.{false≢true}
 use Rattle.std.specs.Prelude.{IsSome, is_err}
 use Rattle.std.specs.Cmp.{Equal-is, nat_cmp_total}
@@ -19,8 +20,12 @@ use Rattle.bucket_store.specs.Transaction.{chains_of, has_refused}
 use Rattle.bucket_store.specs.declared.buckets.Buckets.{Buckets}
 use Rattle.store_maps.specs.Asked.{May}
 use Rattle.store_maps.proofs.IdLists.{or-true, same_as, tied_self}
-use Rattle.back_index.specs.Reads.{IsOfKey, HasReadOnly}
+use Rattle.back_index.specs.Asking.{reads_more}
+use Rattle.back_index.specs.Reads.{IsOfKey, HasReadOnly, ReadsBuckets}
 use Rattle.back_index.proofs.Chained.{count_same}
+
+from_sixteen : (a b n : ℕ) → n ≡ 16 + a + b → 16 ≤ n
+from_sixteen a b n is = omega (arith, is)
 
 clash : (b : Bool) → b ≡ true → b ≡ false → ⊥
 clash b is none = false≢true (sym none ∙ is)
@@ -69,6 +74,25 @@ module _ {D : Type 0} {g : Ghosts D} (may : May) where
         → has_refused new ≡ is_err result → HasReadOnly may old → HasReadOnly may new
     reads_key (Ok value) reads refused only = one_more reads only
     reads_key (Err fault) reads refused only = reads_refused new refused
+
+module _ {D : Type 0} {g : Ghosts D} where
+  module _ (old new : Buckets D g) (which key : ℕ) where
+    pub reads_bucket : MayRead (4096 * home_count (journal_of (chains_of old))) (chain_at (bucket_count (chains_of old)) which key) (read_of (chains_of old)) (read_of (chains_of new))
+        (disk_of (chains_of old)) (disk_of (chains_of new)) → ReadsBuckets old new
+    reads_bucket reads =
+        let n : ℕ = chain_at (bucket_count (chains_of old)) which key in
+        reads_wider (λ k. k ≡ n) (λ k. 16 ≤ k) (chains_of old) (chains_of new) (λ k is. from_sixteen (65536 * which) (key % bucket_count (chains_of old)) k is)
+        (reads_call (4096 * home_count (journal_of (chains_of old))) n (chains_of old) (chains_of new) reads)
+
+    pub reads_result : {T : Type 0} (result : Result T StoreFault) → OnOk result (MayRead (4096 * home_count (journal_of (chains_of old))) (chain_at (bucket_count (chains_of old)) which key)
+        (read_of (chains_of old)) (read_of (chains_of new)) (disk_of (chains_of old)) (disk_of (chains_of new))) → OnOk result (ReadsBuckets old new)
+    reads_result (Ok value) reads = reads_bucket reads
+    reads_result (Err fault) reads = tt
+
+  -- a call, and then another one
+  pub reads_then : {T : Type 0} (old mid new : Buckets D g) (result : Result T StoreFault) → ReadsBuckets old mid → OnOk result (ReadsBuckets mid new) → OnOk result (ReadsBuckets old new)
+  reads_then old mid new (Ok value) first second = reads_more old mid new first second
+  reads_then old mid new (Err fault) first second = tt
 
 module _ (P : ℕ → Type 0) where
   pub all_has : (ids : List ℕ) (id : ℕ) → AllByRecursion P ids → has ids id ≡ true → P id

@@ -1,5 +1,5 @@
 -- Questions to the index of a store, one after another.
-use Rattle.std.proofs.Common.{◌≡◌, inl, inr, ◌≤◌, ℕ, Bool, true, false, List, [], ◌∷◌, ◌++◌, Option, refl, sym, ◌∙◌, arith}
+use Rattle.std.proofs.Common.{◌≡◌, inl, inr, ◌≤◌, ℕ, Bool, true, false, List, [], ◌∷◌, ◌++◌, Option, refl, sym, ◌∙◌, arith, ◌⊎◌}
 use Rattle.std.specs.List.{AllByRecursion}
 use Rattle.osm_base.specs.map.Known.{Question}
 use Rattle.outside.specs.Causes.{Rose}
@@ -10,6 +10,7 @@ use Rattle.page_journal.specs.declared.fault.StoreFault.TheVariants.{NotFormatte
 use Rattle.chain_store.specs.Chains.{OnlyRead, disk_of, journal_of}
 use Rattle.chain_store.specs.declared.chains.Chains.{Chains}
 use Rattle.chain_store.proofs.Looks.{looked_same, looked_then}
+use Rattle.chain_store.proofs.Counted.{reads_nothing, reads_on, reads_wider}
 use Rattle.chain_store.specs.Store.{kept_first}
 use Rattle.bucket_store.specs.Buckets.{chain_at}
 use Rattle.bucket_store.specs.Image.{Image}
@@ -18,6 +19,7 @@ use Rattle.bucket_store.specs.declared.buckets.Buckets.{Buckets}
 use Rattle.store_maps.specs.Asked.{MayAnswer}
 use Rattle.back_index.specs.Calls.{page_in}
 use Rattle.back_index.specs.Index.{Asked, Bears, IsDamaged}
+use Rattle.back_index.specs.Reads.{ReadsBuckets}
 use Rattle.back_index.specs.Visits.{Refuses}
 use Rattle.back_index.specs.declared.visit.TheConstants.{WAYS_OF_BLOCKS}
 
@@ -37,7 +39,7 @@ all_back : {X : Type 0} (P : X → Type 0) (xs ys : List X) → AllByRecursion P
 all_back P [] ys all = all
 all_back P (x ∷ xs) ys all = all_back P xs ys all.1
 
-still : (old new : Bool) → (old ≡ true → new ≡ true) → new ≡ false → old ≡ false
+pub still : (old new : Bool) → (old ≡ true → new ≡ true) → new ≡ false → old ≡ false
 still true new later none = absurd (cc (later refl, none))
 still false new later none = refl
 
@@ -52,6 +54,14 @@ module _ {D : Type 0} {g : Ghosts D} where
     root = second.root ∙ first.root;
     written = second.written ∙ first.written;
   }
+
+  pub reads_none : (buckets : Buckets D g) → ReadsBuckets buckets buckets
+  reads_none buckets = reads_nothing (λ n. 16 ≤ n) (chains_of buckets)
+
+  pub reads_more : (old mid new : Buckets D g) → ReadsBuckets old mid → ReadsBuckets mid new → ReadsBuckets old new
+  reads_more old mid new first second =
+      reads_wider (λ n. (16 ≤ n) ⊎ (16 ≤ n)) (λ n. 16 ≤ n) (chains_of old) (chains_of new) (λ n both. elim both [ inl is ↦ is | inr is ↦ is ])
+      (reads_on (λ n. 16 ≤ n) (λ n. 16 ≤ n) (chains_of old) (chains_of mid) (chains_of new) first second)
 
   page_stays : (old new : Buckets D g) (which key : ℕ) → OnlyRead (chains_of old) (chains_of new) → page_in new which key ≡ page_in old which key
   page_stays old new which key stays = λ i. kept_first (stays.kept i) (chain_at (stays.root i).buckets which key)
@@ -96,6 +106,7 @@ module _ {D : Type 0} {g : Ghosts D} where
     kept = λ is. refl;
     going = λ none. refl;
     why = λ going refused. absurd (clash (has_refused buckets) refused going);
+    reads = λ going. reads_none buckets;
     within = λ rest now owns maps index may all only. only;
   }
 
@@ -121,6 +132,7 @@ module _ {D : Type 0} {g : Ghosts D} where
                   let mid = once.has_still (once.whole goes ∙ owns.whole) rest now owns in
                   refuses_before first second now fault once.stays (again.why goes refused fault is rest now mid)
             ] refl;
+        reads = λ going. reads_more first second third (once.reads (going_before going)) (again.reads going);
         within = λ rest now owns maps index may all only.
             let may_first = all_front (MayAnswer may maps) before after all in
             let may_later = all_back (MayAnswer may maps) before after all in

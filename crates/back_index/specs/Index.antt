@@ -32,7 +32,7 @@ use Rattle.store_maps.specs.Named.{index_on}
 use Rattle.store_maps.specs.Turns.{blocks_in, ids_for}
 use Rattle.back_index.specs.Calls.{page_in}
 use Rattle.back_index.specs.Ids.{ids_bytes, AreListed}
-use Rattle.back_index.specs.Reads.{HasReadOnly}
+use Rattle.back_index.specs.Reads.{HasReadOnly, ReadsBuckets}
 use Rattle.back_index.specs.Relisting.{IsUnread, ReadsIds, Turns}
 use Rattle.back_index.specs.Visits.{Refuses, visits}
 use Rattle.back_index.specs.declared.visit.TheConstants.{WAYS, WAYS_OF_BLOCKS, RELATIONS_OF_NODES, RELATIONS_OF_WAYS}
@@ -147,5 +147,6 @@ pub record Asked {D : Type 0} {g : Ghosts D} (questions : List Question) (old : 
   pub going : has_refused new ≡ false → stopped ≡ was
   pub why : has_refused old ≡ false → has_refused new ≡ true → (fault : StoreFault) → stopped ≡ Some fault → (rest now : Image) → Has rest now old
       → Refuses (IsDamaged old now) fault
+  pub reads : has_refused new ≡ false → ReadsBuckets old new
   pub within : (rest now : Image) → Has rest now old → (maps : Maps) → HoldsIndex now maps → (may : May) → AllByRecursion (MayAnswer may maps) questions
       → HasReadOnly may old → HasReadOnly may new

@@ -15,7 +15,7 @@ ghost use Rattle.store_maps.specs.Named.{index_on, list_it};
 ghost use Rattle.value_bytes.specs.Forms.{NeedsFor};
 ghost use Rattle.back_index.specs.Calls.{Answers};
 ghost use Rattle.back_index.specs.Index.{HasNodeless, HasNodes, HasUnread, HoldsIndex, HoldsWays, IsNodeless};
-ghost use Rattle.back_index.specs.Reads.{HasReadOnly};
+ghost use Rattle.back_index.specs.Reads.{HasReadOnly, ReadsBuckets};
 ghost use Rattle.back_index.specs.Visits.{Refuses, StopsAt};
 
 use crate::lists::{listers, refused};
@@ -47,6 +47,7 @@ pub fn ways_of_node<D: Disk>(
         → IfErr result (Refuses (λ at. HasUnread buckets.old now at ⊎ HasNodeless buckets.old now at)) }
     ensures within { (rest now : Image) → Has rest now buckets.old → (maps : Maps) → HoldsIndex now maps
         → (may : May) → MayAnswer may maps (WaysOfNode id) → HasReadOnly may buckets.old → HasReadOnly may buckets.new }
+    ensures reads { OnOk result (ReadsBuckets buckets.old buckets.new) }
     ensures answers { Answers buckets.old buckets.new result }
 {
     let block = id / BLOCK;
@@ -77,6 +78,7 @@ fn ways_with<D: Disk>(
     ensures stops { (rest now : Image) → Has rest now buckets.old
         → IfErr result (Refuses (StopsAt (λ way. (nodes : List ℕ) × HasNodes (finite.get (now.maps WAYS) way) nodes) (λ _. page) ways.now)) }
     ensures within { (may : May) → MayEach may WAYS ways.now → HasReadOnly may buckets.old → HasReadOnly may buckets.new }
+    ensures reads { OnOk result (ReadsBuckets buckets.old buckets.new) }
     ensures answers { Answers buckets.old buckets.new result }
 {
     let mut found = Vec::new(alloc);
@@ -107,6 +109,7 @@ fn add_way<D: Disk>(
     ensures stops { (rest now : Image) → Has rest now buckets.old
         → IfErr result (Refuses (λ at. (¬ ((nodes : List ℕ) × HasNodes (finite.get (now.maps WAYS) way) nodes)) × (at ≡ page))) }
     ensures within { (may : May) → may WAYS way ≡ true → HasReadOnly may buckets.old → HasReadOnly may buckets.new }
+    ensures reads { OnOk result (ReadsBuckets buckets.old buckets.new) }
     ensures answers { Answers buckets.old buckets.new result }
 {
     let nodes = match nodes_of(alloc, buckets, way, page) {
@@ -136,6 +139,7 @@ fn nodes_of<D: Disk>(
     ensures stops { (rest now : Image) → Has rest now buckets.old
         → IfErr result (Refuses (λ at. (¬ ((nodes : List ℕ) × HasNodes (finite.get (now.maps WAYS) way) nodes)) × (at ≡ page))) }
     ensures within { (may : May) → may WAYS way ≡ true → HasReadOnly may buckets.old → HasReadOnly may buckets.new }
+    ensures reads { OnOk result (ReadsBuckets buckets.old buckets.new) }
     ensures answers { Answers buckets.old buckets.new result }
 {
     if let Err(fault) = buckets.bring(WAYS, way) {

@@ -10,7 +10,7 @@ ghost use Rattle.bucket_store.specs.Transaction.{cached_of, chains_of, has_refus
 ghost use Rattle.store_maps.specs.Asked.{May};
 ghost use Rattle.value_bytes.specs.Forms.{NeedsFor};
 ghost use Rattle.back_index.specs.Calls.{Answers, Marks, page_in, refusal_of};
-ghost use Rattle.back_index.specs.Reads.{HasReadOnly};
+ghost use Rattle.back_index.specs.Reads.{HasReadOnly, ReadsBuckets};
 ghost use Rattle.back_index.specs.Relisting.{IsUnread, ReadsIds, kept_list};
 ghost use Rattle.back_index.specs.Visits.{Refuses};
 
@@ -38,6 +38,7 @@ pub fn listers<D: Disk>(
     ensures stops { (rest now : Image) → Has rest now buckets.old
         → IfErr result (Refuses (λ at. IsUnread (map.get (now.maps which) id) × (at ≡ page_in buckets.old which id))) }
     ensures within { (may : May) → may which id ≡ true → HasReadOnly may buckets.old → HasReadOnly may buckets.new }
+    ensures reads { OnOk result (ReadsBuckets buckets.old buckets.new) }
     ensures answers { Answers buckets.old buckets.new result }
 {
     if let Err(fault) = buckets.bring(which, id) {
@@ -86,6 +87,7 @@ pub fn keep_list<D: Disk>(
     ensures keeps { OnOk result ((rest now : Image) → Has rest now buckets.old → Has rest (with_value which id (kept_list ids.now) now) buckets.new) }
     ensures stops { (rest now : Image) → Has rest now buckets.old → IfErr result (Refuses (λ _. ⊥)) }
     ensures within { (may : May) → may which id ≡ true → HasReadOnly may buckets.old → HasReadOnly may buckets.new }
+    ensures reads { OnOk result (ReadsBuckets buckets.old buckets.new) }
     ensures answers { Answers buckets.old buckets.new result }
 {
     if ids.is_empty() {

@@ -12,7 +12,7 @@ ghost use Rattle.osm_base.specs.map.Listers.{listed};
 ghost use Rattle.store_maps.specs.Asked.{May, MayEach, MayList};
 ghost use Rattle.store_maps.specs.Step.{with_id, without_id};
 ghost use Rattle.store_maps.specs.Turns.{blocks_in, listed_by};
-ghost use Rattle.back_index.specs.Reads.{HasReadOnly};
+ghost use Rattle.back_index.specs.Reads.{HasReadOnly, ReadsBuckets};
 ghost use Rattle.back_index.specs.Relisting.{CanTurn, Turns, TurnsAt, in_order, kept_list, turned};
 ghost use Rattle.back_index.specs.Visits.{IsFine, OnlyMap, Refuses, Sets, StopsAt, visit_of, visits};
 
@@ -44,6 +44,7 @@ pub fn relist<D: Disk>(
     ensures stops { (rest now : Image) → Has rest now buckets.old
         → IfErr result (Refuses (StopsAt (IsFine now key.id) (page_at buckets.old) (all_visits key old.now new.now))) }
     ensures within { (may : May) → MayList may key old.now → MayList may key new.now → HasReadOnly may buckets.old → HasReadOnly may buckets.new }
+    ensures reads { OnOk result (ReadsBuckets buckets.old buckets.new) }
     ensures answers { Answers buckets.old buckets.new result }
 {
     match key.kind {
@@ -93,6 +94,7 @@ fn relist_blocks<D: Disk>(
         (visits WAYS_OF_BLOCKS (listed_by blocks_in old.now) (listed_by blocks_in new.now)))) }
     ensures within { (may : May) → MayEach may WAYS_OF_BLOCKS (listed_by blocks_in old.now) → MayEach may WAYS_OF_BLOCKS (listed_by blocks_in new.now)
         → HasReadOnly may buckets.old → HasReadOnly may buckets.new }
+    ensures reads { OnOk result (ReadsBuckets buckets.old buckets.new) }
     ensures answers { Answers buckets.old buckets.new result }
 {
     let olds = match rising_blocks(alloc, old) {
@@ -127,6 +129,7 @@ fn relist_members<D: Disk>(
         (visits which (listed_by (listed kind) old.now) (listed_by (listed kind) new.now)))) }
     ensures within { (may : May) → MayEach may which (listed_by (listed kind) old.now) → MayEach may which (listed_by (listed kind) new.now)
         → HasReadOnly may buckets.old → HasReadOnly may buckets.new }
+    ensures reads { OnOk result (ReadsBuckets buckets.old buckets.new) }
     ensures answers { Answers buckets.old buckets.new result }
 {
     let olds = match rising_listed(alloc, old, kind) {
@@ -158,6 +161,7 @@ fn relist_map<D: Disk>(
     ensures stops { (rest now : Image) → Has rest now buckets.old
         → IfErr result (Refuses (StopsAt (IsFine now own) (page_at buckets.old) (visits which old.now new.now))) }
     ensures within { (may : May) → MayEach may which old.now → MayEach may which new.now → HasReadOnly may buckets.old → HasReadOnly may buckets.new }
+    ensures reads { OnOk result (ReadsBuckets buckets.old buckets.new) }
     ensures answers { Answers buckets.old buckets.new result }
 {
     match both(alloc, old, new) {
@@ -196,6 +200,7 @@ fn turn_all<D: Disk>(
     ensures stops { (rest now : Image) → Has rest now buckets.old
         → IfErr result (Refuses (StopsAt (IsFine now own) (page_at buckets.old) (map (visit_of which old.now new.now) ids.now))) }
     ensures within { (may : May) → MayEach may which ids.now → HasReadOnly may buckets.old → HasReadOnly may buckets.new }
+    ensures reads { OnOk result (ReadsBuckets buckets.old buckets.new) }
     ensures answers { Answers buckets.old buckets.new result }
 {
     for &id in ids {
@@ -229,6 +234,7 @@ fn turn_list<D: Disk>(
     ensures stops { (rest now : Image) → Has rest now buckets.old
         → IfErr result (Refuses (λ at. (¬ IsFine now own visit) × (at ≡ page_at buckets.old visit))) }
     ensures within { (may : May) → may visit.which visit.id ≡ true → HasReadOnly may buckets.old → HasReadOnly may buckets.new }
+    ensures reads { OnOk result (ReadsBuckets buckets.old buckets.new) }
     ensures answers { Answers buckets.old buckets.new result }
 {
     let ids = match listers(alloc, buckets, visit.which, visit.id) {

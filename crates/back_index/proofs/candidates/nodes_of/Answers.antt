@@ -6,7 +6,7 @@ use Rattle.back_index.specs.Visits.{Refuses}
 use Rattle.back_index.specs.declared.visit.TheConstants.{WAYS}
 use Rattle.back_index.proofs.Chained.{has_read, sound_refuses}
 use Rattle.back_index.proofs.Reading.{needs_refuses, nodeless_not}
-use Rattle.back_index.proofs.ReadKeys.{reads_key, reads_refused}
+use Rattle.back_index.proofs.ReadKeys.{reads_key, reads_refused, reads_bucket}
 use Rattle.back_index.proofs.candidates.nodes_of.Goals as goal
 
 pub returns-in-Err-clause-has : goal.returns-in-Err-clause-has
@@ -39,3 +39,7 @@ returns-in-Ok-clause-within g c may allowed only =
 pub returns-in-Err-read_nodes-clause-within : goal.returns-in-Err-read_nodes-clause-within
 returns-in-Err-read_nodes-clause-within g c may allowed only =
     reads_refused may c.refused.new.buckets c.refused.ensures.marks.refused
+
+pub returns-in-Ok-clause-reads : goal.returns-in-Ok-clause-reads
+returns-in-Ok-clause-reads g c =
+    reads_bucket c.args.buckets.now c.bring.new.self WAYS c.args.way c.in_default.ensures.reads

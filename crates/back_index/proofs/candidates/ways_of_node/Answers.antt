@@ -18,6 +18,7 @@ use Rattle.back_index.proofs.Reading.{if_ok, refuses_more, refuses_result}
 use Rattle.back_index.proofs.WayLaws.{has_part}
 use Rattle.store_maps.specs.Asked.{MayEach}
 use Rattle.object_fold.specs.Listing.{listers}
+use Rattle.back_index.proofs.ReadKeys.{reads_then}
 use Rattle.back_index.proofs.candidates.ways_of_node.Goals as goal
 
 pub returns-in-Err-clause-stops : goal.returns-in-Err-clause-stops
@@ -71,3 +72,7 @@ returns-clause-within g c rest now owns maps index may allowed only =
     let ways : c.as_slice.result.now ≡ listers maps.ways_of_blocks block = c.as_slice.ensures.items ∙ reads_one (finite.get (now.maps WAYS_OF_BLOCKS) block) c.in-Ok.ways (finite.get maps.ways_of_blocks block)
     (c.in-Ok.ensures.ids rest now owns) (index.ways_of_blocks block) in
     c.ways_with.ensures.within may (subst (MayEach may WAYS) (sym ways) allowed.1) (c.in-Ok.ensures.within may allowed.0 only)
+
+pub returns-clause-reads : goal.returns-clause-reads
+returns-clause-reads g c =
+    reads_then c.args.buckets.now c.listers.new.buckets c.ways_with.new.buckets c.ways_with.result c.in-Ok.ensures.reads c.ways_with.ensures.reads

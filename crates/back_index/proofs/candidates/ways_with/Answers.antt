@@ -1,5 +1,5 @@
 -- One way after another is looked at.
-use Rattle.std.proofs.Common.{◌≡◌, ◌≤◌, ◌<◌, ◌++◌, ◌∷◌, [], ◌∙◌, ℕ, List, Ok, true, length, take, get_or, if◌then◌else◌, sym, ap, subst, refl}
+use Rattle.std.proofs.Common.{◌≡◌, ◌≤◌, ◌<◌, ◌++◌, ◌∷◌, [], ◌∙◌, ℕ, List, Ok, true, length, take, get_or, if◌then◌else◌, sym, ap, subst, refl, rules}
 use Rattle.std.specs.List.{AllByRecursion, filter}
 use Rattle.std.specs.FinMap as finite
 use Rattle.std.specs.Ordering.{nat_cmp}
@@ -12,9 +12,10 @@ use Rattle.store_maps.specs.Named.{list_it}
 use Rattle.back_index.specs.Index.{HasNodes}
 use Rattle.back_index.specs.Visits.{StopsAt}
 use Rattle.back_index.specs.declared.visit.TheConstants.{WAYS}
-use Rattle.back_index.proofs.Chained.{answers_then, count_same}
+use Rattle.back_index.proofs.Chained.{answers_then, count_same, answers_none}
 use Rattle.back_index.proofs.Reading.{refuses_more}
 use Rattle.back_index.proofs.WayLaws.{all_same, at_place, each_more, filter_more, stops_here, way_lists}
+use Rattle.back_index.specs.Asking.{reads_more, reads_none}
 use Rattle.back_index.proofs.candidates.ways_with.Goals as goal
 
 pub returns-in-Err-clause-has : goal.returns-in-Err-clause-has
@@ -47,6 +48,7 @@ loop-way-preserved g c =
       answers = answers_then c.args.buckets.now c.loop-way.buckets c.add_way.new.buckets tt (Ok tt) inv.answers did.answers;
       has_still = λ rest now owns. did.has refl rest now (inv.has_still rest now owns);
       ids = did.ids (at_place IsId ways k 0 within c.requires.rising.1) inv.ids;
+      reads = reads_more c.args.buckets.now c.loop-way.buckets c.add_way.new.buckets inv.reads did.reads;
       within = λ may all only. did.within may (at_place (λ (id : ℕ). may WAYS id ≡ true) ways k 0 within all) (inv.within may all only);
       fine = λ rest now owns.
           let fine : ℕ → Type 0 = λ way. (nodes : List ℕ) × HasNodes (finite.get (now.maps WAYS) way) nodes in
@@ -76,3 +78,18 @@ returns-clause-rising g c =
 pub returns-in-Err-clause-within : goal.returns-in-Err-clause-within
 returns-in-Err-clause-within g c may all only =
     c.in-Err.ensures.within may (at_place (λ (id : ℕ). may WAYS id ≡ true) c.args.ways.now c.loop-way.way-index 0 c.loop-way-test.true all) (c.loop-way.invariant.within may all only)
+
+pub loop-way-init : goal.loop-way-init
+loop-way-init g c =
+    let none : c.new-found.result.items ≡ [] = search rules in
+    record {
+      some = c.requires.some;
+      going = c.requires.going;
+      answers = answers_none {T = Unit {0}} c.args.buckets.now tt c.requires.going;
+      has_still = λ rest now owns. owns;
+      ids = subst (AllByRecursion IsId) (sym none) tt;
+      reads = reads_none c.args.buckets.now;
+      within = λ may all only. only;
+      fine = λ rest now owns. tt;
+      filtered = λ rest now owns maps holds. none;
+    }

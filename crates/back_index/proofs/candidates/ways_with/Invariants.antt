@@ -9,7 +9,7 @@ use Rattle.store_maps.specs.Asked.{May, MayEach}
 use Rattle.store_maps.specs.Maps.{Maps}
 use Rattle.store_maps.specs.Named.{list_it}
 use Rattle.back_index.specs.Index.{HasNodes, HoldsWays}
-use Rattle.back_index.specs.Reads.{HasReadOnly}
+use Rattle.back_index.specs.Reads.{HasReadOnly, ReadsBuckets}
 use Rattle.back_index.specs.declared.visit.TheConstants.{WAYS}
 use Rattle.back_index.proofs.Chained.{StillAnswers}
 use Rattle.back_index.proofs.candidates.ways_with.Given as goal
@@ -22,6 +22,7 @@ invariant-loop-way g l = record {
   answers : StillAnswers l.initial.buckets l.buckets;
   has_still : (rest now : Image) → Has rest now l.initial.buckets → Has rest now l.buckets;
   ids : AllByRecursion IsId l.found.items;
+  reads : ReadsBuckets l.initial.buckets l.buckets;
   within : (may : May) → MayEach may WAYS l.ways → HasReadOnly may l.initial.buckets → HasReadOnly may l.buckets;
   fine : (rest now : Image) → Has rest now l.initial.buckets
       → AllByRecursion (λ way. (nodes : List ℕ) × HasNodes (finite.get (now.maps WAYS) way) nodes) (take l.way-index l.ways);

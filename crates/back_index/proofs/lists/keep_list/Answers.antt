@@ -1,7 +1,7 @@
 -- A store that means something puts the list, or refuses for the disk or for want of memory.
 use Rattle.std.proofs.Common.{ℕ, Ok}
 use Rattle.back_index.proofs.Chained.{sound_result}
-use Rattle.back_index.proofs.ReadKeys.{reads_key, reads_refused}
+use Rattle.back_index.proofs.ReadKeys.{reads_key, reads_refused, reads_bucket, reads_result}
 use Rattle.back_index.proofs.lists.keep_list.Goals as goal
 
 pub returns-in-Ok-ids_bytes-clause-stops : goal.returns-in-Ok-ids_bytes-clause-stops
@@ -22,3 +22,11 @@ returns-in-Ok-ids_bytes-clause-within g c may allowed only =
 pub returns-in-Err-ids_bytes-clause-within : goal.returns-in-Err-ids_bytes-clause-within
 returns-in-Err-ids_bytes-clause-within g c may allowed only =
     reads_refused may c.refused.new.buckets c.refused.ensures.marks.refused
+
+pub returns-in-Ok-clause-reads : goal.returns-in-Ok-clause-reads
+returns-in-Ok-clause-reads g c =
+    reads_bucket c.args.buckets.now c.remove.new.self c.args.which c.args.id c.in-Ok.ensures.reads
+
+pub returns-in-Ok-ids_bytes-clause-reads : goal.returns-in-Ok-ids_bytes-clause-reads
+returns-in-Ok-ids_bytes-clause-reads g c =
+    reads_result c.args.buckets.now c.put.new.self c.args.which c.args.id c.put.result c.put.ensures.reads

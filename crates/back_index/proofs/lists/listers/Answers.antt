@@ -6,7 +6,7 @@ use Rattle.back_index.specs.Relisting.{IsUnread}
 use Rattle.back_index.specs.Visits.{Refuses}
 use Rattle.back_index.proofs.Chained.{has_read, page_same, sound_refuses}
 use Rattle.back_index.proofs.Reading.{needs_refuses}
-use Rattle.back_index.proofs.ReadKeys.{reads_key, reads_refused}
+use Rattle.back_index.proofs.ReadKeys.{reads_key, reads_refused, reads_bucket}
 use Rattle.back_index.proofs.lists.listers.Goals as goal
 
 pub returns-in-Err-clause-has : goal.returns-in-Err-clause-has
@@ -40,3 +40,7 @@ returns-in-Ok-clause-within g c may allowed only =
 pub returns-in-Err-read_list-clause-within : goal.returns-in-Err-read_list-clause-within
 returns-in-Err-read_list-clause-within g c may allowed only =
     reads_refused may c.refused.new.buckets c.refused.ensures.marks.refused
+
+pub returns-in-Ok-clause-reads : goal.returns-in-Ok-clause-reads
+returns-in-Ok-clause-reads g c =
+    reads_bucket c.args.buckets.now c.bring.new.self c.args.which c.args.id c.in_default.ensures.reads

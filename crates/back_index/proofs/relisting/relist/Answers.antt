@@ -16,6 +16,8 @@ use Rattle.back_index.proofs.Relists.{apart, at_kind, fine_as, node_relists, nod
 use Rattle.store_maps.specs.Asked.{MayEach}
 use Rattle.store_maps.specs.Turns.{ids_for}
 use Rattle.osm_base.specs.declared.values.key.Kind.{Kind}
+use Rattle.back_index.proofs.ReadKeys.{reads_then}
+use Rattle.back_index.specs.Asking.{reads_none}
 use Rattle.back_index.proofs.relisting.relist.Goals as goal
 
 pub returns-in-Node-clause-relists : goal.returns-in-Node-clause-relists
@@ -126,3 +128,11 @@ returns-in_default-clause-within g c may olds news only =
     let ways : Option Object → Kind → Type 0 = λ form kind. MayEach may RELATIONS_OF_WAYS (ids_for kinds.Relation (listed kinds.Way) kind form) in
     c.relist_members-in-Relation.ensures.within may (subst (ways c.args.old.now) is olds.relations_of_ways) (subst (ways c.args.new.now) is news.relations_of_ways)
     (c.in_default.ensures.within may (subst (nodes c.args.old.now) is olds.relations_of_nodes) (subst (nodes c.args.new.now) is news.relations_of_nodes) only)
+
+pub returns-in-Node-clause-reads : goal.returns-in-Node-clause-reads
+returns-in-Node-clause-reads g c =
+    reads_none c.args.buckets.now
+
+pub returns-in_default-clause-reads : goal.returns-in_default-clause-reads
+returns-in_default-clause-reads g c =
+    reads_then c.args.buckets.now c.relist_members.new.buckets c.relist_members-in-Relation.new.buckets c.relist_members-in-Relation.result c.in_default.ensures.reads c.relist_members-in-Relation.ensures.reads

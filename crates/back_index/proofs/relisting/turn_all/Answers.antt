@@ -13,6 +13,7 @@ use Rattle.back_index.proofs.Chained.{answers_none, answers_then, count_same, pa
 use Rattle.back_index.proofs.Reading.{refuses_more}
 use Rattle.back_index.proofs.Turning.{all_more, before_none, fine_more, only_none, only_then, stops_there, turns_more, turns_none}
 use Rattle.back_index.proofs.WayLaws.{at_place}
+use Rattle.back_index.specs.Asking.{reads_more, reads_none}
 use Rattle.back_index.proofs.relisting.turn_all.Goals as goal
 
 pub loop-id-init : goal.loop-id-init
@@ -20,6 +21,7 @@ loop-id-init g c = record {
   some = c.requires.some;
   going = c.requires.going;
   answers = answers_none {T = Unit {0}} c.args.buckets.now tt c.requires.going;
+  reads = reads_none c.args.buckets.now;
   within = λ may all only. only;
   turns = λ rest now owns. (now, owns, only_none c.args.which now, turns_none c.args.own c.args.old.now c.args.new.now (now.maps c.args.which));
   fine = λ rest now owns. tt;
@@ -55,6 +57,7 @@ loop-id-preserved g c =
       some = subst (λ (n : ℕ). 1 ≤ n) (sym (count_same before after did.answers.stays)) inv.some;
       going = did.answers.refused;
       answers = answers_then c.args.buckets.now before after tt (Ok tt) inv.answers did.answers;
+      reads = reads_more c.args.buckets.now before after inv.reads did.reads;
       within = λ may all only. did.within may (at_place (λ (id : ℕ). may which id ≡ true) ids k 0 within all) (inv.within may all only);
       turns = λ rest now owns.
           let was = inv.turns rest now owns in

@@ -4,7 +4,7 @@ use Rattle.bucket_store.specs.Buckets.{bucket_count}
 use Rattle.bucket_store.specs.Image.{Has, Image}
 use Rattle.bucket_store.specs.Transaction.{chains_of, has_refused}
 use Rattle.store_maps.specs.Asked.{May, MayEach}
-use Rattle.back_index.specs.Reads.{HasReadOnly}
+use Rattle.back_index.specs.Reads.{HasReadOnly, ReadsBuckets}
 use Rattle.back_index.specs.Relisting.{TurnsAt}
 use Rattle.back_index.specs.Visits.{IsFine, OnlyMap, visit_of}
 use Rattle.back_index.proofs.Chained.{StillAnswers}
@@ -16,6 +16,7 @@ invariant-loop-id g l = record {
   some : 1 ≤ bucket_count (chains_of l.buckets);
   going : has_refused l.buckets ≡ false;
   answers : StillAnswers l.initial.buckets l.buckets;
+  reads : ReadsBuckets l.initial.buckets l.buckets;
   within : (may : May) → MayEach may l.which l.ids → HasReadOnly may l.initial.buckets → HasReadOnly may l.buckets;
   turns : (rest now : Image) → Has rest now l.initial.buckets → (after : Image) × Has rest after l.buckets × OnlyMap l.which now after
       × TurnsAt l.own l.old l.new (take l.id-index l.ids) (now.maps l.which) (after.maps l.which);

@@ -10,7 +10,7 @@ use Rattle.back_index.specs.Visits.{IsFine, Refuses, Sets}
 use Rattle.back_index.proofs.Chained.{page_same}
 use Rattle.back_index.proofs.Reading.{on_ok, reads_same, refuses_more, refuses_result, unread_not}
 use Rattle.back_index.proofs.Turning.{beq_apart, beq_same, kept_found, sets_none, sets_put, turned_none, turned_one, true_not}
-use Rattle.back_index.proofs.ReadKeys.{reads_refused}
+use Rattle.back_index.proofs.ReadKeys.{reads_refused, reads_then}
 use Rattle.back_index.proofs.relisting.turn_list.Goals as goal
 use Rattle.back_index.proofs.relisting.turn_list.Goals.{else-visit-via-then-visit+else-not-contains, else-visit-via-else-visit}
 
@@ -100,3 +100,7 @@ returns-then-not-contains-clause-within g c may allowed only =
 pub returns-in-Err-turn-clause-within : goal.returns-in-Err-turn-clause-within
 returns-in-Err-turn-clause-within g c may allowed only =
     reads_refused may c.refused-in-Err-turn.new.buckets c.refused-in-Err-turn.ensures.marks.refused
+
+pub returns-clause-reads : goal.returns-clause-reads
+returns-clause-reads g c =
+    reads_then c.args.buckets.now c.listers.new.buckets c.keep_list.new.buckets c.keep_list.result c.in-Ok.ensures.reads c.keep_list.ensures.reads

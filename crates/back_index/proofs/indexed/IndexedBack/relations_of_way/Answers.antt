@@ -33,7 +33,7 @@ pub returns-in-Ok-clause-asked : goal.returns-in-Ok-clause-asked
 returns-in-Ok-clause-asked g c =
     asked_ok c.args.self.now.buckets c.listers.new.buckets c.requires (RelationsOfWay c.args.id ∷ []) c.in-Ok.ids c.args.self.now.stopped c.in-Ok.ensures.answers
     (λ rest now owns. c.in-Ok.ensures.has refl rest now owns)
-    (λ rest now owns maps index may all. c.in-Ok.ensures.within may all.0)
+    (λ rest now owns maps index may all. c.in-Ok.ensures.within may all.0) c.in-Ok.ensures.reads
 
 pub returns-in-Err-clause-index : goal.returns-in-Err-clause-index
 returns-in-Err-clause-index g c fresh = absurd (spent_refused {T = List ℕ} c.args.self.now.buckets c.listers.new.buckets c.in-Err.fault c.in-Err.ensures.answers fresh)
