@@ -1,5 +1,6 @@
 -- A call on the maps of a store, by the answer of the call on its buckets.
-use Rattle.std.proofs.Common.{◌≡◌, ◌||◌, false, List, Option, Some, Result, Ok, Err, ◌∙◌}
+use Rattle.bucket_store.specs.Transaction.{has_refused}
+use Rattle.std.proofs.Common.{◌≡◌, ◌||◌, false, List, Option, Some, Result, Ok, Err, ◌∙◌, sym, true≢false}
 use Rattle.std.specs.Prelude.{is_some}
 use Rattle.osm_base.specs.map.Known.{Question}
 use Rattle.outside.specs.declared.disk.Disk.{Ghosts}
@@ -8,7 +9,8 @@ use Rattle.page_journal.specs.declared.fault.StoreFault.TheVariants.{NotFormatte
 use Rattle.bucket_store.specs.Image.{IsSoundAnswer, OnlyLooks}
 use Rattle.bucket_store.specs.declared.buckets.Buckets.{Buckets}
 use Rattle.bucket_store.proofs.Holding.{looks_then}
-use Rattle.back_index.specs.Asking.{bears_fewer}
+use Rattle.back_index.specs.Asking.{bears_fewer, reads_more}
+use Rattle.back_index.specs.Reads.{ReadsBuckets}
 use Rattle.back_index.specs.Calls.{Answers}
 use Rattle.back_index.specs.Index.{Asked, Bears, is_spent}
 use Rattle.back_index.proofs.Answering.{borne, fresh_after, spent_going}
@@ -31,6 +33,13 @@ module _ {D : Type 0} {g : Ghosts D} (old : KeptMaps D g) (new : Buckets D g) wh
       → OnlyLooks (buckets_of first) new
   looks_answered result first later answers =
       looks_then (buckets_of first) (buckets_of old) new later.looks (looks_read (buckets_of old) new answers.stays answers.cause.later)
+
+  -- each bucket that was read was read once
+  pub reads_answered : (first : KeptMaps D g) → IsLater first old → is_over old ≡ false → ReadsBuckets (buckets_of old) new → ReadsBuckets (buckets_of first) new
+  reads_answered first later fresh reads = reads_more (buckets_of first) (buckets_of old) new (later.reads (spent_going (buckets_of old) (over_spent old fresh))) reads
+
+  pub reads_stopped : {T C : Type 0} (fault : StoreFault) → Answers {T = T} (buckets_of old) new (Err fault) → has_refused new ≡ false → C
+  reads_stopped fault answers going = absurd (true≢false (sym answers.refused ∙ going))
 
   -- maps that were answered may be asked again
   pub fresh_answered : {T : Type 0} (value : T) → is_over old ≡ false → Answers (buckets_of old) new (Ok value)

@@ -1,5 +1,5 @@
 -- What calls on the maps of a store leave of it.
-use Rattle.std.specs.Prelude.{◌≡◌, ◌||◌, ℕ, Bool, List, Option, is_some}
+use Rattle.std.specs.Prelude.{◌≡◌, ◌||◌, ℕ, Bool, false, List, Option, is_some}
 use Rattle.osm_base.specs.map.Known.{Question}
 use Rattle.outside.specs.declared.disk.Disk.{Ghosts}
 use Rattle.page_journal.specs.declared.fault.StoreFault.{StoreFault}
@@ -7,9 +7,10 @@ use Rattle.page_journal.specs.declared.fault.StoreFault.TheVariants.{DiskFault, 
 use Rattle.chain_store.specs.Chains.{disk_of}
 use Rattle.style_read.specs.Style.{StyleOf}
 use Rattle.bucket_store.specs.Image.{OnlyLooks}
-use Rattle.bucket_store.specs.Transaction.{chains_of}
+use Rattle.bucket_store.specs.Transaction.{chains_of, has_refused}
 use Rattle.bucket_store.specs.declared.buckets.Buckets.{Buckets}
 use Rattle.back_index.specs.Index.{Asked, Bears, is_spent}
+use Rattle.back_index.specs.Reads.{ReadsBuckets}
 use Rattle.store_maps.specs.Maps.{Maps}
 use Rattle.kept_maps.specs.Held.{Beside, HasMaps}
 use Rattle.kept_maps.specs.declared.kept.KeptMaps.{KeptMaps}
@@ -35,9 +36,10 @@ Keeps kept under maps = HasMaps (style_in kept).tables under maps (buckets_of ke
 abbrev pub is_over : {D : Type 0} {g : Ghosts D} → KeptMaps D g → Bool
 is_over kept = is_some (stop_of kept) || is_spent (buckets_of kept)
 
--- of the store at rest calls have only read, and its style is the same
+-- of the store at rest calls have only read, each bucket once and no text unless a call was refused, and its style is the same
 pub record IsLater {D : Type 0} {g : Ghosts D} (first last : KeptMaps D g) : Type 0 where
   pub looks : OnlyLooks (buckets_of first) (buckets_of last)
+  pub reads : has_refused (buckets_of last) ≡ false → ReadsBuckets (buckets_of first) (buckets_of last)
   pub same_style : style_in last ≡ style_in first
 
 -- these questions to the index were asked, and nothing else was done

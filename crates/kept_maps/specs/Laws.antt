@@ -15,10 +15,10 @@ use Rattle.bucket_store.specs.Image.{Has, Image, OnlyLooks}
 use Rattle.bucket_store.specs.Transaction.{chains_of, has_refused}
 use Rattle.bucket_store.specs.declared.buckets.Buckets.{Buckets}
 use Rattle.bucket_store.proofs.Holding.{looks_same, looks_then}
-use Rattle.back_index.specs.Asking.{asked_none, asked_then, bears_fewer}
+use Rattle.back_index.specs.Asking.{asked_none, asked_then, bears_fewer, reads_more, reads_none, still}
 use Rattle.back_index.specs.Index.{Knows, is_spent}
 use Rattle.back_index.specs.Index.{HoldsIndex as IndexHeld}
-use Rattle.back_index.specs.Reads.{HasReadOnly}
+use Rattle.back_index.specs.Reads.{HasReadOnly, ReadsBuckets}
 use Rattle.back_index.specs.Visits.{Refuses}
 use Rattle.back_index.proofs.Allowed.{questions_allowed}
 use Rattle.back_index.proofs.Answering.{spent_going, spent_some, spent_whole}
@@ -98,11 +98,13 @@ module _ {D : Type 0} {g : Ghosts D} where
 
   -- looks after looks
   pub later_same : (kept : KeptMaps D g) → IsLater kept kept
-  later_same kept = record { looks = looks_same (buckets_of kept); same_style = refl }
+  later_same kept = record { looks = looks_same (buckets_of kept); reads = λ going. reads_none (buckets_of kept); same_style = refl }
 
-  pub later_then : (first old new : KeptMaps D g) → OnlyLooks (buckets_of old) (buckets_of new) → style_in new ≡ style_in old → IsLater first old → IsLater first new
-  later_then first old new looks same later = record {
+  pub later_then : (first old new : KeptMaps D g) → OnlyLooks (buckets_of old) (buckets_of new) → (has_refused (buckets_of old) ≡ true → has_refused (buckets_of new) ≡ true)
+      → (has_refused (buckets_of new) ≡ false → ReadsBuckets (buckets_of old) (buckets_of new)) → style_in new ≡ style_in old → IsLater first old → IsLater first new
+  later_then first old new looks refused reads same later = record {
     looks = looks_then (buckets_of first) (buckets_of old) (buckets_of new) later.looks looks;
+    reads = λ going. reads_more (buckets_of first) (buckets_of old) (buckets_of new) (later.reads (still (has_refused (buckets_of old)) (has_refused (buckets_of new)) refused going)) (reads going);
     same_style = same ∙ later.same_style;
   }
 
@@ -133,7 +135,7 @@ module _ {D : Type 0} {g : Ghosts D} where
 
   module _ (questions : List Question) (old new : KeptMaps D g) (are : AreAsked questions old new) where
     pub asked_later : (first : KeptMaps D g) → IsLater first old → IsLater first new
-    asked_later first later = later_then first old new (looks_read (buckets_of old) (buckets_of new) are.asked.stays are.asked.later) are.same_style later
+    asked_later first later = later_then first old new (looks_read (buckets_of old) (buckets_of new) are.asked.stays are.asked.later) are.asked.refused are.asked.reads are.same_style later
 
     pub asked_keeps : is_over new ≡ false → (under : Beside) (maps : Maps) → Keeps old under maps → Keeps new under maps
     asked_keeps fresh under maps had =

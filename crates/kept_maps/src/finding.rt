@@ -7,7 +7,7 @@ ghost use Rattle.bucket_store.specs.Buckets.{bucket_count};
 ghost use Rattle.bucket_store.specs.Image.{Has, Image, IsSoundAnswer};
 ghost use Rattle.bucket_store.specs.Transaction.{chains_of, has_refused};
 ghost use Rattle.back_index.specs.Calls.{Answers};
-ghost use Rattle.back_index.specs.Reads.{HasReadOnly};
+ghost use Rattle.back_index.specs.Reads.{HasReadOnly, ReadsBuckets};
 ghost use Rattle.store_maps.specs.Asked.{May, MayObject, MayRows};
 ghost use Rattle.store_maps.specs.Maps.{Maps, form_in, node_in, object_in, rows_at};
 ghost use Rattle.store_maps.specs.Named.{place_in};
@@ -34,6 +34,7 @@ pub(crate) fn find_form<D: Disk>(
     ensures has { OnOk result ((rest now : Image) → Has rest now buckets.old → Has rest now buckets.new) }
     ensures sound { (definitions : List TableDef) (under : Beside) (maps : Maps) → HasMaps definitions under maps buckets.old → IsSoundAnswer result }
     ensures within { (may : May) → MayObject may key → HasReadOnly may buckets.old → HasReadOnly may buckets.new }
+    ensures reads { OnOk result (ReadsBuckets buckets.old buckets.new) }
     ensures answers { Answers buckets.old buckets.new result }
 {
     match key.kind {
@@ -55,6 +56,7 @@ pub(crate) fn find_object<D: Disk>(
     ensures has { OnOk result ((rest now : Image) → Has rest now buckets.old → Has rest now buckets.new) }
     ensures sound { (definitions : List TableDef) (under : Beside) (maps : Maps) → HasMaps definitions under maps buckets.old → IsSoundAnswer result }
     ensures within { (may : May) → MayObject may key → HasReadOnly may buckets.old → HasReadOnly may buckets.new }
+    ensures reads { OnOk result (ReadsBuckets buckets.old buckets.new) }
     ensures answers { Answers buckets.old buckets.new result }
 {
     match key.kind {
@@ -76,6 +78,7 @@ fn find_node<D: Disk>(
     ensures has { OnOk result ((rest now : Image) → Has rest now buckets.old → Has rest now buckets.new) }
     ensures sound { (definitions : List TableDef) (under : Beside) (maps : Maps) → HasMaps definitions under maps buckets.old → IsSoundAnswer result }
     ensures within { (may : May) → may 0 id ≡ true → HasReadOnly may buckets.old → HasReadOnly may buckets.new }
+    ensures reads { OnOk result (ReadsBuckets buckets.old buckets.new) }
     ensures answers { Answers buckets.old buckets.new result }
 {
     match middle_nodes::get(alloc, buckets, id) {
@@ -97,6 +100,7 @@ pub(crate) fn find_place<D: Disk>(
     ensures has { OnOk result ((rest now : Image) → Has rest now buckets.old → Has rest now buckets.new) }
     ensures sound { (definitions : List TableDef) (under : Beside) (maps : Maps) → HasMaps definitions under maps buckets.old → IsSoundAnswer result }
     ensures within { (may : May) → may 0 id ≡ true → HasReadOnly may buckets.old → HasReadOnly may buckets.new }
+    ensures reads { OnOk result (ReadsBuckets buckets.old buckets.new) }
     ensures answers { Answers buckets.old buckets.new result }
 {
     match middle_nodes::get(alloc, buckets, id) {
@@ -119,6 +123,7 @@ pub(crate) fn find_rows<D: Disk>(
     ensures has { OnOk result ((rest now : Image) → Has rest now buckets.old → Has rest now buckets.new) }
     ensures sound { (under : Beside) (maps : Maps) → HasMaps style.now.tables under maps buckets.old → IsSoundAnswer result }
     ensures within { (may : May) → MayRows may key → HasReadOnly may buckets.old → HasReadOnly may buckets.new }
+    ensures reads { OnOk result (ReadsBuckets buckets.old buckets.new) }
     ensures answers { Answers buckets.old buckets.new result }
 {
     row_store::get(alloc, buckets, style, key)

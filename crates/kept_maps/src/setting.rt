@@ -7,7 +7,7 @@ ghost use Rattle.bucket_store.specs.Buckets.{bucket_count};
 ghost use Rattle.bucket_store.specs.Image.{Has, Image, IsSoundAnswer};
 ghost use Rattle.bucket_store.specs.Transaction.{chains_of, has_refused};
 ghost use Rattle.back_index.specs.Calls.{Answers};
-ghost use Rattle.back_index.specs.Reads.{HasReadOnly};
+ghost use Rattle.back_index.specs.Reads.{HasReadOnly, ReadsBuckets};
 ghost use Rattle.store_maps.specs.Append.{MayKeep};
 ghost use Rattle.store_maps.specs.Asked.{May, MayList, MayObject, MayRows};
 ghost use Rattle.store_maps.specs.Maps.{Maps, set, set_object, set_rows};
@@ -37,6 +37,7 @@ pub(crate) fn keep_object<D: Disk>(
         → HasMaps definitions under (set_object maps key.kind key.id object.now) buckets.new) }
     ensures sound { (rest now : Image) → Has rest now buckets.old → IsSoundAnswer result }
     ensures within { (may : May) → MayObject may key → HasReadOnly may buckets.old → HasReadOnly may buckets.new }
+    ensures reads { OnOk result (ReadsBuckets buckets.old buckets.new) }
     ensures answers { Answers buckets.old buckets.new result }
 {
     match object {
@@ -59,6 +60,7 @@ fn put_object<D: Disk>(
         → HasMaps definitions under (set_object maps key.kind key.id (Some object.now)) buckets.new) }
     ensures sound { (rest now : Image) → Has rest now buckets.old → IsSoundAnswer result }
     ensures within { (may : May) → MayObject may key → HasReadOnly may buckets.old → HasReadOnly may buckets.new }
+    ensures reads { OnOk result (ReadsBuckets buckets.old buckets.new) }
     ensures answers { Answers buckets.old buckets.new result }
 {
     match object {
@@ -81,6 +83,7 @@ fn put_node<D: Disk>(
         → HasMaps definitions under (record maps { nodes = set maps.nodes id (Some (record { place = place; tags = Some tags.now })) }) buckets.new) }
     ensures sound { (rest now : Image) → Has rest now buckets.old → IsSoundAnswer result }
     ensures within { (may : May) → may 0 id ≡ true → HasReadOnly may buckets.old → HasReadOnly may buckets.new }
+    ensures reads { OnOk result (ReadsBuckets buckets.old buckets.new) }
     ensures answers { Answers buckets.old buckets.new result }
 {
     match tags.copy(alloc) {
@@ -106,6 +109,7 @@ fn take_object<D: Disk>(buckets: &mut Buckets<'_, D>, key: Key) -> Result<(), St
         → HasMaps definitions under (set_object maps key.kind key.id None) buckets.new) }
     ensures sound { (rest now : Image) → Has rest now buckets.old → IsSoundAnswer result }
     ensures within { (may : May) → MayObject may key → HasReadOnly may buckets.old → HasReadOnly may buckets.new }
+    ensures reads { OnOk result (ReadsBuckets buckets.old buckets.new) }
     ensures answers { Answers buckets.old buckets.new result }
 {
     match key.kind {
@@ -122,6 +126,7 @@ fn take_node<D: Disk>(buckets: &mut Buckets<'_, D>, id: u64) -> Result<(), Store
         → HasMaps definitions under (record maps { nodes = set maps.nodes id None }) buckets.new) }
     ensures sound { (rest now : Image) → Has rest now buckets.old → IsSoundAnswer result }
     ensures within { (may : May) → may 0 id ≡ true → HasReadOnly may buckets.old → HasReadOnly may buckets.new }
+    ensures reads { OnOk result (ReadsBuckets buckets.old buckets.new) }
     ensures answers { Answers buckets.old buckets.new result }
 {
     match middle_nodes::remove(buckets, id) {
@@ -139,6 +144,7 @@ fn take_form<D: Disk>(buckets: &mut Buckets<'_, D>, key: Key) -> Result<(), Stor
         → HasMaps definitions under (set_object maps key.kind key.id None) buckets.new) }
     ensures sound { (rest now : Image) → Has rest now buckets.old → IsSoundAnswer result }
     ensures within { (may : May) → MayObject may key → HasReadOnly may buckets.old → HasReadOnly may buckets.new }
+    ensures reads { OnOk result (ReadsBuckets buckets.old buckets.new) }
     ensures answers { Answers buckets.old buckets.new result }
 {
     match middle_objs::remove(buckets, key) {
@@ -162,6 +168,7 @@ pub(crate) fn keep_rows<D: Disk>(
         → HasMaps style.now.tables under (set_rows maps key.kind key.id rows.now) buckets.new) }
     ensures sound { (rest now : Image) → Has rest now buckets.old → IsSoundAnswer result }
     ensures within { (may : May) → MayRows may key → HasReadOnly may buckets.old → HasReadOnly may buckets.new }
+    ensures reads { OnOk result (ReadsBuckets buckets.old buckets.new) }
     ensures answers { Answers buckets.old buckets.new result }
 {
     if rows.as_slice().is_empty() {
@@ -179,6 +186,7 @@ fn take_rows<D: Disk>(buckets: &mut Buckets<'_, D>, key: Key) -> Result<(), Stor
         → HasMaps definitions under (set_rows maps key.kind key.id []) buckets.new) }
     ensures sound { (rest now : Image) → Has rest now buckets.old → IsSoundAnswer result }
     ensures within { (may : May) → MayRows may key → HasReadOnly may buckets.old → HasReadOnly may buckets.new }
+    ensures reads { OnOk result (ReadsBuckets buckets.old buckets.new) }
     ensures answers { Answers buckets.old buckets.new result }
 {
     match row_store::remove(buckets, key) {
@@ -202,6 +210,7 @@ pub(crate) fn turn_lists<D: Disk>(
     ensures sound { (definitions : List TableDef) (under : Beside) (maps : Maps) → HasMaps definitions under maps buckets.old
         → AreTold maps key old.now → IsSoundAnswer result }
     ensures within { (may : May) → MayList may key old.now → MayList may key new.now → HasReadOnly may buckets.old → HasReadOnly may buckets.new }
+    ensures reads { OnOk result (ReadsBuckets buckets.old buckets.new) }
     ensures answers { Answers buckets.old buckets.new result }
 {
     let _id = key.id;

@@ -7,6 +7,8 @@ use Rattle.middle_objs.specs.Object.{object_bytes, IsStored}
 use Rattle.store_maps.specs.Maps.{form_in}
 use Rattle.kept_maps.proofs.Findings.{form_found, form_sound, found_has, node_form, touched}
 use Rattle.kept_maps.proofs.Within.{object_allowed, within_touched}
+use Rattle.back_index.proofs.ReadKeys.{reads_result}
+use Rattle.back_index.specs.Asking.{reads_none}
 use Rattle.kept_maps.proofs.finding.find_form.Goals as goal
 
 pub returns-in-Node-clause-found : goal.returns-in-Node-clause-found
@@ -39,3 +41,11 @@ returns-in_default-clause-answers g c =
 pub returns-in_default-clause-within : goal.returns-in_default-clause-within
 returns-in_default-clause-within g c may allowed only =
     within_touched may c.args.buckets.now c.get.new.buckets c.requires.going (map_of c.args.key.kind) c.args.key.id c.get.result (object_allowed may c.args.key.kind c.args.key.id (subst (λ (k : KeyOf). k.kind ≡ kinds.Node → ⊥) c.key.view_is c.in_default.not-Node) allowed) c.get.ensures.touches only
+
+pub returns-in-Node-clause-reads : goal.returns-in-Node-clause-reads
+returns-in-Node-clause-reads g c =
+    reads_none c.args.buckets.now
+
+pub returns-in_default-clause-reads : goal.returns-in_default-clause-reads
+returns-in_default-clause-reads g c =
+    reads_result c.args.buckets.now c.get.new.buckets (map_of c.args.key.kind) c.args.key.id c.get.result c.get.ensures.touches.reads

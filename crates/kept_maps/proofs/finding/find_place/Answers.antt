@@ -5,6 +5,7 @@ use Rattle.middle_nodes.specs.declared.record.NodeRecord.{NodeRecord}
 use Rattle.store_maps.specs.Named.{place_in}
 use Rattle.kept_maps.proofs.Findings.{record_found, record_sound, told_err, told_ok, touched}
 use Rattle.kept_maps.proofs.Within.{within_touched}
+use Rattle.back_index.proofs.ReadKeys.{reads_bucket}
 use Rattle.kept_maps.proofs.finding.find_place.Goals as goal
 
 pub returns-in-Ok-clause-found : goal.returns-in-Ok-clause-found
@@ -33,3 +34,7 @@ returns-in-Ok-clause-within g c may allowed only =
 pub returns-in-Err-clause-within : goal.returns-in-Err-clause-within
 returns-in-Err-clause-within g c may allowed only =
     within_touched may c.args.buckets.now c.get.new.buckets c.requires.going 0 c.args.id _ allowed c.in-Err.ensures.touches only
+
+pub returns-in-Ok-clause-reads : goal.returns-in-Ok-clause-reads
+returns-in-Ok-clause-reads g c =
+    reads_bucket c.args.buckets.now c.get.new.buckets 0 c.args.id c.in-Ok.ensures.touches.reads

@@ -8,6 +8,7 @@ use Rattle.kept_maps.specs.Held.{HasMaps}
 use Rattle.kept_maps.proofs.Findings.{touched}
 use Rattle.kept_maps.proofs.Settings.{both_ok, no_rows, rows_put}
 use Rattle.kept_maps.proofs.Within.{rows_allowed, within_touched}
+use Rattle.back_index.proofs.ReadKeys.{reads_result}
 use Rattle.kept_maps.proofs.setting.keep_rows.Goals as goal
 
 pub returns-then-is_empty-clause-sets : goal.returns-then-is_empty-clause-sets
@@ -31,3 +32,7 @@ returns-else-is_empty-clause-answers g c =
 pub returns-else-is_empty-clause-within : goal.returns-else-is_empty-clause-within
 returns-else-is_empty-clause-within g c may allowed only =
     within_touched may c.args.buckets.now c.put.new.buckets c.requires.going (map_of c.args.key.kind) (number_of c.args.key.kind c.args.key.id) c.put.result (rows_allowed may c.args.key.kind c.args.key.id allowed) c.put.ensures.touches only
+
+pub returns-else-is_empty-clause-reads : goal.returns-else-is_empty-clause-reads
+returns-else-is_empty-clause-reads g c =
+    reads_result c.args.buckets.now c.put.new.buckets (map_of c.args.key.kind) (number_of c.args.key.kind c.args.key.id) c.put.result c.put.ensures.touches.reads

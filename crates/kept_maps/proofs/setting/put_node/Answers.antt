@@ -6,7 +6,7 @@ use Rattle.kept_maps.specs.Held.{HasMaps}
 use Rattle.kept_maps.proofs.Findings.{answers_refuse, touched}
 use Rattle.kept_maps.proofs.Settings.{both_ok, node_set}
 use Rattle.kept_maps.proofs.Within.{within_touched}
-use Rattle.back_index.proofs.ReadKeys.{reads_refused}
+use Rattle.back_index.proofs.ReadKeys.{reads_refused, reads_result}
 use Rattle.kept_maps.proofs.setting.put_node.Goals as goal
 
 pub returns-in-Ok-clause-sets : goal.returns-in-Ok-clause-sets
@@ -32,3 +32,7 @@ returns-in-Ok-clause-within g c may allowed only =
 pub returns-in-Err-clause-within : goal.returns-in-Err-clause-within
 returns-in-Err-clause-within g c may allowed only =
     reads_refused may c.refuse.new.self c.refuse.ensures.refused
+
+pub returns-in-Ok-clause-reads : goal.returns-in-Ok-clause-reads
+returns-in-Ok-clause-reads g c =
+    reads_result c.args.buckets.now c.put.new.buckets 0 c.args.id c.put.result c.put.ensures.touches.reads

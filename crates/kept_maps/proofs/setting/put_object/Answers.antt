@@ -9,6 +9,7 @@ use Rattle.middle_objs.specs.Maps.{map_of}
 use Rattle.kept_maps.proofs.Findings.{touched}
 use Rattle.kept_maps.proofs.Settings.{both_ok, form_kept, node_object, object_set, node_kind}
 use Rattle.kept_maps.proofs.Within.{no_node, node_allowed, object_allowed, within_touched}
+use Rattle.back_index.proofs.ReadKeys.{reads_result}
 use Rattle.kept_maps.proofs.setting.put_object.Goals as goal
 
 pub returns-in-Node-clause-sets : goal.returns-in-Node-clause-sets
@@ -42,3 +43,7 @@ returns-in-Node-clause-within g c may allowed only =
     let key : KeyOf = c.args.key in
     let is : key.kind ≡ kinds.Node = node_kind key.kind c.in-Node.place c.in-Node.tags (subst (λ (o : Object). IsOfKind key.kind o) c.in-Node.is c.requires.proper) in
     c.put_node.ensures.within may (node_allowed may (record { kind = c.key.inside.kind; id = c.key.inside.id }) key c.key.view_is (subst (λ (k : KeyOf). k.kind ≡ kinds.Node) (sym c.key.view_is) is) allowed) only
+
+pub returns-in_default-clause-reads : goal.returns-in_default-clause-reads
+returns-in_default-clause-reads g c =
+    reads_result c.args.buckets.now c.put.new.buckets (map_of c.args.key.kind) c.args.key.id c.put.result c.put.ensures.touches.reads

@@ -3,6 +3,7 @@ use Rattle.std.proofs.Common.{Bool, None}
 use Rattle.kept_maps.proofs.Findings.{sound_of, told_err, told_ok, touched}
 use Rattle.kept_maps.proofs.Settings.{node_set}
 use Rattle.kept_maps.proofs.Within.{within_touched}
+use Rattle.back_index.proofs.ReadKeys.{reads_bucket}
 use Rattle.kept_maps.proofs.setting.take_node.Goals as goal
 
 pub returns-in-Ok-clause-sets : goal.returns-in-Ok-clause-sets
@@ -29,3 +30,7 @@ returns-in-Ok-clause-within g c may allowed only =
 pub returns-in-Err-clause-within : goal.returns-in-Err-clause-within
 returns-in-Err-clause-within g c may allowed only =
     within_touched may c.args.buckets.now c.remove.new.buckets c.requires.going 0 c.args.id _ allowed c.in-Err.ensures.touches only
+
+pub returns-in-Ok-clause-reads : goal.returns-in-Ok-clause-reads
+returns-in-Ok-clause-reads g c =
+    reads_bucket c.args.buckets.now c.remove.new.buckets 0 c.args.id c.in-Ok.ensures.touches.reads

@@ -4,6 +4,7 @@ use Rattle.row_store.specs.Maps.{map_of, number_of}
 use Rattle.kept_maps.proofs.Findings.{sound_of, told_err, told_ok, touched}
 use Rattle.kept_maps.proofs.Settings.{rows_set}
 use Rattle.kept_maps.proofs.Within.{rows_allowed, within_touched}
+use Rattle.back_index.proofs.ReadKeys.{reads_bucket}
 use Rattle.kept_maps.proofs.setting.take_rows.Goals as goal
 
 pub returns-in-Ok-clause-sets : goal.returns-in-Ok-clause-sets
@@ -31,3 +32,7 @@ returns-in-Ok-clause-within g c may allowed only =
 pub returns-in-Err-clause-within : goal.returns-in-Err-clause-within
 returns-in-Err-clause-within g c may allowed only =
     within_touched may c.args.buckets.now c.remove.new.buckets c.requires.going (map_of c.args.key.kind) (number_of c.args.key.kind c.args.key.id) _ (rows_allowed may c.args.key.kind c.args.key.id allowed) c.in-Err.ensures.touches only
+
+pub returns-in-Ok-clause-reads : goal.returns-in-Ok-clause-reads
+returns-in-Ok-clause-reads g c =
+    reads_bucket c.args.buckets.now c.remove.new.buckets (map_of c.args.key.kind) (number_of c.args.key.kind c.args.key.id) c.in-Ok.ensures.touches.reads

@@ -4,7 +4,7 @@ use Rattle.back_index.specs.Calls.{page_in}
 use Rattle.kept_maps.specs.Calls.{buckets_of, style_in}
 use Rattle.kept_maps.specs.Laws.{maps_stay, over_going, over_some}
 use Rattle.kept_maps.proofs.Findings.{list_allowed, list_found}
-use Rattle.kept_maps.proofs.Keeping.{bears_refused, fresh_answered, looks_answered}
+use Rattle.kept_maps.proofs.Keeping.{bears_refused, fresh_answered, looks_answered, reads_answered, reads_stopped}
 use Rattle.kept_maps.proofs.kept.KeptMapsMapStore.around_node.Goals as goal
 
 pub listers-requires-clause-some : goal.listers-requires-clause-some
@@ -24,6 +24,7 @@ returns-in-Ok-clause-holds g c under maps had =
 pub returns-in-Ok-clause-looked : goal.returns-in-Ok-clause-looked
 returns-in-Ok-clause-looked g c first later = record {
   looks = looks_answered c.args.self.now c.listers.new.buckets (Ok c.in-Ok.ids) first later c.in-Ok.ensures.answers;
+  reads = λ going. reads_answered c.args.self.now c.listers.new.buckets first later c.requires c.in-Ok.ensures.reads;
   same_style = later.same_style;
 }
 
@@ -33,6 +34,7 @@ returns-in-Ok-clause-spent g c = fresh_answered c.args.self.now c.listers.new.bu
 pub returns-in-Err-clause-looked : goal.returns-in-Err-clause-looked
 returns-in-Err-clause-looked g c first later = record {
   looks = looks_answered c.args.self.now c.listers.new.buckets {T = List ℕ} (Err c.in-Err.fault) first later c.in-Err.ensures.answers;
+  reads = λ going. reads_stopped c.args.self.now c.listers.new.buckets {T = List ℕ} c.in-Err.fault c.in-Err.ensures.answers going;
   same_style = later.same_style;
 }
 

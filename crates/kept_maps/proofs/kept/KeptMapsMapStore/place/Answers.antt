@@ -3,7 +3,7 @@ use Rattle.std.proofs.Common.{Option, Ok, Err}
 use Rattle.osm_base.specs.values.Place.{PlaceOf}
 use Rattle.kept_maps.specs.Calls.{buckets_of, style_in}
 use Rattle.kept_maps.specs.Laws.{maps_stay, over_going, over_some}
-use Rattle.kept_maps.proofs.Keeping.{allowed_sound, bears_refused, fresh_answered, looks_answered}
+use Rattle.kept_maps.proofs.Keeping.{allowed_sound, bears_refused, fresh_answered, looks_answered, reads_answered, reads_stopped}
 use Rattle.kept_maps.proofs.kept.KeptMapsMapStore.place.Goals as goal
 
 pub find_place-requires-clause-some : goal.find_place-requires-clause-some
@@ -22,6 +22,7 @@ returns-in-Ok-clause-holds g c under maps had =
 pub returns-in-Ok-clause-looked : goal.returns-in-Ok-clause-looked
 returns-in-Ok-clause-looked g c first later = record {
   looks = looks_answered c.args.self.now c.find_place.new.buckets (Ok c.in-Ok.found) first later c.in-Ok.ensures.answers;
+  reads = λ going. reads_answered c.args.self.now c.find_place.new.buckets first later c.requires c.in-Ok.ensures.reads;
   same_style = later.same_style;
 }
 
@@ -31,6 +32,7 @@ returns-in-Ok-clause-spent g c = fresh_answered c.args.self.now c.find_place.new
 pub returns-in-Err-clause-looked : goal.returns-in-Err-clause-looked
 returns-in-Err-clause-looked g c first later = record {
   looks = looks_answered c.args.self.now c.find_place.new.buckets {T = Option PlaceOf} (Err c.in-Err.fault) first later c.in-Err.ensures.answers;
+  reads = λ going. reads_stopped c.args.self.now c.find_place.new.buckets {T = Option PlaceOf} c.in-Err.fault c.in-Err.ensures.answers going;
   same_style = later.same_style;
 }
 

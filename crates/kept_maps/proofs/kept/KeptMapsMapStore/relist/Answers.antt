@@ -2,7 +2,7 @@
 use Rattle.std.proofs.Common.{Ok, Err}
 use Rattle.kept_maps.specs.Calls.{style_in}
 use Rattle.kept_maps.specs.Laws.{over_going, over_some}
-use Rattle.kept_maps.proofs.Keeping.{allowed_sound, bears_refused, fresh_answered, looks_answered}
+use Rattle.kept_maps.proofs.Keeping.{allowed_sound, bears_refused, fresh_answered, looks_answered, reads_answered, reads_stopped}
 use Rattle.kept_maps.proofs.kept.KeptMapsMapStore.relist.Goals as goal
 
 pub turn_lists-requires-clause-some : goal.turn_lists-requires-clause-some
@@ -17,6 +17,7 @@ returns-in-Ok-clause-holds g c under maps had = c.in-Ok.ensures.sets (style_in c
 pub returns-in-Ok-clause-looked : goal.returns-in-Ok-clause-looked
 returns-in-Ok-clause-looked g c first later = record {
   looks = looks_answered c.args.self.now c.turn_lists.new.buckets (Ok tt) first later c.in-Ok.ensures.answers;
+  reads = λ going. reads_answered c.args.self.now c.turn_lists.new.buckets first later c.requires.spent c.in-Ok.ensures.reads;
   same_style = later.same_style;
 }
 
@@ -26,6 +27,7 @@ returns-in-Ok-clause-spent g c = fresh_answered c.args.self.now c.turn_lists.new
 pub returns-in-Err-clause-looked : goal.returns-in-Err-clause-looked
 returns-in-Err-clause-looked g c first later = record {
   looks = looks_answered c.args.self.now c.turn_lists.new.buckets {T = Unit {0}} (Err c.in-Err.fault) first later c.in-Err.ensures.answers;
+  reads = λ going. reads_stopped c.args.self.now c.turn_lists.new.buckets {T = Unit {0}} c.in-Err.fault c.in-Err.ensures.answers going;
   same_style = later.same_style;
 }
 

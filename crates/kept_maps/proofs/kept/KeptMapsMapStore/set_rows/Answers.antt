@@ -1,7 +1,7 @@
 -- What the call on the buckets answers is what the maps answer.
 use Rattle.std.proofs.Common.{Ok, Err}
 use Rattle.kept_maps.specs.Laws.{over_going, over_some}
-use Rattle.kept_maps.proofs.Keeping.{allowed_sound, bears_refused, fresh_answered, looks_answered}
+use Rattle.kept_maps.proofs.Keeping.{allowed_sound, bears_refused, fresh_answered, looks_answered, reads_answered, reads_stopped}
 use Rattle.kept_maps.proofs.kept.KeptMapsMapStore.set_rows.Goals as goal
 
 pub keep_rows-requires-clause-some : goal.keep_rows-requires-clause-some
@@ -16,6 +16,7 @@ returns-in-Ok-clause-holds g c under maps had = c.in-Ok.ensures.sets under maps 
 pub returns-in-Ok-clause-looked : goal.returns-in-Ok-clause-looked
 returns-in-Ok-clause-looked g c first later = record {
   looks = looks_answered c.args.self.now c.keep_rows.new.buckets (Ok tt) first later c.in-Ok.ensures.answers;
+  reads = λ going. reads_answered c.args.self.now c.keep_rows.new.buckets first later c.requires.spent c.in-Ok.ensures.reads;
   same_style = later.same_style;
 }
 
@@ -25,6 +26,7 @@ returns-in-Ok-clause-spent g c = fresh_answered c.args.self.now c.keep_rows.new.
 pub returns-in-Err-clause-looked : goal.returns-in-Err-clause-looked
 returns-in-Err-clause-looked g c first later = record {
   looks = looks_answered c.args.self.now c.keep_rows.new.buckets {T = Unit {0}} (Err c.in-Err.fault) first later c.in-Err.ensures.answers;
+  reads = λ going. reads_stopped c.args.self.now c.keep_rows.new.buckets {T = Unit {0}} c.in-Err.fault c.in-Err.ensures.answers going;
   same_style = later.same_style;
 }
 
