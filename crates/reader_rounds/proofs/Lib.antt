@@ -1,0 +1,4 @@
+mod Climbing
+mod Replying
+mod RoundLaws
+mod ServedLaws
