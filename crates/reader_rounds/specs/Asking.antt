@@ -56,3 +56,8 @@ count_of askers = length askers.askers.items
 -- each reader answered so many rounds
 abbrev pub AreAsking : StyleOf → FrontOf → List Query → (count : ℕ) → Askers → Type 0
 AreAsking style front queries count askers = All (HasAsked style front queries count) askers.askers.items
+
+-- whatever readers began with, each answered so many rounds of it
+pub record Asks (queries : List Query) (rounds : ℕ) (old new : Askers) : Type 0 where
+  pub each : (style : StyleOf) (front : FrontOf) → AreAsking style front queries 0 old → AreAsking style front queries rounds new
+  pub count : count_of new ≡ count_of old

@@ -5,7 +5,7 @@ ghost use Rattle.delta_log.specs.Fronts.{FrontOf};
 ghost use Rattle.map_query.specs.declared.query.Query.{Query};
 ghost use Rattle.table_versions.specs.Versions.{tables_of, version_of};
 ghost use Rattle.table_versions.specs.Views.{IsNewReader};
-ghost use Rattle.reader_rounds.specs.Asking.{AreAsking, begin_of, count_of};
+ghost use Rattle.reader_rounds.specs.Asking.{AreAsking, Asks, begin_of, count_of};
 ghost use Rattle.reader_rounds.specs.Rounds.{AreServed};
 
 use crate::asker::Asker;
@@ -15,7 +15,7 @@ use osm_base::{Items, OutOfMemory, Tables, TryCopy};
 use outside::Gate;
 use std::alloc::Global;
 use std::sync::Wait;
-use std::thread::{Threads, for_each_mut};
+use std::thread::{Threads, for_each_mut, join_mut};
 use style_read::Style;
 use table_versions::{MapReaders, Publisher, versions};
 
@@ -74,8 +74,8 @@ impl Askers {
         Ok(Self { askers })
     }
 
-    /// Each asks the list so many times, in a thread. Of what is published meanwhile it is shown whole versions.
-    pub fn ask_rounds<R: Threads + Sync, G: Gate>(
+    /// Each asks the list so many times, in a thread.
+    fn ask_in_threads<R: Threads + Sync, G: Gate>(
         &mut self,
         rt: &R,
         alloc: Global,
@@ -92,6 +92,43 @@ impl Askers {
             MAX_THREADS,
             &|_, asker| asker.ask_rounds(alloc, queries, rounds, gate),
         );
+    }
+
+    /// The same.
+    fn ask_rounds<R: Threads + Sync, G: Gate>(
+        &mut self,
+        rt: &R,
+        alloc: Global,
+        queries: &Queries,
+        rounds: u32,
+        gate: &G,
+    )
+        ensures asks { Asks queries.now rounds self.old self.new }
+    {
+        self.ask_in_threads(rt, alloc, queries, rounds, gate);
+    }
+
+    /// Each asks the list so many times, in a thread, while the calling thread makes this call. Of what is published meanwhile
+    /// it is shown whole versions.
+    pub fn ask_beside<R: Threads + Sync, F: FnMut() -> A, A, G: Gate>(
+        &mut self,
+        rt: &R,
+        alloc: Global,
+        queries: &Queries,
+        rounds: u32,
+        gate: &G,
+        call: &mut F,
+    ) -> A
+        requires call { F.pre call.old }
+        ensures call { F.step call.old result call.new }
+        ensures asks { Asks queries.now rounds self.old self.new }
+    {
+        let (_, answer) = join_mut(
+            rt,
+            &mut || self.ask_rounds(rt, alloc, queries, rounds, gate),
+            call,
+        );
+        answer
     }
 
     /// Each is told of all that was published, and asks once more, behind the rounds that it asked before. The tables are

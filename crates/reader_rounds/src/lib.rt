@@ -1,9 +1,9 @@
 //! Readers that ask a list of queries in rounds, each in a thread, while versions are published.
 //!
-//! It stands on the readers of `table_versions`. `publish_first` makes a publisher and its readers. `Askers::ask_rounds` has all readers ask the list so many times; whoever
-//! publishes meanwhile calls it beside that, in a `join_mut`. Once nothing is published any more, `finish` tells each reader
-//! of all that was, has it ask once more, and gives what it answered in all rounds: whole versions that never fall, the
-//! last round over the last one.
+//! It stands on the readers of `table_versions`. `publish_first` makes a publisher and its readers. `Askers::ask_beside` has
+//! all readers ask the list so many times, while the calling thread does something else, as publish versions. Once nothing is
+//! published any more, `finish` tells each reader of all that was, has it ask once more, and gives what it answered in all
+//! rounds: whole versions that never fall, the last round over the last one.
 #![tactic(auto)]
 
 mod asker;
