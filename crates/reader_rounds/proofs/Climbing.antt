@@ -1,5 +1,5 @@
 -- Numbers that never fall.
-use Rattle.std.proofs.Common.{◌≡◌, ℕ, zero, suc, ◌≤◌, List, [], ◌∷◌, ◌++◌, flat_map, replicate, arith}
+use Rattle.std.proofs.Common.{ℕ, zero, suc, ◌≤◌, List, [], ◌∷◌, ◌++◌, flat_map, replicate, arith}
 use Rattle.reader_rounds.specs.Rounds.{Climbs}
 
 pub climbs_append : (from between to : ℕ) (xs ys : List ℕ) → Climbs from between xs → Climbs between to ys → Climbs from to (xs ++ ys)

@@ -1,5 +1,5 @@
 -- What is given of the answers of one round.
-use Rattle.std.proofs.Common.{◌≡◌, ℕ, zero, suc, ◌+◌, ◌<◌, ◌≤◌, min, Bool, true, false, List, [], ◌∷◌, ◌++◌, length, length-append, map, replicate, take, refl, sym, ap, subst, ◌∙◌, arith}
+use Rattle.std.proofs.Common.{◌≡◌, ℕ, suc, ◌+◌, ◌<◌, ◌≤◌, min, Bool, true, false, List, [], ◌∷◌, length, length-append, map, take, refl, sym, ap, ◌∙◌, arith}
 use Rattle.std.specs.Prelude.{nat_lt, if◌then◌else◌}
 use Rattle.std.proofs.lemmas.Bool.Decides.{nat_tests}
 use Rattle.std.proofs.lemmas.List.{take_all}
@@ -17,7 +17,7 @@ use Rattle.table_versions.specs.Versions.{after, tables_of, version_of}
 use Rattle.table_versions.specs.declared.answers.Answer.{Answer}
 use Rattle.table_versions.proofs.Rounds.{begins_trans}
 use Rattle.reader_rounds.specs.Rounds.{Climbs, answer_of, answers_of}
-use Rattle.reader_rounds.specs.Settling.{HasLength, answered, settled, settled_all}
+use Rattle.reader_rounds.specs.Settling.{answered, settled, settled_all}
 use Rattle.reader_rounds.proofs.RoundLaws.{answers_begin}
 
 -- a beginning of a list is its front
@@ -65,6 +65,7 @@ module _ (style : StyleOf) (front last : FrontOf) (ours : Begins front last) (ta
       where
         base : own.base ≡ last.base
         base = behind.base ∙ sym ours.base
+
         go : (late : Bool) → nat_lt version given.version ≡ late → (if late then answered style tables version query else given) ≡ answer_of style last (cut last own) query
         go true late =
             let less : version < given.version = grind (arith, nat_tests) in

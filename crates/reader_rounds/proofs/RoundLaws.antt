@@ -1,5 +1,5 @@
 -- Rounds of a reader, one behind the other.
-use Rattle.std.proofs.Common.{◌≡◌, ◌≢◌, ℕ, ◌+◌, ◌<◌, ◌⊎◌, inl, inr, Bool, true, false, None, Some, Option, Result, Ok, Err, IfOk, List, [], ◌∷◌, ◌++◌, length, length-append, refl, sym, ap, subst, ◌∙◌, arith}
+use Rattle.std.proofs.Common.{◌≡◌, ◌≢◌, ℕ, ◌+◌, ◌⊎◌, inl, inr, Bool, true, false, None, Some, Result, Ok, Err, IfOk, List, [], ◌∷◌, ◌++◌, length, length-append, sym, ap, subst, ◌∙◌, arith}
 use Rattle.std.specs.Bool.{OnFalse, OnTrue}
 use Rattle.std.specs.List.{AllByRecursion}
 use Rattle.std.specs.Prelude.{All}
@@ -11,7 +11,6 @@ use Rattle.delta_log.proofs.Shapes.{begins_itself}
 use Rattle.table_versions.specs.Answers.{AreAnswers}
 use Rattle.table_versions.specs.Views.{IsNewReader, ReaderOf}
 use Rattle.table_versions.specs.declared.answers.Answer.{Answer}
-use Rattle.table_versions.specs.declared.answers.LookRefused.{LookRefused}
 use Rattle.table_versions.proofs.Rounds.{begins_trans}
 use Rattle.reader_rounds.specs.Asking.{AreAnswered, AreRounds, AsksRound, HasAsked, begin_of}
 use Rattle.reader_rounds.specs.Rounds.{AreServed}
@@ -132,8 +131,7 @@ pub more_askers : (style : StyleOf) (front : FrontOf) (queries : List Query) (be
     → asker.reader ≡ reader → asker.rounds ≡ [] → All (IsNewReader style front) before × All (HasAsked style front queries 0) askers → All (IsNewReader style front) left × All (HasAsked style front queries 0) more
 more_askers style front queries before left reader askers more asker popped pushed is none all =
     let parts = All-pop (IsNewReader style front) before left (Some reader) popped all.0 in
-    let new : IsNewReader style front asker.reader = subst (λ (own : ReaderOf). IsNewReader style front own) (sym is) parts.1 in
-    (
+    let new : IsNewReader style front asker.reader = subst (λ (own : ReaderOf). IsNewReader style front own) (sym is) parts.1 in (
       parts.0,
       subst (λ (own : List Asker). All (HasAsked style front queries 0) own) (sym pushed) (All-push (HasAsked style front queries 0) askers asker all.1 (asked_none style front queries asker new none)),
     )

@@ -1,5 +1,5 @@
 -- How far readers are with their rounds.
-use Rattle.std.specs.Prelude.{◌≡◌, ◌<◌, ℕ, ◌+◌, true, List, [], ◌∷◌, ◌++◌, All, length, None}
+use Rattle.std.specs.Prelude.{◌≡◌, ◌<◌, ℕ, true, List, [], ◌∷◌, ◌++◌, All, length, None}
 use Rattle.style_read.specs.Style.{StyleOf}
 use Rattle.map_query.specs.declared.query.Query.{Query}
 use Rattle.delta_log.specs.Fronts.{Begins, FrontOf}

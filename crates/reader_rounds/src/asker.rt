@@ -86,13 +86,7 @@ impl Asker {
     }
 
     /// Is told of what was published, and asks once more.
-    fn ask_last<G: Gate>(
-        &mut self,
-        alloc: Global,
-        told: Told,
-        queries: &Queries,
-        gate: &G,
-    )
+    fn ask_last<G: Gate>(&mut self, alloc: Global, told: Told, queries: &Queries, gate: &G)
         requires same { told.book ≡ self.old.reader.seen.book }
         ensures answered { (style : StyleOf) (front : FrontOf) (rounds : ℕ) → HasAsked style front queries.now rounds self.old
             → self.new.stopped ≡ None → AreAnswered style front told queries.now rounds self.new.rounds }

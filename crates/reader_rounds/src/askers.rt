@@ -154,9 +154,7 @@ impl Askers {
         let mut blocks = Items::new(alloc);
         for asker in self.askers {
             let told = publisher.tell();
-            blocks.push(asker.finish(
-                alloc, told, style, tables, version, queries, rounds, gate,
-            )?)?;
+            blocks.push(asker.finish(alloc, told, style, tables, version, queries, rounds, gate)?)?;
         }
         Ok(blocks)
     }
