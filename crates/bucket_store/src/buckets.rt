@@ -69,6 +69,7 @@ impl<'d, D: Disk> Buckets<'d, D> {
         ensures limit { page_limit (journal_of (chains_of result)) ≡ limits.now.pages }
         ensures whole { is_broken (journal_of (chains_of result)) ≡ false }
         ensures going { has_refused result ≡ false }
+        ensures read { read_of (chains_of result) ≡ map.empty }
         ensures rests { (image : Image) → Fits opened (D.view disk.entry.now) → HoldsImage image (D.view disk.entry.now) → RestsAt image result }
         ensures has { (image : Image) → Fits opened (D.view disk.entry.now) → HoldsImage image (D.view disk.entry.now) → Has image image result }
     {
