@@ -7,6 +7,7 @@ pub mod Imports
 pub mod Keyed
 pub mod Loading
 pub mod Looking
+pub mod OpeningReads
 pub mod Openings
 pub mod Resting
 pub mod Running

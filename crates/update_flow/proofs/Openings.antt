@@ -241,6 +241,11 @@ found_of root view new found (Ok opened) same blank changes rest = λ fits state
           fits = own.1;
         }
 
+pub style_of : (root : Root) (view : DiskView) (found : Opened) (T : Type 0) → root ≡ opened_root found → is_blank root ≡ false
+    → ((held : Holding) → Fits found view → HoldsState (imported held) view → T) → (state : State) → Fits found view → HoldsState state view → T
+style_of root view found T same blank reads formatted fits holds = absurd (none_blank view found root same blank fits holds)
+style_of root view found T same blank reads (imported held) fits holds = reads held fits holds
+
 pub sound_of : (root : Root) (view : DiskView) (found : Opened) (fault : Option FlowFault) → root ≡ opened_root found → is_blank root ≡ false
     → (Fits found view → (held : Holding) → HoldsState (imported held) view → IsSound fault) → Fits found view → (state : State) → HoldsState state view
     → IsSound fault

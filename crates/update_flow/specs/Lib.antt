@@ -15,3 +15,4 @@ pub mod Turning
 pub mod Settling
 pub mod Steps
 pub mod Ids
+pub mod OpeningReads

@@ -1,9 +1,11 @@
 //! A store is opened on a disk that stays with its owner.
-ghost use Rattle.std.specs.Prelude.{◌≡◌, ◌≤◌, List, ℕ, Some, IfOk, IfErr, IsErrOf};
+ghost use Rattle.std.specs.Prelude.{◌≡◌, ◌≢◌, ◌≤◌, List, ℕ, Some, IfOk, IfErr, IsErrOf, OnOk};
 ghost use Rattle.std.specs.Result.{result_err};
 ghost use Rattle.outside.specs.Bytes.{IfTold, IsTold};
 ghost use Rattle.outside.specs.Disk.{Stays, Tells};
 ghost use Rattle.page_journal.specs.Home.{IsFormatted};
+ghost use Rattle.page_journal.specs.Pages.{gate};
+ghost use Rattle.page_journal.specs.declared.layout.TheConstants.{OPEN};
 ghost use Rattle.page_journal.specs.declared.fault.StoreFault.TheVariants.{BadStore, NotFormatted};
 ghost use Rattle.bucket_store.specs.Opening.{Fits};
 ghost use Rattle.update_flow.specs.AtRest.{HasFlowCause, IsAt, IsAtEither, Opens, OpensAs, StandsForNone};
@@ -11,6 +13,7 @@ ghost use Rattle.update_flow.specs.State.{Holding, State, imported};
 ghost use Rattle.update_flow.specs.Stands.{StandsFor};
 ghost use Rattle.update_flow.specs.Refusals.{IsNoDiskFault, IsOpenFault, MayFind};
 ghost use Rattle.update_flow.specs.Opening.{Found, HoldsState};
+ghost use Rattle.update_flow.specs.OpeningReads.{ReadsStyle, ReadsToOpen};
 ghost use Rattle.update_flow.specs.Within.{IsSound};
 ghost use Rattle.update_flow.specs.declared.fault.FlowFault.TheVariants.{Store};
 ghost use Rattle.update_flow.specs.declared.fault.TheConstants.{LAST_CHANGE};
@@ -41,6 +44,8 @@ pub fn open<D: Disk>(alloc: Global, disk: &mut D, limits: &Limits) -> Result<Ope
     ensures untouched { IsErrOf result (Store NotFormatted) → Stays (D.view disk.old) (D.view disk.new) }
     ensures told { IsTold (D.view disk.old).content → IsNoDiskFault (result_err result) → IsTold (D.view disk.new).content }
     ensures bad { (page : ℕ) → IsErrOf result (Store (BadStore page)) → IfTold (D.view disk.old).content StandsForNone }
+    ensures once { OnOk result ((bytes : List ℕ) (state : State) → Tells (D.view disk.old) bytes → StandsFor bytes state → gate bytes ≢ OPEN
+        → ReadsToOpen bytes (D.view disk.old) (D.view disk.new)) }
     ensures cause { HasFlowCause (result_err result) (D.view disk.old) (D.view disk.new) }
 {
     match bucket_store::open(alloc, disk, limits) {
@@ -62,6 +67,8 @@ fn judged<D: Disk>(
     ensures sound { Fits found (D.view disk.old) → (state : State) → HoldsState state (D.view disk.old) → IsSound (result_err result) }
     ensures alone { IfErr result MayFind }
     ensures stays { Stays (D.view disk.old) (D.view disk.new) }
+    ensures once { OnOk result ((state : State) → Fits found (D.view disk.old) → HoldsState state (D.view disk.old)
+        → ReadsStyle (D.view disk.old) (D.view disk.new)) }
     ensures cause { HasFlowCause (result_err result) (D.view disk.old) (D.view disk.new) }
 {
     let root = found.root();
@@ -94,6 +101,8 @@ fn with_style<D: Disk>(
     ensures sound { Fits found (D.view disk.old) → (held : Holding) → HoldsState (imported held) (D.view disk.old) → IsSound (result_err result) }
     ensures alone { IfErr result MayFind }
     ensures stays { Stays (D.view disk.old) (D.view disk.new) }
+    ensures once { OnOk result ((held : Holding) → Fits found (D.view disk.old) → HoldsState (imported held) (D.view disk.old)
+        → ReadsStyle (D.view disk.old) (D.view disk.new)) }
     ensures cause { HasFlowCause (result_err result) (D.view disk.old) (D.view disk.new) }
 {
     let mut buckets = Buckets::on(alloc, disk, limits, found);

@@ -1,9 +1,12 @@
 -- What the buckets found is judged.
-use Rattle.std.proofs.Common.{◌⊎◌, inl, inr, Some, Err, refl, sym, subst, ◌∙◌}
+use Rattle.std.proofs.Common.{◌≢◌, ◌⊎◌, inl, inr, ℕ, List, Some, Err, refl, sym, subst, ◌∙◌}
 use Rattle.std.specs.Result.{result_err}
-use Rattle.std.proofs.lemmas.Result.{IfOk-weaker}
+use Rattle.std.proofs.lemmas.Result.{IfOk-weaker, on_ok_weaker}
 use Rattle.outside.specs.Bytes.{IsTold}
-use Rattle.outside.specs.Disk.{Goes}
+use Rattle.outside.specs.Disk.{Goes, Tells}
+use Rattle.page_journal.specs.Home.{HasOpenJournal}
+use Rattle.page_journal.specs.Pages.{gate}
+use Rattle.page_journal.specs.declared.layout.TheConstants.{OPEN}
 use Rattle.bucket_store.specs.Image.{IsSoundAnswer}
 use Rattle.bucket_store.specs.Opening.{Fits}
 use Rattle.bucket_store.specs.declared.opened.Opened.{Opened as Stored}
@@ -15,6 +18,8 @@ use Rattle.update_flow.specs.State.{State}
 use Rattle.update_flow.specs.Within.{IsSound}
 use Rattle.update_flow.specs.declared.fault.FlowFault.{FlowFault}
 use Rattle.update_flow.specs.declared.opened.Opened.{Opened}
+use Rattle.update_flow.specs.OpeningReads.{ReadsStyle, ReadsToOpen}
+use Rattle.update_flow.proofs.OpeningReads.{opens_then}
 use Rattle.update_flow.proofs.Openings.{bad_none, each_meant, goes_either, opens_as, opens_either, quiet_fault, sound_answer, sound_store, state_before}
 use Rattle.update_flow.proofs.opening.open.Goals as goal
 
@@ -107,3 +112,18 @@ returns-in-Ok-clause-told g c = λ told no.
 pub returns-in-Err-clause-told : goal.returns-in-Err-clause-told
 returns-in-Err-clause-told g c = λ told no.
     c.in-Err.ensures.told told.0 told.1 (quiet_fault Stored c.in-Err.fault (subst (λ (f : FlowFault). IsNoDiskFault (Some f)) c.store_fault.ensures no))
+
+pub returns-in-Ok-clause-once : goal.returns-in-Ok-clause-once
+unfolding StandsFor
+returns-in-Ok-clause-once g c =
+    let old = g.D.Disk.view c.args.disk.now in
+    let mid = g.D.Disk.view c.open.new.disk in
+    let new = g.D.Disk.view c.judged.new.disk in
+    on_ok_weaker {P = (state : State) → Fits c.in-Ok.found mid → HoldsState state mid → ReadsStyle mid new}
+    {Q = (bytes : List ℕ) (state : State) → Tells old bytes → StandsFor bytes state → gate bytes ≢ OPEN → ReadsToOpen bytes old new} c.judged.result
+    (λ reads bytes state told stands shut.
+    let holds : HoldsState state mid = record { image = stands.0; holds = c.in-Ok.ensures.found bytes told stands.0 stands.2; means = stands.1 } in
+    let fits = c.in-Ok.ensures.fits bytes told in
+    opens_then bytes old mid new c.in-Ok.found told (c.open.ensures.looked bytes told (λ (opened : HasOpenJournal bytes). shut opened.is_open)) fits
+    (c.in-Ok.ensures.reads bytes told shut) (reads state fits holds))
+    c.judged.ensures.once

@@ -6,6 +6,8 @@ use Rattle.bucket_store.specs.Image.{Image, RestsAt}
 use Rattle.bucket_store.specs.Opening.{Fits}
 use Rattle.bucket_store.specs.Transaction.{chains_of}
 use Rattle.bucket_store.specs.declared.opened.Opened.{Opened}
+use Rattle.update_flow.specs.OpeningReads.{ReadsStyle}
+use Rattle.update_flow.proofs.OpeningReads.{style_over}
 use Rattle.update_flow.proofs.Looking.{found_styled}
 use Rattle.update_flow.proofs.opening.with_style.Goals as goal
 
@@ -24,3 +26,11 @@ returns-clause-found g c = λ before held holds.
 pub returns-in-Err-clause-sound : goal.returns-in-Err-clause-sound
 returns-in-Err-clause-sound g c = λ fits held holds.
     c.in-Err.ensures.sound holds.image holds.image held (c.on-buckets.ensures.has holds.image fits holds.holds) holds.means
+
+pub returns-clause-once : goal.returns-clause-once
+returns-clause-once g c = λ held fits holds.
+    let after = c.load_style-read.new.buckets in
+    let here : ReadsStyle (g.D.Disk.view c.args.disk.now) (g.D.Disk.view c.hand_back-disk.result.now) =
+    style_over c.on-buckets.result after c.args.disk.now c.hand_back-disk.result.now c.on-buckets.ensures.disk c.hand_back-disk.ensures.disk
+    (c.in-Ok.ensures.reads holds.image holds.image (c.on-buckets.ensures.has holds.image fits holds.holds)) in
+    search (rules, here)

@@ -8,6 +8,7 @@ use Rattle.bucket_store.specs.Transaction.{chains_of}
 use Rattle.update_flow.specs.Refusals.{MayFind}
 use Rattle.update_flow.specs.Within.{IsSound}
 use Rattle.update_flow.specs.declared.fault.FlowFault.{FlowFault}
+use Rattle.update_flow.proofs.OpeningReads.{text_read}
 use Rattle.update_flow.proofs.Openings.{reads_alone, sound_store}
 use Rattle.update_flow.proofs.style_text.load_style.Goals as goal
 
@@ -31,3 +32,7 @@ pub returns-in-Err-clause-alone : goal.returns-in-Err-clause-alone
 returns-in-Err-clause-alone g c =
     subst (λ (f : FlowFault). MayFind f) (sym c.store_fault.ensures)
     (reads_alone (List ℕ) (is_broken (journal_of (chains_of c.args.buckets.now))) c.in-Err.fault c.requires.whole c.in-Err.ensures.alone)
+
+pub returns-in-Ok-read_style-clause-reads : goal.returns-in-Ok-read_style-clause-reads
+returns-in-Ok-read_style-clause-reads g c = λ rest now has.
+    text_read c.args.buckets.now c.load.new.self rest now has c.in-Ok.ensures.reads c.in-Ok.ensures.stays c.in-Ok.ensures.open
