@@ -14,3 +14,4 @@ pub mod Running
 pub mod Steps
 pub mod Turning
 pub mod OneTable
+pub mod ReadLaws

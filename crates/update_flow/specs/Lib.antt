@@ -16,3 +16,4 @@ pub mod Settling
 pub mod Steps
 pub mod Ids
 pub mod OpeningReads
+pub mod Reads

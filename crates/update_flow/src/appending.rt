@@ -1,12 +1,19 @@
 //! A change is made in a store, within its buckets.
-ghost use Rattle.std.specs.Prelude.{◌≡◌, ◌≤◌, ◌+◌, None, false, IfOk};
+ghost use Rattle.std.specs.Prelude.{◌≡◌, ◌≤◌, ◌+◌, ℕ, List, None, false, IfOk, OnOk};
+ghost use Rattle.std.specs.FinMap as finite;
 ghost use Rattle.std.specs.Result.{result_err};
 ghost use Rattle.osm_base.specs.map.Objects.{folded_all};
 ghost use Rattle.row_map.specs.Row.{tables};
+ghost use Rattle.chain_store.specs.Answers.{RestsWith};
+ghost use Rattle.chain_store.specs.Chains.{disk_of, journal_of, kept_of, read_of};
+ghost use Rattle.bucket_store.specs.Buckets.{bucket_count};
 ghost use Rattle.bucket_store.specs.Image.{Has, Image};
-ghost use Rattle.bucket_store.specs.Transaction.{has_refused};
+ghost use Rattle.bucket_store.specs.Transaction.{chains_of, has_refused};
+ghost use Rattle.store_maps.specs.Asked.{May};
+ghost use Rattle.update_step.specs.Touch.{MayTouch};
 ghost use Rattle.kept_maps.specs.Calls.{buckets_of, stop_of, style_in};
 ghost use Rattle.update_flow.specs.Changes.{AreChanges};
+ghost use Rattle.update_flow.specs.Reads.{MayLoad, ReadsOnce};
 ghost use Rattle.update_flow.specs.Stands.{IsImported};
 ghost use Rattle.update_flow.specs.State.{Append, Holding, imported};
 ghost use Rattle.update_flow.specs.Turning.{EndsIn, TurnsIn, limit_in};
@@ -56,6 +63,13 @@ pub(crate) fn append<D: Disk, R: Threads + Sync, G: Gate>(
     ensures changes { IfOk result (λ changes. (held : Holding) (rest : Image) → Has rest rest (buckets_of maps.old) → IsImported held rest
         → held.style ≡ style.now → AreChanges (tables held.style held.objects) (tables held.style (folded_all held.objects change.now)) changes) }
     ensures ends { EndsIn (result_err result) (buckets_of maps.old) (buckets_of maps.new) }
+
+    // It reads the due tiles, what the change touches, and the free list, each page once.
+    ensures reads { OnOk result ((held : Holding) (rest : Image) → Has rest rest (buckets_of maps.old) → IsImported held rest → held.style ≡ style.now
+        → read_of (chains_of (buckets_of maps.old)) ≡ finite.empty → (may : May) → MayTouch style.now held.objects change.now may
+        → (pages : List (List ℕ)) → RestsWith pages (journal_of (chains_of (buckets_of maps.old)))
+        → ReadsOnce (MayLoad may (bucket_count (chains_of (buckets_of maps.old)))) pages (kept_of (chains_of (buckets_of maps.old)))
+        (disk_of (chains_of (buckets_of maps.old))) (disk_of (chains_of (buckets_of maps.new)))) }
 {
     let mut due = match load_due(alloc, &mut maps.indexed.buckets) {
         Ok(due) => due,

@@ -4,7 +4,8 @@ ghost use Rattle.std.specs.Result.{result_err};
 ghost use Rattle.tile_cover.specs.Runs.{has};
 ghost use Rattle.due_tiles.specs.Spelling.{set_bytes};
 ghost use Rattle.bucket_store.specs.Image.{Has, Image, with_text};
-ghost use Rattle.bucket_store.specs.Transaction.{has_refused};
+ghost use Rattle.bucket_store.specs.Transaction.{chains_of, has_refused};
+ghost use Rattle.chain_store.specs.Reads.{ReadsOnly};
 ghost use Rattle.update_flow.specs.Stands.{IsImported};
 ghost use Rattle.update_flow.specs.State.{Holding};
 ghost use Rattle.update_flow.specs.Within.{IsSound, Runs, is_whole_store};
@@ -31,6 +32,7 @@ pub(crate) fn load_due<D: Disk>(
     ensures has { OnOk result ((rest now : Image) → Has rest now buckets.old → Has rest now buckets.new) }
     ensures going { OnOk result (has_refused buckets.new ≡ false) }
     ensures sound { (rest now : Image) (held : Holding) → Has rest now buckets.old → IsImported held now → IsSound (result_err result) }
+    ensures reads { OnOk result (ReadsOnly (λ n. n ≡ DUE_TEXT) (chains_of buckets.old) (chains_of buckets.new)) }
     ensures runs { Runs buckets.old buckets.new (result_err result) }
 {
     let bytes = match buckets.load(DUE_TEXT) {
@@ -55,6 +57,7 @@ pub(crate) fn store_due<D: Disk>(
     ensures stored { OnOk result ((rest now : Image) → Has rest now buckets.old → Has rest (with_text DUE_TEXT (set_bytes due.now) now) buckets.new) }
     ensures going { OnOk result (has_refused buckets.new ≡ false) }
     ensures sound { (rest now : Image) → Has rest now buckets.old → IsSound (result_err result) }
+    ensures reads { OnOk result (ReadsOnly (λ n. n ≡ DUE_TEXT) (chains_of buckets.old) (chains_of buckets.new)) }
     ensures runs { Runs buckets.old buckets.new (result_err result) }
 {
     let bytes = match encode(alloc, due) {

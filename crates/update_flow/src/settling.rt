@@ -1,12 +1,14 @@
 //! What a change leaves beside the maps of a store is committed with them.
-ghost use Rattle.std.specs.Prelude.{◌≡◌, false};
+ghost use Rattle.std.specs.Prelude.{◌≡◌, false, OnOk};
 ghost use Rattle.std.specs.Result.{result_err};
 ghost use Rattle.osm_base.specs.declared.bounds.limits.LimitNumbers.{LimitNumbers};
 ghost use Rattle.bucket_store.specs.Image.{Has, Image};
 ghost use Rattle.bucket_store.specs.Transaction.{has_refused};
+ghost use Rattle.update_flow.specs.Reads.{ReadsToCommit};
 ghost use Rattle.update_flow.specs.Settling.{settled};
 ghost use Rattle.update_flow.specs.Turning.{CommitsTo, EndsIn, limit_in};
 ghost use Rattle.update_flow.specs.Within.{is_whole_store};
+ghost use Rattle.update_flow.specs.declared.fields.TheConstants.{DUE_TEXT};
 
 use crate::FlowFault;
 use crate::due_text::store_due;
@@ -28,6 +30,7 @@ pub(crate) fn settle<D: Disk>(
     requires whole { is_whole_store buckets.old }
     ensures commits { (limits : LimitNumbers) (rest now : Image) → limit_in buckets.old ≡ limits.pages → Has rest now buckets.old
         → CommitsTo limits rest (settled number due.now now) (result_err result) buckets.old buckets.new }
+    ensures reads { OnOk result ((rest now : Image) → Has rest now buckets.old → ReadsToCommit (λ n. n ≡ DUE_TEXT) buckets.old buckets.new) }
     ensures ends { EndsIn (result_err result) buckets.old buckets.new }
 {
     match store_due(alloc, buckets, due) {

@@ -25,6 +25,7 @@ use Rattle.update_flow.specs.declared.fault.FlowFault.{FlowFault}
 use Rattle.update_flow.proofs.Changed.{append_becomes, not_zero, step_answers}
 use Rattle.update_flow.proofs.Steps.{none_spent, step_ends}
 use Rattle.update_flow.proofs.Turning.{ends_then, runs_ended, sound_answers, turns_committed, turns_refused}
+use Rattle.update_flow.proofs.ReadLaws.{change_reads, none_loaded}
 use Rattle.update_flow.proofs.appending.append.Goals as goal
 
 pub change_maps-requires-clause-spent : goal.change_maps-requires-clause-spent
@@ -180,3 +181,30 @@ returns-clause-turns g c held rest same was is style next =
       (λ set pending. done.few under is.maps.maps held.objects keeps stand set (subst (λ (s : StyleOf). IsPendingOf s held.objects change set) style pending)),
     )
     (c.in-Err-settle.ensures.commits limits rest kept.now (looks.looked.limit ∙ same) kept.has)
+
+-- no more was read than the change touches
+pub returns-in-Ok-settle-clause-reads : goal.returns-in-Ok-settle-clause-reads
+returns-in-Ok-settle-clause-reads g c held rest was is style unread may touched pages rests =
+    let old = buckets_of c.args.maps.now in
+    let mid = c.load_due.new.buckets in
+    let last = c.change_maps.new.store in
+    let later = c.change_maps.ensures.looked _ (later_same _) in
+    let done = c.in-Ok-change_maps.ensures in
+    let own : style_in c.args.maps.now ≡ held.style = c.requires.style ∙ sym style in
+    let under : Beside = record { rest = rest; root = rest.root; texts = rest.texts } in
+    let keeps : HasMaps (style_in c.args.maps.now).tables under is.maps.maps mid =
+    subst (λ (s : StyleOf). HasMaps s.tables under is.maps.maps mid) (sym own)
+    (record { now = rest; has = c.in-Ok.ensures.has rest rest was; root = refl; texts = λ n below. refl; kept = is.maps.kept }) in
+    let stand : Stands c.args.style.now is.maps.maps held.objects = subst (λ (s : StyleOf). Stands s is.maps.maps held.objects) style is.maps.stand in
+    let made = (done.stands under is.maps.maps held.objects keeps stand).1 in
+    let going = over_going last done.spent in
+    let loads = c.in-Ok.ensures.reads in
+    let only = c.change_maps.ensures.within under is.maps.maps held.objects keeps stand may touched (none_loaded may old mid (buckets_of last) c.settle.new.buckets unread loads) in
+    change_reads may old mid (buckets_of last) c.settle.new.buckets unread loads c.in-Ok.ensures.runs.looks later.looks (later.reads going) only going
+    (ap (λ (r : Root). r.buckets) (made.has.root ∙ made.root ∙ sym was.root)) (c.in-Ok-settle.ensures.reads rest made.now made.has) pages rests
+
+pub returns-clause-ends : goal.returns-clause-ends
+returns-clause-ends g c =
+    let later = c.change_maps.ensures.looked _ (later_same _) in
+    ends_then _ (buckets_of c.args.maps.now) (buckets_of c.change_maps.new.store) c.settle.new.buckets
+    (looks_then (buckets_of c.args.maps.now) c.load_due.new.buckets (buckets_of c.change_maps.new.store) c.in-Ok.ensures.runs.looks later.looks) c.in-Err-settle.ensures.ends

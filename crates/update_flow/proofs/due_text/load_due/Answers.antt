@@ -7,6 +7,9 @@ use Rattle.update_flow.specs.Within.{IsSound, Runs}
 use Rattle.update_flow.specs.declared.fault.FlowFault.{FlowFault}
 use Rattle.update_flow.proofs.Openings.{sound_store}
 use Rattle.update_flow.proofs.Running.{runs_done, runs_refused, runs_unread}
+use Rattle.chain_store.proofs.Counted.{reads_call}
+use Rattle.bucket_store.specs.Transaction.{chains_of}
+use Rattle.update_flow.specs.declared.fields.TheConstants.{DUE_TEXT}
 use Rattle.update_flow.proofs.due_text.load_due.Goals as goal
 
 pub returns-in-Err-clause-sound : goal.returns-in-Err-clause-sound
@@ -35,3 +38,6 @@ returns-in-Err-NotSpelled-clause-sound g c = λ rest now held was is.
 pub returns-in-Err-NotSpelled-clause-runs : goal.returns-in-Err-NotSpelled-clause-runs
 returns-in-Err-NotSpelled-clause-runs g c =
     runs_unread c.args.buckets.now c.load.new.self c.load.ensures.same c.requires.whole 1 c.in-Ok.ensures.broken
+
+pub returns-in-Ok-decode-clause-reads : goal.returns-in-Ok-decode-clause-reads
+returns-in-Ok-decode-clause-reads g c = reads_call _ DUE_TEXT (chains_of c.args.buckets.now) (chains_of c.load.new.self) c.in-Ok.ensures.reads

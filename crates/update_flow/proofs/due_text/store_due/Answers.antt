@@ -6,6 +6,8 @@ use Rattle.update_flow.specs.declared.fault.FlowFault.{FlowFault}
 use Rattle.update_flow.specs.declared.fields.TheConstants.{DUE_TEXT}
 use Rattle.update_flow.proofs.Openings.{sound_store}
 use Rattle.update_flow.proofs.Running.{runs_done, runs_idle, runs_refused}
+use Rattle.chain_store.proofs.Counted.{reads_call}
+use Rattle.bucket_store.specs.Transaction.{chains_of}
 use Rattle.update_flow.proofs.due_text.store_due.Goals as goal
 
 pub returns-in-Err-clause-runs : goal.returns-in-Err-clause-runs
@@ -27,3 +29,6 @@ returns-in-Err-store-clause-runs g c =
     subst (λ (f : FlowFault). Runs c.args.buckets.now c.store.new.self (Some f)) (sym c.store_fault.ensures)
     (runs_refused c.args.buckets.now c.store.new.self c.store.ensures.same c.requires.whole (Unit {0}) c.in-Err-store.fault
     c.in-Err-store.ensures.alone c.in-Err-store.ensures.broken c.in-Err-store.ensures.cause)
+
+pub returns-in-Ok-store-clause-reads : goal.returns-in-Ok-store-clause-reads
+returns-in-Ok-store-clause-reads g c = reads_call _ DUE_TEXT (chains_of c.args.buckets.now) (chains_of c.store.new.self) c.in-Ok-store.ensures.reads

@@ -5,6 +5,7 @@ use Rattle.update_flow.specs.Turning.{CommitsTo, EndsIn}
 use Rattle.update_flow.specs.declared.fault.FlowFault.{FlowFault}
 use Rattle.update_flow.proofs.Openings.{quiet_fault}
 use Rattle.update_flow.proofs.Turning.{commit_answers, committed_ends, uncommitted_ends}
+use Rattle.update_flow.proofs.ReadLaws.{commit_reads}
 use Rattle.update_flow.proofs.finishing.finish.Goals as goal
 
 pub returns-in-Ok-clause-commits : goal.returns-in-Ok-clause-commits
@@ -34,3 +35,6 @@ returns-in-Err-clause-ends g c =
     subst (λ (f : FlowFault). EndsIn (Some f) c.args.buckets.now c.commit.new.self) (sym c.store_fault.ensures)
     (uncommitted_ends c.args.buckets.now c.commit.new.self c.requires.whole c.commit.ensures.same_disk
     (Unit {0}) _ c.in-Err.fault c.in-Err.ensures.alone c.in-Err.ensures.broken c.in-Err.ensures.cause)
+
+pub returns-in-Ok-clause-reads : goal.returns-in-Ok-clause-reads
+returns-in-Ok-clause-reads g c rest now has = commit_reads rest now c.args.buckets.now c.commit.new.self has c.in-Ok.ensures.reads

@@ -1,5 +1,5 @@
 -- The due tiles, and then the number of changes, are in the store that is committed.
-use Rattle.std.proofs.Common.{◌≡◌, ◌∙◌, ap, subst}
+use Rattle.std.proofs.Common.{◌≡◌, ◌∙◌, ap, subst, ℕ}
 use Rattle.std.specs.Result.{result_err}
 use Rattle.due_tiles.specs.Spelling.{set_bytes}
 use Rattle.chain_store.specs.declared.root.Root.{Root}
@@ -9,6 +9,7 @@ use Rattle.bucket_store.proofs.Images.{root_with_text}
 use Rattle.update_flow.specs.Settling.{counted_to, settled}
 use Rattle.update_flow.specs.declared.fields.TheConstants.{DUE_TEXT}
 use Rattle.update_flow.proofs.Turning.{commits_after, commits_refused, ends_then}
+use Rattle.update_flow.proofs.ReadLaws.{ok_then, reads_before, reads_root, wider_commit}
 use Rattle.update_flow.proofs.settling.settle.Goals as goal
 
 pub returns-in-Ok-clause-commits : goal.returns-in-Ok-clause-commits
@@ -33,3 +34,17 @@ pub returns-in-Err-clause-commits : goal.returns-in-Err-clause-commits
 returns-in-Err-clause-commits g c limits rest now same has =
     commits_refused limits c.in-Err.fault rest (settled c.args.number c.args.due.now now) c.args.buckets.now c.store_due.new.buckets
     (rests_under rest now c.args.buckets.now has) c.in-Err.ensures.runs.looks (c.in-Err.ensures.sound rest now has)
+
+pub returns-in-Ok-clause-reads : goal.returns-in-Ok-clause-reads
+returns-in-Ok-clause-reads g c =
+    ok_then c.finish.result c.finish.ensures.reads (λ reads rest now has.
+    let due : ℕ → Type 0 = λ n. n ≡ DUE_TEXT in
+    let text = with_text DUE_TEXT (set_bytes c.args.due.now) now in
+    let rooted = c.set_root.ensures.has rest text (c.in-Ok.ensures.stored rest now has) in
+    let old = c.args.buckets.now in
+    let mid = c.store_due.new.buckets in
+    let last = c.set_root.new.self in
+    let new = c.finish.new.buckets in
+    reads_before due old mid new c.in-Ok.ensures.runs.looks c.in-Ok.ensures.reads
+    (reads_before due mid last new c.set_root.ensures.same (reads_root due mid last c.set_root.ensures.journal c.set_root.ensures.read)
+    (wider_commit (λ _. ⊥) due last new (λ n none. absurd none) (reads rest _ rooted))))
