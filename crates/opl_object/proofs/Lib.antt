@@ -5,7 +5,9 @@ pub mod Escaping
 pub mod FaultsOfFields
 pub mod FaultsOfItems
 pub mod FaultsOfLines
+pub mod FieldSteps
 pub mod FirstFaults
+pub mod Fronts
 pub mod GatheredTags
 pub mod Letters
 mod Manual

@@ -66,7 +66,7 @@ value_after-append : (n : ℕ) (front back : List ℕ) → digits_value_after 10
 value_after-append n [] back = refl
 value_after-append n (digit ∷ front) back = value_after-append (n * 10 + digit_value digit) front back
 
-value_after-shift : (n : ℕ) (digits : List ℕ) → digits_value_after 10 n digits ≡ n * 10 ^ length digits + digits_value_after 10 0 digits
+pub value_after-shift : (n : ℕ) (digits : List ℕ) → digits_value_after 10 n digits ≡ n * 10 ^ length digits + digits_value_after 10 0 digits
 value_after-shift n [] = omega arith
 value_after-shift n (digit ∷ digits) =
     let power : 10 ^ suc (length digits) ≡ 10 * 10 ^ length digits = pow-succ' 10 (length digits) in
@@ -143,7 +143,7 @@ trimmed_whole digits =
     let count : p ≡ length digits - length (trimmed digits) = omega (arith, ap length whole, length-append (trimmed digits) (replicate p 48), length-replicate {A = ℕ} p 48) in
     whole ∙ ap (λ k. trimmed digits ++ replicate k 48) count
 
-value_zeros : (k : ℕ) → digits_value_after 10 0 (replicate k 48) ≡ 0
+pub value_zeros : (k : ℕ) → digits_value_after 10 0 (replicate k 48) ≡ 0
 value_zeros zero = refl
 value_zeros (suc k) = value_zeros k
 

@@ -13,6 +13,10 @@ is byte other = other == byte
 abbrev pub is_blank : ℕ → Bool
 is_blank byte = byte == SPACE || byte == TAB
 
+-- the text from its first space or tab on
+abbrev pub from_blank : List ℕ → List ℕ
+from_blank text = drop (position_or_len is_blank text) text
+
 abbrev pub is_empty : List ℕ → Bool
 is_empty text = length text == 0
 

@@ -88,6 +88,17 @@ pub record SpellsCoordinate (greatest : ℕ) (text : List ℕ) (value : ℤ) : T
   pub near : units whole decimals ≤ greatest
   pub is : (if minus then neg_ℤ (pos (units whole decimals)) else pos (units whole decimals)) ≡ value
 
+-- a coordinate of so many units that has no sign
+pub record SpellsUnits (text : List ℕ) (size : ℕ) : Type 0 where
+  pub whole : List ℕ
+  pub decimals : List ℕ
+  pub form : text ≡ whole ++ decimals_text decimals
+  pub some : 1 ≤ length whole
+  pub few : length whole + length decimals ≤ 20
+  pub whole_digits : IsTrue (list_all is_ascii_digit whole)
+  pub decimal_digits : IsTrue (list_all is_ascii_digit decimals)
+  pub is : units whole decimals ≡ size
+
 -- a tag: its key, an equals sign and its value
 pub record SpellsTag (piece : List ℕ) (tag : List ℕ × List ℕ) : Type 0 where
   pub key : List ℕ

@@ -54,7 +54,7 @@ fn digits_of(decimals: Option<&[u8]>) -> &[u8]
 }
 
 /// The number or, behind a minus, its negative.
-fn with_sign(minus: bool, size: u64) -> i32
+pub(crate) fn with_sign(minus: bool, size: u64) -> i32
     requires { size ≤ 1800000000 }
     ensures value { result ≡ (if minus then neg_ℤ (pos size) else pos size) }
 {

@@ -1,9 +1,9 @@
 //! The pieces of a text, one after the other.
-ghost use Rattle.std.specs.Prelude.{◌≡◌, ◌<◌, ◌≤◌, ◌+◌, not, [], ◌∷◌, length, drop, slice_index, count_by, IfSome, MatchOption};
+ghost use Rattle.std.specs.Prelude.{◌≡◌, ◌<◌, ◌≤◌, ◌+◌, not, true, [], ◌∷◌, length, drop, slice_index, count_by, IfSome, IsTrue, MatchOption};
 ghost use Rattle.std.specs.Char.{is_ascii_digit};
-ghost use Rattle.std.specs.List.{slice_split, position_or_len};
+ghost use Rattle.std.specs.List.{slice_split, position_or_len, before_first};
 ghost use Rattle.std.specs.Option.{option_map};
-ghost use Rattle.opl_object.specs.Fields.{is, is_blank, fields_of, cut_at, later_pieces, behind};
+ghost use Rattle.opl_object.specs.Fields.{is, is_blank, from_blank, fields_of, cut_at, later_pieces, behind};
 
 use crate::ascii::{COMMA, SPACE, TAB};
 
@@ -83,15 +83,34 @@ pub(crate) fn pieces(text: &str) -> usize
 pub(crate) fn next_field(text: &str) -> Option<(&str, &str)>
     ensures fields { MatchOption result (fields_of text.now ≡ [])
         (λ (field, rest). fields_of text.now ≡ field.now ∷ fields_of rest.now) }
-    ensures shorter { IfSome result (λ (_, rest). length rest.now < length text.now) }
+{
+    let Some(field) = field_at(text) else {
+        return None;
+    };
+    let end = blank_place(field.as_bytes());
+    Some(field.split_at(end))
+}
+
+/// The text from its first field on.
+pub(crate) fn field_at(text: &str) -> Option<&str>
+    ensures fields { MatchOption result (fields_of text.now ≡ [])
+        (λ field. fields_of text.now ≡ before_first is_blank field.now ∷ fields_of (from_blank field.now)) }
+    ensures some { IfSome result (λ field. 0 < position_or_len is_blank field.now) }
+    ensures within { IfSome result (λ field. length field.now ≤ length text.now) }
 {
     let start = field_place(text.as_bytes());
     if start == text.len() {
         return None;
     }
-    let (_, text) = text.split_at(start);
-    let end = blank_place(text.as_bytes());
-    Some(text.split_at(end))
+    let (_, field) = text.split_at(start);
+    Some(field)
+}
+
+/// Whether a field ends at this place: a blank stands there, or the text ends.
+pub(crate) fn ends_at(text: &[u8], place: usize) -> bool
+    ensures blank { IsTrue result → place < length text.now → is_blank (slice_index text.now place) ≡ true }
+{
+    text.len() <= place || is_blank(text[place])
 }
 
 /// Where the first `end` stands, or the length of the text.
@@ -108,7 +127,7 @@ fn place_of(text: &[u8], end: u8) -> usize
 }
 
 /// Where the first space or tab stands, or the length of the text.
-fn blank_place(text: &[u8]) -> usize
+pub(crate) fn blank_place(text: &[u8]) -> usize
     ensures place { result ≡ position_or_len is_blank text.now }
 {
     for (place, &byte) in text.iter().enumerate() {

@@ -33,6 +33,7 @@ mod number;
 mod parts;
 mod tags;
 mod text;
+mod usual;
 mod why;
 mod written;
 

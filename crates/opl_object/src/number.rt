@@ -1,19 +1,24 @@
 //! Numbers, times and ids.
-ghost use Rattle.std.specs.Prelude.{◌≡◌, ◌≤◌, ◌<◌, ◌^◌, IsTrue, IfOk, length};
+ghost use Rattle.std.specs.Prelude.{◌≡◌, ◌≤◌, ◌<◌, ◌^◌, IsTrue, IfOk, IfSome, length, take};
 ghost use Rattle.std.specs.Char.{is_ascii_digit};
 ghost use Rattle.std.specs.List.{list_all, zip};
-ghost use Rattle.std.specs.Str.Parse.{digits_value};
+ghost use Rattle.std.specs.Str.Parse.{digits_value, digits_value_after};
 ghost use Rattle.osm_base.specs.values.Key.{IsId};
 ghost use Rattle.opl_object.specs.Number.{is_negative, unsigned, are_digits, is_whole, is_formed, is_time, id_of};
+ghost use Rattle.opl_object.specs.Nodes.{digits_len};
 
 use crate::Why;
+use crate::ascii::DIGIT_0;
 use osm_base::MAX_ID;
 
 /// The form of a time, with a zero where a digit stands.
 pub const TIME_FORM: [u8; 20] = *b"0000-00-00T00:00:00Z";
 
 /// The greatest number of digits of an id or of another whole number.
-const WHOLE_DIGITS: usize = 19;
+pub(crate) const WHOLE_DIGITS: usize = 19;
+
+/// A number up to this one is small.
+pub(crate) const SMALL: u64 = 100_000_000_000;
 
 /// Whether a minus stands in front, and what stands behind it.
 pub(crate) fn signed(text: &[u8]) -> (bool, &[u8])
@@ -61,7 +66,7 @@ pub(crate) fn is_time(text: &[u8]) -> bool
 }
 
 /// Whether each byte of a time is one that the form has there.
-fn all_formed(text: &[u8]) -> bool
+pub(crate) fn all_formed(text: &[u8]) -> bool
     requires { length text.now ≡ 20 }
     ensures value { result ≡ list_all is_formed (zip TIME_FORM text.now) }
 {
@@ -111,4 +116,24 @@ fn value_of(digits: &[u8]) -> u64
         value = value * 10 + u64::from(digit - b'0');
     }
     value
+}
+
+/// The number that the digits in front write behind those of a number, and how many they are. `None`: it is not small.
+pub(crate) fn small_number(front: u64, text: &[u8]) -> Option<(u64, usize)>
+    requires { front ≤ SMALL }
+    ensures len { IfSome result (λ (_, len). len ≡ digits_len text.now) }
+    ensures value { IfSome result (λ (value, len). value ≡ digits_value_after 10 front (take len text.now)) }
+    ensures small { IfSome result (λ (value, _). value ≤ SMALL) }
+{
+    let mut value = front;
+    for (place, &byte) in text.iter().enumerate() {
+        if !byte.is_ascii_digit() {
+            return Some((value, place));
+        }
+        value = value * 10 + u64::from(byte - DIGIT_0);
+        if SMALL < value {
+            return None;
+        }
+    }
+    Some((value, text.len()))
 }

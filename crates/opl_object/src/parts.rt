@@ -1,21 +1,23 @@
 //! What the fields of a line say.
-ghost use Rattle.std.specs.Prelude.{◌≡◌, OnOk, IfOk};
+ghost use Rattle.std.specs.Prelude.{◌≡◌, ◌<◌, take, Ok, OnOk, IfOk, IfSome, IsNone};
+ghost use Rattle.std.specs.List.{position_or_len, before_first};
 ghost use Rattle.std.specs.FinMap as map;
 ghost use Rattle.opl_object.specs.Earth.{AreOnEarth};
-ghost use Rattle.opl_object.specs.Fields.{fields_of};
+ghost use Rattle.opl_object.specs.Fields.{is_blank, fields_of};
 ghost use Rattle.opl_object.specs.Letter.{none_stood};
 ghost use Rattle.opl_object.specs.Parts.{nothing, with_visible, with_lon, with_lat, with_value, new_field, with_field, parts_of};
 ghost use Rattle.opl_object.specs.Seen.{stands};
 ghost use Rattle.opl_object.specs.Why.{Gives, Tells};
 
 use crate::coordinate::coordinate;
-use crate::fields::next_field;
+use crate::fields::{blank_place, field_at};
 use crate::letter::{Letter, Seen, letter_at};
 use crate::members::members_of;
 use crate::nodes::{FURTHEST_EAST, FURTHEST_NORTH, nodes_of};
 use crate::number::{is_time, is_whole};
 use crate::tags::tags_of;
 use crate::text::check_text;
+use crate::usual::{number_end, plain_end, there_end, time_end, usual_coordinate};
 use crate::{LineRefused, Why};
 use osm_base::{Ids, Kind, Members, Tags};
 use std::alloc::Global;
@@ -85,6 +87,49 @@ impl Parts {
         }
     }
 
+    /// Adds the value of a letter where the text begins with one in its usual form, and tells where it ends.
+    #[tactic(auto, unfolding(crate::specs::Parts::with_value, crate::specs::Text::text_of))]
+    fn add_usual(&mut self, letter: Letter, text: &[u8]) -> Option<usize>
+        ensures end { IfSome result (λ end. end ≡ position_or_len is_blank text.now) }
+        ensures parts { IfSome result (λ end. with_value letter (take end text.now) self.old ≡ Ok self.new) }
+        ensures kept { IsNone result → self.new ≡ self.old }
+        ensures earth { AreOnEarth self.old → AreOnEarth self.new }
+    {
+        match letter {
+            Letter::Version | Letter::Changeset | Letter::UserId => number_end(text),
+            Letter::Time => time_end(text),
+            Letter::Visible => there_end(text),
+            Letter::User => plain_end(text),
+            Letter::Lon => self.add_usual_lon(text),
+            Letter::Lat => self.add_usual_lat(text),
+            Letter::Tags | Letter::Nodes | Letter::Members => None,
+        }
+    }
+
+    /// Adds a longitude in its usual form.
+    fn add_usual_lon(&mut self, text: &[u8]) -> Option<usize>
+        ensures end { IfSome result (λ end. end ≡ position_or_len is_blank text.now) }
+        ensures parts { IfSome result (λ end. with_lon (take end text.now) self.old ≡ Ok self.new) }
+        ensures kept { IsNone result → self.new ≡ self.old }
+        ensures earth { AreOnEarth self.old → AreOnEarth self.new }
+    {
+        let (lon, end) = usual_coordinate(FURTHEST_EAST, text)?;
+        self.lon = Some(lon);
+        Some(end)
+    }
+
+    /// Adds a latitude in its usual form.
+    fn add_usual_lat(&mut self, text: &[u8]) -> Option<usize>
+        ensures end { IfSome result (λ end. end ≡ position_or_len is_blank text.now) }
+        ensures parts { IfSome result (λ end. with_lat (take end text.now) self.old ≡ Ok self.new) }
+        ensures kept { IsNone result → self.new ≡ self.old }
+        ensures earth { AreOnEarth self.old → AreOnEarth self.new }
+    {
+        let (lat, end) = usual_coordinate(FURTHEST_NORTH, text)?;
+        self.lat = Some(lat);
+        Some(end)
+    }
+
     /// Adds a longitude, where there is one.
     fn add_lon(&mut self, value: &str) -> Result<(), Why>
         ensures parts { Tells (λ _. self.new) result (with_lon value.now self.old) }
@@ -133,29 +178,39 @@ pub(crate) fn read_fields(alloc: Global, kind: Kind, text: &str) -> Result<Parts
     let mut seen = Seen::new();
     let mut parts = Parts::new(alloc);
     let mut left = text;
-    while let Some((field, later)) = next_field(left) {
-        read_field(alloc, kind, &mut seen, &mut parts, field)?;
+    while let Some(field) = field_at(left) {
+        let end = read_field(alloc, kind, &mut seen, &mut parts, field)?;
+        let (_, later) = field.split_at(end);
         left = later;
     }
     Ok(parts)
 }
 
-/// Adds what a field says.
+/// Adds what the field in front of a text says, and tells where it ends.
 fn read_field(
     alloc: Global,
     kind: Kind,
     seen: &mut Seen,
     parts: &mut Parts,
-    field: &str,
-) -> Result<(), LineRefused>
-    ensures parts { Gives (λ _. (stands seen.new, parts.new)) result (with_field kind (stands seen.old, parts.old) field.now) }
+    text: &str,
+) -> Result<usize, LineRefused>
+    requires { 0 < position_or_len is_blank text.now }
+    ensures parts { Gives (λ _. (stands seen.new, parts.new)) result
+        (with_field kind (stands seen.old, parts.old) (before_first is_blank text.now)) }
+    ensures end { IfOk result (λ end. end ≡ position_or_len is_blank text.now) }
     ensures earth { OnOk result (AreOnEarth parts.old → AreOnEarth parts.new) }
 {
-    let Some((letter, value)) = letter_at(kind, field) else {
+    let Some((letter, value)) = letter_at(kind, text) else {
         return Err(LineRefused::Bad(Why::Field));
     };
     if seen.add(letter) {
         return Err(LineRefused::Bad(Why::Repeated));
     }
-    parts.add(alloc, letter, value)
+    if let Some(end) = parts.add_usual(letter, value.as_bytes()) {
+        return Ok(end + 1);
+    }
+    let end = blank_place(value.as_bytes());
+    let (value, _) = value.split_at(end);
+    parts.add(alloc, letter, value)?;
+    Ok(end + 1)
 }

@@ -173,7 +173,7 @@ fn is_plain(text: &[u8]) -> bool
 }
 
 /// Whether the byte stands in no text as it is.
-fn is_reserved(byte: u8) -> bool
+pub(crate) fn is_reserved(byte: u8) -> bool
     ensures value { result ≡ is_reserved byte }
 {
     match byte {

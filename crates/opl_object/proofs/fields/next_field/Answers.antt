@@ -1,38 +1,15 @@
-use Rattle.std.proofs.Common.{◌≡◌, ℕ, ◌<◌, ◌∙◌, refl, subst, ap, sym, arith, length, drop, not}
+use Rattle.std.proofs.Common.{◌≡◌, ◌∙◌, ap, sym, refl}
 use Rattle.std.specs.List.{position_or_len}
-use Rattle.opl_object.specs.Fields.{is_blank, fields_of}
-use Rattle.opl_object.proofs.Cuts.{place_le, blank-ascii, boundary_before, boundary_behind, fields_none, fields_of-blanks, begins_behind, Begins}
+use Rattle.opl_object.specs.Fields.{is_blank}
+use Rattle.opl_object.proofs.Cuts.{blank-ascii, boundary_before}
 use Rattle.opl_object.proofs.fields.next_field.Goals as goal
-
-pub returns-then-start-text-clause-fields : goal.returns-then-start-text-clause-fields
-returns-then-start-text-clause-fields c =
-    let place : c.field_place-start.result ≡ position_or_len {X = ℕ} (λ byte. not (is_blank byte)) c.args.text.now = c.field_place-start.ensures.place ∙ ap (position_or_len {X = ℕ} (λ byte. not (is_blank byte))) c.as_bytes.ensures.value in
-    fields_none c.args.text.now (omega arith)
 
 pub split_at-requires : goal.split_at-requires
 split_at-requires c =
-    let place : c.field_place-start.result ≡ position_or_len {X = ℕ} (λ byte. not (is_blank byte)) c.args.text.now = c.field_place-start.ensures.place ∙ ap (position_or_len {X = ℕ} (λ byte. not (is_blank byte))) c.as_bytes.ensures.value in
-    rw place (boundary_behind is_blank c.args.text.now blank-ascii c.utf8.text)
+    let place : c.blank_place-end.result ≡ position_or_len is_blank c.in-Some.field.now = c.blank_place-end.ensures.place ∙ ap (position_or_len is_blank) c.as_bytes.ensures.value in
+    rw place (boundary_before is_blank c.in-Some.field.now blank-ascii)
 
-pub split_at-requires-2 : goal.split_at-requires-2
-split_at-requires-2 c =
-    let place : c.blank_place-end.result ≡ position_or_len is_blank c.split_at.result.1.now = c.blank_place-end.ensures.place ∙ ap (position_or_len is_blank) c.as_bytes-2.ensures.value in
-    rw place (boundary_before is_blank c.split_at.result.1.now blank-ascii)
-
-pub returns-clause-fields : goal.returns-clause-fields
-returns-clause-fields c =
-    let start : c.field_place-start.result ≡ position_or_len {X = ℕ} (λ byte. not (is_blank byte)) c.args.text.now = c.field_place-start.ensures.place ∙ ap (position_or_len {X = ℕ} (λ byte. not (is_blank byte))) c.as_bytes.ensures.value in
-    let lt : position_or_len {X = ℕ} (λ byte. not (is_blank byte)) c.args.text.now < length c.args.text.now = omega (arith, place_le {X = ℕ} (λ byte. not (is_blank byte)) c.args.text.now) in
-    let behind : drop (position_or_len {X = ℕ} (λ byte. not (is_blank byte)) c.args.text.now) c.args.text.now ≡ c.split_at.result.1.now = ap (λ n. drop n c.args.text.now) (sym start) ∙ sym c.split_at.ensures.back in
-    let first = subst Begins behind (begins_behind c.args.text.now lt) in
-    let end : position_or_len is_blank c.split_at.result.1.now ≡ c.blank_place-end.result = sym (c.blank_place-end.ensures.place ∙ ap (position_or_len is_blank) c.as_bytes-2.ensures.value) in
-    fields_of-blanks c.args.text.now ∙ ap fields_of behind ∙ first.first ∙ rw (end, ← c.split_at-2.ensures.front, ← c.split_at-2.ensures.back) refl
-
-pub returns-clause-shorter : goal.returns-clause-shorter
-returns-clause-shorter c =
-    let start : c.field_place-start.result ≡ position_or_len {X = ℕ} (λ byte. not (is_blank byte)) c.args.text.now = c.field_place-start.ensures.place ∙ ap (position_or_len {X = ℕ} (λ byte. not (is_blank byte))) c.as_bytes.ensures.value in
-    let lt : position_or_len {X = ℕ} (λ byte. not (is_blank byte)) c.args.text.now < length c.args.text.now = omega (arith, place_le {X = ℕ} (λ byte. not (is_blank byte)) c.args.text.now) in
-    let behind : drop (position_or_len {X = ℕ} (λ byte. not (is_blank byte)) c.args.text.now) c.args.text.now ≡ c.split_at.result.1.now = ap (λ n. drop n c.args.text.now) (sym start) ∙ sym c.split_at.ensures.back in
-    let first = subst Begins behind (begins_behind c.args.text.now lt) in
-    let end : position_or_len is_blank c.split_at.result.1.now ≡ c.blank_place-end.result = sym (c.blank_place-end.ensures.place ∙ ap (position_or_len is_blank) c.as_bytes-2.ensures.value) in
-    omega (arith, first.some, c.split_at-2.ensures.back_len, c.split_at.ensures.back_len)
+pub returns : goal.returns
+returns c =
+    let place : position_or_len is_blank c.in-Some.field.now ≡ c.blank_place-end.result = sym (c.blank_place-end.ensures.place ∙ ap (position_or_len is_blank) c.as_bytes.ensures.value) in
+    record { fields = c.in-Some.ensures.fields ∙ rw (place, ← c.split_at.ensures.front, ← c.split_at.ensures.back) refl }
