@@ -58,7 +58,7 @@ pub split_first : (ends : ℕ → Bool) (text : List ℕ) → position_or_len en
 split_first ends text lt = slice_split_first ends text 0 lt
 
 -- a blank in front does not count
-fields_of-blank : (byte : ℕ) (rest : List ℕ) → is_blank byte ≡ true → fields_of (byte ∷ rest) ≡ fields_of rest
+pub fields_of-blank : (byte : ℕ) (rest : List ℕ) → is_blank byte ≡ true → fields_of (byte ∷ rest) ≡ fields_of rest
 unfolding fields_of
 fields_of-blank byte rest e = ap (filter (λ piece. not (is_empty piece))) (slice_split-cons_yes is_blank byte rest e)
 

@@ -8,21 +8,22 @@ use Rattle.std.proofs.lemmas.Bool.{cases_Bool}
 use Rattle.osm_base.specs.declared.values.key.Kind.{Kind}
 use Rattle.osm_base.specs.declared.values.place.TheConstants.{MAX_LON, MAX_LAT}
 use Rattle.opl_object.specs.declared.letter.Letter.{Letter}
-use Rattle.opl_object.specs.declared.letter.Letter.TheVariants.{User}
+use Rattle.opl_object.specs.declared.letter.Letter.TheVariants.{Version, Visible, Changeset, Time, UserId, User, Tags, Lon, Lat, Nodes, Members}
 use Rattle.opl_object.specs.declared.parts.Parts.{Parts}
 use Rattle.opl_object.specs.declared.why.Why.{Why}
 use Rattle.opl_object.specs.declared.why.Why.TheVariants as causes
 use Rattle.opl_object.specs.Coordinate.{coordinate}
-use Rattle.opl_object.specs.Fields.{is_blank, is_empty}
-use Rattle.opl_object.specs.Letter.{letter_of, letter_at, also}
-use Rattle.opl_object.specs.Parts.{with_lon, with_lat, with_value, new_field, with_field}
+use Rattle.opl_object.specs.Fields.{is_blank, is_empty, fields_of}
+use Rattle.opl_object.specs.Letter.{letter_of, letter_at, also, byte_of}
+use Rattle.opl_object.specs.Parts.{with_lon, with_lat, with_value, new_field, with_field, PassesLetter}
 use Rattle.opl_object.specs.Spelling.{SpellsCoordinate}
 use Rattle.opl_object.specs.Text.{is_plain, text_of}
-use Rattle.opl_object.specs.Why.{◌>>=◌, given}
+use Rattle.opl_object.specs.Why.{◌>>=◌, given, each_piece}
+use Rattle.opl_object.proofs.Cuts.{fields_of-blank, fields_first}
+use Rattle.opl_object.proofs.Pieces.{goes_on}
 use Rattle.opl_object.proofs.Resolving.{bytes_of-plain}
 use Rattle.opl_object.proofs.SpelledLists.{some_is_not}
 use Rattle.opl_object.proofs.SpelledNumbers.{coordinate_again, coordinate_nonempty}
-use Rattle.opl_object.proofs.Steps.{some_is}
 
 -- ---- values in their usual form
 
@@ -44,9 +45,14 @@ user_plain value parts plain =
     let with_it : Result (List ℕ) Why → Result Parts Why = λ read. (read >>= λ bytes. Ok (chars bytes)) >>= λ _. Ok parts in
     ap with_it (bytes_of-plain value plain)
 
-pub user_read : (letter : Letter) (result : Option ℕ) (text : List ℕ) (parts : Parts) → letter ≡ User → IfSome result (λ end. is_plain (take end text) ≡ true) → IfSome result (λ end. with_value letter (take end text) parts ≡ Ok parts)
-user_read letter None text parts is plain = tt
-user_read letter (Some end) text parts is plain = rw is (user_plain (take end text) parts plain)
+pub user_read : (letter : Letter) (result : Option ℕ) (text : List ℕ) → letter ≡ User → IfSome result (λ end. is_plain (take end text) ≡ true) → IfSome result (λ end. (parts : Parts) → with_value letter (take end text) parts ≡ Ok parts)
+user_read letter None text is plain = tt
+user_read letter (Some end) text is plain = λ parts. rw is (user_plain (take end text) parts plain)
+
+-- each value that parts may have is one that these have
+pub kept_by : (letter : Letter) (result : Option ℕ) (text : List ℕ) (parts : Parts) → IfSome result (λ end. (parts : Parts) → with_value letter (take end text) parts ≡ Ok parts) → IfSome result (λ end. with_value letter (take end text) parts ≡ Ok parts)
+kept_by letter None text parts all = tt
+kept_by letter (Some end) text parts all = all parts
 
 -- ---- the letter in front
 
@@ -64,18 +70,6 @@ letter_front kind (byte ∷ rest) some = elim (cases_Bool (is_blank byte)) [
   twice : (found : Option Letter) (rest : List ℕ) → option_map {U = Letter × List ℕ} (λ letter. (letter, before_first is_blank rest)) found ≡ option_map {U = Letter × List ℕ} (λ (front : Letter × List ℕ). (front.0, before_first is_blank front.1)) (option_map {U = Letter × List ℕ} (λ letter. (letter, rest)) found)
   twice None rest = refl
   twice (Some letter) rest = refl
-
-pub place_front : (kind : Kind) (text value : List ℕ) (letter : Letter) → 0 < position_or_len is_blank text → letter_at kind text ≡ Some (letter, value) → position_or_len is_blank text ≡ position_or_len is_blank value + 1
-place_front kind [] value letter some e = absurd (omega arith)
-place_front kind (byte ∷ rest) value letter some e = elim (cases_Bool (is_blank byte)) [
-  | inl blank ↦ absurd (let none : position_or_len is_blank (byte ∷ rest) ≡ 0 = rw blank refl in omega (arith, some, none))
-  | inr plain ↦ (
-      let more : position_or_len is_blank (byte ∷ rest) ≡ position_or_len is_blank rest + 1 = rw plain (omega arith) in
-      more ∙ ap (λ t. position_or_len is_blank t + 1) (behind (letter_of kind byte) e))
-] where
-  behind : (found : Option Letter) → option_map {U = Letter × List ℕ} (λ letter. (letter, rest)) found ≡ Some (letter, value) → rest ≡ value
-  behind None e = absurd cc
-  behind (Some other) e = ap (λ (front : Letter × List ℕ). front.1) (some_is (letter_and other rest) (letter_and letter value) e)
 
 abbrev with_letter : (Letter → Bool) → Parts → Letter × List ℕ → Result ((Letter → Bool) × Parts) Why
 with_letter stood parts found = with_value found.0 found.1 parts >>= λ next. Ok (also stood found.0, next)
@@ -99,3 +93,23 @@ field_read kind stood parts text value letter some e new =
 
 pub same_letters : (one other : Letter → Bool) → ((letter : Letter) → other letter ≡ one letter) → one ≡ other
 same_letters one other same = λ i letter. sym (same letter) i
+
+-- a letter in front of a field, whose value no parts keep
+pub passes_letter : (letter : Letter) (text field value rest : List ℕ) (end : ℕ) → text ≡ 32 ∷ field → field ≡ byte_of letter ∷ value → end ≡ position_or_len is_blank value → rest ≡ drop end value
+    → ((parts : Parts) → with_value letter (take end value) parts ≡ Ok parts) → ((kind : Kind) → letter_of kind (byte_of letter) ≡ Some letter) → PassesLetter letter text rest
+passes_letter letter text field value rest end spaced lettered e behind keeps common = λ kind stood parts new.
+    let first : List ℕ = byte_of letter ∷ value in
+    let plain : is_blank (byte_of letter) ≡ false = letter_filled letter in
+    let more : position_or_len is_blank first ≡ suc (position_or_len is_blank value) = rw plain (omega arith) in
+    let found : letter_at kind first ≡ Some (letter, value) = ap (λ found. option_map {U = Letter × List ℕ} (λ letter. (letter, value)) found) (common kind) in
+    let some : 0 < position_or_len is_blank first = omega (arith, more) in
+    let kept : with_value letter (before_first is_blank value) parts ≡ Ok parts = ap (λ n. with_value letter (take n value) parts) (sym e) ∙ keeps parts in
+    let step : with_field kind (stood, parts) (before_first is_blank first) ≡ Ok (also stood letter, parts)
+    = field_read kind stood parts first value letter some found new ∙ ap (λ read. read >>= λ next. Ok (also stood letter, next)) kept in
+    let later : drop (position_or_len is_blank first) first ≡ rest = ap (λ n. drop n first) more ∙ ap (λ n. drop n value) (sym e) ∙ sym behind in
+    let fields : fields_of text ≡ before_first is_blank first ∷ fields_of rest
+    = ap fields_of (spaced ∙ ap (λ t. 32 ∷ t) lettered) ∙ fields_of-blank 32 first refl ∙ fields_first (byte_of letter) value plain ∙ ap (λ t. before_first is_blank first ∷ fields_of t) later in
+    goes_on (with_field kind) (stood, parts) (before_first is_blank first) (fields_of rest) (each_piece (with_field kind) (stood, parts) (fields_of text)) (also stood letter, parts)
+        (ap (each_piece (with_field kind) (stood, parts)) (sym fields)) step where
+  letter_filled : (letter : Letter) → is_blank (byte_of letter) ≡ false
+  letter_filled letter = elim letter as (λ l. is_blank (byte_of l) ≡ false) [ Version ↦ refl | Visible ↦ refl | Changeset ↦ refl | Time ↦ refl | UserId ↦ refl | User ↦ refl | Tags ↦ refl | Lon ↦ refl | Lat ↦ refl | Nodes ↦ refl | Members ↦ refl ]

@@ -1,5 +1,5 @@
 -- Values at the front of a text, and where they end.
-use Rattle.std.proofs.Common.{◌≡◌, ℕ, zero, suc, ◌+◌, ◌*◌, ◌-◌, ◌^◌, ◌<◌, ◌≤◌, Bool, true, false, cond, not, ◌&&◌, ◌||◌, ◌⊎◌, inl, inr, eqb, List, [], ◌∷◌, ◌++◌, length, get_or, take, drop, replicate, refl, sym, ◌∙◌, ap, subst, arith, leb, add-one, rules}
+use Rattle.std.proofs.Common.{◌≡◌, ℕ, zero, suc, ◌+◌, ◌*◌, ◌-◌, ◌^◌, ◌<◌, ◌≤◌, Bool, true, false, cond, not, ◌&&◌, ◌||◌, ◌⊎◌, inl, inr, eqb, List, [], ◌∷◌, ◌++◌, length, get_or, take, drop, replicate, Result, Ok, refl, sym, ◌∙◌, ap, subst, arith, leb, add-one, rules}
 use Rattle.std.specs.Prelude.{pos, neg_ℤ}
 use Rattle.std.specs.List.{list_all, position_or_len, zip}
 use Rattle.std.specs.Char.{is_ascii_digit, digit_value}
@@ -10,15 +10,17 @@ use Rattle.std.proofs.lemmas.List.{get_or-take, take_more, take_all, get_or_past
 use Rattle.std.proofs.lemmas.List.Sums.{fails_before_first, position_or_len_is, AllPass-from_list_all}
 use Rattle.std.proofs.lemmas.Slice.Zip.{get_or-zip, length-zip}
 use Rattle.opl_object.specs.declared.number.TheConstants.{TIME_FORM}
+use Rattle.opl_object.specs.declared.why.Why.{Why}
+use Rattle.opl_object.specs.Why.{◌>>=◌}
 use Rattle.opl_object.specs.Coordinate.{units, seven}
 use Rattle.opl_object.specs.Fields.{is, is_blank, is_empty}
-use Rattle.opl_object.specs.Nodes.{digits_len}
-use Rattle.opl_object.specs.Number.{is_negative, unsigned, are_digits, is_whole, is_formed, is_time}
-use Rattle.opl_object.specs.Spelling.{SpellsUnits, SpellsCoordinate, sign_text, decimals_text}
+use Rattle.opl_object.specs.Nodes.{digits_len, numbered}
+use Rattle.opl_object.specs.Number.{is_negative, unsigned, are_digits, is_whole, is_formed, is_time, id_of}
+use Rattle.opl_object.specs.Spelling.{SpellsId, SpellsUnits, SpellsCoordinate, sign_text, decimals_text}
 use Rattle.opl_object.specs.Text.{is_reserved, is_plain}
 use Rattle.opl_object.proofs.Cuts.{place_le}
 use Rattle.opl_object.proofs.Digits.{both, digit_range, digits_value_after-append}
-use Rattle.opl_object.proofs.SpelledNumbers.{are_digits_again, coordinate_free}
+use Rattle.opl_object.proofs.SpelledNumbers.{are_digits_again, id_again, coordinate_free}
 use Rattle.opl_object.proofs.SpelledTexts.{IsFree}
 use Rattle.opl_object.proofs.WrittenNumbers.{value_after-shift, value_zeros}
 
@@ -120,6 +122,30 @@ pub time_front : (text : List ℕ) → 20 ≤ length text → list_all is_formed
 time_front text long all =
     let count = length_front 20 text long in
     or_right (is_empty (take 20 text)) _ (rw (count, all) refl)
+
+-- an id that is small
+pub small_id : (text : List ℕ) (len id : ℕ) → len ≡ digits_len text → len ≤ 19 → 1 ≤ id → id ≤ 100000000000 → id ≡ digits_value_after 10 0 (take len text) → id_of (take len text) ≡ Ok id
+small_id text len id e few least small is =
+    let within : len ≤ length text = omega (arith, place_le {X = ℕ} (λ byte. not (is_ascii_digit byte)) text, e) in
+    let count = length_front len text within in
+    let some : 0 < len = elim (cases_lt 0 len) [
+      | inl above ↦ above
+      | inr none ↦ absurd (let zero_len : len ≡ 0 = omega arith in let nothing : id ≡ 0 = is ∙ ap (λ n. digits_value_after 10 0 (take n text)) zero_len in omega (arith, nothing))
+    ] in
+    id_again (take len text) id (record {
+      digits = record { some = omega arith; few = omega arith; digits = rw e (front_digits text) };
+      value = sym is;
+      range = record { least = least; greatest = omega arith };
+    })
+
+-- the id in front, and what stands behind it
+pub numbered_small : (text rest : List ℕ) (len id : ℕ) → len ≡ digits_len text → id_of (take len text) ≡ Ok id → rest ≡ drop len text → numbered text ≡ Ok (id, rest)
+unfolding numbered
+numbered_small text rest len id e found behind =
+    let with_rest : ℕ → Result ℕ Why → Result (ℕ × List ℕ) Why = λ n read. read >>= λ id. Ok (id, drop n text) in
+    ap (λ n. with_rest n (id_of (take n text))) (sym e) ∙ ap (with_rest len) found ∙ ap (id_and id) (sym behind) where
+      id_and : ℕ → List ℕ → Result (ℕ × List ℕ) Why
+      id_and id text = Ok (id, text)
 
 -- ---- coordinates
 

@@ -51,3 +51,7 @@ also stood letter other = if byte_of other == byte_of letter then true else stoo
 -- no letter has stood yet
 abbrev pub none_stood : Letter → Bool
 none_stood letter = false
+
+-- the letters that most lines begin with
+abbrev pub head_stood : Letter → Bool
+head_stood = also (also (also (also (also (also none_stood Version) Visible) Changeset) Time) UserId) User

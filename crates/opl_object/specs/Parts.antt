@@ -1,6 +1,6 @@
 -- What the fields of a line say, and their order.
 -- osmium "OPL File Format": each field is a letter and its value.
-use Rattle.std.specs.Prelude.{ℕ, ◌==◌, Bool, true, false, if◌then◌else◌, List, [], ◌∷◌, None, Some, Result, Ok, Err, nat_abs}
+use Rattle.std.specs.Prelude.{ℕ, ◌≡◌, ◌==◌, Bool, true, false, if◌then◌else◌, List, [], ◌∷◌, None, Some, Result, Ok, Err, nat_abs}
 use Rattle.std.specs.FinMap as map
 use Rattle.osm_base.specs.declared.values.key.Kind.{Kind}
 use Rattle.osm_base.specs.declared.values.place.TheConstants.{MAX_LON, MAX_LAT}
@@ -11,7 +11,7 @@ use Rattle.opl_object.specs.declared.parts.Parts.{Parts}
 use Rattle.opl_object.specs.declared.why.Why.{Why}
 use Rattle.opl_object.specs.declared.why.Why.TheVariants as causes
 use Rattle.opl_object.specs.Coordinate.{coordinate}
-use Rattle.opl_object.specs.Fields.{is_empty}
+use Rattle.opl_object.specs.Fields.{is_empty, fields_of}
 use Rattle.opl_object.specs.Letter.{letter_at, also, none_stood}
 use Rattle.opl_object.specs.Members.{members_of}
 use Rattle.opl_object.specs.Nodes.{nodes_of}
@@ -65,6 +65,15 @@ new_field stood field = if stood field.0 then Err causes.Repeated else Ok field
 abbrev pub with_field : Kind → (Letter → Bool) × Parts → List ℕ → Result ((Letter → Bool) × Parts) Why
 with_field kind so_far field = given causes.Field (letter_at kind field) >>= λ front. new_field so_far.0 front >>= λ found.
     with_value found.0 found.1 so_far.1 >>= λ parts. Ok (also so_far.0 found.0, parts)
+
+-- what the fields of a text say behind others, from left to right
+abbrev pub said_behind : Kind → (Letter → Bool) × Parts → List ℕ → Result ((Letter → Bool) × Parts) Why
+said_behind kind so_far text = each_piece (with_field kind) so_far (fields_of text)
+
+-- a text begins with a field of this letter that no parts keep, and the rest stands behind it
+abbrev pub PassesLetter : Letter → List ℕ → List ℕ → Type 0
+PassesLetter letter text rest = (kind : Kind) (stood : Letter → Bool) (parts : Parts) → stood letter ≡ false
+    → said_behind kind (also stood letter, parts) rest ≡ said_behind kind (stood, parts) text
 
 -- what the fields say, from left to right
 unfoldable pub parts_of : Kind → List (List ℕ) → Result Parts Why

@@ -26,8 +26,10 @@ pub enum Letter {
 
 impl Letter {
     /// The byte that it is.
-    fn byte(self) -> u8
+    pub(crate) fn byte(self) -> u8
         ensures value { result ≡ byte_of self }
+        ensures some { 0 < result }
+        ensures ascii { result < 128 }
     {
         match self {
             Letter::Version => b'v',

@@ -24,6 +24,7 @@ mod ascii;
 mod coordinate;
 mod escapes;
 mod fields;
+mod head;
 mod letter;
 mod line;
 mod lists;

@@ -10,7 +10,7 @@ ghost use Rattle.std.specs.Option.{option_map};
 use crate::ascii::{COMMA, SMALL_N, SMALL_X, SMALL_Y};
 use crate::coordinate::coordinate;
 use crate::fields::{behind, cut, digits_len, pieces};
-use crate::number::id_of;
+use crate::number::{id_of, usual_id};
 use crate::{LineRefused, Why};
 use osm_base::{Ids, MAX_LAT, MAX_LON};
 use std::alloc::Global;
@@ -59,8 +59,22 @@ fn node_of(piece: &str) -> Result<u64, Why>
 }
 
 /// The digits in front as an id, and what stands after them.
-#[tactic(auto, unfolding(crate::specs::Nodes::numbered))]
 pub(crate) fn numbered(text: &str) -> Result<(u64, &str), Why>
+    ensures parts { Tells (λ (id, rest). (id, rest.now)) result (numbered text.now) }
+    ensures id { IfOk result (λ (id, _). IsId id) }
+{
+    match usual_id(text.as_bytes()) {
+        Some((id, len)) => {
+            let (_, rest) = text.split_at(len);
+            Ok((id, rest))
+        }
+        None => exactly_numbered(text),
+    }
+}
+
+/// The same of any digits.
+#[tactic(auto, unfolding(crate::specs::Nodes::numbered))]
+fn exactly_numbered(text: &str) -> Result<(u64, &str), Why>
     ensures parts { Tells (λ (id, rest). (id, rest.now)) result (numbered text.now) }
     ensures id { IfOk result (λ (id, _). IsId id) }
 {

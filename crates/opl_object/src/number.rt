@@ -1,5 +1,5 @@
 //! Numbers, times and ids.
-ghost use Rattle.std.specs.Prelude.{◌≡◌, ◌≤◌, ◌<◌, ◌^◌, IsTrue, IfOk, IfSome, length, take};
+ghost use Rattle.std.specs.Prelude.{◌≡◌, ◌≤◌, ◌<◌, ◌^◌, IsTrue, Ok, IfOk, IfSome, length, take};
 ghost use Rattle.std.specs.Char.{is_ascii_digit};
 ghost use Rattle.std.specs.List.{list_all, zip};
 ghost use Rattle.std.specs.Str.Parse.{digits_value, digits_value_after};
@@ -136,4 +136,17 @@ pub(crate) fn small_number(front: u64, text: &[u8]) -> Option<(u64, usize)>
         }
     }
     Some((value, text.len()))
+}
+
+/// The id in front of a text, and how many digits it has. `None`: there is none, or none that is small.
+pub(crate) fn usual_id(text: &[u8]) -> Option<(u64, usize)>
+    ensures len { IfSome result (λ (_, len). len ≡ digits_len text.now) }
+    ensures id { IfSome result (λ (id, len). id_of (take len text.now) ≡ Ok id) }
+    ensures range { IfSome result (λ (id, _). IsId id) }
+{
+    let (id, len) = small_number(0, text)?;
+    if id < 1 || WHOLE_DIGITS < len {
+        return None;
+    }
+    Some((id, len))
 }

@@ -11,13 +11,14 @@ ghost use Rattle.opl_object.specs.Why.{Gives, Tells};
 
 use crate::coordinate::coordinate;
 use crate::fields::{blank_place, field_at};
+use crate::head::{begun, passed_end};
 use crate::letter::{Letter, Seen, letter_at};
 use crate::members::members_of;
 use crate::nodes::{FURTHEST_EAST, FURTHEST_NORTH, nodes_of};
 use crate::number::{is_time, is_whole};
 use crate::tags::tags_of;
 use crate::text::check_text;
-use crate::usual::{number_end, plain_end, there_end, time_end, usual_coordinate};
+use crate::usual::usual_coordinate;
 use crate::{LineRefused, Why};
 use osm_base::{Ids, Kind, Members, Tags};
 use std::alloc::Global;
@@ -96,13 +97,9 @@ impl Parts {
         ensures earth { AreOnEarth self.old → AreOnEarth self.new }
     {
         match letter {
-            Letter::Version | Letter::Changeset | Letter::UserId => number_end(text),
-            Letter::Time => time_end(text),
-            Letter::Visible => there_end(text),
-            Letter::User => plain_end(text),
             Letter::Lon => self.add_usual_lon(text),
             Letter::Lat => self.add_usual_lat(text),
-            Letter::Tags | Letter::Nodes | Letter::Members => None,
+            _ => passed_end(letter, text),
         }
     }
 
@@ -175,9 +172,8 @@ pub(crate) fn read_fields(alloc: Global, kind: Kind, text: &str) -> Result<Parts
     ensures parts { Gives (λ parts. parts) result (parts_of kind (fields_of text.now)) }
     ensures earth { IfOk result AreOnEarth }
 {
-    let mut seen = Seen::new();
+    let (mut seen, mut left) = begun(text);
     let mut parts = Parts::new(alloc);
-    let mut left = text;
     while let Some(field) = field_at(left) {
         let end = read_field(alloc, kind, &mut seen, &mut parts, field)?;
         let (_, later) = field.split_at(end);
