@@ -1,5 +1,5 @@
 -- What the field in front of a text says.
-use Rattle.std.proofs.Common.{◌≡◌, ℕ, suc, ◌+◌, ◌<◌, Bool, true, false, cond, inl, inr, List, [], ◌∷◌, length, get_or, take, drop, Option, None, Some, Result, Ok, Err, refl, sym, ◌∙◌, ap, arith, nat_abs}
+use Rattle.std.proofs.Common.{◌≡◌, ℕ, suc, ◌<◌, Bool, true, false, cond, inl, inr, List, [], ◌∷◌, take, drop, Option, None, Some, Result, Ok, Err, refl, sym, ◌∙◌, ap, arith, nat_abs}
 use Rattle.std.specs.Prelude.{ℤ, IfSome}
 use Rattle.std.specs.List.{position_or_len, before_first}
 use Rattle.std.specs.Option.{option_map}
@@ -13,7 +13,7 @@ use Rattle.opl_object.specs.declared.parts.Parts.{Parts}
 use Rattle.opl_object.specs.declared.why.Why.{Why}
 use Rattle.opl_object.specs.declared.why.Why.TheVariants as causes
 use Rattle.opl_object.specs.Coordinate.{coordinate}
-use Rattle.opl_object.specs.Fields.{is_blank, is_empty, fields_of}
+use Rattle.opl_object.specs.Fields.{is_blank, fields_of}
 use Rattle.opl_object.specs.Letter.{letter_of, letter_at, also, byte_of}
 use Rattle.opl_object.specs.Parts.{with_lon, with_lat, with_value, new_field, with_field, PassesLetter}
 use Rattle.opl_object.specs.Spelling.{SpellsCoordinate}
@@ -110,6 +110,6 @@ passes_letter letter text field value rest end spaced lettered e behind keeps co
     let fields : fields_of text ≡ before_first is_blank first ∷ fields_of rest
     = ap fields_of (spaced ∙ ap (λ t. 32 ∷ t) lettered) ∙ fields_of-blank 32 first refl ∙ fields_first (byte_of letter) value plain ∙ ap (λ t. before_first is_blank first ∷ fields_of t) later in
     goes_on (with_field kind) (stood, parts) (before_first is_blank first) (fields_of rest) (each_piece (with_field kind) (stood, parts) (fields_of text)) (also stood letter, parts)
-        (ap (each_piece (with_field kind) (stood, parts)) (sym fields)) step where
-  letter_filled : (letter : Letter) → is_blank (byte_of letter) ≡ false
-  letter_filled letter = elim letter as (λ l. is_blank (byte_of l) ≡ false) [ Version ↦ refl | Visible ↦ refl | Changeset ↦ refl | Time ↦ refl | UserId ↦ refl | User ↦ refl | Tags ↦ refl | Lon ↦ refl | Lat ↦ refl | Nodes ↦ refl | Members ↦ refl ]
+    (ap (each_piece (with_field kind) (stood, parts)) (sym fields)) step where
+      letter_filled : (letter : Letter) → is_blank (byte_of letter) ≡ false
+      letter_filled letter = elim letter as (λ l. is_blank (byte_of l) ≡ false) [ Version ↦ refl | Visible ↦ refl | Changeset ↦ refl | Time ↦ refl | UserId ↦ refl | User ↦ refl | Tags ↦ refl | Lon ↦ refl | Lat ↦ refl | Nodes ↦ refl | Members ↦ refl ]

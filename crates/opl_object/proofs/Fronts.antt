@@ -1,12 +1,12 @@
 -- Values at the front of a text, and where they end.
-use Rattle.std.proofs.Common.{◌≡◌, ℕ, zero, suc, ◌+◌, ◌*◌, ◌-◌, ◌^◌, ◌<◌, ◌≤◌, Bool, true, false, cond, not, ◌&&◌, ◌||◌, ◌⊎◌, inl, inr, eqb, List, [], ◌∷◌, ◌++◌, length, get_or, take, drop, replicate, Result, Ok, refl, sym, ◌∙◌, ap, subst, arith, leb, add-one, rules}
+use Rattle.std.proofs.Common.{◌≡◌, ℕ, zero, suc, ◌+◌, ◌*◌, ◌-◌, ◌^◌, ◌<◌, ◌≤◌, Bool, true, false, cond, not, ◌||◌, ◌⊎◌, inl, inr, eqb, List, [], ◌∷◌, ◌++◌, length, get_or, take, drop, replicate, Result, Ok, refl, sym, ◌∙◌, ap, subst, arith, leb, add-one, rules}
 use Rattle.std.specs.Prelude.{pos, neg_ℤ}
 use Rattle.std.specs.List.{list_all, position_or_len, zip}
 use Rattle.std.specs.Char.{is_ascii_digit, digit_value}
 use Rattle.std.specs.Str.Parse.{digits_value, digits_value_after}
 use Rattle.std.proofs.Math.Seq.{take-add}
-use Rattle.std.proofs.lemmas.Bool.{cases_Bool, cases_lt, eqb-true, false_from_ne_true, not-true, le-leb}
-use Rattle.std.proofs.lemmas.List.{get_or-take, take_more, take_all, get_or_past, take-append-drop, length-replicate}
+use Rattle.std.proofs.lemmas.Bool.{cases_Bool, cases_lt, eqb-true, false_from_ne_true, not-true}
+use Rattle.std.proofs.lemmas.List.{get_or-take, take_more, take_all, get_or_past, length-replicate}
 use Rattle.std.proofs.lemmas.List.Sums.{fails_before_first, position_or_len_is, AllPass-from_list_all}
 use Rattle.std.proofs.lemmas.Slice.Zip.{get_or-zip, length-zip}
 use Rattle.opl_object.specs.declared.number.TheConstants.{TIME_FORM}
@@ -16,7 +16,7 @@ use Rattle.opl_object.specs.Coordinate.{units, seven}
 use Rattle.opl_object.specs.Fields.{is, is_blank, is_empty}
 use Rattle.opl_object.specs.Nodes.{digits_len, numbered}
 use Rattle.opl_object.specs.Number.{is_negative, unsigned, are_digits, is_whole, is_formed, is_time, id_of}
-use Rattle.opl_object.specs.Spelling.{SpellsId, SpellsUnits, SpellsCoordinate, sign_text, decimals_text}
+use Rattle.opl_object.specs.Spelling.{SpellsUnits, SpellsCoordinate, sign_text, decimals_text}
 use Rattle.opl_object.specs.Text.{is_reserved, is_plain}
 use Rattle.opl_object.proofs.Cuts.{place_le}
 use Rattle.opl_object.proofs.Digits.{both, digit_range, digits_value_after-append}
@@ -64,7 +64,7 @@ ends_field text end within before here = sym (position_or_len_is is_blank text e
 pub ends_stopped : (stops : ℕ → Bool) (text : List ℕ) (end : ℕ) → StopsAtBlanks stops → end ≡ position_or_len stops text → (end < length text → is_blank (get_or text end 0) ≡ true) → end ≡ position_or_len is_blank text
 ends_stopped stops text end blanks e here =
     ends_field text end (omega (arith, place_le stops text)) (λ k lt. false_from_ne_true _ (λ blank.
-        let stopped : true ≡ false = sym (blanks (get_or text k 0) blank) ∙ fails_before_first stops text k 0 (omega (arith, lt, e)) in cc)) here
+    let stopped : true ≡ false = sym (blanks (get_or text k 0) blank) ∙ fails_before_first stops text k 0 (omega (arith, lt, e)) in cc)) here
 
 -- nothing up to here is reserved
 pub plain_front : (text : List ℕ) (end : ℕ) → end ≡ position_or_len is_reserved text → is_plain (take end text) ≡ true
@@ -235,9 +235,9 @@ coordinate_ends greatest text end value s within here =
     let spaces = coordinate_free 32 greatest (take end text) value refl refl refl s in
     let tabs = coordinate_free 9 greatest (take end text) value refl refl refl s in
     ends_field text end within (λ k lt.
-        let space : eqb (get_or text k 0) 32 ≡ false = ap (λ b. eqb b 32) (sym (get_or-take end text k 0 lt)) ∙ free_at (is 32) (take end text) k spaces (omega arith) in
-        let tab : eqb (get_or text k 0) 9 ≡ false = ap (λ b. eqb b 9) (sym (get_or-take end text k 0 lt)) ∙ free_at (is 9) (take end text) k tabs (omega arith) in
-        rw (space, tab) refl) here
+    let space : eqb (get_or text k 0) 32 ≡ false = ap (λ b. eqb b 32) (sym (get_or-take end text k 0 lt)) ∙ free_at (is 32) (take end text) k spaces (omega arith) in
+    let tab : eqb (get_or text k 0) 9 ≡ false = ap (λ b. eqb b 9) (sym (get_or-take end text k 0 lt)) ∙ free_at (is 9) (take end text) k tabs (omega arith) in
+    rw (space, tab) refl) here
 
 -- what stands behind a sign ends where the whole does
 pub signed_here : (text : List ℕ) (len : ℕ) → (len < length (unsigned text) → is_blank (get_or (unsigned text) len 0) ≡ true)

@@ -54,4 +54,4 @@ none_stood letter = false
 
 -- the letters that most lines begin with
 abbrev pub head_stood : Letter → Bool
-head_stood = also (also (also (also (also (also none_stood Version) Visible) Changeset) Time) UserId) User
+head_stood = also (also (also (also (also none_stood Version) Visible) Changeset) Time) UserId

@@ -6,6 +6,7 @@ ghost use Rattle.std.specs.Option.{option_map};
 ghost use Rattle.opl_object.specs.Fields.{is, is_blank, from_blank, fields_of, cut_at, later_pieces, behind};
 
 use crate::ascii::{COMMA, SPACE, TAB};
+use memchr::memchr2;
 
 /// What stands before the first `end` and, where there is one, what stands after it.
 pub(crate) fn cut(text: &str, end: u8) -> (&str, Option<&str>)
@@ -130,12 +131,13 @@ fn place_of(text: &[u8], end: u8) -> usize
 pub(crate) fn blank_place(text: &[u8]) -> usize
     ensures place { result ≡ position_or_len is_blank text.now }
 {
-    for (place, &byte) in text.iter().enumerate() {
-        if is_blank(byte) {
-            return place;
-        }
+    if ends_at(text, 0) {
+        return 0;
     }
-    text.len()
+    match memchr2(SPACE, TAB, text) {
+        Some(place) => place,
+        None => text.len(),
+    }
 }
 
 /// Where the first byte stands that is neither a space nor a tab, or the length of the text.

@@ -34,7 +34,6 @@ fn behind_head(text: &str) -> Option<&str>
     let text = pass(Letter::Changeset, text)?;
     let text = pass(Letter::Time, text)?;
     let text = pass(Letter::UserId, text)?;
-    let text = pass(Letter::User, text)?;
     Some(text)
 }
 
@@ -48,7 +47,6 @@ fn head_seen() -> Seen
     seen.add(Letter::Changeset);
     seen.add(Letter::Time);
     seen.add(Letter::UserId);
-    seen.add(Letter::User);
     seen
 }
 

@@ -1,5 +1,5 @@
 use Rattle.std.proofs.Common.{◌≡◌, ap, sym, ◌∙◌}
-use Rattle.opl_object.specs.declared.letter.Letter.TheVariants.{Version, Visible, Changeset, Time, UserId, User}
+use Rattle.opl_object.specs.declared.letter.Letter.TheVariants.{Version, Visible, Changeset, Time, UserId}
 use Rattle.opl_object.specs.Letter.{none_stood, head_stood, also}
 use Rattle.opl_object.specs.Seen.{stands}
 use Rattle.opl_object.proofs.FieldSteps.{same_letters}
@@ -13,13 +13,11 @@ returns c =
     let three : also (stands c.add-2.new.self) Changeset ≡ stands c.add-3.new.self = same_letters (also (stands c.add-2.new.self) Changeset) (stands c.add-3.new.self) c.add-3.ensures.after in
     let four : also (stands c.add-3.new.self) Time ≡ stands c.add-4.new.self = same_letters (also (stands c.add-3.new.self) Time) (stands c.add-4.new.self) c.add-4.ensures.after in
     let five : also (stands c.add-4.new.self) UserId ≡ stands c.add-5.new.self = same_letters (also (stands c.add-4.new.self) UserId) (stands c.add-5.new.self) c.add-5.ensures.after in
-    let six : also (stands c.add-5.new.self) User ≡ stands c.add-6.new.self = same_letters (also (stands c.add-5.new.self) User) (stands c.add-6.new.self) c.add-6.ensures.after in
-    let all : head_stood ≡ stands c.add-6.new.self
-    = ap (λ s. also (also (also (also (also (also s Version) Visible) Changeset) Time) UserId) User) none
-    ∙ ap (λ s. also (also (also (also (also s Visible) Changeset) Time) UserId) User) one
-    ∙ ap (λ s. also (also (also (also s Changeset) Time) UserId) User) two
-    ∙ ap (λ s. also (also (also s Time) UserId) User) three
-    ∙ ap (λ s. also (also s UserId) User) four
-    ∙ ap (λ s. also s User) five
-    ∙ six in
+    let all : head_stood ≡ stands c.add-5.new.self
+    = ap (λ s. also (also (also (also (also s Version) Visible) Changeset) Time) UserId) none
+    ∙ ap (λ s. also (also (also (also s Visible) Changeset) Time) UserId) one
+    ∙ ap (λ s. also (also (also s Changeset) Time) UserId) two
+    ∙ ap (λ s. also (also s Time) UserId) three
+    ∙ ap (λ s. also s UserId) four
+    ∙ five in
     record { letters = sym all }

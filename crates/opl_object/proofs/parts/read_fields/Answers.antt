@@ -28,7 +28,7 @@ loop-field-preserved c =
       search rules,
       c.in_ok-end.ensures.earth c.loop-field.invariant.1,
       ap (λ text. each_piece (with_field c.args.kind) (stands c.read_field.new.seen, c.read_field.new.parts) (fields_of text)) later
-      ∙ goes_on (with_field c.args.kind) (stands c.loop-field.seen, c.loop-field.parts) (before_first is_blank c.in-Some.field.now) (fields_of (from_blank c.in-Some.field.now)) _ (stands c.read_field.new.seen, c.read_field.new.parts) so_far c.in_ok-end.ensures.parts,
+          ∙ goes_on (with_field c.args.kind) (stands c.loop-field.seen, c.loop-field.parts) (before_first is_blank c.in-Some.field.now) (fields_of (from_blank c.in-Some.field.now)) _ (stands c.read_field.new.seen, c.read_field.new.parts) so_far c.in_ok-end.ensures.parts,
     )
 
 pub returns-clause-parts : goal.returns-clause-parts

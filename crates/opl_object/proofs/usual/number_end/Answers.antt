@@ -1,4 +1,4 @@
-use Rattle.std.proofs.Common.{◌≡◌, ℕ, not, arith}
+use Rattle.std.proofs.Common.{not, arith}
 use Rattle.std.specs.Char.{is_ascii_digit}
 use Rattle.opl_object.proofs.Fronts.{ends_stopped, digits_stop, whole_front}
 use Rattle.opl_object.proofs.usual.number_end.Goals as goal

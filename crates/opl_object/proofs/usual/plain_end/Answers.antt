@@ -1,4 +1,3 @@
-use Rattle.std.proofs.Common.{◌≡◌}
 use Rattle.opl_object.specs.Text.{is_reserved}
 use Rattle.opl_object.proofs.Fronts.{ends_stopped, reserved_stop, plain_front}
 use Rattle.opl_object.proofs.usual.plain_end.Goals as goal

@@ -1,5 +1,4 @@
 use Rattle.std.proofs.Common.{◌≡◌, ◌<◌, ◌≤◌, ◌+◌, true, cond, length, get_or, take, ap, sym, subst, ◌∙◌, arith, rules}
-use Rattle.std.specs.Prelude.{pos, neg_ℤ}
 use Rattle.std.specs.Int.{w32}
 use mir.Val.{SFits}
 use Rattle.std.proofs.lemmas.Int.{to_z-of_z}

@@ -1,4 +1,4 @@
-use Rattle.std.proofs.Common.{◌≡◌, Some, Ok, sym, ap, ◌∙◌, rules}
+use Rattle.std.proofs.Common.{Some, Ok, sym, ap, ◌∙◌, rules}
 use Rattle.std.specs.Prelude.{take}
 use Rattle.std.specs.Int.{w32}
 use mir.Val.{SFits}
