@@ -1,6 +1,7 @@
 pub mod Becoming
 pub mod Blank
 pub mod Carrying
+pub mod ChangeReads
 pub mod Changed
 pub mod Handles
 pub mod Imports

@@ -17,3 +17,4 @@ pub mod Steps
 pub mod Ids
 pub mod OpeningReads
 pub mod Reads
+pub mod ChangeReads

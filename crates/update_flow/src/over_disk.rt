@@ -1,5 +1,5 @@
 //! A store stands on its disk between two calls. For a call its buckets are laid over the disk, and taken off again.
-ghost use Rattle.std.specs.Prelude.{◌≡◌, ◌≤◌, ◌+◌, ℕ, Ok, IsTrue, IfOk, length};
+ghost use Rattle.std.specs.Prelude.{◌≡◌, ◌≤◌, ◌+◌, ℕ, Ok, IsTrue, IfOk, List, OnOk, length};
 ghost use Rattle.std.specs.Int.{is_power_of_two};
 ghost use Rattle.std.specs.Result.{result_err};
 ghost use Rattle.osm_base.specs.map.Objects.{folded_all};
@@ -7,6 +7,10 @@ ghost use Rattle.style_read.specs.Reading.{reading};
 ghost use Rattle.row_map.specs.Row.{tables};
 ghost use Rattle.tile_cover.specs.Runs.{has};
 ghost use Rattle.bucket_store.specs.Opening.{Fits};
+ghost use Rattle.page_journal.specs.Crash.{IsAtRest};
+ghost use Rattle.store_maps.specs.Asked.{May};
+ghost use Rattle.update_step.specs.Touch.{MayTouch};
+ghost use Rattle.update_flow.specs.ChangeReads.{ReadsTouched};
 ghost use Rattle.update_flow.specs.Changes.{AreChanges};
 ghost use Rattle.update_flow.specs.Opening.{HoldsState};
 ghost use Rattle.update_flow.specs.State.{Append, Clear, Holding, Import, formatted, imported};
@@ -155,6 +159,9 @@ pub(crate) fn append_on<D: Disk, R: Threads + Sync, G: Gate>(
         → TurnsOn limits.now (imported held) (Append bounds.now change.now) (result_err result) (D.view disk.old) (D.view disk.new) kept.new }
     ensures changes { IfOk result (λ changes. (held : Holding) → Fits store (D.view disk.old) → HoldsState (imported held) (D.view disk.old)
         → held.style ≡ style.now → AreChanges (tables held.style held.objects) (tables held.style (folded_all held.objects change.now)) changes) }
+    ensures reads { OnOk result ((held : Holding) → Fits store (D.view disk.old) → HoldsState (imported held) (D.view disk.old) → held.style ≡ style.now
+        → (may : May) → MayTouch style.now held.objects change.now may → (pages : List (List ℕ)) → IsAtRest pages (D.view disk.old)
+        → ReadsTouched may held.buckets pages (D.view disk.old) (D.view disk.new)) }
     ensures ends { EndsOn (result_err result) (D.view disk.old) (D.view disk.new) kept.new }
 {
     let buckets = Buckets::on(alloc, disk, limits, store);

@@ -1,9 +1,13 @@
 //! A change of an open store.
-ghost use Rattle.std.specs.Prelude.{◌≡◌, ◌≤◌, ◌+◌, true, false, IfErr, IfOk, IsErr, IsErrOf, OnOk};
+ghost use Rattle.std.specs.Prelude.{◌≡◌, ◌≤◌, ◌+◌, ℕ, List, true, false, IfErr, IfOk, IsErr, IsErrOf, OnOk};
 ghost use Rattle.std.specs.Result.{result_err};
 ghost use Rattle.osm_base.specs.map.Objects.{folded_all};
 ghost use Rattle.page_journal.specs.declared.fault.StoreFault.TheVariants.{Broken};
+ghost use Rattle.page_journal.specs.Crash.{IsAtRest};
+ghost use Rattle.store_maps.specs.Asked.{May};
+ghost use Rattle.update_step.specs.Touch.{MayTouch};
 ghost use Rattle.update_flow.specs.AtRest.{HasFlowCause};
+ghost use Rattle.update_flow.specs.ChangeReads.{ReadsTouched};
 ghost use Rattle.update_flow.specs.Changes.{IsDeltaOf};
 ghost use Rattle.update_flow.specs.Handle.{IsOpen, Takes, TellsAs, changes_of, is_imported, is_whole, style_of, view_of};
 ghost use Rattle.update_flow.specs.Refusals.{IsCallFault};
@@ -39,6 +43,11 @@ impl<D: Disk> Updater<'_, D> {
             → Takes state (Append bounds.now change) (result_err result) (handle_of self.old) (handle_of self.new) }
         ensures delta { IfOk result (λ delta. (held : Holding) → IsOpen (imported held) (handle_of self.old)
             → IsDeltaOf held.style held.objects (folded_all held.objects change) (held.changes + 1) delta) }
+
+        // It reads no more of the disk than what the change touches, each page once.
+        ensures reads { OnOk result ((held : Holding) → IsOpen (imported held) (handle_of self.old) → (may : May)
+            → MayTouch held.style held.objects change may → (pages : List (List ℕ)) → IsAtRest pages (view_of (handle_of self.old))
+            → ReadsTouched may held.buckets pages (view_of (handle_of self.old)) (view_of (handle_of self.new))) }
 
         // Whatever the disk holds.
         ensures not_imported { is_imported (handle_of self.old) ≡ false → IsErrOf result NotImported }

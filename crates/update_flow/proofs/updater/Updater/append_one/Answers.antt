@@ -1,8 +1,9 @@
 -- The store that was open is the one on the disk, one change further.
-use Rattle.std.proofs.Common.{◌∙◌, ◌+◌, ℕ, refl, sym, ap}
+use Rattle.std.proofs.Common.{◌∙◌, ◌+◌, ℕ, refl, sym, ap, subst}
 use Rattle.std.proofs.lemmas.Option.{same_Some}
 use Rattle.std.specs.Prelude.{Option, is_some}
 use Rattle.style_read.specs.Style.{StyleOf}
+use Rattle.update_step.specs.Touch.{MayTouch}
 use Rattle.update_flow.specs.Updater.{handle_of}
 use Rattle.update_flow.proofs.Changed.{append_taken}
 use Rattle.update_flow.proofs.Handles.{kept_fits}
@@ -29,3 +30,9 @@ returns-in-Ok-clause-delta g c held opened = record {
   changes = c.in-Ok.ensures.changes held (kept_fits c.args.self.now.store c.in-Some-take.store _ (sym c.take.ensures.value ∙ c.in-Some-take.is) opened.fits)
       (state_here _ _ opened.at_rest) (same_Some held.style c.in-Some.style (sym opened.shows.style_is ∙ c.in-Some.is));
 }
+
+pub returns-in-Ok-clause-reads : goal.returns-in-Ok-clause-reads
+returns-in-Ok-clause-reads g c held opened may touches =
+    let same = same_Some held.style c.in-Some.style (sym opened.shows.style_is ∙ c.in-Some.is) in
+    c.in-Ok.ensures.reads held (kept_fits c.args.self.now.store c.in-Some-take.store _ (sym c.take.ensures.value ∙ c.in-Some-take.is) opened.fits)
+    (state_here _ _ opened.at_rest) same may (subst (λ (style : StyleOf). MayTouch style held.objects c.args.change may) same touches)
