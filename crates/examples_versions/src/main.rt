@@ -65,6 +65,7 @@ fn answer_of<R: Threads + Wait + Sync + AllocGlobal>(
     match kind {
         "grid" => grids::searched(alloc, given),
         "held" => held::held(alloc, given),
+        "gate" => held::passed(alloc, given),
         "steps" => steps::steps(rt, alloc, given),
         "served" => served::served(rt, alloc, given),
         _ => Ok(None),
