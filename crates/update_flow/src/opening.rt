@@ -46,6 +46,7 @@ pub fn open<D: Disk>(alloc: Global, disk: &mut D, limits: &Limits) -> Result<Ope
     ensures bad { (page : ℕ) → IsErrOf result (Store (BadStore page)) → IfTold (D.view disk.old).content StandsForNone }
     ensures once { OnOk result ((bytes : List ℕ) (state : State) → Tells (D.view disk.old) bytes → StandsFor bytes state → gate bytes ≢ OPEN
         → ReadsToOpen bytes (D.view disk.old) (D.view disk.new)) }
+    ensures same { IfTold (D.view disk.old).content (λ bytes. gate bytes ≢ OPEN → (D.view disk.new).content ≡ (D.view disk.old).content) }
     ensures cause { HasFlowCause (result_err result) (D.view disk.old) (D.view disk.new) }
 {
     match bucket_store::open(alloc, disk, limits) {

@@ -127,3 +127,10 @@ returns-in-Ok-clause-once g c =
     opens_then bytes old mid new c.in-Ok.found told (c.open.ensures.looked bytes told (λ (opened : HasOpenJournal bytes). shut opened.is_open)) fits
     (c.in-Ok.ensures.reads bytes told shut) (reads state fits holds))
     c.judged.ensures.once
+
+pub returns-in-Ok-clause-same : goal.returns-in-Ok-clause-same
+returns-in-Ok-clause-same g c = λ bytes told shut.
+    c.judged.ensures.stays.content ∙ (c.open.ensures.looked bytes told (λ (opened : HasOpenJournal bytes). shut opened.is_open)).content
+
+pub returns-in-Err-clause-same : goal.returns-in-Err-clause-same
+returns-in-Err-clause-same g c = λ bytes told shut. (c.open.ensures.looked bytes told (λ (opened : HasOpenJournal bytes). shut opened.is_open)).content
