@@ -3,9 +3,9 @@ ghost use Rattle.std.specs.Prelude.{◌≡◌, ◌++◌, List, ℕ, codes, IfOk,
 ghost use Rattle.std.specs.String.{string_bytes};
 ghost use Rattle.updater.specs.Answers.{answers_text, counted, found_text, rows_text};
 
+use boxed_rows::{answer_in_order, boxed_tables};
 use map_query::{Found, Query};
 use osm_base::{NumberedRow, OutOfMemory, Tables};
-use row_boxes::{answer_by_boxes, boxes_of};
 use row_text::push_row;
 use std::alloc::Global;
 use style_read::Style;
@@ -20,10 +20,10 @@ pub fn answers_text(
 ) -> Result<String, OutOfMemory>
     ensures text { IfOk result (λ text. string_bytes text ≡ answers_text style.now tables.now version queries.now) }
 {
-    let boxes = boxes_of(alloc, tables)?;
+    let ordered = boxed_tables(alloc, style, tables)?;
     let mut out = String::new(alloc);
     for query in queries {
-        let found = answer_by_boxes(alloc, style, tables, &boxes, query)?;
+        let found = answer_in_order(alloc, style, tables, &ordered, query)?;
         push_found(&mut out, version, &found)?;
     }
     Ok(out)

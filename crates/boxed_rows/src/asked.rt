@@ -1,0 +1,75 @@
+//! The answers to queries over rows that stand in order.
+ghost use Rattle.std.specs.Prelude.{◌≡◌, ◌∷◌, ◌++◌, [], filter, map, IfOk, IfSome, OnOk};
+ghost use Rattle.std.specs.List.{All};
+ghost use Rattle.map_query.specs.Answer.{answer, is_in, numbered};
+ghost use Rattle.boxed_rows.specs.Rows.{IsTable, seen};
+
+use crate::boxed::BoxedRow;
+use crate::rows::TableRows;
+use lanes_geo::is_met;
+use map_query::{Found, Query, answer};
+use osm_base::{GeoBox, Items, NumberedRow, OutOfMemory, Row, RowList, Tables, TryCopy};
+use row_text::row_number;
+use std::alloc::Global;
+use style_read::Style;
+
+/// The answer to a query over these tables, whose rows stand in order.
+pub fn answer_in_order(
+    alloc: Global,
+    style: &Style,
+    tables: &Tables,
+    all: &[TableRows],
+    query: &Query,
+) -> Result<Found, OutOfMemory>
+    requires ordered { All (IsTable style.now tables.now) all.now }
+    ensures found { IfOk result (λ found. found ≡ answer style.now tables.now query.now) }
+{
+    if let Query::Box { table, asked } = *query {
+        for own in all {
+            if own.table == table {
+                let rows = rows_met(alloc, style, table, asked, &own.rows)?;
+                return Ok(Found::Rows(rows));
+            }
+        }
+    }
+    answer(alloc, style, tables, query)
+}
+
+/// Those of the rows of a table whose boxes have a place in common with the asked one.
+fn rows_met(
+    alloc: Global,
+    style: &Style,
+    table: u32,
+    asked: GeoBox,
+    ordered: &[BoxedRow],
+) -> Result<RowList, OutOfMemory>
+    ensures rows { IfOk result (λ rows. rows ≡ numbered style.now table (filter (λ (key, row). is_in asked row) (map seen ordered.now))) }
+{
+    let mut rows = Items::new(alloc);
+    for own in ordered {
+        if is_in(asked, own) {
+            push(alloc, &mut rows, row_number(style, table, own.key), own.row)?;
+        }
+    }
+    Ok(rows)
+}
+
+/// Whether the box of a row has a place in common with the asked one.
+fn is_in(asked: GeoBox, own: &BoxedRow) -> bool
+    ensures met { result ≡ is_in asked own.now.row.now }
+{
+    match own.around {
+        Some(around) => is_met(asked, around),
+        None => false,
+    }
+}
+
+/// Adds a copy of a row with its number.
+fn push(alloc: Global, rows: &mut RowList, number: i64, row: &Row) -> Result<(), OutOfMemory>
+    ensures ok { OnOk result (rows.new ≡ rows.old ++ record { number = number; row = row.now } ∷ []) }
+{
+    rows.push(NumberedRow {
+        number,
+        row: row.copy(alloc)?,
+    })
+}
