@@ -33,3 +33,7 @@ pub mod FillRuns
 pub mod TableTexts
 pub mod OptionLaws
 pub mod TableLaws
+pub mod ServeRuns
+pub mod ShownVersions
+pub mod BlockLaws
+pub mod ServeEnds

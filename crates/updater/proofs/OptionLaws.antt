@@ -9,8 +9,8 @@ use Rattle.std.specs.Prelude.{IfSome}
 use Rattle.std.proofs.lemmas.List.{drop_more}
 use Rattle.updater.specs.declared.options.Allowed.{Allowed}
 use Rattle.updater.specs.declared.options.Options.{Options}
-use Rattle.updater.specs.declared.options.TheConstants.{BUCKETS, MAX_BUCKETS, MAX_WORKERS, WORKERS}
-use Rattle.updater.specs.CommandOf.{AreBuckets, AreWorkers}
+use Rattle.updater.specs.declared.options.TheConstants.{BUCKETS, MAX_BUCKETS, MAX_READERS, MAX_WORKERS, READERS, WORKERS}
+use Rattle.updater.specs.CommandOf.{AreBuckets, AreReaders, AreWorkers}
 use Rattle.updater.specs.Options.{AreInRange, with_option, with_options}
 
 -- the word that comes next is read, and then those behind it
@@ -36,6 +36,13 @@ workers_among (Some value) workers h is = record { one = omega (arith, is, h.0);
 
 pub workers_fit : (options : Options) (workers : ℕ) → AreInRange options → workers ≡ unwrap_or options.workers WORKERS → AreWorkers workers
 workers_fit options workers range is = workers_among options.workers workers range.few_workers is
+
+readers_among : (value : Option ℕ) (readers : ℕ) → IfSome value (λ readers. (1 ≤ readers) × (readers ≤ MAX_READERS)) → readers ≡ unwrap_or value READERS → AreReaders readers
+readers_among None readers h is = record { one = omega (arith, is); limit = omega (arith, is) }
+readers_among (Some value) readers h is = record { one = omega (arith, is, h.0); limit = omega (arith, is, h.1) }
+
+pub readers_fit : (options : Options) (readers : ℕ) → AreInRange options → readers ≡ unwrap_or options.readers READERS → AreReaders readers
+readers_fit options readers range is = readers_among options.readers readers range.few_readers is
 
 pub default_power : is_power_of_two 1024 ≡ true
 unfolding ones

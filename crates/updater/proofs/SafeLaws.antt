@@ -3,13 +3,14 @@ use Rattle.std.proofs.Common.{◌≡◌, ◌+◌, ◌-◌, ◌⊎◌, ℕ, zero,
 use Rattle.std.proofs.lemmas.List.{append-nil}
 use Rattle.outside.specs.Bytes.{BothKnown}
 use Rattle.style_read.specs.Style.{table_of}
+use Rattle.map_query.specs.declared.query.Query.{Query}
 use Rattle.tile_cover.specs.Table.{BoundsOf}
 use Rattle.update_flow.specs.State.{Holding, State, formatted, imported, changed, fresh}
 use Rattle.updater.specs.declared.fault.Fault.{Fault}
 use Rattle.updater.specs.declared.fault.Fault.TheVariants as faults
-use Rattle.updater.specs.Command.{CommandOf, points_of, lines_of, init_of, import_of, append_of, export_of, tiles_of, query_of, replay_of, Use, new_store, old_store, use_of}
+use Rattle.updater.specs.Command.{CommandOf, points_of, lines_of, init_of, import_of, append_of, export_of, tiles_of, query_of, serve_of, replay_of, Use, new_store, old_store, use_of}
 use Rattle.updater.specs.Comes.{Comes}
-use Rattle.updater.specs.Courses.{Onward, telling, append_to, appends, clears, course_of, export_from, exports, finished, import_into, onward, query_from, tiles_of_store, version_line}
+use Rattle.updater.specs.Courses.{Onward, telling, append_to, appends, clears, course_of, export_from, exports, finished, import_into, onward, query_from, serve_to, serves, tiles_of_store, version_line}
 use Rattle.updater.specs.Keeps.{Kept, IsFit, IsOneOf, blank, whole}
 use Rattle.updater.specs.Leaves.{IsPast, Leaves, StandsOn}
 use Rattle.updater.specs.Progress.{Standing, unused, keeps, Progress, Ending, begun}
@@ -122,6 +123,26 @@ appends_count bounds last behind held file (suc count) =
       ),
     )
 
+-- change files that are appended and shown to readers
+serves_count : (bounds : BoundsOf) (queries : List Query) (readers : ℕ) (shown : List Holding) (held : Holding) (file count : ℕ) → Counts (serves bounds queries readers shown held file count) 0 count
+unfolding serves
+serves_count bounds queries readers shown held file zero = (refl, refl, tt)
+serves_count bounds queries readers shown held file (suc count) =
+    let line = one_line (held.changes + 1) in
+    let told : 0 ≡ 1 - lines_in (version_line (held.changes + 1)) = omega (arith, line) in
+    let taken : count ≡ suc count - 1 = omega arith in (
+      refl,
+      λ change. (
+        refl,
+        (
+          inr (omega (arith, line)),
+          subst (λ (untold : ℕ). Counts (serves bounds queries readers (shown ++ held ∷ []) (changed bounds change held) (file + 1) count) untold (suc count - 1)) told
+              (subst (λ (left : ℕ). Counts (serves bounds queries readers (shown ++ held ∷ []) (changed bounds change held) (file + 1) count) 0 left) taken
+              (serves_count bounds queries readers (shown ++ held ∷ []) (changed bounds change held) (file + 1) count)),
+        ),
+      ),
+    )
+
 -- the courses over a store that is there open it first
 opens_first : (command : CommandOf) → use_of command ≡ old_store → CountsOpen (steps_told command) (course_of command)
 opens_first (points_of key files) is = absurd (cc)
@@ -160,6 +181,11 @@ opens_first (query_of store files) is = into
     into : (state : State) → Counts (query_from files state) 0 0
     into formatted = refl
     into (imported held) = (refl, λ queries. (refl, (refl, refl, tt)))
+opens_first (serve_of store files workers readers) is = into
+  where
+    into : (state : State) → Counts (serve_to files readers state) 0 (files.count - 2)
+    into formatted = refl
+    into (imported held) = (refl, λ bounds. (refl, λ queries. (refl, serves_count bounds queries readers [] held (files.first + 2) (files.count - 2))))
 opens_first (replay_of store files workers) is = absurd (cc)
 
 -- and the others make it
@@ -172,6 +198,7 @@ makes_first (append_of store files workers) is = absurd (cc)
 makes_first (export_of store table) is = absurd (cc)
 makes_first (tiles_of store least clear) is = absurd (cc)
 makes_first (query_of store files) is = absurd (cc)
+makes_first (serve_of store files workers readers) is = absurd (cc)
 makes_first (replay_of store files workers) is = λ style bounds.
     let line = one_line 0 in
     let told : 0 ≡ 1 - lines_in (version_line 0) = omega (arith, line) in

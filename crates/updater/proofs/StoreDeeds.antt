@@ -17,7 +17,7 @@ use Rattle.update_flow.specs.declared.fault.FlowFault.{FlowFault}
 use Rattle.update_flow.specs.declared.fault.FlowFault.TheVariants as flow
 use Rattle.updater.specs.declared.fault.Fault.{Fault}
 use Rattle.updater.specs.declared.fault.Fault.TheVariants as faults
-use Rattle.updater.specs.Comes.{Comes, ByStore, IfUnknown, IsRefusal, IsRefusedFor, IsStepFault}
+use Rattle.updater.specs.Comes.{Comes, ByStore, IfUnknown, IsCertain, IsRefusal, IsRefusedFor, IsStepFault}
 use Rattle.updater.specs.Course.{Course, looks, commits}
 use Rattle.updater.specs.Faults.{flow_fault}
 use Rattle.updater.specs.Heads.{GoesOn, IsHead, IsHere, IsRested, IsShown, KeptNone}
@@ -201,6 +201,7 @@ pub record IsStepped (start done : Progress) (state : State) (next : ℕ) (old :
   pub further : Progress
   pub head : IsHead start further (after state step) next old files updater output
   pub leads : (rest : Course) (ending : Ending) → Comes old rest further ending → Comes old (commits step rest) done ending
+  pub certain : IsCertain further.store → IsCertain done.store
 
 module _ (start done : Progress) (state : State) (next : ℕ) (old : Before) (files : FilesView) (before now : Handle) (output : SinkView)
     (head : IsHead start done state next old files before output) where
@@ -229,6 +230,7 @@ module _ (start done : Progress) (state : State) (next : ℕ) (old : Before) (fi
           (λ kept. (ending ≡ at (in_doubt step kept done) (Some faults.DiskFault)) ⊎ IsRefusedFor (IsRefusal (state_after kept.history) step) done ending
           ⊎ (Refuses standard (state_after kept.history) step None × Comes old rest (committed step kept done) ending))
           (IsRefusedFor IsStepFault done ending ⊎ Comes old rest done ending)) (sym is) (inr comes));
+      certain = λ certain. certain;
     }
     taken_by (keeps kept) is here =
         let own = takes state here.rests in
@@ -241,6 +243,7 @@ module _ (start done : Progress) (state : State) (next : ℕ) (old : Before) (fi
               ⊎ (Refuses standard (state_after kept.history) step None × Comes old rest (committed step kept done) ending))
               (IsRefusedFor IsStepFault done ending ⊎ Comes old rest done ending)) (sym is)
               (inr (inr (subst (λ (own : State). Refuses standard own step None) (sym here.stands) answer, comes))));
+          certain = λ _. subst (λ (store : Standing). IsCertain store) (sym is) tt;
         }
 
     pub taken : IsStepped start done state next old files now output step

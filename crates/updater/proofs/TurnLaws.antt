@@ -1,5 +1,5 @@
 -- A fault that names a file names the one whose turn it was, and has its cause.
-use Rattle.std.proofs.Common.{◌≡◌, ◌≢◌, ◌≤◌, ◌<◌, ◌+◌, ◌-◌, ℕ, zero, suc, Bool, true, false, Option, Some, None, List, [], Result, Ok, Err, inl, inr, refl, sym, ◌∙◌, subst, arith}
+use Rattle.std.proofs.Common.{◌≡◌, ◌≢◌, ◌≤◌, ◌<◌, ◌+◌, ◌-◌, ℕ, zero, suc, Bool, true, false, Option, Some, None, List, [], ◌∷◌, ◌++◌, Result, Ok, Err, inl, inr, refl, sym, ◌∙◌, subst, arith}
 use Rattle.std.specs.Prelude.{IsOk}
 use Rattle.osm_base.specs.declared.values.object.Entry.{Entry}
 use Rattle.updater.specs.declared.fault.Fault.{Fault}
@@ -7,12 +7,13 @@ use Rattle.updater.specs.declared.fault.Fault.TheVariants as faults
 use Rattle.updater.specs.declared.files.Files.{Files}
 use Rattle.updater.specs.Causes.{Cause, HasStore, MakesStore, OpensStore}
 use Rattle.updater.specs.Comes.{Comes}
-use Rattle.updater.specs.Command.{CommandOf, points_of, lines_of, init_of, import_of, append_of, export_of, tiles_of, query_of, replay_of, files_of, Use, no_store, new_store, old_store, use_of}
+use Rattle.updater.specs.Command.{CommandOf, points_of, lines_of, init_of, import_of, append_of, export_of, tiles_of, query_of, serve_of, replay_of, files_of, Use, no_store, new_store, old_store, use_of}
 use Rattle.style_read.specs.Style.{table_of}
+use Rattle.map_query.specs.declared.query.Query.{Query}
 use Rattle.tile_cover.specs.Table.{BoundsOf}
 use Rattle.update_flow.specs.State.{Holding, State, formatted, imported, changed, fresh}
 use Rattle.updater.specs.Course.{Course}
-use Rattle.updater.specs.Courses.{append_to, appends, course_of, export_from, exports, finished, import_into, onward, query_from, replay_course, telling, tiles_of_store}
+use Rattle.updater.specs.Courses.{append_to, appends, course_of, export_from, exports, finished, import_into, onward, query_from, replay_course, serve_to, serves, telling, tiles_of_store}
 use Rattle.updater.specs.Files.{IsChange}
 use Rattle.updater.specs.InTurn.{FaultNames, IsInTurn}
 use Rattle.updater.specs.Leaves.{HasCause}
@@ -73,6 +74,20 @@ module _ (terms : Terms) (least : ℕ) (change : (file : ℕ) → least ≤ file
         ),
       )
 
+  serves_to : (bounds : BoundsOf) (queries : List Query) (readers : ℕ) (shown : List Holding) (held : Holding) (file count : ℕ) (quiet : Type 0) → least ≤ file → file + count ≤ terms.end
+      → KeepsTo terms file quiet (serves bounds queries readers shown held file count)
+  unfolding serves
+  serves_to bounds queries readers shown held file zero quiet low high = tt
+  serves_to bounds queries readers shown held file (suc count) quiet low high =
+      let own = change file low (omega (arith, high)) in (
+        refl,
+        omega (arith, high),
+        (λ e. absurd (late e)),
+        own.faulty,
+        own.accepts,
+        λ found. (store, serves_to bounds queries readers (shown ++ held ∷ []) (changed bounds found held) (file + 1) count ⊥ (omega (arith, low)) (omega (arith, high))),
+      )
+
 -- a command over a store that is there
 has_store : old_store ≢ no_store
 has_store = λ e. absurd (cc)
@@ -128,6 +143,33 @@ query_to store files (imported held) one = (
   (λ bytes fault is. (held.style, is)),
   (λ bytes found is. (held.style, found, is)),
   λ found. (has_store, tt),
+)
+
+serve_to_store : (store : List ℕ) (files : Files) (workers readers : ℕ) (state : State) → 2 ≤ files.count → KeepsTo (terms_of (serve_of store files workers readers)) files.first (Unit {0}) (serve_to files readers state)
+serve_to_store store files workers readers formatted two = has_store
+serve_to_store store files workers readers (imported held) two = (
+  refl,
+  omega (arith, two),
+  (λ e. absurd e),
+  (λ bytes fault is. inl (refl, is)),
+  (λ bytes found is. inl (refl, (found, is))),
+  λ bounds. (
+    refl,
+    omega (arith, two),
+    (λ e. absurd e),
+    (λ bytes fault is. inr (inl (refl, (held.style, is)))),
+    (λ bytes found is. inr (inl (refl, (held.style, found, is)))),
+    λ queries. (
+      has_store,
+      (
+          let here : files.first + 2 ≡ files.first + 1 + 1 = omega arith in
+          subst (λ (at : ℕ). KeepsTo (terms_of (serve_of store files workers readers)) at (Unit {0}) (serves bounds queries readers [] held (files.first + 2) (files.count - 2))) here
+          (serves_to (terms_of (serve_of store files workers readers)) (files.first + 2)
+          (λ file low high. record { faulty = λ bytes fault is. inr (inr (low, is)); accepts = λ bytes found is. inr (inr (low, is_ok (List Entry) Fault _ found is)) }) (λ e. e) has_store
+          bounds queries readers [] held (files.first + 2) (files.count - 2) (Unit {0}) (omega arith) (omega (arith, two)))
+          ),
+    ),
+  ),
 )
 
 -- a command that makes its store
@@ -198,6 +240,7 @@ keeps_to (append_of store files workers) its = (refl, has_store, λ state. appen
 keeps_to (export_of store table) its = (refl, has_store, λ state. export_to store table state)
 keeps_to (tiles_of store least clear) its = (refl, has_store, λ state. tiles_to store least clear state)
 keeps_to (query_of store files) its = (refl, has_store, λ state. query_to store files state its)
+keeps_to (serve_of store files workers readers) its = (refl, has_store, λ state. serve_to_store store files workers readers state its)
 keeps_to (replay_of store files workers) its = replay_to store files workers its
 
 -- before anything is done

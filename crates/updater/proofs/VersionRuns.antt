@@ -1,5 +1,5 @@
 -- A file is imported or appended, and told.
-use Rattle.std.proofs.Common.{◌≡◌, ◌+◌, ℕ, true, false, Option, Some, None, List, Result, Ok, Err, OnOk, OnErr, IfErr, inr, sym, subst, arith}
+use Rattle.std.proofs.Common.{◌≡◌, ◌+◌, ℕ, ◌≤◌, false, Option, Some, None, List, Result, Ok, Err, OnOk, OnErr, IfErr, inr, sym, subst, arith}
 use Rattle.std.specs.Result.{result_err}
 use Rattle.std.specs.Io.KnownBytes.{Appends}
 use Rattle.osm_base.specs.declared.values.object.Entry.{Entry}
@@ -16,7 +16,7 @@ use Rattle.update_flow.specs.declared.fault.FlowFault.{FlowFault}
 use Rattle.update_flow.specs.declared.fault.FlowFault.TheVariants as flow
 use Rattle.updater.specs.declared.fault.Fault.{Fault}
 use Rattle.updater.specs.declared.fault.Fault.TheVariants as faults
-use Rattle.updater.specs.Comes.{Comes}
+use Rattle.updater.specs.Comes.{Comes, IsCertain}
 use Rattle.updater.specs.Course.{Course, reads, commits, tells}
 use Rattle.updater.specs.Courses.{Onward, onward}
 use Rattle.updater.specs.FileReads.{IsRead, IsUnread}
@@ -73,6 +73,20 @@ module _ (start done : Progress) (state : State) (file : ℕ) (old : Before) (fi
 
       leads_stepped : (last : Onward) (ending : Ending) → Comes old (tells line (onward last (next entries))) stepped.further ending → Comes old (course last) done ending
       leads_stepped last ending comes = leads_read last ending (stepped.leads (tells line (onward last (next entries))) ending comes)
+
+      -- the version is told, and what is so of it and of the one before is known where the store is
+      pub version_done : (Next : Holding → Type 0) (text : List ℕ) (new : SinkView) → text ≡ line → Appends output.taken new.taken text → output.faults ≤ new.faults → (IsCertain done.store → Next (next entries))
+          → (further : Progress) × (now_held : Holding) × IsHead start further (imported now_held) (file + 1) old read now new
+          × ((last : Onward) (ending : Ending) → Comes old (onward last now_held) further ending → Comes old (course last) done ending)
+          × (IsCertain further.store → IsCertain done.store × Next now_held)
+      version_done Next text new is all later so = (
+        plus line stepped.further,
+        next entries,
+        subst (λ (own : State). IsHead start (plus line stepped.further) own (file + 1) old read now new) (law entries)
+            (past_text start stepped.further (after state (step entries)) (file + 1) old read now output head_stepped line new (subst (λ (own : List ℕ). Appends output.taken new.taken own) is all) later),
+        λ last ending comes. leads_stepped last ending (inr comes),
+        λ certain. let before = stepped.certain certain in (before, so before),
+      )
 
       pub version_told : (text : List ℕ) (new : SinkView) (result : Result (Unit {0}) Fault) → text ≡ line → OnOk result (Appends output.taken new.taken text) → OnErr result (AppendsPrefix output.taken new.taken text)
           → IfErr result (λ fault. fault ≡ faults.WriteFault) → HasCauseOf output.faults new.faults result → Leads course (result_err result) start done (file + 1) old read now new

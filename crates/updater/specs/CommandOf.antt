@@ -2,10 +2,10 @@
 use Rattle.std.specs.Prelude.{◌≡◌, ℕ, ◌+◌, ◌<◌, ◌≤◌, Bool, true, false, Option, Some, None, List}
 use Rattle.std.specs.Int.{is_power_of_two}
 use Rattle.updater.specs.declared.words.Command.{Command}
-use Rattle.updater.specs.declared.words.Command.TheVariants.{Points, Lines, Init, Import, Append, Export, Tiles, Query, Replay}
+use Rattle.updater.specs.declared.words.Command.TheVariants.{Points, Lines, Init, Import, Append, Export, Tiles, Query, Serve, Replay}
 use Rattle.tile_cover.specs.declared.runs.TheConstants.{MAX_ZOOM}
 use Rattle.updater.specs.declared.files.Files.{Files}
-use Rattle.updater.specs.declared.options.TheConstants.{MAX_BUCKETS, MAX_WORKERS}
+use Rattle.updater.specs.declared.options.TheConstants.{MAX_BUCKETS, MAX_READERS, MAX_WORKERS}
 
 -- a command with its words; a file is told by the place of its word among all words, the command word being at 0
 pub data CommandOf : Type 0 where
@@ -17,6 +17,7 @@ pub data CommandOf : Type 0 where
   export_of : (store : List ℕ) → (table : List ℕ) → CommandOf
   tiles_of : (store : List ℕ) → (least : ℕ) → (clear : Bool) → CommandOf
   query_of : (store : List ℕ) → (files : Files) → CommandOf
+  serve_of : (store : List ℕ) → (files : Files) → (workers : ℕ) → (readers : ℕ) → CommandOf
   replay_of : (store : List ℕ) → (files : Files) → (workers : ℕ) → CommandOf
 
 -- a command of the program, as contracts see it
@@ -29,6 +30,7 @@ seen (Append store files workers) = append_of store.now files workers
 seen (Export store table) = export_of store.now table.now
 seen (Tiles store least clear) = tiles_of store.now least clear
 seen (Query store files) = query_of store.now files
+seen (Serve store files workers readers) = serve_of store.now files workers readers
 seen (Replay store files workers) = replay_of store.now files workers
 
 -- the path of the store that words ask for
@@ -39,6 +41,7 @@ store_of (Some (append_of store files workers)) = Some store
 store_of (Some (export_of store table)) = Some store
 store_of (Some (tiles_of store least clear)) = Some store
 store_of (Some (query_of store files)) = Some store
+store_of (Some (serve_of store files workers readers)) = Some store
 store_of (Some (replay_of store files workers)) = Some store
 store_of _ = None
 
@@ -63,6 +66,7 @@ use_of (append_of store files workers) = old_store
 use_of (export_of store table) = old_store
 use_of (tiles_of store least clear) = old_store
 use_of (query_of store files) = old_store
+use_of (serve_of store files workers readers) = old_store
 use_of (replay_of store files workers) = new_store
 
 -- the files that a command names, by the places of their words
@@ -72,6 +76,7 @@ files_of (lines_of key files) = files
 files_of (import_of store files buckets workers) = files
 files_of (append_of store files workers) = files
 files_of (query_of store files) = files
+files_of (serve_of store files workers readers) = files
 files_of (replay_of store files workers) = files
 files_of _ = record { first = 0; count = 0 }
 
@@ -87,6 +92,11 @@ pub record Fit (files : Files) : Type 0 where
 pub record AreWorkers (workers : ℕ) : Type 0 where
   pub one : 1 ≤ workers
   pub limit : workers ≤ MAX_WORKERS
+
+-- there are readers, and not too many
+pub record AreReaders (readers : ℕ) : Type 0 where
+  pub one : 1 ≤ readers
+  pub limit : readers ≤ MAX_READERS
 
 pub record AreBuckets (buckets : ℕ) : Type 0 where
   pub power : is_power_of_two buckets ≡ true
@@ -106,4 +116,5 @@ FilesFit (append_of store files workers) = FitFrom 2 files × AreWorkers workers
 FilesFit (export_of store table) = Unit {0}
 FilesFit (tiles_of store least clear) = least ≤ MAX_ZOOM
 FilesFit (query_of store files) = FitFrom 1 files × (files.count ≡ 1)
+FilesFit (serve_of store files workers readers) = FitFrom 2 files × AreWorkers workers × AreReaders readers
 FilesFit (replay_of store files workers) = FitFrom 3 files × AreWorkers workers

@@ -1,5 +1,5 @@
 -- The commands: what each does, in order.
-use Rattle.std.specs.Prelude.{◌≡◌, ℕ, zero, suc, ◌+◌, ◌-◌, Bool, true, false, List, [], ◌++◌, Option, Some, None, codes, encode_utf8_all, flat_map, length, slice_get}
+use Rattle.std.specs.Prelude.{◌≡◌, ℕ, zero, suc, ◌+◌, ◌-◌, Bool, true, false, List, [], ◌∷◌, ◌++◌, Option, Some, None, codes, encode_utf8_all, flat_map, length, slice_get}
 use Rattle.std.specs.Fmt.{decimal}
 use Rattle.std.specs.List.{range_with_len}
 use Rattle.std.specs.Option.{option_map_or}
@@ -16,9 +16,11 @@ use Rattle.update_flow.specs.Due.{Tiles}
 use Rattle.update_flow.specs.State.{Holding, State, formatted, imported, Import, Append, Clear, fresh, changed}
 use Rattle.updater.specs.declared.fault.Fault.TheVariants.{AlreadyImported, NotImported, UnknownTable}
 use Rattle.updater.specs.declared.files.Files.{Files}
-use Rattle.updater.specs.Command.{CommandOf, points_of, lines_of, init_of, import_of, append_of, export_of, tiles_of, query_of, replay_of}
+use Rattle.updater.specs.Command.{CommandOf, points_of, lines_of, init_of, import_of, append_of, export_of, tiles_of, query_of, serve_of, replay_of}
 use Rattle.updater.specs.Course.{Course, ends, refuses, reads, wants_empty, formats, opens, looks, commits, tells, writes, writes_text}
 use Rattle.updater.specs.Answers.{answers_text}
+use Rattle.updater.specs.Blocks.{AreBlocks}
+use Rattle.map_query.specs.declared.query.Query.{Query}
 use Rattle.updater.specs.Files.{IsBounds, IsChange, IsQueries, IsStyle}
 use Rattle.updater.specs.commands.Lines.{lines_text_of}
 use Rattle.updater.specs.commands.Points.{points_text_of}
@@ -67,6 +69,13 @@ appends bounds held file (suc count) rest = appends_one bounds held file (λ nex
 abbrev pub IsTileText : Tiles → (least : ℕ) → List ℕ → Type 0
 IsTileText due least text = (runs : List Run) × ((zoom x y : ℕ) → has runs zoom x y ≡ due zoom x y) × (text ≡ tile_text runs least)
 
+-- versions of a store are shown to readers: these, then the one that is told last, and then one more for each change file, which is
+-- appended and told. When all are, what the readers answered is written
+unfoldable pub serves : BoundsOf → (queries : List Query) → (readers : ℕ) → (shown : List Holding) → Holding → (file count : ℕ) → Course
+serves bounds queries readers shown held file zero = writes (AreBlocks readers queries shown held) ends
+serves bounds queries readers shown held file (suc count) =
+    appends_one bounds held file (λ next. serves bounds queries readers (shown ++ held ∷ []) next (file + 1) count)
+
 -- the text of all tables, each behind a line with its name
 abbrev pub named_text : StyleOf → TableMap → (table : ℕ) → List ℕ
 named_text style all table =
@@ -80,16 +89,18 @@ abbrev pub IsWholeText : (least : ℕ) → Holding → List ℕ → Type 0
 IsWholeText least held text =
     (tiles : List ℕ) × IsTileText held.due least tiles × (text ≡ tables_text held.style (tables held.style held.objects) ++ codes "tiles\n" ++ tiles)
 
--- what comes when a version of the store was told: nothing, change files, or the whole text
+-- what comes when a version of the store was told: nothing, change files, the whole text, or change files while readers are answered
 pub data Onward : Type 0 where
   finished : Onward
   appending : (bounds : BoundsOf) → (file count : ℕ) → Onward → Onward
   telling : (least : ℕ) → Onward
+  serving : (bounds : BoundsOf) → (queries : List Query) → (readers : ℕ) → (shown : List Holding) → (file count : ℕ) → Onward
 
 abbrev pub onward : Onward → Holding → Course
 onward finished held = ends
 onward (appending bounds file count last) held = appends bounds held file count (onward last)
 onward (telling least) held = looks (writes (IsWholeText least held) ends)
+onward (serving bounds queries readers shown file count) held = serves bounds queries readers shown held file count
 
 -- the text of a table, where there is one of the name
 abbrev pub exports : Holding → Option ℕ → Course
@@ -123,6 +134,12 @@ query_from files state = if_imported (λ held.
     reads files.first (IsQueries held.style files.first) (λ queries.
     looks (writes_text (answers_text held.style (tables held.style held.objects) held.changes queries) ends))) state
 
+abbrev pub serve_to : Files → (readers : ℕ) → State → Course
+serve_to files readers state = if_imported (λ held.
+    reads files.first (IsBounds files.first) (λ bounds.
+    reads (files.first + 1) (IsQueries held.style (files.first + 1)) (λ queries.
+    looks (serves bounds queries readers [] held (files.first + 2) (files.count - 2))))) state
+
 -- a file is imported, so many behind it are appended, and all that the store holds then is told
 abbrev pub fills : (style : StyleOf × List ℕ) → BoundsOf → (file changes : ℕ) → Course
 fills style bounds file changes = imports style 1024 file (onward (appending bounds (file + 1) changes (telling bounds.zoom)))
@@ -146,4 +163,5 @@ course_of (append_of store files workers) = opens (append_to files)
 course_of (export_of store table) = opens (export_from table)
 course_of (tiles_of store least clear) = opens (tiles_of_store least clear)
 course_of (query_of store files) = opens (query_from files)
+course_of (serve_of store files workers readers) = opens (serve_to files readers)
 course_of (replay_of store files workers) = replay_course files

@@ -1,4 +1,5 @@
 pub mod Answers
+pub mod Blocks
 pub mod Causes
 pub mod Comes
 pub mod Command
@@ -19,6 +20,7 @@ pub mod PointRows
 pub mod Progress
 pub mod RowsById
 pub mod Runs
+pub mod Serving
 pub mod TrimmedChange
 pub mod Turns
 pub mod WayRows

@@ -1,4 +1,5 @@
--- The options of a command: `workers=` a number from 1 to MAX_WORKERS, `buckets=` a power of two up to MAX_BUCKETS, `clear=yes`.
+-- The options of a command: `workers=` a number from 1 to MAX_WORKERS, `readers=` one from 1 to MAX_READERS, `buckets=` a power of two
+-- up to MAX_BUCKETS, `clear=yes`.
 -- Each has to belong to the command, and stands once at most.
 use Rattle.std.specs.Prelude.{◌≡◌, ◌≤◌, ℕ, true, false, not, nat_lt, ◌||◌, if◌then◌else◌, Option, Some, None, IfSome, is_some, List, [], ◌∷◌, length, take, drop, codes, nat_eq}
 use Rattle.std.specs.Cmp.Lexicographic.{pointwise}
@@ -8,7 +9,7 @@ use Rattle.std.specs.Str.{bytes_eq}
 use Rattle.updater.specs.Number.{number}
 use Rattle.updater.specs.declared.options.Options.{Options}
 use Rattle.updater.specs.declared.options.Allowed.{Allowed}
-use Rattle.updater.specs.declared.options.TheConstants.{MAX_BUCKETS, MAX_WORKERS}
+use Rattle.updater.specs.declared.options.TheConstants.{MAX_BUCKETS, MAX_READERS, MAX_WORKERS}
 
 -- what stands behind a name at the front of a word
 abbrev pub behind_name : (name : List ℕ) → List ℕ → Option (List ℕ)
@@ -24,6 +25,12 @@ with_workers allowed options value = option_and_then (λ workers.
     if (not allowed.workers || is_some options.workers) || (nat_lt workers 1 || nat_lt MAX_WORKERS workers) then None
     else Some (record options { workers = Some workers })) (number value)
 
+-- with this number of readers
+abbrev pub with_readers : Allowed → Options → List ℕ → Option Options
+with_readers allowed options value = option_and_then (λ readers.
+    if (not allowed.readers || is_some options.readers) || (nat_lt readers 1 || nat_lt MAX_READERS readers) then None
+    else Some (record options { readers = Some readers })) (number value)
+
 -- with this number of buckets
 abbrev pub with_buckets : Allowed → Options → List ℕ → Option Options
 with_buckets allowed options value = option_and_then (λ buckets.
@@ -31,15 +38,16 @@ with_buckets allowed options value = option_and_then (λ buckets.
     else Some (record options { buckets = Some buckets })) (number value)
 
 -- with the one of them whose name stands in front
-abbrev pub with_named : Allowed → Options → (workers buckets : Option (List ℕ)) → Option Options
-with_named allowed options (Some workers) buckets = with_workers allowed options workers
-with_named allowed options None (Some buckets) = with_buckets allowed options buckets
-with_named allowed options None None = None
+abbrev pub with_named : Allowed → Options → (workers buckets readers : Option (List ℕ)) → Option Options
+with_named allowed options (Some workers) buckets readers = with_workers allowed options workers
+with_named allowed options None (Some buckets) readers = with_buckets allowed options buckets
+with_named allowed options None None (Some readers) = with_readers allowed options readers
+with_named allowed options None None None = None
 
 -- with a word more
 unfoldable pub with_option : Allowed → Options → List ℕ → Option Options
 with_option allowed options word = if bytes_eq word (codes "clear=yes") then with_clear allowed options else
-    with_named allowed options (behind_name (codes "workers=") word) (behind_name (codes "buckets=") word)
+    with_named allowed options (behind_name (codes "workers=") word) (behind_name (codes "buckets=") word) (behind_name (codes "readers=") word)
 
 -- with all words
 abbrev pub with_options : Allowed → Options → List (List ℕ) → Option Options
@@ -48,9 +56,10 @@ with_options allowed options (word ∷ words) = option_and_then (λ more. with_o
 
 -- what the options say
 abbrev pub options_read : Allowed → List (List ℕ) → Option Options
-options_read allowed words = with_options allowed (record { workers = None; buckets = None; clear = false }) words
+options_read allowed words = with_options allowed (record { workers = None; readers = None; buckets = None; clear = false }) words
 
 -- each value is in its range
 pub record AreInRange (options : Options) : Type 0 where
   pub few_workers : IfSome options.workers (λ workers. (1 ≤ workers) × (workers ≤ MAX_WORKERS))
+  pub few_readers : IfSome options.readers (λ readers. (1 ≤ readers) × (readers ≤ MAX_READERS))
   pub power : IfSome options.buckets (λ buckets. (is_power_of_two buckets ≡ true) × (buckets ≤ MAX_BUCKETS))

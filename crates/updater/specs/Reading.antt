@@ -3,7 +3,7 @@ use Rattle.std.specs.Prelude.{◌≡◌, ◌≤◌, ◌+◌, ◌⊎◌, ℕ, Lis
 use Rattle.style_read.specs.Style.{StyleOf}
 use Rattle.tile_cover.specs.Table.{BoundsOf}
 use Rattle.updater.specs.declared.fault.Fault.{Fault}
-use Rattle.updater.specs.Command.{CommandOf, import_of, append_of, query_of, replay_of}
+use Rattle.updater.specs.Command.{CommandOf, import_of, append_of, query_of, serve_of, replay_of}
 use Rattle.map_query.specs.declared.query.Query.{Query}
 use Rattle.updater.specs.Files.{IsBounds, IsChange, IsQueries, IsStyle, change_in}
 
@@ -28,6 +28,9 @@ Accepts (import_of store files buckets workers) file bytes =
 Accepts (append_of store files workers) file bytes =
     ((file ≡ files.first) × AcceptsBounds file bytes) ⊎ ((files.first + 1 ≤ file) × AcceptsChange file bytes)
 Accepts (query_of store files) file bytes = AcceptsQueries file bytes
+Accepts (serve_of store files workers readers) file bytes =
+    ((file ≡ files.first) × AcceptsBounds file bytes) ⊎ ((file ≡ files.first + 1) × AcceptsQueries file bytes)
+    ⊎ ((files.first + 2 ≤ file) × AcceptsChange file bytes)
 Accepts (replay_of store files workers) file bytes =
     ((file ≡ files.first) × AcceptsStyle file bytes) ⊎ ((file ≡ files.first + 1) × AcceptsBounds file bytes)
     ⊎ ((files.first + 2 ≤ file) × AcceptsChange file bytes)
@@ -40,6 +43,9 @@ HasFault (import_of store files buckets workers) file bytes fault =
 HasFault (append_of store files workers) file bytes fault =
     ((file ≡ files.first) × IsBounds file bytes (Err fault)) ⊎ ((files.first + 1 ≤ file) × IsChange file bytes (Err fault))
 HasFault (query_of store files) file bytes fault = (style : StyleOf) × IsQueries style file bytes (Err fault)
+HasFault (serve_of store files workers readers) file bytes fault =
+    ((file ≡ files.first) × IsBounds file bytes (Err fault)) ⊎ ((file ≡ files.first + 1) × ((style : StyleOf) × IsQueries style file bytes (Err fault)))
+    ⊎ ((files.first + 2 ≤ file) × IsChange file bytes (Err fault))
 HasFault (replay_of store files workers) file bytes fault =
     ((file ≡ files.first) × IsStyle file bytes (Err fault)) ⊎ ((file ≡ files.first + 1) × IsBounds file bytes (Err fault))
     ⊎ ((files.first + 2 ≤ file) × IsChange file bytes (Err fault))
@@ -48,6 +54,7 @@ HasFault _ file bytes fault = IsChange file bytes (Err fault)
 -- the command writes nothing before all its files are read
 abbrev pub ReadsFirst : CommandOf → Type 0
 ReadsFirst (append_of store files workers) = ⊥
+ReadsFirst (serve_of store files workers readers) = ⊥
 ReadsFirst (replay_of store files workers) = ⊥
 ReadsFirst _ = Unit {0}
 
@@ -56,5 +63,6 @@ abbrev pub HasItsFiles : CommandOf → Type 0
 HasItsFiles (import_of store files buckets workers) = files.count ≡ 2
 HasItsFiles (append_of store files workers) = 2 ≤ files.count
 HasItsFiles (query_of store files) = files.count ≡ 1
+HasItsFiles (serve_of store files workers readers) = 2 ≤ files.count
 HasItsFiles (replay_of store files workers) = 3 ≤ files.count
 HasItsFiles _ = Unit {0}

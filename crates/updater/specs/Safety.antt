@@ -4,7 +4,7 @@ use Rattle.outside.specs.Bytes.{BothKnown, IsTold}
 use Rattle.updater.specs.declared.fault.Fault.{Fault}
 use Rattle.updater.specs.declared.fault.Fault.TheVariants.{WriteFault, DiskFault}
 use Rattle.update_flow.specs.State.{Step}
-use Rattle.updater.specs.Command.{CommandOf, import_of, append_of, replay_of, new_store, old_store, use_of}
+use Rattle.updater.specs.Command.{CommandOf, import_of, append_of, serve_of, replay_of, new_store, old_store, use_of}
 use Rattle.updater.specs.Comes.{Comes}
 use Rattle.updater.specs.Courses.{course_of}
 use Rattle.updater.specs.Keeps.{Is, IsFit, IsKept, IsOneOf, Keeps, Kept, blank, first, whole, with_steps}
@@ -33,6 +33,7 @@ lines_in bytes = length (filter (nat_eq 10) bytes)
 abbrev pub steps_told : CommandOf → ℕ
 steps_told (import_of store files buckets workers) = 1
 steps_told (append_of store files workers) = files.count - 1
+steps_told (serve_of store files workers readers) = files.count - 2
 steps_told (replay_of store files workers) = files.count - 2
 steps_told _ = 0
 

@@ -6,4 +6,5 @@ pub mod Lines
 pub mod Points
 pub mod Query
 pub mod Replay
+pub mod Serve
 pub mod Tiles

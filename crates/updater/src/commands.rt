@@ -7,4 +7,5 @@ pub mod lines;
 pub mod points;
 pub mod query;
 pub mod replay;
+pub mod serve;
 pub mod tiles;

@@ -16,6 +16,7 @@
 #![tactic(auto)]
 
 mod answers;
+mod blocks;
 mod commands;
 mod fault;
 mod file_reads;
@@ -28,6 +29,7 @@ mod point_row;
 mod point_rows;
 mod rows_by_id;
 mod running;
+mod serving;
 mod telling;
 mod trimmed_change;
 mod versions;

@@ -9,11 +9,17 @@ use crate::number::number_of;
 /// The most workers that a command may have.
 pub const MAX_WORKERS: u32 = 64;
 
+/// The most readers that a command may have.
+pub const MAX_READERS: u32 = 64;
+
 /// The most buckets that a map of a store may have.
 pub const MAX_BUCKETS: u32 = 65_536;
 
 /// The workers of a command whose options say nothing of them.
 pub const WORKERS: u32 = 4;
+
+/// And the readers.
+pub const READERS: u32 = 2;
 
 /// And the buckets.
 pub const BUCKETS: u32 = 1_024;
@@ -22,6 +28,7 @@ pub const BUCKETS: u32 = 1_024;
 #[derive(Clone, Copy, Debug, PartialEq, Eq)]
 pub struct Options {
     pub workers: Option<u32>,
+    pub readers: Option<u32>,
     pub buckets: Option<u32>,
     pub clear: bool,
 }
@@ -30,6 +37,7 @@ pub struct Options {
 #[derive(Clone, Copy, Debug, PartialEq, Eq)]
 pub struct Allowed {
     pub workers: bool,
+    pub readers: bool,
     pub buckets: bool,
     pub clear: bool,
 }
@@ -41,6 +49,7 @@ pub fn options_of(allowed: Allowed, words: &[String]) -> Option<Options>
 {
     let mut options = Options {
         workers: None,
+        readers: None,
         buckets: None,
         clear: false,
     };
@@ -66,8 +75,11 @@ fn with_option(allowed: Allowed, options: Options, word: &str) -> Option<Options
     if let Some(value) = bytes.strip_prefix(b"workers=") {
         return with_workers(allowed, options, value);
     }
-    match bytes.strip_prefix(b"buckets=") {
-        Some(value) => with_buckets(allowed, options, value),
+    if let Some(value) = bytes.strip_prefix(b"buckets=") {
+        return with_buckets(allowed, options, value);
+    }
+    match bytes.strip_prefix(b"readers=") {
+        Some(value) => with_readers(allowed, options, value),
         None => None,
     }
 }
@@ -97,6 +109,21 @@ fn with_workers(allowed: Allowed, options: Options, value: &[u8]) -> Option<Opti
     }
     Some(Options {
         workers: Some(workers),
+        ..options
+    })
+}
+
+/// The options with this number of readers.
+fn with_readers(allowed: Allowed, options: Options, value: &[u8]) -> Option<Options>
+    ensures option { result ≡ spec.with_readers allowed options value.now }
+    ensures range { spec.AreInRange options → IfSome result spec.AreInRange }
+{
+    let readers = number_of(value)?;
+    if !allowed.readers || options.readers.is_some() || readers < 1 || readers > MAX_READERS {
+        return None;
+    }
+    Some(Options {
+        readers: Some(readers),
         ..options
     })
 }

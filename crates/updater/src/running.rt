@@ -16,6 +16,7 @@ use crate::commands::lines::lines;
 use crate::commands::points::points;
 use crate::commands::query::query;
 use crate::commands::replay::replay;
+use crate::commands::serve::serve;
 use crate::commands::tiles::tiles;
 use crate::fault::{Fault, Outcome};
 use crate::words::{Command, command_of};
@@ -99,6 +100,12 @@ fn run_command<R: Threads + Wait + Sync, I: Inputs, D: Disk, S: Sink, G: Gate>(
             clear,
         } => tiles(alloc, least, clear, inputs, disk, out),
         Command::Query { store: _, files } => query(alloc, files, inputs, disk, out),
+        Command::Serve {
+            store: _,
+            files,
+            workers,
+            readers,
+        } => serve(rt, alloc, files, workers, readers, inputs, disk, out, gate),
         Command::Replay {
             store: _,
             files,

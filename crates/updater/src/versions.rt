@@ -1,10 +1,11 @@
 //! Versions of an open store: a file is imported or appended in one commit, and that is told.
-ghost use Rattle.std.specs.Prelude.{◌≡◌, ◌≢◌, ◌≤◌, ◌+◌, ℕ, Ok, Some, IfErr, OnErr, OnOk, replicate};
+ghost use Rattle.std.specs.Prelude.{◌≡◌, ◌≢◌, ◌≤◌, ◌+◌, ℕ, Ok, Some, IfErr, IfOk, OnErr, OnOk, replicate};
 ghost use Rattle.std.specs.Io.KnownBytes.{Appends};
 ghost use Rattle.std.specs.Result.{result_err};
 ghost use Rattle.outside.specs.Bytes.{AppendsPrefix};
 ghost use Rattle.outside.specs.Causes.{HasCause};
 ghost use Rattle.style_read.specs.Reading.{reading};
+ghost use Rattle.update_flow.specs.Handle.{changes_of};
 ghost use Rattle.update_flow.specs.State.{Holding, formatted, imported};
 ghost use Rattle.update_flow.specs.Updater.{StaysOver, handle_of};
 ghost use Rattle.updater.specs.CommandOf.{AreBuckets, AreWorkers};
@@ -12,11 +13,13 @@ ghost use Rattle.updater.specs.Courses.{appends, appends_one, imports, onward, v
 ghost use Rattle.updater.specs.Heads.{IsHead, Leads};
 ghost use Rattle.updater.specs.Progress.{Progress};
 ghost use Rattle.updater.specs.Runs.{Among, AsksOnly};
+ghost use Rattle.updater.specs.Serving.{LeadsBy};
 ghost use Rattle.updater.specs.World.{Before};
 
 use crate::fault::Fault;
 use crate::file_reads::{StyleFile, read_change};
 use crate::telling::tell;
+use osm_base::Delta;
 use outside::{Disk, Gate, GatePlace, Inputs, Sink};
 use std::alloc::Global;
 use std::thread::Threads;
@@ -74,6 +77,41 @@ pub fn import_file<R: Threads + Sync, I: Inputs, D: Disk, S: Sink, G: Gate>(
     tell_version(out, 0)
 }
 
+/// Appends a change file to a store that was imported, and tells so. Answers how the tables differ from then on.
+pub fn commit_file<R: Threads + Sync, I: Inputs, D: Disk, S: Sink, G: Gate>(
+    rt: &R,
+    alloc: Global,
+    bounds: &Bounds,
+    workers: u32,
+    file: u32,
+    inputs: &mut I,
+    store: &mut Updater<'_, D>,
+    out: &mut S,
+    gate: &G,
+) -> Result<Delta, Fault>
+    requires workers { AreWorkers workers }
+    ensures leads { (old : Before) (start done : Progress) (held : Holding) → IsHead start done (imported held) file old (I.view inputs.old) (handle_of store.old) (S.view out.old)
+        → LeadsBy bounds.now file result start done held old (I.view inputs.new) (handle_of store.new) (S.view out.new) }
+    ensures version { IfOk result (λ delta. delta.version ≡ changes_of (handle_of store.old) + 1) }
+    ensures changes { OnOk result (changes_of (handle_of store.new) ≡ changes_of (handle_of store.old) + 1) }
+    ensures stays { StaysOver store.old store.new }
+    ensures asked { (count : ℕ) × I.reads inputs.old (replicate count file) inputs.new }
+    ensures formatted { result_err result ≢ Some Fault.NotFormatted }
+{
+    let change = match read_change(alloc, inputs, file) {
+        Ok(change) => change,
+        Err(fault) => return Err(fault),
+    };
+    let delta = match store.append_one(rt, bounds, change, workers, gate) {
+        Ok(delta) => delta,
+        Err(fault) => return Err(Fault::in_flow(fault)),
+    };
+    match tell_version(out, delta.version) {
+        Ok(()) => Ok(delta),
+        Err(fault) => Err(fault),
+    }
+}
+
 /// Appends a change file to a store that was imported, and tells so.
 pub fn append_file<R: Threads + Sync, I: Inputs, D: Disk, S: Sink, G: Gate>(
     rt: &R,
@@ -94,15 +132,11 @@ pub fn append_file<R: Threads + Sync, I: Inputs, D: Disk, S: Sink, G: Gate>(
     ensures asked { (count : ℕ) × I.reads inputs.old (replicate count file) inputs.new }
     ensures formatted { result_err result ≢ Some Fault.NotFormatted }
 {
-    let change = match read_change(alloc, inputs, file) {
-        Ok(change) => change,
+    let _delta = match commit_file(rt, alloc, bounds, workers, file, inputs, store, out, gate) {
+        Ok(delta) => delta,
         Err(fault) => return Err(fault),
     };
-    let delta = match store.append_one(rt, bounds, change, workers, gate) {
-        Ok(delta) => delta,
-        Err(fault) => return Err(Fault::in_flow(fault)),
-    };
-    tell_version(out, delta.version)
+    Ok(())
 }
 
 /// Appends so many change files from this one on, one after another. The gate is passed before each, with its number from 1.

@@ -5,7 +5,7 @@ ghost use Rattle.std.specs.Option.{option_map};
 ghost use Rattle.std.specs.String.{string_bytes};
 ghost use Rattle.updater.specs.Command as spec;
 
-use crate::commands::{append, export, import, init, lines, points, query, replay, tiles};
+use crate::commands::{append, export, import, init, lines, points, query, replay, serve, tiles};
 use crate::files::Files;
 
 /// The most words that a command line may have, the command word counted.
@@ -57,6 +57,13 @@ pub enum Command<'a> {
         store: &'a str,
         files: Files,
     },
+    /// Change files, one after another, while readers are answered: BOUNDS, QUERIES and the change files.
+    Serve {
+        store: &'a str,
+        files: Files,
+        workers: u32,
+        readers: u32,
+    },
     /// A store made, imported and changed, and all that it holds: STYLE, BOUNDS, INPUT and the change files.
     Replay {
         store: &'a str,
@@ -76,6 +83,7 @@ pub fn store_of(words: &[String]) -> Option<&str>
         | Command::Export { store, .. }
         | Command::Tiles { store, .. }
         | Command::Query { store, .. }
+        | Command::Serve { store, .. }
         | Command::Replay { store, .. } => Some(store),
         Command::Points { .. } | Command::Lines { .. } => None,
     }
@@ -129,6 +137,7 @@ fn named<'a>(name: &str, options: &[String], form: &'a [String], place: u32) -> 
         "export" => export::form(options, form),
         "tiles" => tiles::form(options, form),
         "query" => query::form(options, form, place),
+        "serve" => serve::form(options, form, place),
         "replay" => replay::form(options, form, place),
         _ => None,
     }

@@ -25,6 +25,7 @@ usage: yilgartzu points KEY INPUT [CHANGE..]
        yilgartzu export STORE TABLE
        yilgartzu tiles [clear=yes] STORE MINZOOM
        yilgartzu query STORE QUERIES
+       yilgartzu serve [workers=N] [readers=N] STORE BOUNDS QUERIES [CHANGE..]
        yilgartzu replay [workers=N] STORE STYLE BOUNDS INPUT [CHANGE..]
 
 INPUT and the change files are OPL files, STYLE is a TOML file that defines
@@ -45,18 +46,20 @@ tables, and BOUNDS has the latitudes that bound the rows of tiles of a zoom.
                16, as zoom/column/row; with clear=yes none is due afterwards
   query        answer each line of QUERIES from the tables: `count TABLE`,
                `row TABLE n|w|r ID`, `box TABLE WEST SOUTH EAST NORTH`
+  serve        append the change files, while readers ask QUERIES of each
+               version; write then what each reader was answered in each round
   replay       init, import and append in one run, and then write each table
                behind a line `table NAME`, and behind `tiles` the tiles that are
                due at the zoom of BOUNDS
   --help       this text
   --version    the version
 
-workers is 1 to 64 (4 where it is not given), buckets a power of two up to 65536
-(1024). Options stand before all other words, and a word -- ends them. Status 0:
-done; 2: wrong words; 3: a line is wrong; 4: STYLE is; 5: BOUNDS is; 6: STORE is
-no store, is damaged, or is not in the state for this; 7: a file could not be
-read; 8: the output failed; 9: the disk of STORE failed; 10: a limit; 11: out of
-memory; 12: no such table, or a line of QUERIES is wrong.
+workers is 1 to 64 (4 where it is not given), readers 1 to 64 (2), buckets a
+power of two up to 65536 (1024). Options stand before all other words, and a word
+-- ends them. Status 0: done; 2: wrong words; 3: a line is wrong; 4: STYLE is; 5:
+BOUNDS is; 6: STORE is no store, is damaged, or is not in the state for this; 7: a
+file could not be read; 8: the output failed; 9: the disk of STORE failed; 10: a
+limit; 11: out of memory; 12: no such table, or a line of QUERIES is wrong.
 ";
 
 const VERSION: &str = "yilgartzu 0.1.0\n";

@@ -35,6 +35,7 @@ use update_flow::{Updater, open};
 /// The options that belong to it.
 const ALLOWED: Allowed = Allowed {
     workers: true,
+    readers: false,
     buckets: false,
     clear: false,
 };

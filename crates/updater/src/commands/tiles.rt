@@ -32,6 +32,7 @@ use update_flow::{Updater, open};
 /// The options that belong to it.
 const ALLOWED: Allowed = Allowed {
     workers: false,
+    readers: false,
     buckets: false,
     clear: true,
 };

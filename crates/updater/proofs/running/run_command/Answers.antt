@@ -1,7 +1,7 @@
 use Rattle.std.proofs.Common.{List, ℕ, refl, subst, sym}
 use Rattle.std.specs.Result.{result_err}
 use Rattle.updater.specs.declared.words.Command.{Command}
-use Rattle.updater.specs.Command.{FilesFit, Names, points_of, lines_of, init_of, import_of, append_of, export_of, tiles_of, query_of, replay_of, no_store, new_store, seen}
+use Rattle.updater.specs.Command.{FilesFit, Names, points_of, lines_of, init_of, import_of, append_of, export_of, tiles_of, query_of, serve_of, replay_of, no_store, new_store, seen}
 use Rattle.updater.specs.Courses.{course_of, init_course, replay_course}
 use Rattle.updater.specs.Runs.{Runs}
 use Rattle.updater.specs.Safety.{IsSafe}
@@ -129,4 +129,17 @@ returns-in-Query g c =
     record {
       runs = subst (λ (own : Command). Runs (seen own) (λ (asked : List ℕ). g.I.Inputs.reads c.args.inputs.now asked c.query.new.inputs) old new fault) (sym c.in-Query.is) own;
       safe = subst (λ (own : Command). IsSafe (seen own) old new fault) (sym c.in-Query.is) (runs_safe command (λ (asked : List ℕ). g.I.Inputs.reads c.args.inputs.now asked c.query.new.inputs) old new fault own);
+    }
+
+pub returns-in-Serve : goal.returns-in-Serve
+returns-in-Serve g c =
+    let old = world (g.I.Inputs.view c.args.inputs.now) (g.D.Disk.view c.args.disk.now) (g.S.Sink.view c.args.out.now) in
+    let new = world (g.I.Inputs.view c.serve.new.inputs) (g.D.Disk.view c.serve.new.disk) (g.S.Sink.view c.serve.new.out) in
+    let fault = result_err c.serve.result in
+    let fits = subst (λ (own : Command). FilesFit (seen own)) c.in-Serve.is c.requires.fits in
+    let command = serve_of c.in-Serve.store.now c.in-Serve.files c.in-Serve.workers c.in-Serve.readers in
+    let own = runs_by command (λ (asked : List ℕ). g.I.Inputs.reads c.args.inputs.now asked c.serve.new.inputs) fault old new fits.0.least c.serve.ensures.asked c.serve.ensures.course (λ none. absurd (cc)) (λ not. absurd (not refl)) c.serve.ensures.unformatted in
+    record {
+      runs = subst (λ (own : Command). Runs (seen own) (λ (asked : List ℕ). g.I.Inputs.reads c.args.inputs.now asked c.serve.new.inputs) old new fault) (sym c.in-Serve.is) own;
+      safe = subst (λ (own : Command). IsSafe (seen own) old new fault) (sym c.in-Serve.is) (runs_safe command (λ (asked : List ℕ). g.I.Inputs.reads c.args.inputs.now asked c.serve.new.inputs) old new fault own);
     }

@@ -1,30 +1,14 @@
-use Rattle.std.proofs.Common.{◌+◌, ◌∙◌, ap, refl, Err}
-use Rattle.update_flow.specs.State.{Append, imported, changed}
+use Rattle.std.proofs.Common.{Err, Ok}
 use Rattle.update_flow.specs.Updater.{handle_of}
-use Rattle.updater.specs.Courses.{version_line}
-use Rattle.updater.proofs.VersionRuns.{file_unread, shows_here, step_refused, version_told}
+use Rattle.updater.proofs.ServeRuns.{leads_without}
 use Rattle.updater.proofs.versions.append_file.Goals as goal
-
-pub returns-in-Err-clause-leads : goal.returns-in-Err-clause-leads
-returns-in-Err-clause-leads g c = λ old start done held head.
-    file_unread start done (imported held) c.args.file old (g.I.Inputs.view c.args.inputs.now) (g.I.Inputs.view c.read_change.new.inputs) (handle_of c.args.store.now) (g.S.Sink.view c.args.out.now) head
-    (λ entries. Append c.args.bounds.now entries) (version_line (held.changes + 1)) (λ entries. changed c.args.bounds.now entries held) (λ entries. refl)
-    c.in-Err.fault c.in-Err.ensures.err
-
-pub returns-in-Err-append_one-clause-leads : goal.returns-in-Err-append_one-clause-leads
-returns-in-Err-append_one-clause-leads g c = rw c.in_flow.ensures.fault (λ old start done held head.
-    step_refused start done (imported held) c.args.file old (g.I.Inputs.view c.args.inputs.now) (g.I.Inputs.view c.read_change.new.inputs) (handle_of c.args.store.now) (g.S.Sink.view c.args.out.now) head
-    (λ entries. Append c.args.bounds.now entries) (version_line (held.changes + 1)) (λ entries. changed c.args.bounds.now entries held) (λ entries. refl)
-    c.in-Ok.change c.in-Ok.ensures.ok (handle_of c.append_one.new.self) c.in-Err-append_one.fault c.in-Err-append_one.ensures.takes c.in-Err-append_one.ensures.alone (λ is. c.in-Err-append_one.ensures.broken (ap Err is)) c.in-Err-append_one.ensures.cause)
 
 pub returns-clause-leads : goal.returns-clause-leads
 returns-clause-leads g c = λ old start done held head.
-    let shown = shows_here done.store done.cut (imported held) (handle_of c.args.store.now) head.here in
-    version_told start done (imported held) c.args.file old (g.I.Inputs.view c.args.inputs.now) (g.I.Inputs.view c.read_change.new.inputs) (handle_of c.args.store.now) (g.S.Sink.view c.args.out.now) head
-    (λ entries. Append c.args.bounds.now entries) (version_line (held.changes + 1)) (λ entries. changed c.args.bounds.now entries held) (λ entries. refl)
-    c.in-Ok.change c.in-Ok.ensures.ok (handle_of c.append_one.new.self) c.in-Ok-append_one.ensures.takes
-    (λ shows. record { changes_are = c.in-Ok-append_one.ensures.changes ∙ ap (λ n. n + 1) shows.changes_are; imported_is = c.in-Ok-append_one.ensures.style.0; style_is = c.in-Ok-append_one.ensures.style.1 ∙ shows.style_is })
-    c.in-Ok-append_one.ensures.whole c.append_one.ensures.stays.same_limits c.in-Ok-append_one.ensures.cause
-    (version_line c.in-Ok-append_one.delta.version) (g.S.Sink.view c.tell_version.new.out) c.tell_version.result
-    (ap version_line (c.in-Ok-append_one.ensures.version ∙ ap (λ n. n + 1) shown.changes_are))
-    c.tell_version.ensures.ok c.tell_version.ensures.err c.tell_version.ensures.alone c.tell_version.ensures.cause
+    leads_without c.args.bounds.now c.args.file (Ok c.in-Ok.delta) start done held old (g.I.Inputs.view c.commit_file.new.inputs) (handle_of c.commit_file.new.store) (g.S.Sink.view c.commit_file.new.out)
+    (c.in-Ok.ensures.leads old start done held head)
+
+pub returns-in-Err-clause-leads : goal.returns-in-Err-clause-leads
+returns-in-Err-clause-leads g c = λ old start done held head.
+    leads_without c.args.bounds.now c.args.file (Err c.in-Err.fault) start done held old (g.I.Inputs.view c.commit_file.new.inputs) (handle_of c.commit_file.new.store) (g.S.Sink.view c.commit_file.new.out)
+    (c.in-Err.ensures.leads old start done held head)

@@ -1,0 +1,17 @@
+-- `serve STORE BOUNDS QUERIES CHANGE*`, with `workers=` and `readers=`.
+use Rattle.std.specs.Prelude.{ℕ, true, false, Option, Some, List}
+use Rattle.std.specs.Option.{option_and_then, unwrap_or}
+use Rattle.updater.specs.CommandOf.{CommandOf, serve_of}
+use Rattle.updater.specs.Forms.{stored_files}
+use Rattle.updater.specs.Options.{options_read}
+use Rattle.updater.specs.declared.options.TheConstants.{READERS, WORKERS}
+use Rattle.updater.specs.declared.options.Allowed.{Allowed}
+
+-- the options that belong to it
+abbrev pub allowed : Allowed
+allowed = record { workers = true; readers = true; buckets = false; clear = false }
+
+-- the form of its words
+abbrev pub form : (options words : List (List ℕ)) → (place : ℕ) → Option CommandOf
+form options words place = option_and_then (λ own. option_and_then (λ (store, files). Some (serve_of store files (unwrap_or own.workers WORKERS) (unwrap_or own.readers READERS)))
+    (stored_files 2 words place)) (options_read allowed options)
