@@ -8,6 +8,7 @@
 #![tactic(auto)]
 
 mod example;
+mod gate;
 mod rows;
 mod running;
 mod texts;

@@ -1,10 +1,11 @@
 //! The run of an example, over files, a disk and an output in memory.
 
 use crate::example::Example;
+use crate::gate::InTurn;
 use crate::turn::{Plan, Put, Turn};
 use crate::wanted::{Piece, Wanted};
 use osm_base::{Bytes, FileList, Ids};
-use outside::{Fails, MemDisk, MemInputs, MemSink, OpenGate};
+use outside::{Fails, MemDisk, MemInputs, MemSink};
 use std::alloc::{AllocError, Global};
 use std::str;
 use std::sync::Wait;
@@ -52,6 +53,8 @@ fn ended_of<R: Threads + Wait + Sync>(
         cut,
         puts,
         times,
+        held_changes,
+        held_turns,
         inputs,
         disk,
         output,
@@ -64,7 +67,17 @@ fn ended_of<R: Threads + Wait + Sync>(
     let mut inputs = MemInputs::new(files_of(alloc, files)?, inputs_fail);
     let mut disk = disk_of(alloc, held, disk_fails);
     let mut out = MemSink::new(alloc, output_fails);
-    let outcome = outcome_of(rt, alloc, times, &words, &mut inputs, &mut disk, &mut out);
+    let gate = InTurn::new(held_changes, held_turns);
+    let outcome = outcome_of(
+        rt,
+        alloc,
+        times,
+        &words,
+        &mut inputs,
+        &mut disk,
+        &mut out,
+        &gate,
+    );
     let other = compared(alloc, &words, &outcome, out.taken(), disk.bytes(), &wanted);
     kept_end(alloc, disk.bytes(), other)
 }
@@ -112,11 +125,12 @@ fn outcome_of<R: Threads + Wait + Sync>(
     inputs: &mut MemInputs,
     disk: &mut MemDisk,
     out: &mut MemSink,
+    gate: &InTurn,
 ) -> Outcome {
     for _ in 1..times {
-        let _ = run(rt, alloc, words, inputs, disk, out, &OpenGate);
+        let _ = run(rt, alloc, words, inputs, disk, out, gate);
     }
-    run(rt, alloc, words, inputs, disk, out, &OpenGate)
+    run(rt, alloc, words, inputs, disk, out, gate)
 }
 
 /// What is other than it is wanted, if anything.

@@ -10,7 +10,8 @@ use std::alloc::{AllocError, Global};
 const MAX_FILES: usize = 5_000;
 
 /// A run: its words, the files by the numbers of their words, to how many bytes the disk is cut before and which bytes are put on
-/// it, how often it is done one after another, and which calls of the files, of the disk and of the output fail.
+/// it, how often it is done one after another, how many of its changes are held and for how many turns, and which calls of the files,
+/// of the disk and of the output fail.
 #[derive(Drop)]
 pub struct Turn {
     pub words: Vec<String>,
@@ -18,6 +19,8 @@ pub struct Turn {
     pub cut: Option<u64>,
     pub puts: Vec<Put>,
     pub times: u64,
+    pub held_changes: u64,
+    pub held_turns: u64,
     pub inputs: Plan,
     pub disk: Plan,
     pub output: Plan,
@@ -62,6 +65,8 @@ impl Turn {
             cut: None,
             puts: Vec::new(alloc),
             times: 1,
+            held_changes: 0,
+            held_turns: 0,
             inputs: Plan::NEVER,
             disk: Plan::NEVER,
             output: Plan::NEVER,
@@ -86,6 +91,7 @@ impl Turn {
             },
             "put" => self.push_put(alloc, text),
             "cut" | "times" => Ok(self.set_count(word, text)),
+            "in-turn" => Ok(self.set_held(text)),
             "inputs-fail-from" => Ok(set_number(&mut self.inputs.from, text)),
             "inputs-fail-at" => Ok(set_number(&mut self.inputs.at, text)),
             "disk-fails-from" => Ok(set_number(&mut self.disk.from, text)),
@@ -93,6 +99,17 @@ impl Turn {
             "output-fails-from" => Ok(set_number(&mut self.output.from, text)),
             "output-fails-at" => Ok(set_number(&mut self.output.at, text)),
             _ => self.wanted.set(alloc, word, text),
+        }
+    }
+
+    /// How many changes are held, and for how many turns.
+    fn set_held(&mut self, text: &str) -> bool {
+        match row_of(text) {
+            Some((changes, turns)) => {
+                set_number(&mut self.held_changes, changes)
+                    && set_number(&mut self.held_turns, turns)
+            }
+            None => false,
         }
     }
 
