@@ -20,11 +20,10 @@ def memory(number):
 
 
 class Run:
-    """What a command took: wall and processor seconds, its memory in MB, and the bytes that it gave to disks."""
+    """What a command took: wall and processor seconds, and its memory in MB."""
 
     def __init__(self, wall, usage, beside=0.0):
         self.wall, self.seconds, self.size = wall, usage.ru_utime + usage.ru_stime + beside, usage.ru_maxrss / 1024
-        self.written = usage.ru_oublock * 512
 
 
 class Peer:
