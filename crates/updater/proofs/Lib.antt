@@ -18,6 +18,7 @@ pub mod BlameLaws
 pub mod LineCounts
 pub mod CourseKeeps
 pub mod SafeLaws
+pub mod LocalLaws
 pub mod HistoryLaws
 pub mod FileLaws
 pub mod SoFarLaws

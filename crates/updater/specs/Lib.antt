@@ -16,6 +16,7 @@ pub mod Reading
 pub mod Safety
 pub mod InTurn
 pub mod Leaves
+pub mod Locality
 pub mod PointRows
 pub mod Progress
 pub mod RowsById

@@ -1,16 +1,18 @@
 //! Versions of an open store: a file is imported or appended in one commit, and that is told.
-ghost use Rattle.std.specs.Prelude.{◌≡◌, ◌≢◌, ◌≤◌, ◌+◌, ℕ, Ok, Some, IfErr, IfOk, OnErr, OnOk, replicate};
+ghost use Rattle.std.specs.Prelude.{◌≡◌, ◌≢◌, ◌≤◌, ◌+◌, ℕ, List, Ok, Some, IfErr, IfOk, OnErr, OnOk, replicate};
 ghost use Rattle.std.specs.Io.KnownBytes.{Appends};
 ghost use Rattle.std.specs.Result.{result_err};
 ghost use Rattle.outside.specs.Bytes.{AppendsPrefix};
 ghost use Rattle.outside.specs.Causes.{HasCause};
+ghost use Rattle.page_journal.specs.Crash.{IsAtRest};
 ghost use Rattle.style_read.specs.Reading.{reading};
-ghost use Rattle.update_flow.specs.Handle.{changes_of};
+ghost use Rattle.update_flow.specs.Handle.{IsOpen, changes_of, view_of};
 ghost use Rattle.update_flow.specs.State.{Holding, formatted, imported};
 ghost use Rattle.update_flow.specs.Updater.{StaysOver, handle_of};
 ghost use Rattle.updater.specs.CommandOf.{AreBuckets, AreWorkers};
 ghost use Rattle.updater.specs.Courses.{appends, appends_one, imports, onward, version_line};
 ghost use Rattle.updater.specs.Heads.{IsHead, Leads};
+ghost use Rattle.updater.specs.Locality.{AppendsHere, AppendsThere};
 ghost use Rattle.updater.specs.Progress.{Progress};
 ghost use Rattle.updater.specs.Runs.{Among, AsksOnly};
 ghost use Rattle.updater.specs.Serving.{LeadsBy};
@@ -92,6 +94,8 @@ pub fn commit_file<R: Threads + Sync, I: Inputs, D: Disk, S: Sink, G: Gate>(
     requires workers { AreWorkers workers }
     ensures leads { (old : Before) (start done : Progress) (held : Holding) → IsHead start done (imported held) file old (I.view inputs.old) (handle_of store.old) (S.view out.old)
         → LeadsBy bounds.now file result start done held old (I.view inputs.new) (handle_of store.new) (S.view out.new) }
+    ensures local { OnOk result ((held : Holding) (pages : List (List ℕ)) → IsOpen (imported held) (handle_of store.old) → IsAtRest pages (view_of (handle_of store.old))
+        → AppendsHere bounds.now held pages file (I.view inputs.old) (I.view inputs.new) (handle_of store.old) (handle_of store.new)) }
     ensures version { IfOk result (λ delta. delta.version ≡ changes_of (handle_of store.old) + 1) }
     ensures changes { OnOk result (changes_of (handle_of store.new) ≡ changes_of (handle_of store.old) + 1) }
     ensures stays { StaysOver store.old store.new }
@@ -128,6 +132,8 @@ pub fn append_file<R: Threads + Sync, I: Inputs, D: Disk, S: Sink, G: Gate>(
     ensures leads { (old : Before) (start done : Progress) (held : Holding) → IsHead start done (imported held) file old (I.view inputs.old) (handle_of store.old) (S.view out.old)
         → Leads (λ last. appends_one bounds.now held file (onward last)) (result_err result) start done (file + 1) old
         (I.view inputs.new) (handle_of store.new) (S.view out.new) }
+    ensures local { OnOk result ((held : Holding) (pages : List (List ℕ)) → IsOpen (imported held) (handle_of store.old) → IsAtRest pages (view_of (handle_of store.old))
+        → AppendsHere bounds.now held pages file (I.view inputs.old) (I.view inputs.new) (handle_of store.old) (handle_of store.new)) }
     ensures stays { StaysOver store.old store.new }
     ensures asked { (count : ℕ) × I.reads inputs.old (replicate count file) inputs.new }
     ensures formatted { result_err result ≢ Some Fault.NotFormatted }
@@ -157,6 +163,8 @@ pub fn append_files<R: Threads + Sync, I: Inputs, D: Disk, S: Sink, G: Gate>(
     ensures leads { (old : Before) (start done : Progress) (held : Holding) → IsHead start done (imported held) first old (I.view inputs.old) (handle_of store.old) (S.view out.old)
         → Leads (λ last. appends bounds.now held first count (onward last)) (result_err result) start done (first + count) old
         (I.view inputs.new) (handle_of store.new) (S.view out.new) }
+    ensures local { OnOk result ((held : Holding) (pages : List (List ℕ)) → IsOpen (imported held) (handle_of store.old) → IsAtRest pages (view_of (handle_of store.old))
+        → AppendsThere bounds.now held pages first count (I.view inputs.old) (view_of (handle_of store.old)).reads (view_of (handle_of store.new)).reads) }
     ensures stays { StaysOver store.old store.new }
     ensures asked { AsksOnly (λ asked. I.reads inputs.old asked inputs.new) (Among first count) }
     ensures formatted { result_err result ≢ Some Fault.NotFormatted }

@@ -1,17 +1,19 @@
 //! `append STORE BOUNDS CHANGE+`: change files, one after another.
-ghost use Rattle.std.specs.Prelude.{◌≡◌, ◌≢◌, ◌≤◌, List, ℕ, Some, map, length, IfSome};
+ghost use Rattle.std.specs.Prelude.{◌≡◌, ◌≢◌, ◌≤◌, List, ℕ, Some, map, length, IfSome, OnOk};
 ghost use Rattle.std.specs.Option.{option_map};
 ghost use Rattle.std.specs.String.{string_bytes};
 ghost use Rattle.updater.specs.CommandOf.{FilesFit, seen};
 ghost use Rattle.updater.specs.commands.Append as spec;
 ghost use Rattle.std.specs.Result.{result_err};
 ghost use Rattle.outside.specs.Disk.{Stays};
-ghost use Rattle.update_flow.specs.State.{State};
-ghost use Rattle.update_flow.specs.Handle.{view_of};
+ghost use Rattle.page_journal.specs.Crash.{IsAtRest};
+ghost use Rattle.update_flow.specs.State.{Holding, State, imported};
+ghost use Rattle.update_flow.specs.Handle.{IsOpen, view_of};
 ghost use Rattle.update_flow.specs.Updater.{StaysOver, handle_of};
 ghost use Rattle.updater.specs.Command.{old_store};
 ghost use Rattle.updater.specs.Course.{opens};
 ghost use Rattle.updater.specs.Heads.{GoesOn, IsHead};
+ghost use Rattle.updater.specs.Locality.{AppendsAll, IsLocal};
 ghost use Rattle.updater.specs.Progress.{Progress};
 ghost use Rattle.updater.specs.World.{Before, world};
 ghost use Rattle.updater.specs.CommandOf.{append_of};
@@ -72,6 +74,9 @@ pub fn append<R: Threads + Wait + Sync, I: Inputs, D: Disk, S: Sink, G: Gate>(
         → GoesBy (opens (append_to files)) start (result_err result)
         (world (I.view inputs.old) (D.view disk.old) (S.view out.old))
         (world (I.view inputs.new) (D.view disk.new) (S.view out.new)) }
+    ensures local { OnOk result (IsLocal files
+        (world (I.view inputs.old) (D.view disk.old) (S.view out.old))
+        (world (I.view inputs.new) (D.view disk.new) (S.view out.new))) }
     ensures asked { AsksOnly (λ asked. I.reads inputs.old asked inputs.new) (Among files.first files.count) }
     ensures unformatted { result_err result ≡ Some Fault.NotFormatted → Stays (D.view disk.old) (D.view disk.new) }
 {
@@ -100,6 +105,8 @@ fn append_store<R: Threads + Wait + Sync, I: Inputs, D: Disk, S: Sink, G: Gate>(
     requires fits { (store : List ℕ) → FilesFit (append_of store files workers) }
     ensures goes_on { (old : Before) (start done : Progress) (state : State) → IsHead start done state files.first old (I.view inputs.old) (handle_of store.old) (S.view out.old)
         → GoesOn (append_to files state) start done (result_err result) old (world (I.view inputs.new) (view_of (handle_of store.new)) (S.view out.new)) }
+    ensures local { OnOk result ((held : Holding) (pages : List (List ℕ)) → IsOpen (imported held) (handle_of store.old) → IsAtRest pages (view_of (handle_of store.old))
+        → AppendsAll files held pages (I.view inputs.old) (view_of (handle_of store.old)).reads (view_of (handle_of store.new)).reads) }
     ensures stays { StaysOver store.old store.new }
     ensures asked { AsksOnly (λ asked. I.reads inputs.old asked inputs.new) (Among files.first files.count) }
     ensures formatted { result_err result ≢ Some Fault.NotFormatted }

@@ -3,11 +3,13 @@ use Rattle.std.specs.Result.{result_err}
 use Rattle.updater.specs.declared.words.Command.{Command}
 use Rattle.updater.specs.Command.{FilesFit, Names, points_of, lines_of, init_of, import_of, append_of, export_of, tiles_of, query_of, serve_of, replay_of, no_store, new_store, seen}
 use Rattle.updater.specs.Courses.{course_of, init_course, replay_course}
+use Rattle.updater.specs.Locality.{IsLocal, IsLocalRun}
 use Rattle.updater.specs.Runs.{Runs}
 use Rattle.updater.specs.Safety.{IsSafe}
 use Rattle.updater.specs.World.{world}
 use Rattle.updater.proofs.Asked.{asked_none}
 use Rattle.updater.proofs.CommandRuns.{from_unused, runs_by, spared_same, stays_same}
+use Rattle.updater.proofs.LocalLaws.{where_done}
 use Rattle.updater.proofs.SafeLaws.{runs_safe}
 use Rattle.updater.proofs.running.run_command.Goals as goal
 
@@ -22,6 +24,7 @@ returns-in-Points g c =
     record {
       runs = subst (λ (own : Command). Runs (seen own) (λ (asked : List ℕ). g.I.Inputs.reads c.args.inputs.now asked c.points.new.inputs) old new fault) (sym c.in-Points.is) own;
       safe = subst (λ (own : Command). IsSafe (seen own) old new fault) (sym c.in-Points.is) (runs_safe (points_of c.in-Points.key.now c.in-Points.files) (λ (asked : List ℕ). g.I.Inputs.reads c.args.inputs.now asked c.points.new.inputs) old new fault own);
+      local = subst (λ (own : Command). IsLocalRun (seen own) old new fault) (sym c.in-Points.is) (tt);
     }
 
 pub returns-in-Lines : goal.returns-in-Lines
@@ -35,6 +38,7 @@ returns-in-Lines g c =
     record {
       runs = subst (λ (own : Command). Runs (seen own) (λ (asked : List ℕ). g.I.Inputs.reads c.args.inputs.now asked c.lines.new.inputs) old new fault) (sym c.in-Lines.is) own;
       safe = subst (λ (own : Command). IsSafe (seen own) old new fault) (sym c.in-Lines.is) (runs_safe (lines_of c.in-Lines.key.now c.in-Lines.files) (λ (asked : List ℕ). g.I.Inputs.reads c.args.inputs.now asked c.lines.new.inputs) old new fault own);
+      local = subst (λ (own : Command). IsLocalRun (seen own) old new fault) (sym c.in-Lines.is) (tt);
     }
 
 pub returns-in-Init : goal.returns-in-Init
@@ -49,6 +53,7 @@ returns-in-Init g c =
     record {
       runs = subst (λ (own : Command). Runs (seen own) (λ (asked : List ℕ). g.I.Inputs.reads c.args.inputs.now asked c.args.inputs.now) old new fault) (sym c.in-Init.is) own;
       safe = subst (λ (own : Command). IsSafe (seen own) old new fault) (sym c.in-Init.is) (runs_safe (init_of c.in-Init.store.now) (λ (asked : List ℕ). g.I.Inputs.reads c.args.inputs.now asked c.args.inputs.now) old new fault own);
+      local = subst (λ (own : Command). IsLocalRun (seen own) old new fault) (sym c.in-Init.is) (tt);
     }
 
 pub returns-in-Import : goal.returns-in-Import
@@ -62,6 +67,7 @@ returns-in-Import g c =
     record {
       runs = subst (λ (own : Command). Runs (seen own) (λ (asked : List ℕ). g.I.Inputs.reads c.args.inputs.now asked c.import.new.inputs) old new fault) (sym c.in-Import.is) own;
       safe = subst (λ (own : Command). IsSafe (seen own) old new fault) (sym c.in-Import.is) (runs_safe (import_of c.in-Import.store.now c.in-Import.files c.in-Import.buckets c.in-Import.workers) (λ (asked : List ℕ). g.I.Inputs.reads c.args.inputs.now asked c.import.new.inputs) old new fault own);
+      local = subst (λ (own : Command). IsLocalRun (seen own) old new fault) (sym c.in-Import.is) (tt);
     }
 
 pub returns-in-Append : goal.returns-in-Append
@@ -75,6 +81,7 @@ returns-in-Append g c =
     record {
       runs = subst (λ (own : Command). Runs (seen own) (λ (asked : List ℕ). g.I.Inputs.reads c.args.inputs.now asked c.append.new.inputs) old new fault) (sym c.in-Append.is) own;
       safe = subst (λ (own : Command). IsSafe (seen own) old new fault) (sym c.in-Append.is) (runs_safe (append_of c.in-Append.store.now c.in-Append.files c.in-Append.workers) (λ (asked : List ℕ). g.I.Inputs.reads c.args.inputs.now asked c.append.new.inputs) old new fault own);
+      local = subst (λ (own : Command). IsLocalRun (seen own) old new fault) (sym c.in-Append.is) (where_done c.append.result (IsLocal c.in-Append.files old new) c.append.ensures.local);
     }
 
 pub returns-in-Export : goal.returns-in-Export
@@ -89,6 +96,7 @@ returns-in-Export g c =
     record {
       runs = subst (λ (own : Command). Runs (seen own) (λ (asked : List ℕ). g.I.Inputs.reads c.args.inputs.now asked c.args.inputs.now) old new fault) (sym c.in-Export.is) own;
       safe = subst (λ (own : Command). IsSafe (seen own) old new fault) (sym c.in-Export.is) (runs_safe (export_of c.in-Export.store.now c.in-Export.table.now) (λ (asked : List ℕ). g.I.Inputs.reads c.args.inputs.now asked c.args.inputs.now) old new fault own);
+      local = subst (λ (own : Command). IsLocalRun (seen own) old new fault) (sym c.in-Export.is) (tt);
     }
 
 pub returns-in-Tiles : goal.returns-in-Tiles
@@ -103,6 +111,7 @@ returns-in-Tiles g c =
     record {
       runs = subst (λ (own : Command). Runs (seen own) (λ (asked : List ℕ). g.I.Inputs.reads c.args.inputs.now asked c.args.inputs.now) old new fault) (sym c.in-Tiles.is) own;
       safe = subst (λ (own : Command). IsSafe (seen own) old new fault) (sym c.in-Tiles.is) (runs_safe (tiles_of c.in-Tiles.store.now c.in-Tiles.least c.in-Tiles.clear) (λ (asked : List ℕ). g.I.Inputs.reads c.args.inputs.now asked c.args.inputs.now) old new fault own);
+      local = subst (λ (own : Command). IsLocalRun (seen own) old new fault) (sym c.in-Tiles.is) (tt);
     }
 
 pub returns-in-Replay : goal.returns-in-Replay
@@ -116,6 +125,7 @@ returns-in-Replay g c =
     record {
       runs = subst (λ (own : Command). Runs (seen own) (λ (asked : List ℕ). g.I.Inputs.reads c.args.inputs.now asked c.replay.new.inputs) old new fault) (sym c.in-Replay.is) own;
       safe = subst (λ (own : Command). IsSafe (seen own) old new fault) (sym c.in-Replay.is) (runs_safe command (λ (asked : List ℕ). g.I.Inputs.reads c.args.inputs.now asked c.replay.new.inputs) old new fault own);
+      local = subst (λ (own : Command). IsLocalRun (seen own) old new fault) (sym c.in-Replay.is) (tt);
     }
 
 pub returns-in-Query : goal.returns-in-Query
@@ -129,6 +139,7 @@ returns-in-Query g c =
     record {
       runs = subst (λ (own : Command). Runs (seen own) (λ (asked : List ℕ). g.I.Inputs.reads c.args.inputs.now asked c.query.new.inputs) old new fault) (sym c.in-Query.is) own;
       safe = subst (λ (own : Command). IsSafe (seen own) old new fault) (sym c.in-Query.is) (runs_safe command (λ (asked : List ℕ). g.I.Inputs.reads c.args.inputs.now asked c.query.new.inputs) old new fault own);
+      local = subst (λ (own : Command). IsLocalRun (seen own) old new fault) (sym c.in-Query.is) (tt);
     }
 
 pub returns-in-Serve : goal.returns-in-Serve
@@ -142,4 +153,5 @@ returns-in-Serve g c =
     record {
       runs = subst (λ (own : Command). Runs (seen own) (λ (asked : List ℕ). g.I.Inputs.reads c.args.inputs.now asked c.serve.new.inputs) old new fault) (sym c.in-Serve.is) own;
       safe = subst (λ (own : Command). IsSafe (seen own) old new fault) (sym c.in-Serve.is) (runs_safe command (λ (asked : List ℕ). g.I.Inputs.reads c.args.inputs.now asked c.serve.new.inputs) old new fault own);
+      local = subst (λ (own : Command). IsLocalRun (seen own) old new fault) (sym c.in-Serve.is) (tt);
     }

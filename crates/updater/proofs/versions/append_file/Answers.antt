@@ -12,3 +12,6 @@ pub returns-in-Err-clause-leads : goal.returns-in-Err-clause-leads
 returns-in-Err-clause-leads g c = λ old start done held head.
     leads_without c.args.bounds.now c.args.file (Err c.in-Err.fault) start done held old (g.I.Inputs.view c.commit_file.new.inputs) (handle_of c.commit_file.new.store) (g.S.Sink.view c.commit_file.new.out)
     (c.in-Err.ensures.leads old start done held head)
+
+pub returns-clause-local : goal.returns-clause-local
+returns-clause-local g c = c.in-Ok.ensures.local

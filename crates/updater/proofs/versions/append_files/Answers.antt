@@ -2,6 +2,7 @@ use Rattle.std.proofs.Common.{◌-◌, ◌+◌, ◌∙◌, arith, refl}
 use Rattle.update_flow.specs.Updater.{handle_of}
 use Rattle.updater.specs.Runs.{Among}
 use Rattle.updater.proofs.AppendRuns.{first_version, next_version, ends_in_version, last_version}
+use Rattle.updater.proofs.LocalLaws.{appends_begin, appends_end, appends_next}
 use Rattle.updater.proofs.Asked.{asked_more, asked_none}
 use Rattle.updater.proofs.versions.append_files.Goals as goal
 
@@ -15,6 +16,7 @@ loop-file-init g c =
       stays = record { same_disk = refl; same_limits = refl };
       turn = λ old start done held head. first_version c.args.bounds.now held c.args.first c.args.count start done old (c.args.first + c.args.count - c.args.first) (omega arith)
           (g.I.Inputs.view c.args.inputs.now) (handle_of c.args.store.now) (g.S.Sink.view c.args.out.now) head;
+      local = λ held pages is rests. appends_begin c.args.bounds.now held pages c.args.first (g.I.Inputs.view c.args.inputs.now) (handle_of c.args.store.now) is rests;
     }
 
 pub overflow_sub-file : goal.overflow_sub-file
@@ -54,6 +56,9 @@ loop-file-preserved g c =
           next_version c.args.bounds.now held c.args.first c.args.count start done old c.loop-file.file (c.args.first + c.args.count - c.loop-file.file) (c.args.first + c.args.count - (c.loop-file.file + 1))
           (omega (arith, c.loop-file-test.true)) (g.I.Inputs.view c.loop-file.inputs) (handle_of c.loop-file.store) (g.S.Sink.view c.loop-file.out) (c.loop-file.invariant.turn old start done held head)
           (g.I.Inputs.view c.append_file.new.inputs) (handle_of c.append_file.new.store) (g.S.Sink.view c.append_file.new.out) c.in-Ok.ensures.leads;
+      local = λ held pages is rests.
+          appends_next c.args.bounds.now held pages c.args.first c.loop-file.file (g.I.Inputs.view c.args.inputs.now) (g.I.Inputs.view c.loop-file.inputs) (g.I.Inputs.view c.append_file.new.inputs)
+          (handle_of c.args.store.now) (handle_of c.loop-file.store) (handle_of c.append_file.new.store) (c.loop-file.invariant.local held pages is rests) c.in-Ok.ensures.local;
     }
 
 pub returns-clause-leads : goal.returns-clause-leads
@@ -67,3 +72,8 @@ returns-clause-stays g c = c.loop-file.invariant.stays
 
 pub returns-clause-asked : goal.returns-clause-asked
 returns-clause-asked g c = c.loop-file.invariant.asked
+
+pub returns-clause-local : goal.returns-clause-local
+returns-clause-local g c = λ held pages is rests.
+    appends_end c.args.bounds.now held pages c.args.first c.args.count c.loop-file.file (g.I.Inputs.view c.args.inputs.now) (g.I.Inputs.view c.loop-file.inputs) (handle_of c.args.store.now) (handle_of c.loop-file.store)
+    (omega (arith, c.loop-file-test.false, c.loop-file.invariant.within)) (c.loop-file.invariant.local held pages is rests)

@@ -1,7 +1,10 @@
-use Rattle.std.proofs.Common.{◌≤◌, ◌-◌}
+use Rattle.std.proofs.Common.{◌≤◌, ◌-◌, ℕ, List}
+use Rattle.page_journal.specs.Crash.{IsAtRest}
+use Rattle.update_flow.specs.Handle.{IsOpen, view_of}
 use Rattle.update_flow.specs.State.{Holding, imported}
 use Rattle.update_flow.specs.Updater.{StaysOver, handle_of}
 use Rattle.updater.specs.Heads.{IsHead, IsVersion}
+use Rattle.updater.specs.Locality.{AppendsSoFar}
 use Rattle.updater.specs.Progress.{Progress}
 use Rattle.updater.specs.Runs.{Among, AsksOnly}
 use Rattle.updater.specs.World.{Before}
@@ -16,6 +19,8 @@ invariant-loop-file g l = record {
   stays : StaysOver l.fn.store l.store;
   turn : (old : Before) (start done : Progress) (held : Holding) → IsHead start done (imported held) l.fn.first old (g.I.Inputs.view l.fn.inputs) (handle_of l.fn.store) (g.S.Sink.view l.fn.out)
       → IsVersion l.fn.bounds held l.fn.first l.fn.count start done l.file (l.end - l.file) old (g.I.Inputs.view l.inputs) (handle_of l.store) (g.S.Sink.view l.out);
+  local : (held : Holding) (pages : List (List ℕ)) → IsOpen (imported held) (handle_of l.fn.store) → IsAtRest pages (view_of (handle_of l.fn.store))
+      → AppendsSoFar l.fn.bounds held pages l.fn.first l.file (g.I.Inputs.view l.fn.inputs) (g.I.Inputs.view l.inputs) (handle_of l.fn.store) (handle_of l.store);
 }
 
 abbrev pub decreases-loop-file : goal.decreases-loop-file

@@ -1,8 +1,10 @@
 use Rattle.std.proofs.Common.{◌+◌, ◌∙◌, ap, refl, Err}
+use Rattle.update_flow.specs.Handle.{view_of}
 use Rattle.update_flow.specs.State.{Append, Holding, imported, changed}
 use Rattle.update_flow.specs.Updater.{handle_of}
 use Rattle.updater.specs.Courses.{version_line}
 use Rattle.updater.specs.Serving.{IsNext}
+use Rattle.updater.proofs.LocalLaws.{reads_one}
 use Rattle.updater.proofs.ServeRuns.{next_by}
 use Rattle.updater.proofs.StoreRuns.{held_certain}
 use Rattle.updater.proofs.VersionRuns.{file_unread, shows_here, step_refused, version_done, version_told}
@@ -45,3 +47,12 @@ returns-in-Err-tell_version-clause-leads g c = λ old start done held head.
     (version_line c.in-Ok-append_one.delta.version) (g.S.Sink.view c.tell_version.new.out) (Err c.in-Err-tell_version.fault)
     (ap version_line (c.in-Ok-append_one.ensures.version ∙ ap (λ n. n + 1) shown.changes_are))
     tt c.in-Err-tell_version.ensures.err c.in-Err-tell_version.ensures.alone c.in-Err-tell_version.ensures.cause
+
+pub returns-in-Ok-tell_version-clause-local : goal.returns-in-Ok-tell_version-clause-local
+returns-in-Ok-tell_version-clause-local g c = λ held pages is rests. record {
+  change = c.in-Ok.change;
+  accepted = c.in-Ok.ensures.ok.accepted;
+  others = c.in-Ok.ensures.ok.alone.others;
+  opened = (c.in-Ok-append_one.ensures.takes (imported held) is).done refl;
+  reads = reads_one held c.in-Ok.change pages (view_of (handle_of c.args.store.now)) (view_of (handle_of c.append_one.new.self)) (c.in-Ok-append_one.ensures.reads held is) rests;
+}

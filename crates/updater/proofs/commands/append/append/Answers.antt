@@ -1,4 +1,5 @@
 use Rattle.std.proofs.Common.{◌∙◌, Err, ap, sym}
+use Rattle.updater.proofs.LocalLaws.{local_over, on_ok_so}
 use Rattle.std.specs.Result.{result_err}
 use Rattle.updater.specs.Courses.{append_to}
 use Rattle.updater.proofs.OpenRuns.{goes_over, unopened}
@@ -17,3 +18,10 @@ returns-clause-course g c = λ start begins.
     c.open.new.disk c.over-store.result c.args.files.first c.over-store.ensures.disk c.in-Ok.ensures.opens (λ told state at. c.over-store.ensures.open state at (c.in-Ok.ensures.found told state at))
     (c.over-store.ensures.limits ∙ c.standard-limits.ensures.numbers) c.over-store.ensures.whole c.over-store.ensures.begun c.in-Ok.ensures.cause
     (append_to c.args.files) (result_err c.append_store-done.result) c.append_store-done.new.store c.disk-1.given.0 (c.disk-1.given.1 (sym c.over-store.ensures.same_disk ∙ sym c.append_store-done.ensures.stays.same_disk ∙ sym c.close-disk.ensures.same_disk) ∙ c.close-disk.ensures.disk) (g.I.Inputs.view c.append_store-done.new.inputs) (g.S.Sink.view c.append_store-done.new.out) c.append_store-done.ensures.goes_on
+
+pub returns-clause-local : goal.returns-clause-local
+returns-clause-local g c = on_ok_so c.append_store-done.result _ _ (λ all.
+    local_over c.args.files (g.I.Inputs.view c.args.inputs.now) (g.D.Disk.view c.args.disk.now) (g.S.Sink.view c.args.out.now) c.open.new.disk c.over-store.result c.over-store.ensures.disk
+    c.in-Ok.ensures.reads c.in-Ok.ensures.once c.in-Ok.ensures.same (λ told state at. c.over-store.ensures.open state at (c.in-Ok.ensures.found told state at))
+    c.append_store-done.new.store c.disk-1.given.0 (c.disk-1.given.1 (sym c.over-store.ensures.same_disk ∙ sym c.append_store-done.ensures.stays.same_disk ∙ sym c.close-disk.ensures.same_disk) ∙ c.close-disk.ensures.disk)
+    (g.I.Inputs.view c.append_store-done.new.inputs) (g.S.Sink.view c.append_store-done.new.out) all) c.append_store-done.ensures.local

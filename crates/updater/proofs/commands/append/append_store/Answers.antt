@@ -9,6 +9,7 @@ use Rattle.updater.specs.Progress.{past}
 use Rattle.updater.specs.Runs.{Among}
 use Rattle.updater.specs.World.{world}
 use Rattle.updater.proofs.Asked.{asked_among, asked_more, asked_none, asked_then}
+use Rattle.updater.proofs.LocalLaws.{appends_all, on_ok_so}
 use Rattle.updater.proofs.StoreRuns.{first_read, first_unread, if_there, leads_ends, not_yet}
 use Rattle.updater.proofs.commands.append.append_store.Goals as goal
 
@@ -76,3 +77,8 @@ returns-clause-asked g c =
     (asked_none g.I.Inputs.reads (Among files.first files.count) c.args.inputs.now (laws.reads_none c.args.inputs.now)) c.read_bounds_file.ensures.asked (omega arith, omega (arith, some)))
     (asked_among (λ asked. g.I.Inputs.reads c.read_bounds_file.new.inputs asked c.append_files.new.inputs) (Among (files.first + 1) (files.count - 1)) (Among files.first files.count)
     (λ file among. (omega (arith, among.0), omega (arith, among.1, some))) c.append_files.ensures.asked)
+
+pub returns-clause-local : goal.returns-clause-local
+returns-clause-local g c = on_ok_so c.append_files.result _ _ (λ there held pages is rests.
+    appends_all c.args.files held pages c.in-Ok.bounds (g.I.Inputs.view c.args.inputs.now) (g.I.Inputs.view c.read_bounds_file.new.inputs) (view_of (handle_of c.args.store.now)).reads
+    (view_of (handle_of c.append_files.new.store)).reads c.in-Ok.ensures.ok (there held pages is rests)) c.append_files.ensures.local
