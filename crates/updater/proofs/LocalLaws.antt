@@ -60,17 +60,20 @@ pub reads_one : (held : Holding) (change : List Entry) (pages : List (List ℕ))
     → ((may : May) → MayTouch held.style held.objects change may → (pages : List (List ℕ)) → IsAtRest pages before → ReadsTouched may held.buckets pages before after)
     → IsAtRest pages before → ReadsOne held change pages before.reads after.reads
 reads_one held change pages before after reads rests = λ may touch.
-    let own = reads may touch pages rests in
-    (pages_read own.2.read + length own.2.free, record {
-      kept = own.0;
-      keeps = own.1;
-      read = own.2.read;
-      each = own.2.each;
-      are = own.2.are;
-      free = own.2.free;
-      is_free = own.2.is_free;
-      is = refl;
-    }, own.2.count)
+    let own = reads may touch pages rests in (
+      pages_read own.2.read + length own.2.free,
+      record {
+        kept = own.0;
+        keeps = own.1;
+        read = own.2.read;
+        each = own.2.each;
+        are = own.2.are;
+        free = own.2.free;
+        is_free = own.2.is_free;
+        is = refl;
+      },
+      own.2.count,
+    )
 
 -- a store at rest has home pages
 store_at : (held : Holding) (view : DiskView) → IsAt (imported held) view → (pages : List (List ℕ)) × IsStore pages held × IsAtRest pages view
@@ -107,7 +110,7 @@ appends_next bounds held pages first file files now read before store after so n
       others = λ other from. one.others other (λ is. absurd (let two : other ≡ file = is in omega (arith, from, two))) ∙ so.others other (omega (arith, from));
       leads = λ later last hold reads.
           let led = so.leads (one.change ∷ later) last (subst (λ (told : Option (List ℕ)). IfTold told (λ bytes. IsChange file bytes (Ok one.change))) (so.others file (omega arith)) one.accepted, hold)
-              (reads_more bounds so.at one.change later so.here left.0 (view_of store).reads (view_of after).reads last one.reads left.1 reads) in
+          (reads_more bounds so.at one.change later so.here left.0 (view_of store).reads (view_of after).reads last one.reads left.1 reads) in
           (led.0, (let many = led.1 in omega (arith, many)), led.2, led.3);
     }
 
@@ -146,27 +149,37 @@ pub local_run : (own : Files) (old new : World) (between : DiskView) → ((bytes
     → ((bytes : List ℕ) (state : State) → Tells old.disk bytes → StandsFor bytes state → gate bytes ≢ OPEN → ReadsToOpen bytes old.disk between)
     → ((bytes : List ℕ) → Tells old.disk bytes → gate bytes ≢ OPEN → between.content ≡ old.disk.content)
     → (IsTold old.disk.content → (held : Holding) (pages : List (List ℕ)) → IsAt (imported held) between → IsAtRest pages between
-        → AppendsAll own held pages old.files between.reads new.disk.reads) → IsLocal own old new
+    → AppendsAll own held pages old.files between.reads new.disk.reads) → IsLocal own old new
 local_run own old new between opens once same all = λ bytes held pages told shut stands home.
     let at = (opens bytes (imported held) told stands).found refl in
     let cost = once bytes (imported held) told stands shut in
     let count = 2 + page_total cost.directories + length cost.style in
-    let rests : IsAtRest pages between = (bytes, record {
-      told = same bytes told shut ∙ told;
-      only = subst (λ (b : List ℕ). Only b between.crashes) (same_Some at.bytes bytes (sym at.told ∙ same bytes told shut ∙ told)) at.only;
-      shut = shut;
-      home = home;
-    }) in
-    (between.reads, (count, record {
-      pages = cost.pages;
-      home = cost.home;
-      directories = cost.directories;
-      eight = cost.eight;
-      are = cost.are;
-      style = cost.style;
-      has = cost.has;
-      is = refl;
-    }, λ first is. (let log = cost.count first is in (log.0, log.1, log.2))), all (bytes, told) held pages at rests)
+    let rests : IsAtRest pages between = (
+      bytes,
+      record {
+        told = same bytes told shut ∙ told;
+        only = subst (λ (b : List ℕ). Only b between.crashes) (same_Some at.bytes bytes (sym at.told ∙ same bytes told shut ∙ told)) at.only;
+        shut = shut;
+        home = home;
+      },
+    ) in (
+      between.reads,
+      (
+        count,
+        record {
+          pages = cost.pages;
+          home = cost.home;
+          directories = cost.directories;
+          eight = cost.eight;
+          are = cost.are;
+          style = cost.style;
+          has = cost.has;
+          is = refl;
+        },
+        λ first is. (let log = cost.count first is in (log.0, log.1, log.2)),
+      ),
+      all (bytes, told) held pages at rests,
+    )
 
 -- the same over the disk that was opened, and that is handed back
 pub local_over : {D : Type 0} {g : Ghosts D} (own : Files) (files : FilesView) (view : DiskView) (output : SinkView) (disk : D) (updater : Updater D g) → disk_of updater ≡ disk
@@ -176,7 +189,7 @@ pub local_over : {D : Type 0} {g : Ghosts D} (own : Files) (files : FilesView) (
     → (IsTold view.content → (state : State) → IsAt state (g.view disk) → IsOpen state (handle_of updater))
     → (final : Updater D g) (last : D) → last ≡ disk_of final → (now : FilesView) (told : SinkView)
     → ((held : Holding) (pages : List (List ℕ)) → IsOpen (imported held) (handle_of updater) → IsAtRest pages (view_of (handle_of updater))
-        → AppendsAll own held pages files (view_of (handle_of updater)).reads (view_of (handle_of final)).reads)
+    → AppendsAll own held pages files (view_of (handle_of updater)).reads (view_of (handle_of final)).reads)
     → IsLocal own (world files view output) (world now (g.view last) told)
 local_over {D} {g} own files view output disk updater taken opens once same open_so final last closed now told all =
     local_run own (world files view output) (world now (g.view last) told) (g.view disk) opens once same (λ before held pages at rests.
