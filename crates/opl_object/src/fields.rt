@@ -73,11 +73,18 @@ pub(crate) fn after_first(text: &str) -> &str
 pub(crate) fn pieces(text: &str) -> usize
     ensures count { result ≡ count_by (is COMMA) text.now + 1 }
 {
-    text.as_bytes()
-        .iter()
-        .filter(|byte| **byte == COMMA)
-        .count()
-        + 1
+    commas(text.as_bytes()) + 1
+}
+
+/// How many commas there are.
+fn commas(text: &[u8]) -> usize
+    ensures count { result ≡ count_by (is COMMA) text.now }
+{
+    let mut count = 0;
+    for &byte in text {
+        count += usize::from(byte == COMMA);
+    }
+    count
 }
 
 /// The first field and what stands behind it.

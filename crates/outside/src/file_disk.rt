@@ -22,6 +22,8 @@ pub struct FileDisk<'p, R: Files> {
     make: bool,
     named: bool,
     open: Option<R::File>,
+    // Where the next call of the system reads or writes, if that is known.
+    place: Option<u64>,
     faults: u64,
 }
 
@@ -46,6 +48,7 @@ impl<'p, R: Files> FileDisk<'p, R> {
             make,
             named: !make,
             open: None,
+            place: None,
             faults: 0,
         }
     }
@@ -98,23 +101,39 @@ impl<R: Files<File = File> + Drop> FileDisk<'_, R> {
         Ok(len)
     }
 
+    // The file goes on at this place: neighbouring pages need no seek between them.
+    fn go_to(&mut self, at: u64) -> io::Result<()>
+        ensures same { self.new ≡ self.old }
+    {
+        self.begin()?;
+        if self.place.take() != Some(at) {
+            let open = self.open.as_mut().ok_or(closed())?;
+            open.seek(SeekFrom::Start(at))?;
+        }
+        Ok(())
+    }
+
     fn try_read(&mut self, at: u64, buf: &mut [u8]) -> io::Result<usize>
+        requires { at + length buf.old ≤ 2 ^ 62 }
         ensures bound { IfOk result (λ count. count ≤ length buf.old) }
         ensures same { self.new ≡ self.old }
     {
-        self.begin()?;
+        self.go_to(at)?;
         let open = self.open.as_mut().ok_or(closed())?;
-        open.seek(SeekFrom::Start(at))?;
-        fill(open, buf)
+        let count = fill(open, buf)?;
+        self.place = Some(at + count as u64);
+        Ok(count)
     }
 
     fn try_write(&mut self, at: u64, piece: &[u8]) -> io::Result<()>
+        requires { at + length piece.now ≤ 2 ^ 62 }
         ensures same { self.new ≡ self.old }
     {
-        self.begin()?;
+        self.go_to(at)?;
         let open = self.open.as_mut().ok_or(closed())?;
-        open.seek(SeekFrom::Start(at))?;
-        open.write_all(piece)
+        open.write_all(piece)?;
+        self.place = Some(at + piece.len() as u64);
+        Ok(())
     }
 
     fn try_sync(&mut self) -> io::Result<()>

@@ -63,6 +63,13 @@ impl MemDisk {
         self.recorded.calls() as u64
     }
 
+    /// How many reads there were, of calls that were kept or not.
+    pub fn reads(&self) -> u64
+        ensures { option_map (λ log. log.count) (disk_view self.now).reads ≡ Some result }
+    {
+        self.reads
+    }
+
     /// Whether a call has failed for want of memory.
     pub fn short(&self) -> bool
         ensures { result ≡ disk_short self.now }
