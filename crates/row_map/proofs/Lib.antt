@@ -8,3 +8,4 @@ mod NoRow
 pub mod TableMap
 pub mod TableRows
 mod TagTokens
+pub mod Unwanted

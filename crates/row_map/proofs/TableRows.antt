@@ -1,5 +1,5 @@
 -- The rows of an object in all tables, table by table and by the numbers of the tables.
-use Rattle.std.proofs.Common.{◌≡◌, ◌<◌, ℕ, zero, suc, ◌+◌, List, [], ◌∷◌, ◌++◌, append_assoc, drop, get_or, length, Option, Some, None, refl, sym, ap, ◌∙◌, arith}
+use Rattle.std.proofs.Common.{◌≡◌, ◌<◌, ℕ, zero, suc, ◌+◌, false, List, [], ◌∷◌, ◌++◌, append_assoc, drop, get_or, length, Option, Some, None, refl, sym, ap, ◌∙◌, arith}
 use Rattle.std.specs.List.{cons_option, filter_map, range_with_len, slice_get}
 use Rattle.std.specs.Option.{option_and_then, option_to_list}
 use Rattle.std.proofs.lemmas.List.{append-nil}
@@ -16,7 +16,9 @@ use Rattle.row_map.specs.Agree.{Suffices}
 use Rattle.row_map.specs.Material.{Material, material_known}
 use Rattle.row_map.specs.Row.{row, row_from, row_of}
 use Rattle.row_map.specs.Rows.{in_table, rows_from, rows_in, rows_known}
+use Rattle.row_map.specs.Wanted.{may_have_rows}
 use Rattle.row_map.proofs.Locality.{row_from-suffices}
+use Rattle.row_map.proofs.Unwanted.{row_from-unwanted}
 
 rows-same : (one other : ℕ → Option Row) → ((table : ℕ) → one table ≡ other table) → (numbers : List ℕ) → filter_map (λ table. in_table table (one table)) numbers ≡ filter_map (λ table. in_table table (other table)) numbers
 rows-same one other same [] = refl
@@ -79,6 +81,12 @@ pub rows_known-none : (style : StyleOf) (known : Known) (key : KeyOf) → known.
 unfolding rows_known
 rows_known-none style known key none =
     rows-none (λ table. row_from style table (material_known style known key) key) (λ table. row_from-none style table (material_known style known key) key none) (range_with_len 0 (length style.tables))
+
+-- so where no table may want it
+pub rows_known-unwanted : (style : StyleOf) (known : Known) (key : KeyOf) → may_have_rows style (known.object key) ≡ false → rows_known style known key ≡ []
+unfolding rows_known
+rows_known-unwanted style known key not =
+    rows-none (λ table. row_from style table (material_known style known key) key) (λ table. row_from-unwanted style table (material_known style known key) key not) (range_with_len 0 (length style.tables))
 
 pub rows_known-some : (style : StyleOf) (known : Known) (key : KeyOf) (object : Object) → known.object key ≡ Some object
     → rows_from style.selections (material_known style known key) key object 0 style.tables ≡ rows_known style known key

@@ -7,3 +7,4 @@ pub mod Row
 pub mod Rows
 pub mod Seen
 pub mod Shape
+pub mod Wanted

@@ -52,7 +52,7 @@ fn has_value(tags: &Tags, key: &str, value: &Text) -> bool
 }
 
 /// Whether a condition holds of tags; none holds that asks for a selection.
-fn holds_of_tags(condition: &Condition, tags: &Tags) -> bool
+pub(crate) fn holds_of_tags(condition: &Condition, tags: &Tags) -> bool
     ensures holds { result ≡ spec.holds (λ _. false) tags.now condition.now }
 {
     match condition {

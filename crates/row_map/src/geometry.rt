@@ -8,6 +8,7 @@ ghost use Rattle.osm_base.specs.values.Place.{PlaceOf};
 ghost use Rattle.line_build.specs.Joins.{joined};
 ghost use Rattle.line_build.specs.Points.{line};
 ghost use Rattle.row_map.specs.Shape as spec;
+ghost use Rattle.row_map.specs.Wanted as wanted;
 
 use crate::area::{area_of, bounds_area, is_area};
 use crate::pieces::pieces_of;
@@ -120,14 +121,16 @@ pub(crate) fn geometry_of<L: Lookup>(
     }
 }
 
-/// Whether an object is of a source. Where it is not, it has no geometry in a table of it.
+/// Whether an object may have a geometry in a table of this source, by its kind, its nodes and its tags.
 pub(crate) fn may_have_geometry(source: Source, object: &Object) -> bool
-    ensures none { result ≡ false → (place : ℕ → Option PlaceOf) (known : KeyOf → Option Object) → spec.geometry_of place known source object.now ≡ None }
+    ensures may { result ≡ wanted.may_have_geometry source object.now }
 {
-    match source {
-        Source::Node => matches!(object, Object::Node { .. }),
-        Source::Way => matches!(object, Object::Way { .. }),
-        Source::Area => !matches!(object, Object::Node { .. }),
-        Source::Relation => matches!(object, Object::Relation { .. }),
+    match (source, object) {
+        (Source::Node, Object::Node { .. }) => true,
+        (Source::Way, Object::Way { .. }) => true,
+        (Source::Area, Object::Way { nodes, .. }) => bounds_area(nodes.as_slice()),
+        (Source::Area, Object::Relation { tags, .. }) => is_area(tags),
+        (Source::Relation, Object::Relation { .. }) => true,
+        _ => false,
     }
 }

@@ -1,5 +1,5 @@
 //! What always holds of rows and tables, and of the numbers that code and definitions share.
-ghost use Rattle.std.specs.Prelude.{◌≡◌, ℕ, Some};
+ghost use Rattle.std.specs.Prelude.{◌≡◌, ℕ, None, Some, false};
 ghost use Rattle.std.specs.FinMap as finite;
 ghost use Rattle.std.specs.List.{slice_get};
 ghost use Rattle.osm_base.specs.map.Objects.{ObjectSet};
@@ -10,6 +10,7 @@ ghost use Rattle.style_read.specs.Style.{StyleOf};
 ghost use Rattle.row_map.specs.Agree.{Agree};
 ghost use Rattle.row_map.specs.Material.{Material};
 ghost use Rattle.row_map.specs.Row.{row, row_from, tables};
+ghost use Rattle.row_map.specs.Wanted.{may_have_rows};
 
 use crate::{COMMA, MAX_DIGITS, MINUS};
 
@@ -30,4 +31,9 @@ pub fn rows_are_local()
     ensures same { (style : StyleOf) (table : ℕ) (key : KeyOf) (one other : Material)
         → ((definition : TableDef) → slice_get style.tables table ≡ Some definition → Agree definition key one other)
         → row_from style table one key ≡ row_from style table other key }
+{}
+
+/// An object that no table may want has no row, whatever its row would be made of.
+pub fn unwanted_has_no_row()
+    ensures none { (style : StyleOf) (table : ℕ) (from : Material) (key : KeyOf) → may_have_rows style (from.object key) ≡ false → row_from style table from key ≡ None }
 {}

@@ -17,10 +17,12 @@ mod row;
 mod rows;
 mod tags_text;
 mod values;
+mod wanted;
 
 pub use condition::{meets, selects};
-pub use laws::{rows_are_local, shared_numbers, tables_are_rows};
+pub use laws::{rows_are_local, shared_numbers, tables_are_rows, unwanted_has_no_row};
 pub use number::{MAX_DIGITS, MINUS};
 pub use row::row_of;
 pub use rows::rows_of;
 pub use values::COMMA;
+pub use wanted::may_have_rows;

@@ -21,7 +21,7 @@ use std::alloc::Global;
 use style_read::{Selection, Style, TableDef};
 
 /// The tags of an object.
-fn tags_of(object: &Object) -> &Tags
+pub(crate) fn tags_of(object: &Object) -> &Tags
     ensures tags { result.now ≡ objects.tags_of object.now }
 {
     match object {

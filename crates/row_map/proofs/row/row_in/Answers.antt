@@ -1,9 +1,11 @@
+use Rattle.std.proofs.Common.{sym, ◌∙◌}
 use Rattle.std.specs.Prelude.{◌&&◌}
 use Rattle.row_map.specs.Material.{material_among}
 use Rattle.row_map.specs.Objects.{is_of_kind}
 use Rattle.row_map.specs.Row.{cells_of, wants}
 use Rattle.row_map.specs.Shape.{geometry_of}
 use Rattle.row_map.proofs.NoRow.{no_row}
+use Rattle.row_map.proofs.Unwanted.{shapeless}
 use Rattle.row_map.proofs.row.row_in.Goals as goal
 
 pub returns-then-not-may_have_geometry : goal.returns-then-not-may_have_geometry
@@ -15,5 +17,5 @@ returns-then-not-may_have_geometry g c =
     let object = c.args.object.now in
     record {
       row = no_row (is_of_kind c.args.key.kind object && wants from table object) (cells_of selections from table object) (geometry_of known.place known.object table.source object)
-          (c.may_have_geometry.ensures.none c.if-not-may_have_geometry.true known.place known.object);
+          (shapeless known.place known.object table.source object (sym c.may_have_geometry.ensures.may ∙ c.if-not-may_have_geometry.true));
     }
