@@ -1,0 +1,59 @@
+//! The records of nodes in a store of the old format.
+ghost use Rattle.std.specs.Prelude.{◌≡◌, ◌≤◌, List, ℕ, Ok, Err, false, IfErr, IfOk};
+ghost use Rattle.std.specs.Option.{option_copied};
+ghost use Rattle.bucket_store.specs.Buckets.{bucket_count};
+ghost use Rattle.bucket_store.specs.Transaction.{IsOpenStore, chains_of, has_refused};
+ghost use Rattle.bucket_store.specs.Typed.{Gets, GetsValue, ReadsAs, Touches};
+ghost use Rattle.middle_nodes.specs.Old.{old_bytes, IsOldPlace};
+ghost use Rattle.value_bytes.specs.Forms.{IsNoValue, NeedsFor, Spells};
+
+use crate::NODES;
+use bucket_store::{Buckets, refuse_value};
+use osm_base::Place;
+use outside::Disk;
+use page_journal::StoreFault;
+use std::alloc::Global;
+use value_bytes::{ValueFault, read_whole};
+
+/// What a store of the old format keeps of a node, which is its place. `None`: nothing.
+pub fn get_old<D: Disk>(
+    alloc: Global,
+    buckets: &mut Buckets<'_, D>,
+    id: u64,
+) -> Result<Option<Option<Place>>, StoreFault>
+    requires some { 1 ≤ bucket_count (chains_of buckets.old) }
+    requires going { has_refused buckets.old ≡ false }
+    ensures answers { (pages : List (List ℕ)) → IsOpenStore pages buckets.old → Gets old_bytes IsOldPlace pages buckets.old NODES id result }
+    ensures value { GetsValue old_bytes IsOldPlace NODES id buckets.old buckets.new result }
+    ensures touches { Touches NODES id buckets.old buckets.new result }
+{
+    if let Err(fault) = buckets.bring(NODES, id) {
+        return Err(fault);
+    }
+    let read = read_found(alloc, buckets.value(NODES, id));
+    match read {
+        Ok(found) => Ok(found),
+        Err(fault) => Err(refuse_value(buckets, NODES, id, fault)),
+    }
+}
+
+/// The place that a record of the old format has.
+pub fn read_old(alloc: Global, bytes: &[u8]) -> Result<Option<Place>, ValueFault>
+    ensures place { IfOk result (Spells old_bytes IsOldPlace bytes.now) }
+    ensures refused { IfErr result (NeedsFor (IsNoValue old_bytes IsOldPlace bytes.now)) }
+{
+    read_whole::<Option<Place>>(alloc, bytes)
+}
+
+// The place that the record with these bytes has, if there are any.
+fn read_found(alloc: Global, bytes: Option<&[u8]>) -> Result<Option<Option<Place>>, ValueFault>
+    ensures reads { ReadsAs old_bytes IsOldPlace (option_copied bytes.entry) result }
+{
+    match bytes {
+        None => Ok(None),
+        Some(bytes) => match read_old(alloc, bytes) {
+            Ok(place) => Ok(Some(place)),
+            Err(fault) => Err(fault),
+        },
+    }
+}
