@@ -1,5 +1,5 @@
 -- A plan that is carried out leaves the store with what was written.
-use Rattle.std.proofs.Common.{◌≡◌, ◌≢◌, ◌⊎◌, inl, inr, ℕ, ◌+◌, ◌-◌, ◌*◌, ◌%◌, ◌^◌, ◌<◌, ◌≤◌, ◌==◌, Bool, true, false, List, [], ◌∷◌, ◌++◌, length, take, drop, map, Option, Some, None, IsTrue, refl, sym, ap, subst, ◌∙◌, arith}
+use Rattle.std.proofs.Common.{◌≡◌, ◌≢◌, ◌⊎◌, inl, inr, ℕ, ◌+◌, ◌-◌, ◌*◌, ◌/◌, ◌%◌, ◌^◌, ◌<◌, ◌≤◌, ◌==◌, Bool, true, false, List, [], ◌∷◌, ◌++◌, length, take, drop, map, Option, Some, None, IsTrue, refl, sym, ap, subst, ◌∙◌, arith}
 use Rattle.std.proofs.lemmas.Bool.{cases_lt, eqb-true, eqb-false}
 use Rattle.std.specs.List.{All}
 use Rattle.std.specs.Int.{is_power_of_two}
@@ -14,6 +14,7 @@ use Rattle.chain_store.specs.Gathered.{AreGathered, base_parts}
 use Rattle.chain_store.specs.Kept.{buckets_in, bytes_at, pages_at}
 use Rattle.chain_store.specs.Known.{AreGone, AreStored, Lists, changed, own_or}
 use Rattle.chain_store.specs.Links.{page_in}
+use Rattle.chain_store.specs.Needed.{chain_pages, needed}
 use Rattle.chain_store.specs.Pairs.{chain_pairs, laid_pairs, puts}
 use Rattle.chain_store.specs.Parts.{AreOld, Begin, IsNoPart, IsPart, growth, head_or, laid_all, laid_bytes_at, laid_pages_at, times, times_new}
 use Rattle.chain_store.specs.Plan.{IsPlan, kept_free, more_of, root_bytes, spare_of, wanted, whole_pool}
@@ -29,10 +30,12 @@ use Rattle.chain_store.specs.declared.root.Root.{Root}
 use Rattle.chain_store.specs.declared.walking.Walked.{Walked}
 use Rattle.chain_store.proofs.Bases.{bases_fill, bytes_from, laid_long, pages_from}
 use Rattle.chain_store.proofs.Directory.{directories_are, directory_number, directory_part, no_directory}
-use Rattle.chain_store.proofs.FirstLaws.{first_in-free, first_in-root}
+use Rattle.chain_store.proofs.FirstLaws.{first_in-bucket, first_in-free, first_in-root}
 use Rattle.chain_store.proofs.LaidParts.{part_or}
 use Rattle.chain_store.proofs.Looked.{insert_same, look}
+use Rattle.chain_store.proofs.Needs.{needed_from, planned_counted}
 use Rattle.chain_store.proofs.NewStore.{clear_of, data_agrees, first_same, gathered_are, holds_agree, laid_part, no_number_of, none_or, pages_agree, part_none, sound_agree}
+use Rattle.chain_store.proofs.NumberLaws.{number-beyond}
 use Rattle.chain_store.proofs.Outcome.{covered, planned, set_is}
 use Rattle.chain_store.proofs.Parting.{AreClear, AreParts, laid_old, no_part-both, part_cases, part_right, times_new-append}
 use Rattle.chain_store.proofs.Renewed.{all_begin, other_begins}
@@ -442,3 +445,27 @@ module _ (pages : List (List ℕ)) (kept : Kept) (root : Root) (written read bef
         (first_in l (laid_bytes_at is.dealt.directories.items) n) (changed strings written n)) (sym root_is)
         (renewed_holds n (first_in plan.kept.front.items (laid_bytes_at is.dealt.directories.items) n) (changed strings written n) (each_holds n apart chain));
   }
+
+  -- it has just the pages that are needed
+  pub renewed_needed : plan.home ≡ needed (length pages + 1) root.buckets (changed strings written)
+  renewed_needed =
+      let laid_is_long = laid_long (root.buckets == buckets_in kept.front.items) root.buckets (buckets_in kept.front.items) is.dealt.chains.items kept.directories.items
+      (drop (growth parts) (whole_pool parts (base_parts (root.buckets == buckets_in kept.front.items) root.buckets 8 kept.directories.items) free (length pages + 1))) is.dealt.directories.items is.is.directories kept.eight same_count kept.long in
+      let all = planned_counted (page_in pages) (look (page_in pages) whole_set) (length pages + 1) (more_of parts (base_parts (root.buckets == buckets_in kept.front.items) root.buckets 8 kept.directories.items) free) (kept_first kept)
+      (λ n. first_in plan.kept.front.items (laid_bytes_at is.dealt.directories.items) n) (is.dealt.chains.items ++ is.dealt.directories.items)
+      (take (wanted parts (base_parts (root.buckets == buckets_in kept.front.items) root.buckets 8 kept.directories.items) - length (spare_of parts (base_parts (root.buckets == buckets_in kept.front.items) root.buckets 8 kept.directories.items))) free) is.dealt.left.items (kept_free parts (base_parts (root.buckets == buckets_in kept.front.items) root.buckets 8 kept.directories.items) free) is_planned long
+      root.buckets (changed strings written) few each_holds
+      (λ m below. (
+        laid_bytes_at is.dealt.directories.items m,
+        part_holds (page_in pages) (look (page_in pages) whole_set) (length pages + 1) (more_of parts (base_parts (root.buckets == buckets_in kept.front.items) root.buckets 8 kept.directories.items) free) (kept_first kept)
+            (λ n. first_in plan.kept.front.items (laid_bytes_at is.dealt.directories.items) n) (is.dealt.chains.items ++ is.dealt.directories.items)
+            (take (wanted parts (base_parts (root.buckets == buckets_in kept.front.items) root.buckets 8 kept.directories.items) - length (spare_of parts (base_parts (root.buckets == buckets_in kept.front.items) root.buckets 8 kept.directories.items))) free) is.dealt.left.items (kept_free parts (base_parts (root.buckets == buckets_in kept.front.items) root.buckets 8 kept.directories.items) free) is_planned
+            (8 + m) (laid_pages_at is.dealt.directories.items m) (laid_bytes_at is.dealt.directories.items m) (directory_is m below),
+        laid_is_long m below,
+      ))
+      (λ n above chain outside.
+      let below : (n - 16) / 65536 < 8 = omega (arith, above, chain) in
+      first_in-bucket plan.kept.front.items (laid_bytes_at is.dealt.directories.items) n above chain
+      ∙ number-beyond (laid_bytes_at is.dealt.directories.items ((n - 16) / 65536)) (8 * ((n - 16) % 65536))
+      (omega (arith, laid_is_long ((n - 16) / 65536) below, outside))) in
+      sym end_is ∙ needed_from parts (base_parts (root.buckets == buckets_in kept.front.items) root.buckets 8 kept.directories.items) free is.dealt.left.items (length pages + 1) (chain_pages root.buckets (changed strings written)) is.is.left all

@@ -5,6 +5,7 @@ pub mod Carried
 pub mod Commits
 pub mod Committable
 pub mod Counted
+pub mod Counts
 pub mod Deals
 pub mod Directory
 pub mod FirstLaws
@@ -13,6 +14,7 @@ pub mod LaidParts
 pub mod LinkLaws
 pub mod Looked
 pub mod Looks
+pub mod Needs
 pub mod NewStore
 pub mod NumberLaws
 pub mod Outcome
@@ -25,6 +27,7 @@ pub mod Renewed
 pub mod RootPages
 pub mod Taking
 pub mod Times
+pub mod Totals
 pub mod Unique
 pub mod Whole
 pub mod WrittenLaws

@@ -7,9 +7,11 @@ use Rattle.outside.specs.declared.disk.Disk.{Ghosts}
 use Rattle.page_journal.specs.Journal.{home_count, view_of}
 use Rattle.page_journal.specs.declared.journal.Journal.{Journal}
 use Rattle.page_journal.specs.Crash.{IsAtRest}
+use Rattle.page_journal.specs.declared.fault.StoreFault.{StoreFault}
 use Rattle.chain_store.specs.Chains.{IsOpenStore}
 use Rattle.chain_store.specs.Directories.{root_in}
 use Rattle.chain_store.specs.Known.{Lists, changed}
+use Rattle.chain_store.specs.Needed.{FitsNeeded, needed}
 use Rattle.chain_store.specs.Plan.{IsPlan}
 use Rattle.chain_store.specs.Parts.{head_or}
 use Rattle.chain_store.specs.State.{HasState, IsState}
@@ -53,6 +55,15 @@ module _ (root old new : Root) (strings : ℕ → List ℕ) (written taken : Lis
   moment_taken before mid after goes =
       subst (λ (r : Root). Goes (λ left. HasState root strings left ⊎ HasState r (changed strings written) left) before after) same_root
       (subst (λ (l : Lists). Goes (λ left. HasState root strings left ⊎ HasState old (changed strings l) left) before after) same_written goes)
+
+-- what is needed then
+pub needs_taken : (old new : Root) (strings : ℕ → List ℕ) (written taken : Lists) (before home limit now : ℕ) (result : Result (Unit {0}) StoreFault)
+    → old ≡ new → taken ≡ written → before ≡ home → FitsNeeded (needed before old.buckets (changed strings taken)) limit now result
+    → FitsNeeded (needed home new.buckets (changed strings written)) limit now result
+needs_taken old new strings written taken before home limit now result same_root same_written same_home fits =
+    subst (λ (n : ℕ). FitsNeeded (needed n new.buckets (changed strings written)) limit now result) same_home
+    (subst (λ (r : Root). FitsNeeded (needed before r.buckets (changed strings written)) limit now result) same_root
+    (subst (λ (l : Lists). FitsNeeded (needed before old.buckets (changed strings l)) limit now result) same_written fits))
 
 -- an open store with the pages that were committed
 pub opened_new : {D : Type 0} {g : Ghosts D} (pages : List (List ℕ)) (journal : Journal D g) (kept : Kept) (read before : Lists) → IsAtRest pages (view_of journal)

@@ -112,3 +112,17 @@ pub length-few : (xs : List ℕ) (low high : ℕ) → ((p : ℕ) → times p xs 
     → length xs ≤ high - low
 length-few xs low high few within =
     omega (arith, sum_below-length xs high (λ p some. (within p some).1), sum_below-few xs low high few (λ p some. (within p some).0))
+
+sum_below-many : (xs : List ℕ) (low high : ℕ) → ((p : ℕ) → low ≤ p → p < high → 1 ≤ times p xs) → high - low ≤ sum_below xs high
+sum_below-many xs low zero many = omega arith
+sum_below-many xs low (suc high) many =
+    let before = sum_below-many xs low high (λ p above below. many p above (omega (arith, below))) in
+    elim (cases_lt high low) [
+      | inl under ↦ omega (arith, under)
+      | inr over ↦ omega (arith, before, many high (omega (arith, over)) (omega arith))
+    ]
+
+-- numbers from here to before there, each at least once, are no fewer than these are
+pub length-many : (xs : List ℕ) (low high : ℕ) → ((p : ℕ) → low ≤ p → p < high → 1 ≤ times p xs) → ((p : ℕ) → 1 ≤ times p xs → p < high)
+    → high - low ≤ length xs
+length-many xs low high many within = omega (arith, sum_below-length xs high within, sum_below-many xs low high many)

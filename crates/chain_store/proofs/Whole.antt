@@ -1,16 +1,18 @@
 -- What a commit makes of a sound store is a sound store.
-use Rattle.std.proofs.Common.{◌≡◌, ◌≢◌, inl, inr, ℕ, ◌+◌, ◌<◌, ◌≤◌, List, ◌++◌, refl, sym, ap, subst, ◌∙◌, arith}
+use Rattle.std.proofs.Common.{◌≡◌, ◌≢◌, inl, inr, ℕ, ◌+◌, ◌<◌, ◌≤◌, List, ◌++◌, length, refl, sym, ap, subst, ◌∙◌, arith}
 use Rattle.std.proofs.lemmas.Bool.{cases_lt}
 use Rattle.chain_store.specs.Chain.{HasPages, Holds, IsGood, Path, data_in}
 use Rattle.chain_store.specs.Directories.{IsChain}
-use Rattle.chain_store.specs.Parts.{IsNoPart, IsPart, head_or, times, times_new, times_old, up_from}
+use Rattle.chain_store.specs.Parts.{IsNoPart, IsPart, head_or, pages_for, times, times_new, times_old, up_from}
 use Rattle.chain_store.specs.Planned.{Covered, Planned}
 use Rattle.chain_store.specs.State.{IsIn, IsOwner, IsSound}
 use Rattle.chain_store.specs.declared.layout.TheConstants.{FREE}
 use Rattle.chain_store.specs.declared.parts.Laid.{Laid}
+use Rattle.chain_store.proofs.Counts.{AreCounted}
 use Rattle.chain_store.proofs.LaidParts.{Known, freed_path, new_part, old_once, old_owner, part_known, part_or, path_behind, written_data, written_path}
 use Rattle.chain_store.proofs.Times.{length-few, place_of, times-append, times-fresh, times-up_from, times_at}
-use Rattle.chain_store.proofs.Unique.{data_same, pages_one, path_good, path_once, path_same}
+use Rattle.chain_store.proofs.Unique.{bytes_one, data_same, pages_one, path_good, path_once, path_same}
+use Rattle.chain_store.proofs.WrittenLaws.{was_written, written_long}
 
 module _ (page : ℕ → List ℕ) (home more : ℕ) (first : ℕ → ℕ) (parts : List Laid) (used left kept : List ℕ)
     (covered : Covered page home more first parts used left kept) where
@@ -201,3 +203,20 @@ module _ (page new : ℕ → List ℕ) (home more : ℕ) (first next : ℕ → �
       | inr behind ↦ in_dealt p (omega (arith, times-fresh p home more (omega (arith, behind)) to))
     ];
   }
+
+  -- each chain has as many pages as its bytes need, where those of the store were whole
+  pub new_counted : ((p : ℕ) → 2 ≤ p → p < home → length (page p) ≡ 4096) → AreCounted new (home + more) next
+  new_counted long n bytes chain holds =
+      let own : n ≢ FREE = λ same. absurd (omega (arith, same, chain)) in
+      elim (part_or n parts) [
+        | inl none ↦
+            let old = plan.covered.sound.chains n (inr chain) in
+            let was = was_written page home n own long (first n) old.0 (data_in page old.0) old.1.path refl in
+            let there = other_holds n (data_in page old.0) chain none (record { ns = old.0; has = old.1; held = refl }) in
+            let same : data_in page old.0 ≡ bytes = bytes_one new (home + more) n (next n) (data_in page old.0) bytes there holds in
+            (old.0, other_pages n old.0 chain none old.1, written_long page n 0 old.0 (data_in page old.0) was ∙ ap (λ (l : List ℕ). pages_for (length l)) same)
+        | inr some ↦
+            let part = known n some.0 some.1 some.2 in
+            let same : some.1 ≡ bytes = bytes_one new (home + more) n (next n) some.1 bytes (part_holds n some.0 some.1 some.2) holds in
+            (some.0, part_pages n some.0 some.1 some.2, written_long new n 0 some.0 some.1 part.written ∙ ap (λ (l : List ℕ). pages_for (length l)) same)
+      ]

@@ -95,6 +95,12 @@ module _ (page : ℕ → List ℕ) (home chain : ℕ) (own : chain ≢ FREE) (lo
             (was_written (next_of (page n)) (m ∷ ns) rest path.2 refl),
       )
 
+-- a chain has as many pages as its bytes need
+pub written_long : (page : ℕ → List ℕ) (chain tail : ℕ) (ns bytes : List ℕ) → AreWritten page chain tail ns bytes → length ns ≡ pages_for (length bytes)
+written_long page chain tail [] bytes is = omega (arith, ap (λ (l : List ℕ). length l) is)
+written_long page chain tail (n ∷ ns) bytes is =
+    omega (arith, written_long page chain tail ns (later_held bytes) is.5, later_long bytes, is.0)
+
 -- what is known of the old bytes of a chain
 abbrev pub WasWritten : (ℕ → List ℕ) → ℕ → List ℕ → List ℕ → Type 0
 WasWritten page chain old before = (before ≡ []) ⊎ AreWritten page chain 0 old before

@@ -16,3 +16,4 @@ pub mod Firsts
 pub mod Chains
 pub mod Ends
 pub mod Reads
+pub mod Needed

@@ -9,6 +9,7 @@ ghost use Rattle.chain_store.specs.Answers.{Looked};
 ghost use Rattle.chain_store.specs.Directories.{root_in};
 ghost use Rattle.chain_store.specs.Ends.{Ends, IsCommitAnswer, ReadsFree};
 ghost use Rattle.chain_store.specs.Known.{changed};
+ghost use Rattle.chain_store.specs.Needed.{FitsNeeded, needed};
 ghost use Rattle.chain_store.specs.State.{HasState, IsState};
 ghost use Rattle.chain_store.specs.declared.root.Root.{Root};
 
@@ -48,6 +49,9 @@ impl<'d, D: Disk> Chains<'d, D> {
             → (new : List (List ℕ)) × IsOpen new self.new × IsState (root_of self.old) (changed strings (written_of self.old)) new) }
         ensures answers { (pages : List (List ℕ)) → IsOpen pages self.old
             → Ends pages (kept_of self.old) (root_of self.old) (written_of self.old) (read_of self.old) (before_of self.old)
+            (page_limit (journal_of self.old)) (home_count (journal_of self.new)) result }
+        ensures needs { (root : Root) (strings : ℕ → List ℕ) (pages : List (List ℕ)) → IsOpen pages self.old → IsState root strings pages
+            → FitsNeeded (needed (home_count (journal_of self.old)) (root_of self.old).buckets (changed strings (written_of self.old)))
             (page_limit (journal_of self.old)) (home_count (journal_of self.new)) result }
         ensures alone { IsCommitAnswer (is_broken (journal_of self.old)) (page_limit (journal_of self.old)) result }
         ensures open { IsErr result → answers_disk_fault result ≡ false → (pages : List (List ℕ)) → IsOpen pages self.old → IsOpen pages self.new }
@@ -110,6 +114,10 @@ impl<'d, D: Disk> Chains<'d, D> {
             → (new : List (List ℕ)) × IsOpen new self.new × IsState taken.root (changed strings taken.written) new) }
         ensures answers { (pages : List (List ℕ)) → IsOpenStore pages (journal_of self.old) (kept_of self.old) taken.read taken.before
             → Ends pages (kept_of self.old) taken.root taken.written taken.read taken.before
+            (page_limit (journal_of self.old)) (home_count (journal_of self.new)) result }
+        ensures needs { (root : Root) (strings : ℕ → List ℕ) (pages : List (List ℕ))
+            → IsOpenStore pages (journal_of self.old) (kept_of self.old) taken.read taken.before → IsState root strings pages
+            → FitsNeeded (needed (home_count (journal_of self.old)) taken.root.buckets (changed strings taken.written))
             (page_limit (journal_of self.old)) (home_count (journal_of self.new)) result }
         ensures alone { IsCommitAnswer (is_broken (journal_of self.old)) (page_limit (journal_of self.old)) result }
         ensures open { IsErr result → answers_disk_fault result ≡ false → (pages : List (List ℕ)) → IsOpen pages self.old → IsOpen pages self.new }

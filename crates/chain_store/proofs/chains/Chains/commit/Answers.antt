@@ -1,15 +1,16 @@
-use Rattle.std.proofs.Common.{◌⊎◌, ℕ, List, subst}
+use Rattle.std.proofs.Common.{◌⊎◌, ℕ, List, ap, subst}
 use Rattle.std.specs.Result.{OnOk}
 use Rattle.outside.specs.Disk.{Goes}
-use Rattle.page_journal.specs.Journal.{view_of}
+use Rattle.page_journal.specs.Journal.{home_count, page_limit, view_of}
 use Rattle.chain_store.specs.Answers.{Looked}
 use Rattle.chain_store.specs.Ends.{ReadsFree}
 use Rattle.chain_store.specs.Known.{changed}
 use Rattle.chain_store.specs.Chains.{IsOpenStore}
+use Rattle.chain_store.specs.Needed.{FitsNeeded, needed}
 use Rattle.chain_store.specs.State.{HasState, IsState}
 use Rattle.chain_store.specs.declared.kept.Kept.{Kept}
 use Rattle.chain_store.specs.declared.root.Root.{Root}
-use Rattle.chain_store.proofs.Taking.{moment_taken, on_ok, opened_anew, opened_taken, state_taken}
+use Rattle.chain_store.proofs.Taking.{moment_taken, needs_taken, on_ok, opened_anew, opened_taken, state_taken}
 use Rattle.chain_store.proofs.chains.Chains.commit.Goals as goal
 
 pub returns-clause-any_moment : goal.returns-clause-any_moment
@@ -63,3 +64,17 @@ returns-clause-reads g c =
     let after = c.write-outcome.new.self.journal in
     subst (λ j. OnOk c.write-outcome.result (ReadsFree j self.kept after)) t.journal
     (subst (λ (k : Kept). OnOk c.write-outcome.result (ReadsFree mid.journal k after)) t.kept c.write-outcome.ensures.reads)
+
+pub returns-clause-needs : goal.returns-clause-needs
+returns-clause-needs g c = λ root strings pages opened state.
+    let self = c.args.self.now in
+    let t = c.take-taken.ensures in
+    let taken = c.take-taken.result in
+    let mid = c.take-taken.new.self in
+    let after = c.write-outcome.new.self in
+    let fits = subst (λ (n : ℕ). FitsNeeded (needed (home_count mid.journal) taken.root.buckets (changed strings taken.written)) n (home_count after.journal) c.write-outcome.result)
+    (ap (λ j. page_limit j) t.journal)
+    (c.write-outcome.ensures.needs root strings pages
+    (opened_taken pages self.journal mid.journal self.kept mid.kept self.read self.before taken.read taken.before t.journal t.kept t.was_read t.was_before opened) state) in
+    needs_taken taken.root self.root strings self.written taken.written (home_count mid.journal) (home_count self.journal) (page_limit self.journal)
+    (home_count after.journal) c.write-outcome.result t.was_root t.was_written (ap (λ j. home_count j) t.journal) fits

@@ -1,19 +1,21 @@
-use Rattle.std.proofs.Common.{◌≡◌, ◌+◌, ◌*◌, ℕ, List, length, refl, sym, ap, subst, ◌∙◌}
-use Rattle.page_journal.specs.Journal.{home_count, view_of}
+use Rattle.std.proofs.Common.{◌≡◌, ◌+◌, ◌*◌, ◌≤◌, ℕ, List, length, refl, sym, ap, subst, ◌∙◌, arith}
+use Rattle.page_journal.specs.Journal.{home_count, is_broken, page_limit, view_of}
 use Rattle.page_journal.specs.PageSet.{CanCommit, overwritten}
 use Rattle.page_journal.proofs.ReadCounts.{reads_quiet}
 use Rattle.chain_store.specs.Chain.{AreBehindRoot, HasPages}
 use Rattle.chain_store.specs.Kept.{AreAllBehindRoot}
 use Rattle.chain_store.specs.Known.{AreKnown, changed}
 use Rattle.chain_store.specs.Links.{page_in}
+use Rattle.chain_store.specs.Needed.{needed}
 use Rattle.chain_store.specs.Plan.{IsPlan}
 use Rattle.chain_store.specs.State.{IsState}
 use Rattle.chain_store.specs.Store.{Keeps, kept_first}
 use Rattle.chain_store.specs.declared.layout.TheConstants.{FREE}
 use Rattle.chain_store.specs.declared.root.Root.{Root}
-use Rattle.chain_store.proofs.Carried.{renewed_keeps, renewed_long, renewed_state}
+use Rattle.chain_store.proofs.Carried.{renewed_keeps, renewed_long, renewed_needed, renewed_state}
 use Rattle.chain_store.proofs.Commits.{behind_of, can_of, ran}
 use Rattle.chain_store.proofs.Looks.{looked_untouched, rests_looked}
+use Rattle.chain_store.proofs.Needs.{fits_refused}
 use Rattle.chain_store.proofs.NewStore.{pages_long}
 use Rattle.chain_store.proofs.Puts.{held_none, known_none, stored_none}
 use Rattle.chain_store.proofs.Taking.{opened_new, plan_root}
@@ -143,3 +145,45 @@ returns-clause-reads g c =
       reads_quiet (length c.in-Ok.free.pages.items) (4096 * home_count self.journal) (view_of self.journal).reads (view_of c.walk.new.journal).reads
           (view_of c.commit.new.self).reads c.in-Ok.ensures.reads c.in_default.ensures.reads,
     )
+
+pub returns-clause-needs : goal.returns-clause-needs
+returns-clause-needs g c = λ root strings pages opened state.
+    let self = c.args.self.now in
+    let taken = c.args.taken in
+    let plan = c.in_ok-plan.plan in
+    let settled = opened.rests.0.1 in
+    let is_home : c.pages-home.result ≡ length pages + 1 = c.pages-home.ensures.pages ∙ sym opened.rests.1 in
+    let is : IsPlan self.kept taken.root c.in_ok-parts.parts.items c.in-Ok.free.pages.items (length pages + 1) plan =
+    subst (λ (n : ℕ). IsPlan self.kept taken.root c.in_ok-parts.parts.items c.in-Ok.free.pages.items n plan) is_home (subst (λ (l : List ℕ). IsPlan c.args.self.now.kept c.args.taken.root c.in_ok-parts.parts.items l c.pages-home.result c.in_ok-plan.plan) c.deref.ensures.value c.in_ok-plan.ensures) in
+    let free : HasPages (page_in pages) (length pages + 1) FREE (kept_first self.kept FREE) c.in-Ok.free.pages.items =
+    subst (λ (n : ℕ). HasPages (page_in pages) (length pages + 1) FREE n c.in-Ok.free.pages.items) c.first.ensures.first (c.in-Ok.ensures.answers pages opened.rests).0 in
+    let may = c.requires.may in
+    let enough : plan.home ≡ needed (home_count self.journal) taken.root.buckets (changed strings taken.written) =
+    subst (λ (n : ℕ). plan.home ≡ needed n taken.root.buckets (changed strings taken.written)) opened.rests.1
+    (renewed_needed pages self.kept taken.root taken.written taken.read taken.before c.in_ok-parts.parts.items c.in-Ok.free.pages.items plan
+    root strings state opened.keeps opened.known opened.had (pages_long pages opened.rests.0.0 (view_of self.journal) settled)
+    may.stored may.gone may.few may.count c.in_ok-parts.ensures free is) in (
+      c.in_default.ensures.pages ∙ enough,
+      subst (λ (n : ℕ). n ≤ page_limit self.journal) enough (omega (arith, c.in_default.ensures.answers.1, c.walk.ensures.looked.limit)),
+    )
+
+pub returns-in-Err-commit-clause-needs : goal.returns-in-Err-commit-clause-needs
+returns-in-Err-commit-clause-needs g c = λ root strings pages opened state.
+    let self = c.args.self.now in
+    let taken = c.args.taken in
+    let plan = c.in_ok-plan.plan in
+    let settled = opened.rests.0.1 in
+    let is_home : c.pages-home.result ≡ length pages + 1 = c.pages-home.ensures.pages ∙ sym opened.rests.1 in
+    let is : IsPlan self.kept taken.root c.in_ok-parts.parts.items c.in-Ok.free.pages.items (length pages + 1) plan =
+    subst (λ (n : ℕ). IsPlan self.kept taken.root c.in_ok-parts.parts.items c.in-Ok.free.pages.items n plan) is_home (subst (λ (l : List ℕ). IsPlan c.args.self.now.kept c.args.taken.root c.in_ok-parts.parts.items l c.pages-home.result c.in_ok-plan.plan) c.deref.ensures.value c.in_ok-plan.ensures) in
+    let free : HasPages (page_in pages) (length pages + 1) FREE (kept_first self.kept FREE) c.in-Ok.free.pages.items =
+    subst (λ (n : ℕ). HasPages (page_in pages) (length pages + 1) FREE n c.in-Ok.free.pages.items) c.first.ensures.first (c.in-Ok.ensures.answers pages opened.rests).0 in
+    let may = c.requires.may in
+    let enough : plan.home ≡ needed (home_count self.journal) taken.root.buckets (changed strings taken.written) =
+    subst (λ (n : ℕ). plan.home ≡ needed n taken.root.buckets (changed strings taken.written)) opened.rests.1
+    (renewed_needed pages self.kept taken.root taken.written taken.read taken.before c.in_ok-parts.parts.items c.in-Ok.free.pages.items plan
+    root strings state opened.keeps opened.known opened.had (pages_long pages opened.rests.0.0 (view_of self.journal) settled)
+    may.stored may.gone may.few may.count c.in_ok-parts.ensures free is) in
+    fits_refused c.in-Err-commit.fault (is_broken c.walk.new.journal) (page_limit c.walk.new.journal) (page_limit self.journal) plan.home
+    (home_count c.commit.new.self) (needed (home_count self.journal) taken.root.buckets (changed strings taken.written))
+    c.in-Err-commit.ensures.answers c.walk.ensures.looked.limit enough
