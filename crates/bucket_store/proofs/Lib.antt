@@ -9,6 +9,7 @@ pub mod Holding
 pub mod Images
 pub mod KeyReads
 pub mod Meanings
+pub mod Needs
 pub mod Numbered
 pub mod Once
 pub mod Reopened

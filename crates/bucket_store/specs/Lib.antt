@@ -6,3 +6,4 @@ pub mod Image
 pub mod Typed
 pub mod Opening
 pub mod Reads
+pub mod Needed

@@ -14,12 +14,14 @@
 mod buckets;
 mod cache;
 mod committing;
+mod laws;
 mod opened;
 mod opening;
 mod reading;
 mod typed;
 
 pub use buckets::Buckets;
+pub use laws::one_number_is_needed;
 pub use opened::Opened;
 pub use opening::open;
 pub use typed::refuse_value;

@@ -24,6 +24,7 @@ use page_journal::StoreFault;
 
 impl<'d, D: Disk> Buckets<'d, D> {
     ghost use Rattle.bucket_store.specs.Image.{Has, HasImage, Image, IsSoundCommit, OnlyLooks, RestsAt, with_buckets, with_root, with_text, with_value};
+    ghost use Rattle.bucket_store.specs.Needed.{FitsImage};
     ghost use Rattle.bucket_store.specs.Transaction.{BringsBucket, Content, IsOpenStore, cached_of, chains_of, has_refused};
 
     /// Makes what was changed stand, all of it or nothing, and begins a transaction anew. At every moment a crash
@@ -57,6 +58,8 @@ impl<'d, D: Disk> Buckets<'d, D> {
         ensures images { (rest now : Image) → Has rest now self.old → Goes (λ left. HasImage rest left ⊎ HasImage now left)
             (disk_of (chains_of self.old)).crashes (disk_of (chains_of self.new)).crashes }
         ensures has { OnOk result ((rest now : Image) → Has rest now self.old → Has now now self.new) }
+        ensures needs { (rest now : Image) → Has rest now self.old → FitsImage (home_count (journal_of (chains_of self.old))) now
+            (page_limit (journal_of (chains_of self.old))) (home_count (journal_of (chains_of self.new))) result }
         ensures sound { (rest now : Image) → Has rest now self.old → IsSoundCommit (page_limit (journal_of (chains_of self.old))) result }
     {
         self.refused = true;

@@ -13,6 +13,7 @@ use Rattle.bucket_store.specs.Buckets.{bucket_count}
 use Rattle.bucket_store.specs.Image.{IsSoundCommit}
 use Rattle.bucket_store.proofs.Holding.{has_anew}
 use Rattle.bucket_store.proofs.Meanings.{goes_images, spells_given}
+use Rattle.bucket_store.proofs.Needs.{fits_image, fits_unread}
 use Rattle.bucket_store.proofs.Sound.{sound_ends, sound_writes}
 use Rattle.bucket_store.proofs.Installs.{commits_chains, commits_none, given_is, is_given, moment_given, open_none}
 use Rattle.bucket_store.proofs.buckets.Buckets.commit.Goals as goal
@@ -155,3 +156,33 @@ returns-in-Ok-clause-reads g c =
     let done = c.in_default.ensures in
     free_later (journal_of old) (journal_of mid) (journal_of c.commit.new.self) (kept_of old) (kept_of mid) done.looked done.kept
     (done.reads (c.args.self.now.once c.requires).all).1 c.in-Ok.ensures.reads
+
+pub returns-in-Ok-clause-needs : goal.returns-in-Ok-clause-needs
+returns-in-Ok-clause-needs g c rest now has =
+    let self = c.args.self.now in
+    let old = self.chains in
+    let mid = c.store_changed-stored.new.chains in
+    let done = c.in_default.ensures in
+    fits_image (Ok tt) (home_count (journal_of mid)) (home_count (journal_of old)) (page_limit (journal_of mid)) (page_limit (journal_of old))
+    (home_count (journal_of c.commit.new.self)) (root_of mid) (changed has.strings (written_of mid)) (given has.strings self.cache (written_of old)) now
+    done.looked.pages done.looked.limit (done.root ∙ has.root) (given_is has.strings self.cache (written_of old) (written_of mid) done.written)
+    (spells_given rest now self has done.rise)
+    (c.in-Ok.ensures.needs rest.root has.strings has.pages (done.open has.pages has.opens.open_chains has.opens.origins) has.state)
+
+pub returns-in-Err-commit-clause-needs : goal.returns-in-Err-commit-clause-needs
+returns-in-Err-commit-clause-needs g c rest now has =
+    let self = c.args.self.now in
+    let old = self.chains in
+    let mid = c.store_changed-stored.new.chains in
+    let done = c.in_default.ensures in
+    fits_image (Err c.in-Err-commit.fault) (home_count (journal_of mid)) (home_count (journal_of old)) (page_limit (journal_of mid)) (page_limit (journal_of old))
+    (home_count (journal_of c.commit.new.self)) (root_of mid) (changed has.strings (written_of mid)) (given has.strings self.cache (written_of old)) now
+    done.looked.pages done.looked.limit (done.root ∙ has.root) (given_is has.strings self.cache (written_of old) (written_of mid) done.written)
+    (spells_given rest now self has done.rise)
+    (c.in-Err-commit.ensures.needs rest.root has.strings has.pages (done.open has.pages has.opens.open_chains has.opens.origins) has.state)
+
+pub returns-in-Err-clause-needs : goal.returns-in-Err-clause-needs
+returns-in-Err-clause-needs g c rest now has =
+    let chains = c.args.self.now.chains in
+    fits_unread c.in-Err.fault (is_broken (journal_of chains)) (home_count (journal_of chains)) now (page_limit (journal_of chains))
+    (home_count (journal_of c.store_changed-stored.new.chains)) c.in-Err.ensures.alone
