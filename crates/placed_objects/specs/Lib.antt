@@ -1,0 +1,2 @@
+pub mod NodePlaces
+pub mod Objects
