@@ -1,6 +1,7 @@
 -- Tags that are gathered first and put in order at the end come to what they come to one after the other.
 use Rattle.std.proofs.Common.{◌≡◌, ℕ, true, false, cond, List, [], ◌∷◌, ◌++◌, Option, None, Some, Result, Ok, Err, refl, sym, ◌∙◌, ap, subst, append_assoc, map}
 use Rattle.std.proofs.lemmas.List.{append-nil, map-append}
+use Rattle.std.proofs.lemmas.List.Sorted.{IsPermutation-sym}
 use Rattle.std.proofs.lemmas.Map.Keys.{IsDistinct-push}
 use Rattle.std.specs.Cmp.{eq_by_cmp_equiv}
 use Rattle.std.specs.Cmp.Lexicographic.{slice_cmp, nat_list_cmp_total}
@@ -10,6 +11,8 @@ use Rattle.std.specs.FinMap.Entries.{is_some-find}
 use Rattle.std.specs.List.{AllByRecursion, IsDistinct, list_any}
 use Rattle.std.specs.Option.{is_some}
 use Rattle.std.specs.Ordering.{nat_cmp, eq_by_cmp}
+use Rattle.std.specs.List.Sorted.{IsPermutation}
+use Rattle.osm_base.proofs.TagLists.{once-IsPermutation, from_entries-IsPermutation}
 use Rattle.osm_base.specs.values.Tags.{TagMap, TagPairs, HasEachKeyOnce}
 use Rattle.opl_object.specs.declared.ascii.TheConstants.{EQUALS}
 use Rattle.opl_object.specs.declared.why.Why.{Why}
@@ -211,3 +214,19 @@ module _ (pairs : TagPairs) (fault : Option Why) (all : Result TagMap Why) (read
 
   pub whole_at_end : HasEachKeyOnce pairs → fault ≡ None → all ≡ Ok (finite.from_entries pairs)
   whole_at_end once e = read ∙ ap (λ tags. tags >>= stopped_by fault) (with_tags-distinct pairs once) ∙ ap (λ own. stopped_by own (finite.from_entries pairs)) e
+
+-- ---- in another order
+
+pub with_tags-permuted : (pairs others : TagPairs) → IsPermutation pairs others → with_tags finite.empty pairs ≡ with_tags finite.empty others
+unfolding IsDistinct
+with_tags-permuted pairs others p =
+    elim (with_tags finite.empty pairs) as (λ read. with_tags finite.empty pairs ≡ read → read ≡ with_tags finite.empty others) [
+      | Ok last ↦ λ e.
+          let once : HasEachKeyOnce pairs = once_of [] pairs last tt e in
+          let once_too : HasEachKeyOnce others = once-IsPermutation pairs others p once in
+          sym e ∙ with_tags-distinct pairs once ∙ ap Ok (sym (from_entries-IsPermutation pairs others p once once_too)) ∙ sym (with_tags-distinct others once_too)
+      | Err why ↦ λ e.
+          ap Err (one_answer finite.empty pairs why e)
+          ∙ sym (with_tags-repeated others (λ once_too.
+          let whole = with_tags-distinct pairs (once-IsPermutation others pairs (IsPermutation-sym pairs others p) once_too) in absurd (cc)))
+    ] refl

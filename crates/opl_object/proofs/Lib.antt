@@ -11,6 +11,7 @@ pub mod Fronts
 pub mod GatheredTags
 pub mod Letters
 mod Manual
+pub mod MixedTags
 pub mod OneMeaning
 pub mod Passes
 pub mod Pieces

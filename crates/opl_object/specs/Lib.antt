@@ -8,6 +8,7 @@ pub mod Line
 pub mod Lists
 pub mod Meaning
 pub mod Members
+pub mod Mixed
 pub mod Nodes
 pub mod Number
 pub mod Parts

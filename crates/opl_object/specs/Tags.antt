@@ -33,6 +33,14 @@ abbrev pub tag_in : List ℕ × Option (List ℕ) → Result (List ℕ × List �
 tag_in (key, None) = Err Tag
 tag_in (key, Some value) = text_of key >>= λ key. text_of value >>= λ value. Ok (key, value)
 
+-- the tag of a piece that is one
+abbrev pub tag_or_none : Result (List ℕ × List ℕ) Why → List ℕ × List ℕ
+tag_or_none (Ok tag) = tag
+tag_or_none (Err why) = ([], [])
+
+unfoldable pub tag_of : List ℕ → List ℕ × List ℕ
+tag_of piece = tag_or_none (tag_in (cut_at (is EQUALS) piece))
+
 -- tags in the order of their coming, and that of a piece behind them
 unfoldable pub listed : TagPairs → List ℕ → Result TagPairs Why
 listed pairs piece = tag_in (cut_at (is EQUALS) piece) >>= λ tag. Ok (pairs ++ tag ∷ [])

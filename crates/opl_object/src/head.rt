@@ -14,10 +14,13 @@ use crate::letter::{Letter, Seen};
 use crate::usual::{number_end, plain_end, there_end, time_end};
 
 /// The letters that stood in front of a text, and the text behind their fields.
-pub(crate) fn begun(text: &str) -> (Seen, &str)
+pub(crate) fn begun(usual: bool, text: &str) -> (Seen, &str)
     ensures same { (kind : Kind) → said_behind kind (stands result.0, nothing) result.1.now
         ≡ said_behind kind (none_stood, nothing) text.now }
 {
+    if !usual {
+        return (Seen::new(), text);
+    }
     match behind_head(text) {
         Some(rest) => (head_seen(), rest),
         None => (Seen::new(), text),

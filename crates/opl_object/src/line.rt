@@ -42,7 +42,17 @@ pub fn read_line(alloc: Global, line: &[u8]) -> Result<Option<Entry>, LineRefuse
     if is_skipped(line) {
         return Ok(None);
     }
-    read_counted(alloc, line)
+    read_counted(alloc, true, line)
+}
+
+/// The same, each value cut off and read by itself: what `read_line` is compared with.
+pub fn read_line_exactly(alloc: Global, line: &[u8]) -> Result<Option<Entry>, LineRefused>
+    ensures exact { Gives (λ entry. entry) result (reading line.now) }
+{
+    if is_skipped(line) {
+        return Ok(None);
+    }
+    read_counted(alloc, false, line)
 }
 
 /// Each line is skipped, or has one fault, or spells one entry.
@@ -50,15 +60,15 @@ pub fn one_meaning()
     ensures one { (line : List ℕ) → HasOneMeaning line }
 {}
 
-/// The entry of a line that is not skipped.
+/// The entry of a line that is not skipped, with `usual` values read in the pass that finds where they end.
 #[tactic(auto, unfolding(crate::specs::Line::reading))]
-fn read_counted(alloc: Global, line: &[u8]) -> Result<Option<Entry>, LineRefused>
+fn read_counted(alloc: Global, usual: bool, line: &[u8]) -> Result<Option<Entry>, LineRefused>
     requires { IsFalse (is_skipped line.now) }
     ensures exact { Gives (λ entry. entry) result (reading line.now) }
     ensures some { IfOk result IsSome }
 {
     let text = utf8_of(line)?;
-    Ok(Some(read_entry(alloc, text)?))
+    Ok(Some(read_entry(alloc, usual, text)?))
 }
 
 /// The line as a text.
@@ -83,14 +93,14 @@ fn is_skipped(line: &[u8]) -> bool
 
 /// The entry of the fields of a line.
 #[tactic(auto, unfolding(crate::specs::Line::entry_from))]
-fn read_entry(alloc: Global, text: &str) -> Result<Entry, LineRefused>
+fn read_entry(alloc: Global, usual: bool, text: &str) -> Result<Entry, LineRefused>
     ensures entry { Gives (λ entry. entry) result (entry_from (fields_of text.now)) }
 {
     let Some((first, rest)) = next_field(text) else {
         return Err(LineRefused::Bad(Why::Kind));
     };
     let key = key_of(first)?;
-    let parts = read_fields(alloc, key.kind, rest)?;
+    let parts = read_fields(alloc, usual, key.kind, rest)?;
     Ok(entry_of(key, parts)?)
 }
 

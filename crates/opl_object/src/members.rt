@@ -16,17 +16,17 @@ use std::alloc::Global;
 
 /// The members of a value.
 #[tactic(auto, unfolding(crate::specs::Members::members_of))]
-pub(crate) fn members_of(alloc: Global, text: &str) -> Result<Members, LineRefused>
+pub(crate) fn members_of(alloc: Global, usual: bool, text: &str) -> Result<Members, LineRefused>
     ensures members { Gives (λ members. members) result (members_of text.now) }
 {
     if text.is_empty() {
         return Ok(Members::new(alloc));
     }
-    Ok(Members::from_vec(members_between(alloc, text)?))
+    Ok(Members::from_vec(members_between(alloc, usual, text)?))
 }
 
 /// The members of the pieces between commas.
-fn members_between(alloc: Global, text: &str) -> Result<Vec<Member>, LineRefused>
+fn members_between(alloc: Global, usual: bool, text: &str) -> Result<Vec<Member>, LineRefused>
     ensures members { Gives (λ members. members.items) result
         (each_piece with_member [] (slice_split (is COMMA) text.now)) }
 {
@@ -34,7 +34,7 @@ fn members_between(alloc: Global, text: &str) -> Result<Vec<Member>, LineRefused
     let mut left = Some(text);
     while let Some(text) = left {
         let (piece, later) = cut(text, COMMA);
-        members.push(member_of(alloc, piece)?)?;
+        members.push(member_of(alloc, usual, piece)?)?;
         left = later;
     }
     Ok(members)
@@ -42,13 +42,13 @@ fn members_between(alloc: Global, text: &str) -> Result<Vec<Member>, LineRefused
 
 /// The member that a piece is.
 #[tactic(auto, unfolding(crate::specs::Members::member_of))]
-fn member_of(alloc: Global, piece: &str) -> Result<Member, LineRefused>
+fn member_of(alloc: Global, usual: bool, piece: &str) -> Result<Member, LineRefused>
     ensures member { Gives (λ member. member) result (member_of piece.now) }
 {
     let Some((kind, rest)) = kind_at(piece) else {
         return Err(LineRefused::Bad(Why::Member));
     };
-    let (id, rest) = numbered(rest)?;
+    let (id, rest) = numbered(usual, rest)?;
     with_role(alloc, Key::new(kind, id), rest)
 }
 

@@ -22,24 +22,24 @@ pub(crate) const FURTHEST_NORTH: u32 = MAX_LAT as u32;
 
 /// The node ids of a value.
 #[tactic(auto, unfolding(crate::specs::Nodes::nodes_of))]
-pub(crate) fn nodes_of(alloc: Global, text: &str) -> Result<Ids, LineRefused>
+pub(crate) fn nodes_of(alloc: Global, usual: bool, text: &str) -> Result<Ids, LineRefused>
     ensures nodes { Gives (λ nodes. nodes) result (nodes_of text.now) }
 {
     if text.is_empty() {
         return Ok(Ids::new(alloc));
     }
-    Ok(Ids::from_vec(nodes_between(alloc, text)?))
+    Ok(Ids::from_vec(nodes_between(alloc, usual, text)?))
 }
 
 /// The node ids of the pieces between commas.
-fn nodes_between(alloc: Global, text: &str) -> Result<Vec<u64>, LineRefused>
+fn nodes_between(alloc: Global, usual: bool, text: &str) -> Result<Vec<u64>, LineRefused>
     ensures nodes { Gives (λ nodes. nodes.items) result (each_piece with_node [] (slice_split (is COMMA) text.now)) }
 {
     let mut nodes = Vec::with_capacity(alloc, pieces(text))?;
     let mut left = Some(text);
     while let Some(text) = left {
         let (piece, later) = cut(text, COMMA);
-        nodes.push(node_of(piece)?)?;
+        nodes.push(node_of(usual, piece)?)?;
         left = later;
     }
     Ok(nodes)
@@ -47,22 +47,25 @@ fn nodes_between(alloc: Global, text: &str) -> Result<Vec<u64>, LineRefused>
 
 /// The id of a node reference.
 #[tactic(auto, unfolding(crate::specs::Nodes::node_of))]
-fn node_of(piece: &str) -> Result<u64, Why>
+fn node_of(usual: bool, piece: &str) -> Result<u64, Why>
     ensures node { result ≡ node_of piece.now }
 {
     let Some(rest) = behind(piece, SMALL_N) else {
         return Err(Why::Member);
     };
-    let (id, place) = numbered(rest)?;
+    let (id, place) = numbered(usual, rest)?;
     placed(place)?;
     Ok(id)
 }
 
 /// The digits in front as an id, and what stands after them.
-pub(crate) fn numbered(text: &str) -> Result<(u64, &str), Why>
+pub(crate) fn numbered(usual: bool, text: &str) -> Result<(u64, &str), Why>
     ensures parts { Tells (λ (id, rest). (id, rest.now)) result (numbered text.now) }
     ensures id { IfOk result (λ (id, _). IsId id) }
 {
+    if !usual {
+        return exactly_numbered(text);
+    }
     match usual_id(text.as_bytes()) {
         Some((id, len)) => {
             let (_, rest) = text.split_at(len);

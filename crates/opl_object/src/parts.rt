@@ -52,7 +52,13 @@ impl Parts {
 
     /// Adds the value of a letter.
     #[tactic(auto, unfolding(crate::specs::Parts::with_value, crate::specs::Text::text_of, crate::specs::Text::checked_text))]
-    fn add(&mut self, alloc: Global, letter: Letter, value: &str) -> Result<(), LineRefused>
+    fn add(
+        &mut self,
+        alloc: Global,
+        usual: bool,
+        letter: Letter,
+        value: &str,
+    ) -> Result<(), LineRefused>
         ensures parts { Gives (λ _. self.new) result (with_value letter value.now self.old) }
         ensures earth { OnOk result (AreOnEarth self.old → AreOnEarth self.new) }
     {
@@ -78,11 +84,11 @@ impl Parts {
             Letter::Lon => Ok(self.add_lon(value)?),
             Letter::Lat => Ok(self.add_lat(value)?),
             Letter::Nodes => {
-                self.nodes = nodes_of(alloc, value)?;
+                self.nodes = nodes_of(alloc, usual, value)?;
                 Ok(())
             }
             Letter::Members => {
-                self.members = members_of(alloc, value)?;
+                self.members = members_of(alloc, usual, value)?;
                 Ok(())
             }
         }
@@ -90,12 +96,15 @@ impl Parts {
 
     /// Adds the value of a letter where the text begins with one in its usual form, and tells where it ends.
     #[tactic(auto, unfolding(crate::specs::Parts::with_value, crate::specs::Text::text_of))]
-    fn add_usual(&mut self, letter: Letter, text: &[u8]) -> Option<usize>
+    fn add_usual(&mut self, usual: bool, letter: Letter, text: &[u8]) -> Option<usize>
         ensures end { IfSome result (λ end. end ≡ position_or_len is_blank text.now) }
         ensures parts { IfSome result (λ end. with_value letter (take end text.now) self.old ≡ Ok self.new) }
         ensures kept { IsNone result → self.new ≡ self.old }
         ensures earth { AreOnEarth self.old → AreOnEarth self.new }
     {
+        if !usual {
+            return None;
+        }
         match letter {
             Letter::Lon => self.add_usual_lon(text),
             Letter::Lat => self.add_usual_lat(text),
@@ -168,14 +177,19 @@ impl Parts {
 }
 
 /// What the fields of a line of this kind say.
-pub(crate) fn read_fields(alloc: Global, kind: Kind, text: &str) -> Result<Parts, LineRefused>
+pub(crate) fn read_fields(
+    alloc: Global,
+    usual: bool,
+    kind: Kind,
+    text: &str,
+) -> Result<Parts, LineRefused>
     ensures parts { Gives (λ parts. parts) result (parts_of kind (fields_of text.now)) }
     ensures earth { IfOk result AreOnEarth }
 {
-    let (mut seen, mut left) = begun(text);
+    let (mut seen, mut left) = begun(usual, text);
     let mut parts = Parts::new(alloc);
     while let Some(field) = field_at(left) {
-        let end = read_field(alloc, kind, &mut seen, &mut parts, field)?;
+        let end = read_field(alloc, usual, kind, &mut seen, &mut parts, field)?;
         let (_, later) = field.split_at(end);
         left = later;
     }
@@ -185,6 +199,7 @@ pub(crate) fn read_fields(alloc: Global, kind: Kind, text: &str) -> Result<Parts
 /// Adds what the field in front of a text says, and tells where it ends.
 fn read_field(
     alloc: Global,
+    usual: bool,
     kind: Kind,
     seen: &mut Seen,
     parts: &mut Parts,
@@ -202,11 +217,11 @@ fn read_field(
     if seen.add(letter) {
         return Err(LineRefused::Bad(Why::Repeated));
     }
-    if let Some(end) = parts.add_usual(letter, value.as_bytes()) {
+    if let Some(end) = parts.add_usual(usual, letter, value.as_bytes()) {
         return Ok(end + 1);
     }
     let end = blank_place(value.as_bytes());
     let (value, _) = value.split_at(end);
-    parts.add(alloc, letter, value)?;
+    parts.add(alloc, usual, letter, value)?;
     Ok(end + 1)
 }

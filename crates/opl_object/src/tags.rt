@@ -1,17 +1,21 @@
 //! The tags of an object.
-ghost use Rattle.std.specs.Prelude.{◌≡◌, [], OnErr, IfOk};
+ghost use Rattle.std.specs.Prelude.{◌≡◌, [], IfOk};
 ghost use Rattle.std.specs.FinMap as map;
 ghost use Rattle.std.specs.List.{slice_split};
 ghost use Rattle.opl_object.specs.Fields.{is};
-ghost use Rattle.opl_object.specs.Tags.{gathered, listed, with_piece, tags_of};
+ghost use Rattle.opl_object.specs.Tags.{gathered, with_piece, tags_of};
 ghost use Rattle.opl_object.specs.Why.{Gives, each_piece};
 
-use crate::ascii::{COMMA, EQUALS};
+use crate::ascii::COMMA;
 use crate::fields::{cut, pieces};
-use crate::text::text_of;
+use crate::mixed::{add_mixed, are_mixed};
+use crate::tag::add_piece;
 use crate::{LineRefused, Why};
 use osm_base::{OutOfMemory, TagList, Tags};
 use std::alloc::Global;
+
+/// The tags of a longer value are looked through for the order of their keys.
+const LONG: usize = 4096;
 
 /// The tags of a value.
 #[tactic(auto, unfolding(crate::specs::Tags::tags_of))]
@@ -47,6 +51,19 @@ fn add_pieces(alloc: Global, list: &mut TagList, text: &str) -> Result<Option<Wh
     ensures tags { IfOk result (λ fault. each_piece with_piece map.empty (slice_split (is COMMA) text.now)
         ≡ gathered list.new fault) }
 {
+    if LONG < text.len() && are_mixed(text) {
+        add_mixed(alloc, list, text)
+    } else {
+        add_in_turn(alloc, list, text)
+    }
+}
+
+/// The same, one after the other.
+fn add_in_turn(alloc: Global, list: &mut TagList, text: &str) -> Result<Option<Why>, OutOfMemory>
+    requires { list.old ≡ [] }
+    ensures tags { IfOk result (λ fault. each_piece with_piece map.empty (slice_split (is COMMA) text.now)
+        ≡ gathered list.new fault) }
+{
     let mut left = Some(text);
     while let Some(text) = left {
         let (piece, later) = cut(text, COMMA);
@@ -57,20 +74,4 @@ fn add_pieces(alloc: Global, list: &mut TagList, text: &str) -> Result<Option<Wh
         }
     }
     Ok(None)
-}
-
-/// Adds the tag of a piece.
-#[tactic(auto, unfolding(crate::specs::Tags::listed, crate::specs::Text::text_of))]
-fn add_piece(alloc: Global, list: &mut TagList, piece: &str) -> Result<(), LineRefused>
-    ensures tags { Gives (λ _. list.new) result (listed list.old piece.now) }
-    ensures kept { OnErr result (list.new ≡ list.old) }
-{
-    let (key, value) = cut(piece, EQUALS);
-    let Some(value) = value else {
-        return Err(LineRefused::Bad(Why::Tag));
-    };
-    let key = text_of(alloc, key)?;
-    let value = text_of(alloc, value)?;
-    list.push(key.as_str(), value.as_str())?;
-    Ok(())
 }

@@ -7,7 +7,7 @@ use Rattle.opl_object.specs.Fields.{is, later_pieces}
 use Rattle.opl_object.specs.Tags.{with_piece, with_tags}
 use Rattle.opl_object.specs.Why.{◌>>=◌, each_piece}
 use Rattle.opl_object.proofs.GatheredTags.{gathers, stops_there, starts, ends}
-use Rattle.opl_object.proofs.tags.add_pieces.Goals as goal
+use Rattle.opl_object.proofs.tags.add_in_turn.Goals as goal
 
 pub loop-left-preserved : goal.loop-left-preserved
 loop-left-preserved c =
