@@ -16,3 +16,4 @@ pub mod Reopened
 pub mod Sound
 pub mod Texts
 pub mod TypedLaws
+pub mod Wholes

@@ -7,3 +7,4 @@ pub mod Typed
 pub mod Opening
 pub mod Reads
 pub mod Needed
+pub mod Whole

@@ -16,6 +16,7 @@ ghost use Rattle.bucket_store.specs.Buckets.{AreBuckets, AreRead, IsBucketChain,
 ghost use Rattle.bucket_records.specs.Records.{BucketMap};
 
 mod changing;
+mod gathering;
 mod installing;
 mod looking;
 

@@ -19,9 +19,11 @@ mod opened;
 mod opening;
 mod reading;
 mod typed;
+mod whole;
 
 pub use buckets::Buckets;
 pub use laws::one_number_is_needed;
 pub use opened::Opened;
 pub use opening::open;
 pub use typed::refuse_value;
+pub use whole::WholeMap;

@@ -24,6 +24,7 @@ use page_journal::StoreFault;
 impl<'d, D: Disk> Buckets<'d, D> {
     ghost use Rattle.bucket_store.specs.Image.{Has, HasImage, Image, IsBucketOf, IsSoundAnswer, OnlyLooks, RestsAt, with_buckets, with_root, with_text, with_value};
     ghost use Rattle.bucket_store.specs.Transaction.{BringsBucket, Content, IsOpenStore, cached_of, chains_of, has_refused};
+    ghost use Rattle.bucket_store.specs.Whole.{SameContents};
 
     /// Reads the bucket of a key, where the transaction has not done so: then its values can be looked at.
     pub fn bring(&mut self, which: u8, key: u64) -> Result<(), StoreFault>
@@ -205,7 +206,7 @@ impl<'d, D: Disk> Buckets<'d, D> {
     }
 
     // Reads the bucket of a chain, where that was not done yet.
-    fn bring_chain(&mut self, n: u32) -> Result<(), StoreFault>
+    pub(super) fn bring_chain(&mut self, n: u32) -> Result<(), StoreFault>
         requires string { IsString (bucket_count (chains_of self.old)) n }
         requires bucket { IsBucketChain (bucket_count (chains_of self.old)) n }
         requires some { 1 ≤ bucket_count (chains_of self.old) }
@@ -223,6 +224,7 @@ impl<'d, D: Disk> Buckets<'d, D> {
             (read_of (chains_of self.new)) (disk_of (chains_of self.old)) (disk_of (chains_of self.new))) }
         ensures refused { has_refused self.new ≡ is_err result }
         ensures cause { HasDiskCause (disk_of (chains_of self.old)).faults (disk_of (chains_of self.new)).faults result }
+        ensures contents { OnOk result (SameContents self.old self.new) }
         ensures has { OnOk result ((rest now : Image) → Has rest now self.old → Has rest now self.new) }
         ensures same { OnlyLooks self.old self.new }
     {

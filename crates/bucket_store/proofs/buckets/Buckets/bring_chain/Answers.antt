@@ -14,6 +14,7 @@ use Rattle.std.proofs.Common.{◌||◌, Bool, refl, ◌∙◌}
 use Rattle.bucket_store.proofs.Holding.{has_later}
 use Rattle.bucket_store.proofs.Openings.{content_is, none_content, there_own}
 use Rattle.bucket_store.proofs.Origins.{origin_same}
+use Rattle.bucket_store.proofs.Wholes.{bad_more, content_before, same_contents}
 use Rattle.bucket_store.proofs.buckets.Buckets.bring_chain.Goals as goal
 
 pub returns-in-Err-clause-open : goal.returns-in-Err-clause-open
@@ -89,3 +90,21 @@ pub returns-in-Ok-add-clause-reads : goal.returns-in-Ok-add-clause-reads
 returns-in-Ok-add-clause-reads g c =
     let none = none_of c.has.result (map.get c.args.self.now.cache c.args.n) c.has.ensures.1 c.if-has.false in
     c.in-Ok.ensures.reads (unread_chain _ c.args.self.now.cache c.args.n (c.args.self.now.once c.requires.going) c.requires.bucket.0 none)
+
+pub returns-then-has-clause-contents : goal.returns-then-has-clause-contents
+returns-then-has-clause-contents g c = same_contents c.args.self.now
+
+pub returns-in-Ok-add-clause-contents : goal.returns-in-Ok-add-clause-contents
+returns-in-Ok-add-clause-contents g c =
+    let own : Cached = record { bucket = c.in-Ok.bucket; changed = false } in
+    let none = none_of c.has.result (map.get c.args.self.now.cache c.args.n) c.has.ensures.1 c.if-has.false in
+    record {
+      opens = returns-in-Ok-add-clause-open g c;
+      later = returns-in-Ok-add-clause-content g c;
+      before = λ pages was other values has.
+          content_before pages c.args.self.now.chains c.read_bucket.new.chains c.args.self.now.cache c.add.new.self c.args.n own c.in-Ok.ensures.stays
+          c.in-Ok-add.ensures.ok (c.in-Ok.ensures.answers pages was.open_chains).0 none other values has;
+      bad = λ pages k at bad.
+          bad_more pages c.args.self.now.chains c.read_bucket.new.chains c.args.self.now.cache c.add.new.self c.args.n own c.in-Ok.ensures.stays
+          c.in-Ok-add.ensures.ok k at bad;
+    }
