@@ -85,6 +85,12 @@ Brings pages n first known (Ok done) = Unit {0}
 Brings pages n first known (Err (BadStore at)) = (known ≡ None) × IsRefused pages n first at
 Brings pages n first known (Err _) = Unit {0}
 
+-- a call that lists the pages of a chain may give this answer
+abbrev pub ListsPages : List (List ℕ) → ℕ → ℕ → Result (List ℕ) StoreFault → Type 0
+ListsPages pages n first (Ok ns) = HasPages (page_in pages) (length pages + 1) n first ns
+ListsPages pages n first (Err (BadStore at)) = IsRefused pages n first at
+ListsPages pages n first (Err _) = Unit {0}
+
 -- the transaction has an empty string there
 abbrev pub IsEmptyString : {D : Type 0} {g : Ghosts D} → Chains D g → ℕ → Type 0
 IsEmptyString chains n = MatchOption (map.get chains.written n) (kept_first chains.kept n ≡ 0) (λ own. own ≡ [])

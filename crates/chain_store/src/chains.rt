@@ -13,6 +13,7 @@ ghost use Rattle.chain_store.specs.Store.{Keeps, kept_first};
 ghost use Rattle.chain_store.specs.Directories.{root_in};
 
 mod committing;
+mod listing;
 mod loading;
 
 use crate::number_map::NumberMap;

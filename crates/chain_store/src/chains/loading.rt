@@ -175,7 +175,7 @@ impl<'d, D: Disk> Chains<'d, D> {
     }
 
     // Reads a chain of the store, where that was not done yet.
-    fn bring(&mut self, n: u32) -> Result<(), StoreFault>
+    pub(super) fn bring(&mut self, n: u32) -> Result<(), StoreFault>
         requires string { IsChain n }
         ensures answers { (pages : List (List ℕ)) → IsOpen pages self.old
             → Brings pages n (first_of self.old n) (map.get (read_of self.old) n) result }
