@@ -37,7 +37,7 @@ impl<'d, D: Disk> Chains<'d, D> {
             self.refused = true;
             return Err(fault);
         }
-        match self.listed(n) {
+        match self.known_pages(n) {
             Ok(pages) => Ok(pages),
             Err(_) => {
                 self.refused = true;
@@ -69,8 +69,8 @@ impl<'d, D: Disk> Chains<'d, D> {
         }
     }
 
-    // The pages of a chain that was read.
-    fn listed(&self, n: u32) -> Result<Ids, OutOfMemory>
+    /// The pages of a chain that the transaction has read, in their order. Reads nothing.
+    pub fn known_pages(&self, n: u32) -> Result<Ids, OutOfMemory>
         requires there { IsSome (map.get (read_of self.now) n) }
         ensures pages { IfOk result (λ pages. map.get (read_of self.now) n ≡ Some pages) }
     {
