@@ -3,3 +3,4 @@ pub mod Settings
 pub mod Findings
 pub mod Keeping
 pub mod Within
+pub mod Migrations

@@ -6,7 +6,7 @@ use Rattle.chain_store.specs.declared.root.Root.{Root}
 use Rattle.bucket_store.specs.Image.{Has, Image}
 use Rattle.bucket_store.specs.declared.buckets.Buckets.{Buckets}
 use Rattle.store_maps.specs.Maps.{Maps}
-use Rattle.kept_maps.specs.Kept.{HoldsMaps}
+use Rattle.kept_maps.specs.Kept.{HoldsMaps, HoldsOldMaps}
 
 -- what is beside the maps: the store at rest, and the fields and the texts that the transaction has
 pub record Beside : Type 0 where
@@ -21,3 +21,11 @@ pub record HasMaps {D : Type 0} {g : Ghosts D} (definitions : List TableDef) (un
   pub root : now.root ≡ under.root
   pub texts : (n : ℕ) → n < 8 → now.texts n ≡ under.texts n
   pub kept : HoldsMaps definitions now.maps maps
+
+-- it has them as a store of the old format does
+pub record HasOldMaps {D : Type 0} {g : Ghosts D} (definitions : List TableDef) (under : Beside) (maps : Maps) (buckets : Buckets D g) : Type 0 where
+  pub now : Image
+  pub has : Has under.rest now buckets
+  pub root : now.root ≡ under.root
+  pub texts : (n : ℕ) → n < 8 → now.texts n ≡ under.texts n
+  pub kept : HoldsOldMaps definitions now.maps maps

@@ -6,6 +6,7 @@ use Rattle.style_read.specs.declared.style.TableDef.{TableDef}
 use Rattle.bucket_records.specs.Records.{BucketMap}
 use Rattle.value_bytes.specs.Maps.{HoldsMap}
 use Rattle.middle_nodes.specs.Record.{record_bytes, IsRecord}
+use Rattle.middle_nodes.specs.Old.{old_record_bytes, IsOldRecord}
 use Rattle.middle_objs.specs.Object.{object_bytes, IsStored}
 use Rattle.row_store.specs.Rows.{rows_bytes, AreRows}
 use Rattle.back_index.specs.Ids.{ids_bytes, AreListed}
@@ -14,6 +15,17 @@ use Rattle.store_maps.specs.Maps.{Maps}
 -- the rows of these tables and all else that is kept, map by map
 pub record HoldsMaps (definitions : List TableDef) (kept : ℕ → BucketMap) (maps : Maps) : Type 0 where
   pub nodes : HoldsMap record_bytes IsRecord (kept 0) maps.nodes
+  pub ways : HoldsMap object_bytes (IsStored kinds.Way) (kept 1) maps.ways
+  pub relations : HoldsMap object_bytes (IsStored kinds.Relation) (kept 2) maps.relations
+  pub ways_of_blocks : HoldsMap ids_bytes AreListed (kept 3) maps.ways_of_blocks
+  pub relations_of_nodes : HoldsMap ids_bytes AreListed (kept 4) maps.relations_of_nodes
+  pub relations_of_ways : HoldsMap ids_bytes AreListed (kept 5) maps.relations_of_ways
+  pub node_rows : HoldsMap rows_bytes (AreRows definitions) (kept 6) maps.node_rows
+  pub other_rows : HoldsMap rows_bytes (AreRows definitions) (kept 7) maps.other_rows
+
+-- the same of a store of the old format: of its nodes it has places alone
+pub record HoldsOldMaps (definitions : List TableDef) (kept : ℕ → BucketMap) (maps : Maps) : Type 0 where
+  pub nodes : HoldsMap old_record_bytes IsOldRecord (kept 0) maps.nodes
   pub ways : HoldsMap object_bytes (IsStored kinds.Way) (kept 1) maps.ways
   pub relations : HoldsMap object_bytes (IsStored kinds.Relation) (kept 2) maps.relations
   pub ways_of_blocks : HoldsMap ids_bytes AreListed (kept 3) maps.ways_of_blocks

@@ -1,4 +1,5 @@
 pub mod Kept
 pub mod Held
+pub mod Migrating
 pub mod Calls
 pub mod Laws

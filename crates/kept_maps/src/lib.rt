@@ -8,6 +8,8 @@
 
 mod finding;
 mod kept;
+mod migrating;
 mod setting;
 
 pub use kept::KeptMaps;
+pub use migrating::migrate_nodes;

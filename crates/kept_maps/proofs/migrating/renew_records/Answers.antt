@@ -1,0 +1,80 @@
+-- A record more is written anew.
+use Rattle.std.proofs.Common.{◌≡◌, ◌≤◌, ◌∙◌, ℕ, List, Ok, Err, Some, sym, subst}
+use Rattle.std.specs.FinMap as finite
+use Rattle.std.proofs.lemmas.List.{take_all}
+use Rattle.value_bytes.specs.Forms.{IsNoValue}
+use Rattle.middle_nodes.specs.Old.{IsOldPlace, old_bytes}
+use Rattle.middle_nodes.specs.declared.calls.TheConstants.{NODES}
+use Rattle.row_store.specs.Loading.{Among}
+use Rattle.row_store.proofs.LoadLaws.{told_at}
+use Rattle.back_index.specs.Asking.{reads_more, reads_none}
+use Rattle.back_index.specs.Calls.{page_in}
+use Rattle.back_index.proofs.Chained.{count_same, page_same}
+use Rattle.back_index.proofs.Reading.{refuses_more}
+use Rattle.kept_maps.specs.Migrating.{HasOldUnread, Renews}
+use Rattle.kept_maps.proofs.Migrations.{among_at, looks_none, looks_then, renews_more, renews_none}
+use Rattle.kept_maps.proofs.migrating.renew_records.Goals as goal
+
+pub loop-id-init : goal.loop-id-init
+loop-id-init g c = record {
+  some = c.requires.some;
+  going = c.requires.going;
+  looks = looks_none c.args.buckets.now c.requires.going;
+  reads = reads_none c.args.buckets.now;
+  renews = λ rest now owns there. (now, owns, renews_none now);
+}
+
+pub loop-id-preserved : goal.loop-id-preserved
+loop-id-preserved g c =
+    let inv = c.loop-id.invariant in
+    let did = c.in_default.ensures in
+    let old = c.args.buckets.now in
+    let mid = c.loop-id.buckets in
+    let new = c.renew.new.buckets in
+    let records = c.args.records.now in
+    let one = c.loop-id-item.result in
+    record {
+      some = subst (λ (n : ℕ). 1 ≤ n) (sym (count_same mid new did.looks.stays)) inv.some;
+      going = did.looks.refused;
+      looks = looks_then old mid new (Ok tt) inv.looks did.looks;
+      reads = reads_more old mid new inv.reads did.reads;
+      renews = λ rest now owns there.
+          let was = inv.renews rest now owns there in
+          let done = did.renews rest was.0 was.1 in
+          let here = told_at (λ (e : ℕ × List ℕ). finite.get (now.maps NODES) e.0 ≡ Some e.1) records c.loop-id.id-index one there c.loop-id-test.true c.loop-id-item.is in (
+            _,
+            done.3,
+            renews_more records c.loop-id.id-index one now was.0 one.1 done.0 c.loop-id-test.true c.loop-id-item.is was.2 here done.1
+                (sym c.as_slice.ensures.items ∙ done.2),
+          );
+    }
+
+pub returns-in-Err-clause-stops : goal.returns-in-Err-clause-stops
+returns-in-Err-clause-stops g c rest now owns there =
+    let inv = c.loop-id.invariant in
+    let old = c.args.buckets.now in
+    let mid = c.loop-id.buckets in
+    let one = c.loop-id-item.result in
+    let was = inv.renews rest now owns there in
+    let here = told_at (λ (e : ℕ × List ℕ). finite.get (now.maps NODES) e.0 ≡ Some e.1) c.args.records.now c.loop-id.id-index one there c.loop-id-test.true c.loop-id-item.is in
+    refuses_more (λ at. IsNoValue old_bytes IsOldPlace c.as_slice.result.now × (at ≡ page_in mid NODES one.0)) (HasOldUnread (Among c.args.records.now) old now)
+    (λ at bad. record {
+      id = one.0;
+      among = among_at c.args.records.now c.loop-id.id-index one c.loop-id-test.true c.loop-id-item.is;
+      bytes = one.1;
+      there = here;
+      none = subst (λ (l : List ℕ). IsNoValue old_bytes IsOldPlace l) c.as_slice.ensures.items bad.0;
+      page_is = bad.1 ∙ page_same old mid NODES one.0 inv.looks.stays;
+    }) c.in-Err.fault (c.in-Err.ensures.stops rest was.0 was.1)
+
+pub returns-in-Err-clause-looks : goal.returns-in-Err-clause-looks
+returns-in-Err-clause-looks g c =
+    looks_then {T = Unit {0}} c.args.buckets.now c.loop-id.buckets c.renew.new.buckets (Err c.in-Err.fault) c.loop-id.invariant.looks c.in-Err.ensures.looks
+
+pub returns-clause-renews : goal.returns-clause-renews
+returns-clause-renews g c rest now owns there =
+    let was = c.loop-id.invariant.renews rest now owns there in (
+      was.0,
+      was.1,
+      subst (λ (l : List (ℕ × List ℕ)). Renews (Among l) now was.0) (take_all c.loop-id.id-index c.args.records.now c.loop-id-test.false) was.2,
+    )

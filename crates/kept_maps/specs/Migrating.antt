@@ -1,0 +1,47 @@
+-- The records of nodes of an old store are written anew.
+-- docs/FILES.md, "Buckets, and the eight maps": behind the place of each stands the mark of tags that nobody knows.
+use Rattle.std.specs.Prelude.{◌≡◌, ◌%◌, ℕ, List, Option, None, Some}
+use Rattle.std.specs.List.{AllByRecursion}
+use Rattle.std.specs.FinMap as finite
+use Rattle.osm_base.specs.values.Place.{PlaceOf}
+use Rattle.outside.specs.declared.disk.Disk.{Ghosts}
+use Rattle.bucket_store.specs.Image.{Image}
+use Rattle.bucket_store.specs.declared.buckets.Buckets.{Buckets}
+use Rattle.value_bytes.specs.Forms.{IsNoValue}
+use Rattle.middle_nodes.specs.Record.{record_bytes}
+use Rattle.middle_nodes.specs.Old.{IsOldPlace, old_bytes, unknown}
+use Rattle.middle_nodes.specs.declared.calls.TheConstants.{NODES}
+use Rattle.back_index.specs.Calls.{page_in}
+use Rattle.back_index.specs.Visits.{OnlyMap}
+
+-- the bytes of a record are those of a place alone, and then those of this place and unknown tags; without a record there is none then
+abbrev pub IsRenewed : Option (List ℕ) → Option (List ℕ) → Type 0
+IsRenewed None new = new ≡ None
+IsRenewed (Some bytes) new = (place : Option PlaceOf) × IsOldPlace place × (bytes ≡ old_bytes place) × (new ≡ Some (record_bytes (unknown place)))
+
+-- the records of these nodes are written anew, and all else in the store stays
+pub record Renews (Part : ℕ → Type 0) (now after : Image) : Type 0 where
+  pub only : OnlyMap NODES now after
+  pub here : (id : ℕ) → Part id → IsRenewed (finite.get (now.maps NODES) id) (finite.get (after.maps NODES) id)
+  pub beside : (id : ℕ) → ¬ Part id → finite.get (after.maps NODES) id ≡ finite.get (now.maps NODES) id
+
+-- a node
+abbrev pub Any : ℕ → Type 0
+Any id = Unit {0}
+
+-- a node of a bucket
+abbrev pub IsIn : ℕ → ℕ → ℕ → Type 0
+IsIn buckets bucket id = id % buckets ≡ bucket % buckets
+
+-- these records are in the store
+abbrev pub AreThere : Image → List (ℕ × List ℕ) → Type 0
+AreThere now records = AllByRecursion (λ one. finite.get (now.maps NODES) one.0 ≡ Some one.1) records
+
+-- the record of one of these nodes does not read, and its bucket begins at this page
+pub record HasOldUnread {D : Type 0} {g : Ghosts D} (Part : ℕ → Type 0) (buckets : Buckets D g) (now : Image) (at : ℕ) : Type 0 where
+  pub id : ℕ
+  pub among : Part id
+  pub bytes : List ℕ
+  pub there : finite.get (now.maps NODES) id ≡ Some bytes
+  pub none : IsNoValue old_bytes IsOldPlace bytes
+  pub page_is : at ≡ page_in buckets NODES id
