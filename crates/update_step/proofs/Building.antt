@@ -29,12 +29,14 @@ use Rattle.row_map.specs.Objects.{is_of_kind}
 use Rattle.row_map.specs.Row.{cells_of, row, row_from, row_of, wants, with_geometry}
 use Rattle.row_map.specs.Rows.{rows_below, rows_in, rows_known}
 use Rattle.row_map.specs.Shape.{geometry_of, with_way}
+use Rattle.row_map.specs.Wanted.{may_have_rows}
 use Rattle.row_map.proofs.Locality.{row_from-same}
+use Rattle.row_map.proofs.Unwanted.{row_from-unwanted}
 use Rattle.store_maps.specs.Maps.{Maps}
 use Rattle.store_maps.specs.Named.{known_on}
 use Rattle.store_maps.specs.Stands.{StandsOn}
 use Rattle.store_maps.proofs.KnownMaps.{KnowsTags, object_is, place_is, relations_of_node-are, relations_of_way-are}
-use Rattle.update_step.specs.Gather.{AlongWay, AreAsked, AroundNode, AtNode, Gathered, IsRight, OfKey, form_asks, known_in, lister_asks, member_asks, needs, place_asks, relation_asks, was_asked, way_asks}
+use Rattle.update_step.specs.Gather.{AlongWay, AreAsked, AroundNode, AtNode, Gathered, IsRight, OfKey, form_asks, known_in, listed_asks, lister_asks, member_asks, needs, place_asks, relation_asks, was_asked, way_asks}
 use Rattle.update_step.proofs.Asking.{asked-back, asked-front}
 
 all_pushed : (P : KeyOf → Type 0) (keys : List KeyOf) (key : KeyOf) → AllByRecursion P keys → P key → AllByRecursion P (keys ++ key ∷ [])
@@ -169,8 +171,12 @@ module _ (style : StyleOf) (maps : Maps) (objects : ObjectSet) (stands : StandsO
       ∙ relations-same (to.relations_of_node id) all.1 number
       ∙ ap (λ ids. selecting_among style.selections (known_of objects).object ids number) (relations_of_node-are reaches maps objects stands id)
 
+  -- an object was asked, and all that its rows are built of
+  abbrev AllAsked : KeyOf → Type 0
+  AllAsked own = AreAsked g (OfKey own ∷ listed_asks reaches to own (to.object own))
+
   -- all that was asked of a key
-  module _ (own : KeyOf) (knows : own.kind ≡ kinds.Node → KnowsTags (finite.get maps.nodes own.id)) (asked : AreAsked g (needs reaches to own)) where
+  module _ (own : KeyOf) (knows : own.kind ≡ kinds.Node → KnowsTags (finite.get maps.nodes own.id)) (asked : AllAsked own) where
     form-asked : AreAsked g (form_asks to own)
     form-asked = asked-front g (form_asks to own) (way_asks to (to.object own) ++ lister_asks reaches to own) asked
 
@@ -191,16 +197,16 @@ module _ (style : StyleOf) (maps : Maps) (objects : ObjectSet) (stands : StandsO
   abbrev RowSame : KeyOf → Type 0
   RowSame own = (table : ℕ) → row_from style table (one own) own ≡ row style objects table own
 
-  way-rows : (id : ℕ) → AreAsked g (needs reaches to (way_key id)) → RowSame (way_key id)
+  way-rows : (id : ℕ) → AllAsked (way_key id) → RowSame (way_key id)
   way-rows id asked table =
       let knows : kinds.Way ≡ kinds.Node → KnowsTags (finite.get maps.nodes id) = λ is. absurd (no_node kinds.Way refl is) in
       row_from-same style table (way_key id) (one (way_key id)) (other (way_key id)) (λ definition is. agree (way_key id) knows asked definition (λ names number. selecting-along id number (listers-asked (way_key id) knows asked)))
 
-  relation-rows : (id : ℕ) → AreAsked g (needs reaches to (relation_key id)) → RowSame (relation_key id)
+  relation-rows : (id : ℕ) → AllAsked (relation_key id) → RowSame (relation_key id)
   relation-rows id asked table =
       row_from-same style table (relation_key id) (one (relation_key id)) (other (relation_key id)) (λ definition is. agree (relation_key id) (λ is. absurd (no_relation is)) asked definition (λ names number. refl))
 
-  module _ (id : ℕ) (knows : KnowsTags (finite.get maps.nodes id)) (asked : AreAsked g (needs reaches to (node_key id))) where
+  module _ (id : ℕ) (knows : KnowsTags (finite.get maps.nodes id)) (asked : AllAsked (node_key id)) where
     abbrev node : KeyOf
     node = node_key id
 
@@ -238,11 +244,20 @@ module _ (style : StyleOf) (maps : Maps) (objects : ObjectSet) (stands : StandsO
       | Some definition ↦ λ is. of_table table definition is
     ] refl
 
-  row-same-of : (kind : Kind) (id : ℕ) → (kind ≡ kinds.Node → KnowsTags (finite.get maps.nodes id)) → AreAsked g (needs reaches to (record { kind = kind; id = id })) → RowSame (record { kind = kind; id = id })
+  row-same-of : (kind : Kind) (id : ℕ) → (kind ≡ kinds.Node → KnowsTags (finite.get maps.nodes id)) → AllAsked (record { kind = kind; id = id }) → RowSame (record { kind = kind; id = id })
   row-same-of kinds.Node id knows asked = node-rows id (knows refl) asked
   row-same-of kinds.Way id knows asked = way-rows id asked
   row-same-of kinds.Relation id knows asked = relation-rows id asked
 
-  pub rows-same : (own : KeyOf) → (own.kind ≡ kinds.Node → KnowsTags (finite.get maps.nodes own.id)) → AreAsked g (needs reaches to own) → rows_known style known own ≡ rows_in style objects own
+  -- of what no table may want the object alone was asked
+  row-same : (own : KeyOf) → (own.kind ≡ kinds.Node → KnowsTags (finite.get maps.nodes own.id)) → AreAsked g (needs style reaches to own) → RowSame own
+  row-same own knows asked = elim (may_have_rows style (to.object own)) as (λ b. may_have_rows style (to.object own) ≡ b → RowSame own) [
+    | true ↦ λ may. row-same-of own.kind own.id knows (asked.0, subst (λ b. AreAsked g (cond b (listed_asks reaches to own (to.object own)) [])) may asked.1)
+    | false ↦ λ not table.
+        row_from-unwanted style table (one own) own (ap (may_have_rows style) (as-asked own knows asked.0) ∙ not)
+        ∙ sym (row_from-unwanted style table (other own) own (ap (may_have_rows style) (sym (object_is reaches maps objects stands own knows)) ∙ not))
+  ] refl
+
+  pub rows-same : (own : KeyOf) → (own.kind ≡ kinds.Node → KnowsTags (finite.get maps.nodes own.id)) → AreAsked g (needs style reaches to own) → rows_known style known own ≡ rows_in style objects own
   unfolding rows_known rows_in
-  rows-same own knows asked = ap (λ (rows : ℕ → Option Row). rows_below rows (length style.tables)) (λ i table. row-same-of own.kind own.id knows asked table i)
+  rows-same own knows asked = ap (λ (rows : ℕ → Option Row). rows_below rows (length style.tables)) (λ i table. row-same own knows asked table i)

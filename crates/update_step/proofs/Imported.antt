@@ -22,7 +22,8 @@ use Rattle.object_fold.specs.Listing.{ListingOf}
 use Rattle.object_fold.proofs.FoldLaws.{Untouched, get-untouched}
 use Rattle.row_map.specs.Condition.{reaches_nodes}
 use Rattle.row_map.specs.Rows.{rows_in, rows_known}
-use Rattle.row_map.proofs.TableRows.{rows_known-none}
+use Rattle.row_map.specs.Wanted.{may_have_rows}
+use Rattle.row_map.proofs.TableRows.{rows_known-none, rows_known-unwanted}
 use Rattle.store_maps.specs.Append.{MayKeep, appended, set_all_rows}
 use Rattle.store_maps.specs.Maps.{Maps, empty_maps, form_in, rows_at, set_rows, unless_empty}
 use Rattle.store_maps.specs.Stands.{Stands, StandsOn}
@@ -34,9 +35,10 @@ use Rattle.store_maps.proofs.ObjectMaps.{empty_stands-on, entries_stand}
 use Rattle.store_maps.proofs.RowMaps.{empty_rows, got-all, rows_stay}
 use Rattle.store_maps.proofs.Sets.{get-set}
 use Rattle.store_maps.proofs.Standing.{appended_stands}
-use Rattle.update_step.specs.Importing.{LacksRows, keys_named}
+use Rattle.update_step.specs.Importing.{LacksRows, keys_named, wanted_among}
 use Rattle.update_step.proofs.EntryLists.{change_proper, proper_front}
-use Rattle.update_step.proofs.NamedKeys.{front-untouched, none-named}
+use Rattle.update_step.proofs.NamedKeys.{front-untouched}
+use Rattle.update_step.proofs.WantedEntries.{none-unwanted}
 
 -- A key that is not there has no form.
 
@@ -122,11 +124,14 @@ stands_empty style = record {
   rows = empty_rows (rows_in style finite.empty) (λ own. rows-none style finite.empty own (finite.get-empty key_cmp own));
 }
 
--- all objects of entries are set, and the rows of all their keys
-pub imported-stands : (style : StyleOf) (entries : List Entry) (keys : List KeyOf) → IsChange entries → keys ≡ keys_named entries
+rows-unwanted : (style : StyleOf) (objects : ObjectSet) (own : KeyOf) → may_have_rows style (finite.get objects own) ≡ false → rows_in style objects own ≡ []
+unfolding rows_known rows_in
+rows-unwanted style objects own not = rows_known-unwanted style (known_of objects) own not
+
+-- all objects of entries are set, and the rows of the keys of those that a table may want
+pub imported-stands : (style : StyleOf) (entries : List Entry) (keys : List KeyOf) → IsChange entries → keys ≡ keys_named (wanted_among style entries)
     → Stands style (appended empty_maps entries (rows_in style (folded_all finite.empty entries)) keys) (folded_all finite.empty entries)
 imported-stands style entries keys rise are =
     appended_stands style empty_maps finite.empty entries keys (stands_empty style) (change_proper entries rise)
-    (λ own outside. let untouched = none-named own entries (ap (list_any (eq_by_cmp key_cmp own)) (sym are) ∙ outside) in
-    rows-none style (folded_all finite.empty entries) own (get-untouched finite.empty entries own untouched ∙ finite.get-empty key_cmp own)
+    (λ own outside. rows-unwanted style (folded_all finite.empty entries) own (none-unwanted style entries own rise (ap (list_any (eq_by_cmp key_cmp own)) (sym are) ∙ outside))
     ∙ sym (rows-none style finite.empty own (finite.get-empty key_cmp own)))

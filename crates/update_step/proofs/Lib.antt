@@ -13,4 +13,5 @@ pub mod Parts
 pub mod PendingKeys
 pub mod Touching
 pub mod Trees
+pub mod WantedEntries
 pub mod Whole

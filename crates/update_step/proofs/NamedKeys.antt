@@ -138,7 +138,7 @@ module _ (kind : Kind) where
   onto true first id ids = refl
   onto false first id ids = refl
 
-  ids-push : (entries : List Entry) (own : Entry) → ids_named kind (entries ++ own ∷ []) ≡ cond (is_kind kind own.key.kind) (ids_named kind entries ++ own.key.id ∷ []) (ids_named kind entries)
+  pub ids-push : (entries : List Entry) (own : Entry) → ids_named kind (entries ++ own ∷ []) ≡ cond (is_kind kind own.key.kind) (ids_named kind entries ++ own.key.id ∷ []) (ids_named kind entries)
   ids-push [] own = elim (is_kind kind own.key.kind) as (λ b. ids_in (cond b (own ∷ []) []) ≡ cond b (own.key.id ∷ []) []) [ true ↦ refl | false ↦ refl ]
   ids-push (entry ∷ entries) own =
       let later = ids-push entries own in
@@ -148,20 +148,7 @@ module _ (kind : Kind) where
         | false ↦ later
       ]
 
-  pub ids-more : (entries : List Entry) (at : ℕ) (own : Entry) → at < length entries → own ≡ slice_index_or entries at own
-      → ids_named kind (take (at + 1) entries) ≡ cond (is_kind kind own.key.kind) (ids_named kind (take at entries) ++ own.key.id ∷ []) (ids_named kind (take at entries))
-  ids-more entries at own below is =
-      ap (ids_named kind) (take_more entries at own below ∙ ap (λ (next : Entry). take at entries ++ next ∷ []) (sym is)) ∙ ids-push (take at entries) own
-
--- Keys that no entry has.
-
-pub none-named : (own : KeyOf) (entries : List Entry) → list_any (eq_by_cmp key_cmp own) (keys_named entries) ≡ false → Untouched own entries
-none-named own [] none = tt
-none-named own (entry ∷ entries) none =
-    elim (eq_by_cmp key_cmp own entry.key) as (λ b. eq_by_cmp key_cmp own entry.key ≡ b → (b || list_any (eq_by_cmp key_cmp own) (keys_named entries)) ≡ false → (eq_by_cmp key_cmp own entry.key ≡ false) × Untouched own entries) [
-      | true ↦ λ _ not. absurd (cc)
-      | false ↦ λ differs not. (differs, none-named own entries not)
-    ] refl none
+-- Keys of other entries.
 
 pub above_apart : (own other : KeyOf) → is_below own other ≡ true → eq_by_cmp key_cmp other own ≡ false
 above_apart own other below = ap is_eq (key_cmp_total.antisymm other own ∙ ap ordering_reverse (less_is (key_cmp own other) below))

@@ -188,19 +188,19 @@ module _ (style : StyleOf) (maps : Maps) (objects : ObjectSet) (change : List En
       all-both (map node_key set.nodes) (map way_key set.ways ++ map relation_key set.relations) (all-nodes set pending set.nodes (λ id there. there))
       (all-both (map way_key set.ways) (map relation_key set.relations) (all-ways set.ways) (all-relations set.relations))
 
-  rows-each : (g : Gathered) → IsRight g (known_on (change_on maps change)) → (keys : List KeyOf) → AllByRecursion Knows keys → AreAsked g (all_needs (reaches_nodes style) (known_on (change_on maps change)) keys)
+  rows-each : (g : Gathered) → IsRight g (known_on (change_on maps change)) → (keys : List KeyOf) → AllByRecursion Knows keys → AreAsked g (all_needs style (reaches_nodes style) (known_on (change_on maps change)) keys)
       → map (rows_known style (known_in g)) keys ≡ map (rows_in style (folded_all objects change)) keys
   rows-each g right [] knows asked = refl
   rows-each g right (own ∷ keys) knows asked =
       let to = known_on (change_on maps change) in
-      let asks = needs (reaches_nodes style) to own in
-      let later = all_needs (reaches_nodes style) to keys in
+      let asks = needs style (reaches_nodes style) to own in
+      let later = all_needs style (reaches_nodes style) to keys in
       ap (λ rows. rows ∷ map (rows_known style (known_in g)) keys) (rows-same style (change_on maps change) (folded_all objects change) stands g right own knows.0 (asked-front g asks later asked))
       ∙ ap (λ rest. rows_in style (folded_all objects change) own ∷ rest) (rows-each g right keys knows.1 (asked-back g asks later asked))
 
   -- the rows that are built of what was gathered
   pub pending-rows : (set : PendingOf) → IsPendingOf style objects change set → (g : Gathered) → IsRight g (known_on (change_on maps change))
-      → AreAsked g (all_needs (reaches_nodes style) (known_on (change_on maps change)) (keys_of set))
+      → AreAsked g (all_needs style (reaches_nodes style) (known_on (change_on maps change)) (keys_of set))
       → map (rows_known style (known_in g)) (keys_of set) ≡ map (rows_in style (folded_all objects change)) (keys_of set)
   pending-rows set pending g right asked = rows-each g right (keys_of set) (all-known set pending) asked
 

@@ -24,6 +24,7 @@ use Rattle.object_fold.specs.Listing.{listers}
 use Rattle.object_fold.proofs.FoldLaws.{get-untouched}
 use Rattle.object_fold.proofs.Listers.{has-ids_of, kind_same}
 use Rattle.row_map.specs.Condition.{reaches_nodes}
+use Rattle.row_map.specs.Wanted.{may_have_rows}
 use Rattle.dep_closure.specs.PendingSet.{IsPendingOf, is_moved, is_named, is_pending_node, is_pending_relation, is_pending_way, is_reselected, moves, ways_in}
 use Rattle.dep_closure.specs.Questions.{of_all, of_entry, of_member, of_members, of_nodes, of_ways}
 use Rattle.dep_closure.specs.Ways.{is_due, makes_due}
@@ -37,7 +38,7 @@ use Rattle.store_maps.specs.Turns.{blocks_in, listed_by}
 use Rattle.store_maps.proofs.IdLists.{tied_self}
 use Rattle.store_maps.proofs.KnownMaps.{node_alone}
 use Rattle.store_maps.proofs.ObjectMaps.{entries_stand}
-use Rattle.update_step.specs.Gather.{AroundNode, Ask, AtNode, OfKey, all_needs, form_asks, lister_asks, member_asks, needs, place_asks, relation_asks, way_asks}
+use Rattle.update_step.specs.Gather.{AroundNode, Ask, AtNode, OfKey, all_needs, form_asks, listed_asks, lister_asks, member_asks, needs, place_asks, relation_asks, way_asks}
 use Rattle.update_step.specs.Touch.{MayAllRows, MayAsk, MayAskAll, MayEntries, MayTouch, MayTurn, MayTurnAll, is_in_lists, is_listed_after}
 use Rattle.update_step.specs.Touch.Touch.{around, around_member, along, along_member, block, block_of_list, member, node, node_of_member, node_of_way, relation, relation_of_node, relation_of_way, rows_of_node, rows_of_relation, rows_of_way, way, way_of_block}
 use Rattle.update_step.proofs.AfterForms.{forms-after}
@@ -225,8 +226,16 @@ module _ (style : StyleOf) (objects : ObjectSet) (change : List Entry) (may : Ma
     relations-with kind id ids are each = all-map (MayAsk may) (λ own. OfKey (relation_key own)) ids
         (λ own there. each own (sym (listed-lists kind id (finite.get after (relation_key own))) ∙ sym (are own) ∙ there))
 
-    node-needs : (id : ℕ) → is_pending_node style objects change id ≡ true → MayAskAll may (needs (reaches_nodes style) to (node_key id))
-    node-needs id pending =
+    -- an object, and all that its rows are built of
+    abbrev MayAll : KeyOf → Type 0
+    MayAll own = MayAskAll may (OfKey own ∷ listed_asks (reaches_nodes style) to own (to.object own))
+
+    -- of what no table may want less is asked
+    fewer : (own : KeyOf) → MayAll own → MayAskAll may (needs style (reaches_nodes style) to own)
+    fewer own all = (all.0, elim (may_have_rows style (to.object own)) as (λ b. MayAskAll may (cond b (listed_asks (reaches_nodes style) to own (to.object own)) [])) [ true ↦ all.1 | false ↦ tt ])
+
+    node-all : (id : ℕ) → is_pending_node style objects change id ≡ true → MayAll (node_key id)
+    node-all id pending =
         let form : Option Object = to.object (node_key id) in
         let listers_asks : List Ask = lister_asks (reaches_nodes style) to (node_key id) in (
           touched 0 id (node id pending),
@@ -241,8 +250,8 @@ module _ (style : StyleOf) (objects : ObjectSet) (change : List Entry) (may : Ma
               ] refl)),
         )
 
-    way-needs : (id : ℕ) → is_pending_way style objects change id ≡ true → MayAskAll may (needs (reaches_nodes style) to (way_key id))
-    way-needs id pending =
+    way-all : (id : ℕ) → is_pending_way style objects change id ≡ true → MayAll (way_key id)
+    way-all id pending =
         let form : Option Object = finite.get maps.ways id in
         let listers_asks : List Ask = lister_asks (reaches_nodes style) to (way_key id) in (
           touched 1 id (way id pending),
@@ -258,8 +267,8 @@ module _ (style : StyleOf) (objects : ObjectSet) (change : List Entry) (may : Ma
     member-form : (id own : ℕ) → is_pending_relation objects change id ≡ true → is_listed_after objects change kinds.Way own (relation_key id) ≡ true → MayAskAll may (form_asks to (way_key own))
     member-form id own pending among = (touched 1 own (member id own pending among), places-of-way own (λ other is. touched 0 other (node_of_member id own other pending among is)))
 
-    relation-needs : (id : ℕ) → is_pending_relation objects change id ≡ true → MayAskAll may (needs (reaches_nodes style) to (relation_key id))
-    relation-needs id pending =
+    relation-all : (id : ℕ) → is_pending_relation objects change id ≡ true → MayAll (relation_key id)
+    relation-all id pending =
         let form : Option Object = finite.get maps.relations id in (
           touched 2 id (relation id pending),
           subst (MayAskAll may) (ap (λ (asks : List Ask). place_asks form ++ asks) (sym (append-nil (way_asks to form))))
@@ -275,8 +284,9 @@ module _ (style : StyleOf) (objects : ObjectSet) (change : List Entry) (may : Ma
           (all-append P (map way_key set.ways) (map relation_key set.relations) (all-map P way_key set.ways (λ id there. ways id (sym (pending.ways id) ∙ there)))
           (all-map P relation_key set.relations (λ id there. relations id (sym (pending.relations id) ∙ there))))
 
-      pub may-needs : MayAskAll may (all_needs (reaches_nodes style) to (keys_of set))
-      may-needs = all-flat (MayAsk may) (needs (reaches_nodes style) to) (keys_of set) (each-key (λ own. MayAskAll may (needs (reaches_nodes style) to own)) node-needs way-needs relation-needs)
+      pub may-needs : MayAskAll may (all_needs style (reaches_nodes style) to (keys_of set))
+      may-needs = all-flat (MayAsk may) (needs style (reaches_nodes style) to) (keys_of set) (each-key (λ own. MayAskAll may (needs style (reaches_nodes style) to own))
+          (λ id is. fewer (node_key id) (node-all id is)) (λ id is. fewer (way_key id) (way-all id is)) (λ id is. fewer (relation_key id) (relation-all id is)))
 
       pub may-rows : MayAllRows may (keys_of set)
       may-rows = each-key (MayRows may) (λ id is. touched 6 id (rows_of_node id is)) (λ id is. touched 7 (2 * id) (rows_of_way id is)) (λ id is. touched 7 (2 * id + 1) (rows_of_relation id is))

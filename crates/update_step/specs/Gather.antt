@@ -15,7 +15,9 @@ use Rattle.osm_base.specs.map.Listers.{is_kind}
 use Rattle.osm_base.specs.values.Key.{KeyOf, relation_key}
 use Rattle.osm_base.specs.values.KeyOrder.{key_cmp}
 use Rattle.osm_base.specs.values.Place.{PlaceOf}
+use Rattle.style_read.specs.Style.{StyleOf}
 use Rattle.object_fold.specs.Listing.{ListingOf}
+use Rattle.row_map.specs.Wanted.{may_have_rows}
 use Rattle.update_step.specs.declared.answers.Answers.{Answers}
 
 -- the answers that are kept: that there is nothing is an answer too
@@ -107,9 +109,18 @@ module _ (reaches : Bool) (to : Known) where
     | kinds.Relation ↦ []
   ]
 
+  -- what the rows of an object are built of besides it
+  abbrev pub listed_asks : KeyOf → Option Object → List Ask
+  listed_asks own form = place_asks form ++ (way_asks to form ++ lister_asks own)
+
+module _ (style : StyleOf) (reaches : Bool) (to : Known) where
+  -- nothing of it, where no table may want the object
+  abbrev pub part_asks : KeyOf → Option Object → List Ask
+  part_asks own form = if may_have_rows style form then listed_asks reaches to own form else []
+
   -- what the rows of a key are built of
   abbrev pub needs : KeyOf → List Ask
-  needs own = form_asks to own ++ (way_asks to (to.object own) ++ lister_asks own)
+  needs own = OfKey own ∷ part_asks own (to.object own)
 
   abbrev pub all_needs : List KeyOf → List Ask
   all_needs keys = flat_map needs keys

@@ -7,7 +7,13 @@ use Rattle.osm_base.specs.declared.values.object.Entry.{Entry}
 use Rattle.osm_base.specs.declared.values.row.TableRow.{TableRow}
 use Rattle.osm_base.specs.map.Listers.{is_kind}
 use Rattle.osm_base.specs.values.Key.{KeyOf}
+use Rattle.style_read.specs.Style.{StyleOf}
+use Rattle.row_map.specs.Wanted.{may_have_rows}
 use Rattle.store_maps.specs.Maps.{Maps, rows_at}
+
+-- the entries whose objects a table may want: no other has rows
+abbrev pub wanted_among : StyleOf → List Entry → List Entry
+wanted_among style entries = filter (λ (entry : Entry). may_have_rows style entry.object) entries
 
 -- the keys of entries
 abbrev pub keys_named : List Entry → List KeyOf

@@ -8,15 +8,17 @@ ghost use Rattle.store_maps.specs.Asked.{May};
 ghost use Rattle.store_maps.specs.Maps.{Maps};
 ghost use Rattle.store_maps.specs.Named.{known_on};
 ghost use Rattle.update_step.specs.Ends.{Ends, MayRefuse};
-ghost use Rattle.update_step.specs.Gather.{AlongWay, AreAsked, AroundNode, AtNode, Gathers, IsRight, OfKey, all_needs, form_asks, gathered_in, lister_asks, member_asks, needs, place_asks, relation_asks, way_asks};
+ghost use Rattle.update_step.specs.Gather.{AlongWay, AreAsked, AroundNode, AtNode, Gathers, IsRight, OfKey, all_needs, form_asks, gathered_in, lister_asks, member_asks, needs, part_asks, place_asks, relation_asks, way_asks};
 ghost use Rattle.update_step.specs.Touch.{MayAsk, MayAskAll};
 
 use crate::StepFault;
 use crate::answers::Answers;
 use crate::listers::Listers;
 use osm_base::{Key, Kind, Member, Object};
+use row_map::may_have_rows;
 use std::alloc::Global;
 use store_maps::MapStore;
+use style_read::Style;
 
 /// Gathers the place of a node.
 fn gather_place<S: MapStore>(
@@ -338,20 +340,53 @@ fn gather_listers<S: MapStore>(
     }
 }
 
+/// Gathers what the rows of an object are built of besides it: nothing, where no table may want it.
+fn gather_parts<S: MapStore>(
+    store: &mut S,
+    answers: &mut Answers,
+    style: &Style,
+    reaches: bool,
+    key: Key,
+    form: &Option<Object>,
+) -> Result<(), StepFault<S::Refusal>>
+    requires spent { S.spent store.old ≡ false }
+    ensures gathers { OnOk result ((under : S.Under) (maps : Maps) → S.holds store.old under maps
+        → Gathers (known_on maps) (gathered_in answers.old) (gathered_in answers.new) (part_asks style.now reaches (known_on maps) key form.now)) }
+    ensures holds { OnOk result ((under : S.Under) (maps : Maps) → S.holds store.old under maps → S.holds store.new under maps) }
+    ensures looked { (first : S) → S.looked first store.old → S.looked first store.new }
+    ensures within { (under : S.Under) (maps : Maps) → S.holds store.old under maps → (may : May)
+        → MayAskAll may (part_asks style.now reaches (known_on maps) key form.now) → S.within may store.old → S.within may store.new }
+    ensures spent { OnOk result (S.spent store.new ≡ false) }
+    ensures ends { IfErr result (Ends
+        (λ refusal. (first : S) → S.looked first store.old → S.bears store.new (S.faults first) refusal)
+        (S.spent store.new ≡ false)
+        (λ _. ⊥)) }
+    ensures allowed { (under : S.Under) (maps : Maps) → S.holds store.old under maps → IfErr result (MayRefuse S.allowed) }
+{
+    if !may_have_rows(style, form) {
+        return Ok(());
+    }
+    gather_nodes(store, answers, form)?;
+    gather_ways(store, answers, form)?;
+    gather_listers(store, answers, reaches, key)?;
+    Ok(())
+}
+
 /// Gathers what the rows of a key are built of.
 fn gather_key<S: MapStore>(
     store: &mut S,
     answers: &mut Answers,
+    style: &Style,
     reaches: bool,
     key: Key,
 ) -> Result<(), StepFault<S::Refusal>>
     requires spent { S.spent store.old ≡ false }
     ensures gathers { OnOk result ((under : S.Under) (maps : Maps) → S.holds store.old under maps
-        → Gathers (known_on maps) (gathered_in answers.old) (gathered_in answers.new) (needs reaches (known_on maps) key)) }
+        → Gathers (known_on maps) (gathered_in answers.old) (gathered_in answers.new) (needs style.now reaches (known_on maps) key)) }
     ensures holds { OnOk result ((under : S.Under) (maps : Maps) → S.holds store.old under maps → S.holds store.new under maps) }
     ensures looked { (first : S) → S.looked first store.old → S.looked first store.new }
     ensures within { (under : S.Under) (maps : Maps) → S.holds store.old under maps → (may : May)
-        → MayAskAll may (needs reaches (known_on maps) key) → S.within may store.old → S.within may store.new }
+        → MayAskAll may (needs style.now reaches (known_on maps) key) → S.within may store.old → S.within may store.new }
     ensures spent { OnOk result (S.spent store.new ≡ false) }
     ensures ends { IfErr result (Ends
         (λ refusal. (first : S) → S.looked first store.old → S.bears store.new (S.faults first) refusal)
@@ -360,9 +395,7 @@ fn gather_key<S: MapStore>(
     ensures allowed { (under : S.Under) (maps : Maps) → S.holds store.old under maps → IfErr result (MayRefuse S.allowed) }
 {
     let form = store.object(key).map_err(StepFault::Store)?;
-    gather_nodes(store, answers, &form)?;
-    gather_ways(store, answers, &form)?;
-    gather_listers(store, answers, reaches, key)?;
+    gather_parts(store, answers, style, reaches, key, &form)?;
     answers.put_form(key, form)?;
     Ok(())
 }
@@ -371,16 +404,17 @@ fn gather_key<S: MapStore>(
 fn gather_keys<S: MapStore>(
     store: &mut S,
     answers: &mut Answers,
+    style: &Style,
     reaches: bool,
     keys: &[Key],
 ) -> Result<(), StepFault<S::Refusal>>
     requires spent { S.spent store.old ≡ false }
     ensures gathers { OnOk result ((under : S.Under) (maps : Maps) → S.holds store.old under maps
-        → Gathers (known_on maps) (gathered_in answers.old) (gathered_in answers.new) (all_needs reaches (known_on maps) keys.now)) }
+        → Gathers (known_on maps) (gathered_in answers.old) (gathered_in answers.new) (all_needs style.now reaches (known_on maps) keys.now)) }
     ensures holds { OnOk result ((under : S.Under) (maps : Maps) → S.holds store.old under maps → S.holds store.new under maps) }
     ensures looked { (first : S) → S.looked first store.old → S.looked first store.new }
     ensures within { (under : S.Under) (maps : Maps) → S.holds store.old under maps → (may : May)
-        → MayAskAll may (all_needs reaches (known_on maps) keys.now) → S.within may store.old → S.within may store.new }
+        → MayAskAll may (all_needs style.now reaches (known_on maps) keys.now) → S.within may store.old → S.within may store.new }
     ensures spent { OnOk result (S.spent store.new ≡ false) }
     ensures ends { IfErr result (Ends
         (λ refusal. (first : S) → S.looked first store.old → S.bears store.new (S.faults first) refusal)
@@ -389,7 +423,7 @@ fn gather_keys<S: MapStore>(
     ensures allowed { (under : S.Under) (maps : Maps) → S.holds store.old under maps → IfErr result (MayRefuse S.allowed) }
 {
     for &key in keys {
-        gather_key(store, answers, reaches, key)?;
+        gather_key(store, answers, style, reaches, key)?;
     }
     Ok(())
 }
@@ -398,17 +432,18 @@ fn gather_keys<S: MapStore>(
 pub(crate) fn gathered<S: MapStore>(
     alloc: Global,
     store: &mut S,
+    style: &Style,
     reaches: bool,
     keys: &[Key],
 ) -> Result<Answers, StepFault<S::Refusal>>
     requires spent { S.spent store.old ≡ false }
     ensures right { IfOk result (λ answers. (under : S.Under) (maps : Maps) → S.holds store.old under maps → IsRight (gathered_in answers) (known_on maps)) }
     ensures asked { IfOk result (λ answers. (under : S.Under) (maps : Maps) → S.holds store.old under maps
-        → AreAsked (gathered_in answers) (all_needs reaches (known_on maps) keys.now)) }
+        → AreAsked (gathered_in answers) (all_needs style.now reaches (known_on maps) keys.now)) }
     ensures holds { OnOk result ((under : S.Under) (maps : Maps) → S.holds store.old under maps → S.holds store.new under maps) }
     ensures looked { (first : S) → S.looked first store.old → S.looked first store.new }
     ensures within { (under : S.Under) (maps : Maps) → S.holds store.old under maps → (may : May)
-        → MayAskAll may (all_needs reaches (known_on maps) keys.now) → S.within may store.old → S.within may store.new }
+        → MayAskAll may (all_needs style.now reaches (known_on maps) keys.now) → S.within may store.old → S.within may store.new }
     ensures spent { OnOk result (S.spent store.new ≡ false) }
     ensures ends { IfErr result (Ends
         (λ refusal. (first : S) → S.looked first store.old → S.bears store.new (S.faults first) refusal)
@@ -417,6 +452,6 @@ pub(crate) fn gathered<S: MapStore>(
     ensures allowed { (under : S.Under) (maps : Maps) → S.holds store.old under maps → IfErr result (MayRefuse S.allowed) }
 {
     let mut answers = Answers::new(alloc);
-    gather_keys(store, &mut answers, reaches, keys)?;
+    gather_keys(store, &mut answers, style, reaches, keys)?;
     Ok(answers)
 }

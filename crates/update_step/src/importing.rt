@@ -1,12 +1,14 @@
 //! The first import.
-ghost use Rattle.std.specs.Prelude.{◌≡◌, ◌≤◌, ℕ, List, [], None, false, length, map, IfOk, IfErr, OnOk};
+ghost use Rattle.std.specs.Prelude.{◌≡◌, ◌≤◌, ◌&&◌, ℕ, List, [], None, false, length, map, IfOk, IfErr, OnOk};
 ghost use Rattle.std.specs.FinMap as finite;
 ghost use Rattle.std.specs.List.{AllByRecursion};
 ghost use Rattle.osm_base.specs.declared.values.row.TableRow.{TableRow};
+ghost use Rattle.osm_base.specs.map.Listers.{is_kind};
 ghost use Rattle.osm_base.specs.map.Objects.{folded_all};
 ghost use Rattle.osm_base.specs.values.Ids.{AreRisingIds};
 ghost use Rattle.osm_base.specs.values.Key.{KeyOf};
 ghost use Rattle.row_map.specs.Rows.{rows_in};
+ghost use Rattle.row_map.specs.Wanted.{may_have_rows};
 ghost use Rattle.object_fold.specs.Change.{IsProper};
 ghost use Rattle.geom_workers.specs.Keys.{keys_of};
 ghost use Rattle.store_maps.specs.Append.{MayKeep, set_all_rows};
@@ -14,7 +16,7 @@ ghost use Rattle.store_maps.specs.Maps.{Maps, empty_maps, form_in, rows_at, set_
 ghost use Rattle.store_maps.specs.Stands.{Stands};
 ghost use Rattle.store_maps.specs.Step.{change_on, entry_on};
 ghost use Rattle.update_step.specs.Ends.{Ends, MayRefuse};
-ghost use Rattle.update_step.specs.Importing.{LacksRows, ids_named, keys_named};
+ghost use Rattle.update_step.specs.Importing.{LacksRows, ids_named, keys_named, wanted_among};
 
 use crate::StepFault;
 use crate::new_objects::NewObjects;
@@ -24,35 +26,43 @@ use osm_base::{
     Entry, Ids, Key, Kind, MAX_ID, MAX_PENDING, OutOfMemory, PendingSet, RowLists, TableRows,
 };
 use outside::Gate;
+use row_map::may_have_rows;
 use std::alloc::Global;
 use std::thread::Threads;
 use store_maps::MapStore;
 use style_read::Style;
 
-/// The ids of the entries of one kind.
-fn ids_of(alloc: Global, kind: Kind, change: &Change) -> Result<Ids, OutOfMemory>
-    ensures ids { IfOk result (λ ids. ids ≡ ids_named kind change.now) }
+/// Whether an entry is of a kind and its object may have rows.
+fn is_wanted(style: &Style, kind: Kind, entry: &Entry) -> bool
+    ensures wanted { result ≡ (is_kind kind entry.now.key.kind && may_have_rows style.now entry.now.object) }
+{
+    entry.key.kind == kind && may_have_rows(style, &entry.object)
+}
+
+/// The ids of the entries of one kind whose objects may have rows.
+fn ids_of(alloc: Global, style: &Style, kind: Kind, change: &Change) -> Result<Ids, OutOfMemory>
+    ensures ids { IfOk result (λ ids. ids ≡ ids_named kind (wanted_among style.now change.now)) }
     ensures rising { IfOk result AreRisingIds }
 {
     let mut ids = Vec::new(alloc);
     for entry in change.entries() {
         let key = entry.key;
         prove!(1 <= key.id && key.id <= MAX_ID);
-        if key.kind == kind {
+        if is_wanted(style, kind, entry) {
             ids.push(key.id)?;
         }
     }
     Ok(Ids::from_vec(ids))
 }
 
-/// The keys of the entries.
-fn keys_in_change(alloc: Global, change: &Change) -> Result<PendingSet, OutOfMemory>
-    ensures keys { IfOk result (λ keys. keys_of keys ≡ keys_named change.now) }
+/// The keys of the entries whose objects may have rows.
+fn wanted_keys(alloc: Global, style: &Style, change: &Change) -> Result<PendingSet, OutOfMemory>
+    ensures keys { IfOk result (λ keys. keys_of keys ≡ keys_named (wanted_among style.now change.now)) }
 {
     let _entries = change.entries();
-    let nodes = ids_of(alloc, Kind::Node, change)?;
-    let ways = ids_of(alloc, Kind::Way, change)?;
-    let relations = ids_of(alloc, Kind::Relation, change)?;
+    let nodes = ids_of(alloc, style, Kind::Node, change)?;
+    let ways = ids_of(alloc, style, Kind::Way, change)?;
+    let relations = ids_of(alloc, style, Kind::Relation, change)?;
     Ok(PendingSet::new(nodes, ways, relations))
 }
 
@@ -179,7 +189,7 @@ pub fn import_maps<S: MapStore, R: Threads + Sync, G: Gate>(
     ensures allowed { (under : S.Under) → S.holds store.old under empty_maps → IfErr result (MayRefuse S.allowed) }
 {
     let _entries = change.entries();
-    let keys = keys_in_change(alloc, &change)?;
+    let keys = wanted_keys(alloc, style, &change)?;
     add_entries(store, &change).map_err(StepFault::Store)?;
     let rows = rows_of(rt, alloc, style, change, &keys, workers, gate)?;
     match put_all(store, &keys, rows.as_slice()) {

@@ -15,11 +15,12 @@ use std::alloc::Global;
 use std::marker::Model;
 
 /// The objects that a change makes of a map without any: the change itself, in whose entries a key is searched, and its
-/// relations, which are known by their members.
+/// relations, which are known by their members. `nodes` is how many of the entries are of nodes: where a search begins.
 #[derive(Drop)]
 pub(crate) struct NewObjects {
     change: Change,
     relations: Objects,
+    nodes: usize,
 }
 
 impl Model for NewObjects {
@@ -47,7 +48,12 @@ impl NewObjects {
         ensures objects { IfOk result (λ objects. objects ≡ folded_all finite.empty change) }
     {
         let relations = relations_of(alloc, &change)?;
-        Ok(Self { change, relations })
+        let nodes = place_of(change.entries(), 0, Kind::Way, 0);
+        Ok(Self {
+            change,
+            relations,
+            nodes,
+        })
     }
 }
 
@@ -100,8 +106,54 @@ fn is_of(key: Key, kind: Kind, id: u64) -> bool
     rank_of(key.kind) == rank_of(kind) && key.id == id
 }
 
-/// How many of the entries have keys below that of this kind and id.
-fn place_of(entries: &[Entry], kind: Kind, id: u64) -> usize
+/// The place, where it is between two ends, and else what comes next to it there.
+fn kept_between(low: usize, high: usize, place: usize) -> usize
+    requires { low < high }
+    ensures low { low ≤ result }
+    ensures high { result < high }
+{
+    if place < low {
+        low
+    } else if place < high {
+        place
+    } else {
+        high - 1
+    }
+}
+
+/// How far behind the first of `steps + 1` ids an id stands, if these rise evenly. `None`: they do not rise as far as it.
+fn steps_to(first: u64, last: u64, id: u64, steps: usize) -> Option<usize> {
+    let ahead = id.checked_sub(first)?;
+    let span = last.checked_sub(first)?;
+    let place = ahead.checked_mul(steps as u64)?.checked_div(span)?;
+    usize::try_from(place).ok()
+}
+
+/// Which entry between two ends is looked at next: at first that of `start`, then twice where the id would stand if ids rise
+/// evenly, and then the middle one, so that no ids make a search long.
+fn next_place(entries: &[Entry], low: usize, high: usize, start: usize, turn: u8, id: u64) -> usize
+    requires below { low < high }
+    requires within { high ≤ length entries.now }
+    ensures low { low ≤ result }
+    ensures high { result < high }
+{
+    if turn == 0 {
+        return kept_between(low, high, start);
+    }
+    let middle = low + (high - low) / 2;
+    if turn % 3 == 0 {
+        return middle;
+    }
+    let first = entries[low].key;
+    let last = entries[high - 1].key;
+    match steps_to(first.id, last.id, id, high - 1 - low) {
+        Some(steps) => kept_between(low, high, low.saturating_add(steps)),
+        None => middle,
+    }
+}
+
+/// How many of the entries have keys below that of this kind and id. The search begins at `start`.
+fn place_of(entries: &[Entry], start: usize, kind: Kind, id: u64) -> usize
     requires { IsChange entries.now }
     ensures within { result ≤ length entries.now }
     ensures below { (k : ℕ) → k < result → IsTrue (is_below (key_in entries.now k) (key_named kind id)) }
@@ -109,23 +161,25 @@ fn place_of(entries: &[Entry], kind: Kind, id: u64) -> usize
 {
     let mut low = 0;
     let mut high = entries.len();
+    let mut turn: u8 = 0;
     while low < high {
-        let middle = low + (high - low) / 2;
-        if is_before(entries[middle].key, kind, id) {
-            low = middle + 1;
+        let place = next_place(entries, low, high, start, turn, id);
+        turn = turn.wrapping_add(1);
+        if is_before(entries[place].key, kind, id) {
+            low = place + 1;
         } else {
-            high = middle;
+            high = place;
         }
     }
     low
 }
 
 /// The object of this kind with this id.
-fn object_at(entries: &[Entry], kind: Kind, id: u64) -> Option<&Object>
+fn object_at(entries: &[Entry], start: usize, kind: Kind, id: u64) -> Option<&Object>
     requires { IsChange entries.now }
     ensures object { option_copied result ≡ finite.get (folded_all finite.empty entries.now) (key_named kind id) }
 {
-    let place = place_of(entries, kind, id);
+    let place = place_of(entries, start, kind, id);
     if place >= entries.len() {
         return None;
     }
@@ -137,11 +191,11 @@ fn object_at(entries: &[Entry], kind: Kind, id: u64) -> Option<&Object>
 }
 
 /// The place of a node, where there is one that has a place.
-fn place_at(entries: &[Entry], id: u64) -> Option<Place>
+fn place_at(entries: &[Entry], start: usize, id: u64) -> Option<Place>
     requires { IsChange entries.now }
     ensures place { result ≡ (known_of (folded_all finite.empty entries.now)).place id }
 {
-    match object_at(entries, Kind::Node, id) {
+    match object_at(entries, start, Kind::Node, id) {
         Some(Object::Node { place, .. }) => *place,
         _ => None,
     }
@@ -151,11 +205,11 @@ impl Lookup for NewObjects {
     ghost known = { known_of };
 
     fn place_of(&self, id: u64) -> Option<Place> {
-        place_at(self.change.entries(), id)
+        place_at(self.change.entries(), self.nodes, id)
     }
 
     fn object_of(&self, key: Key) -> Option<&Object> {
-        object_at(self.change.entries(), key.kind, key.id)
+        object_at(self.change.entries(), self.nodes, key.kind, key.id)
     }
 
     fn relations_of_way(&self, id: u64) -> &[u64] {

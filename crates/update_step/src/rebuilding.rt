@@ -66,7 +66,7 @@ pub(crate) fn rebuild<S: MapStore, R: Threads + Sync, G: Gate>(
         || list_any (λ key. is_due_key style.now bounds.now (all_kept maps key) (rows key) zoom x y) (keys_of pending.now))) }
     ensures looked { (first : S) → S.looked first store.old → S.looked first store.new }
     ensures within { (under : S.Under) (maps : Maps) → S.holds store.old under maps → (may : May)
-        → MayAskAll may (all_needs (reaches_nodes style.now) (known_on maps) (keys_of pending.now)) → MayAllRows may (keys_of pending.now) → S.within may store.old → S.within may store.new }
+        → MayAskAll may (all_needs style.now (reaches_nodes style.now) (known_on maps) (keys_of pending.now)) → MayAllRows may (keys_of pending.now) → S.within may store.old → S.within may store.new }
     ensures spent { OnOk result (S.spent store.new ≡ false) }
     ensures ends { IfErr result (Ends
         (λ refusal. (first : S) → S.looked first store.old → S.bears store.new (S.faults first) refusal)
@@ -76,7 +76,7 @@ pub(crate) fn rebuild<S: MapStore, R: Threads + Sync, G: Gate>(
 {
     let keys = keys_in(alloc, pending)?;
     let keys = keys.as_slice();
-    let known = gathered(alloc, store, reaches_nodes(style), keys)?;
+    let known = gathered(alloc, store, style, reaches_nodes(style), keys)?;
     let built = build_all(rt, alloc, workers, style, pending, &known, gate)?;
     let news = built.rows.as_slice();
     let before = all_before(alloc, store, keys)?;

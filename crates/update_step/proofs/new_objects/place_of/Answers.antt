@@ -1,5 +1,5 @@
--- Half of what is left is known by one key.
-use Rattle.std.proofs.Common.{◌≡◌, ◌<◌, ◌+◌, ◌-◌, ◌/◌, ℕ, List, length, true, false, sym, ap, ◌∙◌, arith}
+-- What is left on one side of a key is known by it.
+use Rattle.std.proofs.Common.{◌≡◌, ◌<◌, ℕ, List, length, true, false, sym, ap, ◌∙◌, arith}
 use Rattle.osm_base.specs.declared.values.object.Entry.{Entry}
 use Rattle.osm_base.specs.values.Key.{KeyOf}
 use Rattle.osm_base.specs.values.KeyOrder.{is_below}
@@ -13,16 +13,15 @@ loop-low-preserved-then-is_before c =
     let entries : List Entry = c.args.entries.now in
     let key : KeyOf = key_named c.args.kind c.args.id in
     let so-far = c.loop-low.invariant in
-    let test = c.loop-low-test.true in
-    let middle : ℕ = c.loop-low.low + (c.loop-low.high - c.loop-low.low) / 2 in
-    let inside : middle < length entries = omega (arith, test, so-far.within) in
-    let here : is_below (key_in entries middle) key ≡ true =
-    ap (λ (own : Entry). is_below own.key key) (get_or_default entries middle no_entry c.index-entries-middle.result inside)
+    let place : ℕ = c.next_place-place.result in
+    let inside : place < length entries = omega (arith, c.next_place-place.ensures.high, so-far.within) in
+    let here : is_below (key_in entries place) key ≡ true =
+    ap (λ (own : Entry). is_below own.key key) (get_or_default entries place no_entry c.index-entries-place.result inside)
     ∙ sym c.is_before.ensures ∙ c.if-is_before.true in
     record {
-      order = omega (arith, test);
+      order = omega (arith, c.next_place-place.ensures.high);
       within = so-far.within;
-      below = λ k less. all_below entries c.requires key middle k inside here (omega (arith, less));
+      below = λ k less. all_below entries c.requires key place k inside here (omega (arith, less));
       from = so-far.from;
     }
 
@@ -31,15 +30,14 @@ loop-low-preserved c =
     let entries : List Entry = c.args.entries.now in
     let key : KeyOf = key_named c.args.kind c.args.id in
     let so-far = c.loop-low.invariant in
-    let test = c.loop-low-test.true in
-    let middle : ℕ = c.loop-low.low + (c.loop-low.high - c.loop-low.low) / 2 in
-    let inside : middle < length entries = omega (arith, test, so-far.within) in
-    let here : is_below (key_in entries middle) key ≡ false =
-    ap (λ (own : Entry). is_below own.key key) (get_or_default entries middle no_entry c.index-entries-middle.result inside)
+    let place : ℕ = c.next_place-place.result in
+    let inside : place < length entries = omega (arith, c.next_place-place.ensures.high, so-far.within) in
+    let here : is_below (key_in entries place) key ≡ false =
+    ap (λ (own : Entry). is_below own.key key) (get_or_default entries place no_entry c.index-entries-place.result inside)
     ∙ sym c.is_before.ensures ∙ c.if-is_before.false in
     record {
-      order = omega arith;
-      within = omega (arith, test, so-far.within);
+      order = c.next_place-place.ensures.low;
+      within = omega (arith, c.next_place-place.ensures.high, so-far.within);
       below = so-far.below;
-      from = λ k more within. none_below entries c.requires key middle k here more within;
+      from = λ k more within. none_below entries c.requires key place k here more within;
     }

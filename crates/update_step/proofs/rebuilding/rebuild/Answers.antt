@@ -34,8 +34,8 @@ returns-in-Ok-clause-holds g c under maps rows held built =
     let g_in : Gathered = gathered_in c.in_ok-known.known in
     let keys_are : c.as_slice-keys.result.now ≡ keys = c.as_slice-keys.ensures.value ∙ c.in_ok-keys.ensures.keys in
     let news_are : c.as_slice-news.result.now ≡ map (rows_known style (known_in g_in)) keys = c.as_slice-news.ensures.items ∙ c.in_ok-built.ensures.rows in
-    let asked = subst (λ (reaches : Bool). AreAsked g_in (all_needs reaches (known_on maps) keys)) c.reaches_nodes.ensures.reaches
-    (subst (λ (own : List KeyOf). AreAsked g_in (all_needs c.reaches_nodes.result (known_on maps) own)) keys_are (c.in_ok-known.ensures.asked under maps held)) in
+    let asked = subst (λ (reaches : Bool). AreAsked g_in (all_needs style reaches (known_on maps) keys)) c.reaches_nodes.ensures.reaches
+    (subst (λ (own : List KeyOf). AreAsked g_in (all_needs style c.reaches_nodes.result (known_on maps) own)) keys_are (c.in_ok-known.ensures.asked under maps held)) in
     let all : map (rows_known style (known_in g_in)) keys ≡ map rows keys = built g_in (c.in_ok-known.ensures.right under maps held) asked in
     let news_rows : c.as_slice-news.result.now ≡ map rows c.as_slice-keys.result.now = news_are ∙ all ∙ ap (map rows) (sym keys_are) in
     let gathered_held = c.in_ok-known.ensures.holds under maps held in
@@ -50,8 +50,8 @@ returns-in-Ok-clause-told g c under maps rows held built =
     let g_in : Gathered = gathered_in c.in_ok-known.known in
     let keys_are : c.as_slice-keys.result.now ≡ keys = c.as_slice-keys.ensures.value ∙ c.in_ok-keys.ensures.keys in
     let news_are : c.as_slice-news.result.now ≡ map (rows_known style (known_in g_in)) keys = c.as_slice-news.ensures.items ∙ c.in_ok-built.ensures.rows in
-    let asked = subst (λ (reaches : Bool). AreAsked g_in (all_needs reaches (known_on maps) keys)) c.reaches_nodes.ensures.reaches
-    (subst (λ (own : List KeyOf). AreAsked g_in (all_needs c.reaches_nodes.result (known_on maps) own)) keys_are (c.in_ok-known.ensures.asked under maps held)) in
+    let asked = subst (λ (reaches : Bool). AreAsked g_in (all_needs style reaches (known_on maps) keys)) c.reaches_nodes.ensures.reaches
+    (subst (λ (own : List KeyOf). AreAsked g_in (all_needs style c.reaches_nodes.result (known_on maps) own)) keys_are (c.in_ok-known.ensures.asked under maps held)) in
     let all : map (rows_known style (known_in g_in)) keys ≡ map rows keys = built g_in (c.in_ok-known.ensures.right under maps held) asked in
     let news_rows : c.as_slice-news.result.now ≡ map rows c.as_slice-keys.result.now = news_are ∙ all ∙ ap (map rows) (sym keys_are) in
     let gathered_held = c.in_ok-known.ensures.holds under maps held in
@@ -67,8 +67,8 @@ returns-in-Ok-clause-due g c under maps rows held built zoom x y =
     let g_in : Gathered = gathered_in c.in_ok-known.known in
     let keys_are : c.as_slice-keys.result.now ≡ keys = c.as_slice-keys.ensures.value ∙ c.in_ok-keys.ensures.keys in
     let news_are : c.as_slice-news.result.now ≡ map (rows_known style (known_in g_in)) keys = c.as_slice-news.ensures.items ∙ c.in_ok-built.ensures.rows in
-    let asked = subst (λ (reaches : Bool). AreAsked g_in (all_needs reaches (known_on maps) keys)) c.reaches_nodes.ensures.reaches
-    (subst (λ (own : List KeyOf). AreAsked g_in (all_needs c.reaches_nodes.result (known_on maps) own)) keys_are (c.in_ok-known.ensures.asked under maps held)) in
+    let asked = subst (λ (reaches : Bool). AreAsked g_in (all_needs style reaches (known_on maps) keys)) c.reaches_nodes.ensures.reaches
+    (subst (λ (own : List KeyOf). AreAsked g_in (all_needs style c.reaches_nodes.result (known_on maps) own)) keys_are (c.in_ok-known.ensures.asked under maps held)) in
     let all : map (rows_known style (known_in g_in)) keys ≡ map rows keys = built g_in (c.in_ok-known.ensures.right under maps held) asked in
     let news_rows : c.as_slice-news.result.now ≡ map rows c.as_slice-keys.result.now = news_are ∙ all ∙ ap (map rows) (sym keys_are) in
     let gathered_held = c.in_ok-known.ensures.holds under maps held in
