@@ -6,8 +6,8 @@ ghost use Rattle.osm_base.specs.values.Key.{IsId};
 ghost use Rattle.updater.specs.WayRows.{row_at};
 
 use line_build::line_of;
-use object_fold::Objects;
 use osm_base::{Geometry, Key, Kind, Lookup, Object, OutOfMemory};
+use placed_objects::PlacedObjects;
 use row_text::push_text_row;
 use std::alloc::Global;
 
@@ -15,7 +15,7 @@ use std::alloc::Global;
 pub fn push_row(
     alloc: Global,
     out: &mut String,
-    objects: &Objects,
+    objects: &PlacedObjects,
     key: &str,
     id: u64,
 ) -> Result<(), OutOfMemory>

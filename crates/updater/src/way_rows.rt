@@ -15,8 +15,9 @@ use crate::rows_by_id::RowsById;
 use crate::trimmed_change::{TrimmedChange, trimmed_entry};
 use crate::way_row::push_row;
 use dep_closure::ways_due;
-use object_fold::{Change, Keeper, ObjectIndex, Objects};
+use object_fold::{Change, Keeper};
 use osm_base::{Entry, Ids, Kind, OutOfMemory, TryCopy};
+use placed_objects::PlacedObjects;
 use std::alloc::Global;
 use std::marker::Model;
 use std::mem;
@@ -27,7 +28,7 @@ use std::mem;
 pub struct WayRows<'k> {
     alloc: Global,
     key: &'k str,
-    objects: Objects,
+    objects: PlacedObjects,
     rows: RowsById,
 }
 
@@ -52,7 +53,7 @@ impl<'k> WayRows<'k> {
         Self {
             alloc,
             key,
-            objects: Objects::new(alloc),
+            objects: PlacedObjects::new(alloc),
             rows: RowsById::new(alloc),
         }
     }
@@ -109,7 +110,7 @@ impl<'k> WayRows<'k> {
 pub struct WayImport<'k> {
     alloc: Global,
     key: &'k str,
-    objects: Objects,
+    objects: PlacedObjects,
     /// The ids of the ways.
     ways: Vec<u64>,
 }
@@ -135,7 +136,7 @@ impl<'k> WayImport<'k> {
         WayImport {
             alloc,
             key,
-            objects: Objects::new(alloc),
+            objects: PlacedObjects::new(alloc),
             ways: Vec::new(alloc),
         }
     }
@@ -188,14 +189,18 @@ fn add_way(entry: &Entry, ways: &mut Vec<u64>) -> Result<(), OutOfMemory>
 }
 
 /// Folds a change into objects, and answers the ways that it makes due.
-fn fold_change(alloc: Global, objects: &mut Objects, change: Change) -> Result<Ids, OutOfMemory>
+fn fold_change(
+    alloc: Global,
+    objects: &mut PlacedObjects,
+    change: Change,
+) -> Result<Ids, OutOfMemory>
     ensures folded { OnOk result (objects.new ≡ folded_all objects.old change) }
     ensures ids { IfOk result (AllByRecursion IsId) }
     ensures others { IfOk result (λ due. (way : ℕ) → has due way ≡ false → Leaves change objects.old way) }
 {
     let copy = change.copy(alloc)?;
     objects.fold(change)?;
-    match ways_due(alloc, &copy, &mut ObjectIndex::new(objects)) {
+    match ways_due(alloc, &copy, &mut objects.index()) {
         Ok(due) => Ok(due),
         Err(_) => Err(OutOfMemory),
     }
@@ -205,7 +210,7 @@ fn fold_change(alloc: Global, objects: &mut Objects, change: Change) -> Result<I
 fn set_rows(
     alloc: Global,
     key: &str,
-    objects: &Objects,
+    objects: &PlacedObjects,
     due: &[u64],
     rows: &mut RowsById,
 ) -> Result<(), OutOfMemory>
