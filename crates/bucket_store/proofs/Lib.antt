@@ -17,3 +17,4 @@ pub mod Sound
 pub mod Texts
 pub mod TypedLaws
 pub mod Wholes
+pub mod Listings

@@ -8,3 +8,4 @@ pub mod Opening
 pub mod Reads
 pub mod Needed
 pub mod Whole
+pub mod Listing

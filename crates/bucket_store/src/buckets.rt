@@ -18,6 +18,7 @@ ghost use Rattle.bucket_records.specs.Records.{BucketMap};
 mod changing;
 mod gathering;
 mod installing;
+mod listing;
 mod looking;
 
 use crate::cache::Cache;

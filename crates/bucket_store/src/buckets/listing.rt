@@ -1,0 +1,102 @@
+//! Which pages the chains of an open store have.
+ghost use Rattle.std.specs.Prelude.{◌≡◌, ◌⊎◌, ◌*◌, ◌+◌, ◌≤◌, ◌<◌, List, ℕ, false, length, IfOk, OnOk};
+ghost use Rattle.outside.specs.Disk.{ReadsAtMost};
+ghost use Rattle.page_journal.specs.Journal.{home_count};
+ghost use Rattle.chain_store.specs.Chains.{ListsPages, disk_of, first_of, journal_of, read_of};
+ghost use Rattle.chain_store.specs.Directories.{IsString};
+ghost use Rattle.chain_store.specs.Known.{MayRead};
+ghost use Rattle.chain_store.specs.declared.layout.TheConstants.{FREE};
+ghost use Rattle.bucket_store.specs.Buckets.{IsBucketChain, bucket_count};
+
+use super::Buckets;
+use osm_base::Ids;
+use outside::Disk;
+use page_journal::StoreFault;
+
+impl<'d, D: Disk> Buckets<'d, D> {
+    ghost use Rattle.bucket_store.specs.Listing.{ListsChain, OnlyLists};
+    ghost use Rattle.bucket_store.specs.Transaction.{IsOpenStore, chains_of, has_refused};
+
+    /// How many home pages the store has.
+    pub fn pages(&self) -> u64
+        ensures { result ≡ home_count (journal_of (chains_of self.now)) }
+    {
+        self.chains.pages()
+    }
+
+    /// The pages that a chain has in the store, in their order. A bucket is read as for its records.
+    pub fn pages_of(&mut self, n: u32) -> Result<Ids, StoreFault>
+        requires chain { (n < 16) ⊎ IsBucketChain (bucket_count (chains_of self.old)) n }
+        requires going { has_refused self.old ≡ false }
+        ensures answers { (pages : List (List ℕ)) → IsOpenStore pages self.old → ListsChain pages self.old n result }
+        ensures lists { OnlyLists self.old self.new result }
+        ensures reads { OnOk result (MayRead (4096 * home_count (journal_of (chains_of self.old))) n (read_of (chains_of self.old))
+            (read_of (chains_of self.new)) (disk_of (chains_of self.old)) (disk_of (chains_of self.new))) }
+    {
+        if n < 16 {
+            return self.pages_of_string(n);
+        }
+        self.pages_of_bucket(n)
+    }
+
+    /// The free pages of the store, in their order. A commit reads them again.
+    pub fn free_pages(&mut self) -> Result<Ids, StoreFault>
+        requires going { has_refused self.old ≡ false }
+        ensures answers { (pages : List (List ℕ)) → IsOpenStore pages self.old → ListsPages pages FREE (first_of (chains_of self.old) FREE) result }
+        ensures lists { OnlyLists self.old self.new result }
+        ensures read { read_of (chains_of self.new) ≡ read_of (chains_of self.old) }
+        ensures reads { IfOk result (λ ns. ReadsAtMost (length ns) (4096 * home_count (journal_of (chains_of self.old)))
+            (disk_of (chains_of self.old)) (disk_of (chains_of self.new))) }
+    {
+        self.refused = true;
+        match self.chains.free_pages() {
+            Ok(pages) => {
+                self.refused = false;
+                Ok(pages)
+            }
+            Err(fault) => Err(fault),
+        }
+    }
+
+    // The pages of a string or a directory.
+    fn pages_of_string(&mut self, n: u32) -> Result<Ids, StoreFault>
+        requires string { n < 16 }
+        requires going { has_refused self.old ≡ false }
+        ensures answers { (pages : List (List ℕ)) → IsOpenStore pages self.old → ListsChain pages self.old n result }
+        ensures lists { OnlyLists self.old self.new result }
+        ensures reads { OnOk result (MayRead (4096 * home_count (journal_of (chains_of self.old))) n (read_of (chains_of self.old))
+            (read_of (chains_of self.new)) (disk_of (chains_of self.old)) (disk_of (chains_of self.new))) }
+    {
+        self.refused = true;
+        match self.chains.pages_of(n) {
+            Ok(pages) => {
+                self.refused = false;
+                Ok(pages)
+            }
+            Err(fault) => Err(fault),
+        }
+    }
+
+    // The pages of a bucket, which is read where that was not done yet.
+    fn pages_of_bucket(&mut self, n: u32) -> Result<Ids, StoreFault>
+        requires string { IsString (bucket_count (chains_of self.old)) n }
+        requires bucket { IsBucketChain (bucket_count (chains_of self.old)) n }
+        requires some { 1 ≤ bucket_count (chains_of self.old) }
+        requires going { has_refused self.old ≡ false }
+        ensures answers { (pages : List (List ℕ)) → IsOpenStore pages self.old → ListsChain pages self.old n result }
+        ensures lists { OnlyLists self.old self.new result }
+        ensures reads { OnOk result (MayRead (4096 * home_count (journal_of (chains_of self.old))) n (read_of (chains_of self.old))
+            (read_of (chains_of self.new)) (disk_of (chains_of self.old)) (disk_of (chains_of self.new))) }
+    {
+        if let Err(fault) = self.bring_chain(n) {
+            return Err(fault);
+        }
+        match self.chains.known_pages(n) {
+            Ok(pages) => Ok(pages),
+            Err(_) => {
+                self.refused = true;
+                Err(StoreFault::OutOfMemory)
+            }
+        }
+    }
+}
