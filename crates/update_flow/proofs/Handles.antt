@@ -8,9 +8,9 @@ use Rattle.std.proofs.lemmas.Option.{same_Some}
 use Rattle.bucket_store.specs.Opening.{Fits}
 use Rattle.bucket_store.specs.declared.opened.Opened.{Opened}
 use Rattle.update_flow.specs.AtRest.{HasFlowCause}
-use Rattle.update_flow.specs.Handle.{Handle, IsOpen, Looks, Shows, Takes, TellsAs, is_imported, is_whole, limits_of, view_of}
+use Rattle.update_flow.specs.Handle.{Handle, IsOpen, Looks, Shows, Takes, TellsAs, changes_of, is_imported, is_old, is_whole, limits_of, style_of, view_of}
 use Rattle.update_flow.specs.Refusals.{IsCallFault, MayAnswer}
-use Rattle.update_flow.specs.State.{Clear, Holding, State, Step, after, cleared, formatted, imported}
+use Rattle.update_flow.specs.State.{Clear, Holding, Migrate, State, Step, after, cleared, formatted, imported, outdated, was_old}
 use Rattle.update_flow.specs.Turning.{EndsOn, IsKept, LooksOn, MayEnd, TurnsOn}
 use Rattle.update_flow.specs.Updater.{KeptFits}
 use Rattle.update_flow.specs.declared.fault.FlowFault.{FlowFault}
@@ -29,6 +29,7 @@ ends_alone (flow.Store store.Broken) may = absurd may
 ends_alone (flow.Store store.OutOfMemory) may = absurd may
 ends_alone flow.NotImported may = absurd may
 ends_alone flow.AlreadyImported may = absurd may
+ends_alone flow.OldFormat may = absurd may
 ends_alone flow.LastChange may = absurd may
 ends_alone (flow.TooMany value) may = tt
 ends_alone flow.OutOfMemory may = tt
@@ -40,6 +41,9 @@ call_alone (Err fault) may = ends_alone fault may
 
 pub never_broken : {T : Type 0} (r : Result T FlowFault) (P : Type 0) → MayEnd (result_err r) → IsErrOf r (flow.Store store.Broken) → P
 never_broken {T} r P may is = absurd (subst (λ (o : Result T FlowFault). MayEnd (result_err o)) is may)
+
+pub never_old : {T : Type 0} (r : Result T FlowFault) (P : Type 0) → MayEnd (result_err r) → IsErrOf r flow.OldFormat → P
+never_old {T} r P may is = absurd (subst (λ (o : Result T FlowFault). MayEnd (result_err o)) is may)
 
 pub whole_still : {T : Type 0} (r : Result T FlowFault) (old new : DiskView) (kept : Option Opened) (was : Bool) → was ≡ true
     → EndsOn (result_err r) old new kept → OnOk r (is_some kept ≡ was)
@@ -67,6 +71,46 @@ module _ (handle : Handle) where
   pub told_blank : IsOpen formatted handle → is_imported handle ≡ true → ⊥
   told_blank opened is = absurd (cc (is, opened.shows.imported_is))
 
+  pub told_old : (held : Holding) → IsOpen (outdated held) handle → is_old handle ≡ false → ⊥
+  told_old held opened is = absurd (cc (is, opened.shows.old_is))
+
+  pub told_begun : (held : Holding) → IsOpen (outdated held) handle → is_imported handle ≡ false → ⊥
+  told_begun held opened is = absurd (cc (is, opened.shows.imported_is))
+
+  pub told_new : (state : State) → was_old state ≡ false → IsOpen state handle → is_old handle ≡ true → ⊥
+  told_new state new opened is = absurd (cc (is, opened.shows.old_is, new))
+
+  -- an old store takes no step but one, and is not looked at
+  pub step_old : (step : Step) → ((held : Holding) → MayAnswer (limits_of handle) (outdated held) step (Some flow.OldFormat)) → (state : State)
+      → is_old handle ≡ true → IsOpen state handle → Takes state step (Some flow.OldFormat) handle handle
+  step_old step may formatted is opened = absurd (told_new formatted refl opened is)
+  step_old step may (imported held) is opened = absurd (told_new (imported held) refl opened is)
+  step_old step may (outdated held) is opened = takes_none (outdated held) step flow.OldFormat handle opened (may held)
+
+  pub clear_old : (state : State) → is_old handle ≡ true → IsOpen state handle → Takes state Clear (Some flow.OldFormat) handle handle
+  clear_old state is opened = step_old Clear (λ held. refl) state is opened
+
+  pub look_old : (state : State) → is_old handle ≡ true → IsOpen state handle → Looks state (Some flow.OldFormat) handle handle
+  look_old formatted is opened = absurd (told_new formatted refl opened is)
+  look_old (imported held) is opened = absurd (told_new (imported held) refl opened is)
+  look_old (outdated held) is opened = record { answer = refl; stays = λ no. opened; moments = nothing_done (outdated held) (view_of handle) opened.at_rest }
+
+  -- and one that has the format of today is left as it is
+  pub migrate_none : (state : State) → is_imported handle ≡ true → is_old handle ≡ false → IsOpen state handle → Takes state Migrate None handle handle
+  migrate_none formatted begun is opened = absurd (told_blank opened begun)
+  migrate_none (outdated held) begun is opened = absurd (told_old held opened is)
+  migrate_none (imported held) begun is opened = record {
+    answer = refl;
+    done = λ none. opened;
+    refused = λ not no. absurd (not refl);
+    moments = either_done (imported held) (imported held) (view_of handle) opened.at_rest;
+  }
+
+  pub migrate_unasked : (state : State) → is_imported handle ≡ false → IsOpen state handle → Takes state Migrate (Some flow.NotImported) handle handle
+  migrate_unasked formatted is opened = takes_none formatted Migrate flow.NotImported handle opened refl
+  migrate_unasked (imported held) is opened = absurd (cc (is, opened.shows.imported_is))
+  migrate_unasked (outdated held) is opened = absurd (told_begun held opened is)
+
   -- one that is broken is not open
   pub told_broken : (state : State) → IsOpen state handle → is_whole handle ≡ false → ⊥
   told_broken state opened is = absurd (cc (is, opened.sound))
@@ -74,10 +118,12 @@ module _ (handle : Handle) where
   pub clear_unasked : (state : State) → is_imported handle ≡ false → IsOpen state handle → Takes state Clear (Some flow.NotImported) handle handle
   clear_unasked formatted is opened = takes_none formatted Clear flow.NotImported handle opened refl
   clear_unasked (imported held) is opened = absurd (told_imported held opened is)
+  clear_unasked (outdated held) is opened = absurd (told_begun held opened is)
 
   pub look_unasked : (state : State) → is_imported handle ≡ false → IsOpen state handle → Looks state (Some flow.NotImported) handle handle
   look_unasked formatted is opened = record { answer = refl; stays = λ no. opened; moments = nothing_done formatted (view_of handle) opened.at_rest }
   look_unasked (imported held) is opened = absurd (told_imported held opened is)
+  look_unasked (outdated held) is opened = absurd (told_begun held opened is)
 
 -- what was done on the disk was done to the store
 module _ (old new : Handle) (kept : Option Opened) (whole : is_some kept ≡ is_whole new) (keeps : KeptFits kept (view_of new) → new.keeps) where
@@ -102,20 +148,22 @@ module _ (old new : Handle) (kept : Option Opened) (whole : is_some kept ≡ is_
   looks_on state fault looks shows = record { answer = looks.answer; stays = λ no. open_kept state (looks.stays no) shows; moments = looks.moments }
 
   -- due tiles are cleared
-  module _ (tells : TellsAs old new) (is : is_imported old ≡ true) (fault : Option FlowFault) where
+  module _ (tells : TellsAs old new) (is : is_imported old ≡ true) (fresh : is_old old ≡ false) (fault : Option FlowFault) where
     shows_still : (state : State) → Shows state old → Shows state new
     shows_still state shows = record {
       changes_are = tells.changes_same ∙ shows.changes_are;
       imported_is = tells.imported_same ∙ shows.imported_is;
+      old_is = tells.old_same ∙ shows.old_is;
       style_is = tells.style_same ∙ shows.style_is;
     }
 
     shows_cleared : (held : Holding) → Shows (imported held) new → Shows (imported (cleared held)) new
-    shows_cleared held shows = record { changes_are = shows.changes_are; imported_is = shows.imported_is; style_is = shows.style_is }
+    shows_cleared held shows = record { changes_are = shows.changes_are; imported_is = shows.imported_is; old_is = shows.old_is; style_is = shows.style_is }
 
     pub clear_taken : ((held : Holding) → IsOpen (imported held) old → TurnsOn (limits_of old) (imported held) Clear fault (view_of old) (view_of new) kept)
         → (state : State) → IsOpen state old → Takes state Clear fault old new
     clear_taken turns formatted opened = absurd (told_blank old opened is)
+    clear_taken turns (outdated held) opened = absurd (told_old old held opened fresh)
     clear_taken turns (imported held) opened =
         let shows = shows_still (imported held) opened.shows in
         takes_on (imported held) Clear fault (turns held opened) (λ _. shows_cleared held shows) (λ _. shows)
@@ -123,7 +171,32 @@ module _ (old new : Handle) (kept : Option Opened) (whole : is_some kept ≡ is_
     pub look_taken : ((held : Holding) → IsOpen (imported held) old → LooksOn (imported held) fault (view_of old) (view_of new) kept)
         → (state : State) → IsOpen state old → Looks state fault old new
     look_taken looks formatted opened = absurd (told_blank old opened is)
+    look_taken looks (outdated held) opened = absurd (told_old old held opened fresh)
     look_taken looks (imported held) opened = looks_on (imported held) fault (looks held opened) (shows_still (imported held) opened.shows)
+
+  -- an old store is migrated
+  pub migrate_taken : (fault : Option FlowFault) → is_old old ≡ true
+      → ((held : Holding) → IsOpen (outdated held) old → TurnsOn (limits_of old) (outdated held) Migrate fault (view_of old) (view_of new) kept)
+      → changes_of new ≡ changes_of old → is_imported new ≡ is_imported old → style_of new ≡ style_of old
+      → (fault ≡ None → is_old new ≡ false) → (fault ≢ None → is_old new ≡ is_old old)
+      → (state : State) → IsOpen state old → Takes state Migrate fault old new
+  migrate_taken fault is turns changes begun style done stays formatted opened = absurd (told_new old formatted refl opened is)
+  migrate_taken fault is turns changes begun style done stays (imported held) opened = absurd (told_new old (imported held) refl opened is)
+  migrate_taken fault is turns changes begun style done stays (outdated held) opened =
+      let shows = opened.shows in
+      takes_on (outdated held) Migrate fault (turns held opened)
+      (λ none. record {
+        changes_are = changes ∙ shows.changes_are;
+        imported_is = begun ∙ shows.imported_is;
+        old_is = done none;
+        style_is = style ∙ shows.style_is;
+      })
+      (λ some. record {
+        changes_are = changes ∙ shows.changes_are;
+        imported_is = begun ∙ shows.imported_is;
+        old_is = stays some ∙ shows.old_is;
+        style_is = style ∙ shows.style_is;
+      })
 
 -- what is kept of an open store fits its disk
 pub kept_fits : (kept : Option Opened) (own : Opened) (disk : DiskView) → kept ≡ Some own → KeptFits kept disk → Fits own disk

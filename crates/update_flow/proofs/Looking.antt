@@ -1,5 +1,5 @@
 -- A disk under buckets that only looked at it.
-use Rattle.std.proofs.Common.{◌≡◌, Option, Some, Ok, sym, ap, subst}
+use Rattle.std.proofs.Common.{◌≡◌, Option, Some, Ok, true, sym, subst}
 use Rattle.outside.specs.Disk.{Stays}
 use Rattle.outside.specs.declared.disk.Disk.{Ghosts}
 use Rattle.page_journal.specs.Journal.{disk_of}
@@ -14,7 +14,7 @@ use Rattle.bucket_store.specs.declared.opened.Opened.{Opened}
 use Rattle.bucket_store.proofs.Holding.{rests_later}
 use Rattle.update_flow.specs.AtRest.{HasFlowCause}
 use Rattle.update_flow.specs.Opening.{HoldsState}
-use Rattle.update_flow.specs.State.{Holding, imported}
+use Rattle.update_flow.specs.State.{State, style_in, was_imported}
 use Rattle.update_flow.specs.Within.{Runs}
 use Rattle.update_flow.specs.declared.fields.TheConstants.{STYLE_TEXT}
 use Rattle.update_flow.proofs.Openings.{style_one}
@@ -35,14 +35,14 @@ module _ {D : Type 0} {g : Ghosts D} (old new : Buckets D g) (first last : D) (t
       (record { later = runs.looks.later; failed = runs.failed }))
 
   -- an imported store has the style that was read, and what they gave back fits its disk
-  pub found_styled : (held : Holding) (found store : Opened) (style : StyleOf)
+  pub found_styled : (state : State) (found store : Opened) (style : StyleOf) → was_imported state ≡ true
       → ((image : Image) → Fits found (g.view first) → HoldsImage image (g.view first) → RestsAt image old)
       → ((image : Image) → Fits found (g.view first) → HoldsImage image (g.view first) → Has image image old) → OnlyLooks old new
       → ((rest now : Image) → Has rest now old → reading (now.texts STYLE_TEXT) ≡ Ok style)
       → ((image : Image) → RestsAt image new → Fits store (g.view (disk_of (journal_of (chains_of new)))))
-      → Fits found (g.view first) → HoldsState (imported held) (g.view first) → (Some style ≡ Some held.style) × Fits store (g.view last)
-  found_styled held found store style rests has looks read fits before holds = (
-    ap (λ (s : StyleOf). Some s) (style_one held holds.image style holds.means (read holds.image holds.image (has holds.image before holds.holds))),
+      → Fits found (g.view first) → HoldsState state (g.view first) → (Some style ≡ style_in state) × Fits store (g.view last)
+  found_styled state found store style begun rests has looks read fits before holds = (
+    style_one state holds.image style holds.means begun (read holds.image holds.image (has holds.image before holds.holds)),
     subst (λ (d : D). Fits store (g.view d)) (sym given)
         (fits holds.image (rests_later holds.image old new looks (rests holds.image before holds.holds))),
   )

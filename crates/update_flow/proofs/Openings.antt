@@ -23,9 +23,9 @@ use Rattle.update_flow.specs.AtRest.{IsAt, IsOfEither, Opens, OpensAs}
 use Rattle.update_flow.specs.Faults.{of_store}
 use Rattle.update_flow.specs.Opening.{Found, HoldsState}
 use Rattle.update_flow.specs.Refusals.{IsNoDiskFault, IsOpenFault, MayFind, OrBreaks}
-use Rattle.update_flow.specs.Roots.{is_blank, is_imported}
-use Rattle.update_flow.specs.Stands.{IsBlank, IsImported, StandsFor}
-use Rattle.update_flow.specs.State.{Holding, State, formatted, imported, style_in, was_imported}
+use Rattle.update_flow.specs.Roots.{is_blank, is_imported, is_old}
+use Rattle.update_flow.specs.Stands.{IsBlank, IsImported, IsOfFormat, IsOld, Means, StandsFor}
+use Rattle.update_flow.specs.State.{Holding, State, changes_in, formatted, imported, outdated, style_in, was_imported, was_old}
 use Rattle.update_flow.specs.Within.{IsSound}
 use Rattle.update_flow.specs.declared.fault.TheConstants.{LAST_CHANGE}
 use Rattle.update_flow.specs.declared.fields.TheConstants.{STYLE_TEXT}
@@ -84,16 +84,26 @@ two_not b c one two = cc
 pub blank_root : (image : Image) → IsBlank image → is_blank image.root ≡ true
 blank_root image blank = ap (λ (r : Root). is_blank r) blank.root
 
-pub blank_apart : (image : Image) → IsBlank image → is_imported image.root ≡ false
-blank_apart image blank = ap (λ (r : Root). is_imported r) blank.root
-
 pub imported_root : (held : Holding) (image : Image) → IsImported held image → is_imported image.root ≡ true
 imported_root held image is =
     ap (λ (r : Root). is_imported r) is.root
     ∙ two_not (held.buckets == 0) (nat_le held.changes LAST_CHANGE) (some_count held.buckets is.some) (low_count held.changes LAST_CHANGE is.counted)
 
-pub imported_apart : (held : Holding) (image : Image) → IsImported held image → is_blank image.root ≡ false
-imported_apart held image is = ap (λ (r : Root). is_blank r) is.root
+pub old_root : (held : Holding) (image : Image) → IsOld held image → is_old image.root ≡ true
+old_root held image is =
+    ap (λ (r : Root). is_old r) is.root
+    ∙ two_not (held.buckets == 0) (nat_le held.changes LAST_CHANGE) (some_count held.buckets is.some) (low_count held.changes LAST_CHANGE is.counted)
+
+-- whether they are those of an old store
+pub tells_old : (state : State) (image : Image) → Means state image → is_old image.root ≡ was_old state
+tells_old formatted image blank = ap (λ (r : Root). is_old r) blank.root
+tells_old (imported held) image is = ap (λ (r : Root). is_old r) is.root
+tells_old (outdated held) image is = old_root held image is
+
+pub tells_count : (state : State) (image : Image) → Means state image → image.root.changes ≡ changes_in state
+tells_count formatted image blank = ap (λ (r : Root). r.changes) blank.root
+tells_count (imported held) image is = ap (λ (r : Root). r.changes) is.root
+tells_count (outdated held) image is = ap (λ (r : Root). r.changes) is.root
 
 pub root_of : (state : State) (view : DiskView) (opened : Opened) → Fits opened view → (holds : HoldsState state view) → opened_root opened ≡ holds.image.root
 root_of state view opened fits holds = root_found holds.image view opened fits holds.holds
@@ -129,6 +139,7 @@ sound_breaks (flow.Store store.Broken) P sound = absurd sound
 sound_breaks (flow.Store store.OutOfMemory) P sound = absurd sound
 sound_breaks flow.NotImported P sound = absurd sound
 sound_breaks flow.AlreadyImported P sound = absurd sound
+sound_breaks flow.OldFormat P sound = absurd sound
 sound_breaks flow.LastChange P sound = absurd sound
 sound_breaks (flow.TooMany value) P sound = absurd sound
 
@@ -204,53 +215,48 @@ none_blank view opened root same blank fits holds =
     let is : is_blank holds.image.root ≡ true = blank_root holds.image holds.means in
     absurd (cc (here, is, blank))
 
--- those of a store of a state are so, or those of an imported one
+-- those of a store of a state are so, or those of an imported one of one format or the other
 pub is_one : (state : State) (view : DiskView) (opened : Opened) (root : Root) → root ≡ opened_root opened → is_blank root ≡ false
-    → is_imported root ≡ false → Fits opened view → HoldsState state view → ⊥
-is_one formatted view opened root same blank other fits holds = none_blank view opened root same blank fits holds
-is_one (imported held) view opened root same blank other fits holds =
+    → is_old root ≡ false → is_imported root ≡ false → Fits opened view → HoldsState state view → ⊥
+is_one formatted view opened root same blank old other fits holds = none_blank view opened root same blank fits holds
+is_one (imported held) view opened root same blank old other fits holds =
     let here : is_imported root ≡ is_imported holds.image.root = ap (λ (r : Root). is_imported r) (same ∙ root_of (imported held) view opened fits holds) in
     let is : is_imported holds.image.root ≡ true = imported_root held holds.image holds.means in
     absurd (cc (here, is, other))
+is_one (outdated held) view opened root same blank old other fits holds =
+    let here : is_old root ≡ is_old holds.image.root = ap (λ (r : Root). is_old r) (same ∙ root_of (outdated held) view opened fits holds) in
+    let is : is_old holds.image.root ≡ true = old_root held holds.image holds.means in
+    absurd (cc (here, is, old))
 
--- and not both
-pub none_imported : (held : Holding) (view : DiskView) (opened : Opened) (root : Root) → root ≡ opened_root opened → is_blank root ≡ true → Fits opened view
-    → HoldsState (imported held) view → ⊥
-none_imported held view opened root same blank fits holds =
-    let here : is_blank root ≡ is_blank holds.image.root = ap (λ (r : Root). is_blank r) (same ∙ root_of (imported held) view opened fits holds) in
-    let is : is_blank holds.image.root ≡ false = imported_apart held holds.image holds.means in
-    absurd (cc (here, is, blank))
+-- a store with other fields than those was imported
+pub begun_state : (state : State) (view : DiskView) (opened : Opened) (root : Root) → root ≡ opened_root opened → is_blank root ≡ false
+    → Fits opened view → HoldsState state view → was_imported state ≡ true
+begun_state formatted view opened root same blank fits holds = absurd (none_blank view opened root same blank fits holds)
+begun_state (imported held) view opened root same blank fits holds = refl
+begun_state (outdated held) view opened root same blank fits holds = refl
 
 -- what was found of an imported store is what was found of a store
-pub found_of : (root : Root) (view new : DiskView) (found : Opened) (result : Result Judged FlowFault) → root ≡ opened_root found → is_blank root ≡ false
-    → IfOk result (λ opened. opened.changes ≡ root.changes)
-    → IfOk result (λ opened. Fits found view → (held : Holding) → HoldsState (imported held) view → (opened.style ≡ Some held.style) × Fits opened.store new)
+pub found_of : (root : Root) (view new : DiskView) (found : Opened) (dated : Bool) (result : Result Judged FlowFault) → root ≡ opened_root found
+    → is_blank root ≡ false → dated ≡ is_old root → IfOk result (λ opened. opened.changes ≡ root.changes)
+    → IfOk result (λ opened. opened.outdated ≡ dated)
+    → IfOk result (λ opened. Fits found view → (state : State) → HoldsState state view → was_imported state ≡ true
+    → (opened.style ≡ style_in state) × Fits opened.store new)
     → IfOk result (λ opened. Fits found view → (state : State) → HoldsState state view → Found state new opened)
-found_of root view new found (Err fault) same blank changes rest = tt
-found_of root view new found (Ok opened) same blank changes rest = λ fits state holds. by fits state holds
-  where
-    by : Fits found view → (state : State) → HoldsState state view → Found state new opened
-    by fits formatted holds = absurd (none_blank view found root same blank fits holds)
-    by fits (imported held) holds =
-        let are : root ≡ holds.image.root = same ∙ root_of (imported held) view found fits holds in
-        let is : IsImported held holds.image = holds.means in
-        let own = rest fits held holds in
-        record {
-          changes_are = changes ∙ ap (λ (r : Root). r.changes) (are ∙ is.root);
-          style_is = own.0;
-          fits = own.1;
-        }
-
-pub style_of : (root : Root) (view : DiskView) (found : Opened) (T : Type 0) → root ≡ opened_root found → is_blank root ≡ false
-    → ((held : Holding) → Fits found view → HoldsState (imported held) view → T) → (state : State) → Fits found view → HoldsState state view → T
-style_of root view found T same blank reads formatted fits holds = absurd (none_blank view found root same blank fits holds)
-style_of root view found T same blank reads (imported held) fits holds = reads held fits holds
+found_of root view new found dated (Err fault) same blank is changes old rest = tt
+found_of root view new found dated (Ok opened) same blank is changes old rest = λ fits state holds.
+    let are : root ≡ holds.image.root = same ∙ root_of state view found fits holds in
+    let own = rest fits state holds (begun_state state view found root same blank fits holds) in
+    record {
+      changes_are = changes ∙ ap (λ (r : Root). r.changes) are ∙ tells_count state holds.image holds.means;
+      style_is = own.0;
+      old_is = old ∙ is ∙ ap (λ (r : Root). is_old r) are ∙ tells_old state holds.image holds.means;
+      fits = own.1;
+    }
 
 pub sound_of : (root : Root) (view : DiskView) (found : Opened) (fault : Option FlowFault) → root ≡ opened_root found → is_blank root ≡ false
-    → (Fits found view → (held : Holding) → HoldsState (imported held) view → IsSound fault) → Fits found view → (state : State) → HoldsState state view
-    → IsSound fault
-sound_of root view found fault same blank sound fits formatted holds = absurd (none_blank view found root same blank fits holds)
-sound_of root view found fault same blank sound fits (imported held) holds = sound fits held holds
+    → (Fits found view → (state : State) → HoldsState state view → was_imported state ≡ true → IsSound fault)
+    → Fits found view → (state : State) → HoldsState state view → IsSound fault
+sound_of root view found fault same blank sound fits state holds = sound fits state holds (begun_state state view found root same blank fits holds)
 
 -- a disk that was only looked at held what it holds
 pub state_before : (state : State) (mid new : DiskView) (found : Opened) → Fits found mid → Stays mid new → IsAt state new → HoldsState state mid
@@ -270,10 +276,19 @@ state_before state mid new found fits stays at =
     }
 
 -- the style of an imported store is the one that its text spells
-pub style_one : (held : Holding) (image : Image) (style : StyleOf) → IsImported held image → reading (image.texts STYLE_TEXT) ≡ Ok style → style ≡ held.style
-style_one held image style is read =
-    let own : reading (image.texts STYLE_TEXT) ≡ Ok held.style = ap (λ (b : List ℕ). reading b) is.style_text ∙ is.style in
-    cc (read, own)
+pub style_good : (state : State) (image : Image) → Means state image → was_imported state ≡ true
+    → (style : StyleOf) × (Some style ≡ style_in state) × (reading (image.texts STYLE_TEXT) ≡ Ok style)
+style_good formatted image blank begun = absurd (cc (begun))
+style_good (imported held) image is begun = (held.style, refl, ap (λ (b : List ℕ). reading b) is.style_text ∙ is.style)
+style_good (outdated held) image is begun = (held.style, refl, ap (λ (b : List ℕ). reading b) is.style_text ∙ is.style)
+
+pub style_one : (state : State) (image : Image) (style : StyleOf) → Means state image → was_imported state ≡ true
+    → reading (image.texts STYLE_TEXT) ≡ Ok style → Some style ≡ style_in state
+style_one state image style means begun read =
+    let own = style_good state image means begun in
+    let good : reading (image.texts STYLE_TEXT) ≡ Ok own.0 = own.2 in
+    let same : style ≡ own.0 = cc (read, good) in
+    ap (λ (s : StyleOf). Some s) same ∙ own.1
 
 -- no answer of a store that means a state is that it is bad
 pub bad_none : (T : Type 0) (result : Result T FlowFault) (page : ℕ) → IsErrOf result (flow.Store (store.BadStore page)) → IsSound (result_err result) → ⊥
@@ -283,3 +298,4 @@ bad_none T result page is sound = subst (λ (r : Result T FlowFault). IsSound (r
 pub style_tells : (state : State) → is_some (style_in state) ≡ was_imported state
 style_tells formatted = refl
 style_tells (imported held) = refl
+style_tells (outdated held) = refl

@@ -5,17 +5,18 @@ use Rattle.outside.specs.Disk.{DiskView, Goes}
 use Rattle.style_read.specs.Style.{StyleOf}
 use Rattle.update_flow.specs.AtRest.{IsAt, IsOfEither, RestsAt}
 use Rattle.update_flow.specs.Refusals.{IsNoDiskFault, MayAnswer, MayLook}
-use Rattle.update_flow.specs.State.{State, Step, after, changes_in, style_in, was_imported}
+use Rattle.update_flow.specs.State.{State, Step, after, changes_in, style_in, was_imported, was_old}
 use Rattle.update_flow.specs.declared.fault.FlowFault.{FlowFault}
 
 -- the disk, the limits, whether no call of the disk has failed, the number of changes since the import, the style where it was
--- imported, and whether what it keeps in memory is so of the store on its disk
+-- imported, whether it has the old format, and whether what it keeps in memory is so of the store on its disk
 pub record Handle : Type 1 where
   pub view : DiskView
   pub limits : LimitNumbers
   pub whole : Bool
   pub changes : ℕ
   pub style : Option StyleOf
+  pub outdated : Bool
   pub keeps : Type 0
 
 abbrev pub view_of : Handle → DiskView
@@ -33,6 +34,9 @@ changes_of store = store.changes
 abbrev pub is_imported : Handle → Bool
 is_imported store = is_some store.style
 
+abbrev pub is_old : Handle → Bool
+is_old store = store.outdated
+
 abbrev pub style_of : Handle → Option StyleOf
 style_of store = store.style
 
@@ -40,12 +44,14 @@ style_of store = store.style
 pub record TellsAs (old new : Handle) : Type 0 where
   pub changes_same : changes_of new ≡ changes_of old
   pub imported_same : is_imported new ≡ is_imported old
+  pub old_same : is_old new ≡ is_old old
   pub style_same : style_of new ≡ style_of old
 
 -- it tells what is so of a state
 pub record Shows (state : State) (store : Handle) : Type 0 where
   pub changes_are : changes_of store ≡ changes_in state
   pub imported_is : is_imported store ≡ was_imported state
+  pub old_is : is_old store ≡ was_old state
   pub style_is : style_of store ≡ style_in state
 
 -- the store is at rest on its disk at this state, and no call of the disk has failed

@@ -8,7 +8,7 @@ use Rattle.page_journal.specs.declared.fault.StoreFault.TheVariants as store
 use Rattle.update_flow.specs.declared.fault.FlowFault.{FlowFault}
 use Rattle.update_flow.specs.declared.fault.FlowFault.TheVariants as flow
 use Rattle.update_flow.specs.declared.fault.TheConstants.{LAST_CHANGE}
-use Rattle.update_flow.specs.State.{Holding, State, formatted, imported, Step, Import, Append, Clear}
+use Rattle.update_flow.specs.State.{Holding, State, formatted, imported, outdated, Step, Import, Append, Clear, Migrate}
 
 -- these many objects are pending in a change
 abbrev pub ArePending : Holding → List Entry → PendingOf → Type 0
@@ -29,11 +29,15 @@ Refuses limits formatted _ fault = fault ≡ Some flow.NotImported
 Refuses limits (imported held) (Import style bytes buckets entries) fault = fault ≡ Some flow.AlreadyImported
 Refuses limits (imported held) (Append bounds change) fault = RefusesChange limits held change fault
 Refuses limits (imported held) Clear fault = fault ≡ None
+Refuses limits (imported held) Migrate fault = fault ≡ None
+Refuses limits (outdated held) Migrate fault = fault ≡ None
+Refuses limits (outdated held) _ fault = fault ≡ Some flow.OldFormat
 
 -- a look at what was imported is refused so, or not at all
 abbrev pub RefusesLook : State → Option FlowFault → Type 0
 RefusesLook formatted fault = fault ≡ Some flow.NotImported
 RefusesLook (imported held) fault = fault ≡ None
+RefusesLook (outdated held) fault = fault ≡ Some flow.OldFormat
 
 -- whatever the state, the disk may fail and memory may run out
 abbrev pub OrBreaks : Option FlowFault → Type 0 → Type 0

@@ -18,6 +18,13 @@ settled number runs image = with_root (counted_to number image.root) (with_text 
 abbrev pub fresh_root : ℕ → Root
 fresh_root buckets = record { format = IMPORTED_FORMAT; state = IMPORTED; changes = 0; buckets = buckets }
 
+-- the fields of an old store in the format of today, and the store with them
+abbrev pub migrated_root : Root → Root
+migrated_root root = record { format = IMPORTED_FORMAT; state = root.state; changes = root.changes; buckets = root.buckets }
+
+abbrev pub migrated : Image → Image
+migrated image = with_root (migrated_root image.root) image
+
 -- a store that was just imported, with these bytes of its style
 abbrev pub begun : List ℕ → Image → Image
 begun bytes image = with_root (fresh_root image.root.buckets) (with_text STYLE_TEXT bytes image)

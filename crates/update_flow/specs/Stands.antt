@@ -1,7 +1,8 @@
 -- The bytes of a store that stands for a state.
 -- docs/FILES.md, "The root page" and "Chains": state 0 of a store that was only made, all of whose strings are empty; state 1 of an
--- imported one, with the style's bytes as string 1 and the due set as string 2.
-use Rattle.std.specs.Prelude.{◌≡◌, ◌≢◌, ◌<◌, ◌≤◌, ℕ, List, [], Ok, IsTrue}
+-- imported one, with the style's bytes as string 1 and the due set as string 2. An old store has state 1 too, in format 1, with the
+-- places of nodes alone and a style that does not reach nodes.
+use Rattle.std.specs.Prelude.{◌≡◌, ◌≢◌, ◌<◌, ◌≤◌, ℕ, List, [], Ok, IsTrue, false}
 use Rattle.std.specs.Int.{is_power_of_two}
 use Rattle.style_read.specs.Reading.{reading}
 use Rattle.tile_cover.specs.declared.runs.Run.{Run}
@@ -9,13 +10,14 @@ use Rattle.tile_cover.specs.Runs.{IsTileSet, has}
 use Rattle.due_tiles.specs.Spelling.{set_bytes}
 use Rattle.bucket_store.specs.Image.{HasImage, Image}
 use Rattle.object_fold.specs.Listings.{HasIds}
+use Rattle.row_map.specs.Condition.{reaches_nodes}
 use Rattle.store_maps.specs.Maps.{Maps}
 use Rattle.store_maps.specs.Stands.{Stands}
-use Rattle.kept_maps.specs.Kept.{HoldsMaps}
+use Rattle.kept_maps.specs.Kept.{HoldsMaps, HoldsOldMaps}
 use Rattle.update_flow.specs.Due.{Tiles}
-use Rattle.update_flow.specs.State.{Holding, State, formatted, imported}
+use Rattle.update_flow.specs.State.{Holding, State, formatted, imported, outdated}
 use Rattle.update_flow.specs.declared.fault.TheConstants.{LAST_CHANGE}
-use Rattle.update_flow.specs.declared.fields.TheConstants.{BLANK, BLANK_FORMAT, DUE_TEXT, IMPORTED, IMPORTED_FORMAT, STYLE_TEXT}
+use Rattle.update_flow.specs.declared.fields.TheConstants.{BLANK, BLANK_FORMAT, DUE_TEXT, IMPORTED, IMPORTED_FORMAT, OLD_FORMAT, STYLE_TEXT}
 
 -- these bytes are those of this set of tiles
 pub record AreDue (bytes : List ℕ) (due : Tiles) : Type 0 where
@@ -35,9 +37,16 @@ pub record HasMapsOf (held : Holding) (image : Image) : Type 0 where
   pub kept : HoldsMaps held.style.tables image.maps maps
   pub stand : Stands held.style maps held.objects
 
--- an imported store that holds this
-pub record IsImported (held : Holding) (image : Image) : Type 0 where
-  pub root : image.root ≡ record { format = IMPORTED_FORMAT; state = IMPORTED; changes = held.changes; buckets = held.buckets }
+-- the maps of an old store do, under a style that does not reach nodes
+pub record HasOldMapsOf (held : Holding) (image : Image) : Type 0 where
+  pub maps : Maps
+  pub kept : HoldsOldMaps held.style.tables image.maps maps
+  pub stand : Stands held.style maps held.objects
+  pub unreached : reaches_nodes held.style ≡ false
+
+-- an imported store of this format that holds this, in such maps
+pub record IsOfFormat (format : ℕ) (MapsOf : Holding → Image → Type 0) (held : Holding) (image : Image) : Type 0 where
+  pub root : image.root ≡ record { format = format; state = IMPORTED; changes = held.changes; buckets = held.buckets }
   pub counted : held.changes ≤ LAST_CHANGE
   pub some : 1 ≤ held.buckets
   pub power : IsTrue (is_power_of_two held.buckets)
@@ -47,12 +56,20 @@ pub record IsImported (held : Holding) (image : Image) : Type 0 where
   pub due : AreDue (image.texts DUE_TEXT) held.due
   pub others : (n : ℕ) → n < 8 → n ≢ STYLE_TEXT → n ≢ DUE_TEXT → image.texts n ≡ []
   pub ids : HasIds held.objects
-  pub maps : HasMapsOf held image
+  pub maps : MapsOf held image
+
+-- of the format of today, and of the old one
+abbrev pub IsImported : Holding → Image → Type 0
+IsImported held image = IsOfFormat IMPORTED_FORMAT HasMapsOf held image
+
+abbrev pub IsOld : Holding → Image → Type 0
+IsOld held image = IsOfFormat OLD_FORMAT HasOldMapsOf held image
 
 -- a store means a state
 abbrev pub Means : State → Image → Type 0
 Means formatted image = IsBlank image
 Means (imported held) image = IsImported held image
+Means (outdated held) image = IsOld held image
 
 -- the bytes of a store stand for this state
 unfoldable pub StandsFor : List ℕ → State → Type 0

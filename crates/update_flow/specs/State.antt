@@ -19,16 +19,20 @@ pub record Holding : Type 0 where
   pub changes : ℕ
   pub due : Tiles
 
--- a store was only made, or it was imported
+-- a store was only made; or it was imported; or it was imported by a program of before the tags of nodes were kept, and has that
+-- program's format
 pub data State : Type 0 where
   formatted : State
   imported : Holding → State
+  outdated : Holding → State
 
--- the first import of these objects, a change of them with the boundaries by which tiles are due, and the clearing of due tiles
+-- the first import of these objects, a change of them with the boundaries by which tiles are due, the clearing of due tiles, and
+-- the writing of an old store in the format of today
 pub data Step : Type 0 where
   Import : StyleOf → (style_bytes : List ℕ) → (buckets : ℕ) → List Entry → Step
   Append : BoundsOf → List Entry → Step
   Clear : Step
+  Migrate : Step
 
 -- an import of these entries into an empty store
 abbrev pub fresh : StyleOf → List ℕ → ℕ → List Entry → Holding
@@ -53,22 +57,34 @@ changed bounds change held = record held {
 abbrev pub cleared : Holding → Holding
 cleared held = record held { due = no_tiles }
 
--- the state after a step. An import stands first and nowhere else; a step that cannot be taken changes nothing.
+-- the state after a step. An import stands first and nowhere else; an old store was changed and cleared by the program that made
+-- it; a step that cannot be taken changes nothing.
 abbrev pub after : State → Step → State
 after formatted (Import style style_bytes buckets entries) = imported (fresh style style_bytes buckets entries)
 after (imported held) (Append bounds change) = imported (changed bounds change held)
 after (imported held) Clear = imported (cleared held)
+after (outdated held) (Append bounds change) = outdated (changed bounds change held)
+after (outdated held) Clear = outdated (cleared held)
+after (outdated held) Migrate = imported held
 after state _ = state
 
--- the number of changes since the import, whether there was one, and its style
+-- the number of changes since the import, whether there was one, whether it was one of the old format, and its style
 abbrev pub changes_in : State → ℕ
 changes_in formatted = 0
 changes_in (imported held) = held.changes
+changes_in (outdated held) = held.changes
 
 abbrev pub was_imported : State → Bool
 was_imported formatted = false
 was_imported (imported held) = true
+was_imported (outdated held) = true
+
+abbrev pub was_old : State → Bool
+was_old formatted = false
+was_old (imported held) = false
+was_old (outdated held) = true
 
 abbrev pub style_in : State → Option StyleOf
 style_in formatted = None
 style_in (imported held) = Some held.style
+style_in (outdated held) = Some held.style

@@ -30,6 +30,7 @@ handle_of updater = record {
   whole = is_some updater.store;
   changes = updater.changes;
   style = updater.style;
+  outdated = updater.outdated;
   keeps = KeptFits updater.store (disk_in updater);
 }
 

@@ -23,6 +23,9 @@ pub enum FlowFault {
     NotImported,
     #[error("already imported")]
     AlreadyImported,
+    /// A program of before made the store, and it was not migrated since.
+    #[error("old format")]
+    OldFormat,
     /// The store has had as many changes as can be counted.
     #[error("no further change can be counted")]
     LastChange,

@@ -1,6 +1,6 @@
 //! What the root of a store says of it, and which of its texts says what.
 ghost use Rattle.std.specs.Prelude.{◌≡◌};
-ghost use Rattle.update_flow.specs.Roots.{is_blank, is_imported};
+ghost use Rattle.update_flow.specs.Roots.{is_blank, is_imported, is_of, is_old};
 
 use crate::LAST_CHANGE;
 use chain_store::Root;
@@ -13,6 +13,9 @@ pub const BLANK: u64 = 0;
 
 /// The format of an imported store.
 pub const IMPORTED_FORMAT: u64 = 2;
+
+/// The format of an imported store that knows the places of nodes alone.
+pub const OLD_FORMAT: u64 = 1;
 
 /// The state of an imported store.
 pub const IMPORTED: u64 = 1;
@@ -34,7 +37,21 @@ pub fn is_blank(root: Root) -> bool
 pub fn is_imported(root: Root) -> bool
     ensures { result ≡ is_imported root }
 {
-    root.format == IMPORTED_FORMAT
+    is_of(IMPORTED_FORMAT, root)
+}
+
+/// Whether these may be those of an old store.
+pub fn is_old(root: Root) -> bool
+    ensures { result ≡ is_old root }
+{
+    is_of(OLD_FORMAT, root)
+}
+
+/// Whether these may be those of a store that was imported in this format.
+fn is_of(format: u64, root: Root) -> bool
+    ensures { result ≡ is_of format root }
+{
+    root.format == format
         && root.state == IMPORTED
         && root.buckets != 0
         && root.changes <= LAST_CHANGE

@@ -13,6 +13,7 @@ mod fields;
 mod finishing;
 mod ids;
 mod importing;
+mod migrating;
 mod opened;
 mod opening;
 mod over_disk;
@@ -23,7 +24,8 @@ mod updater;
 
 pub use fault::{FlowFault, LAST_CHANGE, store_fault};
 pub use fields::{
-    BLANK, BLANK_FORMAT, DUE_TEXT, IMPORTED, IMPORTED_FORMAT, STYLE_TEXT, is_blank, is_imported,
+    BLANK, BLANK_FORMAT, DUE_TEXT, IMPORTED, IMPORTED_FORMAT, OLD_FORMAT, STYLE_TEXT, is_blank,
+    is_imported, is_old,
 };
 pub use opened::Opened;
 pub use opening::open;

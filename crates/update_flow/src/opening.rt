@@ -1,5 +1,5 @@
 //! A store is opened on a disk that stays with its owner.
-ghost use Rattle.std.specs.Prelude.{◌≡◌, ◌≢◌, ◌≤◌, List, ℕ, Some, IfOk, IfErr, IsErrOf, OnOk};
+ghost use Rattle.std.specs.Prelude.{◌≡◌, ◌≢◌, ◌≤◌, List, ℕ, true, IfOk, IfErr, IsErrOf, OnOk};
 ghost use Rattle.std.specs.Result.{result_err};
 ghost use Rattle.outside.specs.Bytes.{IfTold, IsTold};
 ghost use Rattle.outside.specs.Disk.{Stays, Tells};
@@ -9,7 +9,7 @@ ghost use Rattle.page_journal.specs.declared.layout.TheConstants.{OPEN};
 ghost use Rattle.page_journal.specs.declared.fault.StoreFault.TheVariants.{BadStore, NotFormatted};
 ghost use Rattle.bucket_store.specs.Opening.{Fits};
 ghost use Rattle.update_flow.specs.AtRest.{HasFlowCause, IsAt, IsAtEither, Opens, OpensAs, StandsForNone};
-ghost use Rattle.update_flow.specs.State.{Holding, State, imported};
+ghost use Rattle.update_flow.specs.State.{State, style_in, was_imported};
 ghost use Rattle.update_flow.specs.Stands.{StandsFor};
 ghost use Rattle.update_flow.specs.Refusals.{IsNoDiskFault, IsOpenFault, MayFind};
 ghost use Rattle.update_flow.specs.Opening.{Found, HoldsState};
@@ -19,7 +19,7 @@ ghost use Rattle.update_flow.specs.declared.fault.FlowFault.TheVariants.{Store};
 ghost use Rattle.update_flow.specs.declared.fault.TheConstants.{LAST_CHANGE};
 
 use crate::fault::store_fault;
-use crate::fields::{is_blank, is_imported};
+use crate::fields::{is_blank, is_imported, is_old};
 use crate::style_text::load_style;
 use crate::{FlowFault, Opened};
 use bucket_store::{Buckets, Opened as Stored};
@@ -78,31 +78,36 @@ fn judged<D: Disk>(
             store: found,
             changes: 0,
             style: None,
+            outdated: false,
         });
     }
-    if !is_imported(root) {
+    let outdated = is_old(root);
+    if !outdated && !is_imported(root) {
         return Err(FlowFault::Store(StoreFault::BadStore { page: 1 }));
     }
-    with_style(alloc, disk, limits, found, root.changes)
+    with_style(alloc, disk, limits, found, root.changes, outdated)
 }
 
-/// An imported store with so many changes, of which this was read. `BadStore` comes with the root page where its style does
-/// not read.
+/// An imported store with so many changes, an old one or not, of which this was read. `BadStore` comes with the root page where its
+/// style does not read.
 fn with_style<D: Disk>(
     alloc: Global,
     disk: &mut D,
     limits: &Limits,
     found: Stored,
     changes: u64,
+    outdated: bool,
 ) -> Result<Opened, FlowFault>
     requires counted { changes ≤ LAST_CHANGE }
     ensures changes { IfOk result (λ opened. opened.changes ≡ changes) }
-    ensures found { IfOk result (λ opened. Fits found (D.view disk.old) → (held : Holding) → HoldsState (imported held) (D.view disk.old)
-        → (opened.style ≡ Some held.style) × Fits opened.store (D.view disk.new)) }
-    ensures sound { Fits found (D.view disk.old) → (held : Holding) → HoldsState (imported held) (D.view disk.old) → IsSound (result_err result) }
+    ensures outdated { IfOk result (λ opened. opened.outdated ≡ outdated) }
+    ensures found { IfOk result (λ opened. Fits found (D.view disk.old) → (state : State) → HoldsState state (D.view disk.old)
+        → was_imported state ≡ true → (opened.style ≡ style_in state) × Fits opened.store (D.view disk.new)) }
+    ensures sound { Fits found (D.view disk.old) → (state : State) → HoldsState state (D.view disk.old) → was_imported state ≡ true
+        → IsSound (result_err result) }
     ensures alone { IfErr result MayFind }
     ensures stays { Stays (D.view disk.old) (D.view disk.new) }
-    ensures once { OnOk result ((held : Holding) → Fits found (D.view disk.old) → HoldsState (imported held) (D.view disk.old)
+    ensures once { OnOk result ((state : State) → Fits found (D.view disk.old) → HoldsState state (D.view disk.old)
         → ReadsStyle (D.view disk.old) (D.view disk.new)) }
     ensures cause { HasFlowCause (result_err result) (D.view disk.old) (D.view disk.new) }
 {
@@ -119,6 +124,7 @@ fn with_style<D: Disk>(
             store,
             changes,
             style: Some(style),
+            outdated,
         }),
         None => unreachable!(),
     }

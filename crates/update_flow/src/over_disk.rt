@@ -13,7 +13,7 @@ ghost use Rattle.update_step.specs.Touch.{MayTouch};
 ghost use Rattle.update_flow.specs.ChangeReads.{ReadsTouched};
 ghost use Rattle.update_flow.specs.Changes.{AreChanges};
 ghost use Rattle.update_flow.specs.Opening.{HoldsState};
-ghost use Rattle.update_flow.specs.State.{Append, Clear, Holding, Import, formatted, imported};
+ghost use Rattle.update_flow.specs.State.{Append, Clear, Holding, Import, Migrate, formatted, imported, outdated};
 ghost use Rattle.update_flow.specs.Turning.{EndsOn, LooksOn, TurnsOn};
 ghost use Rattle.update_flow.specs.Within.{wanted_of};
 ghost use Rattle.update_flow.specs.declared.fault.TheConstants.{LAST_CHANGE};
@@ -22,6 +22,7 @@ use crate::appending::append;
 use crate::clearing::clear;
 use crate::due_text::load_due;
 use crate::importing::import;
+use crate::migrating::migrate;
 use crate::reading::load_rows;
 use crate::{FlowFault, LAST_CHANGE};
 use bucket_store::{Buckets, Opened as Stored};
@@ -50,6 +51,24 @@ pub(crate) fn clear_on<D: Disk>(
     let cleared = clear(alloc, &mut buckets);
     let _disk = buckets.hand_back(kept);
     cleared
+}
+
+/// An old store is written in the format of today, by one commit.
+pub(crate) fn migrate_on<D: Disk>(
+    alloc: Global,
+    disk: &mut D,
+    limits: &Limits,
+    store: Stored,
+    kept: &mut Option<Stored>,
+) -> Result<(), FlowFault>
+    ensures turns { (held : Holding) → Fits store (D.view disk.old) → HoldsState (outdated held) (D.view disk.old)
+        → TurnsOn limits.now (outdated held) Migrate (result_err result) (D.view disk.old) (D.view disk.new) kept.new }
+    ensures ends { EndsOn (result_err result) (D.view disk.old) (D.view disk.new) kept.new }
+{
+    let mut buckets = Buckets::on(alloc, disk, limits, store);
+    let migrated = migrate(alloc, &mut buckets);
+    let _disk = buckets.hand_back(kept);
+    migrated
 }
 
 /// The tiles that are due.

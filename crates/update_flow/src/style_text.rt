@@ -2,13 +2,12 @@
 ghost use Rattle.std.specs.Prelude.{◌≡◌, ℕ, Ok, false, IfErr, IfOk, OnOk};
 ghost use Rattle.std.specs.Result.{result_err};
 ghost use Rattle.style_read.specs.Reading.{reading};
+ghost use Rattle.style_read.specs.Style.{StyleOf};
 ghost use Rattle.bucket_store.specs.Image.{Has, Image, with_text};
 ghost use Rattle.chain_store.specs.Chains.{disk_of};
 ghost use Rattle.bucket_store.specs.Transaction.{chains_of, has_refused};
 ghost use Rattle.update_flow.specs.OpeningReads.{ReadsStyle};
 ghost use Rattle.update_flow.specs.Refusals.{MayFind};
-ghost use Rattle.update_flow.specs.Stands.{IsImported};
-ghost use Rattle.update_flow.specs.State.{Holding};
 ghost use Rattle.update_flow.specs.Within.{IsSound, Runs, is_whole_store};
 ghost use Rattle.update_flow.specs.declared.fields.TheConstants.{STYLE_TEXT};
 
@@ -26,7 +25,7 @@ pub fn load_style<D: Disk>(alloc: Global, buckets: &mut Buckets<'_, D>) -> Resul
     requires going { has_refused buckets.old ≡ false }
     requires whole { is_whole_store buckets.old }
     ensures style { IfOk result (λ style. (rest now : Image) → Has rest now buckets.old → reading (now.texts STYLE_TEXT) ≡ Ok style) }
-    ensures sound { (rest now : Image) (held : Holding) → Has rest now buckets.old → IsImported held now → IsSound (result_err result) }
+    ensures sound { (rest now : Image) (style : StyleOf) → Has rest now buckets.old → reading (now.texts STYLE_TEXT) ≡ Ok style → IsSound (result_err result) }
     ensures alone { IfErr result MayFind }
     ensures reads { OnOk result ((rest now : Image) → Has rest now buckets.old
         → ReadsStyle (disk_of (chains_of buckets.old)) (disk_of (chains_of buckets.new))) }

@@ -1,8 +1,8 @@
 //! An open store.
-ghost use Rattle.std.specs.Prelude.{◌≡◌, ◌≤◌, true, false};
+ghost use Rattle.std.specs.Prelude.{◌≡◌, ◌≤◌, None, true, false};
 ghost use Rattle.std.specs.Option.{option_copied};
 ghost use Rattle.update_flow.specs.AtRest.{IsAt};
-ghost use Rattle.update_flow.specs.Handle.{IsOpen, changes_of, is_imported, is_whole, limits_of, style_of};
+ghost use Rattle.update_flow.specs.Handle.{IsOpen, changes_of, is_imported, is_old, is_whole, limits_of, style_of};
 ghost use Rattle.update_flow.specs.Opening.{Found};
 ghost use Rattle.update_flow.specs.State.{State};
 ghost use Rattle.update_flow.specs.declared.fault.TheConstants.{LAST_CHANGE};
@@ -10,6 +10,7 @@ ghost use Rattle.update_flow.specs.declared.fault.TheConstants.{LAST_CHANGE};
 mod appending;
 mod importing;
 mod looking;
+mod migrating;
 mod turning;
 
 use crate::Opened;
@@ -28,7 +29,9 @@ pub struct Updater<'d, D: Disk> {
     store: Option<Stored>,
     changes: u64,
     style: Option<Style>,
+    outdated: bool,
     ghost counted: { changes ≤ LAST_CHANGE },
+    ghost unbegun: { style ≡ None → outdated ≡ false },
 }
 
 impl<'d, D: Disk> Updater<'d, D> {
@@ -44,11 +47,13 @@ impl<'d, D: Disk> Updater<'d, D> {
         // Whatever the disk holds.
         ensures whole { is_whole (handle_of result) ≡ true }
         ensures begun { is_imported (handle_of result) ≡ false → changes_of (handle_of result) ≡ 0 }
+        ensures unbegun { is_imported (handle_of result) ≡ false → is_old (handle_of result) ≡ false }
     {
         let Opened {
             store,
             changes,
             style,
+            outdated,
         } = opened;
         Updater {
             disk,
@@ -57,6 +62,7 @@ impl<'d, D: Disk> Updater<'d, D> {
             store: Some(store),
             changes,
             style,
+            outdated,
         }
     }
 
@@ -72,6 +78,7 @@ impl<'d, D: Disk> Updater<'d, D> {
             store: _,
             changes: _,
             style: _,
+            outdated: _,
         } = self;
         disk
     }
@@ -89,6 +96,13 @@ impl<'d, D: Disk> Updater<'d, D> {
         ensures is { result ≡ is_imported (handle_of self.now) }
     {
         self.style.is_some()
+    }
+
+    /// Whether it is an old store: it was imported by a program of before, and is to be migrated.
+    pub fn old(&self) -> bool
+        ensures is { result ≡ is_old (handle_of self.now) }
+    {
+        self.outdated
     }
 
     /// The style of the store. `None`: it was not imported.

@@ -9,10 +9,10 @@ ghost use Rattle.update_step.specs.Touch.{MayTouch};
 ghost use Rattle.update_flow.specs.AtRest.{HasFlowCause};
 ghost use Rattle.update_flow.specs.ChangeReads.{ReadsTouched};
 ghost use Rattle.update_flow.specs.Changes.{IsDeltaOf};
-ghost use Rattle.update_flow.specs.Handle.{IsOpen, Takes, TellsAs, changes_of, is_imported, is_whole, style_of, view_of};
+ghost use Rattle.update_flow.specs.Handle.{IsOpen, Takes, TellsAs, changes_of, is_imported, is_old, is_whole, style_of, view_of};
 ghost use Rattle.update_flow.specs.Refusals.{IsCallFault};
 ghost use Rattle.update_flow.specs.State.{Append, Holding, State, imported};
-ghost use Rattle.update_flow.specs.declared.fault.FlowFault.TheVariants.{NotImported, Store};
+ghost use Rattle.update_flow.specs.declared.fault.FlowFault.TheVariants.{NotImported, OldFormat, Store};
 
 use super::Updater;
 use crate::over_disk::append_on;
@@ -50,17 +50,23 @@ impl<D: Disk> Updater<'_, D> {
             → ReadsTouched may held.buckets pages (view_of (handle_of self.old)) (view_of (handle_of self.new))) }
 
         // Whatever the disk holds.
+        ensures old_format { is_old (handle_of self.old) ≡ true → IsErrOf result OldFormat }
         ensures not_imported { is_imported (handle_of self.old) ≡ false → IsErrOf result NotImported }
         ensures version { IfOk result (λ delta. delta.version ≡ changes_of (handle_of self.old) + 1) }
         ensures changes { OnOk result (changes_of (handle_of self.new) ≡ changes_of (handle_of self.old) + 1) }
-        ensures style { OnOk result ((is_imported (handle_of self.new) ≡ true) × (style_of (handle_of self.new) ≡ style_of (handle_of self.old))) }
+        ensures style { OnOk result ((is_imported (handle_of self.new) ≡ true) × (is_old (handle_of self.new) ≡ false)
+            × (style_of (handle_of self.new) ≡ style_of (handle_of self.old))) }
         ensures tells { IsErr result → TellsAs (handle_of self.old) (handle_of self.new) }
         ensures stays { StaysOver self.old self.new }
         ensures alone { IfErr result IsCallFault }
         ensures whole { OnOk result (is_whole (handle_of self.new) ≡ is_whole (handle_of self.old)) }
+        ensures not_old { IsErrOf result OldFormat → is_old (handle_of self.old) ≡ true }
         ensures broken { IsErrOf result (Store Broken) → is_whole (handle_of self.old) ≡ false }
         ensures cause { HasFlowCause (result_err result) (view_of (handle_of self.old)) (view_of (handle_of self.new)) }
     {
+        if self.old() {
+            return Err(FlowFault::OldFormat);
+        }
         let Some(style) = &self.style else {
             return Err(FlowFault::NotImported);
         };

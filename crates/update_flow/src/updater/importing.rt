@@ -5,10 +5,10 @@ ghost use Rattle.std.specs.Result.{result_err};
 ghost use Rattle.page_journal.specs.declared.fault.StoreFault.TheVariants.{Broken};
 ghost use Rattle.style_read.specs.Reading.{reading};
 ghost use Rattle.update_flow.specs.AtRest.{HasFlowCause};
-ghost use Rattle.update_flow.specs.Handle.{IsOpen, Takes, TellsAs, changes_of, is_imported, is_whole, style_of, view_of};
+ghost use Rattle.update_flow.specs.Handle.{IsOpen, Takes, TellsAs, changes_of, is_imported, is_old, is_whole, style_of, view_of};
 ghost use Rattle.update_flow.specs.Refusals.{IsCallFault};
 ghost use Rattle.update_flow.specs.State.{Import, State};
-ghost use Rattle.update_flow.specs.declared.fault.FlowFault.TheVariants.{AlreadyImported, Store};
+ghost use Rattle.update_flow.specs.declared.fault.FlowFault.TheVariants.{AlreadyImported, OldFormat, Store};
 
 use super::Updater;
 use crate::FlowFault;
@@ -44,16 +44,21 @@ impl<D: Disk> Updater<'_, D> {
             → Takes state (Import style style_bytes.now buckets change) (result_err result) (handle_of self.old) (handle_of self.new) }
 
         // Whatever the disk holds.
-        ensures again { is_imported (handle_of self.old) ≡ true → IsErrOf result AlreadyImported }
-        ensures imported { OnOk result ((is_imported (handle_of self.new) ≡ true) × (changes_of (handle_of self.new) ≡ 0)
-            × (style_of (handle_of self.new) ≡ Some style)) }
+        ensures old_format { is_old (handle_of self.old) ≡ true → IsErrOf result OldFormat }
+        ensures again { is_old (handle_of self.old) ≡ false → is_imported (handle_of self.old) ≡ true → IsErrOf result AlreadyImported }
+        ensures imported { OnOk result ((is_imported (handle_of self.new) ≡ true) × (is_old (handle_of self.new) ≡ false)
+            × (changes_of (handle_of self.new) ≡ 0) × (style_of (handle_of self.new) ≡ Some style)) }
         ensures tells { IsErr result → TellsAs (handle_of self.old) (handle_of self.new) }
         ensures stays { StaysOver self.old self.new }
         ensures alone { IfErr result IsCallFault }
         ensures whole { OnOk result (is_whole (handle_of self.new) ≡ is_whole (handle_of self.old)) }
+        ensures not_old { IsErrOf result OldFormat → is_old (handle_of self.old) ≡ true }
         ensures broken { IsErrOf result (Store Broken) → is_whole (handle_of self.old) ≡ false }
         ensures cause { HasFlowCause (result_err result) (view_of (handle_of self.old)) (view_of (handle_of self.new)) }
     {
+        if self.old() {
+            return Err(FlowFault::OldFormat);
+        }
         if self.imported() {
             return Err(FlowFault::AlreadyImported);
         }

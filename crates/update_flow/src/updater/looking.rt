@@ -6,10 +6,10 @@ ghost use Rattle.row_map.specs.Row.{tables};
 ghost use Rattle.tile_cover.specs.Runs.{has};
 ghost use Rattle.update_flow.specs.AtRest.{HasFlowCause};
 ghost use Rattle.update_flow.specs.Changes.{only_table};
-ghost use Rattle.update_flow.specs.Handle.{IsOpen, Looks, TellsAs, is_imported, is_whole, view_of};
+ghost use Rattle.update_flow.specs.Handle.{IsOpen, Looks, TellsAs, is_imported, is_old, is_whole, view_of};
 ghost use Rattle.update_flow.specs.Refusals.{IsCallFault};
 ghost use Rattle.update_flow.specs.State.{Holding, State, imported};
-ghost use Rattle.update_flow.specs.declared.fault.FlowFault.TheVariants.{NotImported, Store};
+ghost use Rattle.update_flow.specs.declared.fault.FlowFault.TheVariants.{NotImported, OldFormat, Store};
 
 use super::Updater;
 use crate::FlowFault;
@@ -28,14 +28,19 @@ impl<D: Disk> Updater<'_, D> {
         ensures tables { IfOk result (λ found. (held : Holding) → IsOpen (imported held) (handle_of self.old) → found ≡ tables held.style held.objects) }
 
         // Whatever the disk holds.
+        ensures old_format { is_old (handle_of self.old) ≡ true → IsErrOf result OldFormat }
         ensures not_imported { is_imported (handle_of self.old) ≡ false → IsErrOf result NotImported }
         ensures tells { TellsAs (handle_of self.old) (handle_of self.new) }
         ensures stays { StaysOver self.old self.new }
         ensures alone { IfErr result IsCallFault }
         ensures whole { OnOk result (is_whole (handle_of self.new) ≡ is_whole (handle_of self.old)) }
+        ensures not_old { IsErrOf result OldFormat → is_old (handle_of self.old) ≡ true }
         ensures broken { IsErrOf result (Store Broken) → is_whole (handle_of self.old) ≡ false }
         ensures cause { HasFlowCause (result_err result) (view_of (handle_of self.old)) (view_of (handle_of self.new)) }
     {
+        if self.old() {
+            return Err(FlowFault::OldFormat);
+        }
         let Some(style) = &self.style else {
             return Err(FlowFault::NotImported);
         };
@@ -59,14 +64,19 @@ impl<D: Disk> Updater<'_, D> {
         ensures table { IfOk result (λ found. (held : Holding) → IsOpen (imported held) (handle_of self.old) → found ≡ only_table table (tables held.style held.objects)) }
 
         // Whatever the disk holds.
+        ensures old_format { is_old (handle_of self.old) ≡ true → IsErrOf result OldFormat }
         ensures not_imported { is_imported (handle_of self.old) ≡ false → IsErrOf result NotImported }
         ensures tells { TellsAs (handle_of self.old) (handle_of self.new) }
         ensures stays { StaysOver self.old self.new }
         ensures alone { IfErr result IsCallFault }
         ensures whole { OnOk result (is_whole (handle_of self.new) ≡ is_whole (handle_of self.old)) }
+        ensures not_old { IsErrOf result OldFormat → is_old (handle_of self.old) ≡ true }
         ensures broken { IsErrOf result (Store Broken) → is_whole (handle_of self.old) ≡ false }
         ensures cause { HasFlowCause (result_err result) (view_of (handle_of self.old)) (view_of (handle_of self.new)) }
     {
+        if self.old() {
+            return Err(FlowFault::OldFormat);
+        }
         let Some(style) = &self.style else {
             return Err(FlowFault::NotImported);
         };
@@ -91,14 +101,19 @@ impl<D: Disk> Updater<'_, D> {
             → (zoom x y : ℕ) → has found zoom x y ≡ held.due zoom x y) }
 
         // Whatever the disk holds.
+        ensures old_format { is_old (handle_of self.old) ≡ true → IsErrOf result OldFormat }
         ensures not_imported { is_imported (handle_of self.old) ≡ false → IsErrOf result NotImported }
         ensures tells { TellsAs (handle_of self.old) (handle_of self.new) }
         ensures stays { StaysOver self.old self.new }
         ensures alone { IfErr result IsCallFault }
         ensures whole { OnOk result (is_whole (handle_of self.new) ≡ is_whole (handle_of self.old)) }
+        ensures not_old { IsErrOf result OldFormat → is_old (handle_of self.old) ≡ true }
         ensures broken { IsErrOf result (Store Broken) → is_whole (handle_of self.old) ≡ false }
         ensures cause { HasFlowCause (result_err result) (view_of (handle_of self.old)) (view_of (handle_of self.new)) }
     {
+        if self.old() {
+            return Err(FlowFault::OldFormat);
+        }
         if !self.imported() {
             return Err(FlowFault::NotImported);
         }

@@ -1,24 +1,19 @@
 -- The fields say which state it is.
 use Rattle.std.proofs.Common.{sym}
 use Rattle.std.specs.Result.{result_err}
-use Rattle.std.proofs.lemmas.Result.{on_ok_weaker}
-use Rattle.bucket_store.specs.Opening.{Fits}
-use Rattle.update_flow.specs.Opening.{HoldsState}
-use Rattle.update_flow.specs.OpeningReads.{ReadsStyle}
-use Rattle.update_flow.specs.State.{Holding, State, imported}
 use Rattle.update_flow.proofs.OpeningReads.{style_unread}
-use Rattle.update_flow.proofs.Openings.{found_of, is_one, sound_of, style_of}
+use Rattle.update_flow.proofs.Openings.{found_of, is_one, sound_of}
 use Rattle.update_flow.proofs.opening.judged.Goals as goal
 
 pub returns-then-not-is_imported-clause-sound : goal.returns-then-not-is_imported-clause-sound
 returns-then-not-is_imported-clause-sound g c = λ fits state holds.
     is_one state (g.D.Disk.view c.args.disk.now) c.args.found c.root-root.result c.root-root.ensures (sym c.if-is_blank.ensures)
-    (sym c.if-not-is_imported.ensures) fits holds
+    (sym c.if-not-outdated.ensures) (sym c.if-not-is_imported.ensures) fits holds
 
 pub returns-clause-found : goal.returns-clause-found
 returns-clause-found g c =
-    found_of c.root-root.result (g.D.Disk.view c.args.disk.now) (g.D.Disk.view c.with_style.new.disk) c.args.found c.with_style.result c.root-root.ensures
-    (sym c.if-is_blank.ensures) c.with_style.ensures.changes c.with_style.ensures.found
+    found_of c.root-root.result (g.D.Disk.view c.args.disk.now) (g.D.Disk.view c.with_style.new.disk) c.args.found c.is_old-outdated.result c.with_style.result
+    c.root-root.ensures (sym c.if-is_blank.ensures) c.is_old-outdated.ensures c.with_style.ensures.changes c.with_style.ensures.outdated c.with_style.ensures.found
 
 pub returns-clause-sound : goal.returns-clause-sound
 returns-clause-sound g c =
@@ -27,12 +22,3 @@ returns-clause-sound g c =
 
 pub returns-then-is_blank-clause-once : goal.returns-then-is_blank-clause-once
 returns-then-is_blank-clause-once g c = λ state fits holds. style_unread state (g.D.Disk.view c.args.disk.now) holds
-
-pub returns-clause-once : goal.returns-clause-once
-returns-clause-once g c =
-    let old = g.D.Disk.view c.args.disk.now in
-    let new = g.D.Disk.view c.with_style.new.disk in
-    on_ok_weaker {P = (held : Holding) → Fits c.args.found old → HoldsState (imported held) old → ReadsStyle old new}
-    {Q = (state : State) → Fits c.args.found old → HoldsState state old → ReadsStyle old new} c.with_style.result
-    (style_of c.root-root.result old c.args.found (ReadsStyle old new) c.root-root.ensures (sym c.if-is_blank.ensures))
-    c.with_style.ensures.once

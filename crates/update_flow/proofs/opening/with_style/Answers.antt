@@ -9,26 +9,28 @@ use Rattle.bucket_store.specs.declared.opened.Opened.{Opened}
 use Rattle.update_flow.specs.OpeningReads.{ReadsStyle}
 use Rattle.update_flow.proofs.OpeningReads.{style_over}
 use Rattle.update_flow.proofs.Looking.{found_styled}
+use Rattle.update_flow.proofs.Openings.{style_good}
 use Rattle.update_flow.proofs.opening.with_style.Goals as goal
 
 pub returns-clause-found : goal.returns-clause-found
-returns-clause-found g c = λ before held holds.
+returns-clause-found g c = λ before state holds begun.
     let after = c.load_style-read.new.buckets in
     let fits : (image : Image) → RestsAt image after → Fits c.in-Some.store (disk_of (chains_of after)) =
     subst (λ (o : Option Opened). IfSome o (λ opened. (image : Image) → RestsAt image after → Fits opened (disk_of (chains_of after)))) c.in-Some.is
     c.hand_back-disk.ensures.fits in
     let own = found_styled c.on-buckets.result after c.args.disk.now c.hand_back-disk.result.now c.on-buckets.ensures.disk c.hand_back-disk.ensures.disk
-    held c.args.found c.in-Some.store c.in-Ok.style c.on-buckets.ensures.rests c.on-buckets.ensures.has c.load_style-read.ensures.runs.looks
+    state c.args.found c.in-Some.store c.in-Ok.style begun c.on-buckets.ensures.rests c.on-buckets.ensures.has c.load_style-read.ensures.runs.looks
     c.in-Ok.ensures.style fits before holds in
     let here : Fits c.in-Some.store (g.D.Disk.view c.hand_back-disk.result.now) = own.1 in
     (own.0, search (rules, here))
 
 pub returns-in-Err-clause-sound : goal.returns-in-Err-clause-sound
-returns-in-Err-clause-sound g c = λ fits held holds.
-    c.in-Err.ensures.sound holds.image holds.image held (c.on-buckets.ensures.has holds.image fits holds.holds) holds.means
+returns-in-Err-clause-sound g c = λ fits state holds begun.
+    let own = style_good state holds.image holds.means begun in
+    c.in-Err.ensures.sound holds.image holds.image own.0 (c.on-buckets.ensures.has holds.image fits holds.holds) own.2
 
 pub returns-clause-once : goal.returns-clause-once
-returns-clause-once g c = λ held fits holds.
+returns-clause-once g c = λ state fits holds.
     let after = c.load_style-read.new.buckets in
     let here : ReadsStyle (g.D.Disk.view c.args.disk.now) (g.D.Disk.view c.hand_back-disk.result.now) =
     style_over c.on-buckets.result after c.args.disk.now c.hand_back-disk.result.now c.on-buckets.ensures.disk c.hand_back-disk.ensures.disk

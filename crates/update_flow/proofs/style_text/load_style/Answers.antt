@@ -13,7 +13,7 @@ use Rattle.update_flow.proofs.Openings.{reads_alone, sound_store}
 use Rattle.update_flow.proofs.style_text.load_style.Goals as goal
 
 pub returns-in-Err-clause-sound : goal.returns-in-Err-clause-sound
-returns-in-Err-clause-sound g c = λ rest now held has is.
+returns-in-Err-clause-sound g c = λ rest now style has is.
     subst (λ (f : FlowFault). IsSound (Some f)) (sym c.store_fault.ensures) (sound_store (List ℕ) c.in-Err.fault (c.in-Err.ensures.sound rest now has))
 
 pub returns-in-Ok-read_style-clause-style : goal.returns-in-Ok-read_style-clause-style
@@ -21,9 +21,9 @@ returns-in-Ok-read_style-clause-style g c = λ rest now has.
     ap (λ (b : List ℕ). reading b) (sym (c.in-Ok.ensures.found rest now has) ∙ sym c.as_slice.ensures.items) ∙ c.in-Ok-read_style.ensures.exact
 
 pub returns-in-Err-Bad-clause-sound : goal.returns-in-Err-Bad-clause-sound
-returns-in-Err-Bad-clause-sound g c = λ rest now held has is.
-    let good : reading c.as_slice.result.now ≡ Ok held.style =
-    ap (λ (b : List ℕ). reading b) (c.as_slice.ensures.items ∙ c.in-Ok.ensures.found rest now has ∙ is.style_text) ∙ is.style in
+returns-in-Err-Bad-clause-sound g c = λ rest now style has is.
+    let good : reading c.as_slice.result.now ≡ Ok style =
+    ap (λ (b : List ℕ). reading b) (c.as_slice.ensures.items ∙ c.in-Ok.ensures.found rest now has) ∙ is in
     let bad : Gives (Err (Bad c.in-Err-Bad.field-0-0 c.in-Err-Bad.field-0-1)) (reading c.as_slice.result.now) =
     subst (λ (f : StyleFault). Gives (Err f) (reading c.as_slice.result.now)) c.in-Err-Bad.field-0-is c.in-Err-Bad.ensures.exact in
     absurd (cc (bad, good))

@@ -12,7 +12,7 @@ returns-in-Ok-clause-takes g c =
     (sym c.if-imported.ensures.is)
     (λ opened. c.in-Ok.ensures.turns (kept_fits c.args.self.now.store c.in-Some.store _ (sym c.take.ensures.value ∙ c.in-Some.is) opened.fits)
     (state_here _ _ opened.at_rest))
-    (λ is. record { changes_are = refl; imported_is = refl; style_is = refl }) (λ not. absurd (not refl))
+    (λ is. record { changes_are = refl; imported_is = refl; old_is = sym c.if-old.ensures.is; style_is = refl }) (λ not. absurd (not refl))
 
 pub returns-in-Err-clause-takes : goal.returns-in-Err-clause-takes
 returns-in-Err-clause-takes g c =
@@ -20,4 +20,4 @@ returns-in-Err-clause-takes g c =
     (Some c.in-Err.fault) (sym c.if-imported.ensures.is)
     (λ opened. c.in-Err.ensures.turns (kept_fits c.args.self.now.store c.in-Some.store _ (sym c.take.ensures.value ∙ c.in-Some.is) opened.fits)
     (state_here _ _ opened.at_rest))
-    (λ is. absurd (cc (is))) (λ not. record { changes_same = refl; imported_same = refl; style_same = refl })
+    (λ is. absurd (cc (is))) (λ not. record { changes_same = refl; imported_same = refl; old_same = refl; style_same = refl })

@@ -12,6 +12,7 @@ returns-clause-open g c = λ state at found. record {
   shows = record {
     changes_are = found.changes_are;
     imported_is = ap (λ (s : Option StyleOf). is_some s) found.style_is ∙ style_tells state;
+    old_is = found.old_is;
     style_is = found.style_is;
   };
   fits = (c.args.opened.store, refl, found.fits);
