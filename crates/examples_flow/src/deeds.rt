@@ -24,6 +24,8 @@ enum Change {
     },
     /// Its style has these bytes.
     Style(Vec<u8>),
+    /// The value of a key of a map has these bytes.
+    Value { map: u8, key: u64, bytes: Vec<u8> },
 }
 
 /// The disk after a deed. `None`: there is no such deed, or the disk refuses it.
@@ -83,6 +85,7 @@ fn change_of(alloc: Global, word: &str, text: &str) -> Result<Option<Change>, Al
         "buckets" => Ok(number_of(text).map(|count| Change::Buckets(count))),
         "fields" => Ok(fields_of(text)),
         "style" => Ok(bytes_of(alloc, text)?.map(|bytes| Change::Style(bytes))),
+        "put" => value_of(alloc, text),
         _ => Ok(None),
     }
 }
@@ -96,6 +99,24 @@ fn fields_of(text: &str) -> Option<Change> {
         state: number_of(state)?,
         changes: number_of(changes)?,
     })
+}
+
+// The number of a map, a key, and the bytes of its value.
+fn value_of(alloc: Global, text: &str) -> Result<Option<Change>, AllocError> {
+    let Some((map, behind)) = row_of(text) else {
+        return Ok(None);
+    };
+    let Some((key, value)) = row_of(behind) else {
+        return Ok(None);
+    };
+    match (number_of(map), number_of(key), bytes_of(alloc, value)?) {
+        (Some(map), Some(key), Some(bytes)) => Ok(Some(Change::Value {
+            map: (map % 8) as u8,
+            key,
+            bytes,
+        })),
+        _ => Ok(None),
+    }
 }
 
 // Makes a change in one transaction.
@@ -135,5 +156,11 @@ fn make(buckets: &mut Buckets<'_, MemDisk>, change: Change) -> Result<(), StoreF
             Ok(())
         }
         Change::Style(bytes) => buckets.store(STYLE_TEXT, Bytes::from_vec(bytes)),
+        Change::Value { map, key, bytes } => {
+            if now == 0 || map >= 8 {
+                return Err(StoreFault::NotEmpty);
+            }
+            buckets.put(map, key, bytes.as_slice())
+        }
     }
 }

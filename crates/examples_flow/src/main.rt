@@ -1,9 +1,11 @@
 //! Runs each example of the table of stores that are opened and prints its name, up to the first that differs.
 //!
-//! An example is a disk in memory, what is done to it one deed after another, and what the opening of it then answers.
+//! An example is a disk in memory, what is done to it one deed after another, and what the opening of it, or a call on the open store, then
+//! answers.
 //! `data/openings.txt` says how they are written.
 #![tactic(auto)]
 
+mod calling;
 mod deeds;
 mod opening;
 
@@ -25,7 +27,7 @@ impl Examples for OfStores {
     fn answer_of(alloc: Global, kind: &str, given: &str) -> Result<Option<String>, AllocError> {
         match kind {
             "opened" => opening::opened(alloc, given),
-            _ => Ok(None),
+            _ => calling::called(alloc, kind, given),
         }
     }
 }

@@ -8,6 +8,17 @@ use update_flow::{Updater, open};
 
 /// What the opening answers once these deeds are done to an empty disk. `None`: one of them is no deed.
 pub fn opened(alloc: Global, deeds: &str) -> Result<Option<String>, AllocError> {
+    match disk_after(alloc, deeds)? {
+        Some(disk) => {
+            let mut disk = disk;
+            Ok(Some(answer_of(alloc, &mut disk)?))
+        }
+        None => Ok(None),
+    }
+}
+
+/// An empty disk once these deeds are done to it. `None`: one of them is no deed.
+pub fn disk_after(alloc: Global, deeds: &str) -> Result<Option<MemDisk>, AllocError> {
     let mut disk = MemDisk::new(alloc, Bytes::new(alloc), Fails::new(Ids::new(alloc), 0));
     for deed in deeds.split(';') {
         match done(alloc, disk, deed)? {
@@ -15,11 +26,11 @@ pub fn opened(alloc: Global, deeds: &str) -> Result<Option<String>, AllocError> 
             None => return Ok(None),
         }
     }
-    Ok(Some(answer_of(alloc, &mut disk)?))
+    Ok(Some(disk))
 }
 
-// What the opening tells of the store.
-fn answer_of(alloc: Global, disk: &mut MemDisk) -> Result<String, AllocError> {
+/// What the opening tells of the store.
+pub fn answer_of(alloc: Global, disk: &mut MemDisk) -> Result<String, AllocError> {
     let limits = Limits::standard();
     let found = match open(alloc, disk, &limits) {
         Ok(found) => found,
@@ -31,7 +42,8 @@ fn answer_of(alloc: Global, disk: &mut MemDisk) -> Result<String, AllocError> {
         Some(style) => {
             let changes = updater.changes();
             let tables = style.tables.as_slice().len();
-            format!(in alloc; "changes {changes} tables {tables}")
+            let kind = if updater.old() { "old, " } else { "" };
+            format!(in alloc; "{kind}changes {changes} tables {tables}")
         }
     }
 }
