@@ -48,6 +48,7 @@ module _ {D : Type 0} {g : Ghosts D} where
         → TurnsOn limits state step fault (view_in old) (view_in new) kept
     turns_here limits state step turns = record {
       answer = turns.answer;
+      needs = turns.needs;
       done = λ is. kept_back (after state step) new kept back (ends.whole (no_fault fault is)) (turns.done is);
       refused = λ not no. let stays = turns.refused not no in (kept_back state new kept back (ends.whole no) stays.0, stays.1);
       moments = turns.moments;

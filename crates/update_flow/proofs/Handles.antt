@@ -9,6 +9,7 @@ use Rattle.bucket_store.specs.Opening.{Fits}
 use Rattle.bucket_store.specs.declared.opened.Opened.{Opened}
 use Rattle.update_flow.specs.AtRest.{HasFlowCause}
 use Rattle.update_flow.specs.Handle.{Handle, IsOpen, Looks, Shows, Takes, TellsAs, changes_of, is_imported, is_old, is_whole, limits_of, style_of, view_of}
+use Rattle.update_flow.specs.Needed.{FitsLimit, NeedsOn}
 use Rattle.update_flow.specs.Refusals.{IsCallFault, MayAnswer}
 use Rattle.update_flow.specs.State.{Clear, Holding, Migrate, State, Step, after, cleared, formatted, imported, outdated, was_old}
 use Rattle.update_flow.specs.Turning.{EndsOn, IsKept, LooksOn, MayEnd, TurnsOn}
@@ -55,9 +56,10 @@ pub nothing_caused : (fault : FlowFault) (disk : DiskView) → (Some fault ≡ S
 nothing_caused fault disk other = record { later = omega arith; failed = λ is. absurd (other is) }
 
 pub takes_none : (state : State) (step : Step) (fault : FlowFault) (handle : Handle) → IsOpen state handle → MayAnswer (limits_of handle) state step (Some fault)
-    → Takes state step (Some fault) handle handle
-takes_none state step fault handle opened may = record {
+    → FitsLimit (limits_of handle) (NeedsOn (view_of handle) (after state step)) (Some fault) → Takes state step (Some fault) handle handle
+takes_none state step fault handle opened may fits = record {
   answer = may;
+  needs = λ _. fits;
   done = λ is. absurd (cc (is));
   refused = λ not no. (opened, nothing_done state (view_of handle) opened.at_rest);
   moments = either_done state (after state step) (view_of handle) opened.at_rest;
@@ -85,7 +87,7 @@ module _ (handle : Handle) where
       → is_old handle ≡ true → IsOpen state handle → Takes state step (Some flow.OldFormat) handle handle
   step_old step may formatted is opened = absurd (told_new formatted refl opened is)
   step_old step may (imported held) is opened = absurd (told_new (imported held) refl opened is)
-  step_old step may (outdated held) is opened = takes_none (outdated held) step flow.OldFormat handle opened (may held)
+  step_old step may (outdated held) is opened = takes_none (outdated held) step flow.OldFormat handle opened (may held) tt
 
   pub clear_old : (state : State) → is_old handle ≡ true → IsOpen state handle → Takes state Clear (Some flow.OldFormat) handle handle
   clear_old state is opened = step_old Clear (λ held. refl) state is opened
@@ -101,13 +103,14 @@ module _ (handle : Handle) where
   migrate_none (outdated held) begun is opened = absurd (told_old held opened is)
   migrate_none (imported held) begun is opened = record {
     answer = refl;
+    needs = λ writes. absurd writes;
     done = λ none. opened;
     refused = λ not no. absurd (not refl);
     moments = either_done (imported held) (imported held) (view_of handle) opened.at_rest;
   }
 
   pub migrate_unasked : (state : State) → is_imported handle ≡ false → IsOpen state handle → Takes state Migrate (Some flow.NotImported) handle handle
-  migrate_unasked formatted is opened = takes_none formatted Migrate flow.NotImported handle opened refl
+  migrate_unasked formatted is opened = takes_none formatted Migrate flow.NotImported handle opened refl tt
   migrate_unasked (imported held) is opened = absurd (cc (is, opened.shows.imported_is))
   migrate_unasked (outdated held) is opened = absurd (told_begun held opened is)
 
@@ -116,7 +119,7 @@ module _ (handle : Handle) where
   told_broken state opened is = absurd (cc (is, opened.sound))
 
   pub clear_unasked : (state : State) → is_imported handle ≡ false → IsOpen state handle → Takes state Clear (Some flow.NotImported) handle handle
-  clear_unasked formatted is opened = takes_none formatted Clear flow.NotImported handle opened refl
+  clear_unasked formatted is opened = takes_none formatted Clear flow.NotImported handle opened refl tt
   clear_unasked (imported held) is opened = absurd (told_imported held opened is)
   clear_unasked (outdated held) is opened = absurd (told_begun held opened is)
 
@@ -139,6 +142,7 @@ module _ (old new : Handle) (kept : Option Opened) (whole : is_some kept ≡ is_
       → (fault ≡ None → Shows (after state step) new) → (fault ≢ None → Shows state new) → Takes state step fault old new
   takes_on state step fault turns done refused = record {
     answer = turns.answer;
+    needs = λ _. turns.needs;
     done = λ is. open_kept (after state step) (turns.done is) (done is);
     refused = λ not no. let stays = turns.refused not no in (open_kept state stays.0 (refused not), stays.1);
     moments = turns.moments;

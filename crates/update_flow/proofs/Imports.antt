@@ -114,7 +114,7 @@ pub import_unasked : (handle : Handle) (style : StyleOf) (bytes : List ℕ) (buc
 import_unasked handle style bytes buckets entries is fresh formatted opened = absurd (told_blank handle opened is)
 import_unasked handle style bytes buckets entries is fresh (outdated held) opened = absurd (told_old handle held opened fresh)
 import_unasked handle style bytes buckets entries is fresh (imported held) opened =
-    takes_none (imported held) (Import style bytes buckets entries) flow.AlreadyImported handle opened refl
+    takes_none (imported held) (Import style bytes buckets entries) flow.AlreadyImported handle opened refl tt
 
 pub import_old : (handle : Handle) (style : StyleOf) (bytes : List ℕ) (buckets : ℕ) (entries : List Entry) → is_old handle ≡ true
     → (state : State) → IsOpen state handle → Takes state (Import style bytes buckets entries) (Some flow.OldFormat) handle handle

@@ -8,6 +8,7 @@ pub mod Imports
 pub mod Keyed
 pub mod Loading
 pub mod Looking
+pub mod Needs
 pub mod Renewed
 pub mod OpeningReads
 pub mod Openings

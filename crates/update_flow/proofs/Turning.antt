@@ -17,14 +17,17 @@ use Rattle.bucket_store.specs.Transaction.{chains_of}
 use Rattle.bucket_store.specs.declared.buckets.Buckets.{Buckets}
 use Rattle.bucket_store.proofs.Holding.{looks_then, rests_later}
 use Rattle.bucket_store.proofs.Reopened.{moments_looked}
+use Rattle.update_flow.proofs.Needs.{fits_as, sound_fits}
 use Rattle.update_flow.proofs.Openings.{quiet_fault}
 use Rattle.update_flow.specs.AtRest.{IsOfEither}
 use Rattle.update_flow.specs.AtRest.{RestsAt as StaysAt}
 use Rattle.update_flow.specs.Faults.{of_store}
+use Rattle.update_flow.specs.Needed.{FitsLimit, NeedsOn}
+use Rattle.bucket_store.specs.Needed.{NeedsPages}
 use Rattle.update_flow.specs.Refusals.{MayAnswer, OrBreaks, OrFull, Refuses}
 use Rattle.update_flow.specs.Stands.{Means, StandsFor}
 use Rattle.update_flow.specs.State.{State, Step, after, imported, Holding}
-use Rattle.update_flow.specs.Turning.{CommitsTo, EndsIn, LooksIn, MayEnd, RestsIn, TurnsIn, view_in}
+use Rattle.update_flow.specs.Turning.{CommitsTo, EndsIn, LooksIn, MayEnd, RestsIn, TurnsIn, home_in, view_in}
 use Rattle.update_flow.specs.Within.{IsSound, MayRun, Runs, faults_in, is_whole_store}
 use Rattle.update_flow.specs.declared.fault.FlowFault.{FlowFault}
 use Rattle.update_flow.specs.declared.fault.FlowFault.TheVariants as flow
@@ -135,9 +138,11 @@ module _ {D : Type 0} {g : Ghosts D} where
 
   -- a step that is refused before its commit was never begun
   pub turns_refused : (limits : LimitNumbers) (state : State) (step : Step) (fault : FlowFault) (rest : Image) (old new : Buckets D g) → RestsAt rest old
-      → Means state rest → OnlyLooks old new → MayAnswer limits state step (Some fault) → TurnsIn limits state step (Some fault) old new
-  turns_refused limits state step fault rest old new rests means looks may = record {
+      → Means state rest → OnlyLooks old new → MayAnswer limits state step (Some fault)
+      → FitsLimit limits (NeedsOn (view_in old) (after state step)) (Some fault) → TurnsIn limits state step (Some fault) old new
+  turns_refused limits state step fault rest old new rests means looks may fits = record {
     answer = may;
+    needs = fits;
     done = λ is. absurd (cc (is));
     refused = λ not no. (looked_rests state rest old new rests means looks, looked_state state rest old new rests means looks);
     moments = looked_either state (after state step) rest old new rests means looks;
@@ -148,6 +153,7 @@ module _ {D : Type 0} {g : Ghosts D} where
       → IsSound (Some fault) → CommitsTo limits rest now (Some fault) old new
   commits_refused limits fault rest now old new rests looks sound = record {
     answer = sound_answers limits fault (Some fault ≡ None) sound;
+    needs = sound_fits limits (NeedsPages (home_in old) now) fault sound;
     done = λ is. absurd (cc (is));
     refused = λ not no. looks;
     moments =
@@ -160,6 +166,7 @@ module _ {D : Type 0} {g : Ghosts D} where
       → CommitsTo limits rest now fault mid new → CommitsTo limits rest now fault old new
   commits_after limits fault rest now old mid new rests looks commits = record {
     answer = commits.answer;
+    needs = subst (λ (home : ℕ). FitsLimit limits (NeedsPages home now) fault) looks.looked.pages commits.needs;
     done = commits.done;
     refused = λ not no. looks_then old mid new looks (commits.refused not no);
     moments =
@@ -186,6 +193,15 @@ module _ {D : Type 0} {g : Ghosts D} where
     turns_committed = record {
       answer = answered limits fault (fault ≡ None) (Refuses limits state step fault)
           (λ is. subst (λ (f : Option FlowFault). Refuses limits state step f) (sym is) may) commits.answer;
+      needs = fits_as limits (NeedsPages (home_in mid) now) (NeedsOn (view_in old) (after state step)) fault (λ many needs. record {
+        pages = rests.pages;
+        rests = rests.rests.0;
+        needs = record {
+          image = now;
+          means = becomes;
+          needs = subst (λ (home : ℕ). NeedsPages home now many) (looks.looked.pages ∙ sym rests.rests.1) needs;
+        };
+      }) commits.needs;
       done = λ is. record { image = now; at_rest = commits.done is; means = becomes };
       refused = λ not no.
           let all = looks_then old mid new looks (commits.refused not no) in

@@ -4,6 +4,7 @@ use Rattle.osm_base.specs.declared.bounds.limits.LimitNumbers.{LimitNumbers}
 use Rattle.outside.specs.Disk.{DiskView, Goes}
 use Rattle.style_read.specs.Style.{StyleOf}
 use Rattle.update_flow.specs.AtRest.{IsAt, IsOfEither, RestsAt}
+use Rattle.update_flow.specs.Needed.{FitsLimit, NeedsOn, Writes}
 use Rattle.update_flow.specs.Refusals.{IsNoDiskFault, MayAnswer, MayLook}
 use Rattle.update_flow.specs.State.{State, Step, after, changes_in, style_in, was_imported, was_old}
 use Rattle.update_flow.specs.declared.fault.FlowFault.{FlowFault}
@@ -64,6 +65,7 @@ pub record IsOpen (state : State) (store : Handle) : Type 0 where
 -- an open store is taken a step further, whole or not at all. One that is refused otherwise than by its disk was never begun.
 pub record Takes (state : State) (step : Step) (fault : Option FlowFault) (old new : Handle) : Type 0 where
   pub answer : MayAnswer (limits_of old) state step fault
+  pub needs : Writes state step → FitsLimit (limits_of old) (NeedsOn (view_of old) (after state step)) fault
   pub done : fault ≡ None → IsOpen (after state step) new
   pub refused : fault ≢ None → IsNoDiskFault fault → IsOpen state new × RestsAt state (view_of old) (view_of new)
   pub moments : Goes (IsOfEither state (after state step)) (view_of old).crashes (view_of new).crashes

@@ -5,6 +5,7 @@ pub mod State
 pub mod History
 pub mod Refusals
 pub mod Stands
+pub mod Needed
 pub mod AtRest
 pub mod Changes
 pub mod Opening

@@ -4,7 +4,7 @@ use Rattle.outside.specs.Causes.{Rose}
 use Rattle.outside.specs.Disk.{DiskView, Goes}
 use Rattle.outside.specs.declared.disk.Disk.{Ghosts}
 use Rattle.osm_base.specs.declared.bounds.limits.LimitNumbers.{LimitNumbers}
-use Rattle.page_journal.specs.Journal.{loan_of, page_limit}
+use Rattle.page_journal.specs.Journal.{home_count, loan_of, page_limit}
 use Rattle.page_journal.specs.declared.fault.StoreFault.TheVariants as store
 use Rattle.chain_store.specs.Chains.{disk_of, journal_of}
 use Rattle.bucket_store.specs.Image.{HasImage, Image, OnlyLooks, RestsAt}
@@ -13,6 +13,8 @@ use Rattle.bucket_store.specs.declared.buckets.Buckets.{Buckets}
 use Rattle.bucket_store.specs.declared.opened.Opened.{Opened}
 use Rattle.update_flow.specs.AtRest.{HasFlowCause, IsOfEither}
 use Rattle.update_flow.specs.AtRest.{RestsAt as StaysAt}
+use Rattle.update_flow.specs.Needed.{FitsLimit, NeedsOn}
+use Rattle.bucket_store.specs.Needed.{NeedsPages}
 use Rattle.update_flow.specs.Opening.{HoldsState}
 use Rattle.update_flow.specs.Refusals.{IsNoDiskFault, MayAnswer, MayLook, OrBreaks, OrFull}
 use Rattle.update_flow.specs.Stands.{Means}
@@ -28,6 +30,10 @@ view_in buckets = disk_of (chains_of buckets)
 
 abbrev pub limit_in : {D : Type 0} {g : Ghosts D} → Buckets D g → ℕ
 limit_in buckets = page_limit (journal_of (chains_of buckets))
+
+-- and how many it has
+abbrev pub home_in : {D : Type 0} {g : Ghosts D} → Buckets D g → ℕ
+home_in buckets = home_count (journal_of (chains_of buckets))
 
 -- whatever a store holds, a call that may commit is answered so
 abbrev pub MayEnd : Option FlowFault → Type 0
@@ -48,6 +54,7 @@ pub record RestsIn {D : Type 0} {g : Ghosts D} (state : State) (buckets : Bucket
 -- what a transaction has made of a store at rest is made to stand, whole or not at all
 pub record CommitsTo {D : Type 0} {g : Ghosts D} (limits : LimitNumbers) (rest now : Image) (fault : Option FlowFault) (old new : Buckets D g) : Type 0 where
   pub answer : OrBreaks fault (OrFull limits fault (fault ≡ None))
+  pub needs : FitsLimit limits (NeedsPages (home_in old) now) fault
   pub done : fault ≡ None → RestsAt now new
   pub refused : fault ≢ None → IsNoDiskFault fault → OnlyLooks old new
   pub moments : Goes (λ left. HasImage rest left ⊎ HasImage now left) (view_in old).crashes (view_in new).crashes
@@ -55,6 +62,7 @@ pub record CommitsTo {D : Type 0} {g : Ghosts D} (limits : LimitNumbers) (rest n
 -- the store under buckets is taken a step further, whole or not at all. One that is refused otherwise than by its disk was never begun.
 pub record TurnsIn {D : Type 0} {g : Ghosts D} (limits : LimitNumbers) (state : State) (step : Step) (fault : Option FlowFault) (old new : Buckets D g) : Type 0 where
   pub answer : MayAnswer limits state step fault
+  pub needs : FitsLimit limits (NeedsOn (view_in old) (after state step)) fault
   pub done : fault ≡ None → RestsIn (after state step) new
   pub refused : fault ≢ None → IsNoDiskFault fault → RestsIn state new × StaysAt state (view_in old) (view_in new)
   pub moments : Goes (IsOfEither state (after state step)) (view_in old).crashes (view_in new).crashes
@@ -81,6 +89,7 @@ pub record IsKept (state : State) (disk : DiskView) (kept : Option Opened) : Typ
 -- the store on a disk is taken a step further
 pub record TurnsOn (limits : LimitNumbers) (state : State) (step : Step) (fault : Option FlowFault) (old new : DiskView) (kept : Option Opened) : Type 0 where
   pub answer : MayAnswer limits state step fault
+  pub needs : FitsLimit limits (NeedsOn old (after state step)) fault
   pub done : fault ≡ None → IsKept (after state step) new kept
   pub refused : fault ≢ None → IsNoDiskFault fault → IsKept state new kept × StaysAt state old new
   pub moments : Goes (IsOfEither state (after state step)) old.crashes new.crashes

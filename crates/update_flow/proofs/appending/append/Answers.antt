@@ -24,6 +24,7 @@ use Rattle.update_flow.specs.Turning.{EndsIn, TurnsIn}
 use Rattle.update_flow.specs.declared.fault.FlowFault.{FlowFault}
 use Rattle.update_flow.proofs.Changed.{append_becomes, not_zero, step_answers}
 use Rattle.update_flow.proofs.Steps.{none_spent, step_ends}
+use Rattle.update_flow.proofs.Needs.{sound_fits, step_fits}
 use Rattle.update_flow.proofs.Turning.{ends_then, runs_ended, sound_answers, turns_committed, turns_refused}
 use Rattle.update_flow.proofs.ReadLaws.{change_reads, none_loaded}
 use Rattle.update_flow.proofs.appending.append.Goals as goal
@@ -46,6 +47,7 @@ returns-in-Err-clause-turns g c held rest same was is style next =
     turns_refused c.args.limits.now (imported held) (Append c.args.bounds.now c.args.change.now) c.in-Err.fault rest (buckets_of c.args.maps.now) c.load_due.new.buckets
     (rests_under rest rest (buckets_of c.args.maps.now) was) is c.in-Err.ensures.runs.looks
     (sound_answers c.args.limits.now c.in-Err.fault _ (c.in-Err.ensures.sound rest rest held was is))
+    (sound_fits c.args.limits.now _ c.in-Err.fault (c.in-Err.ensures.sound rest rest held was is))
 
 pub returns-in-Err-clause-ends : goal.returns-in-Err-clause-ends
 returns-in-Err-clause-ends g c = runs_ended _ (buckets_of c.args.maps.now) c.load_due.new.buckets c.in-Err.ensures.runs
@@ -74,7 +76,8 @@ returns-in-Err-change_maps-clause-turns g c held rest same was is style next =
     )) in
     subst (λ (f : FlowFault). TurnsIn limits (imported held) (Append c.args.bounds.now change) (Some f) old (buckets_of last)) (sym c.step_fault.ensures)
     (turns_refused limits (imported held) (Append c.args.bounds.now change) _ rest old (buckets_of last) (rests_under rest rest old was) is
-    (looks_then old mid (buckets_of last) c.in-Ok.ensures.runs.looks later.looks) answers)
+    (looks_then old mid (buckets_of last) c.in-Ok.ensures.runs.looks later.looks) answers
+    (step_fits limits _ c.in-Err-change_maps.why (c.in-Err-change_maps.ensures.allowed under is.maps.maps held.objects keeps stand)))
 
 pub returns-in-Err-change_maps-clause-ends : goal.returns-in-Err-change_maps-clause-ends
 returns-in-Err-change_maps-clause-ends g c =

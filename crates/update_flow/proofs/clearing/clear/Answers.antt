@@ -8,6 +8,7 @@ use Rattle.bucket_store.proofs.Holding.{rests_under}
 use Rattle.update_flow.specs.State.{Clear, imported}
 use Rattle.update_flow.specs.declared.fields.TheConstants.{DUE_TEXT}
 use Rattle.update_flow.proofs.Becoming.{cleared_becomes}
+use Rattle.update_flow.proofs.Needs.{sound_fits}
 use Rattle.update_flow.proofs.Turning.{ends_then, runs_ended, sound_answers, turns_committed, turns_refused}
 use Rattle.update_flow.proofs.clearing.clear.Goals as goal
 
@@ -30,6 +31,7 @@ returns-clause-turns g c limits held rest same has is =
     turns_refused limits (imported held) Clear c.in-Err.fault rest c.args.buckets.now c.store_due.new.buckets
     (rests_under rest rest c.args.buckets.now has) is c.in-Err.ensures.runs.looks
     (sound_answers limits c.in-Err.fault _ (c.in-Err.ensures.sound rest rest has))
+    (sound_fits limits _ c.in-Err.fault (c.in-Err.ensures.sound rest rest has))
 
 pub returns-clause-ends : goal.returns-clause-ends
 returns-clause-ends g c = runs_ended _ c.args.buckets.now c.store_due.new.buckets c.in-Err.ensures.runs

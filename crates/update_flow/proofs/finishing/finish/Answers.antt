@@ -1,8 +1,9 @@
 -- A commit is done, or nothing was begun.
-use Rattle.std.proofs.Common.{Some, refl, sym, subst}
+use Rattle.std.proofs.Common.{Some, arith, refl, sym, subst}
 use Rattle.bucket_store.proofs.Holding.{rests_under}
-use Rattle.update_flow.specs.Turning.{CommitsTo, EndsIn}
+use Rattle.update_flow.specs.Turning.{CommitsTo, EndsIn, home_in}
 use Rattle.update_flow.specs.declared.fault.FlowFault.{FlowFault}
+use Rattle.update_flow.proofs.Needs.{commit_fits}
 use Rattle.update_flow.proofs.Openings.{quiet_fault}
 use Rattle.update_flow.proofs.Turning.{commit_answers, committed_ends, uncommitted_ends}
 use Rattle.update_flow.proofs.ReadLaws.{commit_reads}
@@ -11,6 +12,7 @@ use Rattle.update_flow.proofs.finishing.finish.Goals as goal
 pub returns-in-Ok-clause-commits : goal.returns-in-Ok-clause-commits
 returns-in-Ok-clause-commits g c limits rest now same has = record {
   answer = refl;
+  needs = let fits = c.in-Ok.ensures.needs rest now has in (home_in c.commit.new.self, fits.0, omega (arith, same, fits.1));
   done = λ is. rests_under now now c.commit.new.self (c.in-Ok.ensures.has rest now has);
   refused = λ not no. absurd (not refl);
   moments = c.commit.ensures.images rest now has;
@@ -25,6 +27,7 @@ returns-in-Err-clause-commits g c limits rest now same has =
     subst (λ (f : FlowFault). CommitsTo limits rest now (Some f) c.args.buckets.now c.commit.new.self) (sym c.store_fault.ensures)
     (record {
       answer = commit_answers (Unit {0}) limits _ c.in-Err.fault _ same (c.in-Err.ensures.sound rest now has);
+      needs = commit_fits limits (home_in c.args.buckets.now) _ (home_in c.commit.new.self) now c.in-Err.fault same (c.in-Err.ensures.needs rest now has);
       done = λ is. absurd (cc (is));
       refused = λ not no. c.in-Err.ensures.same refl (quiet_fault (Unit {0}) c.in-Err.fault no);
       moments = c.commit.ensures.images rest now has;

@@ -19,6 +19,7 @@ use Rattle.update_flow.specs.Turning.{EndsIn, TurnsIn}
 use Rattle.update_flow.specs.declared.fault.FlowFault.{FlowFault}
 use Rattle.update_flow.proofs.Steps.{none_spent, step_ends}
 use Rattle.update_flow.proofs.Imports.{begun_becomes, power_counts, step_begins}
+use Rattle.update_flow.proofs.Needs.{step_fits}
 use Rattle.update_flow.proofs.Turning.{ends_then, turns_committed, turns_refused}
 use Rattle.update_flow.proofs.importing.import.Goals as goal
 
@@ -98,7 +99,8 @@ returns-in-Err-clause-turns g c limits rest same has blank =
     subst (λ (f : FlowFault). TurnsIn limits formatted step (Some f) old (buckets_of last)) (sym c.step_fault.ensures)
     (turns_refused limits formatted step _ rest old (buckets_of last) (rests_under rest rest old has) blank
     (looks_then old mid (buckets_of last) c.set_buckets.ensures.same later.looks)
-    (step_begins limits step _ _ c.in-Err.why c.in-Err.ensures.ends (c.in-Err.ensures.allowed under keeps)))
+    (step_begins limits step _ _ c.in-Err.why c.in-Err.ensures.ends (c.in-Err.ensures.allowed under keeps))
+    (step_fits limits _ c.in-Err.why (c.in-Err.ensures.allowed under keeps)))
 
 pub returns-in-Err-clause-ends : goal.returns-in-Err-clause-ends
 returns-in-Err-clause-ends g c =

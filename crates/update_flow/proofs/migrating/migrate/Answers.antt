@@ -7,6 +7,7 @@ use Rattle.kept_maps.specs.Held.{Beside, HasMaps, HasOldMaps}
 use Rattle.update_flow.specs.State.{Migrate, outdated}
 use Rattle.update_flow.specs.Turning.{EndsIn, TurnsIn}
 use Rattle.update_flow.specs.declared.fault.FlowFault.{FlowFault}
+use Rattle.update_flow.proofs.Needs.{sound_fits}
 use Rattle.update_flow.proofs.Renewed.{migrated_becomes}
 use Rattle.update_flow.proofs.Openings.{sound_store}
 use Rattle.update_flow.proofs.Running.{runs_done, runs_refused, runs_unfit}
@@ -47,7 +48,8 @@ returns-in-Err-clause-turns g c limits held rest same has is =
     record { now = rest; has = has; root = refl; texts = λ n below. refl; kept = is.maps.kept } in
     subst (λ (f : FlowFault). TurnsIn limits (outdated held) Migrate (Some f) old new) (sym c.store_fault.ensures)
     (turns_refused limits (outdated held) Migrate _ rest old new (rests_under rest rest old has) is c.migrate_nodes.ensures.looks.same
-    (sound_answers limits _ _ (sound_store (Unit {0}) c.in-Err.fault (c.in-Err.ensures.sound held.style.tables under is.maps.maps had))))
+    (sound_answers limits _ _ (sound_store (Unit {0}) c.in-Err.fault (c.in-Err.ensures.sound held.style.tables under is.maps.maps had)))
+    (sound_fits limits _ _ (sound_store (Unit {0}) c.in-Err.fault (c.in-Err.ensures.sound held.style.tables under is.maps.maps had))))
 
 pub returns-in-Err-clause-ends : goal.returns-in-Err-clause-ends
 returns-in-Err-clause-ends g c =

@@ -1,0 +1,45 @@
+-- How many home pages a store needs, by its state, and what a step answers by that.
+use Rattle.std.specs.Prelude.{ℕ, ◌+◌, ◌<◌, ◌≤◌, List, length, Option, None, Some}
+use Rattle.outside.specs.Disk.{DiskView}
+use Rattle.osm_base.specs.declared.bounds.limits.LimitNumbers.{LimitNumbers}
+use Rattle.page_journal.specs.Crash.{IsAtRest}
+use Rattle.page_journal.specs.Home.{Home}
+use Rattle.page_journal.specs.declared.fault.StoreFault.TheVariants as store
+use Rattle.bucket_store.specs.Image.{Image}
+use Rattle.bucket_store.specs.Needed.{NeedsPages}
+use Rattle.update_flow.specs.Stands.{Means, StandsFor}
+use Rattle.update_flow.specs.State.{State, imported, Step, Migrate}
+use Rattle.update_flow.specs.declared.fault.FlowFault.{FlowFault}
+use Rattle.update_flow.specs.declared.fault.FlowFault.TheVariants as flow
+
+-- a store that had so many home pages needs so many once it is of this state
+pub record Needs (home : ℕ) (state : State) (pages : ℕ) : Type 0 where
+  pub image : Image
+  pub means : Means state image
+  pub needs : NeedsPages home image pages
+
+-- and so one on this disk, which is at rest
+pub record NeedsOn (disk : DiskView) (state : State) (many : ℕ) : Type 0 where
+  pub pages : List (List ℕ)
+  pub rests : IsAtRest pages disk
+  pub needs : Needs (length pages + 1) state many
+
+-- and a store of some state, with the home pages that its bytes have, once it is of another
+pub record NeedsFrom (state next : State) (many : ℕ) : Type 0 where
+  pub bytes : List ℕ
+  pub stands : StandsFor bytes state
+  pub pages : List (List ℕ)
+  pub home : Home pages bytes
+  pub needs : Needs (length pages + 1) next many
+
+-- a step after which so many are needed is done, where they are within the limit, and StoreFull tells just those, where they are
+-- above it
+abbrev pub FitsLimit : LimitNumbers → (ℕ → Type 0) → Option FlowFault → Type 0
+FitsLimit limits Are None = (pages : ℕ) × Are pages × (pages ≤ limits.pages)
+FitsLimit limits Are (Some (flow.Store (store.StoreFull pages))) = Are pages × (limits.pages < pages)
+FitsLimit limits Are (Some _) = Unit {0}
+
+-- a step that is not refused writes to a store of this state: any but the migration of one that has the format of today
+abbrev pub Writes : State → Step → Type 0
+Writes (imported held) Migrate = ⊥
+Writes _ _ = Unit {0}
