@@ -1,5 +1,5 @@
 -- What a step leaves, or tells, are the home pages that are needed.
-use Rattle.std.proofs.Common.{◌≡◌, ◌∙◌, ℕ, ◌<◌, ◌≤◌, List, Option, None, Some, Err, arith, subst, sym}
+use Rattle.std.proofs.Common.{◌≡◌, ◌∙◌, ℕ, List, Option, None, Some, Err, arith, subst, sym}
 use Rattle.std.proofs.lemmas.Option.{same_Some}
 use Rattle.outside.specs.Disk.{DiskView}
 use Rattle.osm_base.specs.declared.bounds.limits.LimitNumbers.{LimitNumbers}

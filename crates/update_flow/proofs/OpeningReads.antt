@@ -1,10 +1,9 @@
 -- What the opening of a store reads.
-use Rattle.std.proofs.Common.{◌≡◌, ◌≢◌, inl, inr, ◌+◌, ◌*◌, ◌<◌, ◌≤◌, ℕ, List, length, Some, refl, sym, ap, subst, ◌∙◌, arith}
+use Rattle.std.proofs.Common.{◌≡◌, inl, inr, ◌+◌, ◌*◌, ℕ, List, length, Some, refl, sym, ap, subst, ◌∙◌, arith}
 use Rattle.std.specs.FinMap as map
 use Rattle.std.proofs.lemmas.Option.{same_Some}
 use Rattle.outside.specs.Disk.{DiskView, ReadsAtMost, Stays}
 use Rattle.outside.specs.declared.disk.Disk.{Ghosts}
-use Rattle.page_journal.specs.Crash.{IsAtRest}
 use Rattle.page_journal.specs.Home.{Home}
 use Rattle.page_journal.specs.Journal.{disk_of as disk_under, home_count}
 use Rattle.page_journal.proofs.ReadCounts.{reads_more, reads_then}

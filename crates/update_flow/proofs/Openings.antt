@@ -24,7 +24,7 @@ use Rattle.update_flow.specs.Faults.{of_store}
 use Rattle.update_flow.specs.Opening.{Found, HoldsState}
 use Rattle.update_flow.specs.Refusals.{IsNoDiskFault, IsOpenFault, MayFind, OrBreaks}
 use Rattle.update_flow.specs.Roots.{is_blank, is_imported, is_old}
-use Rattle.update_flow.specs.Stands.{IsBlank, IsImported, IsOfFormat, IsOld, Means, StandsFor}
+use Rattle.update_flow.specs.Stands.{IsBlank, IsImported, IsOld, Means, StandsFor}
 use Rattle.update_flow.specs.State.{Holding, State, changes_in, formatted, imported, outdated, style_in, was_imported, was_old}
 use Rattle.update_flow.specs.Within.{IsSound}
 use Rattle.update_flow.specs.declared.fault.TheConstants.{LAST_CHANGE}

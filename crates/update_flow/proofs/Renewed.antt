@@ -1,5 +1,5 @@
 -- An old store with its nodes written anew is one of the format of today.
-use Rattle.std.proofs.Common.{◌≡◌, ◌<◌, ℕ, sym, ap, ◌∙◌, arith}
+use Rattle.std.proofs.Common.{◌≡◌, ◌<◌, ℕ, ap, ◌∙◌, arith}
 use Rattle.chain_store.specs.declared.root.Root.{Root}
 use Rattle.bucket_store.specs.Image.{Image}
 use Rattle.bucket_store.proofs.Images.{maps_with_root, root_with_root, texts_with_root}
