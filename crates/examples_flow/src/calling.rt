@@ -21,11 +21,7 @@ pub fn called(alloc: Global, call: &str, deeds: &str) -> Result<Option<String>, 
 }
 
 // What the call answers.
-fn answer_to(
-    alloc: Global,
-    disk: &mut MemDisk,
-    call: &str,
-) -> Result<Option<String>, AllocError> {
+fn answer_to(alloc: Global, disk: &mut MemDisk, call: &str) -> Result<Option<String>, AllocError> {
     let limits = Limits::standard();
     let found = match open(alloc, disk, &limits) {
         Ok(found) => found,

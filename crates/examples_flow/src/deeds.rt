@@ -25,7 +25,11 @@ enum Change {
     /// Its style has these bytes.
     Style(Vec<u8>),
     /// The value of a key of a map has these bytes.
-    Value { map: u8, key: u64, bytes: Vec<u8> },
+    Value {
+        map: u8,
+        key: u64,
+        bytes: Vec<u8>,
+    },
 }
 
 /// The disk after a deed. `None`: there is no such deed, or the disk refuses it.
