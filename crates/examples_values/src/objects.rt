@@ -2,7 +2,7 @@
 ghost use Rattle.middle_objs.specs.Object.{IsKept};
 
 use crate::hex::{none, told};
-use middle_nodes::NodeRecord;
+use middle_nodes::{NodeRecord, read_old};
 use middle_objs::{object_bytes, read_object};
 use osm_base::{Kind, Member, Object, OutOfMemory, Place, Tags};
 use std::alloc::Global;
@@ -20,9 +20,9 @@ pub fn node(alloc: Global, bytes: &[u8]) -> Result<Option<String>, OutOfMemory> 
     }
 }
 
-/// The record of a node with these bytes, as they were before tags were kept.
+/// The place of a node whose record in an old store has these bytes.
 pub fn place(alloc: Global, bytes: &[u8]) -> Result<Option<String>, OutOfMemory> {
-    match read_whole::<Option<Place>>(alloc, bytes) {
+    match read_old(alloc, bytes) {
         Ok(place) => {
             let again = bytes_of(alloc, &place)?;
             let mut text = String::new(alloc);
