@@ -1,7 +1,7 @@
 //! Runs the examples of reading, and prints the name of each up to the first that differs.
 //!
 //! The tables in `data` go the way of the data: values (`degrees.txt`, `keys.txt`, `limits.txt`,
-//! `tags.txt`), lines (`lines.txt`), files in pieces (`cuts.txt`), all bytes of a file (`whole.txt`),
+//! `tags.txt`), files in pieces (`cuts.txt`), all bytes of a file (`whole.txt`),
 //! entries of a file (`entries.txt`), reads that fail and files over several reads (`reads.txt`), objects
 //! after changes (`folds.txt`), the ways that a change makes due (`ways_due.txt`) and the objects whose rows
 //! it may change (`pending.txt`). The head of each says what its columns are, and where what is wanted comes
@@ -13,7 +13,6 @@ mod cuts;
 mod cutting;
 mod entries;
 mod key;
-mod lines;
 mod pending_sets;
 mod questions;
 mod tags;
@@ -27,12 +26,11 @@ use std::{fs, io};
 use verdict::Verdict;
 
 /// The tables.
-const TABLES: [&str; 12] = [
+const TABLES: [&str; 11] = [
     "degrees.txt",
     "keys.txt",
     "limits.txt",
     "tags.txt",
-    "lines.txt",
     "cuts.txt",
     "whole.txt",
     "entries.txt",
@@ -85,7 +83,6 @@ fn verdict_of(alloc: Global, table: &str, word: &str, text: &str) -> Result<Verd
         ("keys.txt", _) => values::keys(alloc, word, text),
         ("limits.txt", _) => values::limits(alloc, word, text),
         ("tags.txt", _) => tags::tags(alloc, word, text),
-        ("lines.txt", "line") => lines::line(alloc, text),
         ("cuts.txt", "lines") => cuts::lines(alloc, text),
         ("cuts.txt", "within") => cuts::within(alloc, text),
         ("whole.txt", _) => entries::whole(alloc, text),

@@ -1,7 +1,7 @@
-//! Examples of single lines.
+//! Examples of single lines, each through both readers.
 ghost use Rattle.opl_object.specs.Written.{IsWritable};
 
-use crate::verdict::{Verdict, compared};
+use crate::both::outcome_of;
 use example_table::{bytes_of, sides_of};
 use opl_object::{LineRefused, read_line, write_entry};
 use osm_base::{Entry, Ids};
@@ -9,18 +9,32 @@ use outside::{Fails, MemSink};
 use std::alloc::{AllocError, Global};
 
 /// More calls of a sink than a line of the tables takes.
-const MOST_CALLS: u64 = 60;
+const MOST_CALLS: u64 = 4_000;
 
-/// A row `line GIVEN => WANTED`: `skipped`, `cause N`, or the line that is written of the entry.
-pub fn line(alloc: Global, text: &str) -> Result<Verdict, AllocError> {
+/// What differs in a row `GIVEN => WANTED`: `skipped`, `cause N`, or the line that is written of the entry.
+pub fn difference(alloc: Global, text: &str) -> Result<Option<String>, AllocError> {
     let Some((given, wanted)) = sides_of(text) else {
-        return Ok(Verdict::NoRow);
+        return Ok(Some(String::from_str(alloc, "no row")?));
     };
-    let Some(given) = bytes_of(alloc, given)? else {
-        return Ok(Verdict::NoRow);
+    let (Some(given), Some(wanted)) = (bytes_of(alloc, given)?, bytes_of(alloc, wanted)?) else {
+        return Ok(Some(String::from_str(alloc, "no row")?));
     };
     let found = outcome(alloc, &given)?;
-    compared(alloc, &found, wanted)
+    if found.as_slice() != wanted.as_slice() {
+        return Ok(Some(shown(alloc, &found)?));
+    }
+    match outcome_of(alloc, &given) {
+        Some(_) => Ok(None),
+        None => Ok(Some(String::from_str(alloc, "the readers differ")?)),
+    }
+}
+
+/// Bytes as a text, or as numbers where they are none.
+pub fn shown(alloc: Global, bytes: &[u8]) -> Result<String, AllocError> {
+    match std::str::from_utf8(bytes) {
+        Ok(text) => String::from_str(alloc, text),
+        Err(_) => format!(in alloc; "{bytes:?}"),
+    }
 }
 
 /// What reading a line gives, as a row says it.
