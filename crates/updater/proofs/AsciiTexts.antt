@@ -16,7 +16,7 @@ use Rattle.opl_object.specs.declared.why.Why.{Why}
 use Rattle.opl_object.specs.declared.why.Why.TheVariants as causes
 use Rattle.opl_object.specs.Why.{number_of}
 use Rattle.updater.specs.declared.fault.Fault.{Fault}
-use Rattle.updater.specs.declared.fault.Fault.TheVariants.{Usage, Malformed, BadStyle, BadBounds, BadQuery, Limit, ReadFault, NotFormatted, NotEmpty, NotImported, AlreadyImported, UnknownTable, BadStore, WriteFault, DiskFault, OutOfMemory}
+use Rattle.updater.specs.declared.fault.Fault.TheVariants.{Usage, Malformed, BadStyle, BadBounds, BadQuery, Limit, ReadFault, NotFormatted, NotEmpty, NotImported, AlreadyImported, OldFormat, UnknownTable, BadStore, WriteFault, DiskFault, OutOfMemory}
 use Rattle.style_read.specs.declared.fault.StylePart.{StylePart}
 use Rattle.style_read.specs.declared.fault.StylePart.TheVariants as parts
 use Rattle.style_read.specs.Why.{number_of as style_number}
@@ -135,6 +135,7 @@ IsAscii-fault_text NotFormatted = IsAscii-words (codes "not formatted") refl
 IsAscii-fault_text NotEmpty = IsAscii-words (codes "not empty") refl
 IsAscii-fault_text NotImported = IsAscii-words (codes "not imported") refl
 IsAscii-fault_text AlreadyImported = IsAscii-words (codes "already imported") refl
+IsAscii-fault_text OldFormat = IsAscii-words (codes "old format") refl
 IsAscii-fault_text UnknownTable = IsAscii-words (codes "unknown table") refl
 IsAscii-fault_text (BadStore page) = IsAscii-append (codes "bad store page ") (decimal page) (IsAscii-words (codes "bad store page ") refl) (IsAscii-any_decimal page)
 IsAscii-fault_text WriteFault = IsAscii-words (codes "write fault") refl

@@ -12,7 +12,7 @@ use Rattle.osm_base.specs.bounds.Limits.{standard}
 use Rattle.page_journal.specs.declared.fault.StoreFault.TheVariants as stores
 use Rattle.update_flow.specs.History.{state_after}
 use Rattle.update_flow.specs.Refusals.{OrFull, Refuses}
-use Rattle.update_flow.specs.State.{State, formatted, imported, Step, Import, Append, Clear}
+use Rattle.update_flow.specs.State.{State, formatted, imported, outdated, Step, Import, Append, Clear, Migrate}
 use Rattle.update_flow.specs.declared.fault.FlowFault.{FlowFault}
 use Rattle.update_flow.specs.declared.fault.FlowFault.TheVariants as flow
 use Rattle.updater.specs.Causes.{IsStoreLimit}
@@ -28,7 +28,8 @@ use Rattle.updater.specs.World.{Before}
 use Rattle.updater.proofs.CourseLaws.{of_store, of_unknown, of_unused, three}
 
 -- What a command asks of its files and its disk: the files are those from one number to before another; each is accepted, or has
--- such faults; it writes nothing before all are read, or may; and it has a store, which it makes or opens.
+-- such faults; it writes nothing before all are read, or may; and it has a store, which it makes or opens, and of which it may want
+-- this format.
 pub record Terms : Type 1 where
   pub from : ℕ
   pub end : ℕ
@@ -38,6 +39,7 @@ pub record Terms : Type 1 where
   pub store : Type 0
   pub makes : Type 0
   pub opening : Type 0
+  pub uses : Type 0
   pub owns : makes → store
 
 -- a fault that tells of a damaged page is one that names it
@@ -51,6 +53,7 @@ is_bad (flow.Store stores.Broken) bad = absurd bad
 is_bad (flow.Store stores.OutOfMemory) bad = absurd bad
 is_bad flow.NotImported bad = absurd bad
 is_bad flow.AlreadyImported bad = absurd bad
+is_bad flow.OldFormat bad = absurd bad
 is_bad flow.LastChange bad = absurd bad
 is_bad (flow.TooMany value) bad = absurd bad
 is_bad flow.OutOfMemory bad = absurd bad
@@ -63,9 +66,15 @@ page_refuses : (state : State) (step : Step) (page : ℕ) (P : Type 0) → Refus
 page_refuses formatted (Import style bytes buckets entries) page P h = absurd (cc)
 page_refuses formatted (Append bounds change) page P h = absurd (cc)
 page_refuses formatted Clear page P h = absurd (cc)
+page_refuses formatted Migrate page P h = absurd (cc)
 page_refuses (imported held) (Import style bytes buckets entries) page P h = absurd (cc)
 page_refuses (imported held) (Append bounds change) page P h = absurd h
 page_refuses (imported held) Clear page P h = absurd (cc)
+page_refuses (imported held) Migrate page P h = absurd (cc)
+page_refuses (outdated held) (Import style bytes buckets entries) page P h = absurd (cc)
+page_refuses (outdated held) (Append bounds change) page P h = absurd (cc)
+page_refuses (outdated held) Clear page P h = absurd (cc)
+page_refuses (outdated held) Migrate page P h = absurd (cc)
 
 bad_refuses : (state : State) (step : Step) (fault : FlowFault) (P : Type 0) → IsBadStore fault → OrFull standard (Some fault) (Refuses standard state step (Some fault)) → P
 bad_refuses state step fault P bad h =
@@ -76,6 +85,7 @@ bad_refuses state step fault P bad h =
 abbrev pub IsOfState : Terms → Fault → Type 0
 IsOfState terms faults.NotImported = terms.store
 IsOfState terms faults.AlreadyImported = terms.store
+IsOfState terms faults.OldFormat = terms.uses
 IsOfState terms faults.UnknownTable = terms.opening
 IsOfState terms _ = ⊥
 
@@ -115,6 +125,7 @@ Blame terms old (Some (faults.ReadFault file)) = (terms.from ≤ file) × (file 
 Blame terms old (Some faults.NotFormatted) = terms.opening × IfTold old.content (λ bytes. ¬ IsFormatted bytes)
 Blame terms old (Some faults.NotImported) = terms.store
 Blame terms old (Some faults.AlreadyImported) = terms.store
+Blame terms old (Some faults.OldFormat) = terms.uses
 Blame terms old (Some faults.UnknownTable) = terms.opening
 Blame terms old (Some (faults.BadStore page)) = terms.store × IfTold old.content (λ _. terms.opening)
 Blame terms old (Some faults.NotEmpty) = terms.makes × IfTold old.content (λ bytes. length bytes ≢ 0)
@@ -220,6 +231,7 @@ module _ (terms : Terms) (old : Before) where
   blamed_file file faults.NotEmpty of_file low high told = absurd of_file
   blamed_file file faults.NotImported of_file low high told = absurd of_file
   blamed_file file faults.AlreadyImported of_file low high told = absurd of_file
+  blamed_file file faults.OldFormat of_file low high told = absurd of_file
   blamed_file file faults.UnknownTable of_file low high told = absurd of_file
   blamed_file file (faults.BadStore page) of_file low high told = absurd of_file
   blamed_file file faults.WriteFault of_file low high told = absurd of_file
@@ -246,6 +258,7 @@ module _ (terms : Terms) (old : Before) where
   told_state : (file : ℕ) (quiet : Type 0) (done : Progress) (fault : Fault) → IsOfState terms fault → UpTo file quiet done → Tells terms old (at done (Some fault))
   told_state file quiet done faults.NotImported store up = told_at file quiet done (Some faults.NotImported) up store (λ other names. names)
   told_state file quiet done faults.AlreadyImported store up = told_at file quiet done (Some faults.AlreadyImported) up store (λ other names. names)
+  told_state file quiet done faults.OldFormat uses up = told_at file quiet done (Some faults.OldFormat) up uses (λ other names. names)
   told_state file quiet done faults.UnknownTable opening up = told_at file quiet done (Some faults.UnknownTable) up opening (λ other names. names)
   told_state file quiet done faults.Usage none up = absurd none
   told_state file quiet done (faults.Malformed own line why) none up = absurd none
@@ -274,6 +287,7 @@ module _ (terms : Terms) (old : Before) where
   told_step file quiet done (flow.Store stores.OutOfMemory) store bad none up = absurd none
   told_step file quiet done flow.NotImported store bad why up = told_at file quiet done (Some faults.NotImported) up store (λ other names. names)
   told_step file quiet done flow.AlreadyImported store bad why up = told_at file quiet done (Some faults.AlreadyImported) up store (λ other names. names)
+  told_step file quiet done flow.OldFormat store bad none up = absurd none
   told_step file quiet done flow.LastChange store bad why up = told_at file quiet done (Some (flow_fault flow.LastChange)) up (inl (tt, store)) (λ other names. names)
   told_step file quiet done (flow.TooMany value) store bad why up = told_at file quiet done (Some (faults.Limit kinds.Pending value)) up (inl (tt, store)) (λ other names. names)
   told_step file quiet done flow.OutOfMemory store bad none up = absurd none

@@ -18,7 +18,8 @@ use Rattle.updater.specs.Heads.{GoesOn, IsHead, Leads}
 use Rattle.updater.specs.Making.{of_made}
 use Rattle.updater.specs.Progress.{Progress}
 use Rattle.updater.specs.World.{Before, World, world}
-use Rattle.updater.proofs.VersionRuns.{goes_back, shows_here}
+use Rattle.updater.proofs.StoreDeeds.{shows_here}
+use Rattle.updater.proofs.VersionRuns.{goes_back}
 
 -- a store that was just made is never one that was not
 pub made_never : (fault : FlowFault) (P : Type 0) → IsOpenFault fault → Some (flow_fault (of_made fault)) ≡ Some faults.NotFormatted → P
@@ -32,6 +33,7 @@ made_never (flow.Store stores.Broken) P alone is = absurd alone
 made_never (flow.Store stores.OutOfMemory) P alone is = absurd alone
 made_never flow.NotImported P alone is = absurd alone
 made_never flow.AlreadyImported P alone is = absurd alone
+made_never flow.OldFormat P alone is = absurd alone
 made_never flow.LastChange P alone is = absurd alone
 made_never (flow.TooMany value) P alone is = absurd alone
 

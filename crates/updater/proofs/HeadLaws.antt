@@ -1,5 +1,5 @@
 -- The deeds of a run over an open store, each from the head of a turn to the next one, or to an end.
-use Rattle.std.proofs.Common.{◌≡◌, ◌≤◌, ◌+◌, ℕ, Some, None, List, Result}
+use Rattle.std.proofs.Common.{◌≤◌, ◌+◌, ℕ, Some, None, List, Result}
 use Rattle.std.specs.Io.KnownBytes.{Appends}
 use Rattle.outside.specs.Bytes.{AppendsPrefix}
 use Rattle.outside.specs.Causes.{Rose}

@@ -30,6 +30,8 @@ pub mod VersionRuns
 pub mod AppendRuns
 pub mod StoreRuns
 pub mod MakeRuns
+pub mod MigrateRuns
+pub mod MigrationLaws
 pub mod FillRuns
 pub mod TableTexts
 pub mod OptionLaws

@@ -1,5 +1,5 @@
 -- How much of its store an append reads, turn by turn.
-use Rattle.std.proofs.Common.{◌≡◌, ◌≢◌, ◌≤◌, ◌+◌, ◌-◌, ℕ, suc, Option, Some, None, List, [], ◌∷◌, length, Result, Ok, Err, OnOk, refl, sym, ◌∙◌, subst, arith}
+use Rattle.std.proofs.Common.{◌≡◌, ◌≢◌, ◌≤◌, ◌+◌, ◌-◌, ℕ, Option, None, List, [], ◌∷◌, length, Result, Ok, Err, OnOk, refl, sym, ◌∙◌, subst, arith}
 use Rattle.std.specs.Result.{result_err}
 use Rattle.osm_base.specs.declared.values.object.Entry.{Entry}
 use Rattle.outside.specs.Bytes.{IfTold, IsTold}
@@ -27,7 +27,7 @@ use Rattle.update_flow.specs.declared.updater.Updater.{Updater}
 use Rattle.updater.specs.declared.files.Files.{Files}
 use Rattle.updater.specs.Files.{IsBounds, IsChange}
 use Rattle.updater.specs.FileReads.{IsRead}
-use Rattle.updater.specs.Locality.{AppendsAll, AppendsHere, AppendsSoFar, AppendsThere, Cost, HoldChanges, IsCost, IsLocal, IsOpeningCost, IsStore, MayEachTouch, MoreReads, ReadsEach, ReadsOne}
+use Rattle.updater.specs.Locality.{AppendsAll, AppendsHere, AppendsSoFar, AppendsThere, HoldChanges, IsLocal, IsStore, MoreReads, ReadsEach, ReadsOne}
 use Rattle.updater.specs.World.{World, world}
 
 pub on_ok_so : {T E : Type 0} (result : Result T E) (P Q : Type 0) → (P → Q) → OnOk result P → OnOk result Q

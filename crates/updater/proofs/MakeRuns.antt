@@ -1,5 +1,5 @@
 -- A run that makes its store, and goes on over it.
-use Rattle.std.proofs.Common.{◌≡◌, ◌≢◌, ◌≤◌, ◌⊎◌, ℕ, true, false, Option, Some, None, List, [], length, Err, ⊎_elim, inl, inr, refl, sym, ◌∙◌, subst, arith}
+use Rattle.std.proofs.Common.{◌≡◌, ◌≤◌, ℕ, true, Option, Some, None, List, [], length, Err, ⊎_elim, inl, inr, refl, sym, ◌∙◌, subst, arith}
 use Rattle.std.specs.Prelude.{IsErrOf}
 use Rattle.osm_base.specs.bounds.Limits.{standard}
 use Rattle.outside.specs.Bytes.{IfTold, IsTold}
@@ -14,10 +14,10 @@ use Rattle.page_journal.proofs.Moments.{stays_call}
 use Rattle.page_journal.specs.declared.fault.StoreFault.{StoreFault}
 use Rattle.page_journal.specs.declared.fault.StoreFault.TheVariants as stores
 use Rattle.update_flow.specs.AtRest.{HasFlowCause, IsAt, IsAtEither, IsOfEither, Opens}
-use Rattle.update_flow.specs.Handle.{Handle, IsOpen, changes_of, is_imported, is_whole, limits_of, style_of, view_of}
+use Rattle.update_flow.specs.Handle.{Handle, IsOpen, is_whole, limits_of, view_of}
 use Rattle.update_flow.specs.Refusals.{IsNoDiskFault, IsOpenFault}
 use Rattle.update_flow.specs.Stands.{StandsFor}
-use Rattle.update_flow.specs.State.{State, formatted, imported}
+use Rattle.update_flow.specs.State.{State, formatted, imported, outdated}
 use Rattle.update_flow.specs.Updater.{disk_of, handle_of}
 use Rattle.update_flow.specs.declared.fault.FlowFault.{FlowFault}
 use Rattle.update_flow.specs.declared.fault.FlowFault.TheVariants as flow
@@ -27,7 +27,7 @@ use Rattle.updater.specs.declared.fault.Fault.{Fault}
 use Rattle.updater.specs.declared.fault.Fault.TheVariants as faults
 use Rattle.updater.specs.Comes.{Comes}
 use Rattle.updater.specs.Course.{Course, wants_empty, formats, looks}
-use Rattle.updater.specs.Courses.{if_formatted}
+use Rattle.updater.specs.Courses.{if_blank}
 use Rattle.updater.specs.Faults.{fault_of, flow_fault}
 use Rattle.updater.specs.Heads.{GoesOn, IsHead, IsHere, IsSoFar}
 use Rattle.updater.specs.Keeps.{IsOneOf, blank, whole}
@@ -36,7 +36,7 @@ use Rattle.updater.specs.Making.{IsNotEmpty, of_made, reading_alone}
 use Rattle.updater.specs.Progress.{Standing, unused, unknown, keeps, half_made, Progress, Ending, at, begun, made, with_store}
 use Rattle.updater.specs.World.{Before, World, remembered, world}
 use Rattle.updater.proofs.Deeds.{took_nothing}
-use Rattle.updater.proofs.OpenDeeds.{shown_state, shows_it}
+use Rattle.updater.proofs.OpenDeeds.{TellsNone, shows_state, state_shown}
 
 -- the disk is looked at first
 module _ (files : FilesView) (view now : DiskView) (output : SinkView) (same : now.content ≡ view.content) (later : view.faults ≤ now.faults) where
@@ -70,6 +70,7 @@ module _ (files : FilesView) (view now : DiskView) (output : SinkView) (same : n
   not_empty faults.NotFormatted rest why = absurd why
   not_empty faults.NotImported rest why = absurd why
   not_empty faults.AlreadyImported rest why = absurd why
+  not_empty faults.OldFormat rest why = absurd why
   not_empty faults.UnknownTable rest why = absurd why
   not_empty (faults.BadStore page) rest why = absurd why
   not_empty faults.WriteFault rest why = absurd why
@@ -177,6 +178,7 @@ module _ (read : List ℕ) (next : ℕ) (old : Before) (files : FilesView) (view
       known bytes is (flow.Store stores.OutOfMemory) opened told cause = absurd (let none : Some (flow.Store stores.OutOfMemory) ≡ None = opened.answer in cc)
       known bytes is flow.NotImported opened told cause = absurd (let none : Some flow.NotImported ≡ None = opened.answer in cc)
       known bytes is flow.AlreadyImported opened told cause = absurd (let none : Some flow.AlreadyImported ≡ None = opened.answer in cc)
+      known bytes is flow.OldFormat opened told cause = absurd (let none : Some flow.OldFormat ≡ None = opened.answer in cc)
       known bytes is flow.LastChange opened told cause = absurd (let none : Some flow.LastChange ≡ None = opened.answer in cc)
       known bytes is (flow.TooMany value) opened told cause = absurd (let none : Some (flow.TooMany value) ≡ None = opened.answer in cc)
 
@@ -210,6 +212,7 @@ module _ (read : List ℕ) (next : ℕ) (old : Before) (files : FilesView) (view
       vague is (flow.Store stores.OutOfMemory) alone cause = absurd alone
       vague is flow.NotImported alone cause = absurd alone
       vague is flow.AlreadyImported alone cause = absurd alone
+      vague is flow.OldFormat alone cause = absurd alone
       vague is flow.LastChange alone cause = absurd alone
       vague is (flow.TooMany value) alone cause = absurd alone
 
@@ -224,7 +227,7 @@ module _ (read : List ℕ) (next : ℕ) (old : Before) (files : FilesView) (view
     -- or the run goes on over the open store
     module _ (updater : Handle) (opened : (one other : State) → IsAtEither one other between → Opens one other None between (view_of updater))
         (open_so : IsTold between.content → (state : State) → IsAt state (view_of updater) → IsOpen state updater) (limits : limits_of updater ≡ standard) (sound : is_whole updater ≡ true)
-        (none : is_imported updater ≡ false → changes_of updater ≡ 0) (cause : HasFlowCause None between (view_of updater)) where
+        (none : TellsNone updater) (cause : HasFlowCause None between (view_of updater)) where
       made_head : (told : Option (List ℕ)) (state : State) → IsHere (made told) 0 state updater → StandsOn None (made told) old (view_of updater) → IsHead (begun unused 0) (Done told) state next old files updater output
       made_head told state here stands = record {
         here = here;
@@ -234,12 +237,13 @@ module _ (read : List ℕ) (next : ℕ) (old : Before) (files : FilesView) (view
         so_far = stands_so (made told) None (view_of updater) stands tt (omega (arith, later, cause.later));
       }
 
-      vague_comes : (rest : Course) (state : State) (ending : Ending) → Comes old (if_formatted rest state) (Done None) ending → Comes old (looks rest) (Done None) ending
+      vague_comes : (rest : Course) (state : State) (ending : Ending) → Comes old (if_blank rest state) (Done None) ending → Comes old (looks rest) (Done None) ending
       vague_comes rest formatted ending comes = inr (inr comes)
       vague_comes rest (imported held) ending is = inr (inl (flow.AlreadyImported, tt, is))
+      vague_comes rest (outdated held) ending is = inr (inl (flow.AlreadyImported, tt, is))
 
       module _ (rest : Course) (fault : Option Fault) (new : World)
-          (goes : (old : Before) (start done : Progress) (state : State) → IsHead start done state next old files updater output → GoesOn (if_formatted rest state) start done fault old new) where
+          (goes : (old : Before) (start done : Progress) (state : State) → IsHead start done state next old files updater output → GoesOn (if_blank rest state) start done fault old new) where
         goes_known : (bytes : List ℕ) → old.content ≡ Some bytes → GoesOn (formats (looks rest)) (begun unused 0) (reading_alone read) fault old new
         goes_known bytes is =
             let place = made_at bytes is in
@@ -252,8 +256,8 @@ module _ (read : List ℕ) (next : ℕ) (old : Before) (files : FilesView) (view
 
         goes_vague : old.content ≡ None → GoesOn (formats (looks rest)) (begun unused 0) (reading_alone read) fault old new
         goes_vague is =
-            let state = shown_state (style_of updater) (changes_of updater) in
-            let went = goes old (begun unused 0) (Done None) state (made_head None state (record { shows = shows_it updater (style_of updater) refl none; whole = sound }) tt) in
+            let state = state_shown updater in
+            let went = goes old (begun unused 0) (Done None) state (made_head None state (record { shows = shows_state updater none; whole = sound }) tt) in
             (went.0, went.1, lifts None is (looks rest) went.0 (vague_comes rest state went.0 went.2), went.3)
 
         pub goes_made : GoesOn (formats (looks rest)) (begun unused 0) (reading_alone read) fault old new
@@ -269,9 +273,9 @@ pub goes_over_made : {D : Type 0} {g : Ghosts D} (read : List ℕ) (next : ℕ) 
     (pages : List ℕ → List (List ℕ)) (between : DiskView) (makes : (bytes : List ℕ) → Tells view bytes → (now : List ℕ) × IsFresh now × IsSettled (pages now) now between) (later : view.faults ≤ between.faults)
     (disk : D) (updater : Updater D g) → disk_of updater ≡ disk
     → ((one other : State) → IsAtEither one other between → Opens one other None between (g.view disk)) → (IsTold between.content → (state : State) → IsAt state (g.view disk) → IsOpen state (handle_of updater))
-    → limits_of (handle_of updater) ≡ standard → is_whole (handle_of updater) ≡ true → (is_imported (handle_of updater) ≡ false → changes_of (handle_of updater) ≡ 0) → HasFlowCause None between (g.view disk)
+    → limits_of (handle_of updater) ≡ standard → is_whole (handle_of updater) ≡ true → TellsNone (handle_of updater) → HasFlowCause None between (g.view disk)
     → (rest : Course) (fault : Option Fault) (final : Updater D g) (last : D) → last ≡ disk_of final → (now : FilesView) (told : SinkView)
-    → ((old : Before) (start done : Progress) (state : State) → IsHead start done state next old files (handle_of updater) output → GoesOn (if_formatted rest state) start done fault old (world now (view_of (handle_of final)) told))
+    → ((old : Before) (start done : Progress) (state : State) → IsHead start done state next old files (handle_of updater) output → GoesOn (if_blank rest state) start done fault old (world now (view_of (handle_of final)) told))
     → GoesOn (formats (looks rest)) (begun unused 0) (reading_alone read) fault old (world now (g.view last) told)
 goes_over_made {D} {g} read next old files view output head pages between makes later disk updater same opened open_so limits sound none cause rest fault final last closed now told goes =
     subst (λ (own : D). GoesOn (formats (looks rest)) (begun unused 0) (reading_alone read) fault old (world now (g.view own) told)) (sym closed)

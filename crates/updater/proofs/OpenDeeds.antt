@@ -1,5 +1,5 @@
 -- A store is opened.
-use Rattle.std.proofs.Common.{◌≡◌, ◌≤◌, ◌<◌, ◌⊎◌, ℕ, true, false, Option, Some, None, List, [], length, ⊎_elim, inl, inr, refl, sym, ap, subst, arith}
+use Rattle.std.proofs.Common.{◌≡◌, ◌≤◌, ◌<◌, ◌⊎◌, ℕ, Bool, true, false, Option, Some, None, List, [], length, ⊎_elim, inl, inr, refl, sym, ap, subst, arith}
 use Rattle.std.specs.Prelude.{is_some}
 use Rattle.std.specs.FinMap as finite
 use Rattle.std.proofs.lemmas.List.{length-take-le}
@@ -17,8 +17,8 @@ use Rattle.update_flow.specs.Due.{no_tiles}
 use Rattle.update_flow.specs.History.{state_after}
 use Rattle.update_flow.specs.Refusals.{IsNoDiskFault, IsOpenFault}
 use Rattle.update_flow.specs.Stands.{StandsFor}
-use Rattle.update_flow.specs.State.{State, formatted, imported}
-use Rattle.update_flow.specs.Handle.{Handle, IsOpen, Shows, changes_of, is_imported, is_whole, limits_of, style_of, view_of}
+use Rattle.update_flow.specs.State.{Holding, State, formatted, imported, outdated}
+use Rattle.update_flow.specs.Handle.{Handle, IsOpen, Shows, changes_of, is_imported, is_old, is_whole, limits_of, style_of, view_of}
 use Rattle.update_flow.specs.declared.fault.FlowFault.{FlowFault}
 use Rattle.update_flow.specs.declared.fault.FlowFault.TheVariants as flow
 use Rattle.updater.specs.declared.fault.Fault.{Fault}
@@ -36,13 +36,31 @@ use Rattle.updater.proofs.Deeds.{took_nothing}
 use Rattle.updater.proofs.HistoryLaws.{one_of_all}
 
 -- a state that tells so of itself
-abbrev pub shown_state : Option StyleOf → ℕ → State
-shown_state None changes = formatted
-shown_state (Some style) changes = imported (record { style = style; style_bytes = []; buckets = 0; objects = finite.empty; changes = changes; due = no_tiles })
+abbrev pub shown_as : StyleOf → ℕ → Holding
+shown_as style changes = record { style = style; style_bytes = []; buckets = 0; objects = finite.empty; changes = changes; due = no_tiles }
 
-pub shows_it : (updater : Handle) (style : Option StyleOf) → style_of updater ≡ style → (is_imported updater ≡ false → changes_of updater ≡ 0) → Shows (shown_state style (changes_of updater)) updater
-shows_it updater None is none = record { changes_are = none (let own : is_imported updater ≡ false = ap (λ (style : Option StyleOf). is_some style) is in own); imported_is = ap (λ (style : Option StyleOf). is_some style) is; style_is = is }
-shows_it updater (Some style) is none = record { changes_are = refl; imported_is = ap (λ (style : Option StyleOf). is_some style) is; style_is = is }
+abbrev pub shown_state : Option StyleOf → Bool → ℕ → State
+shown_state None of_old changes = formatted
+shown_state (Some style) false changes = imported (shown_as style changes)
+shown_state (Some style) true changes = outdated (shown_as style changes)
+
+-- a store into which nothing was imported has no changes, and is none of the old format
+abbrev pub TellsNone : Handle → Type 0
+TellsNone updater = is_imported updater ≡ false → (changes_of updater ≡ 0) × (is_old updater ≡ false)
+
+pub shows_it : (updater : Handle) (style : Option StyleOf) (of_old : Bool) → style_of updater ≡ style → is_old updater ≡ of_old → TellsNone updater → Shows (shown_state style of_old (changes_of updater)) updater
+shows_it updater None of_old is old_is none =
+    let blank : is_imported updater ≡ false = ap (λ (style : Option StyleOf). is_some style) is in
+    record { changes_are = (none blank).0; imported_is = blank; old_is = (none blank).1; style_is = is }
+shows_it updater (Some style) false is old_is none = record { changes_are = refl; imported_is = ap (λ (style : Option StyleOf). is_some style) is; old_is = old_is; style_is = is }
+shows_it updater (Some style) true is old_is none = record { changes_are = refl; imported_is = ap (λ (style : Option StyleOf). is_some style) is; old_is = old_is; style_is = is }
+
+-- the one that an open store tells of
+abbrev pub state_shown : Handle → State
+state_shown updater = shown_state (style_of updater) (is_old updater) (changes_of updater)
+
+pub shows_state : (updater : Handle) → TellsNone updater → Shows (state_shown updater) updater
+shows_state updater none = shows_it updater (style_of updater) (is_old updater) refl refl none
 
 -- the bytes are those of one of two states: after the fewest steps, or after the most
 either_kept : (kept : Kept) → IsFit kept → (left : List ℕ) → IsOneOf kept left → IsOfEither (state_after (first kept.least kept.history)) (state_after (first kept.most kept.history)) left
@@ -149,23 +167,24 @@ module _ (files : FilesView) (view : DiskView) (output : SinkView) (only_now : (
     refused_kept (flow.Store stores.OutOfMemory) now rest opened told cause = absurd (let none : Some (flow.Store stores.OutOfMemory) ≡ None = opened.answer in cc)
     refused_kept flow.NotImported now rest opened told cause = absurd (let none : Some flow.NotImported ≡ None = opened.answer in cc)
     refused_kept flow.AlreadyImported now rest opened told cause = absurd (let none : Some flow.AlreadyImported ≡ None = opened.answer in cc)
+    refused_kept flow.OldFormat now rest opened told cause = absurd (let none : Some flow.OldFormat ≡ None = opened.answer in cc)
     refused_kept flow.LastChange now rest opened told cause = absurd (let none : Some flow.LastChange ≡ None = opened.answer in cc)
     refused_kept (flow.TooMany value) now rest opened told cause = absurd (let none : Some (flow.TooMany value) ≡ None = opened.answer in cc)
 
   -- whatever the disk holds
-  pub begun_vague : (updater : Handle) (next : ℕ) → limits_of updater ≡ standard → is_whole updater ≡ true → (is_imported updater ≡ false → changes_of updater ≡ 0) → view.faults ≤ (view_of updater).faults
+  pub begun_vague : (updater : Handle) (next : ℕ) → limits_of updater ≡ standard → is_whole updater ≡ true → TellsNone updater → view.faults ≤ (view_of updater).faults
       → IsBegun (begun unknown 0) next old files updater output
   begun_vague updater next limits sound none later = record {
-    state = shown_state (style_of updater) (changes_of updater);
+    state = state_shown updater;
     further = begun unknown 0;
     head = record {
-      here = record { shows = shows_it updater (style_of updater) refl none; whole = sound };
+      here = record { shows = shows_state updater none; whole = sound };
       vague = λ _. tt;
       limits = limits;
       unread = λ file above read. read;
       so_far = begun_leaves unknown 0 unknown 0 None (view_of updater) tt tt tt later;
     };
-    leads = λ rest ending comes. inr (inr (inr (shown_state (style_of updater) (changes_of updater), comes)));
+    leads = λ rest ending comes. inr (inr (inr (state_shown updater, comes)));
   }
 
   pub refused_vague : (fault : FlowFault) (now : DiskView) (rest : State → Course) → IsOpenFault fault → (fault ≡ flow.Store stores.NotFormatted → IfTold view.content (λ bytes. ¬ IsFormatted bytes)) → HasFlowCause (Some fault) view now
@@ -184,5 +203,6 @@ module _ (files : FilesView) (view : DiskView) (output : SinkView) (only_now : (
   refused_vague (flow.Store stores.OutOfMemory) now rest alone none cause = absurd alone
   refused_vague flow.NotImported now rest alone none cause = absurd alone
   refused_vague flow.AlreadyImported now rest alone none cause = absurd alone
+  refused_vague flow.OldFormat now rest alone none cause = absurd alone
   refused_vague flow.LastChange now rest alone none cause = absurd alone
   refused_vague (flow.TooMany value) now rest alone none cause = absurd alone

@@ -1,5 +1,5 @@
 -- A run that opens its store first.
-use Rattle.std.proofs.Common.{◌≡◌, ℕ, true, false, Option, Some, None, List, inl, inr, refl, sym, subst}
+use Rattle.std.proofs.Common.{◌≡◌, ℕ, true, Option, Some, None, List, inl, inr, refl, sym, subst}
 use Rattle.osm_base.specs.bounds.Limits.{standard}
 use Rattle.outside.specs.Bytes.{IfTold, IsTold}
 use Rattle.outside.specs.Disk.{DiskView}
@@ -11,7 +11,7 @@ use Rattle.page_journal.specs.declared.fault.StoreFault.TheVariants as stores
 use Rattle.update_flow.specs.AtRest.{HasFlowCause, IsAt, IsAtEither, Opens}
 use Rattle.update_flow.specs.Refusals.{IsNoDiskFault, IsOpenFault}
 use Rattle.update_flow.specs.State.{State}
-use Rattle.update_flow.specs.Handle.{Handle, IsOpen, changes_of, is_imported, is_whole, limits_of, view_of}
+use Rattle.update_flow.specs.Handle.{Handle, IsOpen, is_whole, limits_of, view_of}
 use Rattle.update_flow.specs.Updater.{disk_of, handle_of}
 use Rattle.update_flow.specs.declared.updater.Updater.{Updater}
 use Rattle.update_flow.specs.declared.fault.FlowFault.{FlowFault}
@@ -24,7 +24,7 @@ use Rattle.updater.specs.Heads.{GoesOn, IsHead}
 use Rattle.updater.specs.Progress.{Progress}
 use Rattle.updater.specs.Runs.{Begins, GoesBy}
 use Rattle.updater.specs.World.{Before, World, remembered, world}
-use Rattle.updater.proofs.OpenDeeds.{IsBegun, at_either, begun_kept, begun_vague, refused_kept, refused_vague}
+use Rattle.updater.proofs.OpenDeeds.{IsBegun, TellsNone, at_either, begun_kept, begun_vague, refused_kept, refused_vague}
 use Rattle.updater.proofs.VersionRuns.{goes_back}
 
 module _ (files : FilesView) (view : DiskView) (output : SinkView) (only_now : (left : List ℕ) → view.crashes.outcomes_since view.crashes.moment left → view.crashes.outcomes left)
@@ -46,7 +46,7 @@ module _ (files : FilesView) (view : DiskView) (output : SinkView) (only_now : (
 
   module _ (updater : Handle) (next : ℕ) (opened : (one other : State) → IsAtEither one other view → Opens one other None view (view_of updater))
       (open_so : IsTold view.content → (state : State) → IsAt state (view_of updater) → IsOpen state updater) (limits : limits_of updater ≡ standard) (sound : is_whole updater ≡ true)
-      (none : is_imported updater ≡ false → changes_of updater ≡ 0) (cause : HasFlowCause None view (view_of updater)) where
+      (none : TellsNone updater) (cause : HasFlowCause None view (view_of updater)) where
     is_begun : IsBegun start next Old files updater output
     is_begun = by begins
       where
@@ -68,7 +68,7 @@ pub goes_over : {D : Type 0} {g : Ghosts D} (files : FilesView) (view : DiskView
     (only_now : (left : List ℕ) → view.crashes.outcomes_since view.crashes.moment left → view.crashes.outcomes left)
     (start : Progress) (begins : Begins old_store (world files view output) start) (disk : D) (updater : Updater D g) (next : ℕ) → disk_of updater ≡ disk
     → ((one other : State) → IsAtEither one other view → Opens one other None view (g.view disk)) → (IsTold view.content → (state : State) → IsAt state (g.view disk) → IsOpen state (handle_of updater))
-    → limits_of (handle_of updater) ≡ standard → is_whole (handle_of updater) ≡ true → (is_imported (handle_of updater) ≡ false → changes_of (handle_of updater) ≡ 0) → HasFlowCause None view (g.view disk)
+    → limits_of (handle_of updater) ≡ standard → is_whole (handle_of updater) ≡ true → TellsNone (handle_of updater) → HasFlowCause None view (g.view disk)
     → (rest : State → Course) (fault : Option Fault) (final : Updater D g) (last : D) → last ≡ disk_of final → (read : FilesView) (told : SinkView)
     → ((old : Before) (start done : Progress) (state : State) → IsHead start done state next old files (handle_of updater) output → GoesOn (rest state) start done fault old (world read (view_of (handle_of final)) told))
     → GoesBy (opens rest) start fault (world files view output) (world read (g.view last) told)

@@ -5,12 +5,12 @@ use Rattle.outside.specs.Bytes.{BothKnown}
 use Rattle.style_read.specs.Style.{table_of}
 use Rattle.map_query.specs.declared.query.Query.{Query}
 use Rattle.tile_cover.specs.Table.{BoundsOf}
-use Rattle.update_flow.specs.State.{Holding, State, formatted, imported, changed, fresh}
+use Rattle.update_flow.specs.State.{Holding, State, formatted, imported, outdated, changed, fresh}
 use Rattle.updater.specs.declared.fault.Fault.{Fault}
 use Rattle.updater.specs.declared.fault.Fault.TheVariants as faults
-use Rattle.updater.specs.Command.{CommandOf, points_of, lines_of, init_of, import_of, append_of, export_of, tiles_of, query_of, serve_of, replay_of, Use, new_store, old_store, use_of}
+use Rattle.updater.specs.Command.{CommandOf, points_of, lines_of, init_of, import_of, append_of, export_of, tiles_of, query_of, serve_of, replay_of, migrate_of, Use, new_store, old_store, use_of}
 use Rattle.updater.specs.Comes.{Comes}
-use Rattle.updater.specs.Courses.{Onward, telling, append_to, appends, clears, course_of, export_from, exports, finished, import_into, onward, query_from, serve_to, serves, tiles_of_store, version_line}
+use Rattle.updater.specs.Courses.{Onward, telling, append_to, appends, clears, course_of, export_from, exports, finished, import_into, migrates, onward, query_from, serve_to, serves, tiles_of_store, version_line}
 use Rattle.updater.specs.Keeps.{Kept, IsFit, IsOneOf, blank, whole}
 use Rattle.updater.specs.Leaves.{IsPast, Leaves, StandsOn}
 use Rattle.updater.specs.Progress.{Standing, unused, keeps, Progress, Ending, begun}
@@ -153,11 +153,13 @@ opens_first (import_of store files buckets workers) is = into
     into : (state : State) → Counts (import_into files buckets state) 0 1
     into formatted = let line = one_line 0 in (refl, λ style. (refl, λ entries. (refl, (inr (omega (arith, line)), tt))))
     into (imported held) = refl
+    into (outdated held) = refl
 opens_first (append_of store files workers) is = into
   where
     into : (state : State) → Counts (append_to files state) 0 (files.count - 1)
     into formatted = refl
     into (imported held) = (refl, λ bounds. appends_count bounds finished (λ _. tt) held (files.first + 1) (files.count - 1))
+    into (outdated held) = refl
 opens_first (export_of store table) is = into
   where
     from : (held : Holding) (found : Option ℕ) → Counts (exports held found) 0 0
@@ -167,6 +169,7 @@ opens_first (export_of store table) is = into
     into : (state : State) → Counts (export_from table state) 0 0
     into formatted = refl
     into (imported held) = from held (table_of held.style.tables table)
+    into (outdated held) = refl
 opens_first (tiles_of store least clear) is = into
   where
     behind : (clear : Bool) → Counts (clears clear) 0 0
@@ -176,17 +179,26 @@ opens_first (tiles_of store least clear) is = into
     into : (state : State) → Counts (tiles_of_store least clear state) 0 0
     into formatted = refl
     into (imported held) = (refl, (refl, refl, behind clear))
+    into (outdated held) = refl
 opens_first (query_of store files) is = into
   where
     into : (state : State) → Counts (query_from files state) 0 0
     into formatted = refl
     into (imported held) = (refl, λ queries. (refl, (refl, refl, tt)))
+    into (outdated held) = refl
 opens_first (serve_of store files workers readers) is = into
   where
     into : (state : State) → Counts (serve_to files readers state) 0 (files.count - 2)
     into formatted = refl
     into (imported held) = (refl, λ bounds. (refl, λ queries. (refl, serves_count bounds queries readers [] held (files.first + 2) (files.count - 2))))
+    into (outdated held) = refl
 opens_first (replay_of store files workers) is = absurd (cc)
+opens_first (migrate_of store) is = into
+  where
+    into : (state : State) → Counts (migrates state) 0 0
+    into formatted = refl
+    into (imported held) = (inl refl, tt)
+    into (outdated held) = (refl, (inl refl, tt))
 
 -- and the others make it
 makes_first : (command : CommandOf) → use_of command ≡ new_store → CountsMade (steps_told command) (course_of command)
@@ -199,6 +211,7 @@ makes_first (export_of store table) is = absurd (cc)
 makes_first (tiles_of store least clear) is = absurd (cc)
 makes_first (query_of store files) is = absurd (cc)
 makes_first (serve_of store files workers readers) is = absurd (cc)
+makes_first (migrate_of store) is = absurd (cc)
 makes_first (replay_of store files workers) is = λ style bounds.
     let line = one_line 0 in
     let told : 0 ≡ 1 - lines_in (version_line 0) = omega (arith, line) in

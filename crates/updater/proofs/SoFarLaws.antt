@@ -139,6 +139,7 @@ module _ (start done : Progress) (next : ℕ) (old : Before) (files : FilesView)
     stops_why rest faults.NotEmpty why alone = absurd why.0
     stops_why rest faults.NotImported why alone = absurd why.0
     stops_why rest faults.AlreadyImported why alone = absurd why.0
+    stops_why rest faults.OldFormat why alone = absurd why.0
     stops_why rest faults.UnknownTable why alone = absurd why.0
     stops_why rest (faults.BadStore page) why alone = absurd why.0
     stops_why rest faults.WriteFault why alone = absurd why.0

@@ -11,8 +11,8 @@ use Rattle.update_flow.specs.AtRest.{HasFlowCause, IsAt, IsOfEither, RestsAt}
 use Rattle.update_flow.specs.History.{History, state_after}
 use Rattle.update_flow.specs.Refusals.{IsCallFault, IsNoDiskFault, MayAnswer, MayLook, OrFull, Refuses, RefusesLook}
 use Rattle.update_flow.specs.Stands.{StandsFor}
-use Rattle.update_flow.specs.State.{Holding, State, imported, Step, after}
-use Rattle.update_flow.specs.Handle.{Handle, IsOpen, Looks, Shows, Takes, is_whole, limits_of, view_of}
+use Rattle.update_flow.specs.State.{Holding, State, imported, Step, after, was_old}
+use Rattle.update_flow.specs.Handle.{Handle, IsOpen, Looks, Shows, Takes, is_old, is_whole, limits_of, view_of}
 use Rattle.update_flow.specs.declared.fault.FlowFault.{FlowFault}
 use Rattle.update_flow.specs.declared.fault.FlowFault.TheVariants as flow
 use Rattle.updater.specs.declared.fault.Fault.{Fault}
@@ -40,19 +40,20 @@ data Kinds (fault : FlowFault) : Type 1 where
   of_memory : fault ≡ flow.OutOfMemory → Kinds fault
   plain : IsPlain fault → Kinds fault
 
-kind_of : (fault : FlowFault) → IsCallFault fault → (fault ≡ flow.Store stores.Broken → ⊥) → Kinds fault
-kind_of (flow.Store stores.DiskFault) call sound = of_disk refl
-kind_of flow.OutOfMemory call sound = of_memory refl
-kind_of (flow.Store stores.Broken) call sound = absurd (sound refl)
-kind_of (flow.Store stores.NotFormatted) call sound = absurd call
-kind_of (flow.Store stores.NotEmpty) call sound = absurd call
-kind_of (flow.Store stores.OutOfMemory) call sound = absurd call
-kind_of (flow.Store (stores.BadStore page)) call sound = plain (record { step = tt; causeless = λ old new. tt; no_disk = tt; answers = λ limits state step h. h; looks_so = λ state h. h })
-kind_of (flow.Store (stores.StoreFull pages)) call sound = plain (record { step = tt; causeless = λ old new. tt; no_disk = tt; answers = λ limits state step h. h; looks_so = λ state h. h })
-kind_of flow.NotImported call sound = plain (record { step = tt; causeless = λ old new. tt; no_disk = tt; answers = λ limits state step h. h; looks_so = λ state h. h })
-kind_of flow.AlreadyImported call sound = plain (record { step = tt; causeless = λ old new. tt; no_disk = tt; answers = λ limits state step h. h; looks_so = λ state h. h })
-kind_of flow.LastChange call sound = plain (record { step = tt; causeless = λ old new. tt; no_disk = tt; answers = λ limits state step h. h; looks_so = λ state h. h })
-kind_of (flow.TooMany value) call sound = plain (record { step = tt; causeless = λ old new. tt; no_disk = tt; answers = λ limits state step h. h; looks_so = λ state h. h })
+kind_of : (fault : FlowFault) → IsCallFault fault → (fault ≡ flow.Store stores.Broken → ⊥) → (fault ≡ flow.OldFormat → ⊥) → Kinds fault
+kind_of (flow.Store stores.DiskFault) call sound new = of_disk refl
+kind_of flow.OutOfMemory call sound new = of_memory refl
+kind_of (flow.Store stores.Broken) call sound new = absurd (sound refl)
+kind_of (flow.Store stores.NotFormatted) call sound new = absurd call
+kind_of (flow.Store stores.NotEmpty) call sound new = absurd call
+kind_of (flow.Store stores.OutOfMemory) call sound new = absurd call
+kind_of (flow.Store (stores.BadStore page)) call sound new = plain (record { step = tt; causeless = λ old new. tt; no_disk = tt; answers = λ limits state step h. h; looks_so = λ state h. h })
+kind_of (flow.Store (stores.StoreFull pages)) call sound new = plain (record { step = tt; causeless = λ old new. tt; no_disk = tt; answers = λ limits state step h. h; looks_so = λ state h. h })
+kind_of flow.NotImported call sound new = plain (record { step = tt; causeless = λ old new. tt; no_disk = tt; answers = λ limits state step h. h; looks_so = λ state h. h })
+kind_of flow.AlreadyImported call sound new = plain (record { step = tt; causeless = λ old new. tt; no_disk = tt; answers = λ limits state step h. h; looks_so = λ state h. h })
+kind_of flow.OldFormat call sound new = absurd (new refl)
+kind_of flow.LastChange call sound new = plain (record { step = tt; causeless = λ old new. tt; no_disk = tt; answers = λ limits state step h. h; looks_so = λ state h. h })
+kind_of (flow.TooMany value) call sound new = plain (record { step = tt; causeless = λ old new. tt; no_disk = tt; answers = λ limits state step h. h; looks_so = λ state h. h })
 
 -- what was so at each moment is so when the run goes on
 moments_on : (from : Standing) (cut : ℕ) (store further : Standing) (moment : ℕ) (one other : Crashes) (P : List ℕ → Type 0) → SurvivesFrom from cut store moment one → Goes P one other
@@ -72,6 +73,13 @@ no_moments unused cut store moment crashes none = tt
 no_moments unknown cut store moment crashes none = tt
 no_moments half_made cut store moment crashes none = tt
 no_moments (keeps kept) cut store moment crashes none = absurd none
+
+-- what an open store tells
+pub shows_here : (store : Standing) (cut : ℕ) (state : State) (updater : Handle) → IsHere store cut state updater → Shows state updater
+shows_here unused cut state updater here = absurd here
+shows_here unknown cut state updater here = here.shows
+shows_here (keeps kept) cut state updater here = here.rests.shows
+shows_here half_made cut state updater here = absurd here
 
 -- the progress with this standing and cut
 abbrev standing : Standing → ℕ → Progress → Progress
@@ -217,6 +225,10 @@ module _ (start done : Progress) (state : State) (next : ℕ) (old : Before) (fi
   not_broken : (fault : FlowFault) → (fault ≡ flow.Store stores.Broken → is_whole before ≡ false) → fault ≡ flow.Store stores.Broken → ⊥
   not_broken fault broken is = absurd (let two : true ≡ false = sym (sound_here done.store head.here) ∙ broken is in cc)
 
+  -- a store of this format is not refused as one of the old
+  pub not_outdated : was_old state ≡ false → (fault : FlowFault) → (fault ≡ flow.OldFormat → is_old before ≡ true) → fault ≡ flow.OldFormat → ⊥
+  not_outdated new fault refused is = absurd (let two : true ≡ false = sym (refused is) ∙ (shows_here done.store done.cut state before head.here).old_is ∙ new in cc)
+
   -- a step is taken
   module _ (step : Step) (takes : (own : State) → IsOpen own before → Takes own step None before now) (shows : Shows state before → Shows (after state step) now)
       (sound : is_whole now ≡ is_whole before) (same : limits_of now ≡ limits_of before) (cause : HasFlowCause None (view_of before) (view_of now)) where
@@ -251,7 +263,7 @@ module _ (start done : Progress) (state : State) (next : ℕ) (old : Before) (fi
 
   -- a step is refused
   module _ (step : Step) (fault : FlowFault) (takes : (own : State) → IsOpen own before → Takes own step (Some fault) before now) (call : IsCallFault fault)
-      (broken : fault ≡ flow.Store stores.Broken → is_whole before ≡ false) (cause : HasFlowCause (Some fault) (view_of before) (view_of now)) (rest : Course) where
+      (broken : fault ≡ flow.Store stores.Broken → is_whole before ≡ false) (never : fault ≡ flow.OldFormat → ⊥) (cause : HasFlowCause (Some fault) (view_of before) (view_of now)) (rest : Course) where
     abbrev Goal : Type 0
     Goal = GoesOn (commits step rest) start done (Some (flow_fault fault)) old (world files (view_of now) output)
 
@@ -309,8 +321,8 @@ module _ (start done : Progress) (state : State) (next : ℕ) (old : Before) (fi
     refused_by : (store : Standing) → done.store ≡ store → IsHere store done.cut state before → Goal
     refused_by unused is here = absurd here
     refused_by half_made is here = absurd here
-    refused_by unknown is here = refused_vague is (kind_of fault call (not_broken fault broken))
-    refused_by (keeps kept) is here = refused_known kept is here (kind_of fault call (not_broken fault broken))
+    refused_by unknown is here = refused_vague is (kind_of fault call (not_broken fault broken) never)
+    refused_by (keeps kept) is here = refused_known kept is here (kind_of fault call (not_broken fault broken) never)
 
     pub refused_step : Goal
     refused_step = refused_by done.store refl head.here
@@ -333,7 +345,7 @@ module _ (start done : Progress) (held : Holding) (next : ℕ) (old : Before) (f
 
   -- a look is refused
   module _ (fault : FlowFault) (looked : (own : State) → IsOpen own before → Looks own (Some fault) before now) (call : IsCallFault fault)
-      (broken : fault ≡ flow.Store stores.Broken → is_whole before ≡ false) (cause : HasFlowCause (Some fault) (view_of before) (view_of now)) (rest : Course) where
+      (broken : fault ≡ flow.Store stores.Broken → is_whole before ≡ false) (refused : fault ≡ flow.OldFormat → is_old before ≡ true) (cause : HasFlowCause (Some fault) (view_of before) (view_of now)) (rest : Course) where
     abbrev Unlooked : Type 0
     Unlooked = GoesOn (looks rest) start done (Some (flow_fault fault)) old (world files (view_of now) output)
 
@@ -375,11 +387,15 @@ module _ (start done : Progress) (held : Holding) (next : ℕ) (old : Before) (f
         )
     unlooked_known kept is here (plain own) = absurd (let none : Some fault ≡ None = own.looks_so (imported held) (looked (imported held) here.rests).answer in cc)
 
+    kind_here : Kinds fault
+    kind_here = kind_of fault call (not_broken start done (imported held) next old files before now output head fault broken)
+        (not_outdated start done (imported held) next old files before now output head refl fault refused)
+
     unlooked_by : (store : Standing) → done.store ≡ store → IsHere store done.cut (imported held) before → Unlooked
     unlooked_by unused is here = absurd here
     unlooked_by half_made is here = absurd here
-    unlooked_by unknown is here = unlooked_vague is (kind_of fault call (not_broken start done (imported held) next old files before now output head fault broken))
-    unlooked_by (keeps kept) is here = unlooked_known kept is here (kind_of fault call (not_broken start done (imported held) next old files before now output head fault broken))
+    unlooked_by unknown is here = unlooked_vague is kind_here
+    unlooked_by (keeps kept) is here = unlooked_known kept is here kind_here
 
     pub unlooked : Unlooked
     unlooked = unlooked_by done.store refl head.here

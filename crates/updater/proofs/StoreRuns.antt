@@ -1,5 +1,5 @@
 -- The commands over a store that is there, once it is open.
-use Rattle.std.proofs.Common.{◌≡◌, ◌≤◌, ◌+◌, ℕ, true, false, Option, Some, None, List, Result, Ok, Err, OnOk, OnErr, IfErr, inr, sym, ◌∙◌, ap, subst, arith}
+use Rattle.std.proofs.Common.{◌≡◌, ◌≤◌, ◌+◌, ℕ, true, false, Option, Some, None, List, Result, Ok, Err, OnOk, OnErr, IfErr, inr, refl, sym, ◌∙◌, ap, subst, arith}
 use Rattle.std.specs.Result.{result_err}
 use Rattle.std.specs.Io.KnownBytes.{Appends}
 use Rattle.outside.specs.Bytes.{AppendsPrefix}
@@ -10,25 +10,25 @@ use Rattle.page_journal.specs.declared.fault.StoreFault.TheVariants as stores
 use Rattle.style_read.specs.Style.{StyleOf, table_of}
 use Rattle.update_flow.specs.AtRest.{HasFlowCause}
 use Rattle.update_flow.specs.Refusals.{IsCallFault}
-use Rattle.update_flow.specs.State.{Holding, State, formatted, imported, Clear, after}
-use Rattle.update_flow.specs.Handle.{Handle, IsOpen, Looks, Shows, Takes, TellsAs, is_imported, is_whole, limits_of, style_of, view_of}
+use Rattle.update_flow.specs.State.{Holding, State, formatted, imported, outdated, Clear, after}
+use Rattle.update_flow.specs.Handle.{Handle, IsOpen, Looks, Shows, Takes, TellsAs, is_imported, is_old, is_whole, limits_of, style_of, view_of}
 use Rattle.update_flow.specs.declared.fault.FlowFault.{FlowFault}
 use Rattle.update_flow.specs.declared.fault.FlowFault.TheVariants as flow
 use Rattle.updater.specs.declared.fault.Fault.{Fault}
 use Rattle.updater.specs.declared.fault.Fault.TheVariants as faults
 use Rattle.updater.specs.Comes.{AreTold, IsCertain}
 use Rattle.updater.specs.Course.{Course, ends, reads, looks, writes}
-use Rattle.updater.specs.Courses.{Onward, clears, exports, finished, if_formatted, if_imported}
+use Rattle.updater.specs.Courses.{Onward, clears, exports, finished, if_blank, if_formatted, if_imported}
 use Rattle.updater.specs.FileReads.{IsRead, IsUnread}
 use Rattle.updater.specs.Faults.{flow_fault}
 use Rattle.updater.specs.Heads.{GoesOn, IsHead, IsHere, Leads}
 use Rattle.updater.specs.Progress.{Standing, unused, unknown, keeps, half_made, Progress, past, plus}
 use Rattle.updater.specs.World.{Before, World, world}
 use Rattle.updater.proofs.HeadLaws.{ends_here, leads_file, past_file, past_text, refuses_here, stops_in_file, stops_in_text, stops_short}
-use Rattle.updater.proofs.StoreDeeds.{looked_at, refused_step, taken, unlooked}
-use Rattle.updater.proofs.VersionRuns.{goes_back, shows_here}
+use Rattle.updater.proofs.StoreDeeds.{looked_at, not_outdated, refused_step, shows_here, taken, unlooked}
+use Rattle.updater.proofs.VersionRuns.{goes_back}
 
-true_not : (P : Type 0) → true ≡ false → P
+pub true_not : (P : Type 0) → true ≡ false → P
 true_not P is = absurd (cc)
 
 -- where nothing comes behind, the next head is the end
@@ -49,25 +49,51 @@ module _ (start done : Progress) (next : ℕ) (old : Before) (files : FilesView)
   shown : (state : State) → Here state → Shows state updater
   shown state head = shows_here done.store done.cut state updater head.here
 
+  -- the store is one of the old format
+  pub outdated_new : (rest : Course) (state : State) → Here state → is_old updater ≡ true → GoesOn (if_formatted rest state) start done (Some faults.OldFormat) old Now
+  outdated_new rest formatted head is = true_not _ (sym is ∙ (shown formatted head).old_is)
+  outdated_new rest (imported held) head is = true_not _ (sym is ∙ (shown (imported held) head).old_is)
+  outdated_new rest (outdated held) head is = refuses_here start done (outdated held) next old files updater output head faults.OldFormat tt
+
+  pub outdated_there : (rest : Holding → Course) (state : State) → Here state → is_old updater ≡ true → GoesOn (if_imported rest state) start done (Some faults.OldFormat) old Now
+  outdated_there rest formatted head is = true_not _ (sym is ∙ (shown formatted head).old_is)
+  outdated_there rest (imported held) head is = true_not _ (sym is ∙ (shown (imported held) head).old_is)
+  outdated_there rest (outdated held) head is = refuses_here start done (outdated held) next old files updater output head faults.OldFormat tt
+
   -- something was imported before
-  pub already : (rest : Course) (state : State) → Here state → is_imported updater ≡ true → GoesOn (if_formatted rest state) start done (Some faults.AlreadyImported) old Now
-  already rest formatted head is = true_not _ (sym is ∙ (shown formatted head).imported_is)
-  already rest (imported held) head is = refuses_here start done (imported held) next old files updater output head faults.AlreadyImported tt
+  pub already : (rest : Course) (state : State) → Here state → is_old updater ≡ false → is_imported updater ≡ true → GoesOn (if_formatted rest state) start done (Some faults.AlreadyImported) old Now
+  already rest formatted head new is = true_not _ (sym is ∙ (shown formatted head).imported_is)
+  already rest (imported held) head new is = refuses_here start done (imported held) next old files updater output head faults.AlreadyImported tt
+  already rest (outdated held) head new is = true_not _ (sym (shown (outdated held) head).old_is ∙ new)
+
+  -- into a store that was just made
+  pub never_blank : (rest : Course) (state : State) → Here state → is_imported updater ≡ true → GoesOn (if_blank rest state) start done (Some faults.AlreadyImported) old Now
+  never_blank rest formatted head is = true_not _ (sym is ∙ (shown formatted head).imported_is)
+  never_blank rest (imported held) head is = refuses_here start done (imported held) next old files updater output head faults.AlreadyImported tt
+  never_blank rest (outdated held) head is = refuses_here start done (outdated held) next old files updater output head faults.AlreadyImported tt
 
   -- nothing was
-  pub not_yet : (rest : Holding → Course) (state : State) → Here state → is_imported updater ≡ false → GoesOn (if_imported rest state) start done (Some faults.NotImported) old Now
-  not_yet rest formatted head is = refuses_here start done formatted next old files updater output head faults.NotImported tt
-  not_yet rest (imported held) head is = true_not _ (sym (shown (imported held) head).imported_is ∙ is)
+  pub not_yet : (rest : Holding → Course) (state : State) → Here state → is_old updater ≡ false → is_imported updater ≡ false → GoesOn (if_imported rest state) start done (Some faults.NotImported) old Now
+  not_yet rest formatted head new is = refuses_here start done formatted next old files updater output head faults.NotImported tt
+  not_yet rest (imported held) head new is = true_not _ (sym (shown (imported held) head).imported_is ∙ is)
+  not_yet rest (outdated held) head new is = true_not _ (sym (shown (outdated held) head).old_is ∙ new)
 
   -- what is so where nothing was imported, or where something was
-  pub if_new : (rest : Course) (fault : Option Fault) (new : World) (state : State) → Here state → is_imported updater ≡ false → (Here formatted → GoesOn rest start done fault old new) → GoesOn (if_formatted rest state) start done fault old new
-  if_new rest fault new formatted head is goes = goes head
-  if_new rest fault new (imported held) head is goes = true_not _ (sym (shown (imported held) head).imported_is ∙ is)
+  pub if_new : (rest : Course) (fault : Option Fault) (new : World) (state : State) → Here state → is_old updater ≡ false → is_imported updater ≡ false → (Here formatted → GoesOn rest start done fault old new) → GoesOn (if_formatted rest state) start done fault old new
+  if_new rest fault new formatted head current is goes = goes head
+  if_new rest fault new (imported held) head current is goes = true_not _ (sym (shown (imported held) head).imported_is ∙ is)
+  if_new rest fault new (outdated held) head current is goes = true_not _ (sym (shown (outdated held) head).old_is ∙ current)
 
-  pub if_there : (rest : Holding → Course) (fault : Option Fault) (new : World) (state : State) → Here state → is_imported updater ≡ true
+  pub if_made : (rest : Course) (fault : Option Fault) (new : World) (state : State) → Here state → is_imported updater ≡ false → (Here formatted → GoesOn rest start done fault old new) → GoesOn (if_blank rest state) start done fault old new
+  if_made rest fault new formatted head is goes = goes head
+  if_made rest fault new (imported held) head is goes = true_not _ (sym (shown (imported held) head).imported_is ∙ is)
+  if_made rest fault new (outdated held) head is goes = true_not _ (sym (shown (outdated held) head).imported_is ∙ is)
+
+  pub if_there : (rest : Holding → Course) (fault : Option Fault) (new : World) (state : State) → Here state → is_old updater ≡ false → is_imported updater ≡ true
       → ((held : Holding) → Here (imported held) → GoesOn (rest held) start done fault old new) → GoesOn (if_imported rest state) start done fault old new
-  if_there rest fault new formatted head is goes = true_not _ (sym is ∙ (shown formatted head).imported_is)
-  if_there rest fault new (imported held) head is goes = goes held head
+  if_there rest fault new formatted head current is goes = true_not _ (sym is ∙ (shown formatted head).imported_is)
+  if_there rest fault new (imported held) head current is goes = goes held head
+  if_there rest fault new (outdated held) head current is goes = true_not _ (sym (shown (outdated held) head).old_is ∙ current)
 
   -- a file is read first, and then the run goes on
   module _ {A : Type 0} (Reads : List ℕ → Result A Fault → Type 0) (rest : A → Course) (state : State) (head : Here state) (read : FilesView) where
@@ -111,14 +137,14 @@ held_certain done held updater here certain = by done.store here certain
 -- the store is looked at, and what it holds is written
 module _ (start done : Progress) (held : Holding) (next : ℕ) (old : Before) (files : FilesView) (before now : Handle) (output : SinkView)
     (head : IsHead start done (imported held) next old files before output) where
-  pub look_refused : (fault : FlowFault) → ((own : State) → IsOpen own before → Looks own (Some fault) before now) → IsCallFault fault → (fault ≡ flow.Store stores.Broken → is_whole before ≡ false)
+  pub look_refused : (fault : FlowFault) → ((own : State) → IsOpen own before → Looks own (Some fault) before now) → IsCallFault fault → (fault ≡ flow.Store stores.Broken → is_whole before ≡ false) → (fault ≡ flow.OldFormat → is_old before ≡ true)
       → HasFlowCause (Some fault) (view_of before) (view_of now) → (rest : Course) → GoesOn (looks rest) start done (Some (flow_fault fault)) old (world files (view_of now) output)
-  look_refused fault looked call broken cause rest = unlooked start done held next old files before now output head fault looked call broken cause rest
+  look_refused fault looked call broken refused cause rest = unlooked start done held next old files before now output head fault looked call broken refused cause rest
 
   pub look_done : ((own : State) → IsOpen own before → Looks own None before now) → TellsAs before now → is_whole now ≡ is_whole before → limits_of now ≡ limits_of before → HasFlowCause None (view_of before) (view_of now)
       → IsHead start done (imported held) next old files now output
   look_done looked tells sound same cause = looked_at start done held next old files before now output head looked
-      (λ shows. record { changes_are = tells.changes_same ∙ shows.changes_are; imported_is = tells.imported_same ∙ shows.imported_is; style_is = tells.style_same ∙ shows.style_is }) sound same cause
+      (λ shows. record { changes_are = tells.changes_same ∙ shows.changes_are; imported_is = tells.imported_same ∙ shows.imported_is; old_is = tells.old_same ∙ shows.old_is; style_is = tells.style_same ∙ shows.style_is }) sound same cause
 
   -- the text of what was looked at
   module _ (Fits : List ℕ → Type 0) (rest : Course) (sure : IsHead start done (imported held) next old files now output) where
@@ -172,10 +198,11 @@ module _ (start done : Progress) (held : Holding) (next : ℕ) (old : Before) (f
       → GoesOn (clears true) start done None old (world files (view_of now) output)
   clear_done takes tells sound same cause =
       let own = taken start done (imported held) next old files before now output head Clear takes
-      (λ shows. record { changes_are = tells.changes_same ∙ shows.changes_are; imported_is = tells.imported_same ∙ shows.imported_is; style_is = tells.style_same ∙ shows.style_is }) sound same cause in
+      (λ shows. record { changes_are = tells.changes_same ∙ shows.changes_are; imported_is = tells.imported_same ∙ shows.imported_is; old_is = tells.old_same ∙ shows.old_is; style_is = tells.style_same ∙ shows.style_is }) sound same cause in
       goes_back (clears true) ends start done own.further None old (world files (view_of now) output)
       (ends_here start own.further (after (imported held) Clear) next old files now output own.head) (own.leads ends)
 
-  pub clear_refused : (fault : FlowFault) → ((own : State) → IsOpen own before → Takes own Clear (Some fault) before now) → IsCallFault fault → (fault ≡ flow.Store stores.Broken → is_whole before ≡ false)
+  pub clear_refused : (fault : FlowFault) → ((own : State) → IsOpen own before → Takes own Clear (Some fault) before now) → IsCallFault fault → (fault ≡ flow.Store stores.Broken → is_whole before ≡ false) → (fault ≡ flow.OldFormat → is_old before ≡ true)
       → HasFlowCause (Some fault) (view_of before) (view_of now) → GoesOn (clears true) start done (Some (flow_fault fault)) old (world files (view_of now) output)
-  clear_refused fault takes call broken cause = refused_step start done (imported held) next old files before now output head Clear fault takes call broken cause ends
+  clear_refused fault takes call broken refused cause = refused_step start done (imported held) next old files before now output head Clear fault takes call broken
+      (not_outdated start done (imported held) next old files before now output head refl fault refused) cause ends

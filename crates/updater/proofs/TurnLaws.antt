@@ -5,15 +5,15 @@ use Rattle.osm_base.specs.declared.values.object.Entry.{Entry}
 use Rattle.updater.specs.declared.fault.Fault.{Fault}
 use Rattle.updater.specs.declared.fault.Fault.TheVariants as faults
 use Rattle.updater.specs.declared.files.Files.{Files}
-use Rattle.updater.specs.Causes.{Cause, HasStore, MakesStore, OpensStore}
+use Rattle.updater.specs.Causes.{Cause, HasStore, MakesStore, OpensStore, WantsNewFormat}
 use Rattle.updater.specs.Comes.{Comes}
-use Rattle.updater.specs.Command.{CommandOf, points_of, lines_of, init_of, import_of, append_of, export_of, tiles_of, query_of, serve_of, replay_of, files_of, Use, no_store, new_store, old_store, use_of}
+use Rattle.updater.specs.Command.{CommandOf, points_of, lines_of, init_of, import_of, append_of, export_of, tiles_of, query_of, serve_of, replay_of, migrate_of, files_of, Use, no_store, new_store, old_store, use_of}
 use Rattle.style_read.specs.Style.{table_of}
 use Rattle.map_query.specs.declared.query.Query.{Query}
 use Rattle.tile_cover.specs.Table.{BoundsOf}
-use Rattle.update_flow.specs.State.{Holding, State, formatted, imported, changed, fresh}
+use Rattle.update_flow.specs.State.{Holding, State, formatted, imported, outdated, changed, fresh}
 use Rattle.updater.specs.Course.{Course}
-use Rattle.updater.specs.Courses.{append_to, appends, course_of, export_from, exports, finished, import_into, onward, query_from, replay_course, serve_to, serves, telling, tiles_of_store}
+use Rattle.updater.specs.Courses.{append_to, appends, course_of, export_from, exports, finished, import_into, migrates, onward, query_from, replay_course, serve_to, serves, telling, tiles_of_store}
 use Rattle.updater.specs.Files.{IsChange}
 use Rattle.updater.specs.InTurn.{FaultNames, IsInTurn}
 use Rattle.updater.specs.Leaves.{HasCause}
@@ -43,6 +43,7 @@ terms_of command = record {
   store = HasStore command;
   makes = MakesStore command;
   opening = OpensStore command;
+  uses = WantsNewFormat command;
   owns = owns_made (use_of command);
 }
 
@@ -94,6 +95,7 @@ has_store = λ e. absurd (cc)
 
 import_to : (store : List ℕ) (files : Files) (buckets workers : ℕ) (state : State) → files.count ≡ 2 → KeepsTo (terms_of (import_of store files buckets workers)) files.first (Unit {0}) (import_into files buckets state)
 import_to store files buckets workers (imported held) two = has_store
+import_to store files buckets workers (outdated held) two = refl
 import_to store files buckets workers formatted two = (
   refl,
   omega (arith, two),
@@ -106,6 +108,7 @@ import_to store files buckets workers formatted two = (
 
 append_to_store : (store : List ℕ) (files : Files) (workers : ℕ) (state : State) → 2 ≤ files.count → KeepsTo (terms_of (append_of store files workers)) files.first (Unit {0}) (append_to files state)
 append_to_store store files workers formatted two = has_store
+append_to_store store files workers (outdated held) two = refl
 append_to_store store files workers (imported held) two = (
   refl,
   omega (arith, two),
@@ -120,6 +123,7 @@ append_to_store store files workers (imported held) two = (
 
 export_to : (store table : List ℕ) (state : State) → KeepsTo (terms_of (export_of store table)) 0 (Unit {0}) (export_from table state)
 export_to store table formatted = has_store
+export_to store table (outdated held) = refl
 export_to store table (imported held) = exports_to (table_of held.style.tables table)
   where
     exports_to : (found : Option ℕ) → KeepsTo (terms_of (export_of store table)) 0 (Unit {0}) (exports held found)
@@ -128,6 +132,7 @@ export_to store table (imported held) = exports_to (table_of held.style.tables t
 
 tiles_to : (store : List ℕ) (least : ℕ) (clear : Bool) (state : State) → KeepsTo (terms_of (tiles_of store least clear)) 0 (Unit {0}) (tiles_of_store least clear state)
 tiles_to store least clear formatted = has_store
+tiles_to store least clear (outdated held) = refl
 tiles_to store least false (imported held) = (has_store, tt)
 tiles_to store least true (imported held) = (has_store, (has_store, tt))
 
@@ -136,6 +141,7 @@ makes_store = λ e. absurd (cc)
 
 query_to : (store : List ℕ) (files : Files) (state : State) → files.count ≡ 1 → KeepsTo (terms_of (query_of store files)) files.first (Unit {0}) (query_from files state)
 query_to store files formatted one = has_store
+query_to store files (outdated held) one = refl
 query_to store files (imported held) one = (
   refl,
   omega (arith, one),
@@ -147,6 +153,7 @@ query_to store files (imported held) one = (
 
 serve_to_store : (store : List ℕ) (files : Files) (workers readers : ℕ) (state : State) → 2 ≤ files.count → KeepsTo (terms_of (serve_of store files workers readers)) files.first (Unit {0}) (serve_to files readers state)
 serve_to_store store files workers readers formatted two = has_store
+serve_to_store store files workers readers (outdated held) two = refl
 serve_to_store store files workers readers (imported held) two = (
   refl,
   omega (arith, two),
@@ -171,6 +178,11 @@ serve_to_store store files workers readers (imported held) two = (
     ),
   ),
 )
+
+migrate_to : (store : List ℕ) (state : State) → KeepsTo (terms_of (migrate_of store)) 0 (Unit {0}) (migrates state)
+migrate_to store formatted = has_store
+migrate_to store (imported held) = tt
+migrate_to store (outdated held) = (has_store, tt)
 
 -- a command that makes its store
 makes_new : new_store ≢ no_store
@@ -242,6 +254,7 @@ keeps_to (tiles_of store least clear) its = (refl, has_store, λ state. tiles_to
 keeps_to (query_of store files) its = (refl, has_store, λ state. query_to store files state its)
 keeps_to (serve_of store files workers readers) its = (refl, has_store, λ state. serve_to_store store files workers readers state its)
 keeps_to (replay_of store files workers) its = replay_to store files workers its
+keeps_to (migrate_of store) its = (refl, has_store, λ state. migrate_to store state)
 
 -- before anything is done
 none_done : (command : CommandOf) (old : Before) (store : Standing) (cut : ℕ) → (store ≡ unknown → OpensStore command) → IsUpTo (terms_of command) old (files_of command).first (Unit {0}) (begun store cut)
@@ -299,6 +312,7 @@ cause_of command old new faults.NotFormatted blame failed = blame
 cause_of command old new faults.NotEmpty blame failed = blame
 cause_of command old new faults.NotImported blame failed = blame
 cause_of command old new faults.AlreadyImported blame failed = blame
+cause_of command old new faults.OldFormat blame failed = blame
 cause_of command old new faults.UnknownTable blame failed = blame
 cause_of command old new (faults.BadStore page) blame failed = blame
 cause_of command old new faults.WriteFault blame failed = failed

@@ -1,5 +1,5 @@
 -- A file is imported or appended, and told.
-use Rattle.std.proofs.Common.{◌≡◌, ◌+◌, ℕ, ◌≤◌, false, Option, Some, None, List, Result, Ok, Err, OnOk, OnErr, IfErr, inr, sym, subst, arith}
+use Rattle.std.proofs.Common.{◌≡◌, ◌+◌, ℕ, ◌≤◌, true, false, Option, Some, None, List, Result, Ok, Err, OnOk, OnErr, IfErr, inr, sym, subst, arith}
 use Rattle.std.specs.Result.{result_err}
 use Rattle.std.specs.Io.KnownBytes.{Appends}
 use Rattle.osm_base.specs.declared.values.object.Entry.{Entry}
@@ -10,8 +10,8 @@ use Rattle.outside.specs.Sink.{SinkView}
 use Rattle.page_journal.specs.declared.fault.StoreFault.TheVariants as stores
 use Rattle.update_flow.specs.AtRest.{HasFlowCause}
 use Rattle.update_flow.specs.Refusals.{IsCallFault}
-use Rattle.update_flow.specs.State.{Holding, State, imported, Step, after}
-use Rattle.update_flow.specs.Handle.{Handle, IsOpen, Shows, Takes, is_whole, limits_of, view_of}
+use Rattle.update_flow.specs.State.{Holding, State, imported, Step, after, was_old}
+use Rattle.update_flow.specs.Handle.{Handle, IsOpen, Shows, Takes, is_old, is_whole, limits_of, view_of}
 use Rattle.update_flow.specs.declared.fault.FlowFault.{FlowFault}
 use Rattle.update_flow.specs.declared.fault.FlowFault.TheVariants as flow
 use Rattle.updater.specs.declared.fault.Fault.{Fault}
@@ -22,18 +22,11 @@ use Rattle.updater.specs.Courses.{Onward, onward}
 use Rattle.updater.specs.FileReads.{IsRead, IsUnread}
 use Rattle.updater.specs.Faults.{flow_fault}
 use Rattle.updater.specs.Files.{IsChange}
-use Rattle.updater.specs.Heads.{GoesOn, IsHead, IsHere, Leads}
-use Rattle.updater.specs.Progress.{Standing, unused, unknown, keeps, half_made, Progress, Ending, past, plus}
+use Rattle.updater.specs.Heads.{GoesOn, IsHead, Leads}
+use Rattle.updater.specs.Progress.{Progress, Ending, past, plus}
 use Rattle.updater.specs.World.{Before, World, world}
 use Rattle.updater.proofs.HeadLaws.{leads_file, past_file, past_text, stops_in_file, stops_in_line}
-use Rattle.updater.proofs.StoreDeeds.{IsStepped, refused_step, taken}
-
--- what an open store tells
-pub shows_here : (store : Standing) (cut : ℕ) (state : State) (updater : Handle) → IsHere store cut state updater → Shows state updater
-shows_here unused cut state updater here = absurd here
-shows_here unknown cut state updater here = here.shows
-shows_here (keeps kept) cut state updater here = here.rests.shows
-shows_here half_made cut state updater here = absurd here
+use Rattle.updater.proofs.StoreDeeds.{IsStepped, not_outdated, refused_step, taken}
 
 -- a run that goes on by the rest of a course goes by the course
 pub goes_back : (course rest : Course) (start done further : Progress) (fault : Option Fault) (old : Before) (new : World) → GoesOn rest start further fault old new
@@ -58,10 +51,11 @@ module _ (start done : Progress) (state : State) (file : ℕ) (old : Before) (fi
         leads_file start done state file old files before output head (IsChange file) file (omega arith) read entries found (λ entries. commits (step entries) (tells line (onward last (next entries)))) ending comes
 
     pub step_refused : (fault : FlowFault) → ((own : State) → IsOpen own before → Takes own (step entries) (Some fault) before now) → IsCallFault fault
-        → (fault ≡ flow.Store stores.Broken → is_whole before ≡ false) → HasFlowCause (Some fault) (view_of before) (view_of now)
+        → (fault ≡ flow.Store stores.Broken → is_whole before ≡ false) → was_old state ≡ false → (fault ≡ flow.OldFormat → is_old before ≡ true) → HasFlowCause (Some fault) (view_of before) (view_of now)
         → Leads course (Some (flow_fault fault)) start done (file + 1) old read now output
-    step_refused fault takes call broken cause last = goes_back (course last) (commits (step entries) (tells line (onward last (next entries)))) start done (past file done) (Some (flow_fault fault)) old (world read (view_of now) output)
-        (refused_step start (past file done) state (file + 1) old read before now output head_read (step entries) fault takes call broken cause (tells line (onward last (next entries)))) (leads_read last)
+    step_refused fault takes call broken new refused cause last = goes_back (course last) (commits (step entries) (tells line (onward last (next entries)))) start done (past file done) (Some (flow_fault fault)) old (world read (view_of now) output)
+        (refused_step start (past file done) state (file + 1) old read before now output head_read (step entries) fault takes call broken
+        (not_outdated start (past file done) state (file + 1) old read before now output head_read new fault refused) cause (tells line (onward last (next entries)))) (leads_read last)
 
     module _ (takes : (own : State) → IsOpen own before → Takes own (step entries) None before now) (shows : Shows state before → Shows (after state (step entries)) now)
         (sound : is_whole now ≡ is_whole before) (same : limits_of now ≡ limits_of before) (cause : HasFlowCause None (view_of before) (view_of now)) where

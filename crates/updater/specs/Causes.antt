@@ -5,8 +5,8 @@ use Rattle.osm_base.specs.declared.bounds.limits.LimitKind.TheVariants.{Pages, P
 use Rattle.outside.specs.Bytes.{IfTold}
 use Rattle.page_journal.specs.Home.{IsFormatted}
 use Rattle.updater.specs.declared.fault.Fault.{Fault}
-use Rattle.updater.specs.declared.fault.Fault.TheVariants.{Usage, Malformed, BadStyle, BadBounds, BadQuery, Limit, ReadFault, NotFormatted, NotEmpty, NotImported, AlreadyImported, UnknownTable, BadStore, WriteFault, DiskFault, OutOfMemory}
-use Rattle.updater.specs.Command.{CommandOf, Names, no_store, new_store, old_store, use_of}
+use Rattle.updater.specs.declared.fault.Fault.TheVariants.{Usage, Malformed, BadStyle, BadBounds, BadQuery, Limit, ReadFault, NotFormatted, NotEmpty, NotImported, AlreadyImported, OldFormat, UnknownTable, BadStore, WriteFault, DiskFault, OutOfMemory}
+use Rattle.updater.specs.Command.{CommandOf, migrate_of, Names, no_store, new_store, old_store, use_of}
 use Rattle.updater.specs.Reading.{HasFault}
 use Rattle.updater.specs.World.{World, Before, ReadFailed, WriteFailed, DiskFailed}
 
@@ -23,6 +23,11 @@ MakesStore command = use_of command ≡ new_store
 
 abbrev pub OpensStore : CommandOf → Type 0
 OpensStore command = use_of command ≡ old_store
+
+-- it opens its store, and does not migrate it
+abbrev pub WantsNewFormat : CommandOf → Type 0
+WantsNewFormat (migrate_of store) = ⊥
+WantsNewFormat command = OpensStore command
 
 -- a limit of stores
 abbrev pub IsStoreLimit : LimitKind → Type 0
@@ -46,6 +51,7 @@ Cause command old new (ReadFault file) = Names command file × ReadFailed old ne
 Cause command old new NotFormatted = OpensStore command × IfTold old.content (λ bytes. ¬ IsFormatted bytes)
 Cause command old new NotImported = HasStore command
 Cause command old new AlreadyImported = HasStore command
+Cause command old new OldFormat = WantsNewFormat command
 Cause command old new UnknownTable = OpensStore command
 -- a store that was made on a disk that tells what it holds is not damaged
 Cause command old new (BadStore page) = HasStore command × IfTold old.content (λ _. OpensStore command)

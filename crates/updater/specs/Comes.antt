@@ -75,12 +75,13 @@ abbrev pub IsBadStore : FlowFault → Type 0
 IsBadStore (flow.Store (stores.BadStore page)) = Unit {0}
 IsBadStore _ = ⊥
 
--- a fault for which an open store may refuse a step, whatever it holds
+-- a fault for which an open store of this format may refuse a step, whatever it holds
 abbrev pub IsStepFault : FlowFault → Type 0
 IsStepFault (flow.Store (stores.BadStore page)) = Unit {0}
 IsStepFault (flow.Store (stores.StoreFull pages)) = Unit {0}
 IsStepFault (flow.Store _) = ⊥
 IsStepFault flow.OutOfMemory = ⊥
+IsStepFault flow.OldFormat = ⊥
 IsStepFault _ = Unit {0}
 
 -- and for which one of this state refuses it

@@ -11,13 +11,14 @@ use Rattle.updater.specs.commands.Export as export
 use Rattle.updater.specs.commands.Import as import
 use Rattle.updater.specs.commands.Init as init
 use Rattle.updater.specs.commands.Lines as lines
+use Rattle.updater.specs.commands.Migrate as migrate
 use Rattle.updater.specs.commands.Points as points
 use Rattle.updater.specs.commands.Query as query
 use Rattle.updater.specs.commands.Replay as replay
 use Rattle.updater.specs.commands.Serve as serve
 use Rattle.updater.specs.commands.Tiles as tiles
 use Rattle.updater.specs.declared.words.TheConstants.{MAX_WORDS}
-pub use Rattle.updater.specs.CommandOf.{CommandOf, points_of, lines_of, init_of, import_of, append_of, export_of, tiles_of, query_of, serve_of, replay_of, seen, store_of, makes_store, Use, no_store, new_store, old_store, use_of, files_of, Names, Fit, FitFrom, AreBuckets, AreReaders, AreWorkers, FilesFit}
+pub use Rattle.updater.specs.CommandOf.{CommandOf, points_of, lines_of, init_of, import_of, append_of, export_of, tiles_of, query_of, serve_of, replay_of, migrate_of, seen, store_of, makes_store, Use, no_store, new_store, old_store, use_of, files_of, Names, Fit, FitFrom, AreBuckets, AreReaders, AreWorkers, FilesFit}
 
 -- what remains from the first on that fails a test
 abbrev pub behind : {A : Type 0} → (A → Bool) → List A → List A
@@ -56,7 +57,8 @@ named name options form place =
     if bytes_eq name (codes "tiles") then tiles.form options form else
     if bytes_eq name (codes "query") then query.form options form place else
     if bytes_eq name (codes "serve") then serve.form options form place else
-    if bytes_eq name (codes "replay") then replay.form options form place else None
+    if bytes_eq name (codes "replay") then replay.form options form place else
+    if bytes_eq name (codes "migrate") then migrate.form options form else None
 
 -- what all words ask for, where they ask for something
 unfoldable pub command : List (List ℕ) → Option CommandOf

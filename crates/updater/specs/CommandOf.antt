@@ -2,7 +2,7 @@
 use Rattle.std.specs.Prelude.{◌≡◌, ℕ, ◌+◌, ◌<◌, ◌≤◌, Bool, true, false, Option, Some, None, List}
 use Rattle.std.specs.Int.{is_power_of_two}
 use Rattle.updater.specs.declared.words.Command.{Command}
-use Rattle.updater.specs.declared.words.Command.TheVariants.{Points, Lines, Init, Import, Append, Export, Tiles, Query, Serve, Replay}
+use Rattle.updater.specs.declared.words.Command.TheVariants.{Points, Lines, Init, Import, Append, Export, Tiles, Query, Serve, Replay, Migrate}
 use Rattle.tile_cover.specs.declared.runs.TheConstants.{MAX_ZOOM}
 use Rattle.updater.specs.declared.files.Files.{Files}
 use Rattle.updater.specs.declared.options.TheConstants.{MAX_BUCKETS, MAX_READERS, MAX_WORKERS}
@@ -19,6 +19,7 @@ pub data CommandOf : Type 0 where
   query_of : (store : List ℕ) → (files : Files) → CommandOf
   serve_of : (store : List ℕ) → (files : Files) → (workers : ℕ) → (readers : ℕ) → CommandOf
   replay_of : (store : List ℕ) → (files : Files) → (workers : ℕ) → CommandOf
+  migrate_of : (store : List ℕ) → CommandOf
 
 -- a command of the program, as contracts see it
 abbrev pub seen : Command → CommandOf
@@ -32,6 +33,7 @@ seen (Tiles store least clear) = tiles_of store.now least clear
 seen (Query store files) = query_of store.now files
 seen (Serve store files workers readers) = serve_of store.now files workers readers
 seen (Replay store files workers) = replay_of store.now files workers
+seen (Migrate store) = migrate_of store.now
 
 -- the path of the store that words ask for
 abbrev pub store_of : Option CommandOf → Option (List ℕ)
@@ -43,6 +45,7 @@ store_of (Some (tiles_of store least clear)) = Some store
 store_of (Some (query_of store files)) = Some store
 store_of (Some (serve_of store files workers readers)) = Some store
 store_of (Some (replay_of store files workers)) = Some store
+store_of (Some (migrate_of store)) = Some store
 store_of _ = None
 
 -- whether it makes its store
@@ -68,6 +71,7 @@ use_of (tiles_of store least clear) = old_store
 use_of (query_of store files) = old_store
 use_of (serve_of store files workers readers) = old_store
 use_of (replay_of store files workers) = new_store
+use_of (migrate_of store) = old_store
 
 -- the files that a command names, by the places of their words
 abbrev pub files_of : CommandOf → Files
@@ -118,3 +122,4 @@ FilesFit (tiles_of store least clear) = least ≤ MAX_ZOOM
 FilesFit (query_of store files) = FitFrom 1 files × (files.count ≡ 1)
 FilesFit (serve_of store files workers readers) = FitFrom 2 files × AreWorkers workers × AreReaders readers
 FilesFit (replay_of store files workers) = FitFrom 3 files × AreWorkers workers
+FilesFit (migrate_of store) = Unit {0}

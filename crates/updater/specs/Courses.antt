@@ -13,10 +13,10 @@ use Rattle.tile_cover.specs.Runs.{has}
 use Rattle.tile_cover.specs.Table.{BoundsOf}
 use Rattle.tile_cover.specs.declared.runs.Run.{Run}
 use Rattle.update_flow.specs.Due.{Tiles}
-use Rattle.update_flow.specs.State.{Holding, State, formatted, imported, Import, Append, Clear, fresh, changed}
-use Rattle.updater.specs.declared.fault.Fault.TheVariants.{AlreadyImported, NotImported, UnknownTable}
+use Rattle.update_flow.specs.State.{Holding, State, formatted, imported, outdated, Import, Append, Clear, Migrate, fresh, changed}
+use Rattle.updater.specs.declared.fault.Fault.TheVariants.{AlreadyImported, NotImported, OldFormat, UnknownTable}
 use Rattle.updater.specs.declared.files.Files.{Files}
-use Rattle.updater.specs.Command.{CommandOf, points_of, lines_of, init_of, import_of, append_of, export_of, tiles_of, query_of, serve_of, replay_of}
+use Rattle.updater.specs.Command.{CommandOf, points_of, lines_of, init_of, import_of, append_of, export_of, tiles_of, query_of, serve_of, replay_of, migrate_of}
 use Rattle.updater.specs.Course.{Course, ends, refuses, reads, wants_empty, formats, opens, looks, commits, tells, writes, writes_text}
 use Rattle.updater.specs.Answers.{answers_text}
 use Rattle.updater.specs.Blocks.{AreBlocks}
@@ -33,14 +33,22 @@ gathers file (suc count) entries rest = reads file (IsChange file) (λ more. gat
 abbrev pub init_course : Course
 init_course = wants_empty (formats (tells (codes "formatted\n") ends))
 
--- nothing may have been imported into the store before, or something must have been
+-- Nothing may have been imported into the store before, or something must have been. A store of the old format is refused as such.
 abbrev pub if_formatted : Course → State → Course
 if_formatted rest formatted = rest
 if_formatted rest (imported held) = refuses AlreadyImported
+if_formatted rest (outdated held) = refuses OldFormat
 
 abbrev pub if_imported : (Holding → Course) → State → Course
 if_imported rest formatted = refuses NotImported
 if_imported rest (imported held) = rest held
+if_imported rest (outdated held) = refuses OldFormat
+
+-- into a store that was just made nothing was imported, whatever its format
+abbrev pub if_blank : Course → State → Course
+if_blank rest formatted = rest
+if_blank rest (imported held) = refuses AlreadyImported
+if_blank rest (outdated held) = refuses AlreadyImported
 
 -- the line that tells of so many changes
 abbrev pub version_line : ℕ → List ℕ
@@ -140,6 +148,15 @@ serve_to files readers state = if_imported (λ held.
     reads (files.first + 1) (IsQueries held.style (files.first + 1)) (λ queries.
     looks (serves bounds queries readers [] held (files.first + 2) (files.count - 2))))) state
 
+-- a store of the old format is written anew in one commit, and that it has this format is told
+abbrev pub format_line : List ℕ
+format_line = codes "format 2\n"
+
+abbrev pub migrates : State → Course
+migrates formatted = refuses NotImported
+migrates (imported held) = tells format_line ends
+migrates (outdated held) = commits Migrate (tells format_line ends)
+
 -- a file is imported, so many behind it are appended, and all that the store holds then is told
 abbrev pub fills : (style : StyleOf × List ℕ) → BoundsOf → (file changes : ℕ) → Course
 fills style bounds file changes = imports style 1024 file (onward (appending bounds (file + 1) changes (telling bounds.zoom)))
@@ -165,3 +182,4 @@ course_of (tiles_of store least clear) = opens (tiles_of_store least clear)
 course_of (query_of store files) = opens (query_from files)
 course_of (serve_of store files workers readers) = opens (serve_to files readers)
 course_of (replay_of store files workers) = replay_course files
+course_of (migrate_of store) = opens migrates

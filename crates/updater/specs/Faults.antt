@@ -15,7 +15,7 @@ use Rattle.map_query.specs.Fault.{number_of as query_number}
 use Rattle.page_journal.specs.declared.fault.StoreFault.{StoreFault}
 use Rattle.page_journal.specs.declared.fault.StoreFault.TheVariants as stores
 use Rattle.updater.specs.declared.fault.Fault.{Fault}
-use Rattle.updater.specs.declared.fault.Fault.TheVariants.{Usage, Malformed, BadStyle, BadBounds, BadQuery, Limit, ReadFault, NotFormatted, NotEmpty, NotImported, AlreadyImported, UnknownTable, BadStore, WriteFault, DiskFault, OutOfMemory}
+use Rattle.updater.specs.declared.fault.Fault.TheVariants.{Usage, Malformed, BadStyle, BadBounds, BadQuery, Limit, ReadFault, NotFormatted, NotEmpty, NotImported, AlreadyImported, OldFormat, UnknownTable, BadStore, WriteFault, DiskFault, OutOfMemory}
 use Rattle.update_flow.specs.declared.fault.FlowFault.{FlowFault}
 use Rattle.update_flow.specs.declared.fault.TheConstants.{LAST_CHANGE}
 use Rattle.update_flow.specs.declared.fault.FlowFault.TheVariants as flow
@@ -35,6 +35,7 @@ abbrev pub flow_fault : FlowFault → Fault
 flow_fault (flow.Store fault) = fault_of fault
 flow_fault flow.NotImported = NotImported
 flow_fault flow.AlreadyImported = AlreadyImported
+flow_fault flow.OldFormat = OldFormat
 flow_fault flow.LastChange = Limit kinds.Changes (LAST_CHANGE + 1)
 flow_fault (flow.TooMany value) = Limit kinds.Pending value
 flow_fault flow.OutOfMemory = OutOfMemory
@@ -50,6 +51,7 @@ status_of (Some NotFormatted) = 6
 status_of (Some NotEmpty) = 6
 status_of (Some NotImported) = 6
 status_of (Some AlreadyImported) = 6
+status_of (Some OldFormat) = 6
 status_of (Some (BadStore _)) = 6
 status_of (Some (ReadFault _)) = 7
 status_of (Some WriteFault) = 8
@@ -107,6 +109,7 @@ fault_text NotFormatted = codes "not formatted"
 fault_text NotEmpty = codes "not empty"
 fault_text NotImported = codes "not imported"
 fault_text AlreadyImported = codes "already imported"
+fault_text OldFormat = codes "old format"
 fault_text UnknownTable = codes "unknown table"
 fault_text (BadStore page) = codes "bad store page " ++ decimal page
 fault_text WriteFault = codes "write fault"

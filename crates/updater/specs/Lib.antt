@@ -12,6 +12,7 @@ pub mod Forms
 pub mod Heads
 pub mod Keeps
 pub mod Making
+pub mod Migrating
 pub mod Reading
 pub mod Safety
 pub mod InTurn

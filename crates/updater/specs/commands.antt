@@ -3,6 +3,7 @@ pub mod Export
 pub mod Import
 pub mod Init
 pub mod Lines
+pub mod Migrate
 pub mod Points
 pub mod Query
 pub mod Replay

@@ -4,6 +4,7 @@ pub mod export;
 pub mod import;
 pub mod init;
 pub mod lines;
+pub mod migrate;
 pub mod points;
 pub mod query;
 pub mod replay;

@@ -62,6 +62,8 @@ pub enum Fault {
     NotImported,
     /// Something was imported into the store before.
     AlreadyImported,
+    /// The store is one of the old format, which `migrate` writes anew.
+    OldFormat,
     /// The store has no table of this name.
     UnknownTable,
     /// This page shows that the store is damaged.
@@ -141,6 +143,7 @@ impl Fault {
             FlowFault::Store(fault) => Fault::in_store(fault),
             FlowFault::NotImported => Fault::NotImported,
             FlowFault::AlreadyImported => Fault::AlreadyImported,
+            FlowFault::OldFormat => Fault::OldFormat,
             FlowFault::LastChange => Fault::Limit {
                 which: LimitKind::Changes,
                 value: LAST_CHANGE + 1,
@@ -217,6 +220,7 @@ impl Outcome {
                 | Fault::NotEmpty
                 | Fault::NotImported
                 | Fault::AlreadyImported
+                | Fault::OldFormat
                 | Fault::BadStore { .. },
             ) => 6,
             Some(Fault::ReadFault { .. }) => 7,
@@ -290,6 +294,7 @@ impl fmt::Display for Fault {
             Fault::NotEmpty => write!(f, "not empty"),
             Fault::NotImported => write!(f, "not imported"),
             Fault::AlreadyImported => write!(f, "already imported"),
+            Fault::OldFormat => write!(f, "old format"),
             Fault::UnknownTable => write!(f, "unknown table"),
             Fault::BadStore { page } => write!(f, "bad store page {page}"),
             Fault::WriteFault => write!(f, "write fault"),

@@ -6,7 +6,8 @@
 //! the run, each at least whose line was taken whole. `specs/Courses.antt` says of each command what it
 //! does, in order; `specs/Comes.antt` and `specs/Leaves.antt` say once for all courses to which ends a
 //! run may come and what it leaves, and `specs/Safety.antt` what crashes may leave meanwhile. The laws
-//! that follow for every command are the contracts of `ends_are_due` and `faults_come_in_turn`.
+//! that follow for every command are the contracts of `ends_are_due` and `faults_come_in_turn`; those of
+//! stores of the old format are the contracts of `old_stores_are_left` and `migrations_end_well`.
 //!
 //! Below `run`, `command_of` says what the words mean, and each command is a module of `commands`.
 //! `PointRows` keeps the row of each node with a tag and a place while files are read, `WayRows` the
@@ -39,6 +40,6 @@ mod whole_text;
 mod words;
 
 pub use fault::{Fault, Outcome, fault_line};
-pub use laws::{ends_are_due, faults_come_in_turn};
+pub use laws::{ends_are_due, faults_come_in_turn, migrations_end_well, old_stores_are_left};
 pub use running::run;
 pub use words::{makes_store, store_of};

@@ -14,6 +14,7 @@ use crate::commands::export::export;
 use crate::commands::import::import;
 use crate::commands::init::init;
 use crate::commands::lines::lines;
+use crate::commands::migrate::migrate;
 use crate::commands::points::points;
 use crate::commands::query::query;
 use crate::commands::replay::replay;
@@ -120,5 +121,6 @@ fn run_command<R: Threads + Wait + Sync, I: Inputs, D: Disk, S: Sink, G: Gate>(
             files,
             workers,
         } => replay(rt, alloc, files, workers, inputs, disk, out, gate),
+        Command::Migrate { store: _ } => migrate(alloc, inputs, disk, out),
     }
 }

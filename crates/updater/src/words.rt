@@ -5,7 +5,9 @@ ghost use Rattle.std.specs.Option.{option_map};
 ghost use Rattle.std.specs.String.{string_bytes};
 ghost use Rattle.updater.specs.Command as spec;
 
-use crate::commands::{append, export, import, init, lines, points, query, replay, serve, tiles};
+use crate::commands::{
+    append, export, import, init, lines, migrate, points, query, replay, serve, tiles,
+};
 use crate::files::Files;
 
 /// The most words that a command line may have, the command word counted.
@@ -70,6 +72,10 @@ pub enum Command<'a> {
         files: Files,
         workers: u32,
     },
+    /// A store of the old format, written anew.
+    Migrate {
+        store: &'a str,
+    },
 }
 
 /// The path of the store that the words of a command name.
@@ -84,7 +90,8 @@ pub fn store_of(words: &[String]) -> Option<&str>
         | Command::Tiles { store, .. }
         | Command::Query { store, .. }
         | Command::Serve { store, .. }
-        | Command::Replay { store, .. } => Some(store),
+        | Command::Replay { store, .. }
+        | Command::Migrate { store } => Some(store),
         Command::Points { .. } | Command::Lines { .. } => None,
     }
 }
@@ -139,6 +146,7 @@ fn named<'a>(name: &str, options: &[String], form: &'a [String], place: u32) -> 
         "query" => query::form(options, form, place),
         "serve" => serve::form(options, form, place),
         "replay" => replay::form(options, form, place),
+        "migrate" => migrate::form(options, form),
         _ => None,
     }
 }

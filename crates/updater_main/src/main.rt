@@ -27,6 +27,7 @@ usage: yilgartzu points KEY INPUT [CHANGE..]
        yilgartzu query STORE QUERIES
        yilgartzu serve [workers=N] [readers=N] STORE BOUNDS QUERIES [CHANGE..]
        yilgartzu replay [workers=N] STORE STYLE BOUNDS INPUT [CHANGE..]
+       yilgartzu migrate STORE
 
 INPUT and the change files are OPL files, STYLE is a TOML file that defines
 tables, and BOUNDS has the latitudes that bound the rows of tiles of a zoom.
@@ -51,6 +52,7 @@ tables, and BOUNDS has the latitudes that bound the rows of tiles of a zoom.
   replay       init, import and append in one run, and then write each table
                behind a line `table NAME`, and behind `tiles` the tiles that are
                due at the zoom of BOUNDS
+  migrate      write a store of the old format in this one, and write `format 2`
   --help       this text
   --version    the version
 

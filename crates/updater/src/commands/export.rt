@@ -78,6 +78,9 @@ fn export_store<I: Inputs, D: Disk, S: Sink>(
     ensures stays { StaysOver store.old store.new }
     ensures formatted { result_err result ≢ Some Fault.NotFormatted }
 {
+    if store.old() {
+        return Err(Fault::OldFormat);
+    }
     let number = match store.style() {
         Some(style) => style.table_named(table),
         None => return Err(Fault::NotImported),

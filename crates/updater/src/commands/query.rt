@@ -89,6 +89,9 @@ fn query_store<I: Inputs, D: Disk, S: Sink>(
     ensures asked { AsksOnly (λ asked. I.reads inputs.old asked inputs.new) (Among files.first files.count) }
     ensures formatted { result_err result ≢ Some Fault.NotFormatted }
 {
+    if store.old() {
+        return Err(Fault::OldFormat);
+    }
     let read = match store.style() {
         Some(style) => read_queries_file(alloc, inputs, files.first, style),
         None => return Err(Fault::NotImported),

@@ -12,7 +12,7 @@ ghost use Rattle.update_flow.specs.State.{Holding, State, imported};
 ghost use Rattle.update_flow.specs.Updater.{StaysOver, handle_of};
 ghost use Rattle.updater.specs.CommandOf.{AreWorkers, FilesFit, replay_of, seen};
 ghost use Rattle.updater.specs.Course.{formats, looks};
-ghost use Rattle.updater.specs.Courses.{fills, if_formatted, onward, replay_course, telling};
+ghost use Rattle.updater.specs.Courses.{fills, if_blank, onward, replay_course, telling};
 ghost use Rattle.updater.specs.Heads.{GoesOn, IsHead, IsSoFar};
 ghost use Rattle.updater.specs.Making.{IsNotEmpty, reading_alone};
 ghost use Rattle.updater.specs.Progress.{Progress, begun, unused};
@@ -184,7 +184,7 @@ fn fill_store<R: Threads + Wait + Sync, I: Inputs, D: Disk, S: Sink, G: Gate>(
     requires workers { AreWorkers workers }
     requires fits { first + 1 + changes ≤ 8192 }
     ensures goes_on { (old : Before) (start done : Progress) (state : State) → IsHead start done state first old (I.view inputs.old) (handle_of store.old) (S.view out.old)
-        → GoesOn (if_formatted (fills (style.style, style.bytes) bounds.now first changes) state) start done (result_err result) old
+        → GoesOn (if_blank (fills (style.style, style.bytes) bounds.now first changes) state) start done (result_err result) old
         (world (I.view inputs.new) (view_of (handle_of store.new)) (S.view out.new)) }
     ensures stays { StaysOver store.old store.new }
     ensures asked { AsksOnly (λ asked. I.reads inputs.old asked inputs.new) (Among first (changes + 1)) }

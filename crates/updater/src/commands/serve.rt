@@ -113,6 +113,9 @@ fn serve_store<R: Threads + Wait + Sync, I: Inputs, D: Disk, S: Sink, G: Gate>(
     ensures asked { AsksOnly (λ asked. I.reads inputs.old asked inputs.new) (Among files.first files.count) }
     ensures formatted { result_err result ≢ Some Fault.NotFormatted }
 {
+    if store.old() {
+        return Err(Fault::OldFormat);
+    }
     if !store.imported() {
         return Err(Fault::NotImported);
     }

@@ -99,6 +99,9 @@ fn tiles_in<I: Inputs, D: Disk, S: Sink>(
     ensures stays { StaysOver store.old store.new }
     ensures formatted { result_err result ≢ Some Fault.NotFormatted }
 {
+    if store.old() {
+        return Err(Fault::OldFormat);
+    }
     if !store.imported() {
         return Err(Fault::NotImported);
     }

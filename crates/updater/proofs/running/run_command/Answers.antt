@@ -1,7 +1,7 @@
 use Rattle.std.proofs.Common.{List, ℕ, refl, subst, sym}
 use Rattle.std.specs.Result.{result_err}
 use Rattle.updater.specs.declared.words.Command.{Command}
-use Rattle.updater.specs.Command.{FilesFit, Names, points_of, lines_of, init_of, import_of, append_of, export_of, tiles_of, query_of, serve_of, replay_of, no_store, new_store, seen}
+use Rattle.updater.specs.Command.{FilesFit, Names, points_of, lines_of, init_of, import_of, append_of, export_of, tiles_of, query_of, serve_of, replay_of, migrate_of, no_store, new_store, seen}
 use Rattle.updater.specs.Courses.{course_of, init_course, replay_course}
 use Rattle.updater.specs.Locality.{IsLocal, IsLocalRun}
 use Rattle.updater.specs.Runs.{Runs}
@@ -154,4 +154,19 @@ returns-in-Serve g c =
       runs = subst (λ (own : Command). Runs (seen own) (λ (asked : List ℕ). g.I.Inputs.reads c.args.inputs.now asked c.serve.new.inputs) old new fault) (sym c.in-Serve.is) own;
       safe = subst (λ (own : Command). IsSafe (seen own) old new fault) (sym c.in-Serve.is) (runs_safe command (λ (asked : List ℕ). g.I.Inputs.reads c.args.inputs.now asked c.serve.new.inputs) old new fault own);
       local = subst (λ (own : Command). IsLocalRun (seen own) old new fault) (sym c.in-Serve.is) (tt);
+    }
+
+pub returns-in-Migrate : goal.returns-in-Migrate
+returns-in-Migrate g c =
+    let laws = g.met.I.Inputs g.world.𝓛 g.world.𝓜 g.world.𝓡 ((λ s x. x), (λ x. x), (λ x. x), λ x. x) in
+    let disk = g.D.Disk.view c.args.disk.now in
+    let old = world (g.I.Inputs.view c.args.inputs.now) (g.D.Disk.view c.args.disk.now) (g.S.Sink.view c.args.out.now) in
+    let new = world (g.I.Inputs.view c.args.inputs.now) (g.D.Disk.view c.migrate.new.disk) (g.S.Sink.view c.migrate.new.out) in
+    let fault = result_err c.migrate.result in
+    let fits = subst (λ (own : Command). FilesFit (seen own)) c.in-Migrate.is c.requires.fits in
+    let own = runs_by (migrate_of c.in-Migrate.store.now) (λ (asked : List ℕ). g.I.Inputs.reads c.args.inputs.now asked c.args.inputs.now) fault old new tt (asked_none g.I.Inputs.reads (Names (migrate_of c.in-Migrate.store.now)) c.args.inputs.now (laws.reads_none c.args.inputs.now)) c.migrate.ensures.course (λ none. absurd (cc)) (λ not. absurd (not refl)) c.migrate.ensures.unformatted in
+    record {
+      runs = subst (λ (own : Command). Runs (seen own) (λ (asked : List ℕ). g.I.Inputs.reads c.args.inputs.now asked c.args.inputs.now) old new fault) (sym c.in-Migrate.is) own;
+      safe = subst (λ (own : Command). IsSafe (seen own) old new fault) (sym c.in-Migrate.is) (runs_safe (migrate_of c.in-Migrate.store.now) (λ (asked : List ℕ). g.I.Inputs.reads c.args.inputs.now asked c.args.inputs.now) old new fault own);
+      local = subst (λ (own : Command). IsLocalRun (seen own) old new fault) (sym c.in-Migrate.is) (tt);
     }

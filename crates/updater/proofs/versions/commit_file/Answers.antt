@@ -7,7 +7,8 @@ use Rattle.updater.specs.Serving.{IsNext}
 use Rattle.updater.proofs.LocalLaws.{reads_one}
 use Rattle.updater.proofs.ServeRuns.{next_by}
 use Rattle.updater.proofs.StoreRuns.{held_certain}
-use Rattle.updater.proofs.VersionRuns.{file_unread, shows_here, step_refused, version_done, version_told}
+use Rattle.updater.proofs.StoreDeeds.{shows_here}
+use Rattle.updater.proofs.VersionRuns.{file_unread, step_refused, version_done, version_told}
 use Rattle.updater.proofs.versions.commit_file.Goals as goal
 
 pub returns-in-Err-clause-leads : goal.returns-in-Err-clause-leads
@@ -20,7 +21,7 @@ pub returns-in-Err-append_one-clause-leads : goal.returns-in-Err-append_one-clau
 returns-in-Err-append_one-clause-leads g c = rw c.in_flow.ensures.fault (λ old start done held head.
     step_refused start done (imported held) c.args.file old (g.I.Inputs.view c.args.inputs.now) (g.I.Inputs.view c.read_change.new.inputs) (handle_of c.args.store.now) (g.S.Sink.view c.args.out.now) head
     (λ entries. Append c.args.bounds.now entries) (version_line (held.changes + 1)) (λ entries. changed c.args.bounds.now entries held) (λ entries. refl)
-    c.in-Ok.change c.in-Ok.ensures.ok (handle_of c.append_one.new.self) c.in-Err-append_one.fault c.in-Err-append_one.ensures.takes c.in-Err-append_one.ensures.alone (λ is. c.in-Err-append_one.ensures.broken (ap Err is)) c.in-Err-append_one.ensures.cause)
+    c.in-Ok.change c.in-Ok.ensures.ok (handle_of c.append_one.new.self) c.in-Err-append_one.fault c.in-Err-append_one.ensures.takes c.in-Err-append_one.ensures.alone (λ is. c.in-Err-append_one.ensures.broken (ap Err is)) refl (λ is. c.in-Err-append_one.ensures.not_old (ap Err is)) c.in-Err-append_one.ensures.cause)
 
 pub returns-in-Ok-tell_version-clause-leads : goal.returns-in-Ok-tell_version-clause-leads
 returns-in-Ok-tell_version-clause-leads g c = λ old start done held head.
@@ -28,7 +29,7 @@ returns-in-Ok-tell_version-clause-leads g c = λ old start done held head.
     version_done start done (imported held) c.args.file old (g.I.Inputs.view c.args.inputs.now) (g.I.Inputs.view c.read_change.new.inputs) (handle_of c.args.store.now) (g.S.Sink.view c.args.out.now) head
     (λ entries. Append c.args.bounds.now entries) (version_line (held.changes + 1)) (λ entries. changed c.args.bounds.now entries held) (λ entries. refl)
     c.in-Ok.change c.in-Ok.ensures.ok (handle_of c.append_one.new.self) c.in-Ok-append_one.ensures.takes
-    (λ shows. record { changes_are = c.in-Ok-append_one.ensures.changes ∙ ap (λ n. n + 1) shows.changes_are; imported_is = c.in-Ok-append_one.ensures.style.0; style_is = c.in-Ok-append_one.ensures.style.1 ∙ shows.style_is })
+    (λ shows. record { changes_are = c.in-Ok-append_one.ensures.changes ∙ ap (λ n. n + 1) shows.changes_are; imported_is = c.in-Ok-append_one.ensures.style.0; old_is = c.in-Ok-append_one.ensures.style.1; style_is = c.in-Ok-append_one.ensures.style.2 ∙ shows.style_is })
     c.in-Ok-append_one.ensures.whole c.append_one.ensures.stays.same_limits c.in-Ok-append_one.ensures.cause
     (λ (next : Holding). IsNext held next c.in-Ok-append_one.delta)
     (version_line c.in-Ok-append_one.delta.version) (g.S.Sink.view c.tell_version.new.out)
@@ -42,7 +43,7 @@ returns-in-Err-tell_version-clause-leads g c = λ old start done held head.
     version_told start done (imported held) c.args.file old (g.I.Inputs.view c.args.inputs.now) (g.I.Inputs.view c.read_change.new.inputs) (handle_of c.args.store.now) (g.S.Sink.view c.args.out.now) head
     (λ entries. Append c.args.bounds.now entries) (version_line (held.changes + 1)) (λ entries. changed c.args.bounds.now entries held) (λ entries. refl)
     c.in-Ok.change c.in-Ok.ensures.ok (handle_of c.append_one.new.self) c.in-Ok-append_one.ensures.takes
-    (λ shows. record { changes_are = c.in-Ok-append_one.ensures.changes ∙ ap (λ n. n + 1) shows.changes_are; imported_is = c.in-Ok-append_one.ensures.style.0; style_is = c.in-Ok-append_one.ensures.style.1 ∙ shows.style_is })
+    (λ shows. record { changes_are = c.in-Ok-append_one.ensures.changes ∙ ap (λ n. n + 1) shows.changes_are; imported_is = c.in-Ok-append_one.ensures.style.0; old_is = c.in-Ok-append_one.ensures.style.1; style_is = c.in-Ok-append_one.ensures.style.2 ∙ shows.style_is })
     c.in-Ok-append_one.ensures.whole c.append_one.ensures.stays.same_limits c.in-Ok-append_one.ensures.cause
     (version_line c.in-Ok-append_one.delta.version) (g.S.Sink.view c.tell_version.new.out) (Err c.in-Err-tell_version.fault)
     (ap version_line (c.in-Ok-append_one.ensures.version ∙ ap (λ n. n + 1) shown.changes_are))

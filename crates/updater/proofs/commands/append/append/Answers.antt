@@ -16,7 +16,7 @@ returns-clause-course g c = λ start begins.
     let laws = g.met.D.Disk in
     goes_over (g.I.Inputs.view c.args.inputs.now) (g.D.Disk.view c.args.disk.now) (g.S.Sink.view c.args.out.now) (laws.only_now c.args.disk.now) start begins
     c.open.new.disk c.over-store.result c.args.files.first c.over-store.ensures.disk c.in-Ok.ensures.opens (λ told state at. c.over-store.ensures.open state at (c.in-Ok.ensures.found told state at))
-    (c.over-store.ensures.limits ∙ c.standard-limits.ensures.numbers) c.over-store.ensures.whole c.over-store.ensures.begun c.in-Ok.ensures.cause
+    (c.over-store.ensures.limits ∙ c.standard-limits.ensures.numbers) c.over-store.ensures.whole (λ is. (c.over-store.ensures.begun is, c.over-store.ensures.unbegun is)) c.in-Ok.ensures.cause
     (append_to c.args.files) (result_err c.append_store-done.result) c.append_store-done.new.store c.disk-1.given.0 (c.disk-1.given.1 (sym c.over-store.ensures.same_disk ∙ sym c.append_store-done.ensures.stays.same_disk ∙ sym c.close-disk.ensures.same_disk) ∙ c.close-disk.ensures.disk) (g.I.Inputs.view c.append_store-done.new.inputs) (g.S.Sink.view c.append_store-done.new.out) c.append_store-done.ensures.goes_on
 
 pub returns-clause-local : goal.returns-clause-local

@@ -10,19 +10,23 @@ use Rattle.updater.specs.Runs.{Among}
 use Rattle.updater.specs.World.{world}
 use Rattle.updater.proofs.Asked.{asked_among, asked_more, asked_none, asked_then}
 use Rattle.updater.proofs.LocalLaws.{appends_all, on_ok_so}
-use Rattle.updater.proofs.StoreRuns.{first_read, first_unread, if_there, leads_ends, not_yet}
+use Rattle.updater.proofs.StoreRuns.{first_read, first_unread, if_there, leads_ends, not_yet, outdated_there}
 use Rattle.updater.proofs.commands.append.append_store.Goals as goal
+
+pub returns-then-old-clause-goes_on : goal.returns-then-old-clause-goes_on
+returns-then-old-clause-goes_on g c = λ old start done state head.
+    outdated_there start done c.args.files.first old (g.I.Inputs.view c.args.inputs.now) (handle_of c.args.store.now) (g.S.Sink.view c.args.out.now) _ state head (sym c.old.ensures.is ∙ c.if-old.true)
 
 pub returns-then-not-imported-clause-goes_on : goal.returns-then-not-imported-clause-goes_on
 returns-then-not-imported-clause-goes_on g c = λ old start done state head.
-    not_yet start done c.args.files.first old (g.I.Inputs.view c.args.inputs.now) (handle_of c.args.store.now) (g.S.Sink.view c.args.out.now) _ state head (sym c.imported.ensures.is ∙ c.if-not-imported.true)
+    not_yet start done c.args.files.first old (g.I.Inputs.view c.args.inputs.now) (handle_of c.args.store.now) (g.S.Sink.view c.args.out.now) _ state head (sym c.old.ensures.is ∙ c.if-old.false) (sym c.imported.ensures.is ∙ c.if-not-imported.true)
 
 pub returns-in-Err-clause-goes_on : goal.returns-in-Err-clause-goes_on
 returns-in-Err-clause-goes_on g c = λ old start done state head.
     let first = c.args.files.first in
     let files = g.I.Inputs.view c.args.inputs.now in
     let output = g.S.Sink.view c.args.out.now in
-    if_there start done first old files (handle_of c.args.store.now) output _ _ _ state head (sym c.imported.ensures.is ∙ c.if-not-imported.false)
+    if_there start done first old files (handle_of c.args.store.now) output _ _ _ state head (sym c.old.ensures.is ∙ c.if-old.false) (sym c.imported.ensures.is ∙ c.if-not-imported.false)
     (λ held head. first_unread start done first old files (handle_of c.args.store.now) output (IsBounds first) (λ bounds. appends bounds held (first + 1) (c.args.files.count - 1) (onward finished)) (imported held) head
     (g.I.Inputs.view c.read_bounds_file.new.inputs) c.in-Err.fault c.in-Err.ensures.err)
 
@@ -61,7 +65,7 @@ returns-clause-goes_on g c = λ old start done state head.
     let last = g.I.Inputs.view c.append_files.new.inputs in
     let told = g.S.Sink.view c.append_files.new.out in
     let count = c.args.files.count - 1 in
-    if_there start done first old files (handle_of c.args.store.now) output _ (result_err c.append_files.result) (world last (view_of (handle_of c.append_files.new.store)) told) state head (sym c.imported.ensures.is ∙ c.if-not-imported.false)
+    if_there start done first old files (handle_of c.args.store.now) output _ (result_err c.append_files.result) (world last (view_of (handle_of c.append_files.new.store)) told) state head (sym c.old.ensures.is ∙ c.if-old.false) (sym c.imported.ensures.is ∙ c.if-not-imported.false)
     (λ held head. first_read start done first old files (handle_of c.args.store.now) output (IsBounds first) (λ bounds. appends bounds held (first + 1) count (onward finished)) (imported held) head
     read c.in-Ok.bounds c.in-Ok.ensures.ok (result_err c.append_files.result) (world last (view_of (handle_of c.append_files.new.store)) told)
     (λ head. leads_ends (λ further. appends c.in-Ok.bounds held (first + 1) count (onward further)) (result_err c.append_files.result) start (past first done) (first + 1 + count) old last (handle_of c.append_files.new.store) told

@@ -10,19 +10,23 @@ use Rattle.update_flow.specs.Handle.{view_of}
 use Rattle.update_flow.specs.Updater.{handle_of}
 use Rattle.updater.specs.Course.{ends, writes_text}
 use Rattle.updater.specs.World.{world}
-use Rattle.updater.proofs.StoreRuns.{exports_found, found_table, held_certain, if_there, look_done, look_ends, look_refused, look_short, not_yet, same_style, unknown_table}
+use Rattle.updater.proofs.StoreRuns.{exports_found, found_table, held_certain, if_there, look_done, look_ends, look_refused, look_short, not_yet, outdated_there, same_style, unknown_table}
 use Rattle.updater.proofs.TableLaws.{only_text}
 use Rattle.updater.proofs.commands.export.export_store.Goals as goal
 
+pub returns-then-old-clause-goes_on : goal.returns-then-old-clause-goes_on
+returns-then-old-clause-goes_on g c = λ old start done state head.
+    outdated_there start done 0 old (g.I.Inputs.view c.args.inputs.now) (handle_of c.args.store.now) (g.S.Sink.view c.args.out.now) _ state head (sym c.old.ensures.is ∙ c.if-old.true)
+
 pub returns-in-None-clause-goes_on : goal.returns-in-None-clause-goes_on
 returns-in-None-clause-goes_on g c = λ old start done state head.
-    not_yet start done 0 old (g.I.Inputs.view c.args.inputs.now) (handle_of c.args.store.now) (g.S.Sink.view c.args.out.now) _ state head (ap (λ (style : Option StyleOf). is_some style) (sym c.in-None.ensures.style))
+    not_yet start done 0 old (g.I.Inputs.view c.args.inputs.now) (handle_of c.args.store.now) (g.S.Sink.view c.args.out.now) _ state head (sym c.old.ensures.is ∙ c.if-old.false) (ap (λ (style : Option StyleOf). is_some style) (sym c.in-None.ensures.style))
 
 pub returns-in_default-clause-goes_on : goal.returns-in_default-clause-goes_on
 returns-in_default-clause-goes_on g c = λ old start done state head.
     let files = g.I.Inputs.view c.args.inputs.now in
     let output = g.S.Sink.view c.args.out.now in
-    if_there start done 0 old files (handle_of c.args.store.now) output _ _ _ state head (ap (λ (style : Option StyleOf). is_some style) (sym c.in-Some.ensures.style))
+    if_there start done 0 old files (handle_of c.args.store.now) output _ _ _ state head (sym c.old.ensures.is ∙ c.if-old.false) (ap (λ (style : Option StyleOf). is_some style) (sym c.in-Some.ensures.style))
     (λ held head. unknown_table start done held 0 old files (handle_of c.args.store.now) output head c.args.table.now
     (found_table start done held 0 old files (handle_of c.args.store.now) output head c.in-Some.style.now c.args.table.now None c.in-Some.ensures.style c.in_default.ensures.table))
 
@@ -31,10 +35,10 @@ returns-in-Err-clause-goes_on g c = rw c.in_flow.ensures.fault (λ old start don
     let files = g.I.Inputs.view c.args.inputs.now in
     let output = g.S.Sink.view c.args.out.now in
     let number = c.in-Some-number.number in
-    if_there start done 0 old files (handle_of c.args.store.now) output _ _ _ state head (ap (λ (style : Option StyleOf). is_some style) (sym c.in-Some.ensures.style))
+    if_there start done 0 old files (handle_of c.args.store.now) output _ _ _ state head (sym c.old.ensures.is ∙ c.if-old.false) (ap (λ (style : Option StyleOf). is_some style) (sym c.in-Some.ensures.style))
     (λ held head. exports_found start done held 0 old files (handle_of c.args.store.now) output head c.args.table.now (Some number)
     (found_table start done held 0 old files (handle_of c.args.store.now) output head c.in-Some.style.now c.args.table.now (Some number) c.in-Some.ensures.style c.in-Some-number.ensures.table) _ _
-    (look_refused start done held 0 old files (handle_of c.args.store.now) (handle_of c.load_table.new.self) output head c.in-Err.fault c.in-Err.ensures.looks c.in-Err.ensures.alone (λ is. c.in-Err.ensures.broken (ap Err is)) c.in-Err.ensures.cause
+    (look_refused start done held 0 old files (handle_of c.args.store.now) (handle_of c.load_table.new.self) output head c.in-Err.fault c.in-Err.ensures.looks c.in-Err.ensures.alone (λ is. c.in-Err.ensures.broken (ap Err is)) (λ is. c.in-Err.ensures.not_old (ap Err is)) c.in-Err.ensures.cause
     (writes_text (table_text held.style (tables held.style held.objects) number) ends))))
 
 pub returns-in-Ok-text-clause-goes_on : goal.returns-in-Ok-text-clause-goes_on
@@ -46,7 +50,7 @@ returns-in-Ok-text-clause-goes_on g c = λ old start done state head.
     let new = g.S.Sink.view c.tell.new.out in
     let bytes : text ≡ table_text c.in-Some-style.style.now c.in-Ok.tables number =
     c.as_bytes.ensures.value ∙ sym (encodes-chars c.as_str.result.now c.as_str.utf8) ∙ ap encode_utf8_all c.as_str.ensures.characters ∙ c.in-Ok-text.ensures.text in
-    if_there start done 0 old files (handle_of c.args.store.now) output _ (result_err c.tell.result) (world files (view_of (handle_of c.load_table.new.self)) new) state head (ap (λ (style : Option StyleOf). is_some style) (sym c.in-Some.ensures.style))
+    if_there start done 0 old files (handle_of c.args.store.now) output _ (result_err c.tell.result) (world files (view_of (handle_of c.load_table.new.self)) new) state head (sym c.old.ensures.is ∙ c.if-old.false) (ap (λ (style : Option StyleOf). is_some style) (sym c.in-Some.ensures.style))
     (λ held head.
     let sure = look_done start done held 0 old files (handle_of c.args.store.now) (handle_of c.load_table.new.self) output head c.in-Ok.ensures.looks c.in-Ok.ensures.tells c.in-Ok.ensures.whole c.load_table.ensures.stays.same_limits c.in-Ok.ensures.cause in
     exports_found start done held 0 old files (handle_of c.args.store.now) output head c.args.table.now (Some number)
@@ -62,7 +66,7 @@ returns-clause-goes_on g c = λ old start done state head.
     let files = g.I.Inputs.view c.args.inputs.now in
     let output = g.S.Sink.view c.args.out.now in
     let number = c.in-Some-number.number in
-    if_there start done 0 old files (handle_of c.args.store.now) output _ _ _ state head (ap (λ (style : Option StyleOf). is_some style) (sym c.in-Some.ensures.style))
+    if_there start done 0 old files (handle_of c.args.store.now) output _ _ _ state head (sym c.old.ensures.is ∙ c.if-old.false) (ap (λ (style : Option StyleOf). is_some style) (sym c.in-Some.ensures.style))
     (λ held head.
     let sure = look_done start done held 0 old files (handle_of c.args.store.now) (handle_of c.load_table.new.self) output head c.in-Ok.ensures.looks c.in-Ok.ensures.tells c.in-Ok.ensures.whole c.load_table.ensures.stays.same_limits c.in-Ok.ensures.cause in
     exports_found start done held 0 old files (handle_of c.args.store.now) output head c.args.table.now (Some number)

@@ -10,19 +10,23 @@ use Rattle.updater.specs.Progress.{past}
 use Rattle.updater.specs.Runs.{Among}
 use Rattle.updater.specs.World.{world}
 use Rattle.updater.proofs.Asked.{asked_more, asked_none}
-use Rattle.updater.proofs.StoreRuns.{already, first_read, first_unread, if_new, leads_ends}
+use Rattle.updater.proofs.StoreRuns.{already, first_read, first_unread, if_new, leads_ends, outdated_new}
 use Rattle.updater.proofs.commands.import.import_store.Goals as goal
+
+pub returns-then-old-clause-goes_on : goal.returns-then-old-clause-goes_on
+returns-then-old-clause-goes_on g c = λ old start done state head.
+    outdated_new start done c.args.files.first old (g.I.Inputs.view c.args.inputs.now) (handle_of c.args.store.now) (g.S.Sink.view c.args.out.now) _ state head (sym c.old.ensures.is ∙ c.if-old.true)
 
 pub returns-then-imported-clause-goes_on : goal.returns-then-imported-clause-goes_on
 returns-then-imported-clause-goes_on g c = λ old start done state head.
-    already start done c.args.files.first old (g.I.Inputs.view c.args.inputs.now) (handle_of c.args.store.now) (g.S.Sink.view c.args.out.now) _ state head (sym c.imported.ensures.is ∙ c.if-imported.true)
+    already start done c.args.files.first old (g.I.Inputs.view c.args.inputs.now) (handle_of c.args.store.now) (g.S.Sink.view c.args.out.now) _ state head (sym c.old.ensures.is ∙ c.if-old.false) (sym c.imported.ensures.is ∙ c.if-imported.true)
 
 pub returns-in-Err-clause-goes_on : goal.returns-in-Err-clause-goes_on
 returns-in-Err-clause-goes_on g c = λ old start done state head.
     let first = c.args.files.first in
     let files = g.I.Inputs.view c.args.inputs.now in
     let output = g.S.Sink.view c.args.out.now in
-    if_new start done first old files (handle_of c.args.store.now) output _ _ _ state head (sym c.imported.ensures.is ∙ c.if-imported.false)
+    if_new start done first old files (handle_of c.args.store.now) output _ _ _ state head (sym c.old.ensures.is ∙ c.if-old.false) (sym c.imported.ensures.is ∙ c.if-imported.false)
     (λ head. first_unread start done first old files (handle_of c.args.store.now) output (IsStyle first) (λ style. imports style c.args.buckets (first + 1) (onward finished)) formatted head
     (g.I.Inputs.view c.read_style_file.new.inputs) c.in-Err.fault c.in-Err.ensures.err)
 
@@ -55,7 +59,7 @@ returns-clause-goes_on g c = λ old start done state head.
     let last = g.I.Inputs.view c.import_file.new.inputs in
     let told = g.S.Sink.view c.import_file.new.out in
     let style : StyleOf × List ℕ = (c.in-Ok.style.style, c.in-Ok.style.bytes) in
-    if_new start done first old files (handle_of c.args.store.now) output _ (result_err c.import_file.result) (world last (view_of (handle_of c.import_file.new.store)) told) state head (sym c.imported.ensures.is ∙ c.if-imported.false)
+    if_new start done first old files (handle_of c.args.store.now) output _ (result_err c.import_file.result) (world last (view_of (handle_of c.import_file.new.store)) told) state head (sym c.old.ensures.is ∙ c.if-old.false) (sym c.imported.ensures.is ∙ c.if-imported.false)
     (λ head. first_read start done first old files (handle_of c.args.store.now) output (IsStyle first) (λ style. imports style c.args.buckets (first + 1) (onward finished)) formatted head
     read style c.in-Ok.ensures.ok (result_err c.import_file.result) (world last (view_of (handle_of c.import_file.new.store)) told)
     (λ head. leads_ends (λ further. imports style c.args.buckets (first + 1) (onward further)) (result_err c.import_file.result) start (past first done) (first + 1 + 1) old last (handle_of c.import_file.new.store) told

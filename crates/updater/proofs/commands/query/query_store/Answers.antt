@@ -16,13 +16,17 @@ use Rattle.updater.specs.Progress.{past}
 use Rattle.updater.specs.Runs.{Among}
 use Rattle.updater.specs.World.{world}
 use Rattle.updater.proofs.Asked.{asked_more, asked_none}
-use Rattle.updater.proofs.StoreRuns.{first_read, first_unread, held_certain, if_there, look_done, look_ends, look_refused, look_short, not_yet, same_style}
-use Rattle.updater.proofs.VersionRuns.{shows_here}
+use Rattle.updater.proofs.StoreRuns.{first_read, first_unread, held_certain, if_there, look_done, look_ends, look_refused, look_short, not_yet, outdated_there, same_style}
+use Rattle.updater.proofs.StoreDeeds.{shows_here}
 use Rattle.updater.proofs.commands.query.query_store.Goals as goal
+
+pub returns-then-old-clause-goes_on : goal.returns-then-old-clause-goes_on
+returns-then-old-clause-goes_on g c = λ old start done state head.
+    outdated_there start done c.args.files.first old (g.I.Inputs.view c.args.inputs.now) (handle_of c.args.store.now) (g.S.Sink.view c.args.out.now) _ state head (sym c.old.ensures.is ∙ c.if-old.true)
 
 pub returns-in-None-clause-goes_on : goal.returns-in-None-clause-goes_on
 returns-in-None-clause-goes_on g c = λ old start done state head.
-    not_yet start done c.args.files.first old (g.I.Inputs.view c.args.inputs.now) (handle_of c.args.store.now) (g.S.Sink.view c.args.out.now) _ state head (ap (λ (style : Option StyleOf). is_some style) (sym c.in-None.ensures.style))
+    not_yet start done c.args.files.first old (g.I.Inputs.view c.args.inputs.now) (handle_of c.args.store.now) (g.S.Sink.view c.args.out.now) _ state head (sym c.old.ensures.is ∙ c.if-old.false) (ap (λ (style : Option StyleOf). is_some style) (sym c.in-None.ensures.style))
 
 pub returns-in-Err-clause-goes_on : goal.returns-in-Err-clause-goes_on
 returns-in-Err-clause-goes_on g c = λ old start done state head.
@@ -30,7 +34,7 @@ returns-in-Err-clause-goes_on g c = λ old start done state head.
     let files = g.I.Inputs.view c.args.inputs.now in
     let output = g.S.Sink.view c.args.out.now in
     let read = g.I.Inputs.view c.read_queries_file-read.new.inputs in
-    if_there start done first old files (handle_of c.args.store.now) output _ _ _ state head (ap (λ (style : Option StyleOf). is_some style) (sym c.in-Some.ensures.style))
+    if_there start done first old files (handle_of c.args.store.now) output _ _ _ state head (sym c.old.ensures.is ∙ c.if-old.false) (ap (λ (style : Option StyleOf). is_some style) (sym c.in-Some.ensures.style))
     (λ held head. first_unread start done first old files (handle_of c.args.store.now) output (IsQueries held.style first)
     (λ queries. looks (writes_text (answers_text held.style (tables held.style held.objects) held.changes queries) ends)) (imported held) head read c.in-Err.fault
     (subst (λ (style : StyleOf). IsUnread (IsQueries style first) first c.in-Err.fault files read) (same_style start done held first old files (handle_of c.args.store.now) output head c.in-Some.style.now c.in-Some.ensures.style) c.in-Err.ensures.err))
@@ -41,12 +45,12 @@ returns-in-Err-load_tables-clause-goes_on g c = rw c.in_flow.ensures.fault (λ o
     let files = g.I.Inputs.view c.args.inputs.now in
     let output = g.S.Sink.view c.args.out.now in
     let read = g.I.Inputs.view c.read_queries_file-read.new.inputs in
-    if_there start done first old files (handle_of c.args.store.now) output _ _ _ state head (ap (λ (style : Option StyleOf). is_some style) (sym c.in-Some.ensures.style))
+    if_there start done first old files (handle_of c.args.store.now) output _ _ _ state head (sym c.old.ensures.is ∙ c.if-old.false) (ap (λ (style : Option StyleOf). is_some style) (sym c.in-Some.ensures.style))
     (λ held head. first_read start done first old files (handle_of c.args.store.now) output (IsQueries held.style first)
     (λ queries. looks (writes_text (answers_text held.style (tables held.style held.objects) held.changes queries) ends)) (imported held) head read c.in-Ok.queries
     (subst (λ (style : StyleOf). IsRead (IsQueries style first) first c.in-Ok.queries files read) (same_style start done held first old files (handle_of c.args.store.now) output head c.in-Some.style.now c.in-Some.ensures.style) c.in-Ok.ensures.ok)
     _ _ (λ head. look_refused start (past first done) held (first + 1) old read (handle_of c.args.store.now) (handle_of c.load_tables.new.self) output head c.in-Err-load_tables.fault
-    c.in-Err-load_tables.ensures.looks c.in-Err-load_tables.ensures.alone (λ is. c.in-Err-load_tables.ensures.broken (ap Err is)) c.in-Err-load_tables.ensures.cause
+    c.in-Err-load_tables.ensures.looks c.in-Err-load_tables.ensures.alone (λ is. c.in-Err-load_tables.ensures.broken (ap Err is)) (λ is. c.in-Err-load_tables.ensures.not_old (ap Err is)) c.in-Err-load_tables.ensures.cause
     (writes_text (answers_text held.style (tables held.style held.objects) held.changes c.in-Ok.queries) ends))))
 
 pub returns-in-Ok-text-clause-goes_on : goal.returns-in-Ok-text-clause-goes_on
@@ -57,7 +61,7 @@ returns-in-Ok-text-clause-goes_on g c = λ old start done state head.
     let read = g.I.Inputs.view c.read_queries_file-read.new.inputs in
     let text = c.as_bytes.result.now in
     let new = g.S.Sink.view c.tell.new.out in
-    if_there start done first old files (handle_of c.args.store.now) output _ (result_err c.tell.result) (world read (view_of (handle_of c.load_tables.new.self)) new) state head (ap (λ (style : Option StyleOf). is_some style) (sym c.in-Some.ensures.style))
+    if_there start done first old files (handle_of c.args.store.now) output _ (result_err c.tell.result) (world read (view_of (handle_of c.load_tables.new.self)) new) state head (sym c.old.ensures.is ∙ c.if-old.false) (ap (λ (style : Option StyleOf). is_some style) (sym c.in-Some.ensures.style))
     (λ held head. first_read start done first old files (handle_of c.args.store.now) output (IsQueries held.style first)
     (λ queries. looks (writes_text (answers_text held.style (tables held.style held.objects) held.changes queries) ends)) (imported held) head read c.in-Ok.queries
     (subst (λ (style : StyleOf). IsRead (IsQueries style first) first c.in-Ok.queries files read) (same_style start done held first old files (handle_of c.args.store.now) output head c.in-Some.style.now c.in-Some.ensures.style) c.in-Ok.ensures.ok)
@@ -79,7 +83,7 @@ returns-clause-goes_on g c = λ old start done state head.
     let files = g.I.Inputs.view c.args.inputs.now in
     let output = g.S.Sink.view c.args.out.now in
     let read = g.I.Inputs.view c.read_queries_file-read.new.inputs in
-    if_there start done first old files (handle_of c.args.store.now) output _ _ _ state head (ap (λ (style : Option StyleOf). is_some style) (sym c.in-Some.ensures.style))
+    if_there start done first old files (handle_of c.args.store.now) output _ _ _ state head (sym c.old.ensures.is ∙ c.if-old.false) (ap (λ (style : Option StyleOf). is_some style) (sym c.in-Some.ensures.style))
     (λ held head. first_read start done first old files (handle_of c.args.store.now) output (IsQueries held.style first)
     (λ queries. looks (writes_text (answers_text held.style (tables held.style held.objects) held.changes queries) ends)) (imported held) head read c.in-Ok.queries
     (subst (λ (style : StyleOf). IsRead (IsQueries style first) first c.in-Ok.queries files read) (same_style start done held first old files (handle_of c.args.store.now) output head c.in-Some.style.now c.in-Some.ensures.style) c.in-Ok.ensures.ok)

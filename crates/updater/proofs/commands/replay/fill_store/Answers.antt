@@ -1,6 +1,5 @@
-use Rattle.std.proofs.Common.{◌+◌, ◌∙◌, arith, refl, sym}
+use Rattle.std.proofs.Common.{◌+◌, ◌∙◌, arith, sym}
 use Rattle.std.specs.Result.{result_err}
-use Rattle.style_read.specs.Style.{StyleOf}
 use Rattle.update_flow.specs.Handle.{view_of}
 use Rattle.update_flow.specs.Updater.{handle_of}
 use Rattle.updater.specs.Courses.{appending, fills, telling}
@@ -9,12 +8,12 @@ use Rattle.updater.specs.World.{world}
 use Rattle.updater.proofs.Asked.{asked_among, asked_more, asked_none, asked_then}
 use Rattle.updater.proofs.FillRuns.{stops_appending, tells_whole}
 use Rattle.updater.proofs.OptionLaws.{default_power}
-use Rattle.updater.proofs.StoreRuns.{already, if_new}
+use Rattle.updater.proofs.StoreRuns.{if_made, never_blank}
 use Rattle.updater.proofs.commands.replay.fill_store.Goals as goal
 
 pub returns-then-imported-clause-goes_on : goal.returns-then-imported-clause-goes_on
 returns-then-imported-clause-goes_on g c = λ old start done state head.
-    already start done c.args.first old (g.I.Inputs.view c.args.inputs.now) (handle_of c.args.store.now) (g.S.Sink.view c.args.out.now)
+    never_blank start done c.args.first old (g.I.Inputs.view c.args.inputs.now) (handle_of c.args.store.now) (g.S.Sink.view c.args.out.now)
     (fills (c.args.style.style, c.args.style.bytes) c.args.bounds.now c.args.first c.args.changes) state head (sym c.imported.ensures.is ∙ c.if-imported.true)
 
 pub import_file-requires-clause-buckets : goal.import_file-requires-clause-buckets
@@ -22,7 +21,7 @@ import_file-requires-clause-buckets g c κs within = record { power = default_po
 
 pub returns-in-Err-clause-goes_on : goal.returns-in-Err-clause-goes_on
 returns-in-Err-clause-goes_on g c = λ old start done state head.
-    if_new start done c.args.first old (g.I.Inputs.view c.args.inputs.now) (handle_of c.args.store.now) (g.S.Sink.view c.args.out.now)
+    if_made start done c.args.first old (g.I.Inputs.view c.args.inputs.now) (handle_of c.args.store.now) (g.S.Sink.view c.args.out.now)
     (fills (c.args.style.style, c.args.style.bytes) c.args.bounds.now c.args.first c.args.changes) _ _ state head (sym c.imported.ensures.is ∙ c.if-imported.false)
     (λ head. c.in-Err.ensures.leads old start done head (appending c.args.bounds.now (c.args.first + 1) c.args.changes (telling c.args.bounds.now.zoom)))
 
@@ -37,7 +36,7 @@ pub returns-in-Err-append_files-clause-goes_on : goal.returns-in-Err-append_file
 returns-in-Err-append_files-clause-goes_on g c = λ old start done state head.
     let files = g.I.Inputs.view c.import_file.new.inputs in
     let output = g.S.Sink.view c.import_file.new.out in
-    if_new start done c.args.first old (g.I.Inputs.view c.args.inputs.now) (handle_of c.args.store.now) (g.S.Sink.view c.args.out.now)
+    if_made start done c.args.first old (g.I.Inputs.view c.args.inputs.now) (handle_of c.args.store.now) (g.S.Sink.view c.args.out.now)
     (fills (c.args.style.style, c.args.style.bytes) c.args.bounds.now c.args.first c.args.changes) _ _ state head (sym c.imported.ensures.is ∙ c.if-imported.false)
     (λ head. stops_appending (c.args.style.style, c.args.style.bytes) c.args.bounds.now c.args.first c.args.changes start done old files (handle_of c.import_file.new.store) output
     (c.in-Ok.ensures.leads old start done head) c.in-Err-append_files.fault (c.args.first + 1 + c.args.changes)
@@ -64,7 +63,7 @@ returns-clause-goes_on g c = λ old start done state head.
     let files = g.I.Inputs.view c.import_file.new.inputs in
     let output = g.S.Sink.view c.import_file.new.out in
     let read = g.I.Inputs.view c.append_files.new.inputs in
-    if_new start done c.args.first old (g.I.Inputs.view c.args.inputs.now) (handle_of c.args.store.now) (g.S.Sink.view c.args.out.now)
+    if_made start done c.args.first old (g.I.Inputs.view c.args.inputs.now) (handle_of c.args.store.now) (g.S.Sink.view c.args.out.now)
     (fills (c.args.style.style, c.args.style.bytes) c.args.bounds.now c.args.first c.args.changes) (result_err c.tell_whole.result)
     (world read (view_of (handle_of c.tell_whole.new.store)) (g.S.Sink.view c.tell_whole.new.out)) state head (sym c.imported.ensures.is ∙ c.if-imported.false)
     (λ head. tells_whole (c.args.style.style, c.args.style.bytes) c.args.bounds.now c.args.first c.args.changes start done old files (handle_of c.import_file.new.store) output

@@ -1,8 +1,7 @@
 use Rattle.std.proofs.Common.{◌≡◌, List, ℕ, Some, [], ◌∷◌, ◌+◌, ◌-◌, arith, subst}
 use Rattle.std.specs.Result.{result_err}
 use Rattle.style_read.specs.Style.{StyleOf}
-use Rattle.tile_cover.specs.Table.{BoundsOf}
-use Rattle.updater.specs.Course.{Course, formats, looks, reads}
+use Rattle.updater.specs.Course.{formats, looks, reads}
 use Rattle.updater.specs.Courses.{fills}
 use Rattle.updater.specs.Files.{IsBounds, IsStyle}
 use Rattle.updater.specs.Heads.{IsSoFar}

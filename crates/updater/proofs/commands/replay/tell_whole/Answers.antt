@@ -1,6 +1,5 @@
-use Rattle.std.proofs.Common.{List, ℕ, Err, ◌≡◌, ◌++◌, ◌∙◌, ap, refl, sym}
+use Rattle.std.proofs.Common.{Err, ◌++◌, ◌∙◌, ap, refl}
 use Rattle.std.specs.Prelude.{codes}
-use Rattle.std.specs.Result.{result_err}
 use Rattle.due_tiles.specs.TileText.{tile_text}
 use Rattle.osm_base.specs.map.Spots.{TableMap}
 use Rattle.style_read.specs.Style.{StyleOf}
@@ -14,14 +13,14 @@ use Rattle.updater.proofs.commands.replay.tell_whole.Goals as goal
 pub returns-in-Err-clause-goes_on : goal.returns-in-Err-clause-goes_on
 returns-in-Err-clause-goes_on g c = rw c.in_flow.ensures.fault (λ old files start done held next head.
     look_refused start done held next old files (handle_of c.args.store.now) (handle_of c.load_tables.new.self) (g.S.Sink.view c.args.out.now) head c.in-Err.fault
-    c.in-Err.ensures.looks c.in-Err.ensures.alone (λ is. c.in-Err.ensures.broken (ap Err is)) c.in-Err.ensures.cause (writes (IsWholeText c.args.least held) ends))
+    c.in-Err.ensures.looks c.in-Err.ensures.alone (λ is. c.in-Err.ensures.broken (ap Err is)) (λ is. c.in-Err.ensures.not_old (ap Err is)) c.in-Err.ensures.cause (writes (IsWholeText c.args.least held) ends))
 
 pub returns-in-Err-due-clause-goes_on : goal.returns-in-Err-due-clause-goes_on
 returns-in-Err-due-clause-goes_on g c = rw c.in_flow-in-Err-due.ensures.fault (λ old files start done held next head.
     let output = g.S.Sink.view c.args.out.now in
     let sure = look_done start done held next old files (handle_of c.args.store.now) (handle_of c.load_tables.new.self) output head c.in-Ok.ensures.looks c.in-Ok.ensures.tells c.in-Ok.ensures.whole c.load_tables.ensures.stays.same_limits c.in-Ok.ensures.cause in
     look_refused start done held next old files (handle_of c.load_tables.new.self) (handle_of c.due.new.self) output sure c.in-Err-due.fault
-    c.in-Err-due.ensures.looks c.in-Err-due.ensures.alone (λ is. c.in-Err-due.ensures.broken (ap Err is)) c.in-Err-due.ensures.cause (writes (IsWholeText c.args.least held) ends))
+    c.in-Err-due.ensures.looks c.in-Err-due.ensures.alone (λ is. c.in-Err-due.ensures.broken (ap Err is)) (λ is. c.in-Err-due.ensures.not_old (ap Err is)) c.in-Err-due.ensures.cause (writes (IsWholeText c.args.least held) ends))
 
 pub returns-in-Err-due-clause-stays : goal.returns-in-Err-due-clause-stays
 returns-in-Err-due-clause-stays g c = record {

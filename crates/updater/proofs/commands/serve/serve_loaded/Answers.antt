@@ -11,7 +11,7 @@ use Rattle.updater.specs.World.{world}
 use Rattle.updater.proofs.ServeRuns.{short_serving}
 use Rattle.updater.proofs.ShownVersions.{shown_first}
 use Rattle.updater.proofs.StoreRuns.{same_style}
-use Rattle.updater.proofs.VersionRuns.{shows_here}
+use Rattle.updater.proofs.StoreDeeds.{shows_here}
 use Rattle.updater.proofs.commands.serve.serve_loaded.Goals as goal
 
 pub returns-in-None-clause-goes_on : goal.returns-in-None-clause-goes_on

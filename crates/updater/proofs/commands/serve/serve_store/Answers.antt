@@ -14,19 +14,23 @@ use Rattle.updater.specs.Progress.{past}
 use Rattle.updater.specs.Runs.{Among}
 use Rattle.updater.specs.World.{world}
 use Rattle.updater.proofs.Asked.{asked_among, asked_more, asked_none, asked_then}
-use Rattle.updater.proofs.StoreRuns.{first_read, first_unread, held_certain, if_there, look_done, look_refused, not_yet, same_style}
+use Rattle.updater.proofs.StoreRuns.{first_read, first_unread, held_certain, if_there, look_done, look_refused, not_yet, outdated_there, same_style}
 use Rattle.updater.proofs.VersionRuns.{goes_back}
 use Rattle.updater.proofs.commands.serve.serve_store.Goals as goal
 
+pub returns-then-old-clause-goes_on : goal.returns-then-old-clause-goes_on
+returns-then-old-clause-goes_on g c = λ old start done state head.
+    outdated_there start done c.args.files.first old (g.I.Inputs.view c.args.inputs.now) (handle_of c.args.store.now) (g.S.Sink.view c.args.out.now) _ state head (sym c.old.ensures.is ∙ c.if-old.true)
+
 pub returns-then-not-imported-clause-goes_on : goal.returns-then-not-imported-clause-goes_on
 returns-then-not-imported-clause-goes_on g c = λ old start done state head.
-    not_yet start done c.args.files.first old (g.I.Inputs.view c.args.inputs.now) (handle_of c.args.store.now) (g.S.Sink.view c.args.out.now) _ state head (sym c.imported.ensures.is ∙ c.if-not-imported.true)
+    not_yet start done c.args.files.first old (g.I.Inputs.view c.args.inputs.now) (handle_of c.args.store.now) (g.S.Sink.view c.args.out.now) _ state head (sym c.old.ensures.is ∙ c.if-old.false) (sym c.imported.ensures.is ∙ c.if-not-imported.true)
 
 pub returns-in-Err-clause-goes_on : goal.returns-in-Err-clause-goes_on
 returns-in-Err-clause-goes_on g c = λ old start done state head.
     let first = c.args.files.first in
     let count = c.args.files.count - 2 in
-    if_there start done first old (g.I.Inputs.view c.args.inputs.now) (handle_of c.args.store.now) (g.S.Sink.view c.args.out.now) _ _ _ state head (sym c.imported.ensures.is ∙ c.if-not-imported.false)
+    if_there start done first old (g.I.Inputs.view c.args.inputs.now) (handle_of c.args.store.now) (g.S.Sink.view c.args.out.now) _ _ _ state head (sym c.old.ensures.is ∙ c.if-old.false) (sym c.imported.ensures.is ∙ c.if-not-imported.false)
     (λ held head. first_unread start done first old (g.I.Inputs.view c.args.inputs.now) (handle_of c.args.store.now) (g.S.Sink.view c.args.out.now) (IsBounds first)
     (λ bounds. reads (first + 1) (IsQueries held.style (first + 1)) (λ queries. looks (serves bounds queries c.args.readers [] held (first + 2) count))) (imported held) head
     (g.I.Inputs.view c.read_bounds_file.new.inputs) c.in-Err.fault c.in-Err.ensures.err)
@@ -62,7 +66,7 @@ returns-in-Err-read-clause-goes_on g c = λ old start done state head.
     let store = handle_of c.args.store.now in
     let bounds_read = g.I.Inputs.view c.read_bounds_file.new.inputs in
     let read = g.I.Inputs.view c.read_queries_file-read.new.inputs in
-    if_there start done first old files store output _ _ _ state head (sym c.imported.ensures.is ∙ c.if-not-imported.false)
+    if_there start done first old files store output _ _ _ state head (sym c.old.ensures.is ∙ c.if-old.false) (sym c.imported.ensures.is ∙ c.if-not-imported.false)
     (λ held head. first_read start done first old files store output (IsBounds first)
     (λ bounds. reads (first + 1) (IsQueries held.style (first + 1)) (λ queries. looks (serves bounds queries c.args.readers [] held (first + 2) count))) (imported held) head bounds_read c.in-Ok.bounds c.in-Ok.ensures.ok _ _
     (λ head. first_unread start (past first done) (first + 1) old bounds_read store output (IsQueries held.style (first + 1))
@@ -79,7 +83,7 @@ returns-in-Err-load_tables-clause-goes_on g c = rw c.in_flow.ensures.fault (λ o
     let store = handle_of c.args.store.now in
     let bounds_read = g.I.Inputs.view c.read_bounds_file.new.inputs in
     let read = g.I.Inputs.view c.read_queries_file-read.new.inputs in
-    if_there start done first old files store output _ _ _ state head (sym c.imported.ensures.is ∙ c.if-not-imported.false)
+    if_there start done first old files store output _ _ _ state head (sym c.old.ensures.is ∙ c.if-old.false) (sym c.imported.ensures.is ∙ c.if-not-imported.false)
     (λ held head. first_read start done first old files store output (IsBounds first)
     (λ bounds. reads (first + 1) (IsQueries held.style (first + 1)) (λ queries. looks (serves bounds queries c.args.readers [] held (first + 2) count))) (imported held) head bounds_read c.in-Ok.bounds c.in-Ok.ensures.ok _ _
     (λ head. first_read start (past first done) (first + 1) old bounds_read store output (IsQueries held.style (first + 1))
@@ -87,7 +91,7 @@ returns-in-Err-load_tables-clause-goes_on g c = rw c.in_flow.ensures.fault (λ o
     (subst (λ (style : StyleOf). IsRead (IsQueries style (first + 1)) (first + 1) c.in-Ok-read.queries bounds_read read)
     (same_style start (past first done) held (first + 1) old bounds_read store output head c.in-Some.style.now c.in-Some.ensures.style) c.in-Ok-read.ensures.ok) _ _
     (λ head. look_refused start (past (first + 1) (past first done)) held (first + 1 + 1) old read store (handle_of c.load_tables.new.self) output head c.in-Err-load_tables.fault
-    c.in-Err-load_tables.ensures.looks c.in-Err-load_tables.ensures.alone (λ is. c.in-Err-load_tables.ensures.broken (ap Err is)) c.in-Err-load_tables.ensures.cause
+    c.in-Err-load_tables.ensures.looks c.in-Err-load_tables.ensures.alone (λ is. c.in-Err-load_tables.ensures.broken (ap Err is)) (λ is. c.in-Err-load_tables.ensures.not_old (ap Err is)) c.in-Err-load_tables.ensures.cause
     (serves c.in-Ok.bounds c.in-Ok-read.queries c.args.readers [] held (first + 2) count)))))
 
 pub returns-clause-goes_on : goal.returns-clause-goes_on
@@ -102,7 +106,7 @@ returns-clause-goes_on g c = λ old start done state head.
     let read = g.I.Inputs.view c.read_queries_file-read.new.inputs in
     let fault = result_err c.serve_loaded.result in
     let new = world (g.I.Inputs.view c.serve_loaded.new.inputs) (view_of (handle_of c.serve_loaded.new.store)) (g.S.Sink.view c.serve_loaded.new.out) in
-    if_there start done first old files store output _ fault new state head (sym c.imported.ensures.is ∙ c.if-not-imported.false)
+    if_there start done first old files store output _ fault new state head (sym c.old.ensures.is ∙ c.if-old.false) (sym c.imported.ensures.is ∙ c.if-not-imported.false)
     (λ held head. first_read start done first old files store output (IsBounds first)
     (λ bounds. reads (first + 1) (IsQueries held.style (first + 1)) (λ queries. looks (serves bounds queries c.args.readers [] held (first + 2) count))) (imported held) head bounds_read c.in-Ok.bounds c.in-Ok.ensures.ok fault new
     (λ head. first_read start (past first done) (first + 1) old bounds_read store output (IsQueries held.style (first + 1))

@@ -6,26 +6,30 @@ use Rattle.updater.specs.Course.{writes}
 use Rattle.updater.specs.Progress.{plus}
 use Rattle.updater.specs.World.{world}
 use Rattle.updater.proofs.HeadLaws.{ends_here}
-use Rattle.updater.proofs.StoreRuns.{clear_done, clear_refused, held_certain, if_there, look_done, look_refused, look_short, look_told, look_untold, not_yet}
+use Rattle.updater.proofs.StoreRuns.{clear_done, clear_refused, held_certain, if_there, look_done, look_refused, look_short, look_told, look_untold, not_yet, outdated_there}
 use Rattle.updater.proofs.commands.tiles.tiles_in.Goals as goal
+
+pub returns-then-old-clause-goes_on : goal.returns-then-old-clause-goes_on
+returns-then-old-clause-goes_on g c = λ old start done state head.
+    outdated_there start done 0 old (g.I.Inputs.view c.args.inputs.now) (handle_of c.args.store.now) (g.S.Sink.view c.args.out.now) _ state head (sym c.old.ensures.is ∙ c.if-old.true)
 
 pub returns-then-not-imported-clause-goes_on : goal.returns-then-not-imported-clause-goes_on
 returns-then-not-imported-clause-goes_on g c = λ old start done state head.
-    not_yet start done 0 old (g.I.Inputs.view c.args.inputs.now) (handle_of c.args.store.now) (g.S.Sink.view c.args.out.now) _ state head (sym c.imported.ensures.is ∙ c.if-not-imported.true)
+    not_yet start done 0 old (g.I.Inputs.view c.args.inputs.now) (handle_of c.args.store.now) (g.S.Sink.view c.args.out.now) _ state head (sym c.old.ensures.is ∙ c.if-old.false) (sym c.imported.ensures.is ∙ c.if-not-imported.true)
 
 pub returns-in-Err-clause-goes_on : goal.returns-in-Err-clause-goes_on
 returns-in-Err-clause-goes_on g c = rw c.in_flow.ensures.fault (λ old start done state head.
     let files = g.I.Inputs.view c.args.inputs.now in
     let output = g.S.Sink.view c.args.out.now in
-    if_there start done 0 old files (handle_of c.args.store.now) output _ _ _ state head (sym c.imported.ensures.is ∙ c.if-not-imported.false)
-    (λ held head. look_refused start done held 0 old files (handle_of c.args.store.now) (handle_of c.due.new.self) output head c.in-Err.fault c.in-Err.ensures.looks c.in-Err.ensures.alone (λ is. c.in-Err.ensures.broken (ap Err is)) c.in-Err.ensures.cause
+    if_there start done 0 old files (handle_of c.args.store.now) output _ _ _ state head (sym c.old.ensures.is ∙ c.if-old.false) (sym c.imported.ensures.is ∙ c.if-not-imported.false)
+    (λ held head. look_refused start done held 0 old files (handle_of c.args.store.now) (handle_of c.due.new.self) output head c.in-Err.fault c.in-Err.ensures.looks c.in-Err.ensures.alone (λ is. c.in-Err.ensures.broken (ap Err is)) (λ is. c.in-Err.ensures.not_old (ap Err is)) c.in-Err.ensures.cause
     (writes (IsTileText held.due c.args.least) (clears c.args.clear))))
 
 pub returns-in-Err-tiles_text-clause-goes_on : goal.returns-in-Err-tiles_text-clause-goes_on
 returns-in-Err-tiles_text-clause-goes_on g c = λ old start done state head.
     let files = g.I.Inputs.view c.args.inputs.now in
     let output = g.S.Sink.view c.args.out.now in
-    if_there start done 0 old files (handle_of c.args.store.now) output _ _ _ state head (sym c.imported.ensures.is ∙ c.if-not-imported.false)
+    if_there start done 0 old files (handle_of c.args.store.now) output _ _ _ state head (sym c.old.ensures.is ∙ c.if-old.false) (sym c.imported.ensures.is ∙ c.if-not-imported.false)
     (λ held head.
     let sure = look_done start done held 0 old files (handle_of c.args.store.now) (handle_of c.due.new.self) output head c.in-Ok.ensures.looks c.in-Ok.ensures.tells c.in-Ok.ensures.whole c.due.ensures.stays.same_limits c.in-Ok.ensures.cause in
     look_short start done held 0 old files (handle_of c.args.store.now) (handle_of c.due.new.self) output head (IsTileText held.due c.args.least) (clears c.args.clear) sure)
@@ -34,7 +38,7 @@ pub returns-in-Err-tell-clause-goes_on : goal.returns-in-Err-tell-clause-goes_on
 returns-in-Err-tell-clause-goes_on g c = λ old start done state head.
     let files = g.I.Inputs.view c.args.inputs.now in
     let output = g.S.Sink.view c.args.out.now in
-    if_there start done 0 old files (handle_of c.args.store.now) output _ _ _ state head (sym c.imported.ensures.is ∙ c.if-not-imported.false)
+    if_there start done 0 old files (handle_of c.args.store.now) output _ _ _ state head (sym c.old.ensures.is ∙ c.if-old.false) (sym c.imported.ensures.is ∙ c.if-not-imported.false)
     (λ held head.
     let sure = look_done start done held 0 old files (handle_of c.args.store.now) (handle_of c.due.new.self) output head c.in-Ok.ensures.looks c.in-Ok.ensures.tells c.in-Ok.ensures.whole c.due.ensures.stays.same_limits c.in-Ok.ensures.cause in
     look_untold start done held 0 old files (handle_of c.args.store.now) (handle_of c.due.new.self) output head (IsTileText held.due c.args.least) (clears c.args.clear) sure
@@ -48,7 +52,7 @@ returns-then-not-clear-clause-goes_on g c = rw c.if-not-clear.true (λ old start
     let output = g.S.Sink.view c.args.out.now in
     let text = c.deref.result.now in
     let new = g.S.Sink.view c.tell.new.out in
-    if_there start done 0 old files (handle_of c.args.store.now) output _ None (world files (view_of (handle_of c.due.new.self)) new) state head (sym c.imported.ensures.is ∙ c.if-not-imported.false)
+    if_there start done 0 old files (handle_of c.args.store.now) output _ None (world files (view_of (handle_of c.due.new.self)) new) state head (sym c.old.ensures.is ∙ c.if-old.false) (sym c.imported.ensures.is ∙ c.if-not-imported.false)
     (λ held head.
     let sure = look_done start done held 0 old files (handle_of c.args.store.now) (handle_of c.due.new.self) output head c.in-Ok.ensures.looks c.in-Ok.ensures.tells c.in-Ok.ensures.whole c.due.ensures.stays.same_limits c.in-Ok.ensures.cause in
     look_told start done held 0 old files (handle_of c.args.store.now) (handle_of c.due.new.self) output head (IsTileText held.due c.args.least) (clears false) sure text new
@@ -62,7 +66,7 @@ returns-in-Ok-clear_due-clause-goes_on g c = rw c.if-not-clear.false (λ old sta
     let output = g.S.Sink.view c.args.out.now in
     let text = c.deref.result.now in
     let new = g.S.Sink.view c.tell.new.out in
-    if_there start done 0 old files (handle_of c.args.store.now) output _ None (world files (view_of (handle_of c.clear_due.new.self)) new) state head (sym c.imported.ensures.is ∙ c.if-not-imported.false)
+    if_there start done 0 old files (handle_of c.args.store.now) output _ None (world files (view_of (handle_of c.clear_due.new.self)) new) state head (sym c.old.ensures.is ∙ c.if-old.false) (sym c.imported.ensures.is ∙ c.if-not-imported.false)
     (λ held head.
     let sure = look_done start done held 0 old files (handle_of c.args.store.now) (handle_of c.due.new.self) output head c.in-Ok.ensures.looks c.in-Ok.ensures.tells c.in-Ok.ensures.whole c.due.ensures.stays.same_limits c.in-Ok.ensures.cause in
     look_told start done held 0 old files (handle_of c.args.store.now) (handle_of c.due.new.self) output head (IsTileText held.due c.args.least) (clears true) sure text new
@@ -77,11 +81,11 @@ returns-clause-goes_on g c = rw c.in_flow-in-Err-clear_due.ensures.fault (rw c.i
     let output = g.S.Sink.view c.args.out.now in
     let text = c.deref.result.now in
     let new = g.S.Sink.view c.tell.new.out in
-    if_there start done 0 old files (handle_of c.args.store.now) output _ _ (world files (view_of (handle_of c.clear_due.new.self)) new) state head (sym c.imported.ensures.is ∙ c.if-not-imported.false)
+    if_there start done 0 old files (handle_of c.args.store.now) output _ _ (world files (view_of (handle_of c.clear_due.new.self)) new) state head (sym c.old.ensures.is ∙ c.if-old.false) (sym c.imported.ensures.is ∙ c.if-not-imported.false)
     (λ held head.
     let sure = look_done start done held 0 old files (handle_of c.args.store.now) (handle_of c.due.new.self) output head c.in-Ok.ensures.looks c.in-Ok.ensures.tells c.in-Ok.ensures.whole c.due.ensures.stays.same_limits c.in-Ok.ensures.cause in
     look_told start done held 0 old files (handle_of c.args.store.now) (handle_of c.due.new.self) output head (IsTileText held.due c.args.least) (clears true) sure text new
     (λ read certain. (c.in-Ok.due, c.in-Ok.ensures.due held (held_certain done held (handle_of c.args.store.now) head.here certain), c.deref.ensures.value ∙ c.in-Ok-tiles_text.ensures.text))
     c.in_default.ensures.ok c.tell.ensures.cause.later _ (world files (view_of (handle_of c.clear_due.new.self)) new)
     (λ head. clear_refused start (plus text done) held 0 old files (handle_of c.due.new.self) (handle_of c.clear_due.new.self) new head
-    c.in-Err-clear_due.fault c.in-Err-clear_due.ensures.takes c.in-Err-clear_due.ensures.alone (λ is. c.in-Err-clear_due.ensures.broken (ap Err is)) c.in-Err-clear_due.ensures.cause))))
+    c.in-Err-clear_due.fault c.in-Err-clear_due.ensures.takes c.in-Err-clear_due.ensures.alone (λ is. c.in-Err-clear_due.ensures.broken (ap Err is)) (λ is. c.in-Err-clear_due.ensures.not_old (ap Err is)) c.in-Err-clear_due.ensures.cause))))

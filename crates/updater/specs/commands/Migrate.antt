@@ -1,0 +1,8 @@
+-- `migrate STORE`.
+use Rattle.std.specs.Prelude.{ℕ, List, Option}
+use Rattle.updater.specs.CommandOf.{CommandOf, migrate_of}
+use Rattle.updater.specs.Forms.{stored}
+
+-- the form of its words
+abbrev pub form : (options words : List (List ℕ)) → Option CommandOf
+form options words = stored migrate_of options words

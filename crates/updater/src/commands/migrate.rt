@@ -1,0 +1,86 @@
+//! `migrate STORE`: a store of the old format gets this one.
+ghost use Rattle.std.specs.Prelude.{◌≡◌, ◌≢◌, Some, map, IfSome};
+ghost use Rattle.std.specs.Option.{option_map};
+ghost use Rattle.std.specs.Result.{result_err};
+ghost use Rattle.std.specs.String.{string_bytes};
+ghost use Rattle.outside.specs.Disk.{Stays};
+ghost use Rattle.update_flow.specs.Handle.{view_of};
+ghost use Rattle.update_flow.specs.State.{State};
+ghost use Rattle.update_flow.specs.Updater.{StaysOver, handle_of};
+ghost use Rattle.updater.specs.Command.{old_store};
+ghost use Rattle.updater.specs.CommandOf.{FilesFit, seen};
+ghost use Rattle.updater.specs.Course.{opens};
+ghost use Rattle.updater.specs.Courses.{migrates};
+ghost use Rattle.updater.specs.Heads.{GoesOn, IsHead};
+ghost use Rattle.updater.specs.Progress.{Progress};
+ghost use Rattle.updater.specs.Runs.{Begins, GoesBy};
+ghost use Rattle.updater.specs.World.{Before, world};
+ghost use Rattle.updater.specs.commands.Migrate as spec;
+
+use crate::fault::Fault;
+use crate::forms::stored;
+use crate::telling::tell;
+use crate::words::Command;
+use osm_base::Limits;
+use outside::{Disk, Inputs, Sink};
+use std::alloc::Global;
+use update_flow::{Updater, open};
+
+/// The line that tells the format of the store.
+const FORMAT_LINE: &str = "format 2\n";
+
+/// The form of its words.
+pub fn form<'a>(options: &[String], form: &'a [String]) -> Option<Command<'a>>
+    ensures form { option_map seen result ≡ spec.form (map string_bytes options.now) (map string_bytes form.now) }
+    ensures fits { IfSome result (λ command. FilesFit (seen command)) }
+{
+    let store = stored(options, form)?;
+    Some(Command::Migrate { store })
+}
+
+/// Opens the store, writes it anew where it is one of the old format, and tells the format that it has then.
+pub fn migrate<I: Inputs, D: Disk, S: Sink>(
+    alloc: Global,
+    inputs: &I,
+    disk: &mut D,
+    out: &mut S,
+) -> Result<(), Fault>
+    ensures course { (start : Progress) → Begins old_store (world (I.view inputs.now) (D.view disk.old) (S.view out.old)) start
+        → GoesBy (opens migrates) start (result_err result)
+        (world (I.view inputs.now) (D.view disk.old) (S.view out.old))
+        (world (I.view inputs.now) (D.view disk.new) (S.view out.new)) }
+    ensures unformatted { result_err result ≡ Some Fault.NotFormatted → Stays (D.view disk.old) (D.view disk.new) }
+{
+    let limits = Limits::standard();
+    let opened = match open(alloc, disk, &limits) {
+        Ok(opened) => opened,
+        Err(fault) => return Err(Fault::in_flow(fault)),
+    };
+    let mut store = Updater::over(alloc, disk, opened, &limits);
+    let done = migrate_store(inputs, &mut store, out);
+    let _disk = store.close();
+    done
+}
+
+/// The same of an open store.
+fn migrate_store<I: Inputs, D: Disk, S: Sink>(
+    inputs: &I,
+    store: &mut Updater<'_, D>,
+    out: &mut S,
+) -> Result<(), Fault>
+    ensures goes_on { (old : Before) (start done : Progress) (state : State) → IsHead start done state 0 old (I.view inputs.now) (handle_of store.old) (S.view out.old)
+        → GoesOn (migrates state) start done (result_err result) old (world (I.view inputs.now) (view_of (handle_of store.new)) (S.view out.new)) }
+    ensures stays { StaysOver store.old store.new }
+    ensures formatted { result_err result ≢ Some Fault.NotFormatted }
+{
+    if !store.imported() {
+        return Err(Fault::NotImported);
+    }
+    if !store.old() {
+        return tell(out, FORMAT_LINE.as_bytes());
+    }
+    match store.migrate() {
+        Ok(()) => tell(out, FORMAT_LINE.as_bytes()),
+        Err(fault) => Err(Fault::in_flow(fault)),
+    }
+}
