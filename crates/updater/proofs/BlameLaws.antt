@@ -16,7 +16,7 @@ use Rattle.update_flow.specs.State.{State, formatted, imported, outdated, Step, 
 use Rattle.update_flow.specs.declared.fault.FlowFault.{FlowFault}
 use Rattle.update_flow.specs.declared.fault.FlowFault.TheVariants as flow
 use Rattle.updater.specs.Causes.{IsStoreLimit}
-use Rattle.updater.specs.Comes.{Comes, Breaks, BreaksIn, HoldsBytes, IsBadStore, IsNoStore, IsRefusal, IsRefusedFor, IsStepFault, unread, short, refused, IsOfFile}
+use Rattle.updater.specs.Comes.{Breaks, BreaksIn, Comes, HoldsBytes, IsBadStore, IsNoStore, IsOfFile, IsRefusal, IsRefusedFor, IsStepFault, MayTake, refused, short, unread}
 use Rattle.updater.specs.Course.{Course, ends, refuses, reads, wants_empty, formats, opens, looks, commits, tells, writes}
 use Rattle.updater.specs.Courses.{gathers}
 use Rattle.updater.specs.Faults.{flow_fault}
@@ -346,13 +346,13 @@ module _ (terms : Terms) (old : Before) where
   comes_told (commits step rest) file quiet done ending (store, later) up (inl breaks) = told_breaks file quiet done ending store up breaks
   comes_told (commits step rest) file quiet done ending (store, later) up (inr c) = of_store done.store
       (λ kept. (ending ≡ at (in_doubt step kept done) (Some faults.DiskFault)) ⊎ IsRefusedFor (IsRefusal (state_after kept.history) step) done ending
-      ⊎ (Refuses standard (state_after kept.history) step None × Comes old rest (committed step kept done) ending))
+      ⊎ (MayTake (state_after kept.history) step × Comes old rest (committed step kept done) ending))
       (IsRefusedFor IsStepFault done ending ⊎ Comes old rest done ending) (Tells terms old ending)
       (λ kept is h. three (λ (is : ending ≡ at (in_doubt step kept done) (Some faults.DiskFault)). is_told ending _ is
       (told_at file quiet (in_doubt step kept done) (Some faults.DiskFault) (stood file quiet (keeps (perhaps step kept)) done.cut done (λ e. absurd (cc)) up) store (λ other names. names)))
       (λ (why : IsRefusedFor (IsRefusal (state_after kept.history) step) done ending). told_refused (IsRefusal (state_after kept.history) step) file quiet done ending store
       (λ fault own. ((λ _ _ bad. bad_refuses (state_after kept.history) step fault terms.opening bad own.1), own.0)) up why)
-      (λ (c : Refuses standard (state_after kept.history) step None × Comes old rest (committed step kept done) ending). comes_told rest file quiet (committed step kept done) ending later
+      (λ (c : MayTake (state_after kept.history) step × Comes old rest (committed step kept done) ending). comes_told rest file quiet (committed step kept done) ending later
       (stood file quiet (keeps (with_step step kept)) done.cut done (λ e. absurd (cc)) up) c.1) h)
       (λ is h. ⊎_elim (λ (why : IsRefusedFor IsStepFault done ending). told_refused IsStepFault file quiet done ending store (λ fault own. ((λ bytes told _. up.vague is bytes told), own)) up why)
       (λ (c : Comes old rest done ending). comes_told rest file quiet done ending later up c) h) c

@@ -7,7 +7,7 @@ use Rattle.update_flow.specs.Refusals.{Refuses}
 use Rattle.update_flow.specs.State.{State, Step}
 use Rattle.updater.specs.declared.fault.Fault.{Fault}
 use Rattle.updater.specs.declared.fault.Fault.TheVariants as faults
-use Rattle.updater.specs.Comes.{Comes, Breaks, BreaksIn, HoldsBytes, IsRefusal, IsRefusedFor, IsStepFault, unread, short, refused}
+use Rattle.updater.specs.Comes.{Breaks, BreaksIn, Comes, HoldsBytes, IsRefusal, IsRefusedFor, IsStepFault, MayTake, refused, short, unread}
 use Rattle.updater.specs.Course.{Course, ends, refuses, reads, wants_empty, formats, opens, looks, commits, tells, writes}
 use Rattle.updater.specs.Keeps.{Kept, IsFit, blank, first, perhaps, whole, with_steps}
 use Rattle.updater.specs.Making.{reading_alone}
@@ -254,11 +254,11 @@ module _ (total : ℕ) (before : Kept) where
         let own = subst (λ (untold : ℕ). IsAfter total before untold left done) none after in
         of_store done.store
         (λ kept. (ending ≡ at (in_doubt step kept done) (Some faults.DiskFault)) ⊎ IsRefusedFor (IsRefusal (state_after kept.history) step) done ending
-        ⊎ (Refuses standard (state_after kept.history) step None × Comes old rest (committed step kept done) ending))
+        ⊎ (MayTake (state_after kept.history) step × Comes old rest (committed step kept done) ending))
         (IsRefusedFor IsStepFault done ending ⊎ Comes old rest done ending) (Reaches total before ending)
         (λ kept is h. three (λ (doubt : ending ≡ at (in_doubt step kept done) (Some faults.DiskFault)). reaches ending _ doubt (doubted left step kept done own is))
         (λ (why : IsRefusedFor (IsRefusal (state_after kept.history) step) done ending). reaches ending _ why.2 (reached left done None _ own))
-        (λ (c : Refuses standard (state_after kept.history) step None × Comes old rest (committed step kept done) ending).
+        (λ (c : MayTake (state_after kept.history) step × Comes old rest (committed step kept done) ending).
         comes_safe rest 1 (left - 1) (committed step kept done) ending counts (stepped left step kept done own is) c.1) h)
         (λ un h. absurd (let two : unknown ≡ keeps (whole after.now) = sym un ∙ after.is in cc)) c
     comes_safe (tells text rest) untold left done ending (counts, later) after (inl is) = reaches ending _ is (telling untold left text done counts after)

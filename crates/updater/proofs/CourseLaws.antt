@@ -7,7 +7,7 @@ use Rattle.osm_base.specs.bounds.Limits.{standard}
 use Rattle.update_flow.specs.History.{state_after}
 use Rattle.update_flow.specs.Refusals.{Refuses}
 use Rattle.update_flow.specs.State.{State}
-use Rattle.updater.specs.Comes.{Comes, Breaks, BreaksIn, ByStore, HoldsBytes, IfUnknown, IsBadStore, IsNoStore, IsRefusal, IsRefusedFor, IsStepFault, unread, short, refused, IsOfFile, IfUnused, IsDue, IsOutside}
+use Rattle.updater.specs.Comes.{Breaks, BreaksIn, ByStore, Comes, HoldsBytes, IfUnknown, IfUnused, IsBadStore, IsDue, IsNoStore, IsOfFile, IsOutside, IsRefusal, IsRefusedFor, IsStepFault, MayTake, refused, short, unread}
 use Rattle.updater.specs.Course.{Course, ends, refuses, reads, wants_empty, formats, opens, looks, commits, tells, writes}
 use Rattle.updater.specs.Keeps.{Kept, first}
 use Rattle.updater.specs.Progress.{Standing, unused, unknown, keeps, half_made, Progress, Ending, at, at_file, at_text, past, plus, with_store, made, opened, committed, in_doubt}
@@ -95,13 +95,13 @@ module _ (old : Before) where
   comes_due (commits step rest) done ending (inl breaks) not = breaks_not done ending _ breaks not
   comes_due (commits step rest) done ending (inr c) not = by_store done.store
       (λ kept. (ending ≡ at (in_doubt step kept done) (Some faults.DiskFault)) ⊎ IsRefusedFor (IsRefusal (state_after kept.history) step) done ending
-      ⊎ (Refuses standard (state_after kept.history) step None × Comes old rest (committed step kept done) ending))
-      (λ kept. IsRefusedFor (IsRefusal (state_after kept.history) step) done ending ⊎ (Refuses standard (state_after kept.history) step None × IsDue old rest (committed step kept done) ending))
+      ⊎ (MayTake (state_after kept.history) step × Comes old rest (committed step kept done) ending))
+      (λ kept. IsRefusedFor (IsRefusal (state_after kept.history) step) done ending ⊎ (MayTake (state_after kept.history) step × IsDue old rest (committed step kept done) ending))
       (IsRefusedFor IsStepFault done ending ⊎ Comes old rest done ending)
       (IsRefusedFor IsStepFault done ending ⊎ IsDue old rest done ending)
       (λ kept _ h. three (λ (is : ending ≡ at (in_doubt step kept done) (Some faults.DiskFault)). blamed ending (at (in_doubt step kept done) (Some faults.DiskFault)) _ is tt not)
       (λ (why : IsRefusedFor (IsRefusal (state_after kept.history) step) done ending). inl why)
-      (λ (c : Refuses standard (state_after kept.history) step None × Comes old rest (committed step kept done) ending). inr (c.0, comes_due rest (committed step kept done) ending c.1 not)) h)
+      (λ (c : MayTake (state_after kept.history) step × Comes old rest (committed step kept done) ending). inr (c.0, comes_due rest (committed step kept done) ending c.1 not)) h)
       (λ _ h. ⊎_elim (λ (why : IsRefusedFor IsStepFault done ending). inl why) (λ (c : Comes old rest done ending). inr (comes_due rest done ending c not)) h) c
   comes_due (tells text rest) done ending (inl is) not = blamed ending (at_text text done faults.WriteFault) _ is tt not
   comes_due (tells text rest) done ending (inr c) not = comes_due rest (plus text done) ending c not

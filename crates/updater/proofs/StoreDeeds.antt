@@ -9,6 +9,8 @@ use Rattle.outside.specs.Sink.{SinkView}
 use Rattle.page_journal.specs.declared.fault.StoreFault.TheVariants as stores
 use Rattle.update_flow.specs.AtRest.{HasFlowCause, IsAt, IsOfEither, RestsAt}
 use Rattle.update_flow.specs.History.{History, state_after}
+use Rattle.update_flow.specs.Needed.{FitsLimit, NeedsFrom, NeedsOn}
+use Rattle.update_flow.proofs.Needs.{fits_as, needs_from}
 use Rattle.update_flow.specs.Refusals.{IsCallFault, IsNoDiskFault, MayAnswer, MayLook, OrFull, Refuses, RefusesLook}
 use Rattle.update_flow.specs.Stands.{StandsFor}
 use Rattle.update_flow.specs.State.{Holding, State, imported, Step, after, was_old}
@@ -17,7 +19,7 @@ use Rattle.update_flow.specs.declared.fault.FlowFault.{FlowFault}
 use Rattle.update_flow.specs.declared.fault.FlowFault.TheVariants as flow
 use Rattle.updater.specs.declared.fault.Fault.{Fault}
 use Rattle.updater.specs.declared.fault.Fault.TheVariants as faults
-use Rattle.updater.specs.Comes.{Comes, ByStore, IfUnknown, IsCertain, IsRefusal, IsRefusedFor, IsStepFault}
+use Rattle.updater.specs.Comes.{ByStore, Comes, IfUnknown, IsCertain, IsOfNeed, IsRefusal, IsRefusedFor, IsStepFault, MayTake}
 use Rattle.updater.specs.Course.{Course, looks, commits}
 use Rattle.updater.specs.Faults.{flow_fault}
 use Rattle.updater.specs.Heads.{GoesOn, IsHead, IsHere, IsRested, IsShown, KeptNone}
@@ -34,6 +36,14 @@ record IsPlain (fault : FlowFault) : Type 1 where
   no_disk : IsNoDiskFault (Some fault)
   answers : (limits : LimitNumbers) (state : State) (step : Step) → MayAnswer limits state step (Some fault) → OrFull limits (Some fault) (Refuses limits state step (Some fault))
   looks_so : (state : State) → MayLook state (Some fault) → RefusesLook state (Some fault)
+
+-- what is needed of an open store
+needed_here : (limits : LimitNumbers) (store : Handle) → limits ≡ standard → (fault : Option FlowFault) (state : State) (step : Step) → IsOpen state store
+    → FitsLimit limits (NeedsOn (view_of store) (after state step)) fault → FitsLimit standard (NeedsFrom state (after state step)) fault
+needed_here limits store same fault state step opened fits =
+    fits_as standard (NeedsOn (view_of store) (after state step)) (NeedsFrom state (after state step)) fault
+    (λ many. needs_from state (after state step) (view_of store) many opened.at_rest)
+    (subst (λ (own : LimitNumbers). FitsLimit own (NeedsOn (view_of store) (after state step)) fault) same fits)
 
 data Kinds (fault : FlowFault) : Type 1 where
   of_disk : fault ≡ flow.Store stores.DiskFault → Kinds fault
@@ -240,21 +250,22 @@ module _ (start done : Progress) (state : State) (next : ℕ) (old : Before) (fi
       head = vague_head start done state next old files before now output head is cause.later (after state step) (record { shows = shows here.shows; whole = sound ∙ here.whole }) same;
       leads = λ rest ending comes. inr (subst (λ (store : Standing). ByStore store
           (λ kept. (ending ≡ at (in_doubt step kept done) (Some faults.DiskFault)) ⊎ IsRefusedFor (IsRefusal (state_after kept.history) step) done ending
-          ⊎ (Refuses standard (state_after kept.history) step None × Comes old rest (committed step kept done) ending))
+          ⊎ (MayTake (state_after kept.history) step × Comes old rest (committed step kept done) ending))
           (IsRefusedFor IsStepFault done ending ⊎ Comes old rest done ending)) (sym is) (inr comes));
       certain = λ certain. certain;
     }
     taken_by (keeps kept) is here =
         let own = takes state here.rests in
         let answer : Refuses standard state step None = subst (λ (limits : LimitNumbers). Refuses limits state step None) head.limits own.answer in
+        let need : IsOfNeed state step None = λ writes. needed_here (limits_of before) before head.limits None state step here.rests (own.needs writes) in
         record {
           further = committed step kept done;
           head = stepped_head start done state next old files before now output head kept is here cause.later step own.moments (own.done refl) same;
           leads = λ rest ending comes. inr (subst (λ (store : Standing). ByStore store
               (λ kept. (ending ≡ at (in_doubt step kept done) (Some faults.DiskFault)) ⊎ IsRefusedFor (IsRefusal (state_after kept.history) step) done ending
-              ⊎ (Refuses standard (state_after kept.history) step None × Comes old rest (committed step kept done) ending))
+              ⊎ (MayTake (state_after kept.history) step × Comes old rest (committed step kept done) ending))
               (IsRefusedFor IsStepFault done ending ⊎ Comes old rest done ending)) (sym is)
-              (inr (inr (subst (λ (own : State). Refuses standard own step None) (sym here.stands) answer, comes))));
+              (inr (inr (subst (λ (own : State). MayTake own step) (sym here.stands) (answer, need), comes))));
           certain = λ _. subst (λ (store : Standing). IsCertain store) (sym is) tt;
         }
 
@@ -269,7 +280,7 @@ module _ (start done : Progress) (state : State) (next : ℕ) (old : Before) (fi
 
     abbrev Known : Ending → Kept → Type 0
     Known ending kept = (ending ≡ at (in_doubt step kept done) (Some faults.DiskFault)) ⊎ IsRefusedFor (IsRefusal (state_after kept.history) step) done ending
-        ⊎ (Refuses standard (state_after kept.history) step None × Comes old rest (committed step kept done) ending)
+        ⊎ (MayTake (state_after kept.history) step × Comes old rest (committed step kept done) ending)
 
     abbrev Vague : Ending → Type 0
     Vague ending = IsRefusedFor IsStepFault done ending ⊎ Comes old rest done ending
@@ -310,11 +321,13 @@ module _ (start done : Progress) (state : State) (next : ℕ) (old : Before) (fi
         )
     refused_known kept is here (plain own) =
         let rested = (takes state here.rests).refused (λ e. absurd (cc)) own.no_disk in
-        let why = own.answers standard state step (subst (λ (limits : LimitNumbers). MayAnswer limits state step (Some fault)) head.limits (takes state here.rests).answer) in (
+        let why = own.answers standard state step (subst (λ (limits : LimitNumbers). MayAnswer limits state step (Some fault)) head.limits (takes state here.rests).answer) in
+        let need : IsOfNeed state step (Some fault) = λ writes. needed_here (limits_of before) before head.limits (Some fault) state step here.rests ((takes state here.rests).needs writes) in (
           at done (Some (flow_fault fault)),
           refl,
           inr (subst (λ (store : Standing). ByStore store (Known (at done (Some (flow_fault fault)))) (Vague (at done (Some (flow_fault fault))))) (sym is)
-              (inr (inl (fault, (own.step, subst (λ (state : State). OrFull standard (Some fault) (Refuses standard state step (Some fault))) (sym here.stands) why), refl)))),
+              (inr (inl (fault, (own.step, subst (λ (state : State). OrFull standard (Some fault) (Refuses standard state step (Some fault))) (sym here.stands) why,
+              subst (λ (state : State). IsOfNeed state step (Some fault)) (sym here.stands) need), refl)))),
           rested_leaves start done state next old files before now output head kept is here cause.later (Some (flow_fault fault)) rested.0.at_rest rested.1 (own.causeless old (world files (view_of now) output)),
         )
 

@@ -8,8 +8,9 @@ use Rattle.updater.specs.declared.fault.Fault.TheVariants.{Malformed, BadStyle, 
 use Rattle.osm_base.specs.bounds.Limits.{standard}
 use Rattle.page_journal.specs.declared.fault.StoreFault.TheVariants as stores
 use Rattle.update_flow.specs.History.{state_after}
+use Rattle.update_flow.specs.Needed.{FitsLimit, NeedsFrom, Writes}
 use Rattle.update_flow.specs.Refusals.{OrFull, Refuses}
-use Rattle.update_flow.specs.State.{State, Step}
+use Rattle.update_flow.specs.State.{State, Step, after}
 use Rattle.update_flow.specs.declared.fault.FlowFault.{FlowFault}
 use Rattle.update_flow.specs.declared.fault.FlowFault.TheVariants as flow
 use Rattle.updater.specs.Course.{Course, ends, refuses, reads, wants_empty, formats, opens, looks, commits, tells, writes}
@@ -84,9 +85,18 @@ IsStepFault flow.OutOfMemory = ⊥
 IsStepFault flow.OldFormat = ⊥
 IsStepFault _ = Unit {0}
 
+-- a step that writes is done where the pages that a store of this state needs after it are within the limit; a refusal for its
+-- pages tells just those
+abbrev pub IsOfNeed : State → Step → Option FlowFault → Type 0
+IsOfNeed state step fault = Writes state step → FitsLimit standard (NeedsFrom state (after state step)) fault
+
 -- and for which one of this state refuses it
 abbrev pub IsRefusal : State → Step → FlowFault → Type 0
-IsRefusal state step fault = IsStepFault fault × OrFull standard (Some fault) (Refuses standard state step (Some fault))
+IsRefusal state step fault = IsStepFault fault × OrFull standard (Some fault) (Refuses standard state step (Some fault)) × IsOfNeed state step (Some fault)
+
+-- or it is taken
+abbrev pub MayTake : State → Step → Type 0
+MayTake state step = Refuses standard state step None × IsOfNeed state step None
 
 -- the run ends in a step that is refused for such a fault
 abbrev pub IsRefusedFor : (FlowFault → Type 0) → Progress → Ending → Type 0
@@ -108,7 +118,7 @@ Comes old (opens rest) done ending = Breaks done ending ⊎ ByStore done.store
 Comes old (looks rest) done ending = Breaks done ending ⊎ IfUnknown done.store (IsRefusedFor IsStepFault done ending) ⊎ Comes old rest done ending
 Comes old (commits step rest) done ending = Breaks done ending ⊎ ByStore done.store
     (λ kept. (ending ≡ at (in_doubt step kept done) (Some DiskFault)) ⊎ IsRefusedFor (IsRefusal (state_after kept.history) step) done ending
-    ⊎ (Refuses standard (state_after kept.history) step None × Comes old rest (committed step kept done) ending))
+    ⊎ (MayTake (state_after kept.history) step × Comes old rest (committed step kept done) ending))
     (IsRefusedFor IsStepFault done ending ⊎ Comes old rest done ending)
 Comes old (tells text rest) done ending = (ending ≡ at_text text done WriteFault) ⊎ Comes old rest (plus text done) ending
 -- what files that are not told hold is not known, nor what an unknown store holds, and neither is their text
@@ -140,7 +150,7 @@ IsDue old (opens rest) done ending = ByStore done.store
     (IsNoStore old done ending ⊎ IsRefusedFor IsBadStore done ending ⊎ ((state : State) × IsDue old (rest state) done ending))
 IsDue old (looks rest) done ending = IfUnknown done.store (IsRefusedFor IsStepFault done ending) ⊎ IsDue old rest done ending
 IsDue old (commits step rest) done ending = ByStore done.store
-    (λ kept. IsRefusedFor (IsRefusal (state_after kept.history) step) done ending ⊎ (Refuses standard (state_after kept.history) step None × IsDue old rest (committed step kept done) ending))
+    (λ kept. IsRefusedFor (IsRefusal (state_after kept.history) step) done ending ⊎ (MayTake (state_after kept.history) step × IsDue old rest (committed step kept done) ending))
     (IsRefusedFor IsStepFault done ending ⊎ IsDue old rest done ending)
 IsDue old (tells text rest) done ending = IsDue old rest (plus text done) ending
 IsDue old (writes Fits rest) done ending =
