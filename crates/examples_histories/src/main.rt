@@ -1,14 +1,19 @@
-//! Runs random histories of a small map through stores, and prints the name of each row up to the first that differs.
+//! Runs random histories of a small map through stores, and single steps of stores, and prints the name of each row up to the first that
+//! differs.
 //!
-//! After each change the tables of the store are those of a fresh import of all objects, the delta leads to them, and the tiles that are due
-//! are those that a row that differs meets. The head of `histories.txt` says how the rows are written.
+//! After each change of a history the tables of the store are those of a fresh import of all objects, the delta leads to them, and the tiles
+//! that are due are those that a row that differs meets. The heads of `histories.txt` and `steps.txt` say how the rows are written.
 #![tactic(auto)]
 
+mod bounded;
+mod counted;
+mod crashed;
 mod dice;
 mod differing;
 mod end;
 mod history;
 mod setting;
+mod step;
 mod stores;
 mod world;
 
@@ -23,6 +28,12 @@ fn main(rt: HostRuntime) -> io::Result<ExitCode> {
     let table = fs::read_to_string(&rt, "histories.txt")?;
     for line in table.lines() {
         if !passes(&rt, line)? {
+            return Ok(ExitCode::from(1));
+        }
+    }
+    let table = fs::read_to_string(&rt, "steps.txt")?;
+    for line in table.lines() {
+        if !step::passes(&rt, line)? {
             return Ok(ExitCode::from(1));
         }
     }

@@ -32,6 +32,15 @@ pub fn entries_of(alloc: Global, text: &str) -> Result<Change, End> {
     }
 }
 
+/// A disk with a store that was only made.
+pub fn formatted(alloc: Global) -> Result<MemDisk, End> {
+    let mut disk = MemDisk::new(alloc, Bytes::new(alloc), Fails::new(Ids::new(alloc), 0));
+    match format(&mut disk) {
+        Ok(()) => Ok(disk),
+        Err(fault) => Err(End::Differs(format!(in alloc; "format: {fault}")?)),
+    }
+}
+
 /// A disk with a fresh import of these objects.
 pub fn imported<R: Threads + Sync>(
     rt: &R,
@@ -40,10 +49,7 @@ pub fn imported<R: Threads + Sync>(
     text: &str,
 ) -> Result<MemDisk, End> {
     let change = entries_of(alloc, text)?;
-    let mut disk = MemDisk::new(alloc, Bytes::new(alloc), Fails::new(Ids::new(alloc), 0));
-    if let Err(fault) = format(&mut disk) {
-        return Err(End::Differs(format!(in alloc; "format: {fault}")?));
-    }
+    let mut disk = formatted(alloc)?;
     let limits = Limits::standard();
     let opened = match open(alloc, &mut disk, &limits) {
         Ok(opened) => opened,
