@@ -11,11 +11,17 @@ pub fn ids(alloc: Global, bytes: &[u8]) -> Result<Option<String>, OutOfMemory> {
     match read_ids(alloc, bytes) {
         Ok(ids) => {
             let again = ids_bytes(alloc, ids.as_slice())?;
-            let mut text = String::new(alloc);
-            push_numbers(alloc, &mut text, ids.as_slice())?;
+            let text = ids_text(alloc, ids.as_slice())?;
             told(alloc, text, bytes, again.as_slice())
         }
         Err(ValueFault::NotSpelled) => none(alloc),
         Err(ValueFault::OutOfMemory) => Err(OutOfMemory),
     }
+}
+
+/// Ids, as a row says them.
+pub fn ids_text(alloc: Global, ids: &[u64]) -> Result<String, OutOfMemory> {
+    let mut text = String::new(alloc);
+    push_numbers(alloc, &mut text, ids)?;
+    Ok(text)
 }

@@ -3,10 +3,12 @@
 //! The head of `values.txt` says what its columns are, and where what is wanted comes from.
 #![tactic(auto)]
 
+mod calls;
 mod hex;
 mod lists;
 mod objects;
 mod rows;
+mod typed;
 
 use example_table::{Examples, run_examples};
 use osm_base::OutOfMemory;
@@ -26,6 +28,7 @@ impl Examples for OfValues {
 
     fn answer_of(alloc: Global, kind: &str, given: &str) -> Result<Option<String>, OutOfMemory> {
         match kind {
+            "calls" => calls::calls(alloc, given),
             "cut" => cut(alloc, given),
             _ => match hex::bytes_of(alloc, given)? {
                 Some(bytes) => value(alloc, kind, &bytes),

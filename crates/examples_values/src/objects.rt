@@ -25,9 +25,7 @@ pub fn place(alloc: Global, bytes: &[u8]) -> Result<Option<String>, OutOfMemory>
     match read_old(alloc, bytes) {
         Ok(place) => {
             let again = bytes_of(alloc, &place)?;
-            let mut text = String::new(alloc);
-            push_place(alloc, &mut text, place)?;
-            told(alloc, text, bytes, again.as_slice())
+            told(alloc, place_text(alloc, place)?, bytes, again.as_slice())
         }
         Err(ValueFault::NotSpelled) => none(alloc),
         Err(ValueFault::OutOfMemory) => Err(OutOfMemory),
@@ -65,8 +63,15 @@ fn object_told(
     told(alloc, object_text(alloc, object)?, bytes, again.as_slice())
 }
 
+/// A place or none, as a row says it.
+pub fn place_text(alloc: Global, place: Option<Place>) -> Result<String, OutOfMemory> {
+    let mut text = String::new(alloc);
+    push_place(alloc, &mut text, place)?;
+    Ok(text)
+}
+
 /// A record, as a row says it.
-fn record_text(alloc: Global, record: &NodeRecord) -> Result<String, OutOfMemory> {
+pub fn record_text(alloc: Global, record: &NodeRecord) -> Result<String, OutOfMemory> {
     let mut text = String::new(alloc);
     push_place(alloc, &mut text, record.place)?;
     match &record.tags {
@@ -77,7 +82,7 @@ fn record_text(alloc: Global, record: &NodeRecord) -> Result<String, OutOfMemory
 }
 
 /// An object, as a row says it.
-fn object_text(alloc: Global, object: &Object) -> Result<String, OutOfMemory> {
+pub fn object_text(alloc: Global, object: &Object) -> Result<String, OutOfMemory> {
     let mut text = String::new(alloc);
     match object {
         Object::Node { place, tags } => {

@@ -1,6 +1,6 @@
 //! Rows, as rows of the table tell them.
 use crate::hex::{none, told};
-use osm_base::{Cell, OutOfMemory, Row};
+use osm_base::{Cell, OutOfMemory, Row, TableRows};
 use row_store::{read_row, read_rows, row_bytes, rows_bytes};
 use row_text::push_geometry;
 use std::alloc::Global;
@@ -12,7 +12,7 @@ const STYLE: &str =
     "[[table]]\nname = \"none\"\nsource = \"node\"\ngeometry = \"point\"\n[[table]]\nname = \"one\"\nsource = \"node\"\ngeometry = \"point\"\ncolumn = [{ name = \"a\", from = \"tag:a\" }]\n[[table]]\nname = \"two\"\nsource = \"node\"\ngeometry = \"point\"\ncolumn = [{ name = \"a\", from = \"tag:a\" }, { name = \"b\", from = \"tag:b\", type = \"int\" }]\n";
 
 /// That style. `None`: it is none.
-fn style(alloc: Global) -> Result<Option<Style>, OutOfMemory> {
+pub fn style(alloc: Global) -> Result<Option<Style>, OutOfMemory> {
     match read_style(alloc, STYLE.as_bytes()) {
         Ok(style) => Ok(Some(style)),
         Err(StyleFault::Bad { .. }) => Ok(None),
@@ -46,22 +46,22 @@ pub fn rows(alloc: Global, bytes: &[u8]) -> Result<Option<String>, OutOfMemory> 
     match read_rows(alloc, &style, bytes) {
         Ok(rows) => {
             let again = rows_bytes(alloc, &style, &rows)?;
-            let mut text = String::new(alloc);
-            for row in rows.as_slice() {
-                text.push_str(&format!(in alloc; "{}: ", row.table)?)?;
-                text.push_str(&row_told(alloc, &row.row)?)?;
-                text.push_str("; ")?;
-            }
-            told(
-                alloc,
-                String::from_str(alloc, text.trim_end())?,
-                bytes,
-                again.as_slice(),
-            )
+            told(alloc, rows_text(alloc, &rows)?, bytes, again.as_slice())
         }
         Err(ValueFault::NotSpelled) => none(alloc),
         Err(ValueFault::OutOfMemory) => Err(OutOfMemory),
     }
+}
+
+/// The rows of an object, as a row of the table says them.
+pub fn rows_text(alloc: Global, rows: &TableRows) -> Result<String, OutOfMemory> {
+    let mut text = String::new(alloc);
+    for row in rows.as_slice() {
+        text.push_str(&format!(in alloc; "{}: ", row.table)?)?;
+        text.push_str(&row_told(alloc, &row.row)?)?;
+        text.push_str("; ")?;
+    }
+    Ok(String::from_str(alloc, text.trim_end())?)
 }
 
 /// A row, as a row of the table says it.

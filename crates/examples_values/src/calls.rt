@@ -1,0 +1,201 @@
+//! Calls on a store that keeps values, as rows of the table tell them.
+ghost use Rattle.std.specs.Prelude.{◌≡◌, ◌≤◌, ◌<◌, false, IfSome, OnOk};
+ghost use Rattle.bucket_store.specs.Buckets.{bucket_count};
+ghost use Rattle.bucket_store.specs.Transaction.{chains_of, has_refused};
+
+use crate::hex;
+use crate::lists::ids_text;
+use crate::typed::{on_node, on_object, rows_got, rows_put, rows_removed};
+use back_index::listers;
+use bucket_store::{Buckets, open};
+use example_table::{number_of, row_of};
+use osm_base::{Bytes, Key, Kind, Limits, MAX_ID, OutOfMemory};
+use outside::{Fails, MemDisk};
+use page_journal::{StoreFault, format};
+use std::alloc::Global;
+
+/// How many buckets the store of a row has.
+const BUCKETS: u64 = 16;
+
+/// What the calls of a row answer, one after another, in a store that was just made. The first refusal is the last answer.
+pub fn calls(alloc: Global, given: &str) -> Result<Option<String>, OutOfMemory> {
+    let mut disk = MemDisk::new(alloc, Bytes::new(alloc), Fails::never(alloc));
+    let limits = Limits::standard();
+    if format(&mut disk).is_err() {
+        return Ok(None);
+    }
+    let Ok(opened) = open(alloc, &mut disk, &limits) else {
+        return Ok(None);
+    };
+    let mut buckets = Buckets::on(alloc, &mut disk, &limits, opened);
+    if buckets.root().buckets != 0 || !BUCKETS.is_power_of_two() {
+        return Ok(None);
+    }
+    buckets.set_buckets(BUCKETS);
+    let answers = answers_of(alloc, &mut buckets, given);
+    let mut kept = None;
+    let _disk = buckets.hand_back(&mut kept);
+    answers
+}
+
+// The answers of the calls. `None`: one of them is none.
+fn answers_of(
+    alloc: Global,
+    buckets: &mut Buckets<'_, MemDisk>,
+    given: &str,
+) -> Result<Option<String>, OutOfMemory>
+    requires { has_refused buckets.old ≡ false }
+{
+    let mut answers = String::new(alloc);
+    for call in given.split(';') {
+        if buckets.root().buckets == 0 {
+            return Ok(None);
+        }
+        match answer_of(alloc, buckets, call) {
+            Ok(Some(answer)) => push_answer(&mut answers, answer.as_str())?,
+            Ok(None) => return Ok(None),
+            Err(StoreFault::OutOfMemory) => return Err(OutOfMemory),
+            Err(fault) => {
+                let told = format!(in alloc; "{fault}")?;
+                push_answer(&mut answers, told.as_str())?;
+                break;
+            }
+        }
+    }
+    Ok(Some(answers))
+}
+
+// Puts an answer behind the others.
+fn push_answer(answers: &mut String, answer: &str) -> Result<(), OutOfMemory> {
+    if !answers.is_empty() {
+        answers.push_str("; ")?;
+    }
+    answers.push_str(if answer.is_empty() { "-" } else { answer })?;
+    Ok(())
+}
+
+// What a call answers. `None`: there is no such call.
+fn answer_of(
+    alloc: Global,
+    buckets: &mut Buckets<'_, MemDisk>,
+    call: &str,
+) -> Result<Option<String>, StoreFault>
+    requires some { 1 ≤ bucket_count (chains_of buckets.old) }
+    requires going { has_refused buckets.old ≡ false }
+    ensures { OnOk result (has_refused buckets.new ≡ false) }
+{
+    let (word, text) = row_of(call).unwrap_or((call, ""));
+    match word {
+        "commit" => match buckets.commit() {
+            Ok(()) => ok(alloc),
+            Err(fault) => Err(fault),
+        },
+        "raw" => raw(alloc, buckets, text),
+        "listers" => listed(alloc, buckets, text),
+        _ => on_key(alloc, buckets, word, text),
+    }
+}
+
+// What a call on a key answers.
+fn on_key(
+    alloc: Global,
+    buckets: &mut Buckets<'_, MemDisk>,
+    word: &str,
+    text: &str,
+) -> Result<Option<String>, StoreFault>
+    requires some { 1 ≤ bucket_count (chains_of buckets.old) }
+    requires going { has_refused buckets.old ≡ false }
+    ensures { OnOk result (has_refused buckets.new ≡ false) }
+{
+    let Some((key, digits)) = key_of(text) else {
+        return Ok(None);
+    };
+    let Some(bytes) = hex::bytes_of(alloc, digits)? else {
+        return Ok(None);
+    };
+    match word {
+        "rows" => rows_got(alloc, buckets, key),
+        "put_rows" => rows_put(alloc, buckets, key, &bytes),
+        "remove_rows" => rows_removed(alloc, buckets, key),
+        _ => match key.kind {
+            Kind::Node => on_node(alloc, buckets, word, key.id, &bytes),
+            Kind::Way | Kind::Relation => on_object(alloc, buckets, word, key, &bytes),
+        },
+    }
+}
+
+// Sets the bytes of a key of a map, whatever they are: `MAP KEY BYTES`.
+fn raw(
+    alloc: Global,
+    buckets: &mut Buckets<'_, MemDisk>,
+    text: &str,
+) -> Result<Option<String>, StoreFault>
+    requires some { 1 ≤ bucket_count (chains_of buckets.old) }
+    requires going { has_refused buckets.old ≡ false }
+    ensures { OnOk result (has_refused buckets.new ≡ false) }
+{
+    let Some((which, key, digits)) = place_of(text) else {
+        return Ok(None);
+    };
+    let Some(bytes) = hex::bytes_of(alloc, digits)? else {
+        return Ok(None);
+    };
+    match buckets.put(which, key, &bytes) {
+        Ok(()) => ok(alloc),
+        Err(fault) => Err(fault),
+    }
+}
+
+// Those that a list of the index has: `MAP KEY`.
+fn listed(
+    alloc: Global,
+    buckets: &mut Buckets<'_, MemDisk>,
+    text: &str,
+) -> Result<Option<String>, StoreFault>
+    requires some { 1 ≤ bucket_count (chains_of buckets.old) }
+    requires going { has_refused buckets.old ≡ false }
+    ensures { OnOk result (has_refused buckets.new ≡ false) }
+{
+    let Some((which, key, _)) = place_of(text) else {
+        return Ok(None);
+    };
+    match listers(alloc, buckets, which, key) {
+        Ok(ids) => Ok(Some(ids_text(alloc, ids.as_slice())?)),
+        Err(fault) => Err(fault),
+    }
+}
+
+/// What a call answers that only does what it is asked for.
+pub fn ok(alloc: Global) -> Result<Option<String>, StoreFault> {
+    Ok(Some(String::from_str(alloc, "ok")?))
+}
+
+// A map, a key of it, and the text behind them. `None`: there is no such map.
+fn place_of(text: &str) -> Option<(u8, u64, &str)>
+    ensures { IfSome result (λ found. found.0 < 8) }
+{
+    let (which, behind) = row_of(text)?;
+    let (key, rest) = row_of(behind)?;
+    let which = u8::try_from(number_of(which)?).ok()?;
+    if which >= 8 {
+        return None;
+    }
+    Some((which, number_of(key)?, rest))
+}
+
+// A kind's letter and an id, and the text behind them.
+fn key_of(text: &str) -> Option<(Key, &str)> {
+    let (letter, behind) = row_of(text)?;
+    let (id, rest) = row_of(behind)?;
+    let id = number_of(id)?;
+    if id == 0 || id > MAX_ID {
+        return None;
+    }
+    let kind = match letter {
+        "n" => Kind::Node,
+        "w" => Kind::Way,
+        "r" => Kind::Relation,
+        _ => return None,
+    };
+    Some((Key::new(kind, id), rest))
+}
