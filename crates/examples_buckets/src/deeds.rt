@@ -3,7 +3,8 @@ ghost use Rattle.std.specs.Prelude.{◌≡◌, ◌<◌, false, IfSome, OnOk};
 ghost use Rattle.bucket_store.specs.Transaction.{has_refused};
 
 use crate::changing::{fields, give, put, remove, settle};
-use crate::looking::{get, listed, load, root_text};
+use crate::looking::{get, listed, load, root_text, whole};
+use crate::pages::{free, home, pages_of};
 use bucket_store::Buckets;
 use example_table::{number_of, row_of};
 use outside::MemDisk;
@@ -23,6 +24,10 @@ pub fn answer_of(
     match word {
         "get" => get(alloc, buckets, text),
         "records" => listed(alloc, buckets, text),
+        "whole" => whole(alloc, buckets, text),
+        "pages_of" => pages_of(alloc, buckets, text),
+        "free" => free(alloc, buckets),
+        "home" => home(alloc, buckets),
         "load" => load(alloc, buckets, text),
         "root" => root_text(alloc, buckets),
         "put" => put(alloc, buckets, text),
@@ -39,16 +44,24 @@ pub fn none(alloc: Global) -> Result<String, StoreFault> {
     Ok(String::from_str(alloc, "no deed")?)
 }
 
-/// A map, a key of it, and the text behind them. `None`: there is no such map.
-pub fn key_of(text: &str) -> Option<(u8, u64, &str)>
+/// A map, and the text behind it. `None`: there is no such map.
+pub fn map_of(text: &str) -> Option<(u8, &str)>
     ensures { IfSome result (λ found. found.0 < 8) }
 {
-    let (which, behind) = row_of(text)?;
-    let (key, rest) = row_of(behind)?;
+    let (which, rest) = row_of(text)?;
     let which = u8::try_from(number_of(which)?).ok()?;
     if which >= 8 {
         return None;
     }
+    Some((which, rest))
+}
+
+/// A map, a key of it, and the text behind them. `None`: there is no such map.
+pub fn key_of(text: &str) -> Option<(u8, u64, &str)>
+    ensures { IfSome result (λ found. found.0 < 8) }
+{
+    let (which, behind) = map_of(text)?;
+    let (key, rest) = row_of(behind)?;
     Some((which, number_of(key)?, rest))
 }
 

@@ -2,8 +2,9 @@
 ghost use Rattle.std.specs.Prelude.{◌≡◌, false, OnOk};
 ghost use Rattle.bucket_store.specs.Transaction.{has_refused};
 
-use crate::deeds::{key_of, none, string_of};
-use bucket_store::Buckets;
+use crate::deeds::{key_of, map_of, none, string_of};
+use bucket_store::{Buckets, WholeMap};
+use example_table::number_of;
 use osm_base::Bytes;
 use outside::MemDisk;
 use page_journal::StoreFault;
@@ -52,6 +53,27 @@ pub fn listed(
     }
 }
 
+/// The values that a map has for some keys, told by the whole map.
+pub fn whole(
+    alloc: Global,
+    buckets: &mut Buckets<'_, MemDisk>,
+    text: &str,
+) -> Result<String, StoreFault>
+    requires { has_refused buckets.old ≡ false }
+    ensures { OnOk result (has_refused buckets.new ≡ false) }
+{
+    let Some((which, keys)) = map_of(text) else {
+        return none(alloc);
+    };
+    if buckets.root().buckets == 0 {
+        return none(alloc);
+    }
+    match buckets.whole(which) {
+        Ok(whole) => values_text(alloc, &whole, keys),
+        Err(fault) => Err(fault),
+    }
+}
+
 /// The text of a string.
 pub fn load(
     alloc: Global,
@@ -80,6 +102,29 @@ pub fn root_text(alloc: Global, buckets: &mut Buckets<'_, MemDisk>) -> Result<St
         "{} {} {} {}",
         root.format, root.state, root.changes, root.buckets
     )?)
+}
+
+// The value of each key, or `none`.
+fn values_text(alloc: Global, whole: &WholeMap, keys: &str) -> Result<String, StoreFault> {
+    let mut text = String::new(alloc);
+    for key in keys.split(' ') {
+        if !text.is_empty() {
+            text.push_str(" ")?;
+        }
+        match number_of(key) {
+            Some(key) => text.push_str(found_text(alloc, whole.get(key))?.as_str())?,
+            None => text.push_str("no key")?,
+        }
+    }
+    Ok(text)
+}
+
+// The value, or `none`.
+fn found_text(alloc: Global, found: Option<&[u8]>) -> Result<String, StoreFault> {
+    match found {
+        Some(value) => value_text(alloc, value),
+        None => Ok(String::from_str(alloc, "none")?),
+    }
 }
 
 // Each key and its value.

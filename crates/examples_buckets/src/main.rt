@@ -7,16 +7,20 @@
 mod changing;
 mod deeds;
 mod looking;
+mod pages;
 mod transaction;
 
 use example_table::{is_told, number_of, refuse_row, row_of, sides_of};
 use osm_base::{Bytes, Ids};
-use outside::{Fails, MemDisk};
+use outside::{Disk, Fails, MemDisk};
 use page_journal::format;
 use std::alloc::{AllocError, Global};
 use std::process::ExitCode;
 use std::{fs, io};
 use transaction::transaction;
+
+/// Behind the last place that a row may put bytes at.
+const MOST: u64 = 1 << 20;
 
 /// An example as far as it has come.
 #[derive(Drop)]
@@ -103,10 +107,36 @@ fn answer_of(
             Ok(Some(text))
         }
         "pages" => Ok(Some(pages_text(alloc, disk.bytes())?)),
+        "at" => overwritten(alloc, disk, deeds),
         "look" => Ok(Some(transaction(alloc, disk, deeds, false)?)),
         "commit" => Ok(Some(transaction(alloc, disk, deeds, true)?)),
         _ => Ok(None),
     }
+}
+
+/// Puts these bytes on the disk, from a place on.
+fn overwritten(
+    alloc: Global,
+    disk: &mut MemDisk,
+    text: &str,
+) -> Result<Option<String>, AllocError> {
+    let (place, behind) = row_of(text).unwrap_or((text, ""));
+    let mut bytes = Vec::new(alloc);
+    for field in behind.split(' ') {
+        match field.parse::<u8>() {
+            Ok(byte) => bytes.push(byte)?,
+            Err(_) => return Ok(None),
+        }
+    }
+    let place = number_of(place).unwrap_or(MOST);
+    if place >= MOST || bytes.len() as u64 >= MOST {
+        return Ok(None);
+    }
+    let word = match disk.write_at(place, &bytes) {
+        Ok(()) => "ok",
+        Err(_) => "disk fault",
+    };
+    Ok(Some(String::from_str(alloc, word)?))
 }
 
 /// How many home pages the root page tells.
