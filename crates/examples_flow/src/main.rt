@@ -6,6 +6,7 @@
 #![tactic(auto)]
 
 mod calling;
+mod crashing;
 mod deeds;
 mod opening;
 
@@ -27,6 +28,7 @@ impl Examples for OfStores {
     fn answer_of(alloc: Global, kind: &str, given: &str) -> Result<Option<String>, AllocError> {
         match kind {
             "opened" => opening::opened(alloc, given),
+            "crashed" => crashing::crashed(alloc, given),
             _ => calling::called(alloc, kind, given),
         }
     }
