@@ -6,6 +6,9 @@ use crate::{Spelled, ValueFault};
 use osm_base::{Bytes, Items, OutOfMemory};
 use std::alloc::Global;
 
+// Most values are of no more bytes than this: they take memory once.
+const ROOM: usize = 64;
+
 /// The value with these bytes.
 pub fn read_whole<T: Spelled>(alloc: Global, bytes: &[u8]) -> Result<T, ValueFault>
     ensures value { IfOk result (Spells T.spell T.is bytes.now) }
@@ -26,7 +29,7 @@ pub fn bytes_of<T: Spelled>(alloc: Global, value: &T) -> Result<Bytes, OutOfMemo
     ensures bytes { IfOk result (λ bytes. bytes ≡ T.spell value.now) }
     ensures is { OnOk result (T.is value.now) }
 {
-    let mut out = Vec::new(alloc);
+    let mut out = Vec::with_capacity(alloc, ROOM)?;
     value.push_to(&mut out)?;
     Ok(Items::from_vec(out))
 }
