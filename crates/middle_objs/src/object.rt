@@ -30,9 +30,19 @@ pub fn object_bytes(alloc: Global, kind: Kind, object: &Object) -> Result<Bytes,
     ensures bytes { IfOk result (λ bytes. bytes ≡ object_bytes object.now) }
     ensures is { OnOk result (IsStored kind object.now) }
 {
-    let mut out = Vec::new(alloc);
+    let mut out = Vec::with_capacity(alloc, room(object))?;
     push_object(&mut out, kind, object)?;
     Ok(Items::from_vec(out))
+}
+
+/// About how many bytes a way or a relation takes: most take memory once.
+fn room(object: &Object) -> usize {
+    let (listed, each) = match object {
+        Object::Node { .. } => (0, 0),
+        Object::Way { nodes, .. } => (nodes.as_slice().len(), 8),
+        Object::Relation { members, .. } => (members.as_slice().len(), 24),
+    };
+    listed.saturating_mul(each).saturating_add(64)
 }
 
 /// Puts the bytes of a way or a relation behind those that are there.
