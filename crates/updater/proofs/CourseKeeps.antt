@@ -1,9 +1,7 @@
 -- What a store keeps through a course, and how many of its steps are told then.
 use Rattle.std.proofs.Common.{◌≡◌, ◌≢◌, ◌≤◌, ◌+◌, ◌-◌, ◌⊎◌, ℕ, Option, Some, None, List, [], ◌∷◌, ◌++◌, length, Result, ⊎_elim, inl, inr, refl, sym, ◌∙◌, ap, subst, arith}
 use Rattle.std.proofs.lemmas.List.{append-nil, length-take-le}
-use Rattle.osm_base.specs.bounds.Limits.{standard}
 use Rattle.update_flow.specs.History.{History, state_after}
-use Rattle.update_flow.specs.Refusals.{Refuses}
 use Rattle.update_flow.specs.State.{State, Step}
 use Rattle.updater.specs.declared.fault.Fault.{Fault}
 use Rattle.updater.specs.declared.fault.Fault.TheVariants as faults

@@ -1,11 +1,9 @@
 -- What holds of every course.
-use Rattle.std.proofs.Common.{◌≡◌, ◌≤◌, ℕ, Some, None, List, Result, Err, ⊎_elim, inl, inr, refl, sym, subst, ◌⊎◌}
+use Rattle.std.proofs.Common.{◌≡◌, ◌≤◌, ℕ, Some, List, Result, Err, ⊎_elim, inl, inr, refl, sym, subst, ◌⊎◌}
 use Rattle.outside.specs.Bytes.{IfTold}
 use Rattle.updater.specs.declared.fault.Fault.{Fault}
 use Rattle.updater.specs.declared.fault.Fault.TheVariants as faults
-use Rattle.osm_base.specs.bounds.Limits.{standard}
 use Rattle.update_flow.specs.History.{state_after}
-use Rattle.update_flow.specs.Refusals.{Refuses}
 use Rattle.update_flow.specs.State.{State}
 use Rattle.updater.specs.Comes.{Breaks, BreaksIn, ByStore, Comes, HoldsBytes, IfUnknown, IfUnused, IsBadStore, IsDue, IsNoStore, IsOfFile, IsOutside, IsRefusal, IsRefusedFor, IsStepFault, MayTake, refused, short, unread}
 use Rattle.updater.specs.Course.{Course, ends, refuses, reads, wants_empty, formats, opens, looks, commits, tells, writes}

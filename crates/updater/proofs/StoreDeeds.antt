@@ -326,8 +326,15 @@ module _ (start done : Progress) (state : State) (next : ℕ) (old : Before) (fi
           at done (Some (flow_fault fault)),
           refl,
           inr (subst (λ (store : Standing). ByStore store (Known (at done (Some (flow_fault fault)))) (Vague (at done (Some (flow_fault fault))))) (sym is)
-              (inr (inl (fault, (own.step, subst (λ (state : State). OrFull standard (Some fault) (Refuses standard state step (Some fault))) (sym here.stands) why,
-              subst (λ (state : State). IsOfNeed state step (Some fault)) (sym here.stands) need), refl)))),
+              (inr (inl (
+                fault,
+                (
+                  own.step,
+                  subst (λ (state : State). OrFull standard (Some fault) (Refuses standard state step (Some fault))) (sym here.stands) why,
+                  subst (λ (state : State). IsOfNeed state step (Some fault)) (sym here.stands) need,
+                ),
+                refl,
+              )))),
           rested_leaves start done state next old files before now output head kept is here cause.later (Some (flow_fault fault)) rested.0.at_rest rested.1 (own.causeless old (world files (view_of now) output)),
         )
 
