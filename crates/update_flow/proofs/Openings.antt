@@ -19,6 +19,7 @@ use Rattle.update_flow.specs.declared.fault.FlowFault.{FlowFault}
 use Rattle.update_flow.specs.declared.fault.FlowFault.TheVariants as flow
 use Rattle.style_read.specs.Reading.{reading}
 use Rattle.style_read.specs.Style.{StyleOf}
+use Rattle.row_map.specs.Condition.{reaches_nodes}
 use Rattle.update_flow.specs.AtRest.{IsAt, IsOfEither, Opens, OpensAs}
 use Rattle.update_flow.specs.Faults.{of_store}
 use Rattle.update_flow.specs.Opening.{Found, HoldsState}
@@ -253,10 +254,14 @@ found_of root view new found dated (Ok opened) same blank is changes old rest = 
       fits = own.1;
     }
 
-pub sound_of : (root : Root) (view : DiskView) (found : Opened) (fault : Option FlowFault) → root ≡ opened_root found → is_blank root ≡ false
-    → (Fits found view → (state : State) → HoldsState state view → was_imported state ≡ true → IsSound fault)
+pub sound_of : (root : Root) (view : DiskView) (found : Opened) (dated : Bool) (fault : Option FlowFault) → root ≡ opened_root found
+    → is_blank root ≡ false → dated ≡ is_old root
+    → (Fits found view → (state : State) → HoldsState state view → was_imported state ≡ true → was_old state ≡ dated → IsSound fault)
     → Fits found view → (state : State) → HoldsState state view → IsSound fault
-sound_of root view found fault same blank sound fits state holds = sound fits state holds (begun_state state view found root same blank fits holds)
+sound_of root view found dated fault same blank is sound fits state holds =
+    let are : root ≡ holds.image.root = same ∙ root_of state view found fits holds in
+    let old : dated ≡ was_old state = is ∙ ap (λ (r : Root). is_old r) are ∙ tells_old state holds.image holds.means in
+    sound fits state holds (begun_state state view found root same blank fits holds) (sym old)
 
 -- a disk that was only looked at held what it holds
 pub state_before : (state : State) (mid new : DiskView) (found : Opened) → Fits found mid → Stays mid new → IsAt state new → HoldsState state mid
@@ -289,6 +294,16 @@ style_one state image style means begun read =
     let good : reading (image.texts STYLE_TEXT) ≡ Ok own.0 = own.2 in
     let same : style ≡ own.0 = cc (read, good) in
     ap (λ (s : StyleOf). Some s) same ∙ own.1
+
+-- that of an old one does not reach nodes
+pub old_unreached : (state : State) (image : Image) (style : StyleOf) → Means state image → was_old state ≡ true
+    → reading (image.texts STYLE_TEXT) ≡ Ok style → reaches_nodes style ≡ false
+old_unreached formatted image style blank old read = absurd (cc (old))
+old_unreached (imported held) image style is old read = absurd (cc (old))
+old_unreached (outdated held) image style is old read =
+    let good : reading (image.texts STYLE_TEXT) ≡ Ok held.style = ap (λ (b : List ℕ). reading b) is.style_text ∙ is.style in
+    let same : style ≡ held.style = cc (read, good) in
+    ap (λ (s : StyleOf). reaches_nodes s) same ∙ is.maps.unreached
 
 -- no answer of a store that means a state is that it is bad
 pub bad_none : (T : Type 0) (result : Result T FlowFault) (page : ℕ) → IsErrOf result (flow.Store (store.BadStore page)) → IsSound (result_err result) → ⊥

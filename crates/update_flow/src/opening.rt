@@ -9,7 +9,7 @@ ghost use Rattle.page_journal.specs.declared.layout.TheConstants.{OPEN};
 ghost use Rattle.page_journal.specs.declared.fault.StoreFault.TheVariants.{BadStore, NotFormatted};
 ghost use Rattle.bucket_store.specs.Opening.{Fits};
 ghost use Rattle.update_flow.specs.AtRest.{HasFlowCause, IsAt, IsAtEither, Opens, OpensAs, StandsForNone};
-ghost use Rattle.update_flow.specs.State.{State, style_in, was_imported};
+ghost use Rattle.update_flow.specs.State.{State, style_in, was_imported, was_old};
 ghost use Rattle.update_flow.specs.Stands.{StandsFor};
 ghost use Rattle.update_flow.specs.Refusals.{IsNoDiskFault, IsOpenFault, MayFind};
 ghost use Rattle.update_flow.specs.Opening.{Found, HoldsState};
@@ -23,6 +23,7 @@ use crate::fields::{is_blank, is_imported, is_old};
 use crate::style_text::load_style;
 use crate::{FlowFault, Opened};
 use bucket_store::{Buckets, Opened as Stored};
+use dep_closure::reaches_nodes;
 use osm_base::Limits;
 use outside::Disk;
 use page_journal::StoreFault;
@@ -55,8 +56,8 @@ pub fn open<D: Disk>(alloc: Global, disk: &mut D, limits: &Limits) -> Result<Ope
     }
 }
 
-/// The state of a store of which this was read. `BadStore` comes with the root page where its fields are none of a
-/// store, or its style does not read.
+/// The state of a store of which this was read. `BadStore` comes with the root page where its fields are those of no
+/// store, or its style is that of none.
 fn judged<D: Disk>(
     alloc: Global,
     disk: &mut D,
@@ -89,7 +90,7 @@ fn judged<D: Disk>(
 }
 
 /// An imported store with so many changes, an old one or not, of which this was read. `BadStore` comes with the root page where its
-/// style does not read.
+/// style does not read, or where it reaches nodes and the store is an old one.
 fn with_style<D: Disk>(
     alloc: Global,
     disk: &mut D,
@@ -104,7 +105,7 @@ fn with_style<D: Disk>(
     ensures found { IfOk result (λ opened. Fits found (D.view disk.old) → (state : State) → HoldsState state (D.view disk.old)
         → was_imported state ≡ true → (opened.style ≡ style_in state) × Fits opened.store (D.view disk.new)) }
     ensures sound { Fits found (D.view disk.old) → (state : State) → HoldsState state (D.view disk.old) → was_imported state ≡ true
-        → IsSound (result_err result) }
+        → was_old state ≡ outdated → IsSound (result_err result) }
     ensures alone { IfErr result MayFind }
     ensures stays { Stays (D.view disk.old) (D.view disk.new) }
     ensures once { OnOk result ((state : State) → Fits found (D.view disk.old) → HoldsState state (D.view disk.old)
@@ -119,6 +120,9 @@ fn with_style<D: Disk>(
         Ok(style) => style,
         Err(fault) => return Err(fault),
     };
+    if outdated && reaches_nodes(&style) {
+        return Err(FlowFault::Store(StoreFault::BadStore { page: 1 }));
+    }
     match kept {
         Some(store) => Ok(Opened {
             store,

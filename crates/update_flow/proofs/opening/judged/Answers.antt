@@ -17,8 +17,8 @@ returns-clause-found g c =
 
 pub returns-clause-sound : goal.returns-clause-sound
 returns-clause-sound g c =
-    sound_of c.root-root.result (g.D.Disk.view c.args.disk.now) c.args.found (result_err c.with_style.result) c.root-root.ensures
-    (sym c.if-is_blank.ensures) c.with_style.ensures.sound
+    sound_of c.root-root.result (g.D.Disk.view c.args.disk.now) c.args.found c.is_old-outdated.result (result_err c.with_style.result)
+    c.root-root.ensures (sym c.if-is_blank.ensures) c.is_old-outdated.ensures c.with_style.ensures.sound
 
 pub returns-then-is_blank-clause-once : goal.returns-then-is_blank-clause-once
 returns-then-is_blank-clause-once g c = λ state fits holds. style_unread state (g.D.Disk.view c.args.disk.now) holds

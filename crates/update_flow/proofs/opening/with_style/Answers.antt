@@ -1,15 +1,17 @@
 -- The style is read over the disk, which comes back as it was.
-use Rattle.std.proofs.Common.{rules, Option, subst}
+use Rattle.std.proofs.Common.{◌≡◌, true, false, rules, Option, subst}
 use Rattle.std.specs.Prelude.{IfSome}
 use Rattle.chain_store.specs.Chains.{disk_of}
 use Rattle.bucket_store.specs.Image.{Image, RestsAt}
 use Rattle.bucket_store.specs.Opening.{Fits}
 use Rattle.bucket_store.specs.Transaction.{chains_of}
 use Rattle.bucket_store.specs.declared.opened.Opened.{Opened}
+use Rattle.row_map.specs.Condition.{reaches_nodes}
 use Rattle.update_flow.specs.OpeningReads.{ReadsStyle}
+use Rattle.update_flow.specs.State.{was_old}
 use Rattle.update_flow.proofs.OpeningReads.{style_over}
 use Rattle.update_flow.proofs.Looking.{found_styled}
-use Rattle.update_flow.proofs.Openings.{style_good}
+use Rattle.update_flow.proofs.Openings.{old_unreached, style_good}
 use Rattle.update_flow.proofs.opening.with_style.Goals as goal
 
 pub returns-clause-found : goal.returns-clause-found
@@ -25,9 +27,16 @@ returns-clause-found g c = λ before state holds begun.
     (own.0, search (rules, here))
 
 pub returns-in-Err-clause-sound : goal.returns-in-Err-clause-sound
-returns-in-Err-clause-sound g c = λ fits state holds begun.
+returns-in-Err-clause-sound g c = λ fits state holds begun old.
     let own = style_good state holds.image holds.means begun in
     c.in-Err.ensures.sound holds.image holds.image own.0 (c.on-buckets.ensures.has holds.image fits holds.holds) own.2
+
+pub returns-then-reaches_nodes-clause-sound : goal.returns-then-reaches_nodes-clause-sound
+returns-then-reaches_nodes-clause-sound g c = λ fits state holds begun old.
+    let read = c.in-Ok.ensures.style holds.image holds.image (c.on-buckets.ensures.has holds.image fits holds.holds) in
+    let dated : was_old state ≡ true = cc (old, c.if-outdated.true) in
+    let none : reaches_nodes c.in-Ok.style ≡ false = old_unreached state holds.image c.in-Ok.style holds.means dated read in
+    absurd (cc (none, c.if-reaches_nodes.true, c.reaches_nodes.ensures.reaches))
 
 pub returns-clause-once : goal.returns-clause-once
 returns-clause-once g c = λ state fits holds.
