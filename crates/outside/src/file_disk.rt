@@ -141,7 +141,8 @@ impl<R: Files<File = File> + Drop> FileDisk<'_, R> {
     {
         self.begin()?;
         let open = self.open.as_ref().ok_or(closed())?;
-        open.sync_all()?;
+        // The bytes and the length: when the file was last written may be lost.
+        open.sync_data()?;
         self.keep_name()
     }
 }
