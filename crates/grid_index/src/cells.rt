@@ -14,6 +14,13 @@ pub const MOST_CELLS: u64 = 64;
 /// The level of the part that is all the earth; each level below has parts of half the side, and level 0 has cells.
 pub const LAST_LEVEL: u32 = 11;
 
+/// The numbers that code and definitions share.
+pub fn shared_numbers()
+    ensures units { CELL_UNITS ≡ 4194304 }
+    ensures most { MOST_CELLS ≡ 64 }
+    ensures last { LAST_LEVEL ≡ 11 }
+{}
+
 /// The columns and rows of cells that a box has, counted from the south west corner of the earth.
 #[derive(Clone, Copy)]
 pub(crate) struct Cells {

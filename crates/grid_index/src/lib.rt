@@ -15,5 +15,5 @@ mod marks;
 mod search;
 mod tree;
 
-pub use cells::{CELL_UNITS, LAST_LEVEL, MOST_CELLS};
+pub use cells::{CELL_UNITS, LAST_LEVEL, MOST_CELLS, shared_numbers};
 pub use grid::Grid;
