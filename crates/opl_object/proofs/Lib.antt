@@ -26,6 +26,8 @@ pub mod SpelledTags
 pub mod SpelledTexts
 pub mod Steps
 pub mod Units
+pub mod UsualNodes
+pub mod UsualTags
 pub mod Writable
 pub mod WrittenLines
 pub mod WrittenNumbers

@@ -1,7 +1,7 @@
 //! The node references of a way.
-ghost use Rattle.std.specs.Prelude.{◌≡◌, ◌≤◌, ℕ, [], IfOk};
+ghost use Rattle.std.specs.Prelude.{◌≡◌, ◌<◌, ◌≤◌, ℕ, [], ◌∷◌, Ok, IfOk, IfSome, length};
 ghost use Rattle.std.specs.List.{slice_split};
-ghost use Rattle.opl_object.specs.Fields.{is};
+ghost use Rattle.opl_object.specs.Fields.{is, later_pieces};
 ghost use Rattle.osm_base.specs.values.Key.{IsId};
 ghost use Rattle.opl_object.specs.Nodes.{numbered, placed, place_pair, node_of, with_node, nodes_of};
 ghost use Rattle.opl_object.specs.Why.{Gives, Tells, each_piece};
@@ -38,11 +38,36 @@ fn nodes_between(alloc: Global, usual: bool, text: &str) -> Result<Vec<u64>, Lin
     let mut nodes = Vec::with_capacity(alloc, pieces(text))?;
     let mut left = Some(text);
     while let Some(text) = left {
+        if let Some((id, _, later)) = usual_node(usual, text) {
+            nodes.push(id)?;
+            left = later;
+            continue;
+        }
         let (piece, later) = cut(text, COMMA);
         nodes.push(node_of(usual, piece)?)?;
         left = later;
     }
     Ok(nodes)
+}
+
+/// The id of a node reference without a place in front of a text, its digits, and what stands behind their comma.
+fn usual_node(usual: bool, text: &str) -> Option<(u64, &str, Option<&str>)>
+    ensures pieces { IfSome result (λ (_, digits, later). slice_split (is COMMA) text.now
+        ≡ (SMALL_N ∷ digits.now) ∷ later_pieces (is COMMA) (option_map (λ rest. rest.now) later)) }
+    ensures node { IfSome result (λ (id, digits, _). node_of (SMALL_N ∷ digits.now) ≡ Ok id) }
+    ensures shorter { IfSome result (λ (_, _, later). IfSome later (λ rest. length rest.now < length text.now)) }
+{
+    if !usual {
+        return None;
+    }
+    let rest = behind(text, SMALL_N)?;
+    let (id, len) = usual_id(rest.as_bytes())?;
+    let (digits, rest) = rest.split_at(len);
+    if rest.is_empty() {
+        return Some((id, digits, None));
+    }
+    let later = behind(rest, COMMA)?;
+    Some((id, digits, Some(later)))
 }
 
 /// The id of a node reference.

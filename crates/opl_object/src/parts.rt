@@ -78,7 +78,7 @@ impl Parts {
             Letter::Visible => Ok(self.add_visible(value)?),
             Letter::User => Ok(check_text(value)?),
             Letter::Tags => {
-                self.tags = tags_of(alloc, value)?;
+                self.tags = tags_of(alloc, usual, value)?;
                 Ok(())
             }
             Letter::Lon => Ok(self.add_lon(value)?),

@@ -9,7 +9,7 @@ ghost use Rattle.opl_object.specs.Why.{Gives, each_piece};
 use crate::ascii::COMMA;
 use crate::fields::{cut, pieces};
 use crate::mixed::{add_mixed, are_mixed};
-use crate::tag::add_piece;
+use crate::tag::{add_piece, usual_tag};
 use crate::{LineRefused, Why};
 use osm_base::{OutOfMemory, TagList, Tags};
 use std::alloc::Global;
@@ -19,21 +19,21 @@ const LONG: usize = 4096;
 
 /// The tags of a value.
 #[tactic(auto, unfolding(crate::specs::Tags::tags_of))]
-pub(crate) fn tags_of(alloc: Global, text: &str) -> Result<Tags, LineRefused>
+pub(crate) fn tags_of(alloc: Global, usual: bool, text: &str) -> Result<Tags, LineRefused>
     ensures tags { Gives (λ tags. tags) result (tags_of text.now) }
 {
     if text.is_empty() {
         return Ok(Tags::new(alloc));
     }
-    tags_between(alloc, text)
+    tags_between(alloc, usual, text)
 }
 
 /// The tags of the pieces between commas.
-fn tags_between(alloc: Global, text: &str) -> Result<Tags, LineRefused>
+fn tags_between(alloc: Global, usual: bool, text: &str) -> Result<Tags, LineRefused>
     ensures tags { Gives (λ tags. tags) result (each_piece with_piece map.empty (slice_split (is COMMA) text.now)) }
 {
     let mut list = TagList::with_room(alloc, pieces(text), text.len())?;
-    let fault = add_pieces(alloc, &mut list, text)?;
+    let fault = add_pieces(alloc, &mut list, usual, text)?;
     // A key that stands twice stands before the piece that is no tag.
     let Some(tags) = list.into_tags() else {
         return Err(LineRefused::Bad(Why::RepeatedKey));
@@ -46,7 +46,12 @@ fn tags_between(alloc: Global, text: &str) -> Result<Tags, LineRefused>
 
 /// Adds the tags of the pieces between commas up to the first piece that is no tag, and answers why
 /// it is none.
-fn add_pieces(alloc: Global, list: &mut TagList, text: &str) -> Result<Option<Why>, OutOfMemory>
+fn add_pieces(
+    alloc: Global,
+    list: &mut TagList,
+    usual: bool,
+    text: &str,
+) -> Result<Option<Why>, OutOfMemory>
     requires { list.old ≡ [] }
     ensures tags { IfOk result (λ fault. each_piece with_piece map.empty (slice_split (is COMMA) text.now)
         ≡ gathered list.new fault) }
@@ -54,18 +59,28 @@ fn add_pieces(alloc: Global, list: &mut TagList, text: &str) -> Result<Option<Wh
     if LONG < text.len() && are_mixed(text) {
         add_mixed(alloc, list, text)
     } else {
-        add_in_turn(alloc, list, text)
+        add_in_turn(alloc, list, usual, text)
     }
 }
 
 /// The same, one after the other.
-fn add_in_turn(alloc: Global, list: &mut TagList, text: &str) -> Result<Option<Why>, OutOfMemory>
+fn add_in_turn(
+    alloc: Global,
+    list: &mut TagList,
+    usual: bool,
+    text: &str,
+) -> Result<Option<Why>, OutOfMemory>
     requires { list.old ≡ [] }
     ensures tags { IfOk result (λ fault. each_piece with_piece map.empty (slice_split (is COMMA) text.now)
         ≡ gathered list.new fault) }
 {
     let mut left = Some(text);
     while let Some(text) = left {
+        if let Some((key, value, later)) = usual_tag(usual, text) {
+            list.push(key, value)?;
+            left = later;
+            continue;
+        }
         let (piece, later) = cut(text, COMMA);
         match add_piece(alloc, list, piece) {
             Ok(()) => left = later,

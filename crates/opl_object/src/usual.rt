@@ -75,7 +75,7 @@ pub(crate) fn plain_end(text: &[u8]) -> Option<usize>
 }
 
 /// How many bytes at the front may stand in a text as they are.
-fn plain_len(text: &[u8]) -> usize
+pub(crate) fn plain_len(text: &[u8]) -> usize
     ensures len { result ≡ position_or_len is_reserved text.now }
 {
     for (place, &byte) in text.iter().enumerate() {
