@@ -7,5 +7,6 @@
 
 mod node_places;
 mod objects;
+mod search;
 
 pub use objects::PlacedObjects;

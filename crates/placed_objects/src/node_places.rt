@@ -1,9 +1,9 @@
 //! The places of nodes, in a list by rising ids.
-ghost use Rattle.std.specs.Prelude.{◌≡◌, ◌∷◌, ◌++◌, [], Some, IfSome, IfOk, IsNone, IsTrue, OnOk, OnErr, cond, false, length};
+ghost use Rattle.std.specs.Prelude.{◌≡◌, ◌∷◌, ◌++◌, [], Some, IfOk, IsTrue, OnOk, OnErr, cond, false};
 ghost use Rattle.std.specs.FinMap as map;
 ghost use Rattle.osm_base.specs.values.Ids.{IsRising, has};
-ghost use Rattle.object_fold.specs.RisingIds.{StandsAt};
 
+use crate::search::stand_of;
 use osm_base::{OutOfMemory, Place};
 use std::alloc::Global;
 use std::marker::Model;
@@ -79,18 +79,6 @@ impl NodePlaces {
         if let Some(at) = stand_of(&self.ids, id) {
             self.places[at] = None;
         }
-    }
-}
-
-/// Where an id stands among rising ones.
-fn stand_of(ids: &[u64], id: u64) -> Option<usize>
-    requires { IsRising ids.now }
-    ensures there { IfSome result (StandsAt ids.now id) }
-    ensures none { IsNone result → has ids.now id ≡ false }
-{
-    match ids.binary_search(&id) {
-        Ok(at) => Some(at),
-        Err(_) => None,
     }
 }
 
