@@ -49,14 +49,7 @@ fn next_reach(apart: usize, reach: usize) -> usize {
 }
 
 /// Which place between two ends is looked at next. `rises`: the last one was at the lower end.
-fn next_place(
-    ids: &[u64],
-    low: usize,
-    high: usize,
-    id: u64,
-    reach: usize,
-    rises: bool,
-) -> usize
+fn next_place(ids: &[u64], low: usize, high: usize, id: u64, reach: usize, rises: bool) -> usize
     requires below { low < high }
     requires within { high ≤ length ids.now }
     ensures low { low ≤ result }
