@@ -1,5 +1,5 @@
 //! A map of a store, whole.
-ghost use Rattle.std.specs.Prelude.{◌≡◌, None, Some, IfSome, IsNone, OnOk, MatchOption};
+ghost use Rattle.std.specs.Prelude.{◌≡◌, None, Some, IfSome, IsNone, OnErr, OnOk, MatchOption};
 ghost use Rattle.std.specs.FinMap as map;
 
 use osm_base::{Bytes, OutOfMemory};
@@ -45,9 +45,10 @@ impl WholeMap {
         }
     }
 
-    /// Gives a key this value.
+    /// Gives a key this value. After `Err` nothing has changed.
     pub fn put(&mut self, key: u64, value: Bytes) -> Result<(), OutOfMemory>
         ensures ok { OnOk result (self.new ≡ map.insert self.old key value) }
+        ensures err { OnErr result (self.new ≡ self.old) }
     {
         self.tree.insert(key, value)?;
         Ok(())
