@@ -8,7 +8,8 @@ use Rattle.value_bytes.proofs.CountedLaws.{counted_number, counted_front}
 use Rattle.bucket_records.specs.Records.{BucketMap, record_bytes, records_bytes, AreRecords, IsBucket}
 use Rattle.bucket_records.specs.Spelling.{StartsRecord, BeginsRecord}
 use Rattle.bucket_records.proofs.Fronts.{starts_key, begins_record}
-use Rattle.bucket_records.proofs.Finding.{length-record_bytes, front_of_records}
+use Rattle.bucket_records.proofs.RecordLists.{length-record_bytes}
+use Rattle.bucket_records.proofs.Finding.{front_of_records}
 
 pub begins_of : (bytes : List ℕ) (key : ℕ) (value rest : List ℕ) → StartsRecord bytes key value rest → BeginsRecord bytes key value rest
 begins_of bytes key value rest starts =

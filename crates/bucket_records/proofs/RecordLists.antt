@@ -1,5 +1,7 @@
 -- Records one after another.
-use Rattle.std.proofs.Common.{◌≡◌, ℕ, zero, suc, ◌+◌, ◌%◌, ◌<◌, ◌≤◌, List, [], ◌∷◌, ◌++◌, length, refl, sym, ap, ◌∙◌, arith, append_assoc}
+use Rattle.std.proofs.Common.{◌≡◌, ℕ, zero, suc, ◌+◌, ◌*◌, ◌%◌, ◌<◌, ◌≤◌, List, [], ◌∷◌, ◌++◌, length, refl, sym, ap, ◌∙◌, arith, append_assoc, length-append}
+use Rattle.value_bytes.specs.Numbers.{number_bytes, counted_bytes}
+use Rattle.value_bytes.proofs.NumberLaws.{length-number_bytes}
 use Rattle.bucket_records.specs.Records.{record_bytes, records_bytes, AreRecords, AreOf, IsRecord}
 use Rattle.bucket_records.specs.Places.{key_of}
 
@@ -76,3 +78,40 @@ pub one_bucket : (least : ℕ) (records : List (ℕ × List ℕ)) → AreRecords
 unfolding AreRecords AreOf
 one_bucket least [] are = tt
 one_bucket least (one ∷ records) are = (omega arith, one_bucket (one.0 + 1) records are.2)
+
+pub length-record_bytes : (key : ℕ) (value : List ℕ) → length (record_bytes key value) ≡ 16 + length value
+unfolding record_bytes counted_bytes
+length-record_bytes key value =
+    let count = number_bytes (length value) in
+    omega (
+      arith,
+      length-append (number_bytes key) (count ++ value),
+      length-append count value,
+      length-number_bytes key,
+      length-number_bytes (length value),
+    )
+
+-- a record is more than one byte
+pub many_within : (records : List (ℕ × List ℕ)) → 16 * length records ≤ length (records_bytes records)
+unfolding records_bytes
+many_within [] = omega arith
+many_within (one ∷ records) =
+    omega (
+      arith,
+      many_within records,
+      length-append (record_bytes one.0 one.1) (records_bytes records),
+      length-record_bytes one.0 one.1,
+    )
+
+-- the keys are below what may follow
+least_end : (least : ℕ) (records : List (ℕ × List ℕ)) → AreRecords least records → least ≤ end_of least records
+unfolding AreRecords
+least_end least [] are = omega arith
+least_end least (one ∷ records) are = omega (arith, are.0, least_end (one.0 + 1) records are.2)
+
+pub below_end : (least : ℕ) (records : List (ℕ × List ℕ)) (k : ℕ) → AreRecords least records → k < length records
+    → key_of records k < end_of least records
+unfolding AreRecords
+below_end least [] k are inside = absurd (omega arith)
+below_end least (one ∷ records) zero are inside = let low = least_end (one.0 + 1) records are.2 in omega (arith, low)
+below_end least (one ∷ records) (suc k) are inside = below_end (one.0 + 1) records k are.2 (omega arith)

@@ -1,7 +1,7 @@
 -- Where the records of a bucket stand in its bytes.
-use Rattle.std.specs.Prelude.{◌≡◌, ℕ, ◌+◌, ◌<◌, ◌≤◌, List, [], ◌∷◌, length, take, drop, slice_index_or}
+use Rattle.std.specs.Prelude.{◌≡◌, ℕ, zero, suc, ◌+◌, ◌*◌, ◌<◌, ◌≤◌, List, [], ◌∷◌, length, take, drop, slice_index_or}
 use Rattle.std.specs.Int.{w64, from_le_bytes}
-use Rattle.bucket_records.specs.Records.{record_bytes, records_bytes, AreRecords}
+use Rattle.bucket_records.specs.Records.{records_bytes, AreRecords}
 
 -- the number that stands at this byte
 unfoldable pub number : List ℕ → ℕ → ℕ
@@ -11,21 +11,10 @@ number bytes at = from_le_bytes w64 (take 8 (drop at bytes))
 unfoldable pub record_at : List ℕ → ℕ → ℕ × List ℕ
 record_at bytes at = (number bytes at, take (number bytes (at + 8)) (drop (at + 16) bytes))
 
--- the records at these places
-unfoldable pub records_at : List ℕ → List ℕ → List (ℕ × List ℕ)
-records_at bytes [] = []
-records_at bytes (at ∷ starts) = record_at bytes at ∷ records_at bytes starts
-
--- where each of the records begins, one after another from a place on
-unfoldable pub starts_from : ℕ → List (ℕ × List ℕ) → List ℕ
-starts_from at [] = []
-starts_from at (one ∷ records) = at ∷ starts_from (at + length (record_bytes one.0 one.1)) records
-
--- the records at these places are rising, are all of the bytes and begin there
-pub record IsIndexed (bytes starts : List ℕ) : Type 0 where
-  pub bytes_are : bytes ≡ records_bytes (records_at bytes starts)
-  pub starts_are : starts ≡ starts_from 0 (records_at bytes starts)
-  pub rise : AreRecords 0 (records_at bytes starts)
+-- so many records, one behind another from this byte on
+unfoldable pub records_from : List ℕ → ℕ → ℕ → List (ℕ × List ℕ)
+records_from bytes at zero = []
+records_from bytes at (suc count) = record_at bytes at ∷ records_from bytes (at + (16 + number bytes (at + 8))) count
 
 -- the key and the value of the record of this number
 abbrev pub key_of : List (ℕ × List ℕ) → ℕ → ℕ
@@ -33,6 +22,24 @@ key_of records place = (slice_index_or records place (0, [])).0
 
 abbrev pub value_of : List (ℕ × List ℕ) → ℕ → List ℕ
 value_of records place = (slice_index_or records place (0, [])).1
+
+-- these are the places where each sixteenth of the records begins, from the one behind the first sixteen on; there may be
+-- fewer of them
+abbrev pub AreMarks : List (ℕ × List ℕ) → List ℕ → Type 0
+AreMarks records marks = (k d : ℕ) → k < length marks
+    → (16 * (k + 1) < length records) × (slice_index_or marks k d ≡ length (records_bytes (take (16 * (k + 1)) records)))
+
+-- these rising records are all of the bytes, so many, with no key above the last one, and have these marks
+pub record Lies (bytes : List ℕ) (records : List (ℕ × List ℕ)) (count last : ℕ) (marks : List ℕ) : Type 0 where
+  pub rise : AreRecords 0 records
+  pub bytes_are : bytes ≡ records_bytes records
+  pub many : count ≡ length records
+  pub highest : (k : ℕ) → k < length records → key_of records k ≤ last
+  pub marked : AreMarks records marks
+
+-- those that are seen in the bytes lie so
+abbrev pub IsIndexed : List ℕ → ℕ → ℕ → List ℕ → Type 0
+IsIndexed bytes count last marks = Lies bytes (records_from bytes 0 count) count last marks
 
 -- so many of the records have keys below this one
 pub record IsPlaceOf (records : List (ℕ × List ℕ)) (key place : ℕ) : Type 0 where

@@ -10,7 +10,7 @@ ghost use Rattle.value_bytes.specs.Forms.{NeedsFor};
 use crate::listing::{copied_records, known_records};
 use crate::merging::merged_bytes;
 use crate::records::Records;
-use crate::searching::place_of;
+use crate::searching::seek;
 use osm_base::{Bytes, OutOfMemory};
 use std::alloc::Global;
 use std::collections::BTreeMap;
@@ -83,7 +83,7 @@ impl Bucket {
         ensures ok { OnOk result (self.new ≡ with_values self.old (map.insert self.old.values key value.now)) }
         ensures err { OnErr result (self.new ≡ self.old) }
     {
-        if self.changes.is_empty() && is_above(&self.records, key) {
+        if self.changes.is_empty() && self.records.are_below(key) {
             self.records.push(key, value)?;
             return Ok(());
         }
@@ -142,22 +142,10 @@ impl Bucket {
 fn recorded<'a>(records: &'a Records, key: u64) -> Option<&'a [u8]>
     ensures { MatchOption result (map.get (map_of records.now) key ≡ None) (λ value. map.get (map_of records.now) key ≡ Some value.now) }
 {
-    let place = place_of(records, key);
+    let (place, rest) = seek(records, key);
     if place >= records.len() {
         return None;
     }
-    let (own, value) = records.at(place);
+    let (own, value, _) = records.front(place, rest);
     if own == key { Some(value) } else { None }
-}
-
-// Whether the key is above all of the records.
-fn is_above(records: &Records, key: u64) -> bool
-    ensures { IsTrue result → (k : ℕ) → k < length records.now → key_of records.now k < key }
-{
-    let count = records.len();
-    if count == 0 {
-        return true;
-    }
-    let (last, _) = records.at(count - 1);
-    last < key
 }

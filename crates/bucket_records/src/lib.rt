@@ -1,8 +1,8 @@
 //! A bucket of a store: a finite map from numbers to bytes.
 //!
 //! On the path of the data it stands between the bytes of a chain and the buckets of an open store. A
-//! `Bucket` is read from its bytes and told them again: its records as they lie there, an index of where
-//! each begins, and what was changed since. A value that is looked at is not copied, a key above all
+//! `Bucket` is read from its bytes and told them again: its records as they lie there, marks of where each
+//! sixteenth begins, and what was changed since. A value that is looked at is not copied, a key above all
 //! others is written behind them, and other changes are merged when the bytes are wanted, in runs of
 //! records that stay.
 //!
@@ -12,6 +12,7 @@
 #![tactic(auto)]
 
 mod bucket;
+mod index;
 mod listing;
 mod merging;
 mod records;

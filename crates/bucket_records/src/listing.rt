@@ -12,11 +12,12 @@ pub fn copied_records(alloc: Global, records: &Records) -> Result<Vec<(u64, Byte
     ensures { IfOk result (λ copies. copies.items ≡ records.now) }
 {
     let mut copies = Vec::new(alloc);
-    let mut place = 0;
+    let (mut place, mut rest) = records.at_mark(0);
     while place < records.len() {
-        let (key, value) = records.at(place);
+        let (key, value, behind) = records.front(place, rest);
         let copy = Vec::from_slice(alloc, value)?;
         copies.push((key, Bytes::from_vec(copy)))?;
+        rest = behind;
         place += 1;
     }
     Ok(copies)

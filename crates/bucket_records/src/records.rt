@@ -1,10 +1,12 @@
 //! The records of a bucket, as they lie in its bytes.
-ghost use Rattle.std.specs.Prelude.{◌≡◌, ◌++◌, ◌+◌, ◌-◌, ◌%◌, ◌<◌, ◌≤◌, ◌∷◌, [], ◌↔◌, IsTrue, List, ℕ, length, take, drop, IfOk, IfErr, OnOk, OnErr};
+ghost use Rattle.std.specs.Prelude.{◌≡◌, ◌++◌, ◌+◌, ◌*◌, ◌-◌, ◌<◌, ◌≤◌, ◌∷◌, [], IsTrue, List, ℕ, length, take, drop, IfOk, IfErr, OnOk, OnErr};
 ghost use Rattle.bucket_records.specs.Records.{records_bytes, AreRecords, IsBucket, IsNoBucket};
-ghost use Rattle.bucket_records.specs.Places.{key_of, value_of, starts_from};
+ghost use Rattle.bucket_records.specs.Places.{key_of, value_of};
 ghost use Rattle.bucket_records.specs.Spelling.{StartsRecord};
 ghost use Rattle.value_bytes.specs.Forms.{NeedsFor};
 
+use crate::index::{SPAN, find, mark};
+use crate::searching::rest_from;
 use crate::spelling::{front_record, push_record};
 use osm_base::OutOfMemory;
 use std::alloc::Global;
@@ -15,35 +17,29 @@ use value_bytes::ValueFault;
 #[derive(Debug, Drop)]
 pub struct Records {
     bytes: Vec<u8>,
-    // Where each record begins.
-    starts: Vec<usize>,
+    // How many there are.
+    count: usize,
+    // No key is above this one.
+    last: u64,
+    // Where each sixteenth of them begins, from the one behind the first sixteen on.
+    marks: Vec<usize>,
 }
 
 impl Model for Records {
     ghost use Rattle.std.specs.Prelude.{ℕ, List};
     ghost use Rattle.std.specs.Coded.{coded_list, coded×, coded_ℕ};
-    ghost use Rattle.bucket_records.specs.Places.{records_at, IsIndexed};
+    ghost use Rattle.bucket_records.specs.Places.{records_from, IsIndexed};
 
     ghost Value = { List (ℕ × List ℕ) };
 
     ghost coded = { coded_list (coded× coded_ℕ (coded_list coded_ℕ)) };
 
-    ghost view = { λ records. records_at records.bytes.items records.starts.items };
+    ghost view = { λ records. records_from records.bytes.items 0 records.count };
 
-    ghost invariant = { λ records. IsIndexed records.bytes.items records.starts.items };
+    ghost invariant = { λ records. IsIndexed records.bytes.items records.count records.last records.marks.items };
 }
 
 impl Records {
-    /// No records.
-    pub fn new(alloc: Global) -> Self
-        ensures empty { result ≡ [] }
-    {
-        Self {
-            bytes: Vec::new(alloc),
-            starts: Vec::new(alloc),
-        }
-    }
-
     /// The records of one bucket of so many, whose bytes these are.
     pub fn read(
         alloc: Global,
@@ -55,8 +51,13 @@ impl Records {
         ensures records { IfOk result (λ records. IsBucket buckets bucket bytes.items records) }
         ensures refused { IfErr result (NeedsFor (IsNoBucket buckets bucket bytes.items)) }
     {
-        match find_starts(alloc, bytes.as_slice(), buckets, bucket) {
-            Ok(starts) => Ok(Self { bytes, starts }),
+        match find(alloc, bytes.as_slice(), buckets, bucket) {
+            Ok((count, last, marks)) => Ok(Self {
+                bytes,
+                count,
+                last,
+                marks,
+            }),
             Err(fault) => Err(fault),
         }
     }
@@ -66,7 +67,53 @@ impl Records {
         ensures len { result ≡ length self.now }
         ensures rise { AreRecords 0 self.now }
     {
-        self.starts.len()
+        self.count
+    }
+
+    /// Whether the key is above all of them.
+    pub fn are_below(&self, key: u64) -> bool
+        ensures { IsTrue result → (k : ℕ) → k < length self.now → key_of self.now k < key }
+    {
+        if self.count == 0 {
+            return true;
+        }
+        self.last < key
+    }
+
+    /// How many marks there are.
+    pub fn marks(&self) -> usize
+        ensures { 1 ≤ result → 1 ≤ length self.now }
+    {
+        self.marks.len()
+    }
+
+    /// The number of the record at this mark, or at the last where there are fewer, and the bytes from it on. Before the first
+    /// mark that is the first record.
+    pub fn at_mark(&self, mark: usize) -> (usize, &[u8])
+        ensures within { result.0 ≤ length self.now }
+        ensures order { result.0 ≤ 16 * mark }
+        ensures some { 1 ≤ length self.now → result.0 < length self.now }
+        ensures rest { result.1.now ≡ records_bytes (drop result.0 self.now) }
+    {
+        let known = mark.min(self.marks.len());
+        if known == 0 {
+            return (0, self.bytes.as_slice());
+        }
+        let (_, rest) = self.bytes.as_slice().split_at(self.marks[known - 1]);
+        (known * SPAN, rest)
+    }
+
+    /// The key and the value of the record of this number, and the bytes behind it, where these are the bytes from it on.
+    pub fn front<'a>(&self, place: usize, rest: &'a [u8]) -> (u64, &'a [u8], &'a [u8])
+        requires within { place < length self.now }
+        requires rest { rest.now ≡ records_bytes (drop place self.now) }
+        ensures key { result.0 ≡ key_of self.now place }
+        ensures value { result.1.now ≡ value_of self.now place }
+        ensures behind { result.2.now ≡ records_bytes (drop (place + 1) self.now) }
+        ensures rise { AreRecords 0 self.now }
+    {
+        let _ordered = self.len();
+        known_record(rest)
     }
 
     /// The key and the value of the record of this number.
@@ -75,8 +122,8 @@ impl Records {
         ensures key { result.0 ≡ key_of self.now place }
         ensures value { result.1.now ≡ value_of self.now place }
     {
-        let (_, record) = self.bytes.as_slice().split_at(self.starts[place]);
-        known_record(record)
+        let (key, value, _) = self.front(place, rest_from(self, place));
+        (key, value)
     }
 
     /// The bytes of the records from this number to before that one.
@@ -97,8 +144,8 @@ impl Records {
         requires { place ≤ length self.now }
         ensures { result ≡ length (records_bytes (take place self.now)) }
     {
-        if place < self.starts.len() {
-            self.starts[place]
+        if place < self.count {
+            self.bytes.len() - rest_from(self, place).len()
         } else {
             self.bytes.len()
         }
@@ -112,11 +159,17 @@ impl Records {
         ensures err { OnErr result (self.new ≡ self.old) }
     {
         let end = self.bytes.len();
-        self.starts.push(end)?;
-        match push_record(&mut self.bytes, key, value) {
-            Ok(()) => Ok(()),
+        if let Err(fault) = push_record(&mut self.bytes, key, value) {
+            return Err(fault);
+        }
+        match mark(&mut self.marks, self.count, end) {
+            Ok(()) => {
+                self.count += 1;
+                self.last = key;
+                Ok(())
+            }
             Err(fault) => {
-                self.starts.pop();
+                self.bytes.truncate(end);
                 Err(fault)
             }
         }
@@ -127,7 +180,12 @@ impl Records {
         ensures bytes { result.items ≡ records_bytes self }
         ensures rise { AreRecords 0 self }
     {
-        let Self { bytes, starts: _ } = self;
+        let Self {
+            bytes,
+            count: _,
+            last: _,
+            marks: _,
+        } = self;
         bytes
     }
 
@@ -143,50 +201,15 @@ impl Records {
     }
 }
 
-// Where each record of the bucket begins.
-fn find_starts(
-    alloc: Global,
-    bytes: &[u8],
-    buckets: u64,
-    bucket: u64,
-) -> Result<Vec<usize>, ValueFault>
-    requires { 1 ≤ buckets }
-    ensures starts { IfOk result (λ starts. (records : List (ℕ × List ℕ)) × IsBucket buckets bucket bytes.now records × (starts.items ≡ starts_from 0 records)) }
-    ensures refused { IfErr result (NeedsFor (IsNoBucket buckets bucket bytes.now)) }
-{
-    let mut starts = Vec::new(alloc);
-    let mut rest = bytes;
-    let mut least: u128 = 0;
-    while !rest.is_empty() {
-        let Some((key, _, behind)) = front_record(rest) else {
-            return Err(ValueFault::NotSpelled);
-        };
-        if !fits(key, least, buckets, bucket) {
-            return Err(ValueFault::NotSpelled);
-        }
-        starts.push(bytes.len() - rest.len())?;
-        least = key as u128 + 1;
-        rest = behind;
-    }
-    Ok(starts)
-}
-
-// Whether the key is at least this, and one of the bucket's.
-fn fits(key: u64, least: u128, buckets: u64, bucket: u64) -> bool
-    requires { 1 ≤ buckets }
-    ensures { IsTrue result ↔ ((least ≤ key) × (key % buckets ≡ bucket)) }
-{
-    least <= key as u128 && key % buckets == bucket
-}
-
-// The key and the value of the record that stands at the front.
-fn known_record(bytes: &[u8]) -> (u64, &[u8])
+// The key and the value of the record that stands at the front, and the bytes behind it.
+fn known_record(bytes: &[u8]) -> (u64, &[u8], &[u8])
     requires { (key : ℕ) × (value : List ℕ) × (rest : List ℕ) × StartsRecord bytes.now key value rest }
     ensures key { (key : ℕ) (value rest : List ℕ) → StartsRecord bytes.now key value rest → result.0 ≡ key }
     ensures value { (key : ℕ) (value rest : List ℕ) → StartsRecord bytes.now key value rest → result.1.now ≡ value }
+    ensures rest { (key : ℕ) (value rest : List ℕ) → StartsRecord bytes.now key value rest → result.2.now ≡ rest }
 {
     match front_record(bytes) {
-        Some((key, value, _)) => (key, value),
+        Some((key, value, rest)) => (key, value, rest),
         None => unreachable!(),
     }
 }

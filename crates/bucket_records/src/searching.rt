@@ -1,23 +1,70 @@
-//! Looking for a key among records.
-ghost use Rattle.std.specs.Prelude.{◌≡◌, ◌+◌, ◌<◌, ◌≤◌, ℕ, length};
+//! Looking for a key, or a number, among records.
+ghost use Rattle.std.specs.Prelude.{◌≡◌, ◌+◌, ◌<◌, ◌≤◌, ℕ, length, drop};
 ghost use Rattle.bucket_records.specs.Places.{key_of, IsPlaceOf};
+ghost use Rattle.bucket_records.specs.Records.{records_bytes};
 
+use crate::index::SPAN;
 use crate::records::Records;
+
+/// The bytes from the record of this number on.
+pub fn rest_from(records: &Records, place: usize) -> &[u8]
+    requires { place ≤ length records.now }
+    ensures { result.now ≡ records_bytes (drop place records.now) }
+{
+    let (mut at, mut rest) = records.at_mark(place / SPAN);
+    while at < place {
+        let (_, _, behind) = records.front(at, rest);
+        rest = behind;
+        at += 1;
+    }
+    rest
+}
+
+/// How many of the records have keys below this one, and the bytes behind them.
+pub fn seek(records: &Records, key: u64) -> (usize, &[u8])
+    ensures place { IsPlaceOf records.now key result.0 }
+    ensures rest { result.1.now ≡ records_bytes (drop result.0 records.now) }
+{
+    let (mut place, mut rest) = near(records, key);
+    while place < records.len() {
+        let (own, _, behind) = records.front(place, rest);
+        if own >= key {
+            return (place, rest);
+        }
+        rest = behind;
+        place += 1;
+    }
+    (place, rest)
+}
 
 /// How many of the records have keys below this one.
 pub fn place_of(records: &Records, key: u64) -> usize
     ensures { IsPlaceOf records.now key result }
 {
+    let (place, _) = seek(records, key);
+    place
+}
+
+// A number of records at a mark that have keys below this one, and the bytes behind them.
+fn near(records: &Records, key: u64) -> (usize, &[u8])
+    ensures within { result.0 ≤ length records.now }
+    ensures below { (k : ℕ) → k < result.0 → key_of records.now k < key }
+    ensures rest { result.1.now ≡ records_bytes (drop result.0 records.now) }
+{
+    let (mut place, mut rest) = records.at_mark(0);
     let mut low = 0;
-    let mut high = records.len();
+    let mut high = records.marks();
     while low < high {
         let middle = low + (high - low) / 2;
-        let (own, _) = records.at(middle);
+        let (at, behind) = records.at_mark(middle + 1);
+        let (own, _, _) = records.front(at, behind);
         if own < key {
             low = middle + 1;
+            place = at;
+            rest = behind;
         } else {
             high = middle;
         }
     }
-    low
+    (place, rest)
 }

@@ -8,17 +8,17 @@ use Rattle.bucket_records.specs.Held.{HeldBucket}
 use Rattle.bucket_records.proofs.MapLaws.{changed-nil, changed_more, map_of-push, no_changes}
 use Rattle.bucket_records.proofs.bucket.Bucket.put.Goals as goal
 
-pub invariant_of-self-then-is_above : goal.invariant_of-self-then-is_above
-invariant_of-self-then-is_above c =
+pub invariant_of-self-then-are_below : goal.invariant_of-self-then-are_below
+invariant_of-self-then-are_below c =
     let longer = ap (λ (l : List (ℕ × List ℕ)). length l) c.in_ok-push.ensures.ok
     ∙ length-append c.self.inside.records ((c.args.key, c.args.value.now) ∷ []) in
     (c.in_ok-push.ensures.rise, omega (arith, c.self.invariant.1, longer))
 
-pub returns-then-is_above-clause-ok : goal.returns-then-is_above-clause-ok
-returns-then-is_above-clause-ok c =
+pub returns-then-are_below-clause-ok : goal.returns-then-are_below-clause-ok
+returns-then-are_below-clause-ok c =
     let none : c.self.inside.changes.entries ≡ [] = no_changes c.self.inside.changes.entries
     (c.is_empty.ensures.0 c.if-is_empty.true) in
-    let above = c.is_above.ensures c.if-is_above.true in
+    let above = c.are_below.ensures c.if-are_below.true in
     let more = c.in_ok-push.ensures.ok in
     let rise = subst (λ (l : List (ℕ × List ℕ)). AreRecords 0 l) more c.in_ok-push.ensures.rise in
     let before : map_of c.self.inside.records ≡ c.args.self.now.values =

@@ -1,26 +1,37 @@
 -- A record begins behind those before it.
-use Rattle.std.proofs.Common.{◌≡◌, ◌<◌, ℕ, List, length, take, ap, sym, ◌∙◌, arith}
+use Rattle.std.proofs.Common.{◌≡◌, ℕ, List, length, take, ap, sym, ◌∙◌, arith}
 use Rattle.std.proofs.lemmas.List.{take_all}
 use Rattle.bucket_records.specs.Records.{records_bytes}
-use Rattle.bucket_records.proofs.RecordPlaces.{lies, lies_many, lies_start}
+use Rattle.bucket_records.proofs.RecordPlaces.{lies, begin_there}
 use Rattle.bucket_records.proofs.records.Records.begin_of.Goals as goal
 
-pub returns-then-place-len : goal.returns-then-place-len
-returns-then-place-len c =
-    let bytes = c.self.inside.bytes.items in
-    let starts = c.self.inside.starts.items in
-    let lie = lies bytes starts c.args.self.now c.self.invariant c.self.view_is in
-    let inside : c.args.place < length c.args.self.now =
-    omega (arith, c.if-place-len.true, c.len.ensures, lies_many bytes starts c.args.self.now lie, c.self.inside.starts.ok.0) in
-    c.index.ensures ∙ lies_start bytes starts c.args.self.now c.args.place c.index.result.now lie inside
+pub returns-then-place-self : goal.returns-then-place-self
+returns-then-place-self c =
+    let lie = lies c.self.inside.bytes.items c.self.inside.count c.self.inside.last c.self.inside.marks.items c.args.self.now
+    c.self.invariant c.self.view_is in
+    omega (
+      arith,
+      c.len.ensures,
+      c.self.inside.bytes.ok.0,
+      begin_there c.args.self.now c.args.place c.self.inside.bytes.items c.rest_from.result.now lie.bytes_are c.rest_from.ensures,
+    )
 
-pub returns-else-place-len : goal.returns-else-place-len
-returns-else-place-len c =
-    let bytes = c.self.inside.bytes.items in
-    let starts = c.self.inside.starts.items in
+pub returns-else-place-self : goal.returns-else-place-self
+returns-else-place-self c =
     let records = c.args.self.now in
-    let lie = lies bytes starts records c.self.invariant c.self.view_is in
-    let all : take c.args.place records ≡ records =
-    take_all c.args.place records (omega (arith, c.if-place-len.false, c.len.ensures, lies_many bytes starts records lie, c.self.inside.starts.ok.0)) in
+    let lie = lies c.self.inside.bytes.items c.self.inside.count c.self.inside.last c.self.inside.marks.items c.args.self.now
+    c.self.invariant c.self.view_is in
+    let all : take c.args.place records ≡ records = take_all c.args.place records (omega (arith, c.if-place-self.false, lie.many)) in
     let whole = ap (λ (l : List ℕ). length l) (lie.bytes_are ∙ ap records_bytes (sym all)) in
-    omega (arith, c.len-else-place-len.ensures, whole, c.self.inside.bytes.ok.0)
+    omega (arith, c.len-else-place-self.ensures, whole, c.self.inside.bytes.ok.0)
+
+pub overflow_sub-result : goal.overflow_sub-result
+overflow_sub-result c =
+    let lie = lies c.self.inside.bytes.items c.self.inside.count c.self.inside.last c.self.inside.marks.items c.args.self.now
+    c.self.invariant c.self.view_is in
+    omega (
+      arith,
+      c.len.ensures,
+      c.self.inside.bytes.ok.0,
+      begin_there c.args.self.now c.args.place c.self.inside.bytes.items c.rest_from.result.now lie.bytes_are c.rest_from.ensures,
+    )

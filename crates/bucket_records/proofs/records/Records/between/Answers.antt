@@ -6,11 +6,11 @@ use Rattle.bucket_records.proofs.records.Records.between.Goals as goal
 pub split_at-requires : goal.split_at-requires
 split_at-requires c =
     let bytes = c.self.inside.bytes.items in
-    let lie = lies bytes c.self.inside.starts.items c.args.self.now c.self.invariant c.self.view_is in
+    let lie = lies bytes c.self.inside.count c.self.inside.last c.self.inside.marks.items c.args.self.now c.self.invariant c.self.view_is in
     omega (
       arith,
       c.begin_of-end.ensures,
-      lies_within bytes c.self.inside.starts.items c.args.self.now c.args.to lie,
+      lies_within bytes c.args.self.now c.args.to lie.bytes_are,
       ap (λ (l : List ℕ). length l) c.as_slice.ensures.value,
     )
 
@@ -27,10 +27,10 @@ split_at-requires-2 c =
 pub returns : goal.returns
 returns c =
     let bytes = c.self.inside.bytes.items in
-    let lie = lies bytes c.self.inside.starts.items c.args.self.now c.self.invariant c.self.view_is in
+    let lie = lies bytes c.self.inside.count c.self.inside.last c.self.inside.marks.items c.args.self.now c.self.invariant c.self.view_is in
     record {
       bytes = c.split_at-2.ensures.back ∙ ap (λ (l : List ℕ). drop c.begin_of-begin.result l) (c.split_at.ensures.front
           ∙ ap (λ (l : List ℕ). take c.begin_of-end.result l) c.as_slice.ensures.value)
-          ∙ lies_between bytes c.self.inside.starts.items c.args.self.now c.args.from c.args.to c.begin_of-begin.result c.begin_of-end.result lie
+          ∙ lies_between bytes c.args.self.now c.args.from c.args.to c.begin_of-begin.result c.begin_of-end.result lie.bytes_are
           c.requires.order c.begin_of-begin.ensures c.begin_of-end.ensures;
     }
