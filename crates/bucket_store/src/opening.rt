@@ -4,7 +4,7 @@ ghost use Rattle.outside.specs.Bytes.{IfTold, IsTold};
 ghost use Rattle.outside.specs.Disk.{DiskView, Goes, ReadsAtMost, Stays, Tells, Within};
 ghost use Rattle.page_journal.specs.Answers.{HasDiskCause, answers_disk_fault};
 ghost use Rattle.page_journal.specs.Crash.{IsAtRest};
-ghost use Rattle.page_journal.specs.Home.{HasOpenJournal};
+ghost use Rattle.page_journal.specs.Home.{HasOpenJournal, Home};
 ghost use Rattle.page_journal.specs.Pages.{gate};
 ghost use Rattle.page_journal.specs.declared.layout.TheConstants.{OPEN};
 ghost use Rattle.page_journal.specs.declared.fault.StoreFault.TheVariants.{NotFormatted};
@@ -26,6 +26,10 @@ pub fn open<D: Disk>(alloc: Global, disk: &mut D, limits: &Limits) -> Result<Ope
     ensures fits { IfOk result (λ opened. (bytes : List ℕ) → Tells (D.view disk.old) bytes → Fits opened (D.view disk.new)) }
     ensures answers { (bytes : List ℕ) → Tells (D.view disk.old) bytes → OpensStore bytes result }
     ensures alone { IsOpeningAnswer result }
+
+    // Its home pages are those of the bytes as they were, once a journal that was left open is finished.
+    ensures home { OnOk result ((bytes : List ℕ) → Tells (D.view disk.old) bytes
+        → (pages : List (List ℕ)) × Home pages bytes × IsAtRest pages (D.view disk.new)) }
 
     // A store that means something is found so, and refused by nothing but the disk and memory.
     ensures found { OnOk result ((bytes : List ℕ) → Tells (D.view disk.old) bytes

@@ -71,3 +71,11 @@ returns-in-Ok-kept_on-clause-reads g c = λ bytes told shut.
     (c.in-Ok.ensures.answers bytes told).3 c.in-Ok-kept_on.ensures.reads in
     reads_more (1 + (1 + total)) (2 + total) (length bytes) (length bytes) old.reads new.reads (omega arith) (omega arith)
     (reads_then 1 (1 + total) (length bytes) old.reads mid.reads new.reads head rest)
+
+pub returns-in-Ok-kept_on-clause-home : goal.returns-in-Ok-kept_on-clause-home
+returns-in-Ok-kept_on-clause-home g c = λ bytes told.
+    let done = c.in-Ok.ensures.done bytes told in (
+      done.0,
+      done.1,
+      rests_stays done.0 (g.D.Disk.view c.open.new.disk) (g.D.Disk.view c.kept_on.new.disk) done.3 c.kept_on.ensures.stays,
+    )
