@@ -33,6 +33,9 @@ some_is_true b (Some own) same some = cc
 not_none : IsSome {T = Cached} None → ⊥
 not_none some = absurd (cc)
 
+pub none_own : (own : Cached) → None ≡ Some own → ⊥
+none_own own same = absurd (cc)
+
 some_there : (own : Cached) → IsSome (Some own)
 some_there own = cc
 
@@ -54,6 +57,10 @@ on_ok (Err e) P Q holds leads = tt
 pub on_err : {T E : Type 0} (r : Result T E) (P Q : Type 0) → OnErr r P → (P → Q) → OnErr r Q
 on_err (Ok x) P Q holds leads = tt
 on_err (Err e) P Q holds leads = leads holds
+
+pub at_err : {T E : Type 0} (r : Result T E) (P : Type 0) → P → OnErr r P
+at_err (Ok x) P holds = tt
+at_err (Err e) P holds = holds
 
 pub if_ok : {T E : Type 0} (r : Result T E) (P Q : T → Type 0) → IfOk r P → ((x : T) → P x → Q x) → IfOk r Q
 if_ok (Ok x) P Q holds leads = leads x holds

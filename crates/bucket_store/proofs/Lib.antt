@@ -13,6 +13,7 @@ pub mod Needs
 pub mod Numbered
 pub mod Once
 pub mod Reopened
+pub mod Settings
 pub mod Sound
 pub mod Texts
 pub mod TypedLaws

@@ -1,5 +1,5 @@
 //! Buckets by the numbers of their chains, as a transaction has them.
-ghost use Rattle.std.specs.Prelude.{◌≡◌, ◌↔◌, ℕ, Some, None, true, false, IfSome, IsNone, IsSome, IsTrue, MatchOption, IfOk, OnOk, OnErr};
+ghost use Rattle.std.specs.Prelude.{◌≡◌, ◌↔◌, ℕ, Some, None, true, false, IfSome, IsNone, IsSome, IsTrue, MatchOption, is_some, IfOk, OnOk, OnErr};
 ghost use Rattle.std.specs.FinMap as map;
 ghost use Rattle.bucket_store.specs.Cache.{changed_to};
 
@@ -125,17 +125,19 @@ impl Cache {
         Ok(())
     }
 
-    /// Sets the value of a key in a bucket that is there. Where it fails, it is as it was.
-    pub fn put(&mut self, n: u32, key: u64, value: &[u8]) -> Result<(), OutOfMemory>
-        requires { IsSome (map.get self.old n) }
+    /// Sets the value of a key in a bucket, and answers whether the bucket is there. Where it is not, or it fails, all is as it was.
+    pub fn put(&mut self, n: u32, key: u64, value: &[u8]) -> Result<bool, OutOfMemory>
+        ensures there { IfOk result (λ there. there ≡ is_some (map.get self.old n)) }
         ensures ok { OnOk result ((own : Cached) → map.get self.old n ≡ Some own
             → self.new ≡ map.insert self.old n (changed_to own (map.insert own.bucket.values key value.now))) }
+        ensures none { IfOk result (λ there. there ≡ false → self.new ≡ self.old) }
         ensures err { OnErr result (self.new ≡ self.old) }
     {
         let Some(cached) = self.tree.get_mut(&n) else {
-            unreachable!()
+            return Ok(false);
         };
-        cached.put(key, value)
+        cached.put(key, value)?;
+        Ok(true)
     }
 
     /// Takes a key out of a bucket that is there, and answers whether it was in it. Where it fails, it is as it was.

@@ -52,6 +52,47 @@ impl<'d, D: Disk> Buckets<'d, D> {
         ensures sound { (rest now : Image) → Has rest now self.old → IsSoundAnswer result }
         ensures same { OnlyLooks self.old self.new }
     {
+        let chain = self.chain_of(which, key);
+        match self.cache.put(chain, key, value) {
+            Ok(there) => {
+                if there {
+                    return Ok(());
+                }
+                self.bring_and_set(which, key, value)
+            }
+            Err(_) => {
+                self.refused = true;
+                Err(StoreFault::OutOfMemory)
+            }
+        }
+    }
+
+    // Sets the value of a key, and reads its bucket first where that is not there.
+    fn bring_and_set(&mut self, which: u8, key: u64, value: &[u8]) -> Result<(), StoreFault>
+        requires which { which < 8 }
+        requires some { 1 ≤ bucket_count (chains_of self.old) }
+        requires going { has_refused self.old ≡ false }
+        ensures put { OnOk result ((pages : List (List ℕ)) → IsOpenStore pages self.old → (values : BucketMap)
+            → Content pages self.old (chain_at (bucket_count (chains_of self.old)) which key) values
+            → Content pages self.new (chain_at (bucket_count (chains_of self.old)) which key) (map.insert values key value.now)) }
+        ensures others { OnOk result ((pages : List (List ℕ)) → IsOpenStore pages self.old → (other : ℕ) (values : BucketMap)
+            → other ≢ chain_at (bucket_count (chains_of self.old)) which key → Content pages self.old other values
+            → Content pages self.new other values) }
+        ensures answers { (pages : List (List ℕ)) → IsOpenStore pages self.old
+            → BringsBucket pages self.old (chain_at (bucket_count (chains_of self.old)) which key) result }
+        ensures open { (pages : List (List ℕ)) → IsOpenStore pages self.old → IsOpenStore pages self.new }
+        ensures alone { IsReadAnswer (is_broken (journal_of (chains_of self.old))) result }
+        ensures stays { OnlyRead (chains_of self.old) (chains_of self.new) }
+        ensures broken { is_broken (journal_of (chains_of self.new)) ≡ (is_broken (journal_of (chains_of self.old)) || answers_disk_fault result) }
+        ensures reads { OnOk result (MayRead (4096 * home_count (journal_of (chains_of self.old)))
+            (chain_at (bucket_count (chains_of self.old)) which key) (read_of (chains_of self.old))
+            (read_of (chains_of self.new)) (disk_of (chains_of self.old)) (disk_of (chains_of self.new))) }
+        ensures refused { has_refused self.new ≡ is_err result }
+        ensures cause { HasDiskCause (disk_of (chains_of self.old)).faults (disk_of (chains_of self.new)).faults result }
+        ensures has { OnOk result ((rest now : Image) → Has rest now self.old → Has rest (with_value which key (Some value.now) now) self.new) }
+        ensures sound { (rest now : Image) → Has rest now self.old → IsSoundAnswer result }
+        ensures same { OnlyLooks self.old self.new }
+    {
         if let Err(fault) = self.bring(which, key) {
             return Err(fault);
         }
@@ -80,7 +121,7 @@ impl<'d, D: Disk> Buckets<'d, D> {
     {
         let n = self.chain_of(which, key);
         match self.cache.put(n, key, value) {
-            Ok(()) => Ok(()),
+            Ok(_) => Ok(()),
             Err(fault) => {
                 self.refused = true;
                 Err(fault)
