@@ -8,4 +8,4 @@
 
 mod store;
 
-pub use store::{BLOCK, MapStore};
+pub use store::{BLOCK, MapStore, shared_numbers};

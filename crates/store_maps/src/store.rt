@@ -18,6 +18,11 @@ use osm_base::{Back, Ids, Key, Object, Place, TableRows};
 /// How many nodes a block has, of which one list of ways is kept.
 pub const BLOCK: u64 = 32;
 
+/// The number that code and definitions share is that of the format.
+pub fn shared_numbers()
+    ensures block { BLOCK ≡ 32 }
+{}
+
 /// Eight finite maps, those of an open store within a transaction. After a refusal it may be spent: then nothing
 /// more may be asked. Of a store whose bytes are not told no maps are known. What calls leave behind is said by
 /// what was there before them: of any store from which calls have led to this one they lead to the next.
