@@ -23,4 +23,6 @@ pub use ids::{ids_bytes, read_ids};
 pub use indexed::Indexed;
 pub use lists::listers;
 pub use relisting::relist;
-pub use visit::{RELATIONS_OF_NODES, RELATIONS_OF_WAYS, Visit, WAYS, WAYS_OF_BLOCKS};
+pub use visit::{
+    RELATIONS_OF_NODES, RELATIONS_OF_WAYS, Visit, WAYS, WAYS_OF_BLOCKS, shared_numbers,
+};

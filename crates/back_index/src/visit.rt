@@ -1,4 +1,5 @@
 //! The lists of the index, by the maps of a store that they stand in.
+ghost use Rattle.std.specs.Prelude.{◌≡◌};
 
 /// The map of a store's ways.
 pub const WAYS: u8 = 1;
@@ -11,6 +12,14 @@ pub const RELATIONS_OF_NODES: u8 = 4;
 
 /// The map of the relations that have a way as a member.
 pub const RELATIONS_OF_WAYS: u8 = 5;
+
+/// The numbers that code and definitions share are those of the format.
+pub fn shared_numbers()
+    ensures ways { WAYS ≡ 1 }
+    ensures ways_of_blocks { WAYS_OF_BLOCKS ≡ 3 }
+    ensures relations_of_nodes { RELATIONS_OF_NODES ≡ 4 }
+    ensures relations_of_ways { RELATIONS_OF_WAYS ≡ 5 }
+{}
 
 /// A list of the index that is looked at where an object comes, goes or changes.
 #[derive(Clone, Copy, Debug, PartialEq, Eq)]
