@@ -26,6 +26,18 @@ pub const STYLE_TEXT: u32 = 1;
 /// The text with the bytes of the due set.
 pub const DUE_TEXT: u32 = 2;
 
+/// The numbers that code and definitions share are those of the format.
+pub fn shared_numbers()
+    ensures blank_format { BLANK_FORMAT ≡ 1 }
+    ensures blank { BLANK ≡ 0 }
+    ensures imported_format { IMPORTED_FORMAT ≡ 2 }
+    ensures old_format { OLD_FORMAT ≡ 1 }
+    ensures imported { IMPORTED ≡ 1 }
+    ensures style_text { STYLE_TEXT ≡ 1 }
+    ensures due_text { DUE_TEXT ≡ 2 }
+    ensures last_change { LAST_CHANGE ≡ 9223372036854775807 }
+{}
+
 /// Whether these may be the fields of a store that was only made.
 pub fn is_blank(root: Root) -> bool
     ensures { result ≡ is_blank root }

@@ -25,7 +25,7 @@ mod updater;
 pub use fault::{FlowFault, LAST_CHANGE, store_fault};
 pub use fields::{
     BLANK, BLANK_FORMAT, DUE_TEXT, IMPORTED, IMPORTED_FORMAT, OLD_FORMAT, STYLE_TEXT, is_blank,
-    is_imported, is_old,
+    is_imported, is_old, shared_numbers,
 };
 pub use opened::Opened;
 pub use opening::open;
