@@ -8,6 +8,7 @@ use Rattle.page_journal.specs.Pages.{number}
 use Rattle.page_journal.specs.PageSet.{PageMap, overwritten, page_or}
 use Rattle.page_journal.proofs.Sets.{get_or-up_to, length-up_to}
 use Rattle.chain_store.specs.Chain.{HasPages, Holds, data_in}
+use Rattle.chain_store.specs.Chains.{IsMarked}
 use Rattle.chain_store.specs.Directories.{IsChain, IsCount, directory_first, first_in, root_in}
 use Rattle.chain_store.specs.Firsts.{MayFill, begins_at, filled}
 use Rattle.chain_store.specs.Gathered.{AreGathered, base_parts}
@@ -20,7 +21,7 @@ use Rattle.chain_store.specs.Parts.{AreOld, Begin, IsNoPart, IsPart, growth, hea
 use Rattle.chain_store.specs.Plan.{IsPlan, kept_free, more_of, root_bytes, spare_of, wanted, whole_pool}
 use Rattle.chain_store.specs.Planned.{Planned}
 use Rattle.chain_store.specs.State.{IsOwner, IsSound, IsState}
-use Rattle.chain_store.specs.Store.{HasBytes, Keeps, kept_first}
+use Rattle.chain_store.specs.Store.{Keeps, kept_first}
 use Rattle.chain_store.specs.declared.kept.Kept.{Kept}
 use Rattle.chain_store.specs.declared.layout.TheConstants.{CHAIN_END, FREE}
 use Rattle.chain_store.specs.declared.parts.Laid.{Laid}
@@ -56,7 +57,8 @@ head_spare (n ∷ ns) ms small = small n (omega (arith, once-same n n refl))
 module _ (pages : List (List ℕ)) (kept : Kept) (root : Root) (written read before : Lists) (parts : List Part) (free : List ℕ) (plan : Plan)
     (old_root : Root) (strings : ℕ → List ℕ) (state : IsState old_root strings pages) (keeps : Keeps pages kept)
     (known : (n : ℕ) (ns : List ℕ) → finite.get read n ≡ Some ns → HasPages (page_in pages) (length pages + 1) n (kept_first kept n) ns)
-    (had : (n : ℕ) (bytes : List ℕ) → finite.get before n ≡ Some bytes → HasBytes pages n (kept_first kept n) bytes)
+    (marked : (n : ℕ) (same bytes : List ℕ) → finite.get before n ≡ Some same → finite.get written n ≡ Some bytes
+    → IsMarked pages n (kept_first kept n) same bytes)
     (long : (n : ℕ) → 2 ≤ n → n < length pages + 1 → length (page_in pages n) ≡ 4096)
     (stored : AreStored root.buckets read written)
     (gone : AreGone (buckets_in kept.front.items) root.buckets (kept_first kept) written)
@@ -116,7 +118,7 @@ module _ (pages : List (List ℕ)) (kept : Kept) (root : Root) (written read bef
   may = bases_fill root.buckets (buckets_in kept.front.items) kept.directories.items kept.eight kept.long
 
   own : AreParts (page_in pages) (length pages + 1) (kept_first kept) parts
-  own = gathered_are pages kept written read before root.buckets known had long stored parts gathered.each gathered.apart
+  own = gathered_are pages kept written read before root.buckets known marked long stored parts gathered.each gathered.apart
 
   directory_at : (m : ℕ) → 8 + m < 16 → kept_first kept (8 + m) ≡ directory_first kept.front.items m
   directory_at m below =
@@ -129,8 +131,8 @@ module _ (pages : List (List ℕ)) (kept : Kept) (root : Root) (written read bef
       let here = sym (directory_at m (omega (arith, low))) in
       let chain : 8 + m ≢ FREE = λ free_chain. absurd (omega (arith, free_chain, low)) in (
         subst (λ (k : ℕ). HasPages (page_in pages) (length pages + 1) (8 + m) k (pages_at kept.directories.items m)) here (keeps.has m low),
-        inr (was_written (page_in pages) (length pages + 1) (8 + m) chain long (directory_first kept.front.items m) (pages_at kept.directories.items m)
-            (bytes_at kept.directories.items m) (keeps.has m low).path (keeps.held m low)),
+        was_written (page_in pages) (length pages + 1) (8 + m) chain long (directory_first kept.front.items m) (pages_at kept.directories.items m)
+            (bytes_at kept.directories.items m) (keeps.has m low).path (keeps.held m low),
       ))
 
   eight_more : 8 + length kept.directories.items ≡ 16

@@ -2,7 +2,6 @@
 use Rattle.std.proofs.Common.{◌≡◌, ◌≢◌, inl, inr, ℕ, ◌+◌, ◌-◌, ◌<◌, ◌≤◌, ◌==◌, ◌&&◌, Bool, true, false, cond, List, [], ◌∷◌, ◌++◌, length, drop, Option, None, refl, sym, ap, subst, ◌∙◌, arith}
 use Rattle.std.proofs.lemmas.Bool.{cases_lt, eqb-true}
 use Rattle.std.specs.List.{All}
-use Rattle.std.specs.Str.{bytes_eq}
 use Rattle.std.specs.Option.{is_some, IsSome}
 use Rattle.std.specs.Ordering.{nat_cmp}
 use Rattle.std.specs.FinMap as finite
@@ -37,35 +36,34 @@ put_cond true p n link rest least not enough = elim (once-cases p n) [
 ]
 put_cond false p n link rest least not enough = omega (arith, enough)
 
-head_in : (p n : ℕ) (old : List ℕ) (b : Bool) (before held : List ℕ) (after : ℕ) → p ≢ 0 → times p old ≡ 0 → n ≡ p
-    → stays_so n after old before held ≡ true → ⊥
-head_in p n [] b before held after other none is stays =
-    let first = (both_true (0 == n) (0 == after) (both_true ((0 == n) && (0 == after)) (bytes_eq before held) stays).0).0 in
+head_in : (p n : ℕ) (old same : List ℕ) (after : ℕ) → p ≢ 0 → times p old ≡ 0 → n ≡ p → stays_so n after old same ≡ true → ⊥
+head_in p n [] same after other none is stays =
+    let first = (both_true (0 == n) (0 == after) (both_true ((0 == n) && (0 == after)) (head_or same 0 == 1) stays).0).0 in
     other (sym (eqb-true 0 n first ∙ is))
-head_in p n (o ∷ os) b before held after other none is stays =
-    let first = (both_true (o == n) (head_or os 0 == after) (both_true ((o == n) && (head_or os 0 == after)) (bytes_eq before held) stays).0).0 in
+head_in p n (o ∷ os) same after other none is stays =
+    let first = (both_true (o == n) (head_or os 0 == after) (both_true ((o == n) && (head_or os 0 == after)) (head_or same 0 == 1) stays).0).0 in
     absurd (omega (arith, none, once-same p o (eqb-true o n first ∙ is)))
 
 times_behind : (p : ℕ) (old : List ℕ) → times p old ≡ 0 → times p (drop 1 old) ≡ 0
 times_behind p [] none = refl
 times_behind p (o ∷ os) none = omega (arith, none)
 
-pub chain_put : (p owner tail : ℕ) (ns bytes old before : List ℕ) → p ≢ 0 → times p old ≡ 0
-    → times p ns ≤ times p (numbers (chain_pairs owner tail ns bytes old before))
-chain_put p owner tail [] bytes old before other none = omega arith
-chain_put p owner tail (n ∷ ns) bytes old before other none =
-    put_cond (stays_so n (head_or ns tail) old (first_held before) (first_held bytes)) p n (link_page (head_or ns tail) owner (first_held bytes))
-    (chain_pairs owner tail ns (later_held bytes) (drop 1 old) (later_held before)) (times p ns)
-    (λ is stays. head_in p n old true (first_held before) (first_held bytes) (head_or ns tail) other none is stays)
-    (chain_put p owner tail ns (later_held bytes) (drop 1 old) (later_held before) other (times_behind p old none))
+pub chain_put : (p owner tail : ℕ) (ns bytes old same : List ℕ) → p ≢ 0 → times p old ≡ 0
+    → times p ns ≤ times p (numbers (chain_pairs owner tail ns bytes old same))
+chain_put p owner tail [] bytes old same other none = omega arith
+chain_put p owner tail (n ∷ ns) bytes old same other none =
+    put_cond (stays_so n (head_or ns tail) old same) p n (link_page (head_or ns tail) owner (first_held bytes))
+    (chain_pairs owner tail ns (later_held bytes) (drop 1 old) (drop 1 same)) (times p ns)
+    (λ is stays. head_in p n old same (head_or ns tail) other none is stays)
+    (chain_put p owner tail ns (later_held bytes) (drop 1 old) (drop 1 same) other (times_behind p old none))
 
 pub laid_put : (p : ℕ) (parts : List Laid) → p ≢ 0 → times_old p parts ≡ 0 → times_new p parts ≤ times p (numbers (laid_pairs parts))
 laid_put p [] other none = omega arith
 laid_put p (one ∷ others) other none =
     omega (
       arith,
-      numbers-append p (chain_pairs one.number 0 one.pages one.bytes one.old one.before) (laid_pairs others),
-      chain_put p one.number 0 one.pages one.bytes one.old one.before other (omega (arith, none)),
+      numbers-append p (chain_pairs one.number 0 one.pages one.bytes one.old one.same) (laid_pairs others),
+      chain_put p one.number 0 one.pages one.bytes one.old one.same other (omega (arith, none)),
       laid_put p others other (omega (arith, none)),
     )
 

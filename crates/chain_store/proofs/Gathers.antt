@@ -72,7 +72,7 @@ module _ (written read before : Lists) where
 
   pub gather_more : (parts : List Part) (part : Part) (left known had left_now known_now had_now : Lists)
       → IsGathering written read before parts left known had → map.get left part.number ≡ Some part.bytes → ((n : ℕ) (bytes : List ℕ) → map.get written n ≡ Some bytes → IsSome (map.get read n))
-      → part.old ≡ unwrap_or (map.get known part.number) [] → part.before ≡ unwrap_or (map.get had part.number) []
+      → part.old ≡ unwrap_or (map.get known part.number) [] → part.same ≡ unwrap_or (map.get had part.number) []
       → left_now ≡ map.remove left part.number → known_now ≡ map.remove known part.number → had_now ≡ map.remove had part.number
       → IsGathering written read before (parts ++ part ∷ []) left_now known_now had_now
   gather_more parts part left known had left_now known_now had_now so_far here some old was left_is known_is had_is =
@@ -86,7 +86,7 @@ module _ (written read before : Lists) where
         each = each-push written read before parts part so_far.each (
           sym same.0 ∙ here,
           some_or (map.get read n) part.old (some n part.bytes (sym same.0 ∙ here)) (old ∙ ap (λ (o : Option (List ℕ)). unwrap_or o []) same.1),
-          none_or (map.get before n) part.before (was ∙ ap (λ (o : Option (List ℕ)). unwrap_or o []) same.2),
+          none_or (map.get before n) part.same (was ∙ ap (λ (o : Option (List ℕ)). unwrap_or o []) same.2),
         );
         apart = apart-push parts part so_far.apart new;
         others = λ q none.

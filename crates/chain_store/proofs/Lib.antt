@@ -14,6 +14,7 @@ pub mod LaidParts
 pub mod LinkLaws
 pub mod Looked
 pub mod Looks
+pub mod MarkLaws
 pub mod Needs
 pub mod NewStore
 pub mod NumberLaws

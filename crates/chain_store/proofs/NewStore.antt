@@ -7,13 +7,14 @@ use Rattle.page_journal.specs.Pages.{number}
 use Rattle.page_journal.proofs.Bytes.{page_long}
 use Rattle.outside.specs.Disk.{DiskView}
 use Rattle.chain_store.specs.Chain.{HasPages, Holds, Path, data_in}
+use Rattle.chain_store.specs.Chains.{IsMarked}
 use Rattle.chain_store.specs.Directories.{first_in}
 use Rattle.chain_store.specs.Gathered.{AreApart, EachGathered, IsNoNumber}
 use Rattle.chain_store.specs.Known.{AreStored, Lists}
 use Rattle.chain_store.specs.Links.{IsLink, data_of, next_of, page_in}
 use Rattle.chain_store.specs.Parts.{IsNoPart, IsPart, growth_of, laid_all, pages_for}
 use Rattle.chain_store.specs.State.{IsOwner, IsSound}
-use Rattle.chain_store.specs.Store.{HasBytes, kept_first}
+use Rattle.chain_store.specs.Store.{kept_first}
 use Rattle.chain_store.specs.declared.kept.Kept.{Kept}
 use Rattle.chain_store.specs.declared.layout.TheConstants.{CHAIN_END, FREE}
 use Rattle.chain_store.specs.declared.parts.Laid.{Laid}
@@ -22,7 +23,7 @@ use Rattle.chain_store.proofs.Attached.{home_page}
 use Rattle.chain_store.proofs.FirstLaws.{first_in-bucket, first_in-free, first_in-root}
 use Rattle.chain_store.proofs.Parting.{AreClear, AreParts}
 use Rattle.chain_store.proofs.Unique.{pages_one}
-use Rattle.chain_store.proofs.WrittenLaws.{WasWritten, was_written}
+use Rattle.chain_store.proofs.WrittenLaws.{WasMarked, was_written}
 
 -- home pages have their length
 pub pages_long : (pages : List (List ℕ)) (bytes : List ℕ) (view : DiskView) → IsSettled pages bytes view → (n : ℕ) → 2 ≤ n → n < length pages + 1
@@ -99,19 +100,29 @@ first_same front one two same n (inr chain) = elim (cases_lt n 16) [
 -- what was gathered are parts of the store
 module _ (pages : List (List ℕ)) (kept : Kept) (written read before : Lists) (buckets : ℕ)
     (known : (n : ℕ) (ns : List ℕ) → finite.get read n ≡ Some ns → HasPages (page_in pages) (length pages + 1) n (kept_first kept n) ns)
-    (had : (n : ℕ) (bytes : List ℕ) → finite.get before n ≡ Some bytes → HasBytes pages n (kept_first kept n) bytes)
+    (marked : (n : ℕ) (same bytes : List ℕ) → finite.get before n ≡ Some same → finite.get written n ≡ Some bytes
+    → IsMarked pages n (kept_first kept n) same bytes)
     (long : (n : ℕ) → 2 ≤ n → n < length pages + 1 → length (page_in pages n) ≡ 4096)
     (stored : AreStored buckets read written) where
+  was_marked : (n first : ℕ) (old same bytes : List ℕ) → n < CHAIN_END → HasPages (page_in pages) (length pages + 1) n first old
+      → IsMarked pages n first same bytes → WasMarked (page_in pages) n old same bytes
+  was_marked n first old same bytes chain has (inl none) = inl none
+  was_marked n first old same bytes chain has (inr (bytes_before, holds, are)) =
+      let own : n ≢ FREE = λ is_free. absurd (omega (arith, is_free, chain)) in
+      let same_ns : holds.ns ≡ old = pages_one (page_in pages) (length pages + 1) n first holds.ns old holds.has has in
+      inr (
+        bytes_before,
+        was_written (page_in pages) (length pages + 1) n own long first old bytes_before has.path
+            (ap (λ (ns : List ℕ). data_in (page_in pages) ns) (sym same_ns) ∙ holds.held),
+        are,
+      )
+
   was_of : (part : Part) → part.number < CHAIN_END → HasPages (page_in pages) (length pages + 1) part.number (kept_first kept part.number) part.old
-      → (part.before ≡ []) ⊎ (finite.get before part.number ≡ Some part.before) → WasWritten (page_in pages) part.number part.old part.before
-  was_of part chain has (inl none) = inl none
-  was_of part chain has (inr is) =
-      let own : part.number ≢ FREE = λ same. absurd (omega (arith, same, chain)) in
-      let holds = had part.number part.before is in
-      let same : holds.ns ≡ part.old =
-      pages_one (page_in pages) (length pages + 1) part.number (kept_first kept part.number) holds.ns part.old holds.has has in
-      inr (was_written (page_in pages) (length pages + 1) part.number own long (kept_first kept part.number) part.old part.before has.path
-      (ap (λ (ns : List ℕ). data_in (page_in pages) ns) (sym same) ∙ holds.held))
+      → finite.get written part.number ≡ Some part.bytes → (part.same ≡ []) ⊎ (finite.get before part.number ≡ Some part.same)
+      → WasMarked (page_in pages) part.number part.old part.same part.bytes
+  was_of part chain has here (inl none) = inl none
+  was_of part chain has here (inr is) =
+      was_marked part.number (kept_first kept part.number) part.old part.same part.bytes chain has (marked part.number part.same part.bytes is here)
 
   pub gathered_are : (parts : List Part) → EachGathered written read before parts → AreApart parts
       → AreParts (page_in pages) (length pages + 1) (kept_first kept) parts
@@ -119,7 +130,7 @@ module _ (pages : List (List ℕ)) (kept : Kept) (written read before : Lists) (
   gathered_are (part ∷ parts) each apart =
       let is = stored part.number part.bytes each.0.0 in
       let has = known part.number part.old each.0.1 in
-      (is.1, has, was_of part is.1 has each.0.2, apart.0, gathered_are parts each.1 apart.1)
+      (is.1, has, was_of part is.1 has each.0.0 each.0.2, apart.0, gathered_are parts each.1 apart.1)
 
 -- what is known of a part that was gathered
 pub laid_part : (written read before : Lists) (parts : List Part) (pool : List ℕ) (n : ℕ) (pages bytes : List ℕ) → EachGathered written read before parts

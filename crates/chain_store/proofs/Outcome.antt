@@ -31,7 +31,7 @@ use Rattle.chain_store.proofs.WrittenLaws.{AreFine, all_written, freed_looks}
 pub all_same : (page f g : ℕ → List ℕ) (parts : List Laid) → ((p : ℕ) → 1 ≤ times_new p parts → g p ≡ f p) → AllLook page f parts → AllLook page g parts
 all_same page f g [] same looks = tt
 all_same page f g (one ∷ others) same looks = (
-  looks_same page f g one.number 0 one.pages one.bytes one.old one.before (λ p some. same p (omega (arith, some))) looks.0,
+  looks_same page f g one.number 0 one.pages one.bytes one.old one.same (λ p some. same p (omega (arith, some))) looks.0,
   all_same page f g others (λ p some. same p (omega (arith, some))) looks.1,
 )
 

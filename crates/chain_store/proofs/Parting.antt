@@ -7,13 +7,13 @@ use Rattle.chain_store.specs.Parts.{AreOld, IsNoPart, IsPart, dealt, growth, gro
 use Rattle.chain_store.specs.declared.layout.TheConstants.{CHAIN_END}
 use Rattle.chain_store.specs.declared.parts.Laid.{Laid}
 use Rattle.chain_store.specs.declared.parts.Part.{Part}
-use Rattle.chain_store.proofs.WrittenLaws.{AreFine, WasWritten}
+use Rattle.chain_store.proofs.WrittenLaws.{AreFine, WasMarked}
 
 -- parts of a store
 abbrev pub AreParts : (ℕ → List ℕ) → ℕ → (ℕ → ℕ) → List Part → Type 0
 AreParts page home first [] = Unit {0}
 AreParts page home first (part ∷ parts) = (part.number < CHAIN_END) × HasPages page home part.number (first part.number) part.old
-    × WasWritten page part.number part.old part.before × IsNoNumber part.number parts × AreParts page home first parts
+    × WasMarked page part.number part.old part.same part.bytes × IsNoNumber part.number parts × AreParts page home first parts
 
 pub no_part : (n : ℕ) (parts : List Part) (pool : List ℕ) → IsNoNumber n parts → IsNoPart n (laid_all parts pool)
 no_part n [] pool none = tt
@@ -74,8 +74,8 @@ old-append page home first (x ∷ xs) ys one two clear =
 pub laid_pairs-append : (xs ys : List Laid) → laid_pairs (xs ++ ys) ≡ laid_pairs xs ++ laid_pairs ys
 laid_pairs-append [] ys = refl
 laid_pairs-append (x ∷ xs) ys =
-    ap (λ l. chain_pairs x.number 0 x.pages x.bytes x.old x.before ++ l) (laid_pairs-append xs ys)
-    ∙ sym (append_assoc (chain_pairs x.number 0 x.pages x.bytes x.old x.before) (laid_pairs xs) (laid_pairs ys))
+    ap (λ l. chain_pairs x.number 0 x.pages x.bytes x.old x.same ++ l) (laid_pairs-append xs ys)
+    ∙ sym (append_assoc (chain_pairs x.number 0 x.pages x.bytes x.old x.same) (laid_pairs xs) (laid_pairs ys))
 
 pub part_left : (n : ℕ) (pages bytes : List ℕ) (xs ys : List Laid) → IsPart n pages bytes xs → IsPart n pages bytes (xs ++ ys)
 part_left n pages bytes [] ys part = absurd part

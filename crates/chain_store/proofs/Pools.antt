@@ -1,7 +1,7 @@
 -- The pool of pages that may be dealt.
-use Rattle.std.proofs.Common.{◌≡◌, inl, inr, ℕ, zero, suc, ◌+◌, ◌-◌, ◌*◌, ◌≤◌, List, [], ◌∷◌, ◌++◌, length, take, drop, map, refl, ap, ◌∙◌, arith, length-append}
+use Rattle.std.proofs.Common.{◌≡◌, inl, inr, ℕ, zero, suc, ◌+◌, ◌-◌, ◌*◌, ◌≤◌, List, [], ◌∷◌, ◌++◌, length, drop, map, refl, ap, ◌∙◌, arith, length-append}
 use Rattle.std.proofs.lemmas.Bool.{cases_lt}
-use Rattle.std.proofs.lemmas.List.{append-nil, drop_all, take_all}
+use Rattle.std.proofs.lemmas.List.{append-nil, drop_all}
 use Rattle.std.proofs.lemmas.List.Elements.{All-head, All-tail}
 use Rattle.std.specs.Int.{w64, to_le_bytes}
 use Rattle.std.specs.List.{All}
@@ -72,13 +72,6 @@ given-filled count laid (part ∷ parts) may =
     let long : length (filled count laid part).bytes ≡ length part.bytes = length-filled count laid part (All-head (MayFill count) part parts may) in
     ap (λ (n : ℕ). drop (pages_for n) part.old ++ given (map (filled count laid) parts)) long
     ∙ ap (λ (l : List ℕ). given_by part ++ l) (given-filled count laid parts (All-tail (MayFill count) part parts may))
-
--- what was written back over the whole of a list
-pub written_back : {A : Type 0} (n : ℕ) (new old : List A) → n ≡ length old → length new ≡ length old → take n (new ++ drop (length new) old) ≡ new
-written_back n new old many same =
-    ap (λ l. take n (new ++ l)) (drop_all (length new) old (omega (arith, same)))
-    ∙ ap (λ l. take n l) (append-nil new)
-    ∙ take_all n new (omega (arith, many, same))
 
 -- behind so many of two lists
 drop_both : (n : ℕ) (xs ys : List ℕ) → drop n (xs ++ ys) ≡ drop n xs ++ drop (n - length xs) ys

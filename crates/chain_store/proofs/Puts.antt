@@ -10,12 +10,13 @@ use Rattle.page_journal.specs.declared.journal.Journal.{Journal}
 use Rattle.page_journal.proofs.Sets.{not_equal}
 use Rattle.chain_store.specs.Answers.{Looked}
 use Rattle.chain_store.specs.Chain.{AreBehindRoot, HasPages, data_in}
-use Rattle.chain_store.specs.Chains.{IsOpenStore}
+use Rattle.chain_store.specs.Chains.{IsMarked, IsOpenStore}
 use Rattle.chain_store.specs.Directories.{IsChain, IsString}
 use Rattle.chain_store.specs.Known.{AreGone, AreHeld, AreKnown, AreStored, Lists}
 use Rattle.chain_store.specs.Links.{page_in}
 use Rattle.chain_store.specs.Store.{HasBytes, kept_first}
 use Rattle.chain_store.specs.declared.kept.Kept.{Kept}
+use Rattle.chain_store.proofs.Gathers.{removed-here, removed-there}
 use Rattle.chain_store.proofs.Looks.{rests_looked}
 
 -- a number is another or the same
@@ -138,12 +139,18 @@ pub put_cases : {E : Type 0} (result : Result (Unit {0}) E) (old new : Lists) (n
 put_cases (Ok done) old new n list ok err = inl ok
 put_cases (Err fault) old new n list ok err = inr err
 
-module _ {D : Type 0} {g : Ghosts D} (pages : List (List ℕ)) (old new : Journal D g) (kept : Kept) (read before : Lists) where
-  pub open_looked : IsOpenStore pages old kept read before → Looked old new → IsOpenStore pages new kept read before
-  open_looked opened looked = record { rests = rests_looked pages old new opened.rests looked; keeps = opened.keeps; known = opened.known; had = opened.had }
+module _ {D : Type 0} {g : Ghosts D} (pages : List (List ℕ)) (old new : Journal D g) (kept : Kept) (read texts written before : Lists) where
+  pub open_looked : IsOpenStore pages old kept read texts written before → Looked old new → IsOpenStore pages new kept read texts written before
+  open_looked opened looked = record {
+    rests = rests_looked pages old new opened.rests looked;
+    keeps = opened.keeps;
+    known = opened.known;
+    had = opened.had;
+    marked = opened.marked;
+  }
 
-  pub open_more : (n : ℕ) (ns : List ℕ) → IsOpenStore pages old kept read before → Looked old new
-      → HasPages (page_in pages) (length pages + 1) n (kept_first kept n) ns → IsOpenStore pages new kept (map.insert read n ns) before
+  pub open_more : (n : ℕ) (ns : List ℕ) → IsOpenStore pages old kept read texts written before → Looked old new
+      → HasPages (page_in pages) (length pages + 1) n (kept_first kept n) ns → IsOpenStore pages new kept (map.insert read n ns) texts written before
   open_more n ns opened looked has = record {
     rests = rests_looked pages old new opened.rests looked;
     keeps = opened.keeps;
@@ -154,25 +161,62 @@ module _ {D : Type 0} {g : Ghosts D} (pages : List (List ℕ)) (old new : Journa
       | inr earlier ↦ opened.known q found earlier
     ];
     had = opened.had;
+    marked = opened.marked;
   }
 
-  pub open_had : (n : ℕ) (bytes : List ℕ) → IsOpenStore pages old kept read before → Looked old new
-      → HasBytes pages n (kept_first kept n) bytes → IsOpenStore pages new kept read (map.insert before n bytes)
+  open_had : (n : ℕ) (bytes : List ℕ) → IsOpenStore pages old kept read texts written before → Looked old new
+      → HasBytes pages n (kept_first kept n) bytes → IsOpenStore pages new kept read (map.insert texts n bytes) written before
   open_had n bytes opened looked has = record {
     rests = rests_looked pages old new opened.rests looked;
     keeps = opened.keeps;
     known = opened.known;
-    had = λ q found is. elim (got before n bytes q found is) [
+    had = λ q found is. elim (got texts n bytes q found is) [
       | inl same ↦
           subst (λ (k : ℕ). HasBytes pages k (kept_first kept k) found) (sym same.0)
           (subst (λ (l : List ℕ). HasBytes pages n (kept_first kept n) l) same.1 has)
       | inr earlier ↦ opened.had q found earlier
     ];
+    marked = opened.marked;
   }
 
-  pub open_held : (n : ℕ) (bytes : List ℕ) (after : Lists) → IsOpenStore pages old kept read before → Looked old new
-      → HasBytes pages n (kept_first kept n) bytes → (after ≡ map.insert before n bytes) ⊎ (after ≡ before) → IsOpenStore pages new kept read after
+  pub open_held : (n : ℕ) (bytes : List ℕ) (after : Lists) → IsOpenStore pages old kept read texts written before → Looked old new
+      → HasBytes pages n (kept_first kept n) bytes → (after ≡ map.insert texts n bytes) ⊎ (after ≡ texts)
+      → IsOpenStore pages new kept read after written before
   open_held n bytes after opened looked has (inl put) =
-      subst (λ (lists : Lists). IsOpenStore pages new kept read lists) (sym put) (open_had n bytes opened looked has)
+      subst (λ (lists : Lists). IsOpenStore pages new kept read lists written before) (sym put) (open_had n bytes opened looked has)
   open_held n bytes after opened looked has (inr same) =
-      subst (λ (lists : Lists). IsOpenStore pages new kept read lists) (sym same) (open_looked opened looked)
+      subst (λ (lists : Lists). IsOpenStore pages new kept read lists written before) (sym same) (open_looked opened looked)
+
+-- a chain is written, with its marks
+module _ {D : Type 0} {g : Ghosts D} (pages : List (List ℕ)) (journal : Journal D g) (kept : Kept) (read texts written before : Lists) (n : ℕ)
+    (same bytes : List ℕ) (opened : IsOpenStore pages journal kept read texts written before) where
+  pub open_written : IsMarked pages n (kept_first kept n) same bytes
+      → IsOpenStore pages journal kept read texts (map.insert written n bytes) (map.insert before n same)
+  open_written marked = record {
+    rests = opened.rests;
+    keeps = opened.keeps;
+    known = opened.known;
+    had = opened.had;
+    marked = λ q marks found marks_are found_is. elim (same_or q n) [
+      | inl here ↦
+          let marks_here : same ≡ marks = (let own = get-here before n same q here in cc) in
+          let bytes_here : bytes ≡ found = (let own = get-here written n bytes q here in cc) in
+          subst (λ (k : ℕ). IsMarked pages k (kept_first kept k) marks found) (sym here)
+          (subst (λ (l : List ℕ). IsMarked pages n (kept_first kept n) l found) marks_here
+          (subst (λ (l : List ℕ). IsMarked pages n (kept_first kept n) same l) bytes_here marked))
+      | inr other ↦ opened.marked q marks found (sym (get-there before n same q other) ∙ marks_are) (sym (get-there written n bytes q other) ∙ found_is)
+    ];
+  }
+
+  -- without marks for it the rest are as before
+  pub open_unmarked : IsOpenStore pages journal kept read texts written (map.remove (map.insert before n same) n)
+  open_unmarked = record {
+    rests = opened.rests;
+    keeps = opened.keeps;
+    known = opened.known;
+    had = opened.had;
+    marked = λ q marks found marks_are found_is. elim (same_or q n) [
+      | inl here ↦ (let gone = removed-here (map.insert before n same) n q here in absurd (cc))
+      | inr other ↦ opened.marked q marks found (sym (removed-there (map.insert before n same) n q other ∙ get-there before n same q other) ∙ marks_are) found_is
+    ];
+  }

@@ -3,11 +3,10 @@ use Rattle.std.proofs.Common.{◌≡◌, ◌≢◌, ◌⊎◌, inl, inr, ℕ, �
 use Rattle.std.proofs.lemmas.Bool.{eqb-true}
 use Rattle.std.proofs.lemmas.Bool.Decides.{nat_tests}
 use Rattle.std.proofs.lemmas.List.{append-nil, take_all, drop_all}
-use Rattle.std.proofs.lemmas.Slice.Eq.{bytes_eq-Decides}
 use Rattle.std.proofs.Math.Seq.{drop-append_seam, take-append_seam}
-use Rattle.std.specs.Str.{bytes_eq}
 use Rattle.chain_store.specs.Chain.{Path, data_in}
 use Rattle.chain_store.specs.Links.{data_of, held_in, many_of, next_of, owner_of}
+use Rattle.chain_store.specs.Marks.{AreSame}
 use Rattle.chain_store.specs.Pairs.{link_page, stays_so}
 use Rattle.chain_store.specs.Parts.{AreFreed, AreLaid, AreWritten, first_held, head_or, later_held, pages_for, times, times_new}
 use Rattle.chain_store.specs.declared.layout.TheConstants.{CHAIN_END, FREE}
@@ -24,10 +23,6 @@ held_few bytes = omega (arith, length-take 4080 bytes)
 later_long : (bytes : List ℕ) → length (later_held bytes) ≡ length bytes - 4080
 unfolding later_held
 later_long bytes = length-drop 4080 bytes
-
-first_some : (bytes : List ℕ) → 1 ≤ length bytes → 1 ≤ length (first_held bytes)
-unfolding first_held
-first_some bytes some = omega (arith, length-take 4080 bytes)
 
 -- bytes that fill a page, and others behind them
 first_whole : (held rest : List ℕ) → length held ≡ 4080 → (first_held (held ++ rest) ≡ held) × (later_held (held ++ rest) ≡ rest)
@@ -101,19 +96,24 @@ written_long page chain tail [] bytes is = omega (arith, ap (λ (l : List ℕ). 
 written_long page chain tail (n ∷ ns) bytes is =
     omega (arith, written_long page chain tail ns (later_held bytes) is.5, later_long bytes, is.0)
 
--- what is known of the old bytes of a chain
-abbrev pub WasWritten : (ℕ → List ℕ) → ℕ → List ℕ → List ℕ → Type 0
-WasWritten page chain old before = (before ≡ []) ⊎ AreWritten page chain 0 old before
+-- what is known of the marks of a chain
+abbrev pub WasMarked : (ℕ → List ℕ) → ℕ → List ℕ → List ℕ → List ℕ → Type 0
+WasMarked page chain old same bytes = (same ≡ []) ⊎ ((before : List ℕ) × AreWritten page chain 0 old before × AreSame same before bytes)
 
 later_none : later_held [] ≡ []
 unfolding later_held
 later_none = refl
 
-was_later : (page : ℕ → List ℕ) (chain : ℕ) (old before : List ℕ) → WasWritten page chain old before
-    → WasWritten page chain (drop 1 old) (later_held before)
-was_later page chain old before (inl none) = inl (ap (λ (l : List ℕ). later_held l) none ∙ later_none)
-was_later page chain [] before (inr was) = inl (ap (λ (l : List ℕ). later_held l) was ∙ later_none)
-was_later page chain (o ∷ os) before (inr was) = inr was.5
+same_later : (same before bytes : List ℕ) → AreSame same before bytes → AreSame (drop 1 same) (later_held before) (later_held bytes)
+same_later [] before bytes are = tt
+same_later (mark ∷ marks) before bytes are = are.1
+
+was_later : (page : ℕ → List ℕ) (chain : ℕ) (old same bytes : List ℕ) → WasMarked page chain old same bytes
+    → WasMarked page chain (drop 1 old) (drop 1 same) (later_held bytes)
+was_later page chain old same bytes (inl none) = inl (ap (λ (l : List ℕ). drop 1 l) none)
+was_later page chain [] same bytes (inr (before, was, are)) =
+    inr (later_held before, ap (λ (l : List ℕ). later_held l) was ∙ later_none, same_later same before bytes are)
+was_later page chain (o ∷ os) same bytes (inr (before, was, are)) = inr (later_held before, was.5, same_later same before bytes are)
 
 -- a page that stays is the one that is wanted
 record IsPage (page : List ℕ) (chain after : ℕ) (held : List ℕ) : Type 0 where
@@ -122,30 +122,31 @@ record IsPage (page : List ℕ) (chain after : ℕ) (held : List ℕ) : Type 0 w
   many : many_of page ≡ length held
   held_is : data_of page ≡ held
 
-first_none : first_held [] ≡ []
-unfolding first_held
-first_none = refl
+-- where the first page is marked it keeps its bytes
+same_here : (same before bytes : List ℕ) → AreSame same before bytes → (head_or same 0 == 1) ≡ true → first_held before ≡ first_held bytes
+same_here [] before bytes are marked = absurd (omega (arith, eqb-true 0 1 marked))
+same_here (mark ∷ marks) before bytes are marked = are.0 (eqb-true mark 1 marked)
 
-stayed : (page : ℕ → List ℕ) (chain n after : ℕ) (old before held : List ℕ) → 2 ≤ n → 1 ≤ length held → WasWritten page chain old before
-    → stays_so n after old (first_held before) held ≡ true → IsPage (page n) chain after held
-stayed page chain n after old before held above some (inl none) stays =
-    let same = (bytes_eq-Decides (first_held before) held).0 (both_true ((head_or old 0 == n) && (head_or (drop 1 old) 0 == after)) (bytes_eq (first_held before) held) stays).1 in
-    absurd (omega (arith, some, ap (λ (l : List ℕ). length l) (sym same ∙ ap (λ (l : List ℕ). first_held l) none ∙ first_none)))
-stayed page chain n after [] before held above some (inr was) stays =
-    let one = both_true ((0 == n) && (0 == after)) (bytes_eq (first_held before) held) stays in
+stayed : (page : ℕ → List ℕ) (chain n after : ℕ) (old same bytes : List ℕ) → 2 ≤ n → WasMarked page chain old same bytes
+    → stays_so n after old same ≡ true → IsPage (page n) chain after (first_held bytes)
+stayed page chain n after old same bytes above (inl none) stays =
+    let marked = (both_true ((head_or old 0 == n) && (head_or (drop 1 old) 0 == after)) (head_or same 0 == 1) stays).1 in
+    absurd (omega (arith, eqb-true 0 1 (ap (λ (l : List ℕ). head_or l 0 == 1) (sym none) ∙ marked)))
+stayed page chain n after [] same bytes above (inr was) stays =
+    let one = both_true ((0 == n) && (0 == after)) (head_or same 0 == 1) stays in
     let two = both_true (0 == n) (0 == after) one.0 in
     absurd (omega (arith, eqb-true 0 n two.0, above))
-stayed page chain n after (o ∷ os) before held above some (inr was) stays =
-    let one = both_true ((o == n) && (head_or os 0 == after)) (bytes_eq (first_held before) held) stays in
+stayed page chain n after (o ∷ os) same bytes above (inr (before, was, are)) stays =
+    let one = both_true ((o == n) && (head_or os 0 == after)) (head_or same 0 == 1) stays in
     let two = both_true (o == n) (head_or os 0 == after) one.0 in
     let here : o ≡ n = eqb-true o n two.0 in
     let next : head_or os 0 ≡ after = eqb-true (head_or os 0) after two.1 in
-    let same : first_held before ≡ held = (bytes_eq-Decides (first_held before) held).0 one.1 in
-    subst (λ (k : ℕ). IsPage (page k) chain after held) here (record {
+    let kept : first_held before ≡ first_held bytes = same_here same before bytes are one.1 in
+    subst (λ (k : ℕ). IsPage (page k) chain after (first_held bytes)) here (record {
       owner = was.1;
       next = was.2 ∙ next;
-      many = was.3 ∙ ap (λ (l : List ℕ). length l) same;
-      held_is = was.4 ∙ same;
+      many = was.3 ∙ ap (λ (l : List ℕ). length l) kept;
+      held_is = was.4 ∙ kept;
     })
 
 made : (chain after : ℕ) (held : List ℕ) → chain < CHAIN_END → after < 2 ^ 64 → length held ≤ 4080 → IsPage (link_page after chain held) chain after held
@@ -173,32 +174,31 @@ zero_not : (n : ℕ) → 2 ≤ n → (0 == n) ≡ false
 zero_not n above = grind (arith, nat_tests)
 
 -- a free page is put, whatever stood there
-not_kept : (n after : ℕ) → 2 ≤ n → (x y : List ℕ) → cond (stays_so n after [] (first_held []) (first_held [])) x y ≡ y
-not_kept n after above x y =
-    ap (λ (b : Bool). cond ((b && (0 == after)) && bytes_eq (first_held []) (first_held [])) x y) (zero_not n above)
+not_kept : (n after : ℕ) → 2 ≤ n → (x y : List ℕ) → cond (stays_so n after [] []) x y ≡ y
+not_kept n after above x y = ap (λ (b : Bool). cond ((b && (0 == after)) && (0 == 1)) x y) (zero_not n above)
 
 module _ (page f : ℕ → List ℕ) where
-  pub written_looks : (chain : ℕ) (ns bytes old before : List ℕ) → chain < CHAIN_END → ((p : ℕ) → 1 ≤ times p ns → (2 ≤ p) × (p < 2 ^ 64))
-      → length ns ≡ pages_for (length bytes) → WasWritten page chain old before → Looks page f chain 0 ns bytes old before
+  pub written_looks : (chain : ℕ) (ns bytes old same : List ℕ) → chain < CHAIN_END → ((p : ℕ) → 1 ≤ times p ns → (2 ≤ p) × (p < 2 ^ 64))
+      → length ns ≡ pages_for (length bytes) → WasMarked page chain old same bytes → Looks page f chain 0 ns bytes old same
       → AreWritten f chain 0 ns bytes
-  written_looks chain [] bytes old before own inside many was looks = none_long bytes (omega (arith, many))
-  written_looks chain (n ∷ ns) bytes old before own inside many was looks =
+  written_looks chain [] bytes old same own inside many was looks = none_long bytes (omega (arith, many))
+  written_looks chain (n ∷ ns) bytes old same own inside many was looks =
       let some : 1 ≤ length bytes = omega (arith, many) in
       let above = (inside n (elim (once-cases n n) [ inl is ↦ omega (arith, is.1) | inr not ↦ absurd (not.0 refl) ])).0 in
       let held : List ℕ = first_held bytes in
       let after : ℕ = head_or ns 0 in
       let small : after < 2 ^ 64 = head_small ns (λ p there. inside p (omega (arith, there))) in
       let is : IsPage (f n) chain after held =
-      either (stays_so n after old (first_held before) held) (page n) (link_page after chain held) (f n) chain after held looks.0
-      (stayed page chain n after old before held above (first_some bytes some) was)
+      either (stays_so n after old same) (page n) (link_page after chain held) (f n) chain after held looks.0
+      (stayed page chain n after old same bytes above was)
       (made chain after held own small (held_few bytes)) in (
         some,
         is.owner,
         is.next,
         is.many,
         is.held_is,
-        written_looks chain ns (later_held bytes) (drop 1 old) (later_held before) own (λ p there. inside p (omega (arith, there)))
-            (omega (arith, many, later_long bytes)) (was_later page chain old before was) looks.1,
+        written_looks chain ns (later_held bytes) (drop 1 old) (drop 1 same) own (λ p there. inside p (omega (arith, there)))
+            (omega (arith, many, later_long bytes)) (was_later page chain old same bytes was) looks.1,
       )
 
   pub freed_looks : (tail : ℕ) (ns : List ℕ) → tail < 2 ^ 64 → ((p : ℕ) → 1 ≤ times p ns → (2 ≤ p) × (p < 2 ^ 64)) → Looks page f FREE tail ns [] [] []
@@ -212,20 +212,19 @@ module _ (page f : ℕ → List ℕ) where
         ap (λ (l : List ℕ). owner_of l) put ∙ owner_of-link_page after FREE (first_held []) (omega arith),
         ap (λ (l : List ℕ). next_of l) put ∙ next_of-link_page after FREE (first_held []) low,
         freed_looks tail ns small (λ p there. inside p (omega (arith, there)))
-            (subst (λ (l : List ℕ). Looks page f FREE tail ns l [] []) later_none
-            (subst (λ (l : List ℕ). Looks page f FREE tail ns (later_held []) [] l) later_none looks.1)),
+            (subst (λ (l : List ℕ). Looks page f FREE tail ns l [] []) later_none looks.1),
       )
 
 -- what is known of each part
 abbrev pub AreFine : (ℕ → List ℕ) → List Laid → Type 0
 AreFine page [] = Unit {0}
 AreFine page (one ∷ others) = (one.number < CHAIN_END) × (length one.pages ≡ pages_for (length one.bytes))
-    × WasWritten page one.number one.old one.before × AreFine page others
+    × WasMarked page one.number one.old one.same one.bytes × AreFine page others
 
 pub all_written : (page f : ℕ → List ℕ) (parts : List Laid) → AreFine page parts → ((p : ℕ) → 1 ≤ times_new p parts → (2 ≤ p) × (p < 2 ^ 64))
     → AllLook page f parts → AreLaid f parts
 all_written page f [] fine inside looks = tt
 all_written page f (one ∷ others) fine inside looks = (
-  written_looks page f one.number one.pages one.bytes one.old one.before fine.0 (λ p some. inside p (omega (arith, some))) fine.1 fine.2 looks.0,
+  written_looks page f one.number one.pages one.bytes one.old one.same fine.0 (λ p some. inside p (omega (arith, some))) fine.1 fine.2 looks.0,
   all_written page f others fine.3 (λ p some. inside p (omega (arith, some))) looks.1,
 )

@@ -16,6 +16,7 @@ use Rattle.chain_store.specs.Chain.{HasPages}
 use Rattle.chain_store.specs.Directories.{IsChain}
 use Rattle.chain_store.specs.Known.{Lists}
 use Rattle.chain_store.specs.Links.{page_in}
+use Rattle.chain_store.specs.Marks.{AreSame}
 use Rattle.chain_store.specs.Store.{HasBytes, IsRefused, Keeps, kept_first}
 
 -- the journal, and what is seen of its disk
@@ -43,23 +44,33 @@ written_of chains = chains.written
 abbrev pub read_of : {D : Type 0} {g : Ghosts D} → Chains D g → Lists
 read_of chains = chains.read
 
--- the bytes that some chains have in the store, as far as they are known
+-- the bytes that chains below the buckets have in the store, as far as they were read; and of chains that were written which
+-- pages are as before: a mark for each, 1 where it keeps its bytes
+abbrev pub texts_of : {D : Type 0} {g : Ghosts D} → Chains D g → Lists
+texts_of chains = chains.texts
+
 abbrev pub before_of : {D : Type 0} {g : Ghosts D} → Chains D g → Lists
 before_of chains = chains.before
 
 abbrev pub is_refused : {D : Type 0} {g : Ghosts D} → Chains D g → Bool
 is_refused chains = chains.refused
 
--- the store is at rest with these home pages, and what is kept of it, and was read, is so there
-pub record IsOpenStore {D : Type 0} {g : Ghosts D} (pages : List (List ℕ)) (journal : Journal D g) (kept : Kept) (read before : Lists) : Type 0 where
+-- these marks of a chain that is to have these bytes are true of the store: none, or only of pages that have them there
+abbrev pub IsMarked : List (List ℕ) → ℕ → ℕ → List ℕ → List ℕ → Type 0
+IsMarked pages n first same bytes = (same ≡ []) ⊎ ((old : List ℕ) × HasBytes pages n first old × AreSame same old bytes)
+
+-- the store is at rest with these home pages, and what is kept of it, was read, and is marked, is so there
+pub record IsOpenStore {D : Type 0} {g : Ghosts D} (pages : List (List ℕ)) (journal : Journal D g) (kept : Kept) (read texts written before : Lists) : Type 0 where
   pub rests : RestsWith pages journal
   pub keeps : Keeps pages kept
   pub known : (n : ℕ) (ns : List ℕ) → map.get read n ≡ Some ns
       → HasPages (page_in pages) (length pages + 1) n (kept_first kept n) ns
-  pub had : (n : ℕ) (bytes : List ℕ) → map.get before n ≡ Some bytes → HasBytes pages n (kept_first kept n) bytes
+  pub had : (n : ℕ) (bytes : List ℕ) → map.get texts n ≡ Some bytes → HasBytes pages n (kept_first kept n) bytes
+  pub marked : (n : ℕ) (same bytes : List ℕ) → map.get before n ≡ Some same → map.get written n ≡ Some bytes
+      → IsMarked pages n (kept_first kept n) same bytes
 
 abbrev pub IsOpen : {D : Type 0} {g : Ghosts D} → List (List ℕ) → Chains D g → Type 0
-IsOpen pages chains = IsOpenStore pages chains.journal chains.kept chains.read chains.before
+IsOpen pages chains = IsOpenStore pages chains.journal chains.kept chains.read chains.texts chains.written chains.before
 
 -- the transaction only looked at the store: it has written nothing more
 pub record OnlyRead {D : Type 0} {g : Ghosts D} (old new : Chains D g) : Type 0 where

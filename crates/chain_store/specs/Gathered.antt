@@ -14,10 +14,10 @@ abbrev pub AreApart : List Part → Type 0
 AreApart [] = Unit {0}
 AreApart (part ∷ parts) = IsNoNumber part.number parts × AreApart parts
 
--- a part has the bytes that were written, the pages that were read, and the bytes from before where they are known
+-- a part has the bytes that were written, the pages that were read, and the marks of pages that stay, or none
 abbrev pub IsGathered : Lists → Lists → Lists → Part → Type 0
 IsGathered written read before part = (map.get written part.number ≡ Some part.bytes) × (map.get read part.number ≡ Some part.old)
-    × ((part.before ≡ []) ⊎ (map.get before part.number ≡ Some part.before))
+    × ((part.same ≡ []) ⊎ (map.get before part.number ≡ Some part.same))
 
 abbrev pub EachGathered : Lists → Lists → Lists → List Part → Type 0
 EachGathered written read before [] = Unit {0}
@@ -47,5 +47,6 @@ base_parts same count number (walked ∷ others) = record {
   number = number;
   old = walked.pages.items;
   before = walked.bytes.items;
+  same = [];
   bytes = base_of same count walked.bytes.items;
 } ∷ base_parts same count (number + 1) others

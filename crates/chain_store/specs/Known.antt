@@ -25,7 +25,7 @@ AreGone before buckets first written = buckets ≢ before → (n : ℕ) → 16 �
 
 -- of each string below the buckets that was read the bytes are known too
 abbrev pub AreHeld : Lists → Lists → Type 0
-AreHeld read before = (n : ℕ) → n < 16 → IsSome (map.get read n) → IsSome (map.get before n)
+AreHeld read texts = (n : ℕ) → n < 16 → IsSome (map.get read n) → IsSome (map.get texts n)
 
 -- this chain was read, and the disk at most once for each of its pages
 abbrev pub ReadsChain : ℕ → ℕ → Lists → Lists → DiskView → DiskView → Type 0

@@ -7,6 +7,7 @@ pub mod Store
 pub mod Answers
 pub mod Known
 pub mod Parts
+pub mod Marks
 pub mod Planned
 pub mod Gathered
 pub mod Plan

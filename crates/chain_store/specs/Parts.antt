@@ -55,7 +55,7 @@ given [] = []
 given (part ∷ parts) = given_by part ++ given parts
 
 abbrev pub laid_of : Part → List ℕ → Laid
-laid_of part pages = record { number = part.number; old = part.old; pages = pages; before = part.before; bytes = part.bytes }
+laid_of part pages = record { number = part.number; old = part.old; pages = pages; same = part.same; bytes = part.bytes }
 
 -- all of them, one after another
 abbrev pub laid_all : List Part → List ℕ → List Laid

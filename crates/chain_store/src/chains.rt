@@ -35,10 +35,11 @@ pub struct Chains<'d, D: Disk> {
     read: NumberMap<Ids>,
     written: NumberMap<Bytes>,
     before: NumberMap<Bytes>,
+    texts: NumberMap<Bytes>,
     refused: bool,
     ghost known: { AreKnown (home_count journal) read },
     ghost behind: { AreAllBehindRoot (home_count journal) kept.directories.items },
-    ghost held: { AreHeld read before },
+    ghost held: { AreHeld read texts },
     ghost stored: { AreStored root.buckets read written },
     ghost gone: { AreGone (buckets_in kept.front.items) root.buckets (kept_first kept) written },
     ghost few: { root.buckets ≤ 65536 },
@@ -68,6 +69,7 @@ impl<'d, D: Disk> Chains<'d, D> {
             read: NumberMap::new(alloc),
             written: NumberMap::new(alloc),
             before: NumberMap::new(alloc),
+            texts: NumberMap::new(alloc),
             refused: false,
         }
     }
@@ -95,6 +97,7 @@ impl<'d, D: Disk> Chains<'d, D> {
             read: _,
             written: _,
             before: _,
+            texts: _,
             refused: _,
         } = self;
         (journal, kept)
@@ -117,6 +120,7 @@ impl<'d, D: Disk> Chains<'d, D> {
         self.written = NumberMap::new(self.alloc);
         self.read = NumberMap::new(self.alloc);
         self.before = NumberMap::new(self.alloc);
+        self.texts = NumberMap::new(self.alloc);
         self.root = root;
         self.refused = false;
     }

@@ -1,5 +1,5 @@
 //! First pages are put into directories and into the root page.
-ghost use Rattle.std.specs.Prelude.{◌≡◌, ◌+◌, ◌-◌, ◌*◌, ◌≤◌, ◌<◌, length, map};
+ghost use Rattle.std.specs.Prelude.{◌≡◌, ◌+◌, ◌-◌, ◌*◌, ◌≤◌, ◌<◌, length, map, IfOk};
 ghost use Rattle.outside.specs.Disk.{overlaid};
 ghost use Rattle.std.specs.List.{All};
 ghost use Rattle.std.specs.Int.{w64, to_le_bytes};
@@ -7,10 +7,10 @@ ghost use Rattle.chain_store.specs.Firsts.{MayFill, filled, firsts_put, first_pu
 ghost use Rattle.chain_store.specs.Parts.{head_or};
 
 use crate::layout::{BUCKET, DIRECTORY, MAX_BUCKETS};
+use crate::marks::same_pages;
 use crate::parts::{Laid, Part};
-use osm_base::Bytes;
+use osm_base::{Bytes, OutOfMemory};
 use std::alloc::Global;
-use std::mem;
 
 /// Puts a number at its place.
 pub fn put_number(bytes: &mut [u8], at: usize, value: u64)
@@ -57,24 +57,44 @@ pub fn head_of(pages: &[u64]) -> u64
 }
 
 /// Puts the first pages of these chains into the directories of their maps.
-pub fn fill_all(alloc: Global, directories: &mut [Part], count: usize, laid: &[Laid])
-    requires { All (MayFill count) directories.old }
-    ensures { directories.new ≡ map (filled count laid.now) directories.old }
+pub fn fill_all(
+    alloc: Global,
+    directories: Vec<Part>,
+    count: usize,
+    laid: &[Laid],
+) -> Result<Vec<Part>, OutOfMemory>
+    requires { All (MayFill count) directories.items }
+    ensures { IfOk result (λ parts. parts.items ≡ map (filled count laid.now) directories.items) }
 {
-    for directory in directories.iter_mut() {
-        fill(alloc, directory, count, laid);
+    let mut parts = Vec::with_capacity(alloc, directories.len())?;
+    for directory in directories {
+        parts.push(fill(alloc, directory, count, laid)?)?;
     }
+    Ok(parts)
 }
 
-// Puts the first pages of the buckets of a map into its directory.
-fn fill(alloc: Global, directory: &mut Part, count: usize, laid: &[Laid])
-    requires { MayFill count directory.now }
-    ensures { directory.exit.now ≡ filled count laid.now directory.entry.now }
+// Puts the first pages of the buckets of a map into its directory, and marks the pages that keep their bytes.
+fn fill(alloc: Global, directory: Part, count: usize, laid: &[Laid]) -> Result<Part, OutOfMemory>
+    requires { MayFill count directory }
+    ensures { IfOk result (λ part. part ≡ filled count laid.now directory) }
 {
-    let mut bytes = mem::replace(&mut directory.bytes, Bytes::new(alloc)).into_vec();
-    let low = first_bucket(directory.number);
-    put_firsts(&mut bytes, 0, low, count, laid);
-    directory.bytes = Bytes::from_vec(bytes);
+    let Part {
+        number,
+        old,
+        before,
+        same: _,
+        bytes,
+    } = directory;
+    let mut filled = bytes.into_vec();
+    put_firsts(&mut filled, 0, first_bucket(number), count, laid);
+    let same = same_pages(alloc, before.as_slice(), &filled)?;
+    Ok(Part {
+        number,
+        old,
+        before,
+        same,
+        bytes: Bytes::from_vec(filled),
+    })
 }
 
 // The chain of the first bucket of the map of a directory.

@@ -1,5 +1,5 @@
 //! What a commit writes is gathered.
-ghost use Rattle.std.specs.Prelude.{◌≡◌, ◌+◌, ◌*◌, ◌≤◌, ◌<◌, ◌==◌, Bool, ℕ, List, Some, length, replicate, IfOk, IsSome};
+ghost use Rattle.std.specs.Prelude.{◌≡◌, ◌+◌, ◌*◌, ◌≤◌, ◌<◌, ◌==◌, Bool, ℕ, List, [], Some, length, replicate, IfOk, IsSome};
 ghost use Rattle.std.specs.FinMap as map;
 ghost use Rattle.chain_store.specs.Gathered.{AreGathered, base_of, base_parts};
 
@@ -10,7 +10,7 @@ use crate::walking::Walked;
 use osm_base::{Bytes, Ids, OutOfMemory};
 use std::alloc::Global;
 
-/// The chains that were written, with the pages that they had.
+/// The chains that were written, with the pages that they had and the marks of those that stay.
 pub fn gather(
     alloc: Global,
     written: NumberMap<Bytes>,
@@ -30,11 +30,12 @@ pub fn gather(
             None => return Ok(parts),
         };
         let old = known.take_or(number, Ids::new(alloc));
-        let before = had.take_or(number, Bytes::new(alloc));
+        let same = had.take_or(number, Bytes::new(alloc));
         parts.push(Part {
             number,
             old,
-            before,
+            before: Bytes::new(alloc),
+            same,
             bytes,
         })?;
     }
@@ -73,6 +74,7 @@ fn directory_part(
       number = number;
       old = directory.now.pages.items;
       before = directory.now.bytes.items;
+      same = [];
       bytes = base_of same count directory.now.bytes.items;
     }) }
 {
@@ -82,6 +84,7 @@ fn directory_part(
         number,
         old: Ids::from_vec(old),
         before: Bytes::from_vec(before),
+        same: Bytes::new(alloc),
         bytes: base(alloc, &directory.bytes, same, count)?,
     })
 }

@@ -23,30 +23,27 @@ pub fn put_all(alloc: Global, set: &mut PageSet, laid: &[Laid]) -> Result<(), Ou
 // Puts the pages of a chain.
 fn put_laid(alloc: Global, set: &mut PageSet, one: &Laid) -> Result<(), OutOfMemory>
     ensures put { OnOk result (set.new
-        ≡ puts set.old (chain_pairs one.now.number 0 one.now.pages one.now.bytes one.now.old one.now.before)) }
+        ≡ puts set.old (chain_pairs one.now.number 0 one.now.pages one.now.bytes one.now.old one.now.same)) }
 {
     let chain = Chain {
         owner: one.number,
         tail: 0,
         pages: one.pages.as_slice(),
         old: one.old.as_slice(),
+        same: one.same.as_slice(),
     };
-    put_chain(
-        alloc,
-        set,
-        &chain,
-        one.bytes.as_slice(),
-        one.before.as_slice(),
-    )
+    put_chain(alloc, set, &chain, one.bytes.as_slice())
 }
 
-/// The pages of a chain: its number, the page behind the last, the pages and those that it had.
+/// The pages of a chain: its number, the page behind the last, the pages, those that it had, and marks for those that
+/// keep their bytes.
 #[derive(Clone, Copy)]
 pub struct Chain<'a> {
     pub owner: u32,
     pub tail: u64,
     pub pages: &'a [u64],
     pub old: &'a [u64],
+    pub same: &'a [u8],
 }
 
 /// Puts the pages of a chain with these bytes, without those that stay.
@@ -55,25 +52,21 @@ pub fn put_chain(
     set: &mut PageSet,
     chain: &Chain<'_>,
     bytes: &[u8],
-    before: &[u8],
 ) -> Result<(), OutOfMemory>
     ensures put { OnOk result (set.new
-        ≡ puts set.old (chain_pairs chain.now.owner chain.now.tail chain.now.pages.now bytes.now chain.now.old.now before.now)) }
+        ≡ puts set.old (chain_pairs chain.now.owner chain.now.tail chain.now.pages.now bytes.now chain.now.old.now chain.now.same.now)) }
 {
     let mut rest = bytes;
-    let mut rest_before = before;
     for place in 0..chain.pages.len() {
         let (held, later) = cut(rest);
-        let (held_before, later_before) = cut(rest_before);
-        put_page(alloc, set, chain, place, held, held_before)?;
+        put_page(alloc, set, chain, place, held)?;
         rest = later;
-        rest_before = later_before;
     }
     Ok(())
 }
 
-// What a page holds of these bytes, and the rest.
-fn cut(bytes: &[u8]) -> (&[u8], &[u8])
+/// What a page holds of these bytes, and the rest.
+pub fn cut(bytes: &[u8]) -> (&[u8], &[u8])
     ensures held { result.0.now ≡ first_held bytes.now }
     ensures few { length result.0.now ≤ 4080 }
     ensures behind { result.1.now ≡ later_held bytes.now }
@@ -88,17 +81,16 @@ fn put_page(
     chain: &Chain<'_>,
     place: usize,
     held: &[u8],
-    before: &[u8],
 ) -> Result<(), OutOfMemory>
     requires place { place < length chain.now.pages.now }
     requires few { length held.now ≤ 4080 }
     ensures put { OnOk result (set.new ≡ cond
         (stays_so (slice_index chain.now.pages.now place) (head_or (drop (place + 1) chain.now.pages.now) chain.now.tail)
-        (drop place chain.now.old.now) before.now held.now)
+        (drop place chain.now.old.now) (drop place chain.now.same.now))
         set.old (map.insert set.old (slice_index chain.now.pages.now place)
         (link_page (head_or (drop (place + 1) chain.now.pages.now) chain.now.tail) chain.now.owner held.now))) }
 {
-    if is_kept(chain, place, held, before) {
+    if is_kept(chain, place) {
         return Ok(());
     }
     let next = number_from(chain.pages, place + 1, chain.tail);
@@ -109,16 +101,26 @@ fn put_page(
 }
 
 // Whether the page at a place of a chain stays as it was.
-fn is_kept(chain: &Chain<'_>, place: usize, held: &[u8], before: &[u8]) -> bool
+fn is_kept(chain: &Chain<'_>, place: usize) -> bool
     requires { place < length chain.now.pages.now }
     ensures { result ≡ stays_so (slice_index chain.now.pages.now place) (head_or (drop (place + 1) chain.now.pages.now) chain.now.tail)
-        (drop place chain.now.old.now) before.now held.now }
+        (drop place chain.now.old.now) (drop place chain.now.same.now) }
 {
     let next = number_from(chain.pages, place + 1, chain.tail);
     if !stays(chain.old, place, chain.pages[place], next) {
         return false;
     }
-    before == held
+    mark_at(chain.same, place) == 1
+}
+
+// The mark at a place, or 0 behind the end.
+fn mark_at(marks: &[u8], place: usize) -> u8
+    ensures { result ≡ head_or (drop place marks.now) 0 }
+{
+    match marks.get(place) {
+        Some(mark) => *mark,
+        None => 0,
+    }
 }
 
 // Whether the page was at this place, before that one.

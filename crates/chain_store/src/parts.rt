@@ -6,13 +6,14 @@ use crate::layout::HELD;
 use osm_base::{Bytes, Ids, OutOfMemory};
 use std::alloc::Global;
 
-/// A chain that a commit writes: its number, the pages that it had, the bytes that it had where they are known, and
-/// its new bytes.
+/// A chain that a commit writes: its number, the pages that it had, the bytes that it had where it is a directory, marks
+/// for the pages that keep their bytes, and its new bytes.
 #[derive(Drop)]
 pub struct Part {
     pub number: u32,
     pub old: Ids,
     pub before: Bytes,
+    pub same: Bytes,
     pub bytes: Bytes,
 }
 
@@ -22,7 +23,7 @@ pub struct Laid {
     pub number: u32,
     pub old: Ids,
     pub pages: Ids,
-    pub before: Bytes,
+    pub same: Bytes,
     pub bytes: Bytes,
 }
 
@@ -124,7 +125,8 @@ fn lay(alloc: Global, part: Part, taken: &[u64]) -> Result<Laid, OutOfMemory>
     let Part {
         number,
         old,
-        before,
+        before: _,
+        same,
         bytes,
     } = part;
     let pages = dealt(alloc, old.as_slice(), page_count(bytes.as_slice()), taken)?;
@@ -132,7 +134,7 @@ fn lay(alloc: Global, part: Part, taken: &[u64]) -> Result<Laid, OutOfMemory>
         number,
         old,
         pages,
-        before,
+        same,
         bytes,
     })
 }

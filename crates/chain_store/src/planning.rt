@@ -140,8 +140,9 @@ impl Dealt {
             tail: self.tail,
             pages: self.left.as_slice(),
             old: &[],
+            same: &[],
         };
-        put_chain(alloc, &mut set, &free, &[], &[])?;
+        put_chain(alloc, &mut set, &free, &[])?;
         set.put_owned(1, front)?;
         Ok(set)
     }
@@ -199,8 +200,7 @@ fn lay_directories(
     requires enough { growth bases.items ≤ length pool.now }
     ensures { IfOk result (λ laid. laid.items ≡ laid_all (map (filled count chains.now) bases.items) pool.now) }
 {
-    let mut directories = bases;
-    fill_all(alloc, &mut directories, count, chains);
+    let directories = fill_all(alloc, bases, count, chains)?;
     lay_all(alloc, directories, pool)
 }
 
@@ -265,7 +265,7 @@ fn walked_of(laid: Laid) -> Walked
         number: _,
         old: _,
         pages,
-        before: _,
+        same: _,
         bytes,
     } = laid;
     Walked {

@@ -25,7 +25,7 @@ use outside::Disk;
 use page_journal::StoreFault;
 use std::mem;
 
-/// What a transaction has written and read, and the fields that it gives the store.
+/// What a transaction has written, with marks for the pages that stay, and read, and the fields that it gives the store.
 #[derive(Drop)]
 pub(crate) struct Taken {
     written: NumberMap<Bytes>,
@@ -35,7 +35,7 @@ pub(crate) struct Taken {
 }
 
 impl<'d, D: Disk> Chains<'d, D> {
-    ghost use Rattle.chain_store.specs.Chains.{IsOpen, IsOpenStore, before_of, disk_of, is_refused, journal_of, kept_of, read_of, root_of, written_of};
+    ghost use Rattle.chain_store.specs.Chains.{IsOpen, IsOpenStore, before_of, disk_of, is_refused, journal_of, kept_of, read_of, root_of, texts_of, written_of};
     ghost use Rattle.chain_store.specs.Taken.{MayCommit};
 
     /// Makes what was written stand, all of it or nothing, and begins a transaction anew. At every moment a crash
@@ -85,6 +85,7 @@ impl<'d, D: Disk> Chains<'d, D> {
         ensures read { read_of self.new ≡ map.empty }
         ensures written { written_of self.new ≡ map.empty }
         ensures before { before_of self.new ≡ map.empty }
+        ensures texts { texts_of self.new ≡ map.empty }
         ensures root { root_of self.new ≡ root_in (kept_of self.old).front.items }
     {
         let root = self.kept.root();
@@ -94,6 +95,7 @@ impl<'d, D: Disk> Chains<'d, D> {
             before: mem::replace(&mut self.before, NumberMap::new(self.alloc)),
             root: self.root,
         };
+        self.texts = NumberMap::new(self.alloc);
         self.root = root;
         taken
     }
@@ -104,19 +106,20 @@ impl<'d, D: Disk> Chains<'d, D> {
         requires read { read_of self.old ≡ map.empty }
         requires written { written_of self.old ≡ map.empty }
         requires before { before_of self.old ≡ map.empty }
+        requires texts { texts_of self.old ≡ map.empty }
         requires root { root_of self.old ≡ root_in (kept_of self.old).front.items }
         ensures any_moment { (root : Root) (strings : ℕ → List ℕ) (pages : List (List ℕ))
-            → IsOpenStore pages (journal_of self.old) (kept_of self.old) taken.read taken.before → IsState root strings pages
+            → IsOpenStore pages (journal_of self.old) (kept_of self.old) taken.read (texts_of self.old) taken.written taken.before → IsState root strings pages
             → Goes (λ left. HasState root strings left ⊎ HasState taken.root (changed strings taken.written) left)
             (disk_of self.old).crashes (disk_of self.new).crashes }
         ensures done { OnOk result ((root : Root) (strings : ℕ → List ℕ) (pages : List (List ℕ))
-            → IsOpenStore pages (journal_of self.old) (kept_of self.old) taken.read taken.before → IsState root strings pages
+            → IsOpenStore pages (journal_of self.old) (kept_of self.old) taken.read (texts_of self.old) taken.written taken.before → IsState root strings pages
             → (new : List (List ℕ)) × IsOpen new self.new × IsState taken.root (changed strings taken.written) new) }
-        ensures answers { (pages : List (List ℕ)) → IsOpenStore pages (journal_of self.old) (kept_of self.old) taken.read taken.before
+        ensures answers { (pages : List (List ℕ)) → IsOpenStore pages (journal_of self.old) (kept_of self.old) taken.read (texts_of self.old) taken.written taken.before
             → Ends pages (kept_of self.old) taken.root taken.written taken.read taken.before
             (page_limit (journal_of self.old)) (home_count (journal_of self.new)) result }
         ensures needs { (root : Root) (strings : ℕ → List ℕ) (pages : List (List ℕ))
-            → IsOpenStore pages (journal_of self.old) (kept_of self.old) taken.read taken.before → IsState root strings pages
+            → IsOpenStore pages (journal_of self.old) (kept_of self.old) taken.read (texts_of self.old) taken.written taken.before → IsState root strings pages
             → FitsNeeded (needed (home_count (journal_of self.old)) taken.root.buckets (changed strings taken.written))
             (page_limit (journal_of self.old)) (home_count (journal_of self.new)) result }
         ensures alone { IsCommitAnswer (is_broken (journal_of self.old)) (page_limit (journal_of self.old)) result }

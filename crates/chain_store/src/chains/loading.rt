@@ -11,6 +11,7 @@ ghost use Rattle.chain_store.specs.Known.{MayRead, MayReadAgain, ReadsChain};
 
 use super::Chains;
 use crate::layout::BUCKET;
+use crate::marks::same_pages;
 use crate::number_map::NumberMap;
 use crate::walking::{Walked, walk};
 use osm_base::{Bytes, Ids, OutOfMemory, TryCopy};
@@ -19,7 +20,7 @@ use page_journal::StoreFault;
 use std::alloc::Global;
 
 impl<'d, D: Disk> Chains<'d, D> {
-    ghost use Rattle.chain_store.specs.Chains.{Brings, IsOpen, LoadedIs, Loads, OnlyRead, before_of, disk_of, first_of, is_refused, journal_of, kept_of, read_of, root_of, written_of};
+    ghost use Rattle.chain_store.specs.Chains.{Brings, IsMarked, IsOpen, LoadedIs, Loads, OnlyRead, disk_of, first_of, is_refused, journal_of, kept_of, read_of, root_of, texts_of, written_of};
 
     /// The bytes of a chain, as the transaction has them. A bucket that is loaded again is read again.
     pub fn load(&mut self, n: u32) -> Result<Bytes, StoreFault>
@@ -72,7 +73,7 @@ impl<'d, D: Disk> Chains<'d, D> {
             self.refused = true;
             return Err(fault);
         }
-        if self.written.put(n, bytes).is_err() {
+        if self.keep(n, bytes).is_err() {
             self.refused = true;
             return Err(StoreFault::OutOfMemory);
         }
@@ -106,32 +107,93 @@ impl<'d, D: Disk> Chains<'d, D> {
             self.refused = true;
             return Err(fault);
         }
-        if self.note(n, before).is_err() {
-            self.refused = true;
-            return Err(StoreFault::OutOfMemory);
-        }
-        if self.written.put(n, bytes).is_err() {
+        if self.keep_over(n, before, bytes).is_err() {
             self.refused = true;
             return Err(StoreFault::OutOfMemory);
         }
         Ok(())
     }
 
-    // Keeps the bytes that `load` gives, where they are those of the store.
-    fn note(&mut self, n: u32, bytes: Bytes) -> Result<(), OutOfMemory>
-        ensures open { (pages : List (List ℕ)) → IsOpen pages self.old
-            → LoadedIs pages n (first_of self.old n) (map.get (written_of self.old) n) bytes → IsOpen pages self.new }
+    // Gives a chain that was read these bytes.
+    fn keep(&mut self, n: u32, bytes: Bytes) -> Result<(), OutOfMemory>
+        requires string { IsString (root_of self.old).buckets n }
+        requires brought { IsSome (map.get (read_of self.old) n) }
+        ensures written { OnOk result (written_of self.new ≡ map.insert (written_of self.old) n bytes) }
+        ensures err { OnErr result (written_of self.new ≡ written_of self.old) }
+        ensures open { (pages : List (List ℕ)) → IsOpen pages self.old → IsOpen pages self.new }
         ensures journal { journal_of self.new ≡ journal_of self.old }
         ensures kept { kept_of self.new ≡ kept_of self.old }
         ensures root { root_of self.new ≡ root_of self.old }
         ensures read { read_of self.new ≡ read_of self.old }
-        ensures written { written_of self.new ≡ written_of self.old }
         ensures going { is_refused self.new ≡ is_refused self.old }
     {
-        if self.written.get(n).is_some() {
-            return Ok(());
+        let same = self.marks(n, &bytes)?;
+        self.put(n, same, bytes)
+    }
+
+    // The same, where these are the bytes that `load` gives.
+    fn keep_over(&mut self, n: u32, before: Bytes, bytes: Bytes) -> Result<(), OutOfMemory>
+        requires string { IsString (root_of self.old).buckets n }
+        requires brought { IsSome (map.get (read_of self.old) n) }
+        ensures written { OnOk result (written_of self.new ≡ map.insert (written_of self.old) n bytes) }
+        ensures err { OnErr result (written_of self.new ≡ written_of self.old) }
+        ensures open { (pages : List (List ℕ)) → IsOpen pages self.old
+            → LoadedIs pages n (first_of self.old n) (map.get (written_of self.old) n) before → IsOpen pages self.new }
+        ensures journal { journal_of self.new ≡ journal_of self.old }
+        ensures kept { kept_of self.new ≡ kept_of self.old }
+        ensures root { root_of self.new ≡ root_of self.old }
+        ensures read { read_of self.new ≡ read_of self.old }
+        ensures going { is_refused self.new ≡ is_refused self.old }
+    {
+        let same = self.marks_over(n, before, &bytes)?;
+        self.put(n, same, bytes)
+    }
+
+    // Marks for the pages of a chain that keep their bytes, where its bytes in the store are at hand.
+    fn marks(&self, n: u32, bytes: &Bytes) -> Result<Bytes, OutOfMemory>
+        ensures marked { IfOk result (λ same. (pages : List (List ℕ)) → IsOpen pages self.now
+            → IsMarked pages n (first_of self.now n) same bytes.now) }
+    {
+        match self.texts.get(n) {
+            Some(text) => same_pages(self.alloc, text.as_slice(), bytes.as_slice()),
+            None => Ok(Bytes::new(self.alloc)),
         }
-        self.before.put(n, bytes)
+    }
+
+    // The same, where these are the bytes that `load` gives. What was written before stands in no page.
+    fn marks_over(&self, n: u32, before: Bytes, bytes: &Bytes) -> Result<Bytes, OutOfMemory>
+        ensures marked { IfOk result (λ same. (pages : List (List ℕ)) → IsOpen pages self.now
+            → LoadedIs pages n (first_of self.now n) (map.get (written_of self.now) n) before
+            → IsMarked pages n (first_of self.now n) same bytes.now) }
+    {
+        if self.written.get(n).is_some() {
+            return self.marks(n, bytes);
+        }
+        same_pages(self.alloc, before.as_slice(), bytes.as_slice())
+    }
+
+    // Gives a chain that was read these bytes, with marks for the pages that keep theirs.
+    fn put(&mut self, n: u32, same: Bytes, bytes: Bytes) -> Result<(), OutOfMemory>
+        requires string { IsString (root_of self.old).buckets n }
+        requires brought { IsSome (map.get (read_of self.old) n) }
+        ensures written { OnOk result (written_of self.new ≡ map.insert (written_of self.old) n bytes) }
+        ensures err { OnErr result (written_of self.new ≡ written_of self.old) }
+        ensures open { (pages : List (List ℕ)) → IsOpen pages self.old
+            → IsMarked pages n (first_of self.old n) same bytes → IsOpen pages self.new }
+        ensures journal { journal_of self.new ≡ journal_of self.old }
+        ensures kept { kept_of self.new ≡ kept_of self.old }
+        ensures root { root_of self.new ≡ root_of self.old }
+        ensures read { read_of self.new ≡ read_of self.old }
+        ensures going { is_refused self.new ≡ is_refused self.old }
+    {
+        if self.before.put(n, same).is_err() {
+            return Err(OutOfMemory);
+        }
+        if self.written.put(n, bytes).is_err() {
+            self.before.take_or(n, Bytes::new(self.alloc));
+            return Err(OutOfMemory);
+        }
+        Ok(())
     }
 
     // What was written, or else what stands in the store.
@@ -164,14 +226,14 @@ impl<'d, D: Disk> Chains<'d, D> {
 
     // The bytes of a chain that was read, where they are known.
     fn held(&self, n: u32) -> Option<&Bytes>
-        ensures held { IfSome result (λ bytes. map.get (before_of self.now) n ≡ Some bytes.now) }
+        ensures held { IfSome result (λ bytes. map.get (texts_of self.now) n ≡ Some bytes.now) }
         ensures read { IsSome result → IsSome (map.get (read_of self.now) n) }
         ensures unread { IsNone result → n < 16 → map.get (read_of self.now) n ≡ None }
     {
         if self.read.get(n).is_none() {
             return None;
         }
-        self.before.get(n)
+        self.texts.get(n)
     }
 
     // Reads a chain of the store, where that was not done yet.
@@ -221,7 +283,7 @@ impl<'d, D: Disk> Chains<'d, D> {
         };
         let Walked { pages, bytes } = walked;
         let bytes = Bytes::from_vec(bytes);
-        hold(self.alloc, &mut self.before, n, &bytes)?;
+        hold(self.alloc, &mut self.texts, n, &bytes)?;
         self.read.put(n, Ids::from_vec(pages))?;
         Ok(bytes)
     }
@@ -230,16 +292,16 @@ impl<'d, D: Disk> Chains<'d, D> {
 // Keeps the bytes of a chain, where it is none of a bucket.
 fn hold(
     alloc: Global,
-    before: &mut NumberMap<Bytes>,
+    texts: &mut NumberMap<Bytes>,
     n: u32,
     bytes: &Bytes,
 ) -> Result<(), OutOfMemory>
-    ensures held { OnOk result (n < 16 → IsSome (map.get before.new n)) }
-    ensures more { (before.new ≡ map.insert before.old n bytes.now) ⊎ (before.new ≡ before.old) }
+    ensures held { OnOk result (n < 16 → IsSome (map.get texts.new n)) }
+    ensures more { (texts.new ≡ map.insert texts.old n bytes.now) ⊎ (texts.new ≡ texts.old) }
 {
     if n >= BUCKET {
         return Ok(());
     }
     let copy = bytes.copy(alloc)?;
-    before.put(n, copy)
+    texts.put(n, copy)
 }

@@ -1,6 +1,6 @@
-use Rattle.std.proofs.Common.{◌&&◌, Bool, ℕ, drop, get_or, sym, ap, ◌∙◌}
-use Rattle.std.specs.Str.{bytes_eq}
+use Rattle.std.proofs.Common.{◌&&◌, ◌==◌, Bool, ℕ, List, drop, get_or, sym, ap, ◌∙◌}
 use Rattle.chain_store.specs.Pairs.{stays_so}
+use Rattle.chain_store.specs.Parts.{head_or}
 use Rattle.chain_store.proofs.PairLaws.{kept_is}
 use Rattle.chain_store.proofs.laying.is_kept.Goals as goal
 
@@ -8,18 +8,20 @@ pub returns-then-not-stays : goal.returns-then-not-stays
 returns-then-not-stays c =
     let chain = c.args.chain.now in
     let n : ℕ = get_or chain.pages.now c.args.place 0 in
+    let marks : List ℕ = drop c.args.place chain.same.now in
     sym (
-    ap (λ (next : ℕ). stays_so n next (drop c.args.place chain.old.now) c.args.before.now c.args.held.now) (sym c.number_from-next.ensures)
-    ∙ kept_is n c.number_from-next.result c.args.place chain.old.now c.args.before.now c.args.held.now c.stays.result c.stays.ensures
-    ∙ ap (λ (b : Bool). b && bytes_eq c.args.before.now c.args.held.now) c.if-not-stays.true
+    ap (λ (next : ℕ). stays_so n next (drop c.args.place chain.old.now) marks) (sym c.number_from-next.ensures)
+    ∙ kept_is n c.number_from-next.result c.args.place chain.old.now marks c.stays.result c.stays.ensures
+    ∙ ap (λ (b : Bool). b && (head_or marks 0 == 1)) c.if-not-stays.true
     )
 
 pub returns : goal.returns
 returns c =
     let chain = c.args.chain.now in
     let n : ℕ = get_or chain.pages.now c.args.place 0 in
-    c.eq.ensures ∙ sym (
-    ap (λ (next : ℕ). stays_so n next (drop c.args.place chain.old.now) c.args.before.now c.args.held.now) (sym c.number_from-next.ensures)
-    ∙ kept_is n c.number_from-next.result c.args.place chain.old.now c.args.before.now c.args.held.now c.stays.result c.stays.ensures
-    ∙ ap (λ (b : Bool). b && bytes_eq c.args.before.now c.args.held.now) c.if-not-stays.false
+    let marks : List ℕ = drop c.args.place chain.same.now in
+    ap (λ (mark : ℕ). mark == 1) c.mark_at.ensures ∙ sym (
+    ap (λ (next : ℕ). stays_so n next (drop c.args.place chain.old.now) marks) (sym c.number_from-next.ensures)
+    ∙ kept_is n c.number_from-next.result c.args.place chain.old.now marks c.stays.result c.stays.ensures
+    ∙ ap (λ (b : Bool). b && (head_or marks 0 == 1)) c.if-not-stays.false
     )

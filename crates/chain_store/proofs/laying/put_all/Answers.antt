@@ -11,7 +11,7 @@ loop-one-preserved c =
     let one : Laid = c.one-item.result in
     let rest : List Laid = drop (c.loop-one.one-index + 1) laid in
     ap (λ (s : PageMap). puts s (laid_pairs rest)) c.in_ok-put_laid.ensures.put
-    ∙ sym (puts-append c.loop-one.set (chain_pairs one.number 0 one.pages one.bytes one.old one.before) (laid_pairs rest))
+    ∙ sym (puts-append c.loop-one.set (chain_pairs one.number 0 one.pages one.bytes one.old one.same) (laid_pairs rest))
     ∙ ap (λ (l : Laid). puts c.loop-one.set (laid_pairs (l ∷ rest))) c.one-item.is
     ∙ ap (λ (l : List Laid). puts c.loop-one.set (laid_pairs l)) (sym (drop-at laid c.loop-one.one-index one c.loop-one-test.true))
     ∙ c.loop-one.invariant

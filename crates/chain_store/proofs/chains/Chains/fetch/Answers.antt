@@ -19,7 +19,7 @@ invariant_of-self-in-Break-1 g c =
     record {
       known = subst (λ (home : ℕ). AreKnown home self.read) (sym same) self.known;
       behind = subst (λ (home : ℕ). AreAllBehindRoot home self.kept.directories.items) (sym same) self.behind;
-      held = held_put self.read self.before c.hold.new.before c.args.n c.from_vec-bytes.result c.hold.ensures.more self.held;
+      held = held_put self.read self.texts c.hold.new.texts c.args.n c.from_vec-bytes.result c.hold.ensures.more self.held;
       stored = self.stored;
       gone = self.gone;
       few = self.few;
@@ -41,11 +41,11 @@ invariant_of-self-2 g c =
       ]);
       behind = subst (λ (home : ℕ). AreAllBehindRoot home self.kept.directories.items) (sym same) self.behind;
       held =
-          let held = held_put self.read self.before c.hold.new.before c.args.n c.from_vec-bytes.result c.hold.ensures.more self.held in
+          let held = held_put self.read self.texts c.hold.new.texts c.args.n c.from_vec-bytes.result c.hold.ensures.more self.held in
           elim is [
-            | inl put ↦ subst (λ (lists : Lists). AreHeld lists c.hold.new.before) (sym put)
-                (held_read self.read c.args.n c.from_vec.result c.hold.new.before held c.in_ok-hold.ensures.held)
-            | inr kept ↦ subst (λ (lists : Lists). AreHeld lists c.hold.new.before) (sym kept) held
+            | inl put ↦ subst (λ (lists : Lists). AreHeld lists c.hold.new.texts) (sym put)
+                (held_read self.read c.args.n c.from_vec.result c.hold.new.texts held c.in_ok-hold.ensures.held)
+            | inr kept ↦ subst (λ (lists : Lists). AreHeld lists c.hold.new.texts) (sym kept) held
           ];
       stored = elim is [
         | inl put ↦ subst (λ (lists : Lists). AreStored self.root.buckets lists self.written) (sym put)
@@ -61,7 +61,7 @@ pub returns-in_err-hold-clause-open : goal.returns-in_err-hold-clause-open
 returns-in_err-hold-clause-open g c = λ pages opened.
     let self = c.args.self.now in
     let walks = c.in-Ok.ensures.answers pages opened.rests in
-    open_held pages self.journal c.walk.new.journal self.kept self.read self.before c.args.n c.from_vec-bytes.result c.hold.new.before opened
+    open_held pages self.journal c.walk.new.journal self.kept self.read self.texts self.written self.before c.args.n c.from_vec-bytes.result c.hold.new.texts opened
     c.in-Ok.ensures.looked
     (held_bytes pages c.args.n c.first-first.result (kept_first self.kept c.args.n) c.in-Ok.walked.pages.items c.in-Ok.walked.bytes.items
     c.from_vec-bytes.result c.first-first.ensures.first walks.0 walks.1 c.from_vec-bytes.ensures.items)
@@ -71,8 +71,8 @@ pub returns-in_err-put-clause-open : goal.returns-in_err-put-clause-open
 returns-in_err-put-clause-open g c = λ pages opened.
     let self = c.args.self.now in
     let walks = c.in-Ok.ensures.answers pages opened.rests in
-    subst (λ (lists : Lists). IsOpenStore pages c.walk.new.journal self.kept lists c.hold.new.before) (sym c.in_err-put.ensures.err)
-    (open_held pages self.journal c.walk.new.journal self.kept self.read self.before c.args.n c.from_vec-bytes.result c.hold.new.before opened
+    subst (λ (lists : Lists). IsOpenStore pages c.walk.new.journal self.kept lists c.hold.new.texts self.written self.before) (sym c.in_err-put.ensures.err)
+    (open_held pages self.journal c.walk.new.journal self.kept self.read self.texts self.written self.before c.args.n c.from_vec-bytes.result c.hold.new.texts opened
     c.in-Ok.ensures.looked
     (held_bytes pages c.args.n c.first-first.result (kept_first self.kept c.args.n) c.in-Ok.walked.pages.items c.in-Ok.walked.bytes.items
     c.from_vec-bytes.result c.first-first.ensures.first walks.0 walks.1 c.from_vec-bytes.ensures.items)
@@ -85,14 +85,14 @@ returns-clause-open g c = λ pages opened.
     let has : HasPages (page_in pages) (length pages + 1) c.args.n (kept_first self.kept c.args.n) c.from_vec.result =
     subst (λ (ns : List ℕ). HasPages (page_in pages) (length pages + 1) c.args.n (kept_first self.kept c.args.n) ns) (sym c.from_vec.ensures.items)
     (subst (λ (first : ℕ). HasPages (page_in pages) (length pages + 1) c.args.n first c.in-Ok.walked.pages.items) c.first-first.ensures.first walks.0) in
-    let held : IsOpenStore pages c.walk.new.journal self.kept self.read c.hold.new.before =
-    open_held pages self.journal c.walk.new.journal self.kept self.read self.before c.args.n c.from_vec-bytes.result c.hold.new.before opened
+    let held : IsOpenStore pages c.walk.new.journal self.kept self.read c.hold.new.texts self.written self.before =
+    open_held pages self.journal c.walk.new.journal self.kept self.read self.texts self.written self.before c.args.n c.from_vec-bytes.result c.hold.new.texts opened
     c.in-Ok.ensures.looked
     (held_bytes pages c.args.n c.first-first.result (kept_first self.kept c.args.n) c.in-Ok.walked.pages.items c.in-Ok.walked.bytes.items
     c.from_vec-bytes.result c.first-first.ensures.first walks.0 walks.1 c.from_vec-bytes.ensures.items)
     c.hold.ensures.more in
-    subst (λ (lists : Lists). IsOpenStore pages c.walk.new.journal self.kept lists c.hold.new.before) (sym c.in_ok-put.ensures.ok)
-    (open_more pages c.walk.new.journal c.walk.new.journal self.kept self.read c.hold.new.before c.args.n c.from_vec.result held
+    subst (λ (lists : Lists). IsOpenStore pages c.walk.new.journal self.kept lists c.hold.new.texts self.written self.before) (sym c.in_ok-put.ensures.ok)
+    (open_more pages c.walk.new.journal c.walk.new.journal self.kept self.read c.hold.new.texts self.written self.before c.args.n c.from_vec.result held
     (looked_same c.walk.new.journal) has)
 
 pub returns-clause-known : goal.returns-clause-known

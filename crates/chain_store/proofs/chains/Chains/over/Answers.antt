@@ -1,13 +1,14 @@
 use Rattle.std.proofs.Common.{ap, arith}
 use Rattle.chain_store.specs.declared.root.Root.{Root}
-use Rattle.chain_store.proofs.Puts.{held_none, known_none, stored_none, nothing}
+use Rattle.chain_store.proofs.Puts.{held_none, known_none, stored_none}
+use Rattle.chain_store.proofs.Taking.{begun}
 use Rattle.chain_store.proofs.chains.Chains.over.Goals as goal
 
 pub invariant_of-result : goal.invariant_of-result
 invariant_of-result g c = record {
   known = known_none c.new.result c.new.ensures.empty _;
   behind = c.requires;
-  held = held_none c.new.result c.new-3.result c.new.ensures.empty;
+  held = held_none c.new.result c.new-4.result c.new.ensures.empty;
   stored = stored_none c.new.result c.new-2.result c.root-root.result.buckets c.new-2.ensures.empty;
   gone = λ other. absurd (other (ap (λ (root : Root). root.buckets) c.root-root.ensures.root));
   few = omega (arith, ap (λ (root : Root). root.buckets) c.root-root.ensures.root, c.args.kept.few);
@@ -15,9 +16,6 @@ invariant_of-result g c = record {
 }
 
 pub returns-clause-open : goal.returns-clause-open
-returns-clause-open g c = λ pages rests keeps. record {
-  rests = rests;
-  keeps = keeps;
-  known = λ n ns is. absurd (nothing c.new.result n ns c.new.ensures.empty is);
-  had = λ n bytes is. absurd (nothing c.new-3.result n bytes c.new-3.ensures.empty is);
-}
+returns-clause-open g c = λ pages rests keeps.
+    begun pages c.args.journal c.args.kept c.new.result c.new-4.result c.new-2.result c.new-3.result rests keeps
+    c.new.ensures.empty c.new-4.ensures.empty c.new-3.ensures.empty

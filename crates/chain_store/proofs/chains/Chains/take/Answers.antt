@@ -10,7 +10,7 @@ invariant_of-self g c =
     record {
       known = known_none c.replace-2.new.dest read _;
       behind = c.args.self.now.behind;
-      held = held_none c.replace-2.new.dest c.replace-3.new.dest read;
+      held = held_none c.replace-2.new.dest c.new-4.result read;
       stored = stored_none c.replace-2.new.dest c.replace.new.dest c.root-root.result.buckets written;
       gone = λ other. absurd (other (ap (λ (root : Root). root.buckets) c.root-root.ensures.root));
       few = omega (arith, ap (λ (root : Root). root.buckets) c.root-root.ensures.root, c.args.self.now.kept.few);

@@ -50,7 +50,7 @@ returns-in-Err-commit-clause-any_moment g c = λ root strings pages opened state
     ran pages (overwritten plan.set plan.home pages) opened.rests.0.0 (view_of self.journal) (view_of c.walk.new.journal) (view_of c.commit.new.self)
     root taken.root strings (changed strings taken.written) settled c.walk.ensures.looked.stays state
     (renewed_state pages self.kept taken.root taken.written taken.read taken.before c.in_ok-parts.parts.items c.in-Ok.free.pages.items plan
-    root strings state opened.keeps opened.known opened.had (pages_long pages opened.rests.0.0 (view_of self.journal) settled)
+    root strings state opened.keeps opened.known opened.marked (pages_long pages opened.rests.0.0 (view_of self.journal) settled)
     c.requires.may.stored c.requires.may.gone c.requires.may.few c.requires.may.count c.in_ok-parts.ensures free is)
     (c.in-Err-commit.ensures.any_moment pages now.0 now.1)
 
@@ -70,7 +70,7 @@ invariant_of-self-2 g c =
           (subst (λ (n : ℕ). AreAllBehindRoot n self.kept.directories.items) (sym is_home) self.behind)
           c.pages-home.ensures.some
           (subst (λ (n : ℕ). AreBehindRoot n c.in-Ok.free.pages.items) (sym is_home) c.in-Ok.ensures.inside));
-      held = held_none self.read self.before c.requires.read;
+      held = held_none self.read self.texts c.requires.read;
       stored = stored_none self.read self.written taken.root.buckets c.requires.written;
       gone = λ other. absurd (other buckets);
       few = c.requires.may.few;
@@ -92,7 +92,7 @@ returns-clause-any_moment g c = λ root strings pages opened state.
     ran pages (overwritten plan.set plan.home pages) opened.rests.0.0 (view_of self.journal) (view_of c.walk.new.journal) (view_of c.commit.new.self)
     root taken.root strings (changed strings taken.written) settled c.walk.ensures.looked.stays state
     (renewed_state pages self.kept taken.root taken.written taken.read taken.before c.in_ok-parts.parts.items c.in-Ok.free.pages.items plan
-    root strings state opened.keeps opened.known opened.had (pages_long pages opened.rests.0.0 (view_of self.journal) settled)
+    root strings state opened.keeps opened.known opened.marked (pages_long pages opened.rests.0.0 (view_of self.journal) settled)
     c.requires.may.stored c.requires.may.gone c.requires.may.few c.requires.may.count c.in_ok-parts.ensures free is)
     (c.in_default.ensures.any_moment pages now.0 now.1)
 
@@ -113,16 +113,16 @@ returns-clause-done g c = λ root strings pages opened state.
     let new : List (List ℕ) = overwritten plan.set plan.home pages in
     let many : length new + 1 ≡ plan.home =
     renewed_long pages self.kept taken.root taken.written taken.read taken.before c.in_ok-parts.parts.items c.in-Ok.free.pages.items plan
-    root strings state opened.keeps opened.known opened.had long may.stored may.gone may.few may.count c.in_ok-parts.ensures free is in
+    root strings state opened.keeps opened.known opened.marked long may.stored may.gone may.few may.count c.in_ok-parts.ensures free is in
     let keeps : Keeps new plan.kept =
     renewed_keeps pages self.kept taken.root taken.written taken.read taken.before c.in_ok-parts.parts.items c.in-Ok.free.pages.items plan
-    root strings state opened.keeps opened.known opened.had long may.stored may.gone may.few may.count c.in_ok-parts.ensures free is in
+    root strings state opened.keeps opened.known opened.marked long may.stored may.gone may.few may.count c.in_ok-parts.ensures free is in
     let renewed : IsState taken.root (changed strings taken.written) new =
     renewed_state pages self.kept taken.root taken.written taken.read taken.before c.in_ok-parts.parts.items c.in-Ok.free.pages.items plan
-    root strings state opened.keeps opened.known opened.had long may.stored may.gone may.few may.count c.in_ok-parts.ensures free is in (
+    root strings state opened.keeps opened.known opened.marked long may.stored may.gone may.few may.count c.in_ok-parts.ensures free is in (
       new,
-      opened_new new c.commit.new.self plan.kept self.read self.before (c.in_default.ensures.done pages now.0 now.1) (many ∙ sym c.in_default.ensures.pages) keeps
-          c.requires.read c.requires.before,
+      opened_new new c.commit.new.self plan.kept self.read self.texts self.written self.before (c.in_default.ensures.done pages now.0 now.1) (many ∙ sym c.in_default.ensures.pages) keeps
+          c.requires.read c.requires.texts c.requires.before,
       renewed,
     )
 
@@ -161,7 +161,7 @@ returns-clause-needs g c = λ root strings pages opened state.
     let enough : plan.home ≡ needed (home_count self.journal) taken.root.buckets (changed strings taken.written) =
     subst (λ (n : ℕ). plan.home ≡ needed n taken.root.buckets (changed strings taken.written)) opened.rests.1
     (renewed_needed pages self.kept taken.root taken.written taken.read taken.before c.in_ok-parts.parts.items c.in-Ok.free.pages.items plan
-    root strings state opened.keeps opened.known opened.had (pages_long pages opened.rests.0.0 (view_of self.journal) settled)
+    root strings state opened.keeps opened.known opened.marked (pages_long pages opened.rests.0.0 (view_of self.journal) settled)
     may.stored may.gone may.few may.count c.in_ok-parts.ensures free is) in (
       c.in_default.ensures.pages ∙ enough,
       subst (λ (n : ℕ). n ≤ page_limit self.journal) enough (omega (arith, c.in_default.ensures.answers.1, c.walk.ensures.looked.limit)),
@@ -182,7 +182,7 @@ returns-in-Err-commit-clause-needs g c = λ root strings pages opened state.
     let enough : plan.home ≡ needed (home_count self.journal) taken.root.buckets (changed strings taken.written) =
     subst (λ (n : ℕ). plan.home ≡ needed n taken.root.buckets (changed strings taken.written)) opened.rests.1
     (renewed_needed pages self.kept taken.root taken.written taken.read taken.before c.in_ok-parts.parts.items c.in-Ok.free.pages.items plan
-    root strings state opened.keeps opened.known opened.had (pages_long pages opened.rests.0.0 (view_of self.journal) settled)
+    root strings state opened.keeps opened.known opened.marked (pages_long pages opened.rests.0.0 (view_of self.journal) settled)
     may.stored may.gone may.few may.count c.in_ok-parts.ensures free is) in
     fits_refused c.in-Err-commit.fault (is_broken c.walk.new.journal) (page_limit c.walk.new.journal) (page_limit self.journal) plan.home
     (home_count c.commit.new.self) (needed (home_count self.journal) taken.root.buckets (changed strings taken.written))
