@@ -1,5 +1,5 @@
 -- The words of a line of queries, and what they are.
--- The lines of a file of queries are of this repository's own form, as docs/FILES.md states it: words separated by exactly
+-- The lines of a file of queries are of this repository's own form, as docs/STANDARDS.md, "Queries", states it: words separated by exactly
 -- one space. Ids and coordinates are those of the OPL manual's fields.
 use Rattle.std.specs.Prelude.{ℕ, ℤ, ◌==◌, if◌then◌else◌, List, [], ◌∷◌, length, codes, Option, None, Some, Result, Ok, Err}
 use Rattle.std.specs.List.{slice_split}
