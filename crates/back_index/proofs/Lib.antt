@@ -1,6 +1,8 @@
 pub mod Allowed
 pub mod Answering
 pub mod Chained
+pub mod Filled
+pub mod Fills
 pub mod Held
 pub mod IdLaws
 pub mod ListLaws

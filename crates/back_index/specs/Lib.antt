@@ -1,5 +1,6 @@
 pub mod Asking
 pub mod Calls
+pub mod Filling
 pub mod Ids
 pub mod Index
 pub mod Reads

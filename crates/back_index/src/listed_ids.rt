@@ -29,7 +29,7 @@ pub fn rising_blocks(alloc: Global, object: &Option<Object>) -> Result<RisingIds
 }
 
 /// The ids that an object lists, in the order in which they stand there.
-fn listed(alloc: Global, object: &Option<Object>, kind: Kind) -> Result<Vec<u64>, OutOfMemory>
+pub fn listed(alloc: Global, object: &Option<Object>, kind: Kind) -> Result<Vec<u64>, OutOfMemory>
     ensures ids { IfOk result (λ ids. ids.items ≡ listed_by (listed kind) object.now) }
 {
     match object {
@@ -42,7 +42,7 @@ fn listed(alloc: Global, object: &Option<Object>, kind: Kind) -> Result<Vec<u64>
 }
 
 /// The blocks of the nodes that an object lists, in their order.
-fn blocks(alloc: Global, object: &Option<Object>) -> Result<Vec<u64>, OutOfMemory>
+pub fn blocks(alloc: Global, object: &Option<Object>) -> Result<Vec<u64>, OutOfMemory>
     ensures blocks { IfOk result (λ blocks. blocks.items ≡ listed_by blocks_in object.now) }
 {
     let nodes = listed(alloc, object, Kind::Node)?;

@@ -1,4 +1,5 @@
 pub mod DeltaLaws
+pub mod Fillings
 pub mod IdLists
 pub mod IndexLaws
 pub mod KeptRows

@@ -9,11 +9,12 @@ ghost use Rattle.object_fold.specs.Change.{IsOfKind};
 ghost use Rattle.object_fold.specs.Listing.{listers};
 ghost use Rattle.store_maps.specs.Append.{MayKeep};
 ghost use Rattle.store_maps.specs.Asked.{May, MayAnswer, MayList, MayObject, MayRows};
+ghost use Rattle.store_maps.specs.Filling.{HasNoLists, MayListAll, all_listed_on};
 ghost use Rattle.store_maps.specs.Maps.{Maps, form_in, object_in, rows_at, set_object, set_rows};
 ghost use Rattle.store_maps.specs.Named.{WaysAreThere, index_on, place_in};
 ghost use Rattle.store_maps.specs.Step.{AreTold, relisted_to};
 
-use osm_base::{Back, Ids, Key, Object, Place, TableRows};
+use osm_base::{Back, Entry, Ids, Key, Object, Place, TableRows};
 
 /// How many nodes a block has, of which one list of ways is kept.
 pub const BLOCK: u64 = 32;
@@ -71,6 +72,16 @@ pub trait MapStore: Back {
         ensures spent { OnOk result (Self.spent self.new ≡ false) }
         ensures refused { IfErr result (λ refusal. (first : Self) → looked first self.old → Self.bears self.new (Self.faults first) refusal) }
         ensures allowed { (under : Under) (maps : Maps) → holds self.old under maps → AreTold maps key old.now → IfErr result allowed };
+
+    /// What the objects of these entries list is listed by their keys from now on; before, nothing is listed.
+    fn list_all(&mut self, entries: &[Entry]) -> Result<(), Self::Refusal>
+        requires { Self.spent self.old ≡ false }
+        ensures holds { OnOk result ((under : Under) (maps : Maps) → holds self.old under maps → HasNoLists maps → holds self.new under (all_listed_on maps entries.now)) }
+        ensures looked { (first : Self) → looked first self.old → looked first self.new }
+        ensures within { (may : May) → MayListAll may entries.now → within may self.old → within may self.new }
+        ensures spent { OnOk result (Self.spent self.new ≡ false) }
+        ensures refused { IfErr result (λ refusal. (first : Self) → looked first self.old → Self.bears self.new (Self.faults first) refusal) }
+        ensures allowed { (under : Under) (maps : Maps) → holds self.old under maps → IfErr result allowed };
 
     /// The object of a key is this one, or there is none.
     fn set(&mut self, key: Key, object: &Option<Object>) -> Result<(), Self::Refusal>

@@ -1,0 +1,75 @@
+-- The lists of a store that has none, out of what the objects of entries tell.
+use Rattle.std.specs.Prelude.{◌≡◌, ◌≢◌, ◌≤◌, ℕ, ◌&&◌, true, List, nat_eq, None}
+use Rattle.std.specs.FinMap as finite
+use Rattle.std.specs.List.{AllByRecursion, list_any}
+use Rattle.osm_base.specs.declared.values.key.Kind.TheVariants as kinds
+use Rattle.osm_base.specs.declared.values.object.Entry.{Entry}
+use Rattle.osm_base.specs.map.Listers.{listed}
+use Rattle.osm_base.specs.values.Ids.{AreRisingIds, has}
+use Rattle.osm_base.specs.values.Key.{IsId}
+use Rattle.bucket_records.specs.Records.{BucketMap}
+use Rattle.bucket_store.specs.Image.{Image}
+use Rattle.store_maps.specs.Asked.{May}
+use Rattle.store_maps.specs.Filling.{entries_tell}
+use Rattle.store_maps.specs.Turns.{Told, blocks_in}
+use Rattle.back_index.specs.Relisting.{kept_list}
+use Rattle.back_index.specs.declared.mentions.Mention.{Mention}
+use Rattle.back_index.specs.declared.visit.TheConstants.{WAYS_OF_BLOCKS, RELATIONS_OF_NODES, RELATIONS_OF_WAYS}
+
+-- the id that is listed
+abbrev pub id_of : Mention → ℕ
+id_of mention = mention.id
+
+-- whether an id is told to be listed by that one
+abbrev pub is_told : Mention → Told
+is_told mention id by = nat_eq mention.id id && nat_eq mention.own by
+
+abbrev pub mentions_tell : List Mention → Told
+mentions_tell mentions id by = list_any (λ (mention : Mention). is_told mention id by) mentions
+
+-- what lists something has an id of objects
+abbrev pub ByIds : Told → Type 0
+ByIds told = (id by : ℕ) → told id by ≡ true → IsId by
+
+abbrev pub AreIds : List ℕ → Type 0
+AreIds ids = (id : ℕ) → has ids id ≡ true → IsId id
+
+-- each list of a map that is told of may be asked
+abbrev pub MayTold : May → ℕ → Told → Type 0
+MayTold may which told = (id by : ℕ) → told id by ≡ true → may which id ≡ true
+
+-- no list is kept
+abbrev pub IsVoid : BucketMap → Type 0
+IsVoid kept = (id : ℕ) → finite.get kept id ≡ None
+
+-- the list of an id is kept: who is told to list it, rising
+pub record IsKeptAt (told : Told) (kept : BucketMap) (id : ℕ) : Type 0 where
+  pub ids : List ℕ
+  pub rising : AreRisingIds ids
+  pub same : (by : ℕ) → has ids by ≡ told id by
+  pub list : finite.get kept id ≡ kept_list ids
+
+-- each list of a map is
+abbrev pub AreKept : Told → BucketMap → Type 0
+AreKept told kept = (id : ℕ) → IsKeptAt told kept id
+
+-- in the order of their ids so much is told: each list but the last is kept, and of that one the ids are these
+pub record Runs (done : List Mention) (at : ℕ) (ids : List ℕ) (kept : BucketMap) : Type 0 where
+  pub beside : (id : ℕ) → id ≢ at → IsKeptAt (mentions_tell done) kept id
+  pub here : (by : ℕ) → has ids by ≡ mentions_tell done at by
+  pub below : AllByRecursion (λ (mention : Mention). mention.id ≤ at) done
+
+-- no list of the index is kept
+pub record HasNoIndex (now : Image) : Type 0 where
+  pub ways_of_blocks : IsVoid (now.maps WAYS_OF_BLOCKS)
+  pub relations_of_nodes : IsVoid (now.maps RELATIONS_OF_NODES)
+  pub relations_of_ways : IsVoid (now.maps RELATIONS_OF_WAYS)
+
+-- the store's index is what the objects of entries list, and all else is as before
+pub record Fills (entries : List Entry) (now after : Image) : Type 0 where
+  pub root : after.root ≡ now.root
+  pub texts : (n : ℕ) → after.texts n ≡ now.texts n
+  pub maps : (m : ℕ) → m ≢ WAYS_OF_BLOCKS → m ≢ RELATIONS_OF_NODES → m ≢ RELATIONS_OF_WAYS → after.maps m ≡ now.maps m
+  pub ways_of_blocks : AreKept (entries_tell kinds.Way blocks_in entries) (after.maps WAYS_OF_BLOCKS)
+  pub relations_of_nodes : AreKept (entries_tell kinds.Relation (listed kinds.Node) entries) (after.maps RELATIONS_OF_NODES)
+  pub relations_of_ways : AreKept (entries_tell kinds.Relation (listed kinds.Way) entries) (after.maps RELATIONS_OF_WAYS)
