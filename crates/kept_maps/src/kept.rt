@@ -2,10 +2,10 @@
 ghost use Rattle.std.specs.Prelude.{◌≡◌, None};
 
 use crate::finding::{find_form, find_object, find_place, find_rows};
-use crate::setting::{keep_object, keep_rows, turn_lists};
+use crate::setting::{fill_lists, keep_object, keep_rows, turn_lists};
 use back_index::{Indexed, RELATIONS_OF_NODES, RELATIONS_OF_WAYS, listers};
 use bucket_store::Buckets;
-use osm_base::{Back, Ids, Key, Object, Place, TableRows};
+use osm_base::{Back, Entry, Ids, Key, Object, Place, TableRows};
 use outside::Disk;
 use page_journal::StoreFault;
 use std::alloc::Global;
@@ -120,6 +120,16 @@ impl<D: Disk> MapStore for KeptMaps<'_, '_, D> {
         new: &Option<Object>,
     ) -> Result<(), StoreFault> {
         match turn_lists(self.alloc, &mut self.indexed.buckets, key, old, new) {
+            Ok(()) => Ok(()),
+            Err(fault) => {
+                self.indexed.stopped = Some(fault);
+                Err(fault)
+            }
+        }
+    }
+
+    fn list_all(&mut self, entries: &[Entry]) -> Result<(), StoreFault> {
+        match fill_lists(self.alloc, &mut self.indexed.buckets, entries) {
             Ok(()) => Ok(()),
             Err(fault) => {
                 self.indexed.stopped = Some(fault);

@@ -10,14 +10,15 @@ ghost use Rattle.back_index.specs.Calls.{Answers};
 ghost use Rattle.back_index.specs.Reads.{HasReadOnly, ReadsBuckets};
 ghost use Rattle.store_maps.specs.Append.{MayKeep};
 ghost use Rattle.store_maps.specs.Asked.{May, MayList, MayObject, MayRows};
+ghost use Rattle.store_maps.specs.Filling.{HasNoLists, MayListAll, all_listed_on};
 ghost use Rattle.store_maps.specs.Maps.{Maps, set, set_object, set_rows};
 ghost use Rattle.store_maps.specs.Step.{AreTold, relisted_to};
 ghost use Rattle.kept_maps.specs.Held.{Beside, HasMaps};
 
-use back_index::relist;
+use back_index::{fill, relist};
 use bucket_store::Buckets;
 use middle_nodes::NodeRecord;
-use osm_base::{Key, Kind, Object, Place, TableRows, Tags, TryCopy};
+use osm_base::{Entry, Key, Kind, Object, Place, TableRows, Tags, TryCopy};
 use outside::Disk;
 use page_journal::StoreFault;
 use std::alloc::Global;
@@ -215,4 +216,22 @@ pub(crate) fn turn_lists<D: Disk>(
 {
     let _id = key.id;
     relist(alloc, buckets, key, old, new)
+}
+
+/// What the objects of these entries list is listed by their keys from now on; before, nothing is listed.
+pub(crate) fn fill_lists<D: Disk>(
+    alloc: Global,
+    buckets: &mut Buckets<'_, D>,
+    entries: &[Entry],
+) -> Result<(), StoreFault>
+    requires some { 1 ≤ bucket_count (chains_of buckets.old) }
+    requires going { has_refused buckets.old ≡ false }
+    ensures sets { OnOk result ((definitions : List TableDef) (under : Beside) (maps : Maps) → HasMaps definitions under maps buckets.old → HasNoLists maps
+        → HasMaps definitions under (all_listed_on maps entries.now) buckets.new) }
+    ensures sound { (rest now : Image) → Has rest now buckets.old → IsSoundAnswer result }
+    ensures within { (may : May) → MayListAll may entries.now → HasReadOnly may buckets.old → HasReadOnly may buckets.new }
+    ensures reads { OnOk result (ReadsBuckets buckets.old buckets.new) }
+    ensures answers { Answers buckets.old buckets.new result }
+{
+    fill(alloc, buckets, entries)
 }
