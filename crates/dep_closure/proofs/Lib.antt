@@ -4,6 +4,6 @@ mod Bridge
 mod Cuts
 mod Forms
 mod Left
-mod Rows
-mod Selections
-mod Stays
+pub mod Rows
+pub mod Selections
+pub mod Stays

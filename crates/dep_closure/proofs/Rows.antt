@@ -21,6 +21,7 @@ use Rattle.style_read.specs.declared.style.Source.{Source}
 use Rattle.style_read.specs.declared.style.Source.TheVariants as sources
 use Rattle.style_read.specs.declared.style.TableDef.{TableDef}
 use Rattle.style_read.specs.Style.{StyleOf}
+use Rattle.object_fold.specs.Change.{IsChange}
 use Rattle.object_fold.proofs.Listers.{kind_same}
 use Rattle.row_map.specs.Agree.{Agree, IsSameWay, SameNodes, SameWays}
 use Rattle.row_map.specs.Condition.{is_of_nodes, names_selection, reaches_nodes}
@@ -29,9 +30,10 @@ use Rattle.row_map.specs.Objects.{is_of_kind}
 use Rattle.row_map.specs.Row.{cells_of, row, row_from, row_of, wants, with_geometry}
 use Rattle.row_map.specs.Shape.{geometry_of, with_way}
 use Rattle.row_map.proofs.Locality.{row_from-same}
-use Rattle.dep_closure.specs.PendingSet.{IsPendingOf, LeavesRows, is_among, is_moved, is_named, is_pending, is_reselected, ways_in}
+use Rattle.dep_closure.specs.PendingSet.{HasOldForms, IsPendingOf, LeavesRows, is_among, is_moved, is_named, is_pending, is_reselected, ways_in}
+use Rattle.dep_closure.specs.Selecting.{HandsSame}
 use Rattle.dep_closure.proofs.Anys.{none_of, or-true, tied_self}
-use Rattle.dep_closure.proofs.Selections.{selecting-stays}
+use Rattle.dep_closure.proofs.Selections.{selecting-alike, selecting-stays}
 use Rattle.dep_closure.proofs.Stays.{object-stays, place-stays, unnamed-stays}
 
 all_there : {P : ℕ → Type 0} (ids : List ℕ) → ((id : ℕ) → has ids id ≡ true → P id) → AllByRecursion P ids
@@ -193,29 +195,39 @@ module _ (style : StyleOf) (objects : ObjectSet) (change : List Entry) where
     node-rows : row_from style table (now node) node ≡ row_from style table (before node) node
     node-rows = node-by (finite.get after node) refl
 
-  module _ (table id : ℕ) (not : is_pending style objects change (way_key id) ≡ false) where
+  -- a way that is not moved, and that the same relations select as before
+  module _ (table id : ℕ) (not_moved : is_moved after change (way_key id) ≡ false) (selecting : (number : ℕ) → (now (way_key id)).selecting number ≡ (before (way_key id)).selecting number) where
     abbrev way : KeyOf
     way = way_key id
 
-    way-none : (is_moved after change way ≡ false) × (is_reselected style objects change kinds.Way id ≡ false)
-    way-none = none_of (is_moved after change way) (is_reselected style objects change kinds.Way id) not
-
     way-same : finite.get after way ≡ finite.get objects way
-    way-same = object-stays objects change way way-none.0
+    way-same = object-stays objects change way not_moved
 
     way-by : (object : Option Object) → finite.get after way ≡ object → row_from style table (now way) way ≡ row_from style table (before way) way
     way-by None there = all-never table way way-same (λ definition from object is. absurd (nothing (sym there ∙ is)))
     way-by (Some (Node own tags)) there = all-never table way way-same (misfit way (Node own tags) refl there)
     way-by (Some (Way nodes tags)) there = all-agree table way (λ definition is. record {
       object = way-same;
-      nodes = same-nodes way way way-none.0 (finite.get after way) refl;
+      nodes = same-nodes way way not_moved (finite.get after way) refl;
       ways = subst (SameWays (now way) (before way)) (sym there) tt;
-      selecting = λ names number. selecting-stays style kinds.Way id number objects change way-none.1;
+      selecting = λ names number. selecting number;
     })
     way-by (Some (Relation members tags)) there = all-never table way way-same (misfit way (Relation members tags) refl there)
 
-    way-rows : row_from style table (now way) way ≡ row_from style table (before way) way
-    way-rows = way-by (finite.get after way) refl
+    way-stays : row_from style table (now way) way ≡ row_from style table (before way) way
+    way-stays = way-by (finite.get after way) refl
+
+  module _ (table id : ℕ) (not : is_pending style objects change (way_key id) ≡ false) where
+    way-none : (is_moved after change (way_key id) ≡ false) × (is_reselected style objects change kinds.Way id ≡ false)
+    way-none = none_of (is_moved after change (way_key id)) (is_reselected style objects change kinds.Way id) not
+
+    way-rows : row_from style table (now (way_key id)) (way_key id) ≡ row_from style table (before (way_key id)) (way_key id)
+    way-rows = way-stays table id way-none.0 (λ number. selecting-stays style kinds.Way id number objects change way-none.1)
+
+  -- a way that is not moved has the same rows where each relation of the change hands it the same
+  pub unmoved-way : (old : ObjectSet) (id : ℕ) → IsChange change → HasOldForms old objects change → HandsSame style old change kinds.Way id → is_moved after change (way_key id) ≡ false
+      → (table : ℕ) → row style after table (way_key id) ≡ row style objects table (way_key id)
+  unmoved-way old id rise olds same not_moved table = way-stays table id not_moved (λ number. selecting-alike style kinds.Way id number old objects change rise olds same)
 
   module _ (table id : ℕ) (not : is_pending style objects change (relation_key id) ≡ false) where
     abbrev relation : KeyOf

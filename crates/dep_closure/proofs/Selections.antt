@@ -21,14 +21,16 @@ use Rattle.osm_base.specs.values.KeyOrder.{key_cmp}
 use Rattle.osm_base.specs.values.Tags.{TagMap}
 use Rattle.style_read.specs.declared.style.Selection.{Selection}
 use Rattle.style_read.specs.Style.{StyleOf}
+use Rattle.object_fold.specs.Change.{IsChange}
 use Rattle.object_fold.proofs.IndexOf.{ids_of-rise}
 use Rattle.object_fold.proofs.Listers.{has-ids_of}
 use Rattle.object_fold.proofs.SortedIds.{same_rising}
 use Rattle.row_map.specs.Condition.{meets, meets_number}
 use Rattle.row_map.specs.Material.{selecting_tags, selecting_among}
-use Rattle.dep_closure.specs.PendingSet.{is_named, is_reselected}
-use Rattle.dep_closure.specs.Selecting.{selects, has_member, reselects}
+use Rattle.dep_closure.specs.PendingSet.{HasOldForms, is_named, is_reselected}
+use Rattle.dep_closure.specs.Selecting.{HandsSame, hands, has_member, reselects, selects}
 use Rattle.dep_closure.proofs.Anys.{filter_map-same, none_of, none_passes}
+use Rattle.dep_closure.proofs.Forms.{forms-after}
 use Rattle.dep_closure.proofs.Stays.{same_key, unnamed-stays}
 
 -- lists that rise, and what is made of their items
@@ -96,7 +98,7 @@ never false = refl
 module _ (style : StyleOf) (kind : Kind) (id number : ℕ) where
   -- the tags that a form of a relation hands to a member
   abbrev handed : Option Object → Option TagMap
-  handed form = cond (lists kind id form) (selecting_tags style.selections number form) None
+  handed form = hands style kind id number form
 
   handed-selects : (form : Option Object) → selects style form ≡ false → handed form ≡ None
   handed-selects None not = refl
@@ -142,6 +144,18 @@ module _ (style : StyleOf) (kind : Kind) (id number : ℕ) where
         listed true is = refl
         listed false is = absurd (false≢true (sym (ap (λ b. is_some (cond b (selecting_tags style.selections number (form relation)) None)) is) ∙ some))
 
+  -- what selects the object is the same where each relation hands it the same
+  pub selecting-same : (one other : ObjectSet) → ((relation : ℕ) → handed (finite.get one (relation_key relation)) ≡ handed (finite.get other (relation_key relation)))
+      → selecting_among style.selections (finite.get one) (ids_of kinds.Relation kind id one) number ≡ selecting_among style.selections (finite.get other) (ids_of kinds.Relation kind id other) number
+  selecting-same one other same =
+      among-handed one
+      ∙ filter_map-same (λ relation. handed (finite.get one (relation_key relation))) (λ relation. handed (finite.get other (relation_key relation))) (ids_of kinds.Relation kind id one) (λ relation _. same relation)
+      ∙ filter_map-rising (λ relation. handed (finite.get other (relation_key relation))) (ids_of kinds.Relation kind id one) (ids_of kinds.Relation kind id other) (ids_of-rise one kinds.Relation kind id) (ids_of-rise other kinds.Relation kind id)
+      (λ relation some.
+      handed-some one relation (ap is_some (same relation) ∙ some)
+      ∙ sym (handed-some other relation some))
+      ∙ sym (among-handed other)
+
   module _ (objects : ObjectSet) (change : List Entry) (not : is_reselected style objects change kind id ≡ false) where
     abbrev after : ObjectSet
     after = folded_all objects change
@@ -168,11 +182,38 @@ module _ (style : StyleOf) (kind : Kind) (id number : ℕ) where
     ] refl
 
     pub selecting-stays : selecting_among style.selections (finite.get after) (ids_of kinds.Relation kind id after) number ≡ selecting_among style.selections (finite.get objects) (ids_of kinds.Relation kind id objects) number
-    selecting-stays =
-        among-handed after
-        ∙ filter_map-same (λ relation. handed (finite.get after (relation_key relation))) (λ relation. handed (finite.get objects (relation_key relation))) (ids_of kinds.Relation kind id after) (λ relation _. handed-stays relation)
-        ∙ filter_map-rising (λ relation. handed (finite.get objects (relation_key relation))) (ids_of kinds.Relation kind id after) (ids_of kinds.Relation kind id objects) (ids_of-rise after kinds.Relation kind id) (ids_of-rise objects kinds.Relation kind id)
-        (λ relation some.
-        handed-some after relation (ap is_some (handed-stays relation) ∙ some)
-        ∙ sym (handed-some objects relation some))
-        ∙ sym (among-handed objects)
+    selecting-stays = selecting-same after objects handed-stays
+
+  -- so where each relation of the change hands it the same, which the old forms tell
+  module _ (old objects : ObjectSet) (change : List Entry) where
+    abbrev new : ObjectSet
+    new = folded_all objects change
+
+    abbrev Alike : ℕ → Type 0
+    Alike relation = handed (finite.get new (relation_key relation)) ≡ handed (finite.get objects (relation_key relation))
+
+    alike-named : (relation : ℕ) (entries : List Entry) → is_named entries (relation_key relation) ≡ true → HasOldForms old objects entries
+        → AllByRecursion (λ (entry : Entry). finite.get new entry.key ≡ entry.object) entries → HandsSame style old entries kind id → Alike relation
+    alike-named relation [] is olds news same = absurd (false≢true is)
+    alike-named relation (entry ∷ entries) is olds news same =
+        elim (eq_by_cmp key_cmp (relation_key relation) entry.key) as (λ b. eq_by_cmp key_cmp (relation_key relation) entry.key ≡ b → (b || is_named entries (relation_key relation)) ≡ true → Alike relation) [
+          | true ↦ λ tied _.
+              let own : relation_key relation ≡ entry.key = same_key (relation_key relation) entry.key tied in
+              let of_relation : is_kind kinds.Relation entry.key.kind ≡ true = ap (λ (key : KeyOf). is_kind kinds.Relation key.kind) (sym own) in
+              ap (λ (key : KeyOf). handed (finite.get new key)) own
+              ∙ ap handed news.0
+              ∙ same.0 of_relation number
+              ∙ ap handed (olds.0 of_relation)
+              ∙ ap (λ (key : KeyOf). handed (finite.get objects key)) (sym own)
+          | false ↦ λ _ later. alike-named relation entries later olds.1 news.1 same.1
+        ] refl is
+
+    alike : IsChange change → HasOldForms old objects change → HandsSame style old change kind id → (relation : ℕ) → Alike relation
+    alike rise olds same relation = elim (is_named change (relation_key relation)) as (λ b. is_named change (relation_key relation) ≡ b → Alike relation) [
+      | true ↦ λ is. alike-named relation change is olds (forms-after objects None change rise) same
+      | false ↦ λ is. ap handed (unnamed-stays objects change (relation_key relation) is)
+    ] refl
+
+    pub selecting-alike : IsChange change → HasOldForms old objects change → HandsSame style old change kind id
+        → selecting_among style.selections (finite.get new) (ids_of kinds.Relation kind id new) number ≡ selecting_among style.selections (finite.get objects) (ids_of kinds.Relation kind id objects) number
+    selecting-alike rise olds same = selecting-same new objects (alike rise olds same)

@@ -1,17 +1,18 @@
 -- What a change leaves of an object that it does not move, and of the nodes that the object lists.
-use Rattle.std.proofs.Common.{◌≡◌, ℕ, true, false, ◌&&◌, List, refl, sym, ap, subst, ◌∙◌}
+use Rattle.std.proofs.Common.{◌≡◌, ℕ, Bool, true, false, ◌&&◌, ◌||◌, List, [], ◌∷◌, refl, sym, ap, subst, ◌∙◌}
 use mathlib.Core.Bool.{false≢true}
-use Rattle.std.specs.Ordering.{eq_by_cmp}
-use Rattle.std.specs.Cmp.{Equal-is}
+use Rattle.std.specs.Ordering.{eq_by_cmp, is_eq}
+use Rattle.std.specs.Cmp.{Equal-is, tied_itself}
 use Rattle.std.specs.List.{AllByRecursion}
 use Rattle.std.specs.FinMap as finite
 use Rattle.osm_base.specs.declared.values.key.Kind.TheVariants as kinds
 use Rattle.osm_base.specs.declared.values.object.Entry.{Entry}
 use Rattle.osm_base.specs.values.Key.{KeyOf, node_key}
 use Rattle.osm_base.specs.values.KeyOrder.{key_cmp}
-use Rattle.osm_base.proofs.KeyLaws.{key_cmp-IsAntisymmetric}
+use Rattle.osm_base.proofs.KeyLaws.{key_cmp-IsAntisymmetric, key_cmp_total}
 use Rattle.osm_base.specs.map.Objects.{ObjectSet, folded_all, place_in}
 use Rattle.osm_base.specs.map.Listers.{is_kind, lists}
+use Rattle.object_fold.proofs.Listers.{kind_same}
 use Rattle.object_fold.proofs.FoldLaws.{Untouched, get-untouched}
 use Rattle.dep_closure.specs.PendingSet.{is_moved, is_named, moves}
 use Rattle.dep_closure.proofs.Anys.{each, none_of, none_passes}
@@ -50,3 +51,28 @@ module _ (objects : ObjectSet) (change : List Entry) (key : KeyOf) (not_moved : 
 
   pub place-stays : (id : ℕ) → lists kinds.Node id (finite.get after key) ≡ true → place_in (finite.get after (node_key id)) ≡ place_in (finite.get objects (node_key id))
   place-stays id listed = ap place_in (get-untouched objects change (node_key id) (node-untouched id listed))
+
+tied-itself : (key : KeyOf) → eq_by_cmp key_cmp key key ≡ true
+tied-itself key = ap is_eq (tied_itself key_cmp_total key)
+
+-- what no entry names is not moved where it lists no node that one names
+module _ (after : ObjectSet) (key : KeyOf) where
+  moves-not : (a b c : Bool) → a ≡ false → (b ≡ true → c ≡ false) → (a || (b && c)) ≡ false
+  moves-not a true c not none = ap (λ d. d || c) not ∙ none refl
+  moves-not a false c not none = ap (λ d. d || false) not
+
+  pub not-moved : (change : List Entry) → is_named change key ≡ false → ((id : ℕ) → lists kinds.Node id (finite.get after key) ≡ true → is_named change (node_key id) ≡ false) → is_moved after change key ≡ false
+  not-moved [] not_named none = refl
+  not-moved (entry ∷ entries) not_named none =
+      let here = none_of (eq_by_cmp key_cmp key entry.key) (is_named entries key) not_named in
+      ap (λ b. b || is_moved after entries key) (moves-not (eq_by_cmp key_cmp key entry.key) (is_kind kinds.Node entry.key.kind) (lists kinds.Node entry.key.id (finite.get after key)) here.0 (λ of_node. unlisted of_node (lists kinds.Node entry.key.id (finite.get after key)) refl))
+      ∙ not-moved entries here.1 (λ id listed. (none_of (eq_by_cmp key_cmp (node_key id) entry.key) (is_named entries (node_key id)) (none id listed)).1)
+    where
+      unlisted : is_kind kinds.Node entry.key.kind ≡ true → (listed : Bool) → lists kinds.Node entry.key.id (finite.get after key) ≡ listed → listed ≡ false
+      unlisted of_node false is = refl
+      unlisted of_node true is =
+          let apart : eq_by_cmp key_cmp (node_key entry.key.id) entry.key ≡ false = (none_of (eq_by_cmp key_cmp (node_key entry.key.id) entry.key) (is_named entries (node_key entry.key.id)) (none entry.key.id is)).0 in
+          sym (tied-itself (node_key entry.key.id)) ∙ ap (λ (own : KeyOf). eq_by_cmp key_cmp (node_key entry.key.id) own) (node-key-is of_node) ∙ apart
+
+      node-key-is : is_kind kinds.Node entry.key.kind ≡ true → node_key entry.key.id ≡ entry.key
+      node-key-is of_node = ap (λ kind. record { kind = kind; id = entry.key.id }) (kind_same kinds.Node entry.key.kind of_node)
