@@ -68,11 +68,11 @@ module _ (after : ObjectSet) (key : KeyOf) where
       ap (λ b. b || is_moved after entries key) (moves-not (eq_by_cmp key_cmp key entry.key) (is_kind kinds.Node entry.key.kind) (lists kinds.Node entry.key.id (finite.get after key)) here.0 (λ of_node. unlisted of_node (lists kinds.Node entry.key.id (finite.get after key)) refl))
       ∙ not-moved entries here.1 (λ id listed. (none_of (eq_by_cmp key_cmp (node_key id) entry.key) (is_named entries (node_key id)) (none id listed)).1)
     where
+      node-key-is : is_kind kinds.Node entry.key.kind ≡ true → node_key entry.key.id ≡ entry.key
+      node-key-is of_node = ap (λ kind. record { kind = kind; id = entry.key.id }) (kind_same kinds.Node entry.key.kind of_node)
+
       unlisted : is_kind kinds.Node entry.key.kind ≡ true → (listed : Bool) → lists kinds.Node entry.key.id (finite.get after key) ≡ listed → listed ≡ false
       unlisted of_node false is = refl
       unlisted of_node true is =
           let apart : eq_by_cmp key_cmp (node_key entry.key.id) entry.key ≡ false = (none_of (eq_by_cmp key_cmp (node_key entry.key.id) entry.key) (is_named entries (node_key entry.key.id)) (none entry.key.id is)).0 in
           sym (tied-itself (node_key entry.key.id)) ∙ ap (λ (own : KeyOf). eq_by_cmp key_cmp (node_key entry.key.id) own) (node-key-is of_node) ∙ apart
-
-      node-key-is : is_kind kinds.Node entry.key.kind ≡ true → node_key entry.key.id ≡ entry.key
-      node-key-is of_node = ap (λ kind. record { kind = kind; id = entry.key.id }) (kind_same kinds.Node entry.key.kind of_node)
