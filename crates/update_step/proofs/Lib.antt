@@ -4,6 +4,7 @@ pub mod Building
 pub mod DueLaws
 pub mod Endings
 pub mod EntryLists
+pub mod Filled
 pub mod Imported
 pub mod KeyedLists
 pub mod Manual

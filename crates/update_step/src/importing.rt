@@ -9,12 +9,12 @@ ghost use Rattle.osm_base.specs.values.Ids.{AreRisingIds};
 ghost use Rattle.osm_base.specs.values.Key.{KeyOf};
 ghost use Rattle.row_map.specs.Rows.{rows_in};
 ghost use Rattle.row_map.specs.Wanted.{may_have_rows};
-ghost use Rattle.object_fold.specs.Change.{IsProper};
 ghost use Rattle.geom_workers.specs.Keys.{keys_of};
 ghost use Rattle.store_maps.specs.Append.{MayKeep, set_all_rows};
-ghost use Rattle.store_maps.specs.Maps.{Maps, empty_maps, form_in, rows_at, set_rows};
+ghost use Rattle.store_maps.specs.Filling.{all_objects_on};
+ghost use Rattle.store_maps.specs.Maps.{Maps, empty_maps, rows_at, set_rows};
 ghost use Rattle.store_maps.specs.Stands.{Stands};
-ghost use Rattle.store_maps.specs.Step.{change_on, entry_on};
+ghost use Rattle.store_maps.specs.Step.{AreProperEntries, change_on};
 ghost use Rattle.update_step.specs.Ends.{Ends, MayRefuse};
 ghost use Rattle.update_step.specs.Importing.{LacksRows, ids_named, keys_named, wanted_among};
 
@@ -66,24 +66,7 @@ fn wanted_keys(alloc: Global, style: &Style, change: &Change) -> Result<PendingS
     Ok(PendingSet::new(nodes, ways, relations))
 }
 
-/// What an entry says is so in the maps, where its key has no form yet: none is looked up.
-fn add_entry<S: MapStore>(store: &mut S, entry: &Entry) -> Result<(), S::Refusal>
-    requires spent { S.spent store.old ≡ false }
-    requires proper { IsProper entry.now }
-    ensures holds { OnOk result ((under : S.Under) (maps : Maps) → S.holds store.old under maps
-        → form_in maps entry.now.key.kind entry.now.key.id ≡ None → S.holds store.new under (entry_on maps entry.now)) }
-    ensures looked { (first : S) → S.looked first store.old → S.looked first store.new }
-    ensures spent { OnOk result (S.spent store.new ≡ false) }
-    ensures refused { IfErr result (λ refusal. (first : S) → S.looked first store.old → S.bears store.new (S.faults first) refusal) }
-    ensures allowed { (under : S.Under) (maps : Maps) → S.holds store.old under maps → IfErr result S.allowed }
-{
-    let none = None;
-    store.relist(entry.key, &none, &entry.object)?;
-    store.set(entry.key, &entry.object)?;
-    Ok(())
-}
-
-/// What the entries of a change say is so in maps without a value.
+/// What the entries of a change say is so in maps without a value: first who lists what, each list once, and then the objects.
 fn add_entries<S: MapStore>(store: &mut S, change: &Change) -> Result<(), S::Refusal>
     requires spent { S.spent store.old ≡ false }
     ensures holds { OnOk result ((under : S.Under) → S.holds store.old under empty_maps → S.holds store.new under (change_on empty_maps change.now)) }
@@ -92,8 +75,24 @@ fn add_entries<S: MapStore>(store: &mut S, change: &Change) -> Result<(), S::Ref
     ensures refused { IfErr result (λ refusal. (first : S) → S.looked first store.old → S.bears store.new (S.faults first) refusal) }
     ensures allowed { (under : S.Under) → S.holds store.old under empty_maps → IfErr result S.allowed }
 {
-    for entry in change.entries() {
-        add_entry(store, entry)?;
+    let entries = change.entries();
+    store.list_all(entries)?;
+    put_objects(store, entries)?;
+    Ok(())
+}
+
+/// The objects of entries take the place of their keys' objects, one after another.
+fn put_objects<S: MapStore>(store: &mut S, entries: &[Entry]) -> Result<(), S::Refusal>
+    requires spent { S.spent store.old ≡ false }
+    requires proper { AreProperEntries entries.now }
+    ensures holds { OnOk result ((under : S.Under) (maps : Maps) → S.holds store.old under maps → S.holds store.new under (all_objects_on maps entries.now)) }
+    ensures looked { (first : S) → S.looked first store.old → S.looked first store.new }
+    ensures spent { OnOk result (S.spent store.new ≡ false) }
+    ensures refused { IfErr result (λ refusal. (first : S) → S.looked first store.old → S.bears store.new (S.faults first) refusal) }
+    ensures allowed { (under : S.Under) (maps : Maps) → S.holds store.old under maps → IfErr result S.allowed }
+{
+    for entry in entries {
+        store.set(entry.key, &entry.object)?;
     }
     Ok(())
 }
