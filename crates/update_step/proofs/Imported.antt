@@ -67,23 +67,7 @@ no-form entries at own rise below is =
     (entries_stand true front empty_maps finite.empty (empty_stands-on true) (proper_front entries at (change_proper entries rise)))
     own.key.kind own.key.id (front-untouched entries at own rise below is)
 
--- A key that is to have no rows has none.
-
-removed : {X : Type 0} (values : finite.FinMap nat_cmp X) (key : ℕ) → finite.get values key ≡ None → finite.remove values key ≡ values
-removed values key none = finite.same_map nat_cmp_total nat_cmp-IsAntisymmetric (finite.remove values key) values
-    (λ own. get-set values key None own
-    ∙ elim (nat_eq own key) as (λ b. nat_eq own key ≡ b → cond b None (finite.get values own) ≡ finite.get values own) [
-      | true ↦ λ same. sym (ap (finite.get values) (same_as own key same) ∙ none)
-      | false ↦ λ _. refl
-    ] refl)
-
--- to set no rows then changes nothing
-pub none-set : (maps : Maps) (kind : Kind) (id : ℕ) (rows : List TableRow) → rows ≡ [] → rows_at maps kind id ≡ None → maps ≡ set_rows maps kind id rows
-none-set maps kinds.Node id rows empty none = sym (ap (set_rows maps kinds.Node id) empty ∙ ap (λ values. record maps { node_rows = values }) (removed maps.node_rows id none))
-none-set maps kinds.Way id rows empty none = sym (ap (set_rows maps kinds.Way id) empty ∙ ap (λ values. record maps { other_rows = values }) (removed maps.other_rows (2 * id) none))
-none-set maps kinds.Relation id rows empty none = sym (ap (set_rows maps kinds.Relation id) empty ∙ ap (λ values. record maps { other_rows = values }) (removed maps.other_rows (2 * id + 1) none))
-
--- it has none where other keys got theirs
+-- a key that is to have no rows has none where other keys got theirs
 pub lacks-still : (rows : KeyOf → List TableRow) (keys : List KeyOf) (maps : Maps) → LacksRows maps rows → LacksRows (set_all_rows maps rows keys) rows
 lacks-still rows keys maps lacks own none =
     got-all rows keys maps own.kind own.id
@@ -114,7 +98,7 @@ may-keep-all style known [] = tt
 may-keep-all style known (own ∷ keys) = (may_keep style known own, may-keep-all style known keys)
 
 -- what is not there has none
-rows-none : (style : StyleOf) (objects : ObjectSet) (own : KeyOf) → finite.get objects own ≡ None → rows_in style objects own ≡ []
+pub rows-none : (style : StyleOf) (objects : ObjectSet) (own : KeyOf) → finite.get objects own ≡ None → rows_in style objects own ≡ []
 unfolding rows_known rows_in
 rows-none style objects own none = rows_known-none style (known_of objects) own none
 
@@ -124,7 +108,8 @@ stands_empty style = record {
   rows = empty_rows (rows_in style finite.empty) (λ own. rows-none style finite.empty own (finite.get-empty key_cmp own));
 }
 
-rows-unwanted : (style : StyleOf) (objects : ObjectSet) (own : KeyOf) → may_have_rows style (finite.get objects own) ≡ false → rows_in style objects own ≡ []
+-- nor what no table may want
+pub rows-unwanted : (style : StyleOf) (objects : ObjectSet) (own : KeyOf) → may_have_rows style (finite.get objects own) ≡ false → rows_in style objects own ≡ []
 unfolding rows_known rows_in
 rows-unwanted style objects own not = rows_known-unwanted style (known_of objects) own not
 

@@ -12,7 +12,9 @@ pub mod NamedKeys
 pub mod NewEntries
 pub mod Parts
 pub mod PendingKeys
+pub mod RowsStill
 pub mod Touching
 pub mod Trees
 pub mod WantedEntries
 pub mod Whole
+pub mod WithoutRows

@@ -7,6 +7,7 @@ use Rattle.osm_base.specs.declared.values.object.Entry.{Entry}
 use Rattle.osm_base.specs.map.Objects.{ObjectSet, folded_all}
 use Rattle.osm_base.specs.map.Pending.{PendingOf}
 use Rattle.osm_base.specs.map.Spots.{SpotOf}
+use Rattle.osm_base.specs.values.Ids.{AreRisingIds}
 use Rattle.osm_base.specs.values.Key.{KeyOf}
 use Rattle.osm_base.specs.values.KeyOrder.{key_cmp}
 use Rattle.style_read.specs.Style.{StyleOf}
@@ -14,29 +15,24 @@ use Rattle.row_map.specs.Material.{material_of}
 use Rattle.row_map.specs.Row.{tables}
 use Rattle.row_map.specs.Rows.{rows_in}
 use Rattle.row_map.proofs.TableMap.{get-tables}
-use Rattle.dep_closure.specs.PendingSet.{IsPendingOf, LeavesRows}
+use Rattle.dep_closure.specs.PendingSet.{LeavesRows}
 use Rattle.geom_workers.specs.Keys.{keys_of}
 use Rattle.tile_cover.specs.Table.{BoundsOf}
 use Rattle.store_maps.specs.Delta.{IsDelta, row_in}
-use Rattle.store_maps.specs.Maps.{Maps, all_kept, kept_rows}
-use Rattle.store_maps.specs.Stands.{Stands}
-use Rattle.store_maps.specs.Step.{change_on}
 use Rattle.store_maps.specs.Told.{told_all}
 use Rattle.store_maps.proofs.DeltaLaws.{told-delta}
-use Rattle.store_maps.proofs.KeptRows.{kept_row-tables, row_from-past, row_in-rows}
-use Rattle.store_maps.proofs.RowMaps.{rows_stay}
+use Rattle.store_maps.proofs.KeptRows.{row_from-past, row_in-rows}
 use Rattle.update_step.specs.Due.{due_between, is_due_key}
 use Rattle.update_step.proofs.DueLaws.{due-of-keys}
 use Rattle.update_step.proofs.PendingKeys.{keys-rise, outside-kind}
 
-module _ (style : StyleOf) (maps : Maps) (objects : ObjectSet) (change : List Entry) (set : PendingOf)
-    (stands : Stands style maps objects) (pending : IsPendingOf style objects change set) (leaves : LeavesRows style objects change set) where
+module _ (style : StyleOf) (objects : ObjectSet) (change : List Entry) (set : PendingOf)
+    (rising : AreRisingIds set.nodes × AreRisingIds set.ways × AreRisingIds set.relations) (leaves : LeavesRows style objects change set) where
   abbrev after : ObjectSet
   after = folded_all objects change
 
-  -- the rows before the change, which its entries leave
-  was : (spot : SpotOf) → row_in (all_kept (change_on maps change) spot.key) spot.table ≡ finite.get (tables style objects) spot
-  was spot = ap (λ found. row_in (kept_rows found) spot.table) (rows_stay change maps spot.key.kind spot.key.id) ∙ kept_row-tables style maps objects stands.rows spot
+  was : (spot : SpotOf) → row_in (rows_in style objects spot.key) spot.table ≡ finite.get (tables style objects) spot
+  was spot = row_in-rows style objects spot.key spot.table ∙ sym (get-tables style objects spot)
 
   is : (spot : SpotOf) → row_in (rows_in style after spot.key) spot.table ≡ finite.get (tables style after) spot
   is spot = row_in-rows style after spot.key spot.table ∙ sym (get-tables style after spot)
@@ -49,8 +45,8 @@ module _ (style : StyleOf) (maps : Maps) (objects : ObjectSet) (change : List En
   outside : (spot : SpotOf) → list_any (eq_by_cmp key_cmp spot.key) (keys_of set) ≡ false → finite.get (tables style objects) spot ≡ finite.get (tables style after) spot
   outside spot none = get-tables style objects spot ∙ sym (leaves spot.table spot.key (outside-kind set spot.key.kind spot.key.id none)) ∙ sym (get-tables style after spot)
 
-  pub delta-is : IsDelta (finite.get (tables style objects)) (finite.get (tables style after)) (told_all (length style.tables) (all_kept (change_on maps change)) (rows_in style after) (keys_of set))
-  delta-is = told-delta (all_kept (change_on maps change)) (rows_in style after) (finite.get (tables style objects)) (finite.get (tables style after)) (length style.tables) (keys_of set) was is past outside (keys-rise set pending.rising)
+  pub delta-is : IsDelta (finite.get (tables style objects)) (finite.get (tables style after)) (told_all (length style.tables) (rows_in style objects) (rows_in style after) (keys_of set))
+  delta-is = told-delta (rows_in style objects) (rows_in style after) (finite.get (tables style objects)) (finite.get (tables style after)) (length style.tables) (keys_of set) was is past outside (keys-rise set rising)
 
-  pub due-is : (bounds : BoundsOf) (zoom x y : ℕ) → list_any (λ (key : KeyOf). is_due_key style bounds (all_kept (change_on maps change) key) (rows_in style after key) zoom x y) (keys_of set) ≡ due_between style bounds objects after zoom x y
-  due-is bounds zoom x y = due-of-keys style bounds (tables style objects) (tables style after) (all_kept (change_on maps change)) (rows_in style after) (keys_of set) was is past outside zoom x y
+  pub due-is : (bounds : BoundsOf) (zoom x y : ℕ) → list_any (λ (key : KeyOf). is_due_key style bounds (rows_in style objects key) (rows_in style after key) zoom x y) (keys_of set) ≡ due_between style bounds objects after zoom x y
+  due-is bounds zoom x y = due-of-keys style bounds (tables style objects) (tables style after) (rows_in style objects) (rows_in style after) (keys_of set) was is past outside zoom x y

@@ -2,6 +2,7 @@ pub mod Due
 pub mod Ends
 pub mod Gather
 pub mod Importing
+pub mod Lacking
 pub mod NewObjects
 pub mod Old
 pub mod Suffices

@@ -16,6 +16,7 @@ ghost use Rattle.update_step.specs.Ends.{Ends, MayRefuse};
 ghost use Rattle.update_step.specs.Touch.{MayTouch};
 
 use crate::StepFault;
+use crate::lacking::keys_lacking;
 use crate::pending_keys::changed_keys;
 use crate::rebuilding::rebuild;
 use object_fold::Change;
@@ -75,8 +76,12 @@ pub fn change_maps<S: MapStore, R: Threads + Sync, G: Gate>(
 {
     let _entries = change.entries();
     let _most = limits.pending();
+    let lacking = keys_lacking(alloc, store, style, change)?;
+    let lacking = lacking.as_slice();
     match changed_keys(alloc, store, style, change, limits) {
-        Ok(set) => rebuild(rt, alloc, store, style, bounds, &set, workers, gate, due),
+        Ok(set) => rebuild(
+            rt, alloc, store, style, bounds, &set, lacking, workers, gate, due,
+        ),
         Err(why) => Err(why),
     }
 }

@@ -13,6 +13,7 @@ mod expiring;
 mod fault;
 mod gathering;
 mod importing;
+mod lacking;
 mod listers;
 mod new_objects;
 mod pending_keys;

@@ -8,12 +8,14 @@ ghost use Rattle.geom_workers.specs.Keys.{keys_of};
 ghost use Rattle.tile_cover.specs.Runs.{has};
 ghost use Rattle.store_maps.specs.Append.{set_all_rows};
 ghost use Rattle.store_maps.specs.Asked.{May};
-ghost use Rattle.store_maps.specs.Maps.{Maps, all_kept};
+ghost use Rattle.store_maps.specs.Maps.{Maps};
 ghost use Rattle.store_maps.specs.Named.{known_on};
+ghost use Rattle.store_maps.specs.Stands.{HoldsRows};
 ghost use Rattle.store_maps.specs.Told.{told_all};
 ghost use Rattle.update_step.specs.Due.{is_due_key};
 ghost use Rattle.update_step.specs.Ends.{Ends, MayRefuse};
 ghost use Rattle.update_step.specs.Gather.{all_needs};
+ghost use Rattle.update_step.specs.Lacking.{AreLacking};
 ghost use Rattle.update_step.specs.Suffices.{IsBuilt};
 ghost use Rattle.update_step.specs.Touch.{MayAllRows, MayAskAll};
 
@@ -24,7 +26,7 @@ use crate::row_lists::{all_before, keys_in, put_rows};
 use crate::telling::tell_all;
 use dep_closure::reaches_nodes;
 use geom_workers::{MAX_KEYS, build_all};
-use osm_base::{PendingSet, RowChanges};
+use osm_base::{Key, PendingSet, RowChanges};
 use outside::Gate;
 use std::alloc::Global;
 use std::thread::Threads;
@@ -40,7 +42,7 @@ fn table_count(style: &Style) -> u32
 }
 
 /// Builds the rows of pending keys anew and sets them. Answers how they differ from those that were there, and puts to `due` the
-/// tiles that this makes due.
+/// tiles that this makes due. `lacking` are keys that had no rows.
 pub(crate) fn rebuild<S: MapStore, R: Threads + Sync, G: Gate>(
     rt: &R,
     alloc: Global,
@@ -48,6 +50,7 @@ pub(crate) fn rebuild<S: MapStore, R: Threads + Sync, G: Gate>(
     style: &Style,
     bounds: &Bounds,
     pending: &PendingSet,
+    lacking: &[Key],
     workers: u32,
     gate: &G,
     due: &mut TileRuns,
@@ -57,13 +60,13 @@ pub(crate) fn rebuild<S: MapStore, R: Threads + Sync, G: Gate>(
     requires one_worker { 1 ≤ workers }
     requires few_workers { workers ≤ 64 }
     requires few { length (keys_of pending.now) ≤ MAX_KEYS }
-    ensures holds { OnOk result ((under : S.Under) (maps : Maps) (rows : KeyOf → List TableRow) → S.holds store.old under maps → IsBuilt style.now maps (keys_of pending.now) rows
-        → S.holds store.new under (set_all_rows maps rows (keys_of pending.now))) }
-    ensures told { IfOk result (λ changes. (under : S.Under) (maps : Maps) (rows : KeyOf → List TableRow) → S.holds store.old under maps → IsBuilt style.now maps (keys_of pending.now) rows
-        → changes ≡ told_all (length style.now.tables) (all_kept maps) rows (keys_of pending.now)) }
-    ensures due { OnOk result ((under : S.Under) (maps : Maps) (rows : KeyOf → List TableRow) → S.holds store.old under maps → IsBuilt style.now maps (keys_of pending.now) rows
-        → (zoom x y : ℕ) → has due.new zoom x y ≡ (has due.old zoom x y
-        || list_any (λ key. is_due_key style.now bounds.now (all_kept maps key) (rows key) zoom x y) (keys_of pending.now))) }
+    ensures holds { OnOk result ((under : S.Under) (maps : Maps) (old rows : KeyOf → List TableRow) → S.holds store.old under maps → HoldsRows maps old → AreLacking old lacking.now
+        → IsBuilt style.now maps (keys_of pending.now) rows → S.holds store.new under (set_all_rows maps rows (keys_of pending.now))) }
+    ensures told { IfOk result (λ changes. (under : S.Under) (maps : Maps) (old rows : KeyOf → List TableRow) → S.holds store.old under maps → HoldsRows maps old → AreLacking old lacking.now
+        → IsBuilt style.now maps (keys_of pending.now) rows → changes ≡ told_all (length style.now.tables) old rows (keys_of pending.now)) }
+    ensures due { OnOk result ((under : S.Under) (maps : Maps) (old rows : KeyOf → List TableRow) → S.holds store.old under maps → HoldsRows maps old → AreLacking old lacking.now
+        → IsBuilt style.now maps (keys_of pending.now) rows → (zoom x y : ℕ) → has due.new zoom x y ≡ (has due.old zoom x y
+        || list_any (λ key. is_due_key style.now bounds.now (old key) (rows key) zoom x y) (keys_of pending.now))) }
     ensures looked { (first : S) → S.looked first store.old → S.looked first store.new }
     ensures within { (under : S.Under) (maps : Maps) → S.holds store.old under maps → (may : May)
         → MayAskAll may (all_needs style.now (reaches_nodes style.now) (known_on maps) (keys_of pending.now)) → MayAllRows may (keys_of pending.now) → S.within may store.old → S.within may store.new }
@@ -72,18 +75,19 @@ pub(crate) fn rebuild<S: MapStore, R: Threads + Sync, G: Gate>(
         (λ refusal. (first : S) → S.looked first store.old → S.bears store.new (S.faults first) refusal)
         (S.spent store.new ≡ false)
         (λ _. ⊥)) }
-    ensures allowed { (under : S.Under) (maps : Maps) → S.holds store.old under maps → IfErr result (MayRefuse S.allowed) }
+    ensures allowed { (under : S.Under) (maps : Maps) (old : KeyOf → List TableRow) → S.holds store.old under maps → HoldsRows maps old → AreLacking old lacking.now
+        → IfErr result (MayRefuse S.allowed) }
 {
     let keys = keys_in(alloc, pending)?;
     let keys = keys.as_slice();
     let known = gathered(alloc, store, style, reaches_nodes(style), keys)?;
     let built = build_all(rt, alloc, workers, style, pending, &known, gate)?;
     let news = built.rows.as_slice();
-    let before = all_before(alloc, store, keys)?;
+    let before = all_before(alloc, store, keys, lacking)?;
     let olds = before.as_slice();
     let changes = tell_all(alloc, table_count(style), keys, olds, news)?;
     add_all(alloc, style, bounds, due, keys, olds, news)?;
-    match put_rows(store, keys, news) {
+    match put_rows(store, keys, olds, news) {
         Ok(()) => Ok(changes),
         Err(refusal) => Err(StepFault::Store(refusal)),
     }

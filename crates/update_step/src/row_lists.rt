@@ -1,18 +1,20 @@
 //! The rows of keys in a store, as they are and as they come to be.
-ghost use Rattle.std.specs.Prelude.{◌≡◌, ◌≤◌, List, length, map, false, IfOk, IfErr, OnOk};
+ghost use Rattle.std.specs.Prelude.{◌≡◌, ◌≤◌, List, [], length, map, true, false, IfOk, IfErr, OnOk};
 ghost use Rattle.std.specs.List.{AllByRecursion};
-ghost use Rattle.osm_base.specs.declared.values.row.TableRow.{TableRow};
+ghost use Rattle.osm_base.specs.declared.values.row.TableRow.{TableRow as RowOfTable};
 ghost use Rattle.osm_base.specs.values.Key.{KeyOf};
 ghost use Rattle.geom_workers.specs.Keys.{keys_of};
 ghost use Rattle.store_maps.specs.Append.{MayKeep, set_all_rows};
 ghost use Rattle.store_maps.specs.Asked.{May, MayRows};
-ghost use Rattle.store_maps.specs.Maps.{Maps, all_kept};
+ghost use Rattle.store_maps.specs.Maps.{Maps, rows_at, set_rows, unless_empty};
+ghost use Rattle.store_maps.specs.Stands.{HoldsRows};
 ghost use Rattle.update_step.specs.Ends.{Ends, MayRefuse};
+ghost use Rattle.update_step.specs.Lacking.{AreLacking};
 ghost use Rattle.update_step.specs.Touch.{MayAllRows};
 
 use crate::StepFault;
 use geom_workers::{MAX_KEYS, key_count, key_of};
-use osm_base::{Key, OutOfMemory, PendingSet, RowLists, TableRows};
+use osm_base::{Key, OutOfMemory, PendingSet, RowLists, Same, TableRow, TableRows};
 use std::alloc::Global;
 use store_maps::MapStore;
 
@@ -29,14 +31,23 @@ pub(crate) fn keys_in(alloc: Global, pending: &PendingSet) -> Result<Vec<Key>, O
     Ok(keys)
 }
 
-/// The rows that a store has of a key.
+/// Whether a key is one of these, which rise.
+fn is_among(keys: &[Key], key: Key) -> bool
+    ensures lacking { (rows : KeyOf → List RowOfTable) → AreLacking rows keys.now → result ≡ true → rows key ≡ [] }
+{
+    keys.binary_search(&key).is_ok()
+}
+
+/// The rows that a store has of a key. `lacking` are keys without any, which are not looked up.
 fn rows_before<S: MapStore>(
     alloc: Global,
     store: &mut S,
     key: Key,
+    lacking: &[Key],
 ) -> Result<TableRows, StepFault<S::Refusal>>
     requires spent { S.spent store.old ≡ false }
-    ensures kept { IfOk result (λ kept. (under : S.Under) (maps : Maps) → S.holds store.old under maps → kept ≡ all_kept maps key) }
+    ensures kept { IfOk result (λ kept. (under : S.Under) (maps : Maps) (old : KeyOf → List RowOfTable) → S.holds store.old under maps
+        → HoldsRows maps old → AreLacking old lacking.now → kept ≡ old key) }
     ensures holds { OnOk result ((under : S.Under) (maps : Maps) → S.holds store.old under maps → S.holds store.new under maps) }
     ensures looked { (first : S) → S.looked first store.old → S.looked first store.new }
     ensures within { (may : May) → MayRows may key → S.within may store.old → S.within may store.new }
@@ -47,20 +58,25 @@ fn rows_before<S: MapStore>(
         (λ _. ⊥)) }
     ensures allowed { (under : S.Under) (maps : Maps) → S.holds store.old under maps → IfErr result (MayRefuse S.allowed) }
 {
+    if is_among(lacking, key) {
+        return Ok(TableRows::new(alloc));
+    }
     match store.rows(key).map_err(StepFault::Store)? {
         Some(rows) => Ok(rows),
         None => Ok(TableRows::new(alloc)),
     }
 }
 
-/// The rows that a store has of each of these keys.
+/// The rows that a store has of each of these keys. `lacking` are keys without any.
 pub(crate) fn all_before<S: MapStore>(
     alloc: Global,
     store: &mut S,
     keys: &[Key],
+    lacking: &[Key],
 ) -> Result<RowLists, StepFault<S::Refusal>>
     requires spent { S.spent store.old ≡ false }
-    ensures kept { IfOk result (λ kept. (under : S.Under) (maps : Maps) → S.holds store.old under maps → kept ≡ map (all_kept maps) keys.now) }
+    ensures kept { IfOk result (λ kept. (under : S.Under) (maps : Maps) (old : KeyOf → List RowOfTable) → S.holds store.old under maps
+        → HoldsRows maps old → AreLacking old lacking.now → kept ≡ map old keys.now) }
     ensures count { IfOk result (λ kept. length kept ≡ length keys.now) }
     ensures holds { OnOk result ((under : S.Under) (maps : Maps) → S.holds store.old under maps → S.holds store.new under maps) }
     ensures looked { (first : S) → S.looked first store.old → S.looked first store.new }
@@ -74,32 +90,58 @@ pub(crate) fn all_before<S: MapStore>(
 {
     let mut all = RowLists::new(alloc);
     for &key in keys {
-        let rows = rows_before(alloc, store, key)?;
+        let rows = rows_before(alloc, store, key, lacking)?;
         all.push(rows)?;
     }
     Ok(all)
 }
 
-/// Each of these keys has its rows.
+/// A key has these rows from now on. Where it had the same before, nothing is to be done.
+fn put_changed<S: MapStore>(
+    store: &mut S,
+    key: Key,
+    old: &[TableRow],
+    new: &TableRows,
+) -> Result<(), S::Refusal>
+    requires spent { S.spent store.old ≡ false }
+    requires kept { MayKeep (S.style store.old).tables new.now }
+    ensures holds { OnOk result ((under : S.Under) (maps : Maps) → S.holds store.old under maps
+        → (old.now ≡ new.now → rows_at maps key.kind key.id ≡ unless_empty new.now) → S.holds store.new under (set_rows maps key.kind key.id new.now)) }
+    ensures looked { (first : S) → S.looked first store.old → S.looked first store.new }
+    ensures within { (may : May) → MayRows may key → S.within may store.old → S.within may store.new }
+    ensures spent { OnOk result (S.spent store.new ≡ false) }
+    ensures refused { IfErr result (λ refusal. (first : S) → S.looked first store.old → S.bears store.new (S.faults first) refusal) }
+    ensures allowed { (under : S.Under) (maps : Maps) → S.holds store.old under maps → IfErr result S.allowed }
+{
+    if TableRow::are_same(old, new.as_slice()) {
+        return Ok(());
+    }
+    store.set_rows(key, new)?;
+    Ok(())
+}
+
+/// Each of these keys has its new rows.
 pub(crate) fn put_rows<S: MapStore>(
     store: &mut S,
     keys: &[Key],
-    rows: &[TableRows],
+    olds: &[TableRows],
+    news: &[TableRows],
 ) -> Result<(), S::Refusal>
     requires spent { S.spent store.old ≡ false }
-    requires count { length rows.now ≡ length keys.now }
-    requires kept { AllByRecursion (MayKeep (S.style store.old).tables) rows.now }
-    ensures holds { OnOk result ((under : S.Under) (maps : Maps) (new : KeyOf → List TableRow) → rows.now ≡ map new keys.now
-        → S.holds store.old under maps → S.holds store.new under (set_all_rows maps new keys.now)) }
+    requires olds { length olds.now ≡ length keys.now }
+    requires news { length news.now ≡ length keys.now }
+    requires kept { AllByRecursion (MayKeep (S.style store.old).tables) news.now }
+    ensures holds { OnOk result ((under : S.Under) (maps : Maps) (old new : KeyOf → List RowOfTable) → olds.now ≡ map old keys.now → news.now ≡ map new keys.now
+        → HoldsRows maps old → S.holds store.old under maps → S.holds store.new under (set_all_rows maps new keys.now)) }
     ensures looked { (first : S) → S.looked first store.old → S.looked first store.new }
     ensures within { (may : May) → MayAllRows may keys.now → S.within may store.old → S.within may store.new }
     ensures spent { OnOk result (S.spent store.new ≡ false) }
     ensures refused { IfErr result (λ refusal. (first : S) → S.looked first store.old → S.bears store.new (S.faults first) refusal) }
-    ensures allowed { (under : S.Under) (maps : Maps) (new : KeyOf → List TableRow) → rows.now ≡ map new keys.now
-        → S.holds store.old under maps → IfErr result S.allowed }
+    ensures allowed { (under : S.Under) (maps : Maps) (old new : KeyOf → List RowOfTable) → olds.now ≡ map old keys.now → news.now ≡ map new keys.now
+        → HoldsRows maps old → S.holds store.old under maps → IfErr result S.allowed }
 {
     for index in 0..keys.len() {
-        store.set_rows(keys[index], &rows[index])?;
+        put_changed(store, keys[index], olds[index].as_slice(), &news[index])?;
     }
     Ok(())
 }

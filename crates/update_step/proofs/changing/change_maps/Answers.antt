@@ -14,17 +14,19 @@ use Rattle.store_maps.specs.Step.{change_on}
 use Rattle.store_maps.proofs.DeltaLaws.{delta-applied}
 use Rattle.store_maps.proofs.ObjectMaps.{entries_stand}
 use Rattle.store_maps.proofs.Standing.{appended_stands}
+use Rattle.update_step.specs.Lacking.{AreLacking}
 use Rattle.update_step.proofs.Endings.{ends-then, if_err-then, if_ok-then, on_ok-then}
 use Rattle.update_step.proofs.EntryLists.{change_proper}
 use Rattle.update_step.proofs.PendingKeys.{keys-size, outside-rows, pending-rows, same-size}
-use Rattle.update_step.proofs.Touching.{may-needs, may-rows}
+use Rattle.update_step.proofs.RowsStill.{entries-keep}
+use Rattle.update_step.proofs.Touching.{may-entries, may-needs, may-rows}
 use Rattle.update_step.proofs.Whole.{delta-is, due-is}
 use Rattle.update_step.proofs.changing.change_maps.Goals as goal
 
 pub rebuild-requires-clause-style : goal.rebuild-requires-clause-style
 rebuild-requires-clause-style g c _ _ =
     let first = c.args.store.now in
-    g.met.S.MapStore.same_style first c.changed_keys.new.store (c.changed_keys.ensures.looked first (g.met.S.MapStore.looked_none first)) ∙ c.requires.style
+    g.met.S.MapStore.same_style first c.changed_keys.new.store (c.changed_keys.ensures.looked first (c.keys_lacking.ensures.looked first (g.met.S.MapStore.looked_none first))) ∙ c.requires.style
 
 pub rebuild-requires-clause-few : goal.rebuild-requires-clause-few
 rebuild-requires-clause-few g c =
@@ -42,12 +44,15 @@ returns-in-Ok-clause-stands g c =
     let set = c.in-Ok.set in
     let proper = change_proper change c.entries-entries.ensures.rise in
     let after : ObjectSet = folded_all objects change in
-    let both = c.in-Ok.ensures.pending under maps objects held stands.on in
+    let still = c.in_ok-lacking.ensures.holds under maps held in
+    let both = c.in-Ok.ensures.pending under maps objects still stands.on in
     let changed : Maps = change_on maps change in
-    let read = c.in-Ok.ensures.holds under maps held in
+    let read = c.in-Ok.ensures.holds under maps still in
+    let has = entries-keep maps change (rows_in style objects) stands.rows in
+    let lacks : AreLacking (rows_in style objects) c.as_slice-lacking.result.now = subst (AreLacking (rows_in style objects)) (sym c.as_slice-lacking.ensures.value) (c.in_ok-lacking.ensures.lacking under maps objects held stands.on) in
     let on = entries_stand (reaches_nodes style) change maps objects stands.on proper in
     let built = pending-rows style maps objects change on set both.0 in
-    (appended maps change (rows_in style after) (keys_of set), holds under changed (rows_in style after) read built, appended_stands style maps objects change (keys_of set) stands proper (outside-rows style objects change set both.1)))
+    (appended maps change (rows_in style after) (keys_of set), holds under changed (rows_in style objects) (rows_in style after) read has lacks built, appended_stands style maps objects change (keys_of set) stands proper (outside-rows style objects change set both.1)))
 
 pub returns-in-Ok-clause-told : goal.returns-in-Ok-clause-told
 returns-in-Ok-clause-told g c =
@@ -57,12 +62,15 @@ returns-in-Ok-clause-told g c =
     let set = c.in-Ok.set in
     let proper = change_proper change c.entries-entries.ensures.rise in
     let after : ObjectSet = folded_all objects change in
-    let both = c.in-Ok.ensures.pending under maps objects held stands.on in
+    let still = c.in_ok-lacking.ensures.holds under maps held in
+    let both = c.in-Ok.ensures.pending under maps objects still stands.on in
     let changed : Maps = change_on maps change in
-    let read = c.in-Ok.ensures.holds under maps held in
+    let read = c.in-Ok.ensures.holds under maps still in
+    let has = entries-keep maps change (rows_in style objects) stands.rows in
+    let lacks : AreLacking (rows_in style objects) c.as_slice-lacking.result.now = subst (AreLacking (rows_in style objects)) (sym c.as_slice-lacking.ensures.value) (c.in_ok-lacking.ensures.lacking under maps objects held stands.on) in
     let on = entries_stand (reaches_nodes style) change maps objects stands.on proper in
     let built = pending-rows style maps objects change on set both.0 in
-    subst (λ (own : List RowChange). IsDelta (finite.get (tables style objects)) (finite.get (tables style after)) own) (sym (told under changed (rows_in style after) read built)) (delta-is style maps objects change set stands both.0 both.1))
+    subst (λ (own : List RowChange). IsDelta (finite.get (tables style objects)) (finite.get (tables style after)) own) (sym (told under changed (rows_in style objects) (rows_in style after) read has lacks built)) (delta-is style objects change set both.0.rising both.1))
 
 pub returns-in-Ok-clause-applied : goal.returns-in-Ok-clause-applied
 returns-in-Ok-clause-applied g c =
@@ -72,13 +80,16 @@ returns-in-Ok-clause-applied g c =
     let set = c.in-Ok.set in
     let proper = change_proper change c.entries-entries.ensures.rise in
     let after : ObjectSet = folded_all objects change in
-    let both = c.in-Ok.ensures.pending under maps objects held stands.on in
+    let still = c.in_ok-lacking.ensures.holds under maps held in
+    let both = c.in-Ok.ensures.pending under maps objects still stands.on in
     let changed : Maps = change_on maps change in
-    let read = c.in-Ok.ensures.holds under maps held in
+    let read = c.in-Ok.ensures.holds under maps still in
+    let has = entries-keep maps change (rows_in style objects) stands.rows in
+    let lacks : AreLacking (rows_in style objects) c.as_slice-lacking.result.now = subst (AreLacking (rows_in style objects)) (sym c.as_slice-lacking.ensures.value) (c.in_ok-lacking.ensures.lacking under maps objects held stands.on) in
     let on = entries_stand (reaches_nodes style) change maps objects stands.on proper in
     let built = pending-rows style maps objects change on set both.0 in
     delta-applied (tables style objects) (tables style after) changes
-    (subst (λ (own : List RowChange). IsDelta (finite.get (tables style objects)) (finite.get (tables style after)) own) (sym (told under changed (rows_in style after) read built)) (delta-is style maps objects change set stands both.0 both.1)))
+    (subst (λ (own : List RowChange). IsDelta (finite.get (tables style objects)) (finite.get (tables style after)) own) (sym (told under changed (rows_in style objects) (rows_in style after) read has lacks built)) (delta-is style objects change set both.0.rising both.1)))
 
 pub returns-in-Ok-clause-due : goal.returns-in-Ok-clause-due
 returns-in-Ok-clause-due g c =
@@ -88,34 +99,42 @@ returns-in-Ok-clause-due g c =
     let set = c.in-Ok.set in
     let proper = change_proper change c.entries-entries.ensures.rise in
     let after : ObjectSet = folded_all objects change in
-    let both = c.in-Ok.ensures.pending under maps objects held stands.on in
+    let still = c.in_ok-lacking.ensures.holds under maps held in
+    let both = c.in-Ok.ensures.pending under maps objects still stands.on in
     let changed : Maps = change_on maps change in
-    let read = c.in-Ok.ensures.holds under maps held in
+    let read = c.in-Ok.ensures.holds under maps still in
+    let has = entries-keep maps change (rows_in style objects) stands.rows in
+    let lacks : AreLacking (rows_in style objects) c.as_slice-lacking.result.now = subst (AreLacking (rows_in style objects)) (sym c.as_slice-lacking.ensures.value) (c.in_ok-lacking.ensures.lacking under maps objects held stands.on) in
     let on = entries_stand (reaches_nodes style) change maps objects stands.on proper in
     let built = pending-rows style maps objects change on set both.0 in
-    due under changed (rows_in style after) read built zoom x y ∙ ap (λ (b : Bool). has c.args.due.now zoom x y || b) (due-is style maps objects change set stands both.0 both.1 c.args.bounds.now zoom x y))
+    due under changed (rows_in style objects) (rows_in style after) read has lacks built zoom x y ∙ ap (λ (b : Bool). has c.args.due.now zoom x y || b) (due-is style objects change set both.0.rising both.1 c.args.bounds.now zoom x y))
 
 pub returns-in-Ok-clause-few : goal.returns-in-Ok-clause-few
 returns-in-Ok-clause-few g c =
     on_ok-then c.rebuild.result c.rebuild.ensures.spent (λ _ under maps objects held stands own pending.
-    let both = c.in-Ok.ensures.pending under maps objects held stands.on in
+    let both = c.in-Ok.ensures.pending under maps objects (c.in_ok-lacking.ensures.holds under maps held) stands.on in
     subst (λ (count : ℕ). count ≤ c.args.limits.now.pending) (same-size c.args.style.now objects c.args.change.now c.in-Ok.set own both.0 pending) c.in-Ok.ensures.few)
 
 pub returns-in-Ok-clause-ends : goal.returns-in-Ok-clause-ends
 returns-in-Ok-clause-ends g c =
     if_err-then c.rebuild.result c.rebuild.ensures.ends (λ why ends.
-    ends-then _ _ _ _ _ _ why (λ refusal bears first looked. bears first (c.changed_keys.ensures.looked first looked)) (λ unspent. unspent) (λ value never. absurd never) ends)
+    ends-then _ _ _ _ _ _ why (λ refusal bears first looked. bears first (c.changed_keys.ensures.looked first (c.keys_lacking.ensures.looked first looked))) (λ unspent. unspent) (λ value never. absurd never) ends)
 
 pub returns-in-Ok-clause-allowed : goal.returns-in-Ok-clause-allowed
 returns-in-Ok-clause-allowed g c under maps objects held stands =
-    c.rebuild.ensures.allowed under (change_on maps c.args.change.now) (c.in-Ok.ensures.holds under maps held)
+    let style = c.args.style.now in
+    let change = c.args.change.now in
+    let has = entries-keep maps change (rows_in style objects) stands.rows in
+    let lacks : AreLacking (rows_in style objects) c.as_slice-lacking.result.now = subst (AreLacking (rows_in style objects)) (sym c.as_slice-lacking.ensures.value) (c.in_ok-lacking.ensures.lacking under maps objects held stands.on) in
+    c.rebuild.ensures.allowed under (change_on maps change) (rows_in style objects) (c.in-Ok.ensures.holds under maps (c.in_ok-lacking.ensures.holds under maps held)) has lacks
 
 pub returns-in-Err-clause-ends : goal.returns-in-Err-clause-ends
 returns-in-Err-clause-ends g c =
-    ends-then _ _ _ _ _ _ c.in-Err.why (λ refusal bears. bears) (λ unspent. unspent) (λ value many under maps objects held stands. many under maps objects held stands.on) c.in-Err.ensures.ends
+    ends-then _ _ _ _ _ _ c.in-Err.why (λ refusal bears first looked. bears first (c.keys_lacking.ensures.looked first looked)) (λ unspent. unspent)
+    (λ value many under maps objects held stands. many under maps objects (c.in_ok-lacking.ensures.holds under maps held) stands.on) c.in-Err.ensures.ends
 
 pub returns-in-Err-clause-allowed : goal.returns-in-Err-clause-allowed
-returns-in-Err-clause-allowed g c under maps objects held stands = c.in-Err.ensures.allowed under maps objects held stands.on
+returns-in-Err-clause-allowed g c under maps objects held stands = c.in-Err.ensures.allowed under maps objects (c.in_ok-lacking.ensures.holds under maps held) stands.on
 
 pub returns-in-Ok-clause-within : goal.returns-in-Ok-clause-within
 returns-in-Ok-clause-within g c under maps objects held stands may touched before =
@@ -123,10 +142,18 @@ returns-in-Ok-clause-within g c under maps objects held stands may touched befor
     let change = c.args.change.now in
     let set = c.in-Ok.set in
     let on = entries_stand (reaches_nodes style) change maps objects stands.on (change_proper change c.entries-entries.ensures.rise) in
-    let pending = c.in-Ok.ensures.pending under maps objects held stands.on in
-    c.rebuild.ensures.within under (change_on maps change) (c.in-Ok.ensures.holds under maps held) may
+    let still = c.in_ok-lacking.ensures.holds under maps held in
+    let pending = c.in-Ok.ensures.pending under maps objects still stands.on in
+    c.rebuild.ensures.within under (change_on maps change) (c.in-Ok.ensures.holds under maps still) may
     (may-needs style objects change may touched (change_on maps change) on set pending.0) (may-rows style objects change may touched (change_on maps change) on set pending.0)
-    (c.changed_keys.ensures.within under maps objects held stands.on may touched before)
+    (c.changed_keys.ensures.within under maps objects still stands.on may touched (c.keys_lacking.ensures.within may (may-entries style objects change may touched) before))
 
 pub returns-in-Err-clause-within : goal.returns-in-Err-clause-within
-returns-in-Err-clause-within g c under maps objects held stands may touched before = c.changed_keys.ensures.within under maps objects held stands.on may touched before
+returns-in-Err-clause-within g c under maps objects held stands may touched before =
+    let style = c.args.style.now in
+    let change = c.args.change.now in
+    c.changed_keys.ensures.within under maps objects (c.in_ok-lacking.ensures.holds under maps held) stands.on may touched (c.keys_lacking.ensures.within may (may-entries style objects change may touched) before)
+
+pub returns-in_err-lacking-clause-within : goal.returns-in_err-lacking-clause-within
+returns-in_err-lacking-clause-within g c under maps objects held stands may touched before =
+    c.keys_lacking.ensures.within may (may-entries c.args.style.now objects c.args.change.now may touched) before

@@ -1,6 +1,6 @@
 use Rattle.std.proofs.Common.{◌≡◌, ◌==◌, List, [], ◌∷◌, length, true, refl, sym, subst, ◌∙◌, arith}
 use Rattle.store_maps.proofs.IdLists.{same_as}
-use Rattle.update_step.proofs.Imported.{none-set}
+use Rattle.update_step.proofs.RowsStill.{none-set}
 use Rattle.update_step.proofs.importing.put_some.Goals as goal
 
 no_items : {X : Type 0} (xs : List X) → (length xs == 0) ≡ true → xs ≡ []

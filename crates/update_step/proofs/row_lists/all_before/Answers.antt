@@ -7,9 +7,9 @@ use Rattle.update_step.proofs.row_lists.all_before.Goals as goal
 pub loop-key-preserved : goal.loop-key-preserved
 loop-key-preserved g c =
     record {
-      kept = λ under maps held.
-          let was = c.loop-key.invariant.kept under maps held in
-          let is = c.in_ok-rows.ensures.kept under maps (c.loop-key.invariant.holds under maps held) in
+      kept = λ under maps old held has lacks.
+          let was = c.loop-key.invariant.kept under maps old held has lacks in
+          let is = c.in_ok-rows.ensures.kept under maps old (c.loop-key.invariant.holds under maps held) has lacks in
           grind (arith, common_steps, was, is);
       count = grind (arith, common_steps);
       holds = search rules;

@@ -1,0 +1,111 @@
+//! The keys of a change that have no rows before it, so that none need be read.
+ghost use Rattle.std.specs.Prelude.{◌≡◌, ◌&&◌, not, is_some, true, false, [], IfOk, IfErr, OnOk};
+ghost use Rattle.osm_base.specs.declared.values.key.Kind.TheVariants as kinds;
+ghost use Rattle.osm_base.specs.map.Listers.{is_kind};
+ghost use Rattle.osm_base.specs.map.Objects.{ObjectSet};
+ghost use Rattle.row_map.specs.Condition.{reaches_nodes};
+ghost use Rattle.row_map.specs.Rows.{rows_in};
+ghost use Rattle.store_maps.specs.Asked.{May, MayObject};
+ghost use Rattle.store_maps.specs.Maps.{Maps};
+ghost use Rattle.store_maps.specs.Stands.{StandsOn};
+ghost use Rattle.update_step.specs.Ends.{Ends, MayRefuse};
+ghost use Rattle.update_step.specs.Lacking.{AreLacking};
+ghost use Rattle.update_step.specs.Touch.{MayEntries};
+
+use crate::StepFault;
+use object_fold::Change;
+use osm_base::{Key, Kind, Object};
+use row_map::may_have_rows;
+use std::alloc::Global;
+use store_maps::MapStore;
+use style_read::Style;
+
+/// Whether a key is that of a node of which no object is known.
+fn is_unknown_node(key: Key, object: &Option<Object>) -> bool
+    ensures unknown { result ≡ (is_kind kinds.Node key.kind && not (is_some object.now)) }
+{
+    key.kind == Kind::Node && object.is_none()
+}
+
+/// Whether a key has no rows for sure: no table may want its object, or it is a node that has no place. Of a node whose tags are not
+/// known no more than its place is known.
+fn lacks_rows<S: MapStore>(
+    store: &mut S,
+    style: &Style,
+    key: Key,
+) -> Result<bool, StepFault<S::Refusal>>
+    requires spent { S.spent store.old ≡ false }
+    ensures none { IfOk result (λ lacks. (under : S.Under) (maps : Maps) (objects : ObjectSet) → S.holds store.old under maps → StandsOn (reaches_nodes style.now) maps objects
+        → lacks ≡ true → rows_in style.now objects key ≡ []) }
+    ensures holds { OnOk result ((under : S.Under) (maps : Maps) → S.holds store.old under maps → S.holds store.new under maps) }
+    ensures looked { (first : S) → S.looked first store.old → S.looked first store.new }
+    ensures within { (may : May) → MayObject may key → S.within may store.old → S.within may store.new }
+    ensures spent { OnOk result (S.spent store.new ≡ false) }
+    ensures ends { IfErr result (Ends
+        (λ refusal. (first : S) → S.looked first store.old → S.bears store.new (S.faults first) refusal)
+        (S.spent store.new ≡ false)
+        (λ _. ⊥)) }
+    ensures allowed { (under : S.Under) (maps : Maps) → S.holds store.old under maps → IfErr result (MayRefuse S.allowed) }
+{
+    let object = store.object(key).map_err(StepFault::Store)?;
+    if is_unknown_node(key, &object) {
+        let place = store.place(key.id).map_err(StepFault::Store)?;
+        return Ok(place.is_none());
+    }
+    Ok(!may_have_rows(style, &object))
+}
+
+/// Adds a key that has no rows.
+fn add_lacking<S: MapStore>(
+    store: &mut S,
+    style: &Style,
+    keys: &mut Vec<Key>,
+    key: Key,
+) -> Result<(), StepFault<S::Refusal>>
+    requires spent { S.spent store.old ≡ false }
+    ensures lacking { OnOk result ((under : S.Under) (maps : Maps) (objects : ObjectSet) → S.holds store.old under maps → StandsOn (reaches_nodes style.now) maps objects
+        → AreLacking (rows_in style.now objects) keys.old.items → AreLacking (rows_in style.now objects) keys.new.items) }
+    ensures holds { OnOk result ((under : S.Under) (maps : Maps) → S.holds store.old under maps → S.holds store.new under maps) }
+    ensures looked { (first : S) → S.looked first store.old → S.looked first store.new }
+    ensures within { (may : May) → MayObject may key → S.within may store.old → S.within may store.new }
+    ensures spent { OnOk result (S.spent store.new ≡ false) }
+    ensures ends { IfErr result (Ends
+        (λ refusal. (first : S) → S.looked first store.old → S.bears store.new (S.faults first) refusal)
+        (S.spent store.new ≡ false)
+        (λ _. ⊥)) }
+    ensures allowed { (under : S.Under) (maps : Maps) → S.holds store.old under maps → IfErr result (MayRefuse S.allowed) }
+{
+    let lacks = lacks_rows(store, style, key)?;
+    if !lacks {
+        return Ok(());
+    }
+    keys.push(key)?;
+    Ok(())
+}
+
+/// The keys of a change that have no rows before it, in the order of the entries.
+pub(crate) fn keys_lacking<S: MapStore>(
+    alloc: Global,
+    store: &mut S,
+    style: &Style,
+    change: &Change,
+) -> Result<Vec<Key>, StepFault<S::Refusal>>
+    requires spent { S.spent store.old ≡ false }
+    ensures lacking { IfOk result (λ keys. (under : S.Under) (maps : Maps) (objects : ObjectSet) → S.holds store.old under maps → StandsOn (reaches_nodes style.now) maps objects
+        → AreLacking (rows_in style.now objects) keys.items) }
+    ensures holds { OnOk result ((under : S.Under) (maps : Maps) → S.holds store.old under maps → S.holds store.new under maps) }
+    ensures looked { (first : S) → S.looked first store.old → S.looked first store.new }
+    ensures within { (may : May) → MayEntries may change.now → S.within may store.old → S.within may store.new }
+    ensures spent { OnOk result (S.spent store.new ≡ false) }
+    ensures ends { IfErr result (Ends
+        (λ refusal. (first : S) → S.looked first store.old → S.bears store.new (S.faults first) refusal)
+        (S.spent store.new ≡ false)
+        (λ _. ⊥)) }
+    ensures allowed { (under : S.Under) (maps : Maps) → S.holds store.old under maps → IfErr result (MayRefuse S.allowed) }
+{
+    let mut keys = Vec::new(alloc);
+    for entry in change.entries() {
+        add_lacking(store, style, &mut keys, entry.key)?;
+    }
+    Ok(keys)
+}
