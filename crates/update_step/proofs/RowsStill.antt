@@ -1,5 +1,5 @@
 -- Rows that are set where they are there already.
-use Rattle.std.proofs.Common.{◌≡◌, ◌+◌, ◌*◌, ℕ, true, false, cond, List, [], Option, None, refl, sym, ap, ◌∙◌, nat_eq}
+use Rattle.std.proofs.Common.{◌≡◌, ◌+◌, ◌*◌, ℕ, true, false, cond, List, [], ◌∷◌, Option, None, refl, sym, ap, ◌∙◌, nat_eq}
 use Rattle.std.specs.Cmp.{nat_cmp_total}
 use Rattle.std.specs.FinMap as finite
 use Rattle.std.specs.FinMap.{nat_cmp-IsAntisymmetric}
@@ -12,7 +12,7 @@ use Rattle.osm_base.specs.declared.values.row.TableRow.{TableRow}
 use Rattle.osm_base.specs.values.Key.{KeyOf}
 use Rattle.osm_base.specs.values.KeyOrder.{key_cmp}
 use Rattle.store_maps.specs.Append.{set_all_rows}
-use Rattle.store_maps.specs.Maps.{Maps, rows_at, set, set_rows, unless_empty}
+use Rattle.store_maps.specs.Maps.{Maps, all_kept, kept_rows, rows_at, set, set_rows, unless_empty}
 use Rattle.store_maps.specs.Stands.{HoldsRows}
 use Rattle.store_maps.specs.Step.{change_on}
 use Rattle.store_maps.proofs.IdLists.{same_as}
@@ -45,6 +45,14 @@ rows-still old new maps keys has own same =
       | true ↦ refl
       | false ↦ has.at own.kind own.id ∙ ap unless_empty same
     ]
+
+kept_unless : (rows : List TableRow) → kept_rows (unless_empty rows) ≡ rows
+kept_unless [] = refl
+kept_unless (first ∷ rest) = refl
+
+-- the rows that a key has
+pub kept-were : (maps : Maps) (rows : KeyOf → List TableRow) → HoldsRows maps rows → (own : KeyOf) → all_kept maps own ≡ rows own
+kept-were maps rows has own = ap kept_rows (has.at own.kind own.id) ∙ kept_unless (rows own)
 
 -- entries leave all rows
 pub entries-keep : (maps : Maps) (change : List Entry) (rows : KeyOf → List TableRow) → HoldsRows maps rows → HoldsRows (change_on maps change) rows

@@ -1,7 +1,7 @@
 -- Keys that have no rows for sure.
-use Rattle.std.proofs.Common.{◌≡◌, ℕ, Bool, true, false, not, ◌&&◌, cond, List, [], get_or, length, Option, Some, None, Result, Ok, Err, is_ok, is_some, refl, sym, ap, ◌∙◌}
+use Rattle.std.proofs.Common.{◌≡◌, ℕ, Bool, true, false, not, ◌&&◌, cond, List, [], get_or, length, Option, Some, None, Result, Ok, Err, is_ok, is_some, refl, sym, ap, subst, ◌∙◌}
 use mathlib.Core.Bool.{false≢true, true≢false}
-use Rattle.std.specs.Prelude.{HoldsAt, IfOk, IsSome}
+use Rattle.std.specs.Prelude.{HoldsAt, IfOk, IfSome, IsSome}
 use Rattle.std.specs.declared.cmp.Ordering.TheVariants.{Equal}
 use Rattle.std.specs.FinMap as finite
 use Rattle.std.specs.List.{slice_get}
@@ -13,17 +13,17 @@ use Rattle.osm_base.specs.declared.values.object.Object.{Object}
 use Rattle.osm_base.specs.declared.values.object.Object.TheVariants.{Node, Way, Relation}
 use Rattle.osm_base.specs.declared.values.row.TableRow.{TableRow}
 use Rattle.osm_base.specs.map.Listers.{is_kind}
-use Rattle.osm_base.specs.map.Objects.{ObjectSet}
+use Rattle.osm_base.specs.map.Objects.{ObjectSet, place_in as place_of}
 use Rattle.osm_base.specs.values.Key.{KeyOf, node_key, relation_key, way_key}
 use Rattle.osm_base.specs.values.KeyOrder.{key_cmp}
 use Rattle.osm_base.specs.values.Place.{PlaceOf}
 use Rattle.osm_base.specs.values.Tags.{TagMap}
-use Rattle.osm_base.proofs.KeyLaws.{key_cmp-IsAntisymmetric}
+use Rattle.osm_base.proofs.KeyLaws.{key_cmp-IsAntisymmetric, tree_cmp, tree_cmp-key_cmp}
 use Rattle.style_read.specs.declared.style.Source.{Source}
 use Rattle.style_read.specs.declared.style.Source.TheVariants as sources
 use Rattle.style_read.specs.declared.style.TableDef.{TableDef}
 use Rattle.style_read.specs.Style.{StyleOf}
-use Rattle.middle_nodes.specs.declared.record.NodeRecord.{NodeRecord}
+use Rattle.object_fold.specs.Change.{IsOfKind}
 use Rattle.row_map.specs.Condition.{reaches_nodes}
 use Rattle.row_map.specs.Material.{Material, material_of}
 use Rattle.row_map.specs.Objects.{is_of_kind}
@@ -35,8 +35,8 @@ use Rattle.row_map.proofs.TableRows.{row_from-none}
 use Rattle.store_maps.specs.Asked.{May, MayObject}
 use Rattle.store_maps.specs.Maps.{Maps, node_in, object_in}
 use Rattle.store_maps.specs.Named.{place_in}
-use Rattle.store_maps.specs.Stands.{HoldsNode, StandsOn}
-use Rattle.store_maps.proofs.KnownMaps.{KnowsTags, object_is}
+use Rattle.store_maps.specs.Stands.{StandsOn}
+use Rattle.store_maps.proofs.KnownMaps.{KnowsTags, object_is, place_is}
 use Rattle.store_maps.proofs.Standing.{rows_in-same}
 use Rattle.update_step.specs.Lacking.{AreLacking}
 use Rattle.update_step.proofs.Imported.{rows-none, rows-unwanted}
@@ -77,29 +77,32 @@ rows-placeless style objects own tags is =
 
 -- What maps say of a key.
 
-known_tags : (kept : Option NodeRecord) → not (is_some (node_in kept)) ≡ false → KnowsTags kept
-known_tags None known = absurd (true≢false known)
-known_tags (Some kept) known = by kept.tags known
-  where
-    by : (tags : Option TagMap) → not (is_some (option_map (λ own. Node kept.place own) tags)) ≡ false → IsSome tags
-    by None known = absurd (true≢false known)
-    by (Some tags) known = refl
+known_tags : (maps : Maps) (id : ℕ) → not (is_some (object_in maps kinds.Node id)) ≡ false → KnowsTags (finite.get maps.nodes id)
+known_tags maps id known = elim (finite.get maps.nodes id) as (λ kept. not (is_some (node_in kept)) ≡ false → KnowsTags kept) [
+  | None ↦ λ known. absurd (true≢false known)
+  | Some kept ↦ λ known. elim (kept.tags) as (λ (tags : Option TagMap). not (is_some (option_map (λ own. Node kept.place own) tags)) ≡ false → IsSome tags) [
+    | None ↦ λ known. absurd (true≢false known)
+    | Some tags ↦ λ _. refl
+  ] known
+] known
+
+nowhere : {X : Type 0} {x : X} → Some x ≡ None → ⊥
+nowhere e = cc
 
 module _ (style : StyleOf) (maps : Maps) (objects : ObjectSet) (stands : StandsOn (reaches_nodes style) maps objects) where
-  no_place : (id : ℕ) (kept : Option NodeRecord) (object : Option Object) → HoldsNode (reaches_nodes style) kept object → place_in kept ≡ None → finite.get objects (node_key id) ≡ object → rows_in style objects (node_key id) ≡ []
-  no_place id None None holds none is = rows-none style objects (node_key id) is
-  no_place id None (Some object) holds none is = absurd holds
-  no_place id (Some kept) None holds none is = absurd holds
-  no_place id (Some kept) (Some (Node place tags)) holds none is = rows-placeless style objects (node_key id) tags (is ∙ ap (λ own. Some (Node own tags)) (sym holds.0 ∙ none))
-  no_place id (Some kept) (Some (Way nodes tags)) holds none is = absurd holds
-  no_place id (Some kept) (Some (Relation members tags)) holds none is = absurd holds
+  no_place : (id : ℕ) (object : Option Object) → IfSome object (IsOfKind kinds.Node) → place_of object ≡ None → finite.get objects (node_key id) ≡ object → rows_in style objects (node_key id) ≡ []
+  no_place id None proper none is = rows-none style objects (node_key id) is
+  no_place id (Some (Node None tags)) proper none is = rows-placeless style objects (node_key id) tags is
+  no_place id (Some (Node (Some place) tags)) proper none is = absurd (nowhere none)
+  no_place id (Some (Way nodes tags)) proper none is = absurd proper
+  no_place id (Some (Relation members tags)) proper none is = absurd proper
 
   -- a node that has no place
   pub lacks-place : (own : KeyOf) → (is_kind kinds.Node own.kind && not (is_some (object_in maps own.kind own.id))) ≡ true → place_in (finite.get maps.nodes own.id) ≡ None → rows_in style objects own ≡ []
   lacks-place own unknown none = by own.kind own.id unknown none
     where
       by : (kind : Kind) (id : ℕ) → (is_kind kinds.Node kind && not (is_some (object_in maps kind id))) ≡ true → place_in (finite.get maps.nodes id) ≡ None → rows_in style objects (record { kind = kind; id = id }) ≡ []
-      by kinds.Node id unknown none = no_place id (finite.get maps.nodes id) (finite.get objects (node_key id)) (stands.objects.nodes id) none refl
+      by kinds.Node id unknown none = no_place id (finite.get objects (node_key id)) (stands.proper.kinds (node_key id)) (sym (place_is (reaches_nodes style) maps objects stands id) ∙ none) refl
       by kinds.Way id unknown none = absurd (false≢true unknown)
       by kinds.Relation id unknown none = absurd (false≢true unknown)
 
@@ -110,7 +113,7 @@ module _ (style : StyleOf) (maps : Maps) (objects : ObjectSet) (stands : StandsO
       by : (kind : Kind) (id : ℕ) → (is_kind kinds.Node kind && not (is_some (object_in maps kind id))) ≡ false → may_have_rows style (object_in maps kind id) ≡ false → rows_in style objects (record { kind = kind; id = id }) ≡ []
       by kinds.Node id known unwanted =
           rows-unwanted style objects (node_key id)
-          (ap (may_have_rows style) (sym (object_is (reaches_nodes style) maps objects stands (node_key id) (λ _. known_tags (finite.get maps.nodes id) known))) ∙ unwanted)
+          (ap (may_have_rows style) (sym (object_is (reaches_nodes style) maps objects stands (node_key id) (λ _. known_tags maps id known))) ∙ unwanted)
       by kinds.Way id known unwanted = rows-unwanted style objects (way_key id) (ap (may_have_rows style) (sym (stands.objects.ways id)) ∙ unwanted)
       by kinds.Relation id known unwanted = rows-unwanted style objects (relation_key id) (ap (may_have_rows style) (sym (stands.objects.relations id)) ∙ unwanted)
 
@@ -132,8 +135,9 @@ not-true true e = absurd (false≢true e)
 not-true false e = refl
 
 -- a key that is found among those without rows has none
-pub found-lacks : (keys : List KeyOf) (key : KeyOf) (found : Result ℕ ℕ) → IsSearchInRange found (length keys) → IfOk found (HoldsAt (λ own. key_cmp own key ≡ Equal) keys) → is_ok found ≡ true
+pub found-lacks : (keys : List KeyOf) (key : KeyOf) (found : Result ℕ ℕ) → IsSearchInRange found (length keys) → IfOk found (HoldsAt (λ own. tree_cmp own key ≡ Equal) keys) → is_ok found ≡ true
     → (rows : KeyOf → List TableRow) → AreLacking rows keys → rows key ≡ []
-found-lacks keys key (Ok at) below same yes rows all =
-    ap rows (sym (key_cmp-IsAntisymmetric (get_or keys at key) key (same key))) ∙ all_at (λ own. rows own ≡ []) keys at (get_or keys at key) key all below refl
-found-lacks keys key (Err at) below same yes rows all = absurd (false≢true yes)
+found-lacks keys key (Ok at) below same there rows all =
+    let met : key_cmp (get_or keys at key) key ≡ Equal = subst (λ cmp. cmp (get_or keys at key) key ≡ Equal) tree_cmp-key_cmp (same key) in
+    ap rows (sym (key_cmp-IsAntisymmetric (get_or keys at key) key met)) ∙ all_at (λ own. rows own ≡ []) keys at (get_or keys at key) key all below refl
+found-lacks keys key (Err at) below same there rows all = absurd (false≢true there)

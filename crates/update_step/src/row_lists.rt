@@ -6,7 +6,7 @@ ghost use Rattle.osm_base.specs.values.Key.{KeyOf};
 ghost use Rattle.geom_workers.specs.Keys.{keys_of};
 ghost use Rattle.store_maps.specs.Append.{MayKeep, set_all_rows};
 ghost use Rattle.store_maps.specs.Asked.{May, MayRows};
-ghost use Rattle.store_maps.specs.Maps.{Maps, rows_at, set_rows, unless_empty};
+ghost use Rattle.store_maps.specs.Maps.{Maps, all_kept, rows_at, set_rows, unless_empty};
 ghost use Rattle.store_maps.specs.Stands.{HoldsRows};
 ghost use Rattle.update_step.specs.Ends.{Ends, MayRefuse};
 ghost use Rattle.update_step.specs.Lacking.{AreLacking};
@@ -38,8 +38,32 @@ fn is_among(keys: &[Key], key: Key) -> bool
     keys.binary_search(&key).is_ok()
 }
 
-/// The rows that a store has of a key. `lacking` are keys without any, which are not looked up.
+/// The rows that a store has of a key.
 fn rows_before<S: MapStore>(
+    alloc: Global,
+    store: &mut S,
+    key: Key,
+) -> Result<TableRows, StepFault<S::Refusal>>
+    requires spent { S.spent store.old ≡ false }
+    ensures kept { IfOk result (λ kept. (under : S.Under) (maps : Maps) → S.holds store.old under maps → kept ≡ all_kept maps key) }
+    ensures holds { OnOk result ((under : S.Under) (maps : Maps) → S.holds store.old under maps → S.holds store.new under maps) }
+    ensures looked { (first : S) → S.looked first store.old → S.looked first store.new }
+    ensures within { (may : May) → MayRows may key → S.within may store.old → S.within may store.new }
+    ensures spent { OnOk result (S.spent store.new ≡ false) }
+    ensures ends { IfErr result (Ends
+        (λ refusal. (first : S) → S.looked first store.old → S.bears store.new (S.faults first) refusal)
+        (S.spent store.new ≡ false)
+        (λ _. ⊥)) }
+    ensures allowed { (under : S.Under) (maps : Maps) → S.holds store.old under maps → IfErr result (MayRefuse S.allowed) }
+{
+    match store.rows(key).map_err(StepFault::Store)? {
+        Some(rows) => Ok(rows),
+        None => Ok(TableRows::new(alloc)),
+    }
+}
+
+/// The same, where a key that is one of these is without rows and is not looked up.
+fn rows_unless<S: MapStore>(
     alloc: Global,
     store: &mut S,
     key: Key,
@@ -61,10 +85,7 @@ fn rows_before<S: MapStore>(
     if is_among(lacking, key) {
         return Ok(TableRows::new(alloc));
     }
-    match store.rows(key).map_err(StepFault::Store)? {
-        Some(rows) => Ok(rows),
-        None => Ok(TableRows::new(alloc)),
-    }
+    rows_before(alloc, store, key)
 }
 
 /// The rows that a store has of each of these keys. `lacking` are keys without any.
@@ -90,7 +111,7 @@ pub(crate) fn all_before<S: MapStore>(
 {
     let mut all = RowLists::new(alloc);
     for &key in keys {
-        let rows = rows_before(alloc, store, key, lacking)?;
+        let rows = rows_unless(alloc, store, key, lacking)?;
         all.push(rows)?;
     }
     Ok(all)

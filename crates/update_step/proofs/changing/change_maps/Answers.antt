@@ -48,11 +48,11 @@ returns-in-Ok-clause-stands g c =
     let both = c.in-Ok.ensures.pending under maps objects still stands.on in
     let changed : Maps = change_on maps change in
     let read = c.in-Ok.ensures.holds under maps still in
-    let has = entries-keep maps change (rows_in style objects) stands.rows in
+    let kept = entries-keep maps change (rows_in style objects) stands.rows in
     let lacks : AreLacking (rows_in style objects) c.as_slice-lacking.result.now = subst (AreLacking (rows_in style objects)) (sym c.as_slice-lacking.ensures.value) (c.in_ok-lacking.ensures.lacking under maps objects held stands.on) in
     let on = entries_stand (reaches_nodes style) change maps objects stands.on proper in
     let built = pending-rows style maps objects change on set both.0 in
-    (appended maps change (rows_in style after) (keys_of set), holds under changed (rows_in style objects) (rows_in style after) read has lacks built, appended_stands style maps objects change (keys_of set) stands proper (outside-rows style objects change set both.1)))
+    (appended maps change (rows_in style after) (keys_of set), holds under changed (rows_in style objects) (rows_in style after) read kept lacks built, appended_stands style maps objects change (keys_of set) stands proper (outside-rows style objects change set both.1)))
 
 pub returns-in-Ok-clause-told : goal.returns-in-Ok-clause-told
 returns-in-Ok-clause-told g c =
@@ -66,11 +66,11 @@ returns-in-Ok-clause-told g c =
     let both = c.in-Ok.ensures.pending under maps objects still stands.on in
     let changed : Maps = change_on maps change in
     let read = c.in-Ok.ensures.holds under maps still in
-    let has = entries-keep maps change (rows_in style objects) stands.rows in
+    let kept = entries-keep maps change (rows_in style objects) stands.rows in
     let lacks : AreLacking (rows_in style objects) c.as_slice-lacking.result.now = subst (AreLacking (rows_in style objects)) (sym c.as_slice-lacking.ensures.value) (c.in_ok-lacking.ensures.lacking under maps objects held stands.on) in
     let on = entries_stand (reaches_nodes style) change maps objects stands.on proper in
     let built = pending-rows style maps objects change on set both.0 in
-    subst (λ (own : List RowChange). IsDelta (finite.get (tables style objects)) (finite.get (tables style after)) own) (sym (told under changed (rows_in style objects) (rows_in style after) read has lacks built)) (delta-is style objects change set both.0.rising both.1))
+    subst (λ (own : List RowChange). IsDelta (finite.get (tables style objects)) (finite.get (tables style after)) own) (sym (told under changed (rows_in style objects) (rows_in style after) read kept lacks built)) (delta-is style objects change set both.0.rising both.1))
 
 pub returns-in-Ok-clause-applied : goal.returns-in-Ok-clause-applied
 returns-in-Ok-clause-applied g c =
@@ -84,12 +84,12 @@ returns-in-Ok-clause-applied g c =
     let both = c.in-Ok.ensures.pending under maps objects still stands.on in
     let changed : Maps = change_on maps change in
     let read = c.in-Ok.ensures.holds under maps still in
-    let has = entries-keep maps change (rows_in style objects) stands.rows in
+    let kept = entries-keep maps change (rows_in style objects) stands.rows in
     let lacks : AreLacking (rows_in style objects) c.as_slice-lacking.result.now = subst (AreLacking (rows_in style objects)) (sym c.as_slice-lacking.ensures.value) (c.in_ok-lacking.ensures.lacking under maps objects held stands.on) in
     let on = entries_stand (reaches_nodes style) change maps objects stands.on proper in
     let built = pending-rows style maps objects change on set both.0 in
     delta-applied (tables style objects) (tables style after) changes
-    (subst (λ (own : List RowChange). IsDelta (finite.get (tables style objects)) (finite.get (tables style after)) own) (sym (told under changed (rows_in style objects) (rows_in style after) read has lacks built)) (delta-is style objects change set both.0.rising both.1)))
+    (subst (λ (own : List RowChange). IsDelta (finite.get (tables style objects)) (finite.get (tables style after)) own) (sym (told under changed (rows_in style objects) (rows_in style after) read kept lacks built)) (delta-is style objects change set both.0.rising both.1)))
 
 pub returns-in-Ok-clause-due : goal.returns-in-Ok-clause-due
 returns-in-Ok-clause-due g c =
@@ -103,11 +103,11 @@ returns-in-Ok-clause-due g c =
     let both = c.in-Ok.ensures.pending under maps objects still stands.on in
     let changed : Maps = change_on maps change in
     let read = c.in-Ok.ensures.holds under maps still in
-    let has = entries-keep maps change (rows_in style objects) stands.rows in
+    let kept = entries-keep maps change (rows_in style objects) stands.rows in
     let lacks : AreLacking (rows_in style objects) c.as_slice-lacking.result.now = subst (AreLacking (rows_in style objects)) (sym c.as_slice-lacking.ensures.value) (c.in_ok-lacking.ensures.lacking under maps objects held stands.on) in
     let on = entries_stand (reaches_nodes style) change maps objects stands.on proper in
     let built = pending-rows style maps objects change on set both.0 in
-    due under changed (rows_in style objects) (rows_in style after) read has lacks built zoom x y ∙ ap (λ (b : Bool). has c.args.due.now zoom x y || b) (due-is style objects change set both.0.rising both.1 c.args.bounds.now zoom x y))
+    due under changed (rows_in style objects) (rows_in style after) read kept lacks built zoom x y ∙ ap (λ (b : Bool). has c.args.due.now zoom x y || b) (due-is style objects change set both.0.rising both.1 c.args.bounds.now zoom x y))
 
 pub returns-in-Ok-clause-few : goal.returns-in-Ok-clause-few
 returns-in-Ok-clause-few g c =
@@ -124,17 +124,17 @@ pub returns-in-Ok-clause-allowed : goal.returns-in-Ok-clause-allowed
 returns-in-Ok-clause-allowed g c under maps objects held stands =
     let style = c.args.style.now in
     let change = c.args.change.now in
-    let has = entries-keep maps change (rows_in style objects) stands.rows in
+    let kept = entries-keep maps change (rows_in style objects) stands.rows in
     let lacks : AreLacking (rows_in style objects) c.as_slice-lacking.result.now = subst (AreLacking (rows_in style objects)) (sym c.as_slice-lacking.ensures.value) (c.in_ok-lacking.ensures.lacking under maps objects held stands.on) in
-    c.rebuild.ensures.allowed under (change_on maps change) (rows_in style objects) (c.in-Ok.ensures.holds under maps (c.in_ok-lacking.ensures.holds under maps held)) has lacks
+    c.rebuild.ensures.allowed under (change_on maps change) (rows_in style objects) (c.in-Ok.ensures.holds under maps (c.in_ok-lacking.ensures.holds under maps held)) kept lacks
 
-pub returns-in-Err-clause-ends : goal.returns-in-Err-clause-ends
-returns-in-Err-clause-ends g c =
+pub returns-clause-ends : goal.returns-clause-ends
+returns-clause-ends g c =
     ends-then _ _ _ _ _ _ c.in-Err.why (λ refusal bears first looked. bears first (c.keys_lacking.ensures.looked first looked)) (λ unspent. unspent)
     (λ value many under maps objects held stands. many under maps objects (c.in_ok-lacking.ensures.holds under maps held) stands.on) c.in-Err.ensures.ends
 
-pub returns-in-Err-clause-allowed : goal.returns-in-Err-clause-allowed
-returns-in-Err-clause-allowed g c under maps objects held stands = c.in-Err.ensures.allowed under maps objects (c.in_ok-lacking.ensures.holds under maps held) stands.on
+pub returns-clause-allowed : goal.returns-clause-allowed
+returns-clause-allowed g c under maps objects held stands = c.in-Err.ensures.allowed under maps objects (c.in_ok-lacking.ensures.holds under maps held) stands.on
 
 pub returns-in-Ok-clause-within : goal.returns-in-Ok-clause-within
 returns-in-Ok-clause-within g c under maps objects held stands may touched before =
@@ -148,8 +148,8 @@ returns-in-Ok-clause-within g c under maps objects held stands may touched befor
     (may-needs style objects change may touched (change_on maps change) on set pending.0) (may-rows style objects change may touched (change_on maps change) on set pending.0)
     (c.changed_keys.ensures.within under maps objects still stands.on may touched (c.keys_lacking.ensures.within may (may-entries style objects change may touched) before))
 
-pub returns-in-Err-clause-within : goal.returns-in-Err-clause-within
-returns-in-Err-clause-within g c under maps objects held stands may touched before =
+pub returns-clause-within : goal.returns-clause-within
+returns-clause-within g c under maps objects held stands may touched before =
     let style = c.args.style.now in
     let change = c.args.change.now in
     c.changed_keys.ensures.within under maps objects (c.in_ok-lacking.ensures.holds under maps held) stands.on may touched (c.keys_lacking.ensures.within may (may-entries style objects change may touched) before)

@@ -1,4 +1,4 @@
-use Rattle.std.proofs.Common.{rules, ◌≡◌, Bool, true, false, not, ◌&&◌, is_some, Option, sym, ap, ◌∙◌}
+use Rattle.std.proofs.Common.{rules, ◌≡◌, Bool, true, false, not, ◌&&◌, is_some, Option, sym, ap, subst, ◌∙◌}
 use Rattle.std.specs.FinMap as finite
 use Rattle.osm_base.specs.declared.values.key.Kind.TheVariants as kinds
 use Rattle.osm_base.specs.declared.values.object.Object.{Object}
@@ -27,8 +27,10 @@ returns-clause-none g c under maps objects held on lacks =
 
 pub returns-then-is_unknown_node-clause-within : goal.returns-then-is_unknown_node-clause-within
 returns-then-is_unknown_node-clause-within g c may all before =
-    c.place.ensures.within may (may-place may c.args.key (not (is_some c.in_ok-object.object)) (sym c.is_unknown_node.ensures.unknown ∙ c.if-is_unknown_node.true) all) (c.object.ensures.within may all before)
+    let asked = may-place may c.args.key (not (is_some c.in_ok-object.object)) (sym c.is_unknown_node.ensures.unknown ∙ c.if-is_unknown_node.true) all in
+    c.place.ensures.within may (subst (λ (own : KeyOf). may 0 own.id ≡ true) (sym c.key.view_is) asked) (c.object.ensures.within may all before)
 
-pub returns-then-is_unknown_node-in_err-place-clause-within : goal.returns-then-is_unknown_node-in_err-place-clause-within
-returns-then-is_unknown_node-in_err-place-clause-within g c may all before =
-    c.place.ensures.within may (may-place may c.args.key (not (is_some c.in_ok-object.object)) (sym c.is_unknown_node.ensures.unknown ∙ c.if-is_unknown_node.true) all) (c.object.ensures.within may all before)
+pub returns-in_err-place-clause-within : goal.returns-in_err-place-clause-within
+returns-in_err-place-clause-within g c may all before =
+    let asked = may-place may c.args.key (not (is_some c.in_ok-object.object)) (sym c.is_unknown_node.ensures.unknown ∙ c.if-is_unknown_node.true) all in
+    c.place.ensures.within may (subst (λ (own : KeyOf). may 0 own.id ≡ true) (sym c.key.view_is) asked) (c.object.ensures.within may all before)

@@ -27,7 +27,7 @@ put_rows-requires-clause-kept g c =
     (subst (λ (lists : List (List TableRow)). AllByRecursion (MayKeep style.tables) lists) (sym news_are) (all-kept style g_in keys))
 
 pub returns-in-Ok-clause-holds : goal.returns-in-Ok-clause-holds
-returns-in-Ok-clause-holds g c under maps old rows held has lacks built =
+returns-in-Ok-clause-holds g c under maps old rows held kept lacks built =
     let style = c.args.style.now in
     let keys : List KeyOf = keys_of c.args.pending.now in
     let g_in : Gathered = gathered_in c.in_ok-known.known in
@@ -38,12 +38,12 @@ returns-in-Ok-clause-holds g c under maps old rows held has lacks built =
     let all : map (rows_known style (known_in g_in)) keys ≡ map rows keys = built g_in (c.in_ok-known.ensures.right under maps held) asked in
     let news_rows : c.as_slice-news.result.now ≡ map rows c.as_slice-keys.result.now = news_are ∙ all ∙ ap (map rows) (sym keys_are) in
     let gathered_held = c.in_ok-known.ensures.holds under maps held in
-    let olds_are : c.as_slice-olds.result.now ≡ map old c.as_slice-keys.result.now = c.as_slice-olds.ensures.items ∙ c.in_ok-before.ensures.kept under maps old gathered_held has lacks in
+    let olds_are : c.as_slice-olds.result.now ≡ map old c.as_slice-keys.result.now = c.as_slice-olds.ensures.items ∙ c.in_ok-before.ensures.kept under maps old gathered_held kept lacks in
     subst (λ (own : List KeyOf). g.S.MapStore.holds c.put_rows.new.store under (set_all_rows maps rows own)) keys_are
-    (c.in-Ok.ensures.holds under maps old rows olds_are news_rows has (c.in_ok-before.ensures.holds under maps gathered_held))
+    (c.in-Ok.ensures.holds under maps old rows olds_are news_rows kept (c.in_ok-before.ensures.holds under maps gathered_held))
 
 pub returns-in-Ok-clause-told : goal.returns-in-Ok-clause-told
-returns-in-Ok-clause-told g c under maps old rows held has lacks built =
+returns-in-Ok-clause-told g c under maps old rows held kept lacks built =
     let style = c.args.style.now in
     let keys : List KeyOf = keys_of c.args.pending.now in
     let g_in : Gathered = gathered_in c.in_ok-known.known in
@@ -54,13 +54,13 @@ returns-in-Ok-clause-told g c under maps old rows held has lacks built =
     let all : map (rows_known style (known_in g_in)) keys ≡ map rows keys = built g_in (c.in_ok-known.ensures.right under maps held) asked in
     let news_rows : c.as_slice-news.result.now ≡ map rows c.as_slice-keys.result.now = news_are ∙ all ∙ ap (map rows) (sym keys_are) in
     let gathered_held = c.in_ok-known.ensures.holds under maps held in
-    let olds_are : c.as_slice-olds.result.now ≡ map old c.as_slice-keys.result.now = c.as_slice-olds.ensures.items ∙ c.in_ok-before.ensures.kept under maps old gathered_held has lacks in
+    let olds_are : c.as_slice-olds.result.now ≡ map old c.as_slice-keys.result.now = c.as_slice-olds.ensures.items ∙ c.in_ok-before.ensures.kept under maps old gathered_held kept lacks in
     c.in_ok-changes.ensures.told old rows olds_are news_rows
     ∙ ap (λ (count : ℕ). told_all count old rows c.as_slice-keys.result.now) c.table_count.ensures.count
     ∙ ap (λ (own : List KeyOf). told_all (length style.tables) old rows own) keys_are
 
 pub returns-in-Ok-clause-due : goal.returns-in-Ok-clause-due
-returns-in-Ok-clause-due g c under maps old rows held has lacks built zoom x y =
+returns-in-Ok-clause-due g c under maps old rows held kept lacks built zoom x y =
     let style = c.args.style.now in
     let keys : List KeyOf = keys_of c.args.pending.now in
     let g_in : Gathered = gathered_in c.in_ok-known.known in
@@ -71,12 +71,12 @@ returns-in-Ok-clause-due g c under maps old rows held has lacks built zoom x y =
     let all : map (rows_known style (known_in g_in)) keys ≡ map rows keys = built g_in (c.in_ok-known.ensures.right under maps held) asked in
     let news_rows : c.as_slice-news.result.now ≡ map rows c.as_slice-keys.result.now = news_are ∙ all ∙ ap (map rows) (sym keys_are) in
     let gathered_held = c.in_ok-known.ensures.holds under maps held in
-    let olds_are : c.as_slice-olds.result.now ≡ map old c.as_slice-keys.result.now = c.as_slice-olds.ensures.items ∙ c.in_ok-before.ensures.kept under maps old gathered_held has lacks in
+    let olds_are : c.as_slice-olds.result.now ≡ map old c.as_slice-keys.result.now = c.as_slice-olds.ensures.items ∙ c.in_ok-before.ensures.kept under maps old gathered_held kept lacks in
     c.in_ok-add_all.ensures.added old rows olds_are news_rows zoom x y
     ∙ ap (λ (own : List KeyOf). has c.args.due.now zoom x y || list_any (λ (key : KeyOf). is_due_key style c.args.bounds.now (old key) (rows key) zoom x y) own) keys_are
 
-pub returns-in-Err-clause-allowed : goal.returns-in-Err-clause-allowed
-returns-in-Err-clause-allowed g c under maps old held has lacks =
+pub returns-clause-allowed : goal.returns-clause-allowed
+returns-clause-allowed g c under maps old held kept lacks =
     let style = c.args.style.now in
     let keys : List KeyOf = keys_of c.args.pending.now in
     let g_in : Gathered = gathered_in c.in_ok-known.known in
@@ -84,5 +84,5 @@ returns-in-Err-clause-allowed g c under maps old held has lacks =
     let news_are : c.as_slice-news.result.now ≡ map (rows_known style (known_in g_in)) c.as_slice-keys.result.now =
     c.as_slice-news.ensures.items ∙ c.in_ok-built.ensures.rows ∙ ap (map (rows_known style (known_in g_in))) (sym keys_are) in
     let gathered_held = c.in_ok-known.ensures.holds under maps held in
-    let olds_are : c.as_slice-olds.result.now ≡ map old c.as_slice-keys.result.now = c.as_slice-olds.ensures.items ∙ c.in_ok-before.ensures.kept under maps old gathered_held has lacks in
-    c.in-Err.ensures.allowed under maps old (rows_known style (known_in g_in)) olds_are news_are has (c.in_ok-before.ensures.holds under maps gathered_held)
+    let olds_are : c.as_slice-olds.result.now ≡ map old c.as_slice-keys.result.now = c.as_slice-olds.ensures.items ∙ c.in_ok-before.ensures.kept under maps old gathered_held kept lacks in
+    c.in-Err.ensures.allowed under maps old (rows_known style (known_in g_in)) olds_are news_are kept (c.in_ok-before.ensures.holds under maps gathered_held)

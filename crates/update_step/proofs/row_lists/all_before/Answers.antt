@@ -14,17 +14,17 @@ loop-key-preserved g c =
       count = grind (arith, common_steps);
       holds = search rules;
       looked = search rules;
-      within = λ may all before. c.rows_before.ensures.within may
+      within = λ may all before. c.rows_unless.ensures.within may
           (all_at (MayRows may) c.args.keys.now c.loop-key.key-index c.key-item.result c.key-item.result all c.loop-key-test.true c.key-item.is) (c.loop-key.invariant.within may all before);
       spent = search rules;
     }
 
 pub returns-in_err-rows-clause-within : goal.returns-in_err-rows-clause-within
 returns-in_err-rows-clause-within g c may all before =
-    c.rows_before.ensures.within may
+    c.rows_unless.ensures.within may
     (all_at (MayRows may) c.args.keys.now c.loop-key.key-index c.key-item.result c.key-item.result all c.loop-key-test.true c.key-item.is) (c.loop-key.invariant.within may all before)
 
 pub returns-in_err-push-clause-within : goal.returns-in_err-push-clause-within
 returns-in_err-push-clause-within g c may all before =
-    c.rows_before.ensures.within may
+    c.rows_unless.ensures.within may
     (all_at (MayRows may) c.args.keys.now c.loop-key.key-index c.key-item.result c.key-item.result all c.loop-key-test.true c.key-item.is) (c.loop-key.invariant.within may all before)

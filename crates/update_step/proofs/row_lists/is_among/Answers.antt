@@ -2,6 +2,8 @@ use Rattle.std.proofs.Common.{sym, ◌∙◌}
 use Rattle.update_step.proofs.WithoutRows.{found-lacks}
 use Rattle.update_step.proofs.row_lists.is_among.Goals as goal
 
-pub returns-clause-lacking : goal.returns-clause-lacking
-returns-clause-lacking c rows all yes =
-    found-lacks c.args.keys.now c.args.key c.binary_search.result c.binary_search.ensures.bound c.binary_search.ensures.ok (sym c.is_ok.ensures ∙ yes) rows all
+pub returns : goal.returns
+returns c = record {
+  lacking = λ rows all same.
+      found-lacks c.args.keys.now c.args.key c.binary_search.result c.binary_search.ensures.bound c.binary_search.ensures.ok (sym c.is_ok.ensures.value ∙ same) rows all;
+}
