@@ -1,9 +1,7 @@
 -- Maps that were filled by entries stand for the objects of these.
-use Rattle.std.proofs.Common.{◌≡◌, ◌<◌, ◌+◌, ◌*◌, ℕ, true, false, cond, List, [], ◌∷◌, length, map, take, slice_index_or, None, refl, sym, ap, ◌∙◌, nat_eq}
+use Rattle.std.proofs.Common.{◌≡◌, ◌<◌, ◌+◌, ◌*◌, ℕ, true, false, cond, List, [], ◌∷◌, length, map, take, slice_index_or, None, refl, sym, ap, ◌∙◌}
 use Rattle.std.specs.Prelude.{if◌then◌else◌}
-use Rattle.std.specs.Cmp.{nat_cmp_total}
 use Rattle.std.specs.FinMap as finite
-use Rattle.std.specs.FinMap.{nat_cmp-IsAntisymmetric}
 use Rattle.std.specs.List.{AllByRecursion, list_any}
 use Rattle.std.specs.Ordering.{eq_by_cmp, nat_cmp}
 use Rattle.osm_base.specs.declared.values.key.Kind.{Kind}
@@ -25,15 +23,13 @@ use Rattle.row_map.specs.Rows.{rows_in, rows_known}
 use Rattle.row_map.specs.Wanted.{may_have_rows}
 use Rattle.row_map.proofs.TableRows.{rows_known-none, rows_known-unwanted}
 use Rattle.store_maps.specs.Append.{MayKeep, appended, set_all_rows}
-use Rattle.store_maps.specs.Maps.{Maps, empty_maps, form_in, rows_at, set_rows, unless_empty}
+use Rattle.store_maps.specs.Maps.{Maps, empty_maps, form_in, rows_at, unless_empty}
 use Rattle.store_maps.specs.Stands.{Stands, StandsOn}
 use Rattle.store_maps.specs.Step.{AllListed, AreTold, change_on}
 use Rattle.store_maps.specs.Turns.{blocks_in, ids_for, listed_by}
-use Rattle.store_maps.proofs.IdLists.{same_as}
 use Rattle.store_maps.proofs.KeptRows.{may_keep}
 use Rattle.store_maps.proofs.ObjectMaps.{empty_stands-on, entries_stand}
 use Rattle.store_maps.proofs.RowMaps.{empty_rows, got-all, rows_stay}
-use Rattle.store_maps.proofs.Sets.{get-set}
 use Rattle.store_maps.proofs.Standing.{appended_stands}
 use Rattle.update_step.specs.Importing.{LacksRows, keys_named, wanted_among}
 use Rattle.update_step.proofs.EntryLists.{change_proper, proper_front}

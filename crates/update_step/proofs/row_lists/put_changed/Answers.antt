@@ -1,5 +1,4 @@
-use Rattle.std.proofs.Common.{◌≡◌, List, subst, ◌∙◌}
-use Rattle.osm_base.specs.declared.values.row.TableRow.{TableRow}
+use Rattle.std.proofs.Common.{◌≡◌, subst, ◌∙◌}
 use Rattle.update_step.proofs.RowsStill.{same-set}
 use Rattle.update_step.proofs.row_lists.put_changed.Goals as goal
 

@@ -28,7 +28,7 @@ loop-index-preserved g c =
           let rows_were : c.as_slice.result.now ≡ old key = c.as_slice.ensures.items ∙ rows_there old keys c.args.olds.now c.loop-index.index key key c.index-olds-index.result were c.loop-index-test.true c.index-keys-index.is c.index-olds-index.is in
           let rows_are : own ≡ new key = rows_there new keys c.args.news.now c.loop-index.index key key own are c.loop-index-test.true c.index-keys-index.is c.index-news-index.is in
           let step = c.in_ok-put_changed.ensures.holds under before (c.loop-index.invariant.holds under maps old new were are has held)
-              (λ same. rows-still old new maps (take c.loop-index.index keys) has key (sym rows_were ∙ same ∙ rows_are) ∙ ap (λ (rows : List TableRow). unless_empty rows) (sym rows_are)) in
+          (λ same. rows-still old new maps (take c.loop-index.index keys) has key (sym rows_were ∙ same ∙ rows_are) ∙ ap (λ (rows : List TableRow). unless_empty rows) (sym rows_are)) in
           subst (g.S.MapStore.holds c.put_changed.new.store under) (ap (set_rows before key.kind key.id) rows_are
           ∙ sym (fold-more (λ (own : Maps) (other : KeyOf). set_rows own other.kind other.id (new other)) maps keys c.loop-index.index key c.loop-index-test.true c.index-keys-index.is)) step;
       looked = search rules;
