@@ -50,6 +50,7 @@ module _ {D : Type 0} {g : Ghosts D} where
       answer = turns.answer;
       needs = turns.needs;
       done = λ is. kept_back (after state step) new kept back (ends.whole (no_fault fault is)) (turns.done is);
+      grown = turns.grown;
       refused = λ not no. let stays = turns.refused not no in (kept_back state new kept back (ends.whole no) stays.0, stays.1);
       moments = turns.moments;
     }
@@ -57,6 +58,7 @@ module _ {D : Type 0} {g : Ghosts D} where
     looks_here : (state : State) → LooksIn state fault old new → LooksOn state fault (view_in old) (view_in new) kept
     looks_here state looks = record {
       answer = looks.answer;
+      only = looks.only;
       stays = λ no. kept_back state new kept back (ends.whole no) (looks.stays no);
       moments = looks.moments;
     }

@@ -22,7 +22,7 @@ use Rattle.update_flow.specs.Stands.{IsImported}
 use Rattle.update_flow.specs.State.{Holding}
 
 -- a store at rest has one list of home pages
-pages_one : (one other : List (List ℕ)) (view : DiskView) → IsAtRest one view → IsAtRest other view → one ≡ other
+pub pages_one : (one other : List (List ℕ)) (view : DiskView) → IsAtRest one view → IsAtRest other view → one ≡ other
 pages_one one other view first second =
     let same : second.0 ≡ first.0 = same_Some second.0 first.0 (sym second.1.told ∙ first.1.told) in
     one_home one other first.0 first.1.home (subst (λ (b : List ℕ). Home other b) same second.1.home)

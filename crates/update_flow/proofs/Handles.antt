@@ -4,6 +4,7 @@ use Rattle.std.specs.Prelude.{IfErr, IsErrOf, OnOk, is_some}
 use Rattle.std.specs.Result.{result_err}
 use Rattle.outside.specs.Disk.{DiskView}
 use Rattle.page_journal.specs.declared.fault.StoreFault.TheVariants as store
+use Rattle.page_journal.proofs.Moments.{stays_same}
 use Rattle.std.proofs.lemmas.Option.{same_Some}
 use Rattle.bucket_store.specs.Opening.{Fits}
 use Rattle.bucket_store.specs.declared.opened.Opened.{Opened}
@@ -61,6 +62,7 @@ takes_none state step fault handle opened may fits = record {
   answer = may;
   needs = λ _. fits;
   done = λ is. absurd (cc (is));
+  grown = λ _ is. absurd (cc (is));
   refused = λ not no. (opened, nothing_done state (view_of handle) opened.at_rest);
   moments = either_done state (after state step) (view_of handle) opened.at_rest;
 }
@@ -95,7 +97,7 @@ module _ (handle : Handle) where
   pub look_old : (state : State) → is_old handle ≡ true → IsOpen state handle → Looks state (Some flow.OldFormat) handle handle
   look_old formatted is opened = absurd (told_new formatted refl opened is)
   look_old (imported held) is opened = absurd (told_new (imported held) refl opened is)
-  look_old (outdated held) is opened = record { answer = refl; stays = λ no. opened; moments = nothing_done (outdated held) (view_of handle) opened.at_rest }
+  look_old (outdated held) is opened = record { answer = refl; only = stays_same (view_of handle); stays = λ no. opened; moments = nothing_done (outdated held) (view_of handle) opened.at_rest }
 
   -- and one that has the format of today is left as it is
   pub migrate_none : (state : State) → is_imported handle ≡ true → is_old handle ≡ false → IsOpen state handle → Takes state Migrate None handle handle
@@ -105,6 +107,7 @@ module _ (handle : Handle) where
     answer = refl;
     needs = λ writes. absurd writes;
     done = λ none. opened;
+    grown = λ writes. absurd writes;
     refused = λ not no. absurd (not refl);
     moments = either_done (imported held) (imported held) (view_of handle) opened.at_rest;
   }
@@ -124,7 +127,7 @@ module _ (handle : Handle) where
   clear_unasked (outdated held) is opened = absurd (told_begun held opened is)
 
   pub look_unasked : (state : State) → is_imported handle ≡ false → IsOpen state handle → Looks state (Some flow.NotImported) handle handle
-  look_unasked formatted is opened = record { answer = refl; stays = λ no. opened; moments = nothing_done formatted (view_of handle) opened.at_rest }
+  look_unasked formatted is opened = record { answer = refl; only = stays_same (view_of handle); stays = λ no. opened; moments = nothing_done formatted (view_of handle) opened.at_rest }
   look_unasked (imported held) is opened = absurd (told_imported held opened is)
   look_unasked (outdated held) is opened = absurd (told_begun held opened is)
 
@@ -144,12 +147,13 @@ module _ (old new : Handle) (kept : Option Opened) (whole : is_some kept ≡ is_
     answer = turns.answer;
     needs = λ _. turns.needs;
     done = λ is. open_kept (after state step) (turns.done is) (done is);
+    grown = λ _. turns.grown;
     refused = λ not no. let stays = turns.refused not no in (open_kept state stays.0 (refused not), stays.1);
     moments = turns.moments;
   }
 
   pub looks_on : (state : State) (fault : Option FlowFault) → LooksOn state fault (view_of old) (view_of new) kept → Shows state new → Looks state fault old new
-  looks_on state fault looks shows = record { answer = looks.answer; stays = λ no. open_kept state (looks.stays no) shows; moments = looks.moments }
+  looks_on state fault looks shows = record { answer = looks.answer; only = looks.only; stays = λ no. open_kept state (looks.stays no) shows; moments = looks.moments }
 
   -- due tiles are cleared
   module _ (tells : TellsAs old new) (is : is_imported old ≡ true) (fresh : is_old old ≡ false) (fault : Option FlowFault) where

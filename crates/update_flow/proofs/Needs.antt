@@ -1,11 +1,14 @@
 -- What a step leaves, or tells, are the home pages that are needed.
-use Rattle.std.proofs.Common.{◌≡◌, ◌∙◌, ℕ, List, Option, None, Some, Err, arith, subst, sym}
+use Rattle.std.proofs.Common.{◌≡◌, ◌∙◌, inl, inr, ℕ, List, Option, None, Some, Err, arith, subst, sym}
 use Rattle.std.proofs.lemmas.Option.{same_Some}
-use Rattle.outside.specs.Disk.{DiskView}
+use Rattle.outside.specs.Disk.{DiskView, Only, Stays}
 use Rattle.osm_base.specs.declared.bounds.limits.LimitNumbers.{LimitNumbers}
+use Rattle.page_journal.specs.Crash.{IsAtRest}
 use Rattle.page_journal.specs.Home.{Home}
+use Rattle.page_journal.specs.Pages.{gate}
 use Rattle.page_journal.specs.declared.fault.StoreFault.{StoreFault}
 use Rattle.page_journal.specs.declared.fault.StoreFault.TheVariants as store
+use Rattle.page_journal.specs.declared.layout.TheConstants.{OPEN}
 use Rattle.bucket_store.specs.Image.{Image}
 use Rattle.bucket_store.specs.Needed.{FitsImage, NeedsPages}
 use Rattle.kept_maps.specs.Calls.{IsAllowed}
@@ -14,7 +17,8 @@ use Rattle.update_step.specs.declared.fault.StepFault.{StepFault}
 use Rattle.update_step.specs.declared.fault.StepFault.TheVariants as steps
 use Rattle.update_flow.specs.AtRest.{IsAt}
 use Rattle.update_flow.specs.Faults.{of_store}
-use Rattle.update_flow.specs.Needed.{FitsLimit, NeedsFrom, NeedsOn}
+use Rattle.update_flow.specs.Needed.{FitsLimit, Grows, HasStood, NeedsFrom, NeedsOn}
+use Rattle.update_flow.specs.Stands.{StandsFor}
 use Rattle.update_flow.specs.State.{State}
 use Rattle.update_flow.specs.Steps.{of_step}
 use Rattle.update_flow.specs.Within.{IsSound}
@@ -82,11 +86,48 @@ commit_fits limits before most now image store.Broken same fits = tt
 commit_fits limits before most now image store.OutOfMemory same fits = tt
 
 -- what a store on a disk needs a store of its state needs
-pub needs_from : (state next : State) (disk : DiskView) (many : ℕ) → IsAt state disk → NeedsOn disk next many → NeedsFrom state next many
-needs_from state next disk many at on = record {
-  bytes = at.bytes;
-  stands = at.stands;
-  pages = on.pages;
-  home = subst (λ (bytes : List ℕ). Home on.pages bytes) (same_Some on.rests.0 at.bytes (sym on.rests.1.told ∙ at.told)) on.rests.1.home;
-  needs = on.needs;
-}
+pub needs_from : (limits : LimitNumbers) (first : Option (List ℕ)) (state next : State) (disk : DiskView) (many : ℕ) → IsAt state disk → HasStood limits first disk
+    → NeedsOn disk next many → NeedsFrom limits first state next many
+needs_from limits first state next disk many at stood on =
+    let home : Home on.pages at.bytes =
+    subst (λ (bytes : List ℕ). Home on.pages bytes) (same_Some on.rests.0 at.bytes (sym on.rests.1.told ∙ at.told)) on.rests.1.home in
+    record {
+      bytes = at.bytes;
+      stands = at.stands;
+      pages = on.pages;
+      home = home;
+      stood = stood at.bytes at.told on.pages home;
+      needs = on.needs;
+    }
+
+-- a store at rest has home pages
+pub rests_at : (state : State) (disk : DiskView) → IsAt state disk → (pages : List (List ℕ)) × IsAtRest pages disk
+unfolding StandsFor
+rests_at state disk at =
+    (at.stands.2.state.pages, (at.bytes, record { told = at.told; only = at.only; shut = at.shut; home = at.stands.2.state.home }))
+
+-- behind a step they are within the limit
+pub stood_grown : (limits : LimitNumbers) (first : Option (List ℕ)) (one other : State) (old new : DiskView) → IsAt one old → IsAt other new
+    → Grows limits other old new → HasStood limits first new
+stood_grown limits first one other old new was is grown = λ bytes told pages home.
+    let before = rests_at one old was in
+    let same : is.bytes ≡ bytes = same_Some is.bytes bytes (sym is.told ∙ told) in
+    inl (grown before.0 pages before.1 (
+      bytes,
+      record {
+        told = told;
+        only = subst (λ (b : List ℕ). Only b new.crashes) same is.only;
+        shut = subst (λ (b : List ℕ). gate b ≡ OPEN → ⊥) same is.shut;
+        home = home;
+      },
+    )).1
+
+-- behind the opening they are those that were told first
+pub stood_opened : (limits : LimitNumbers) (first : Option (List ℕ)) (disk : DiskView) → ((bytes : List ℕ) → first ≡ Some bytes → (gate bytes ≡ OPEN → ⊥) → disk.content ≡ first)
+    → HasStood limits first disk
+stood_opened limits first disk same = λ bytes told pages home.
+    inr (λ own was shut. subst (λ (b : List ℕ). Home pages b) (same_Some bytes own (sym told ∙ same own was shut ∙ was)) home)
+
+-- a look changes none
+pub stood_stays : (limits : LimitNumbers) (first : Option (List ℕ)) (old new : DiskView) → Stays old new → HasStood limits first old → HasStood limits first new
+stood_stays limits first old new stays stood = λ bytes told pages home. stood bytes (sym stays.content ∙ told) pages home

@@ -4,15 +4,19 @@ use Rattle.std.proofs.lemmas.Bool.Decides.{nat_tests}
 use Rattle.std.proofs.lemmas.Option.{same_Some}
 use Rattle.std.specs.Prelude.{IfOk, IsErrOf, is_some}
 use Rattle.std.specs.Result.{result_err}
-use Rattle.page_journal.specs.Answers.{answers_disk_fault}
+use Rattle.page_journal.specs.Answers.{HomeRefused, JournalRefused, answers_disk_fault}
+use Rattle.page_journal.specs.Home.{Home, IsFormatted}
 use Rattle.outside.specs.Disk.{Crashes, DiskView, Goes, Stays, Within}
 use Rattle.chain_store.specs.declared.root.Root.{Root}
 use Rattle.page_journal.proofs.Moments.{goes_stays, goes_weaker}
+use Rattle.page_journal.proofs.Uniqueness.{one_home}
 use Rattle.page_journal.specs.declared.fault.StoreFault.{StoreFault}
 use Rattle.page_journal.specs.declared.fault.StoreFault.TheVariants as store
 use Rattle.chain_store.specs.Answers.{IsReadAnswer}
+use Rattle.chain_store.specs.Directories.{root_in}
+use Rattle.chain_store.specs.Links.{page_in}
 use Rattle.bucket_store.specs.Image.{HasImage, HoldsImage, Image, IsSoundAnswer}
-use Rattle.bucket_store.specs.Opening.{Fits, IsMeant, IsOpeningAnswer, MeansOne, opened_root}
+use Rattle.bucket_store.specs.Opening.{Fits, IsMeant, IsOpeningAnswer, MeansOne, OpensStore, opened_root}
 use Rattle.bucket_store.specs.declared.opened.Opened.{Opened}
 use Rattle.bucket_store.proofs.Reopened.{rests_stays, root_found}
 use Rattle.update_flow.specs.declared.fault.FlowFault.{FlowFault}
@@ -24,7 +28,7 @@ use Rattle.update_flow.specs.AtRest.{IsAt, IsOfEither, Opens, OpensAs}
 use Rattle.update_flow.specs.Faults.{of_store}
 use Rattle.update_flow.specs.Opening.{Found, HoldsState}
 use Rattle.update_flow.specs.Refusals.{IsNoDiskFault, IsOpenFault, MayFind, OrBreaks}
-use Rattle.update_flow.specs.Roots.{is_blank, is_imported, is_old}
+use Rattle.update_flow.specs.Roots.{AreFieldsOf, IsOfKind, is_blank, is_imported, is_old}
 use Rattle.update_flow.specs.Stands.{IsBlank, IsImported, IsOld, Means, StandsFor}
 use Rattle.update_flow.specs.State.{Holding, State, changes_in, formatted, imported, outdated, style_in, was_imported, was_old}
 use Rattle.update_flow.specs.Within.{IsSound}
@@ -166,6 +170,23 @@ pub sound_answer : (fault : Option FlowFault) → IsSound fault → OrBreaks fau
 sound_answer None sound = refl
 sound_answer (Some fault) sound = sound_breaks fault (Some fault ≡ None) sound
 
+-- what is told to be bad has the form of a store
+any_formed : (bytes : List ℕ) (page : ℕ) (R : List (List ℕ) → Type 0) → (JournalRefused bytes page ⊎ HomeRefused bytes page) ⊎ ((pages : List (List ℕ)) × Home pages bytes × R pages)
+    → IsFormatted bytes
+any_formed bytes page R (inl (inl refused)) = refused.formatted
+any_formed bytes page R (inl (inr refused)) = refused.finish.formatted
+any_formed bytes page R (inr found) = found.1.formatted
+
+pub bad_formed : (T : Type 0) (bytes : List ℕ) (page : ℕ) (fault : StoreFault) → of_store fault ≡ flow.Store (store.BadStore page) → OpensStore {T = T} bytes (Err fault)
+    → IsFormatted bytes
+bad_formed T bytes page store.NotFormatted is answers = absurd (cc (is))
+bad_formed T bytes page store.NotEmpty is answers = absurd (cc (is))
+bad_formed T bytes page (store.BadStore at) is answers = any_formed bytes at _ answers
+bad_formed T bytes page store.DiskFault is answers = absurd (cc (is))
+bad_formed T bytes page (store.StoreFull pages) is answers = absurd (cc (is))
+bad_formed T bytes page store.Broken is answers = absurd (cc (is))
+bad_formed T bytes page store.OutOfMemory is answers = absurd (cc (is))
+
 -- and whatever it holds, a store is opened or found bad, or the disk fails or memory runs out
 pub reads_alone : (T : Type 0) (broken : Bool) (fault : StoreFault) → broken ≡ false → IsReadAnswer {T = T} broken (Err fault) → MayFind (of_store fault)
 reads_alone T broken store.NotFormatted whole alone = absurd alone
@@ -262,6 +283,32 @@ sound_of root view found dated fault same blank is sound fits state holds =
     let are : root ≡ holds.image.root = same ∙ root_of state view found fits holds in
     let old : dated ≡ was_old state = is ∙ ap (λ (r : Root). is_old r) are ∙ tells_old state holds.image holds.means in
     sound fits state holds (begun_state state view found root same blank fits holds) (sym old)
+
+-- the fields that were read are those of the root page of the bytes as they were
+pub root_told : (found : Opened) (bytes : List ℕ) (pages : List (List ℕ)) (old mid : DiskView) → old.content ≡ Some bytes → Stays old mid → Fits found mid → Home pages bytes
+    → opened_root found ≡ root_in (page_in pages 1)
+root_told found bytes pages old mid told stays fits home =
+    let same : fits.rests.0 ≡ bytes = same_Some fits.rests.0 bytes (sym fits.rests.1.told ∙ stays.content ∙ told) in
+    let here : Home fits.pages bytes = subst (λ (b : List ℕ). Home fits.pages b) same fits.rests.1.home in
+    let one : fits.pages ≡ pages = one_home fits.pages pages bytes here home in
+    ap (λ (front : List ℕ). root_in front) fits.keeps.front ∙ ap (λ (p : List (List ℕ)). root_in (page_in p 1)) one
+
+-- an imported store is found where its fields say so
+pub kind_of : (style : Option StyleOf) (dated : Bool) (root : Root) → is_some style ≡ true → (dated ≡ true → is_old root ≡ true)
+    → (dated ≡ false → is_imported root ≡ true) → IsOfKind style dated root
+kind_of None dated root some old new = absurd (cc (some))
+kind_of (Some style) false root some old new = new refl
+kind_of (Some style) true root some old new = old refl
+
+pub fields_of : (root stored : Root) (dated : Bool) (result : Result Judged FlowFault) → root ≡ stored → (dated ≡ true → is_old root ≡ true) → (dated ≡ false → is_imported root ≡ true)
+    → IfOk result (λ opened. opened.changes ≡ root.changes) → IfOk result (λ opened. opened.outdated ≡ dated) → IfOk result (λ opened. is_some opened.style ≡ true)
+    → IfOk result (λ opened. AreFieldsOf opened.style opened.outdated opened.changes stored)
+fields_of root stored dated (Err fault) same old new count is some = tt
+fields_of root stored dated (Ok opened) same old new count is some = record {
+  kind = subst (λ (r : Root). IsOfKind opened.style opened.outdated r) same
+      (kind_of opened.style opened.outdated root some (λ out. old (sym is ∙ out)) (λ fresh. new (sym is ∙ fresh)));
+  count = λ _. count ∙ ap (λ (r : Root). r.changes) same;
+}
 
 -- a disk that was only looked at held what it holds
 pub state_before : (state : State) (mid new : DiskView) (found : Opened) → Fits found mid → Stays mid new → IsAt state new → HoldsState state mid

@@ -1,5 +1,5 @@
 -- Steps and looks at a store at rest, put together of calls on its buckets.
-use Rattle.std.proofs.Common.{◌≡◌, ◌⊎◌, inl, inr, ℕ, ◌≤◌, ◌||◌, Bool, false, Option, None, Some, Err, refl, sym, subst, ◌∙◌, arith}
+use Rattle.std.proofs.Common.{◌≡◌, ◌⊎◌, inl, inr, ℕ, ◌+◌, ◌≤◌, ◌||◌, Bool, false, List, length, Option, None, Some, Err, refl, sym, ap, subst, ◌∙◌, arith}
 use Rattle.std.specs.Result.{IsErrOf}
 use Rattle.outside.specs.Causes.{Rose}
 use Rattle.outside.specs.Disk.{Goes}
@@ -17,12 +17,13 @@ use Rattle.bucket_store.specs.Transaction.{chains_of}
 use Rattle.bucket_store.specs.declared.buckets.Buckets.{Buckets}
 use Rattle.bucket_store.proofs.Holding.{looks_then, rests_later}
 use Rattle.bucket_store.proofs.Reopened.{moments_looked}
+use Rattle.update_flow.proofs.ChangeReads.{pages_one}
 use Rattle.update_flow.proofs.Needs.{fits_as, sound_fits}
 use Rattle.update_flow.proofs.Openings.{quiet_fault}
 use Rattle.update_flow.specs.AtRest.{IsOfEither}
 use Rattle.update_flow.specs.AtRest.{RestsAt as StaysAt}
 use Rattle.update_flow.specs.Faults.{of_store}
-use Rattle.update_flow.specs.Needed.{FitsLimit, NeedsOn}
+use Rattle.update_flow.specs.Needed.{FitsLimit, Grows, NeedsOn}
 use Rattle.bucket_store.specs.Needed.{NeedsPages}
 use Rattle.update_flow.specs.Refusals.{MayAnswer, OrBreaks, OrFull, Refuses}
 use Rattle.update_flow.specs.Stands.{Means, StandsFor}
@@ -144,6 +145,7 @@ module _ {D : Type 0} {g : Ghosts D} where
     answer = may;
     needs = fits;
     done = λ is. absurd (cc (is));
+    grown = λ is. absurd (cc (is));
     refused = λ not no. (looked_rests state rest old new rests means looks, looked_state state rest old new rests means looks);
     moments = looked_either state (after state step) rest old new rests means looks;
   }
@@ -155,6 +157,7 @@ module _ {D : Type 0} {g : Ghosts D} where
     answer = sound_answers limits fault (Some fault ≡ None) sound;
     needs = sound_fits limits (NeedsPages (home_in old) now) fault sound;
     done = λ is. absurd (cc (is));
+    grown = λ is. absurd (cc (is));
     refused = λ not no. looks;
     moments =
         goes_weaker (λ left. HasImage rest left) (λ left. HasImage rest left ⊎ HasImage now left) (view_in old).crashes (view_in new).crashes
@@ -168,6 +171,7 @@ module _ {D : Type 0} {g : Ghosts D} where
     answer = commits.answer;
     needs = subst (λ (home : ℕ). FitsLimit limits (NeedsPages home now) fault) looks.looked.pages commits.needs;
     done = commits.done;
+    grown = λ is. let own = commits.grown is in (subst (λ (home : ℕ). NeedsPages home now (home_in new)) looks.looked.pages own.0, own.1);
     refused = λ not no. looks_then old mid new looks (commits.refused not no);
     moments =
         goes_then (λ left. HasImage rest left ⊎ HasImage now left) (view_in old).crashes (view_in mid).crashes (view_in new).crashes
@@ -189,6 +193,24 @@ module _ {D : Type 0} {g : Ghosts D} where
           | inr other ↦ inr (now, becomes, other)
         ])
 
+    -- the home pages that the store has then are just those that it needs
+    committed_pages : fault ≡ None → Grows limits (after state step) (view_in old) (view_in new)
+    committed_pages is had has before last =
+        let rested = commits.done is in
+        let grown = commits.grown is in
+        let first : length had + 1 ≡ home_in mid =
+        ap (λ (pages : List (List ℕ)). length pages + 1) (pages_one had rests.pages (view_in old) before rests.rests.0) ∙ rests.rests.1 ∙ sym looks.looked.pages in
+        let second : length has + 1 ≡ home_in new =
+        ap (λ (pages : List (List ℕ)). length pages + 1) (pages_one has rested.pages (view_in new) last rested.rests.0) ∙ rested.rests.1 in (
+          record {
+            image = now;
+            means = becomes;
+            needs = subst (λ (home : ℕ). NeedsPages home now (length has + 1)) (sym first)
+                (subst (λ (home : ℕ). NeedsPages (home_in mid) now home) (sym second) grown.0);
+          },
+          (let few = grown.1 in omega (arith, second, few)),
+        )
+
     pub turns_committed : TurnsIn limits state step fault old new
     turns_committed = record {
       answer = answered limits fault (fault ≡ None) (Refuses limits state step fault)
@@ -203,6 +225,7 @@ module _ {D : Type 0} {g : Ghosts D} where
         };
       }) commits.needs;
       done = λ is. record { image = now; at_rest = commits.done is; means = becomes };
+      grown = committed_pages;
       refused = λ not no.
           let all = looks_then old mid new looks (commits.refused not no) in
           (looked_rests state rest old new rests means all, looked_state state rest old new rests means all);
@@ -216,6 +239,7 @@ module _ {D : Type 0} {g : Ghosts D} where
       → Means (imported held) rest → OnlyLooks old new → OrBreaks fault (fault ≡ None) → LooksIn (imported held) fault old new
   looks_at held fault rest old new rests means looks may = record {
     answer = may;
+    only = looks.looked.stays;
     stays = λ no. looked_rests (imported held) rest old new rests means looks;
     moments = looked_state (imported held) rest old new rests means looks;
   }

@@ -3,6 +3,7 @@ use Rattle.std.specs.Prelude.{◌≡◌, ◌≢◌, ◌⊎◌, ◌≤◌, ℕ, L
 use Rattle.outside.specs.Bytes.{IsTold}
 use Rattle.outside.specs.Causes.{Rose}
 use Rattle.outside.specs.Disk.{DiskView, Goes, Only, Tells}
+use Rattle.page_journal.specs.Home.{IsFormatted}
 use Rattle.page_journal.specs.Pages.{gate}
 use Rattle.page_journal.specs.declared.layout.TheConstants.{OPEN}
 use Rattle.page_journal.specs.declared.fault.StoreFault.TheVariants as store
@@ -48,6 +49,11 @@ pub record OpensAs (state : State) (fault : Option FlowFault) (new : DiskView) :
 -- the bytes stand for no state
 abbrev pub StandsForNone : List ℕ → Type 0
 StandsForNone bytes = (state : State) → ¬ StandsFor bytes state
+
+-- they have the form of a store, and stand for no state
+pub record IsDamaged (bytes : List ℕ) : Type 0 where
+  pub formed : IsFormatted bytes
+  pub none : StandsForNone bytes
 
 -- the count of the disk's faults did not fall, and rose where the disk is said to have failed
 pub record HasFlowCause (fault : Option FlowFault) (old new : DiskView) : Type 0 where

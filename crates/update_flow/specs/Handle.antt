@@ -1,10 +1,10 @@
 -- What is seen of an open store, whatever holds it: the disk under it, the limits that it keeps, and what it tells of itself.
 use Rattle.std.specs.Prelude.{◌≡◌, ◌≢◌, ℕ, Bool, true, Option, None, is_some}
 use Rattle.osm_base.specs.declared.bounds.limits.LimitNumbers.{LimitNumbers}
-use Rattle.outside.specs.Disk.{DiskView, Goes}
+use Rattle.outside.specs.Disk.{DiskView, Goes, Stays}
 use Rattle.style_read.specs.Style.{StyleOf}
 use Rattle.update_flow.specs.AtRest.{IsAt, IsOfEither, RestsAt}
-use Rattle.update_flow.specs.Needed.{FitsLimit, NeedsOn, Writes}
+use Rattle.update_flow.specs.Needed.{FitsLimit, Grows, NeedsOn, Writes}
 use Rattle.update_flow.specs.Refusals.{IsNoDiskFault, MayAnswer, MayLook}
 use Rattle.update_flow.specs.State.{State, Step, after, changes_in, style_in, was_imported, was_old}
 use Rattle.update_flow.specs.declared.fault.FlowFault.{FlowFault}
@@ -62,16 +62,19 @@ pub record IsOpen (state : State) (store : Handle) : Type 0 where
   pub shows : Shows state store
   pub fits : store.keeps
 
--- an open store is taken a step further, whole or not at all. One that is refused otherwise than by its disk was never begun.
+-- an open store is taken a step further, whole or not at all, and grows by no more than it needs. One that is refused otherwise than by
+-- its disk was never begun.
 pub record Takes (state : State) (step : Step) (fault : Option FlowFault) (old new : Handle) : Type 0 where
   pub answer : MayAnswer (limits_of old) state step fault
   pub needs : Writes state step → FitsLimit (limits_of old) (NeedsOn (view_of old) (after state step)) fault
   pub done : fault ≡ None → IsOpen (after state step) new
+  pub grown : Writes state step → fault ≡ None → Grows (limits_of old) (after state step) (view_of old) (view_of new)
   pub refused : fault ≢ None → IsNoDiskFault fault → IsOpen state new × RestsAt state (view_of old) (view_of new)
   pub moments : Goes (IsOfEither state (after state step)) (view_of old).crashes (view_of new).crashes
 
--- an open store is looked at
+-- an open store is looked at, and nothing is written
 pub record Looks (state : State) (fault : Option FlowFault) (old new : Handle) : Type 0 where
   pub answer : MayLook state fault
+  pub only : Stays (view_of old) (view_of new)
   pub stays : IsNoDiskFault fault → IsOpen state new
   pub moments : RestsAt state (view_of old) (view_of new)

@@ -1,8 +1,9 @@
 -- The fields of a store, by its state.
 -- docs/FILES.md, "The root page": the format is 1 in state 0, of a store that was only made, and 2 in state 1, of an imported one; an old
 -- store has format 1 in state 1. The buckets are none in state 0, and some in state 1.
-use Rattle.std.specs.Prelude.{ℕ, Bool, ◌&&◌, ◌==◌, not, nat_le}
+use Rattle.std.specs.Prelude.{◌≡◌, ℕ, Bool, true, false, ◌&&◌, ◌==◌, not, nat_le, Option, Some, None, is_some}
 use Rattle.chain_store.specs.declared.root.Root.{Root}
+use Rattle.style_read.specs.Style.{StyleOf}
 use Rattle.update_flow.specs.declared.fault.TheConstants.{LAST_CHANGE}
 use Rattle.update_flow.specs.declared.fields.TheConstants.{BLANK, BLANK_FORMAT, IMPORTED, IMPORTED_FORMAT, OLD_FORMAT}
 
@@ -18,3 +19,14 @@ is_imported root = is_of IMPORTED_FORMAT root
 
 abbrev pub is_old : Root → Bool
 is_old root = is_of OLD_FORMAT root
+
+-- those of a store into which nothing was imported, or of an imported one, whose style this is, of one format or of the other
+abbrev pub IsOfKind : Option StyleOf → Bool → Root → Type 0
+IsOfKind None outdated root = is_blank root ≡ true
+IsOfKind (Some style) false root = is_imported root ≡ true
+IsOfKind (Some style) true root = is_old root ≡ true
+
+-- and of so many changes
+pub record AreFieldsOf (style : Option StyleOf) (outdated : Bool) (changes : ℕ) (root : Root) : Type 0 where
+  pub kind : IsOfKind style outdated root
+  pub count : is_some style ≡ true → changes ≡ root.changes

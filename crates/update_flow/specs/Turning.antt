@@ -1,7 +1,7 @@
 -- Steps and looks at a store, as its buckets and its disk are before them and after.
 use Rattle.std.specs.Prelude.{◌≡◌, ◌≢◌, ◌⊎◌, ◌≤◌, ℕ, true, Option, None, Some, is_some}
 use Rattle.outside.specs.Causes.{Rose}
-use Rattle.outside.specs.Disk.{DiskView, Goes}
+use Rattle.outside.specs.Disk.{DiskView, Goes, Stays}
 use Rattle.outside.specs.declared.disk.Disk.{Ghosts}
 use Rattle.osm_base.specs.declared.bounds.limits.LimitNumbers.{LimitNumbers}
 use Rattle.page_journal.specs.Journal.{home_count, loan_of, page_limit}
@@ -13,7 +13,7 @@ use Rattle.bucket_store.specs.declared.buckets.Buckets.{Buckets}
 use Rattle.bucket_store.specs.declared.opened.Opened.{Opened}
 use Rattle.update_flow.specs.AtRest.{HasFlowCause, IsOfEither}
 use Rattle.update_flow.specs.AtRest.{RestsAt as StaysAt}
-use Rattle.update_flow.specs.Needed.{FitsLimit, NeedsOn}
+use Rattle.update_flow.specs.Needed.{FitsLimit, Grows, NeedsOn}
 use Rattle.bucket_store.specs.Needed.{NeedsPages}
 use Rattle.update_flow.specs.Opening.{HoldsState}
 use Rattle.update_flow.specs.Refusals.{IsNoDiskFault, MayAnswer, MayLook, OrBreaks, OrFull}
@@ -56,6 +56,7 @@ pub record CommitsTo {D : Type 0} {g : Ghosts D} (limits : LimitNumbers) (rest n
   pub answer : OrBreaks fault (OrFull limits fault (fault ≡ None))
   pub needs : FitsLimit limits (NeedsPages (home_in old) now) fault
   pub done : fault ≡ None → RestsAt now new
+  pub grown : fault ≡ None → NeedsPages (home_in old) now (home_in new) × (home_in new ≤ limits.pages)
   pub refused : fault ≢ None → IsNoDiskFault fault → OnlyLooks old new
   pub moments : Goes (λ left. HasImage rest left ⊎ HasImage now left) (view_in old).crashes (view_in new).crashes
 
@@ -64,12 +65,14 @@ pub record TurnsIn {D : Type 0} {g : Ghosts D} (limits : LimitNumbers) (state : 
   pub answer : MayAnswer limits state step fault
   pub needs : FitsLimit limits (NeedsOn (view_in old) (after state step)) fault
   pub done : fault ≡ None → RestsIn (after state step) new
+  pub grown : fault ≡ None → Grows limits (after state step) (view_in old) (view_in new)
   pub refused : fault ≢ None → IsNoDiskFault fault → RestsIn state new × StaysAt state (view_in old) (view_in new)
   pub moments : Goes (IsOfEither state (after state step)) (view_in old).crashes (view_in new).crashes
 
 -- it is looked at
 pub record LooksIn {D : Type 0} {g : Ghosts D} (state : State) (fault : Option FlowFault) (old new : Buckets D g) : Type 0 where
   pub answer : MayLook state fault
+  pub only : Stays (view_in old) (view_in new)
   pub stays : IsNoDiskFault fault → RestsIn state new
   pub moments : StaysAt state (view_in old) (view_in new)
 
@@ -91,12 +94,14 @@ pub record TurnsOn (limits : LimitNumbers) (state : State) (step : Step) (fault 
   pub answer : MayAnswer limits state step fault
   pub needs : FitsLimit limits (NeedsOn old (after state step)) fault
   pub done : fault ≡ None → IsKept (after state step) new kept
+  pub grown : fault ≡ None → Grows limits (after state step) old new
   pub refused : fault ≢ None → IsNoDiskFault fault → IsKept state new kept × StaysAt state old new
   pub moments : Goes (IsOfEither state (after state step)) old.crashes new.crashes
 
 -- it is looked at
 pub record LooksOn (state : State) (fault : Option FlowFault) (old new : DiskView) (kept : Option Opened) : Type 0 where
   pub answer : MayLook state fault
+  pub only : Stays old new
   pub stays : IsNoDiskFault fault → IsKept state new kept
   pub moments : StaysAt state old new
 

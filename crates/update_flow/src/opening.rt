@@ -1,5 +1,5 @@
 //! A store is opened on a disk that stays with its owner.
-ghost use Rattle.std.specs.Prelude.{◌≡◌, ◌≢◌, ◌≤◌, List, ℕ, true, IfOk, IfErr, IsErrOf, OnOk};
+ghost use Rattle.std.specs.Prelude.{◌≡◌, ◌≢◌, ◌≤◌, List, ℕ, true, is_some, IfOk, IfErr, IsErrOf, OnOk};
 ghost use Rattle.std.specs.Result.{result_err};
 ghost use Rattle.outside.specs.Bytes.{IfTold, IsTold};
 ghost use Rattle.outside.specs.Disk.{Stays, Tells};
@@ -7,13 +7,14 @@ ghost use Rattle.page_journal.specs.Home.{IsFormatted};
 ghost use Rattle.page_journal.specs.Pages.{gate};
 ghost use Rattle.page_journal.specs.declared.layout.TheConstants.{OPEN};
 ghost use Rattle.page_journal.specs.declared.fault.StoreFault.TheVariants.{BadStore, NotFormatted};
-ghost use Rattle.bucket_store.specs.Opening.{Fits};
-ghost use Rattle.update_flow.specs.AtRest.{HasFlowCause, IsAt, IsAtEither, Opens, OpensAs, StandsForNone};
+ghost use Rattle.bucket_store.specs.Opening.{Fits, opened_root};
+ghost use Rattle.update_flow.specs.AtRest.{HasFlowCause, IsAt, IsAtEither, IsDamaged, Opens, OpensAs};
 ghost use Rattle.update_flow.specs.State.{State, style_in, was_imported, was_old};
 ghost use Rattle.update_flow.specs.Stands.{StandsFor};
 ghost use Rattle.update_flow.specs.Refusals.{IsNoDiskFault, IsOpenFault, MayFind};
-ghost use Rattle.update_flow.specs.Opening.{Found, HoldsState};
+ghost use Rattle.update_flow.specs.Opening.{Found, HoldsState, RootTells};
 ghost use Rattle.update_flow.specs.OpeningReads.{ReadsStyle, ReadsToOpen};
+ghost use Rattle.update_flow.specs.Roots.{AreFieldsOf};
 ghost use Rattle.update_flow.specs.Within.{IsSound};
 ghost use Rattle.update_flow.specs.declared.fault.FlowFault.TheVariants.{Store};
 ghost use Rattle.update_flow.specs.declared.fault.TheConstants.{LAST_CHANGE};
@@ -42,9 +43,11 @@ pub fn open<D: Disk>(alloc: Global, disk: &mut D, limits: &Limits) -> Result<Ope
     // Whatever the disk holds.
     ensures alone { IfErr result IsOpenFault }
     ensures no_store { IsErrOf result (Store NotFormatted) → IfTold (D.view disk.old).content (λ bytes. ¬ IsFormatted bytes) }
+    ensures formed { OnOk result (IfTold (D.view disk.old).content IsFormatted) }
+    ensures fields { IfOk result (λ opened. IfTold (D.view disk.old).content (RootTells opened.style opened.outdated opened.changes)) }
     ensures untouched { IsErrOf result (Store NotFormatted) → Stays (D.view disk.old) (D.view disk.new) }
     ensures told { IsTold (D.view disk.old).content → IsNoDiskFault (result_err result) → IsTold (D.view disk.new).content }
-    ensures bad { (page : ℕ) → IsErrOf result (Store (BadStore page)) → IfTold (D.view disk.old).content StandsForNone }
+    ensures bad { (page : ℕ) → IsErrOf result (Store (BadStore page)) → IfTold (D.view disk.old).content IsDamaged }
     ensures once { OnOk result ((bytes : List ℕ) (state : State) → Tells (D.view disk.old) bytes → StandsFor bytes state → gate bytes ≢ OPEN
         → ReadsToOpen bytes (D.view disk.old) (D.view disk.new)) }
     ensures same { IfTold (D.view disk.old).content (λ bytes. gate bytes ≢ OPEN → (D.view disk.new).content ≡ (D.view disk.old).content) }
@@ -66,6 +69,7 @@ fn judged<D: Disk>(
 ) -> Result<Opened, FlowFault>
     ensures found { IfOk result (λ opened. Fits found (D.view disk.old) → (state : State) → HoldsState state (D.view disk.old)
         → Found state (D.view disk.new) opened) }
+    ensures fields { IfOk result (λ opened. AreFieldsOf opened.style opened.outdated opened.changes (opened_root found)) }
     ensures sound { Fits found (D.view disk.old) → (state : State) → HoldsState state (D.view disk.old) → IsSound (result_err result) }
     ensures alone { IfErr result MayFind }
     ensures stays { Stays (D.view disk.old) (D.view disk.new) }
@@ -82,11 +86,13 @@ fn judged<D: Disk>(
             outdated: false,
         });
     }
-    let outdated = is_old(root);
-    if !outdated && !is_imported(root) {
-        return Err(FlowFault::Store(StoreFault::BadStore { page: 1 }));
+    if is_old(root) {
+        return with_style(alloc, disk, limits, found, root.changes, true);
     }
-    with_style(alloc, disk, limits, found, root.changes, outdated)
+    if is_imported(root) {
+        return with_style(alloc, disk, limits, found, root.changes, false);
+    }
+    Err(FlowFault::Store(StoreFault::BadStore { page: 1 }))
 }
 
 /// An imported store with so many changes, an old one or not, of which this was read. `BadStore` comes with the root page where its
@@ -102,6 +108,7 @@ fn with_style<D: Disk>(
     requires counted { changes ≤ LAST_CHANGE }
     ensures changes { IfOk result (λ opened. opened.changes ≡ changes) }
     ensures outdated { IfOk result (λ opened. opened.outdated ≡ outdated) }
+    ensures styled { IfOk result (λ opened. is_some opened.style ≡ true) }
     ensures found { IfOk result (λ opened. Fits found (D.view disk.old) → (state : State) → HoldsState state (D.view disk.old)
         → was_imported state ≡ true → (opened.style ≡ style_in state) × Fits opened.store (D.view disk.new)) }
     ensures sound { Fits found (D.view disk.old) → (state : State) → HoldsState state (D.view disk.old) → was_imported state ≡ true

@@ -45,6 +45,9 @@ impl<'d, D: Disk> Updater<'d, D> {
         ensures limits { limits_of (handle_of result) ≡ limits.now }
 
         // Whatever the disk holds.
+        ensures changes { changes_of (handle_of result) ≡ opened.changes }
+        ensures style { style_of (handle_of result) ≡ opened.style }
+        ensures outdated { is_old (handle_of result) ≡ opened.outdated }
         ensures whole { is_whole (handle_of result) ≡ true }
         ensures begun { is_imported (handle_of result) ≡ false → changes_of (handle_of result) ≡ 0 }
         ensures unbegun { is_imported (handle_of result) ≡ false → is_old (handle_of result) ≡ false }

@@ -14,6 +14,7 @@ returns-in-Ok-clause-commits g c limits rest now same has = record {
   answer = refl;
   needs = let fits = c.in-Ok.ensures.needs rest now has in (home_in c.commit.new.self, fits.0, omega (arith, same, fits.1));
   done = λ is. rests_under now now c.commit.new.self (c.in-Ok.ensures.has rest now has);
+  grown = λ is. let fits = c.in-Ok.ensures.needs rest now has in (fits.0, omega (arith, same, fits.1));
   refused = λ not no. absurd (not refl);
   moments = c.commit.ensures.images rest now has;
 }
@@ -29,6 +30,7 @@ returns-in-Err-clause-commits g c limits rest now same has =
       answer = commit_answers (Unit {0}) limits _ c.in-Err.fault _ same (c.in-Err.ensures.sound rest now has);
       needs = commit_fits limits (home_in c.args.buckets.now) _ (home_in c.commit.new.self) now c.in-Err.fault same (c.in-Err.ensures.needs rest now has);
       done = λ is. absurd (cc (is));
+      grown = λ is. absurd (cc (is));
       refused = λ not no. c.in-Err.ensures.same refl (quiet_fault (Unit {0}) c.in-Err.fault no);
       moments = c.commit.ensures.images rest now has;
     })

@@ -1,24 +1,55 @@
 -- The fields say which state it is.
-use Rattle.std.proofs.Common.{sym}
+use Rattle.std.proofs.Common.{true, false, ap, sym, ◌∙◌}
 use Rattle.std.specs.Result.{result_err}
+use Rattle.chain_store.specs.declared.root.Root.{Root}
+use Rattle.update_flow.specs.Roots.{is_blank}
 use Rattle.update_flow.proofs.OpeningReads.{style_unread}
-use Rattle.update_flow.proofs.Openings.{found_of, is_one, sound_of}
+use Rattle.update_flow.proofs.Openings.{fields_of, found_of, is_one, sound_of}
 use Rattle.update_flow.proofs.opening.judged.Goals as goal
 
-pub returns-then-not-is_imported-clause-sound : goal.returns-then-not-is_imported-clause-sound
-returns-then-not-is_imported-clause-sound g c = λ fits state holds.
-    is_one state (g.D.Disk.view c.args.disk.now) c.args.found c.root-root.result c.root-root.ensures (sym c.if-is_blank.ensures)
-    (sym c.if-not-outdated.ensures) (sym c.if-not-is_imported.ensures) fits holds
-
-pub returns-clause-found : goal.returns-clause-found
-returns-clause-found g c =
-    found_of c.root-root.result (g.D.Disk.view c.args.disk.now) (g.D.Disk.view c.with_style.new.disk) c.args.found c.is_old-outdated.result c.with_style.result
-    c.root-root.ensures (sym c.if-is_blank.ensures) c.is_old-outdated.ensures c.with_style.ensures.changes c.with_style.ensures.outdated c.with_style.ensures.found
-
-pub returns-clause-sound : goal.returns-clause-sound
-returns-clause-sound g c =
-    sound_of c.root-root.result (g.D.Disk.view c.args.disk.now) c.args.found c.is_old-outdated.result (result_err c.with_style.result)
-    c.root-root.ensures (sym c.if-is_blank.ensures) c.is_old-outdated.ensures c.with_style.ensures.sound
+pub returns-then-is_blank-clause-fields : goal.returns-then-is_blank-clause-fields
+returns-then-is_blank-clause-fields g c = record {
+  kind = ap (λ (r : Root). is_blank r) (sym c.root-root.ensures) ∙ sym c.if-is_blank.ensures;
+  count = λ is. absurd (cc (is));
+}
 
 pub returns-then-is_blank-clause-once : goal.returns-then-is_blank-clause-once
 returns-then-is_blank-clause-once g c = λ state fits holds. style_unread state (g.D.Disk.view c.args.disk.now) holds
+
+-- an old store
+pub returns-then-is_old-clause-found : goal.returns-then-is_old-clause-found
+returns-then-is_old-clause-found g c =
+    found_of c.root-root.result (g.D.Disk.view c.args.disk.now) (g.D.Disk.view c.with_style.new.disk) c.args.found true c.with_style.result
+    c.root-root.ensures (sym c.if-is_blank.ensures) c.if-is_old.ensures c.with_style.ensures.changes c.with_style.ensures.outdated c.with_style.ensures.found
+
+pub returns-then-is_old-clause-fields : goal.returns-then-is_old-clause-fields
+returns-then-is_old-clause-fields g c =
+    fields_of c.root-root.result _ true c.with_style.result c.root-root.ensures (λ _. sym c.if-is_old.ensures) (λ is. absurd (cc (is)))
+    c.with_style.ensures.changes c.with_style.ensures.outdated c.with_style.ensures.styled
+
+pub returns-then-is_old-clause-sound : goal.returns-then-is_old-clause-sound
+returns-then-is_old-clause-sound g c =
+    sound_of c.root-root.result (g.D.Disk.view c.args.disk.now) c.args.found true (result_err c.with_style.result)
+    c.root-root.ensures (sym c.if-is_blank.ensures) c.if-is_old.ensures c.with_style.ensures.sound
+
+-- one of this format
+pub returns-then-is_imported-clause-found : goal.returns-then-is_imported-clause-found
+returns-then-is_imported-clause-found g c =
+    found_of c.root-root.result (g.D.Disk.view c.args.disk.now) (g.D.Disk.view c.with_style-then-is_imported.new.disk) c.args.found false c.with_style-then-is_imported.result
+    c.root-root.ensures (sym c.if-is_blank.ensures) c.if-is_old.ensures c.with_style-then-is_imported.ensures.changes c.with_style-then-is_imported.ensures.outdated c.with_style-then-is_imported.ensures.found
+
+pub returns-then-is_imported-clause-fields : goal.returns-then-is_imported-clause-fields
+returns-then-is_imported-clause-fields g c =
+    fields_of c.root-root.result _ false c.with_style-then-is_imported.result c.root-root.ensures (λ is. absurd (cc (is))) (λ _. sym c.if-is_imported.ensures)
+    c.with_style-then-is_imported.ensures.changes c.with_style-then-is_imported.ensures.outdated c.with_style-then-is_imported.ensures.styled
+
+pub returns-then-is_imported-clause-sound : goal.returns-then-is_imported-clause-sound
+returns-then-is_imported-clause-sound g c =
+    sound_of c.root-root.result (g.D.Disk.view c.args.disk.now) c.args.found false (result_err c.with_style-then-is_imported.result)
+    c.root-root.ensures (sym c.if-is_blank.ensures) c.if-is_old.ensures c.with_style-then-is_imported.ensures.sound
+
+-- neither
+pub returns-clause-sound : goal.returns-clause-sound
+returns-clause-sound g c = λ fits state holds.
+    is_one state (g.D.Disk.view c.args.disk.now) c.args.found c.root-root.result c.root-root.ensures (sym c.if-is_blank.ensures)
+    (sym c.if-is_old.ensures) (sym c.if-is_imported.ensures) fits holds

@@ -1,26 +1,30 @@
 -- What the buckets found is judged.
-use Rattle.std.proofs.Common.{◌≢◌, ◌⊎◌, inl, inr, ℕ, List, Some, Err, refl, sym, subst, ◌∙◌}
+use Rattle.std.proofs.Common.{◌≡◌, ◌≢◌, ◌⊎◌, inl, inr, ℕ, List, Some, Result, Ok, Err, OnOk, refl, sym, subst, ◌∙◌}
 use Rattle.std.specs.Result.{result_err}
 use Rattle.std.proofs.lemmas.Result.{IfOk-weaker, on_ok_weaker}
-use Rattle.outside.specs.Bytes.{IsTold}
+use Rattle.outside.specs.Bytes.{IfTold, IsTold}
 use Rattle.outside.specs.Disk.{Goes, Tells}
 use Rattle.page_journal.specs.Home.{HasOpenJournal}
+use Rattle.page_journal.specs.declared.fault.StoreFault.TheVariants as store
 use Rattle.page_journal.specs.Pages.{gate}
 use Rattle.page_journal.specs.declared.layout.TheConstants.{OPEN}
 use Rattle.bucket_store.specs.Image.{IsSoundAnswer}
-use Rattle.bucket_store.specs.Opening.{Fits}
+use Rattle.chain_store.specs.declared.root.Root.{Root}
+use Rattle.bucket_store.specs.Opening.{Fits, opened_root}
 use Rattle.bucket_store.specs.declared.opened.Opened.{Opened as Stored}
 use Rattle.update_flow.specs.AtRest.{IsAt, IsOfEither}
-use Rattle.update_flow.specs.Opening.{Found, HoldsState}
+use Rattle.update_flow.specs.Opening.{Found, HoldsState, RootTells}
+use Rattle.update_flow.specs.Roots.{AreFieldsOf}
 use Rattle.update_flow.specs.Refusals.{IsNoDiskFault}
 use Rattle.update_flow.specs.Stands.{StandsFor}
 use Rattle.update_flow.specs.State.{State}
 use Rattle.update_flow.specs.Within.{IsSound}
 use Rattle.update_flow.specs.declared.fault.FlowFault.{FlowFault}
+use Rattle.update_flow.specs.declared.fault.FlowFault.TheVariants as flow
 use Rattle.update_flow.specs.declared.opened.Opened.{Opened}
 use Rattle.update_flow.specs.OpeningReads.{ReadsStyle, ReadsToOpen}
 use Rattle.update_flow.proofs.OpeningReads.{opens_then}
-use Rattle.update_flow.proofs.Openings.{bad_none, each_meant, goes_either, opens_as, opens_either, quiet_fault, sound_answer, sound_store, state_before}
+use Rattle.update_flow.proofs.Openings.{bad_formed, bad_none, each_meant, goes_either, opens_as, opens_either, quiet_fault, root_told, sound_answer, sound_store, state_before}
 use Rattle.update_flow.proofs.opening.open.Goals as goal
 
 pub returns-in-Ok-clause-reads : goal.returns-in-Ok-clause-reads
@@ -64,10 +68,32 @@ returns-in-Ok-clause-found g c =
 
 pub returns-in-Ok-clause-bad : goal.returns-in-Ok-clause-bad
 unfolding StandsFor
-returns-in-Ok-clause-bad g c = λ page is bytes told state stands.
+returns-in-Ok-clause-bad g c = λ page is bytes told. record {
+  formed = (c.in-Ok.ensures.answers bytes told).1.formatted;
+  none = λ state stands.
+      let mid = g.D.Disk.view c.open.new.disk in
+      let holds : HoldsState state mid = record { image = stands.0; holds = c.in-Ok.ensures.found bytes told stands.0 stands.2; means = stands.1 } in
+      bad_none Opened c.judged.result page is (c.judged.ensures.sound (c.in-Ok.ensures.fits bytes told) state holds);
+}
+
+pub returns-in-Ok-clause-fields : goal.returns-in-Ok-clause-fields
+returns-in-Ok-clause-fields g c =
+    let old = g.D.Disk.view c.args.disk.now in
     let mid = g.D.Disk.view c.open.new.disk in
-    let holds : HoldsState state mid = record { image = stands.0; holds = c.in-Ok.ensures.found bytes told stands.0 stands.2; means = stands.1 } in
-    bad_none Opened c.judged.result page is (c.judged.ensures.sound (c.in-Ok.ensures.fits bytes told) state holds)
+    IfOk-weaker c.judged.result
+    (λ opened. AreFieldsOf opened.style opened.outdated opened.changes (opened_root c.in-Ok.found))
+    (λ opened. IfTold old.content (RootTells opened.style opened.outdated opened.changes))
+    (λ opened own bytes told shut pages home.
+    subst (λ (root : Root). AreFieldsOf opened.style opened.outdated opened.changes root)
+    (root_told c.in-Ok.found bytes pages old mid told (c.open.ensures.looked bytes told (λ (opened : HasOpenJournal bytes). shut opened.is_open)) (c.in-Ok.ensures.fits bytes told) home) own)
+    c.judged.ensures.fields
+
+pub returns-in-Ok-clause-formed : goal.returns-in-Ok-clause-formed
+returns-in-Ok-clause-formed g c = on_ok_always c.judged.result _ (λ bytes told. (c.in-Ok.ensures.answers bytes told).1.formatted)
+  where
+    on_ok_always : {T E : Type 0} (result : Result T E) (P : Type 0) → P → OnOk result P
+    on_ok_always (Ok value) P own = own
+    on_ok_always (Err fault) P own = tt
 
 pub returns-in-Err-clause-reads : goal.returns-in-Err-clause-reads
 unfolding StandsFor
@@ -98,11 +124,16 @@ returns-in-Err-clause-opens g c = λ one other either.
 
 pub returns-in-Err-clause-bad : goal.returns-in-Err-clause-bad
 unfolding StandsFor
-returns-in-Err-clause-bad g c = λ page is bytes told state stands.
-    let sound : IsSound (Some c.store_fault.result) =
-    subst (λ (f : FlowFault). IsSound (Some f)) (sym c.store_fault.ensures)
-    (sound_store Stored c.in-Err.fault (c.in-Err.ensures.sound bytes told stands.0 stands.2)) in
-    bad_none Opened (Err c.store_fault.result) page is sound
+returns-in-Err-clause-bad g c = λ page is bytes told. record {
+  formed =
+      let own : c.store_fault.result ≡ flow.Store (store.BadStore page) = cc (is) in
+      bad_formed Stored bytes page c.in-Err.fault (sym c.store_fault.ensures ∙ own) (c.in-Err.ensures.answers bytes told);
+  none = λ state stands.
+      let sound : IsSound (Some c.store_fault.result) =
+      subst (λ (f : FlowFault). IsSound (Some f)) (sym c.store_fault.ensures)
+      (sound_store Stored c.in-Err.fault (c.in-Err.ensures.sound bytes told stands.0 stands.2)) in
+      bad_none Opened (Err c.store_fault.result) page is sound;
+}
 
 pub returns-in-Ok-clause-told : goal.returns-in-Ok-clause-told
 returns-in-Ok-clause-told g c = λ told no.
