@@ -11,12 +11,13 @@ use Rattle.updater.specs.declared.fault.Fault.TheVariants as faults
 use Rattle.osm_base.specs.bounds.Limits.{standard}
 use Rattle.page_journal.specs.declared.fault.StoreFault.TheVariants as stores
 use Rattle.update_flow.specs.History.{state_after}
+use Rattle.update_flow.specs.Opening.{MayOpenAs}
 use Rattle.update_flow.specs.Refusals.{OrFull, Refuses}
 use Rattle.update_flow.specs.State.{State, formatted, imported, outdated, Step, Import, Append, Clear, Migrate}
 use Rattle.update_flow.specs.declared.fault.FlowFault.{FlowFault}
 use Rattle.update_flow.specs.declared.fault.FlowFault.TheVariants as flow
 use Rattle.updater.specs.Causes.{IsStoreLimit}
-use Rattle.updater.specs.Comes.{Breaks, BreaksIn, Comes, HoldsBytes, IsBadStore, IsNoStore, IsOfFile, IsRefusal, IsRefusedFor, IsStepFault, MayTake, refused, short, unread}
+use Rattle.updater.specs.Comes.{Breaks, BreaksIn, Comes, HoldsBytes, IsBadStore, IsBroken, IsNoStore, IsOfFile, IsRefusal, IsRefusedFor, IsStepFault, MayTake, refused, short, unread}
 use Rattle.updater.specs.Course.{Course, ends, refuses, reads, wants_empty, formats, opens, looks, commits, tells, writes}
 use Rattle.updater.specs.Courses.{gathers}
 use Rattle.updater.specs.Faults.{flow_fault}
@@ -332,12 +333,12 @@ module _ (terms : Terms) (old : Before) where
   comes_told (opens rest) file quiet done ending (opening, store, later) up (inl breaks) = told_breaks file quiet done ending store up breaks
   comes_told (opens rest) file quiet done ending (opening, store, later) up (inr c) = of_store done.store
       (λ kept. (cut : ℕ) × (kept.least ≤ cut) × (cut ≤ kept.most) × Comes old (rest (state_after (first cut kept.history))) (opened kept cut done) ending)
-      (IsNoStore old done ending ⊎ IsRefusedFor IsBadStore done ending ⊎ ((state : State) × Comes old (rest state) done ending)) (Tells terms old ending)
+      (IsNoStore old done ending ⊎ IsBroken old done ending ⊎ ((state : State) × IfTold old.content (MayOpenAs state) × Comes old (rest state) done ending)) (Tells terms old ending)
       (λ kept is h. comes_told (rest (state_after (first h.0 kept.history))) file quiet (opened kept h.0 done) ending (later (state_after (first h.0 kept.history)))
       (stood file quiet (keeps (whole (first h.0 kept.history))) h.0 done (λ e. absurd (cc)) up) h.3)
       (λ is h. three (λ (none : IsNoStore old done ending). is_told ending _ none.1 (told_at file quiet done (Some faults.NotFormatted) up (opening, none.0) (λ other names. names)))
-      (λ (bad : IsRefusedFor IsBadStore done ending). told_refused IsBadStore file quiet done ending store (λ fault own. ((λ bytes told _. opening), bad_step fault own)) up bad)
-      (λ (c : (state : State) × Comes old (rest state) done ending). comes_told (rest c.0) file quiet done ending (later c.0) up c.1) h) c
+      (λ (bad : IsBroken old done ending). told_refused IsBadStore file quiet done ending store (λ fault own. ((λ bytes told _. opening), bad_step fault own)) up bad.1)
+      (λ (c : (state : State) × IfTold old.content (MayOpenAs state) × Comes old (rest state) done ending). comes_told (rest c.0) file quiet done ending (later c.0) up c.2) h) c
   comes_told (looks rest) file quiet done ending (store, later) up (inl breaks) = told_breaks file quiet done ending store up breaks
   comes_told (looks rest) file quiet done ending (store, later) up (inr (inl why)) =
       let un = of_unknown done.store (IsRefusedFor IsStepFault done ending) why in
@@ -345,14 +346,14 @@ module _ (terms : Terms) (old : Before) where
   comes_told (looks rest) file quiet done ending (store, later) up (inr (inr c)) = comes_told rest file quiet done ending later up c
   comes_told (commits step rest) file quiet done ending (store, later) up (inl breaks) = told_breaks file quiet done ending store up breaks
   comes_told (commits step rest) file quiet done ending (store, later) up (inr c) = of_store done.store
-      (λ kept. (ending ≡ at (in_doubt step kept done) (Some faults.DiskFault)) ⊎ IsRefusedFor (IsRefusal (state_after kept.history) step) done ending
-      ⊎ (MayTake (state_after kept.history) step × Comes old rest (committed step kept done) ending))
+      (λ kept. (ending ≡ at (in_doubt step kept done) (Some faults.DiskFault)) ⊎ IsRefusedFor (IsRefusal old (state_after kept.history) step) done ending
+      ⊎ (MayTake old (state_after kept.history) step × Comes old rest (committed step kept done) ending))
       (IsRefusedFor IsStepFault done ending ⊎ Comes old rest done ending) (Tells terms old ending)
       (λ kept is h. three (λ (is : ending ≡ at (in_doubt step kept done) (Some faults.DiskFault)). is_told ending _ is
       (told_at file quiet (in_doubt step kept done) (Some faults.DiskFault) (stood file quiet (keeps (perhaps step kept)) done.cut done (λ e. absurd (cc)) up) store (λ other names. names)))
-      (λ (why : IsRefusedFor (IsRefusal (state_after kept.history) step) done ending). told_refused (IsRefusal (state_after kept.history) step) file quiet done ending store
+      (λ (why : IsRefusedFor (IsRefusal old (state_after kept.history) step) done ending). told_refused (IsRefusal old (state_after kept.history) step) file quiet done ending store
       (λ fault own. ((λ _ _ bad. bad_refuses (state_after kept.history) step fault terms.opening bad own.1), own.0)) up why)
-      (λ (c : MayTake (state_after kept.history) step × Comes old rest (committed step kept done) ending). comes_told rest file quiet (committed step kept done) ending later
+      (λ (c : MayTake old (state_after kept.history) step × Comes old rest (committed step kept done) ending). comes_told rest file quiet (committed step kept done) ending later
       (stood file quiet (keeps (with_step step kept)) done.cut done (λ e. absurd (cc)) up) c.1) h)
       (λ is h. ⊎_elim (λ (why : IsRefusedFor IsStepFault done ending). told_refused IsStepFault file quiet done ending store (λ fault own. ((λ bytes told _. up.vague is bytes told), own)) up why)
       (λ (c : Comes old rest done ending). comes_told rest file quiet done ending later up c) h) c

@@ -251,12 +251,12 @@ module _ (total : ℕ) (before : Kept) where
     comes_safe (commits step rest) untold left done ending (none, counts) after (inr c) =
         let own = subst (λ (untold : ℕ). IsAfter total before untold left done) none after in
         of_store done.store
-        (λ kept. (ending ≡ at (in_doubt step kept done) (Some faults.DiskFault)) ⊎ IsRefusedFor (IsRefusal (state_after kept.history) step) done ending
-        ⊎ (MayTake (state_after kept.history) step × Comes old rest (committed step kept done) ending))
+        (λ kept. (ending ≡ at (in_doubt step kept done) (Some faults.DiskFault)) ⊎ IsRefusedFor (IsRefusal old (state_after kept.history) step) done ending
+        ⊎ (MayTake old (state_after kept.history) step × Comes old rest (committed step kept done) ending))
         (IsRefusedFor IsStepFault done ending ⊎ Comes old rest done ending) (Reaches total before ending)
         (λ kept is h. three (λ (doubt : ending ≡ at (in_doubt step kept done) (Some faults.DiskFault)). reaches ending _ doubt (doubted left step kept done own is))
-        (λ (why : IsRefusedFor (IsRefusal (state_after kept.history) step) done ending). reaches ending _ why.2 (reached left done None _ own))
-        (λ (c : MayTake (state_after kept.history) step × Comes old rest (committed step kept done) ending).
+        (λ (why : IsRefusedFor (IsRefusal old (state_after kept.history) step) done ending). reaches ending _ why.2 (reached left done None _ own))
+        (λ (c : MayTake old (state_after kept.history) step × Comes old rest (committed step kept done) ending).
         comes_safe rest 1 (left - 1) (committed step kept done) ending counts (stepped left step kept done own is) c.1) h)
         (λ un h. absurd (let two : unknown ≡ keeps (whole after.now) = sym un ∙ after.is in cc)) c
     comes_safe (tells text rest) untold left done ending (counts, later) after (inl is) = reaches ending _ is (telling untold left text done counts after)

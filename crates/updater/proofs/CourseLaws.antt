@@ -4,8 +4,9 @@ use Rattle.outside.specs.Bytes.{IfTold}
 use Rattle.updater.specs.declared.fault.Fault.{Fault}
 use Rattle.updater.specs.declared.fault.Fault.TheVariants as faults
 use Rattle.update_flow.specs.History.{state_after}
+use Rattle.update_flow.specs.Opening.{MayOpenAs}
 use Rattle.update_flow.specs.State.{State}
-use Rattle.updater.specs.Comes.{Breaks, BreaksIn, ByStore, Comes, HoldsBytes, IfUnknown, IfUnused, IsBadStore, IsDue, IsNoStore, IsOfFile, IsOutside, IsRefusal, IsRefusedFor, IsStepFault, MayTake, refused, short, unread}
+use Rattle.updater.specs.Comes.{Breaks, BreaksIn, ByStore, Comes, HoldsBytes, IfUnknown, IfUnused, IsBroken, IsDue, IsNoStore, IsOfFile, IsOutside, IsRefusal, IsRefusedFor, IsStepFault, MayTake, refused, short, unread}
 use Rattle.updater.specs.Course.{Course, ends, refuses, reads, wants_empty, formats, opens, looks, commits, tells, writes}
 use Rattle.updater.specs.Keeps.{Kept, first}
 use Rattle.updater.specs.Progress.{Standing, unused, unknown, keeps, half_made, Progress, Ending, at, at_file, at_text, past, plus, with_store, made, opened, committed, in_doubt}
@@ -82,24 +83,24 @@ module _ (old : Before) where
   comes_due (opens rest) done ending (inr c) not = by_store done.store
       (λ kept. (cut : ℕ) × (kept.least ≤ cut) × (cut ≤ kept.most) × Comes old (rest (state_after (first cut kept.history))) (opened kept cut done) ending)
       (λ kept. (cut : ℕ) × (kept.least ≤ cut) × (cut ≤ kept.most) × IsDue old (rest (state_after (first cut kept.history))) (opened kept cut done) ending)
-      (IsNoStore old done ending ⊎ IsRefusedFor IsBadStore done ending ⊎ ((state : State) × Comes old (rest state) done ending))
-      (IsNoStore old done ending ⊎ IsRefusedFor IsBadStore done ending ⊎ ((state : State) × IsDue old (rest state) done ending))
+      (IsNoStore old done ending ⊎ IsBroken old done ending ⊎ ((state : State) × IfTold old.content (MayOpenAs state) × Comes old (rest state) done ending))
+      (IsNoStore old done ending ⊎ IsBroken old done ending ⊎ ((state : State) × IfTold old.content (MayOpenAs state) × IsDue old (rest state) done ending))
       (λ kept _ h. (h.0, h.1, h.2, comes_due (rest (state_after (first h.0 kept.history))) (opened kept h.0 done) ending h.3 not))
-      (λ _ h. three (λ (none : IsNoStore old done ending). inl none) (λ (bad : IsRefusedFor IsBadStore done ending). inr (inl bad))
-      (λ (c : (state : State) × Comes old (rest state) done ending). inr (inr (c.0, comes_due (rest c.0) done ending c.1 not))) h) c
+      (λ _ h. three (λ (none : IsNoStore old done ending). inl none) (λ (bad : IsBroken old done ending). inr (inl bad))
+      (λ (c : (state : State) × IfTold old.content (MayOpenAs state) × Comes old (rest state) done ending). inr (inr (c.0, c.1, comes_due (rest c.0) done ending c.2 not))) h) c
   comes_due (looks rest) done ending (inl breaks) not = breaks_not done ending _ breaks not
   comes_due (looks rest) done ending (inr (inl bad)) not = inl bad
   comes_due (looks rest) done ending (inr (inr c)) not = inr (comes_due rest done ending c not)
   comes_due (commits step rest) done ending (inl breaks) not = breaks_not done ending _ breaks not
   comes_due (commits step rest) done ending (inr c) not = by_store done.store
-      (λ kept. (ending ≡ at (in_doubt step kept done) (Some faults.DiskFault)) ⊎ IsRefusedFor (IsRefusal (state_after kept.history) step) done ending
-      ⊎ (MayTake (state_after kept.history) step × Comes old rest (committed step kept done) ending))
-      (λ kept. IsRefusedFor (IsRefusal (state_after kept.history) step) done ending ⊎ (MayTake (state_after kept.history) step × IsDue old rest (committed step kept done) ending))
+      (λ kept. (ending ≡ at (in_doubt step kept done) (Some faults.DiskFault)) ⊎ IsRefusedFor (IsRefusal old (state_after kept.history) step) done ending
+      ⊎ (MayTake old (state_after kept.history) step × Comes old rest (committed step kept done) ending))
+      (λ kept. IsRefusedFor (IsRefusal old (state_after kept.history) step) done ending ⊎ (MayTake old (state_after kept.history) step × IsDue old rest (committed step kept done) ending))
       (IsRefusedFor IsStepFault done ending ⊎ Comes old rest done ending)
       (IsRefusedFor IsStepFault done ending ⊎ IsDue old rest done ending)
       (λ kept _ h. three (λ (is : ending ≡ at (in_doubt step kept done) (Some faults.DiskFault)). blamed ending (at (in_doubt step kept done) (Some faults.DiskFault)) _ is tt not)
-      (λ (why : IsRefusedFor (IsRefusal (state_after kept.history) step) done ending). inl why)
-      (λ (c : MayTake (state_after kept.history) step × Comes old rest (committed step kept done) ending). inr (c.0, comes_due rest (committed step kept done) ending c.1 not)) h)
+      (λ (why : IsRefusedFor (IsRefusal old (state_after kept.history) step) done ending). inl why)
+      (λ (c : MayTake old (state_after kept.history) step × Comes old rest (committed step kept done) ending). inr (c.0, comes_due rest (committed step kept done) ending c.1 not)) h)
       (λ _ h. ⊎_elim (λ (why : IsRefusedFor IsStepFault done ending). inl why) (λ (c : Comes old rest done ending). inr (comes_due rest done ending c not)) h) c
   comes_due (tells text rest) done ending (inl is) not = blamed ending (at_text text done faults.WriteFault) _ is tt not
   comes_due (tells text rest) done ending (inr c) not = comes_due rest (plus text done) ending c not

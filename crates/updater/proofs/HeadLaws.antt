@@ -37,7 +37,7 @@ module _ (start done : Progress) (state : State) (next : ℕ) (old : Before) (fi
     pub past_file : (found : A) → IsRead Reads file found files new → IsHead start (past file done) state (file + 1) old new updater output
     past_file found read =
         let further = parts.past_file start done next old files (view_of updater) output own Reads file above new found read in
-        record { here = head.here; vague = head.vague; limits = head.limits; unread = further.unread; so_far = further.so_far }
+        record { here = head.here; vague = head.vague; limits = head.limits; stood = head.stood; unread = further.unread; so_far = further.so_far }
 
     pub leads_file : (found : A) → IsRead Reads file found files new → (rest : A → Course) (ending : Ending) → Comes old (rest found) (past file done) ending → Comes old (reads file Reads rest) done ending
     leads_file found read rest ending comes = parts.leads_file start done next old files (view_of updater) output own Reads file above new found read rest ending comes
@@ -50,7 +50,7 @@ module _ (start done : Progress) (state : State) (next : ℕ) (old : Before) (fi
   pub past_text : (text : List ℕ) (new : SinkView) → Appends output.taken new.taken text → output.faults ≤ new.faults → IsHead start (plus text done) state next old files updater new
   past_text text new all later =
       let further = parts.past_text start done next old files (view_of updater) output own text new all later in
-      record { here = head.here; vague = head.vague; limits = head.limits; unread = further.unread; so_far = further.so_far }
+      record { here = head.here; vague = head.vague; limits = head.limits; stood = head.stood; unread = further.unread; so_far = further.so_far }
 
   pub stops_in_line : (text : List ℕ) (new : SinkView) (rest : Course) → AppendsPrefix output.taken new.taken text → output.faults ≤ new.faults → Rose output.faults new.faults
       → GoesOn (tells text rest) start done (Some faults.WriteFault) old (world files (view_of updater) new)

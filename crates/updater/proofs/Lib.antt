@@ -32,6 +32,7 @@ pub mod StoreRuns
 pub mod MakeRuns
 pub mod MigrateRuns
 pub mod MigrationLaws
+pub mod EndLaws
 pub mod FillRuns
 pub mod TableTexts
 pub mod OptionLaws

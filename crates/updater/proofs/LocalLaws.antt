@@ -27,7 +27,7 @@ use Rattle.update_flow.specs.declared.updater.Updater.{Updater}
 use Rattle.updater.specs.declared.files.Files.{Files}
 use Rattle.updater.specs.Files.{IsBounds, IsChange}
 use Rattle.updater.specs.FileReads.{IsRead}
-use Rattle.updater.specs.Locality.{AppendsAll, AppendsHere, AppendsSoFar, AppendsThere, HoldChanges, IsLocal, IsStore, MoreReads, ReadsEach, ReadsOne}
+use Rattle.updater.specs.Locality.{AppendsAll, AppendsHere, AppendsSoFar, AppendsThere, HoldChanges, IsLocal, IsNextStore, IsStore, MoreReads, ReadsEach, ReadsOne}
 use Rattle.updater.specs.World.{World, world}
 
 pub on_ok_so : {T E : Type 0} (result : Result T E) (P Q : Type 0) → (P → Q) → OnOk result P → OnOk result Q
@@ -48,7 +48,7 @@ reads_none bounds pages held log = λ mays touch. (0, refl, λ first is. (first,
 
 -- a change, and those behind it
 reads_more : (bounds : BoundsOf) (held : Holding) (change : List Entry) (changes : List (List Entry)) (pages next : List (List ℕ)) (first second third : Option ReadLog)
-    → ReadsOne held change pages first second → IsStore next (changed bounds change held) → ReadsEach bounds next (changed bounds change held) changes second third
+    → ReadsOne held change pages first second → IsNextStore pages next (changed bounds change held) → ReadsEach bounds next (changed bounds change held) changes second third
     → ReadsEach bounds pages held (change ∷ changes) first third
 reads_more bounds held change changes pages next first second third one is later = λ mays touch.
     let here = one (mays 0) touch.0 in
@@ -110,7 +110,7 @@ appends_next bounds held pages first file files now read before store after so n
       others = λ other from. one.others other (λ is. absurd (let two : other ≡ file = is in omega (arith, from, two))) ∙ so.others other (omega (arith, from));
       leads = λ later last hold reads.
           let led = so.leads (one.change ∷ later) last (subst (λ (told : Option (List ℕ)). IfTold told (λ bytes. IsChange file bytes (Ok one.change))) (so.others file (omega arith)) one.accepted, hold)
-          (reads_more bounds so.at one.change later so.here left.0 (view_of store).reads (view_of after).reads last one.reads left.1 reads) in
+          (reads_more bounds so.at one.change later so.here left.0 (view_of store).reads (view_of after).reads last one.reads (record { store = left.1; needed = one.needed left.0 left.2 }) reads) in
           (led.0, (let many = led.1 in omega (arith, many)), led.2, led.3);
     }
 

@@ -1,6 +1,7 @@
 -- A run that makes its store, and goes on over it.
-use Rattle.std.proofs.Common.{◌≡◌, ◌≤◌, ℕ, true, Option, Some, None, List, [], length, Err, ⊎_elim, inl, inr, refl, sym, ◌∙◌, subst, arith}
+use Rattle.std.proofs.Common.{◌≡◌, ◌≤◌, ℕ, true, Option, Some, None, List, [], length, Err, ⊎_elim, inl, inr, refl, sym, ◌∙◌, ap, subst, arith}
 use Rattle.std.specs.Prelude.{IsErrOf}
+use Rattle.std.proofs.lemmas.Option.{same_Some}
 use Rattle.osm_base.specs.bounds.Limits.{standard}
 use Rattle.outside.specs.Bytes.{IfTold, IsTold}
 use Rattle.outside.specs.Disk.{DiskView, Tells}
@@ -9,12 +10,16 @@ use Rattle.outside.specs.Sink.{SinkView}
 use Rattle.outside.specs.declared.disk.Disk.{Ghosts}
 use Rattle.page_journal.specs.Answers.{Formats, HasDiskCause, IsFormatAnswer}
 use Rattle.page_journal.specs.Crash.{IsSettled}
-use Rattle.page_journal.specs.Home.{IsFresh}
+use Rattle.page_journal.specs.Home.{Home, IsFresh}
+use Rattle.page_journal.specs.Pages.{gate}
+use Rattle.page_journal.specs.declared.layout.TheConstants.{OPEN}
+use Rattle.page_journal.proofs.Uniqueness.{one_home}
 use Rattle.page_journal.proofs.Moments.{stays_call}
 use Rattle.page_journal.specs.declared.fault.StoreFault.{StoreFault}
 use Rattle.page_journal.specs.declared.fault.StoreFault.TheVariants as stores
 use Rattle.update_flow.specs.AtRest.{HasFlowCause, IsAt, IsAtEither, IsOfEither, Opens}
 use Rattle.update_flow.specs.Handle.{Handle, IsOpen, is_whole, limits_of, view_of}
+use Rattle.update_flow.specs.Needed.{HasStood}
 use Rattle.update_flow.specs.Refusals.{IsNoDiskFault, IsOpenFault}
 use Rattle.update_flow.specs.Stands.{StandsFor}
 use Rattle.update_flow.specs.State.{State, formatted, imported, outdated}
@@ -25,7 +30,7 @@ use Rattle.update_flow.specs.declared.updater.Updater.{Updater}
 use Rattle.update_flow.proofs.Blank.{blank_stands}
 use Rattle.updater.specs.declared.fault.Fault.{Fault}
 use Rattle.updater.specs.declared.fault.Fault.TheVariants as faults
-use Rattle.updater.specs.Comes.{Comes}
+use Rattle.updater.specs.Comes.{Comes, IsCertain}
 use Rattle.updater.specs.Course.{Course, wants_empty, formats, looks}
 use Rattle.updater.specs.Courses.{if_blank}
 use Rattle.updater.specs.Faults.{fault_of, flow_fault}
@@ -227,15 +232,27 @@ module _ (read : List ℕ) (next : ℕ) (old : Before) (files : FilesView) (view
     -- or the run goes on over the open store
     module _ (updater : Handle) (opened : (one other : State) → IsAtEither one other between → Opens one other None between (view_of updater))
         (open_so : IsTold between.content → (state : State) → IsAt state (view_of updater) → IsOpen state updater) (limits : limits_of updater ≡ standard) (sound : is_whole updater ≡ true)
-        (none : TellsNone updater) (cause : HasFlowCause None between (view_of updater)) where
-      made_head : (told : Option (List ℕ)) (state : State) → IsHere (made told) 0 state updater → StandsOn None (made told) old (view_of updater) → IsHead (begun unused 0) (Done told) state next old files updater output
-      made_head told state here stands = record {
+        (none : TellsNone updater) (cause : HasFlowCause None between (view_of updater)) (one : (now : List ℕ) → length (pages now) ≡ 1)
+        (as_told : (bytes : List ℕ) → between.content ≡ Some bytes → (gate bytes ≡ OPEN → ⊥) → (view_of updater).content ≡ between.content) where
+      made_head : (told : Option (List ℕ)) (state : State) → IsHere (made told) 0 state updater → StandsOn None (made told) old (view_of updater) → (IsCertain (made told) → HasStood standard old.content (view_of updater))
+          → IsHead (begun unused 0) (Done told) state next old files updater output
+      made_head told state here stands stood = record {
         here = here;
         vague = λ _. tt;
         limits = limits;
+        stood = stood;
         unread = head.unread;
         so_far = stands_so (made told) None (view_of updater) stands tt (omega (arith, later, cause.later));
       }
+
+      -- it has a home page besides page 0
+      stood_made : (bytes : List ℕ) → old.content ≡ Some bytes → HasStood standard old.content (view_of updater)
+      stood_made bytes is = λ now told has home.
+          let own = makes bytes (same_content ∙ is) in
+          let here : own.0 ≡ now = same_Some own.0 now (sym (as_told own.0 own.2.told own.2.shut ∙ own.2.told) ∙ told) in
+          let same : has ≡ pages own.0 = one_home has (pages own.0) own.0 (subst (λ (bytes : List ℕ). Home has bytes) (sym here) home) own.2.home in
+          let few : length has ≡ 1 = ap (λ (own : List (List ℕ)). length own) same ∙ one own.0 in
+          inl (omega (arith, few))
 
       vague_comes : (rest : Course) (state : State) (ending : Ending) → Comes old (if_blank rest state) (Done None) ending → Comes old (looks rest) (Done None) ending
       vague_comes rest formatted ending comes = inr (inr comes)
@@ -251,13 +268,13 @@ module _ (read : List ℕ) (next : ℕ) (old : Before) (files : FilesView) (view
             let rests : IsAt formatted (view_of updater) = ⊎_elim (λ (one : IsAt formatted (view_of updater)). one) (λ (other : IsAt formatted (view_of updater)). other) (own.found refl) in
             let went = goes old (begun unused 0) (Done (Some bytes)) formatted (made_head (Some bytes) formatted
             (record { all = refl; cut_within = omega arith; stands = refl; rests = open_so place.told formatted rests })
-            ((λ left out. blank_one left (own.moments.now left out)), λ _. (rests.bytes, rests.told))) in
+            ((λ left out. blank_one left (own.moments.now left out)), λ _. (rests.bytes, rests.told)) (λ _. stood_made bytes is)) in
             (went.0, went.1, lifts (Some bytes) is (looks rest) went.0 (inr (inr went.2)), went.3)
 
         goes_vague : old.content ≡ None → GoesOn (formats (looks rest)) (begun unused 0) (reading_alone read) fault old new
         goes_vague is =
             let state = state_shown updater in
-            let went = goes old (begun unused 0) (Done None) state (made_head None state (record { shows = shows_state updater none; whole = sound }) tt) in
+            let went = goes old (begun unused 0) (Done None) state (made_head None state (record { shows = shows_state updater none; whole = sound }) tt (λ certain. absurd certain)) in
             (went.0, went.1, lifts None is (looks rest) went.0 (vague_comes rest state went.0 went.2), went.3)
 
         pub goes_made : GoesOn (formats (looks rest)) (begun unused 0) (reading_alone read) fault old new
@@ -274,15 +291,17 @@ pub goes_over_made : {D : Type 0} {g : Ghosts D} (read : List ℕ) (next : ℕ) 
     (disk : D) (updater : Updater D g) → disk_of updater ≡ disk
     → ((one other : State) → IsAtEither one other between → Opens one other None between (g.view disk)) → (IsTold between.content → (state : State) → IsAt state (g.view disk) → IsOpen state (handle_of updater))
     → limits_of (handle_of updater) ≡ standard → is_whole (handle_of updater) ≡ true → TellsNone (handle_of updater) → HasFlowCause None between (g.view disk)
+    → ((now : List ℕ) → length (pages now) ≡ 1) → ((bytes : List ℕ) → between.content ≡ Some bytes → (gate bytes ≡ OPEN → ⊥) → (g.view disk).content ≡ between.content)
     → (rest : Course) (fault : Option Fault) (final : Updater D g) (last : D) → last ≡ disk_of final → (now : FilesView) (told : SinkView)
     → ((old : Before) (start done : Progress) (state : State) → IsHead start done state next old files (handle_of updater) output → GoesOn (if_blank rest state) start done fault old (world now (view_of (handle_of final)) told))
     → GoesOn (formats (looks rest)) (begun unused 0) (reading_alone read) fault old (world now (g.view last) told)
-goes_over_made {D} {g} read next old files view output head pages between makes later disk updater same opened open_so limits sound none cause rest fault final last closed now told goes =
+goes_over_made {D} {g} read next old files view output head pages between makes later disk updater same opened open_so limits sound none cause one as_told rest fault final last closed now told goes =
     subst (λ (own : D). GoesOn (formats (looks rest)) (begun unused 0) (reading_alone read) fault old (world now (g.view own) told)) (sym closed)
     (goes_made read next old files view output head pages between makes later (handle_of updater)
     (λ one other at. subst (λ (own : D). Opens one other None between (g.view own)) (sym same) (opened one other at))
     (λ told_before state at. open_so told_before state (subst (λ (own : D). IsAt state (g.view own)) same at))
-    limits sound none (subst (λ (own : D). HasFlowCause None between (g.view own)) (sym same) cause) rest fault (world now (view_of (handle_of final)) told) goes)
+    limits sound none (subst (λ (own : D). HasFlowCause None between (g.view own)) (sym same) cause) one
+    (λ bytes here shut. ap (λ (own : D). (g.view own).content) same ∙ as_told bytes here shut) rest fault (world now (view_of (handle_of final)) told) goes)
 
 -- a look at the disk
 pub ruleset disk_looks = (stays_call)

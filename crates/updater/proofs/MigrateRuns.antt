@@ -81,6 +81,6 @@ module _ (start done : Progress) (next : ℕ) (old : Before) (files : FilesView)
         → GoesOn (migrates state) start done (result_err result) old (world files (view_of now) new)
     migrate_done takes shows sound same cause text new result is all front alone wrote = if_outdated state head is_outdated (result_err result) (world files (view_of now) new)
         (λ held head.
-        let own = taken start done (outdated held) next old files before now output head Migrate takes (shows held) sound same cause in
+        let own = taken start done (outdated held) next old files before now output head Migrate tt takes (shows held) sound same cause in
         goes_back (commits Migrate (tells format_line ends)) (tells format_line ends) start done own.further (result_err result) old (world files (view_of now) new)
         (tells_last start own.further (after (outdated held) Migrate) next old files now output own.head format_line text new result is all front alone wrote) (own.leads (tells format_line ends)))

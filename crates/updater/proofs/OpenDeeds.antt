@@ -10,14 +10,18 @@ use Rattle.outside.specs.Disk.{Crashes, DiskView, Goes}
 use Rattle.outside.specs.Inputs.{FilesView}
 use Rattle.outside.specs.Sink.{SinkView}
 use Rattle.page_journal.specs.Home.{IsFormatted}
+use Rattle.page_journal.specs.Pages.{gate}
+use Rattle.page_journal.specs.declared.layout.TheConstants.{OPEN}
 use Rattle.page_journal.specs.declared.fault.StoreFault.TheVariants as stores
 use Rattle.style_read.specs.Style.{StyleOf}
-use Rattle.update_flow.specs.AtRest.{HasFlowCause, IsAt, IsAtEither, IsOfEither, Opens}
+use Rattle.update_flow.specs.AtRest.{HasFlowCause, IsAt, IsAtEither, IsDamaged, IsOfEither, Opens}
 use Rattle.update_flow.specs.Due.{no_tiles}
 use Rattle.update_flow.specs.History.{state_after}
 use Rattle.update_flow.specs.Refusals.{IsNoDiskFault, IsOpenFault}
 use Rattle.update_flow.specs.Stands.{StandsFor}
-use Rattle.update_flow.specs.State.{Holding, State, formatted, imported, outdated}
+use Rattle.update_flow.specs.Opening.{MayOpenAs, RootTells}
+use Rattle.update_flow.specs.State.{Holding, State, changes_in, formatted, imported, outdated, was_old}
+use Rattle.update_flow.proofs.Needs.{stood_opened}
 use Rattle.update_flow.specs.Handle.{Handle, IsOpen, Shows, changes_of, is_imported, is_old, is_whole, limits_of, style_of, view_of}
 use Rattle.update_flow.specs.declared.fault.FlowFault.{FlowFault}
 use Rattle.update_flow.specs.declared.fault.FlowFault.TheVariants as flow
@@ -54,6 +58,22 @@ shows_it updater None of_old is old_is none =
     record { changes_are = (none blank).0; imported_is = blank; old_is = (none blank).1; style_is = is }
 shows_it updater (Some style) false is old_is none = record { changes_are = refl; imported_is = ap (λ (style : Option StyleOf). is_some style) is; old_is = old_is; style_is = is }
 shows_it updater (Some style) true is old_is none = record { changes_are = refl; imported_is = ap (λ (style : Option StyleOf). is_some style) is; old_is = old_is; style_is = is }
+
+-- what was opened tells what the root page of the bytes does
+pub record IsFoundIn (updater : Handle) (bytes : List ℕ) : Type 0 where
+  pub formed : IsFormatted bytes
+  pub fields : RootTells (style_of updater) (is_old updater) (changes_of updater) bytes
+
+abbrev pub IsFound : Option (List ℕ) → Handle → Type 0
+IsFound content updater = IfTold content (IsFoundIn updater)
+
+may_open : (state : State) (updater : Handle) (bytes : List ℕ) → Shows state updater → IsFoundIn updater bytes → MayOpenAs state bytes
+may_open state updater bytes shows found = record {
+  formed = found.formed;
+  fields = subst (λ (style : Option StyleOf). RootTells style (was_old state) (changes_in state) bytes) shows.style_is
+      (subst (λ (of_old : Bool). RootTells (style_of updater) of_old (changes_in state) bytes) shows.old_is
+      (subst (λ (changes : ℕ). RootTells (style_of updater) (is_old updater) changes bytes) shows.changes_are found.fields));
+}
 
 -- the one that an open store tells of
 abbrev pub state_shown : Handle → State
@@ -116,7 +136,8 @@ module _ (files : FilesView) (view : DiskView) (output : SinkView) (only_now : (
     }
 
     module _ (updater : Handle) (next : ℕ) (limits : limits_of updater ≡ standard) (later : view.faults ≤ (view_of updater).faults)
-        (goes : Goes (IsOfEither one other) view.crashes (view_of updater).crashes) where
+        (goes : Goes (IsOfEither one other) view.crashes (view_of updater).crashes)
+        (as_told : (bytes : List ℕ) → view.content ≡ Some bytes → (gate bytes ≡ OPEN → ⊥) → (view_of updater).content ≡ view.content) where
       begun_at : (cut : ℕ) → kept.least ≤ cut → cut ≤ kept.most → IsOpen (state_after (first cut kept.history)) updater → IsBegun (begun (keeps kept) kept.least) next old files updater output
       begun_at cut low high rests =
           let within : cut ≤ length kept.history.steps = omega (arith, high, is.fit.last) in
@@ -127,6 +148,7 @@ module _ (files : FilesView) (view : DiskView) (output : SinkView) (only_now : (
               here = record { all = refl; cut_within = (let long = length-take-le cut kept.history.steps within in omega (arith, long)); stands = refl; rests = rests };
               vague = λ e. absurd (cc);
               limits = limits;
+              stood = λ _. stood_opened standard view.content (view_of updater) as_told;
               unread = λ file above read. read;
               so_far = begun_leaves (keeps (whole (first cut kept.history))) cut (keeps kept) kept.least None (view_of updater) (
                 (λ left out. subst (λ (bytes : List ℕ). IsOneOf (whole (first cut kept.history)) bytes) (sym (rests.at_rest.only left out)) (one_of_all rests.at_rest.bytes (first cut kept.history) rests.at_rest.stands)),
@@ -173,36 +195,38 @@ module _ (files : FilesView) (view : DiskView) (output : SinkView) (only_now : (
 
   -- whatever the disk holds
   pub begun_vague : (updater : Handle) (next : ℕ) → limits_of updater ≡ standard → is_whole updater ≡ true → TellsNone updater → view.faults ≤ (view_of updater).faults
-      → IsBegun (begun unknown 0) next old files updater output
-  begun_vague updater next limits sound none later = record {
+      → IsFound view.content updater → IsBegun (begun unknown 0) next old files updater output
+  begun_vague updater next limits sound none later found = record {
     state = state_shown updater;
     further = begun unknown 0;
     head = record {
       here = record { shows = shows_state updater none; whole = sound };
       vague = λ _. tt;
       limits = limits;
+      stood = λ certain. absurd certain;
       unread = λ file above read. read;
       so_far = begun_leaves unknown 0 unknown 0 None (view_of updater) tt tt tt later;
     };
-    leads = λ rest ending comes. inr (inr (inr (state_shown updater, comes)));
+    leads = λ rest ending comes. inr (inr (inr (state_shown updater, (λ bytes told. may_open (state_shown updater) updater bytes (shows_state updater none) (found bytes told)), comes)));
   }
 
-  pub refused_vague : (fault : FlowFault) (now : DiskView) (rest : State → Course) → IsOpenFault fault → (fault ≡ flow.Store stores.NotFormatted → IfTold view.content (λ bytes. ¬ IsFormatted bytes)) → HasFlowCause (Some fault) view now
+  pub refused_vague : (fault : FlowFault) (now : DiskView) (rest : State → Course) → IsOpenFault fault → (fault ≡ flow.Store stores.NotFormatted → IfTold view.content (λ bytes. ¬ IsFormatted bytes))
+      → ((page : ℕ) → fault ≡ flow.Store (stores.BadStore page) → IfTold view.content IsDamaged) → HasFlowCause (Some fault) view now
       → GoesBy (opens rest) (begun unknown 0) (Some (flow_fault fault)) (world files view output) (world files now output)
-  refused_vague (flow.Store stores.NotFormatted) now rest alone none cause =
+  refused_vague (flow.Store stores.NotFormatted) now rest alone none bad cause =
       (at (begun unknown 0) (Some faults.NotFormatted), refl, inr (inl (none refl, refl)), begun_leaves unknown 0 unknown 0 (Some faults.NotFormatted) now tt tt tt cause.later)
-  refused_vague (flow.Store (stores.BadStore page)) now rest alone none cause =
-      (at (begun unknown 0) (Some (faults.BadStore page)), refl, inr (inr (inl (flow.Store (stores.BadStore page), tt, refl))), begun_leaves unknown 0 unknown 0 (Some (faults.BadStore page)) now tt tt tt cause.later)
-  refused_vague (flow.Store stores.DiskFault) now rest alone none cause =
+  refused_vague (flow.Store (stores.BadStore page)) now rest alone none bad cause =
+      (at (begun unknown 0) (Some (faults.BadStore page)), refl, inr (inr (inl (bad page refl, (flow.Store (stores.BadStore page), tt, refl)))), begun_leaves unknown 0 unknown 0 (Some (faults.BadStore page)) now tt tt tt cause.later)
+  refused_vague (flow.Store stores.DiskFault) now rest alone none bad cause =
       (at (begun unknown 0) (Some faults.DiskFault), refl, inl (inl refl), begun_leaves unknown 0 unknown 0 (Some faults.DiskFault) now tt tt (cause.failed refl) cause.later)
-  refused_vague flow.OutOfMemory now rest alone none cause =
+  refused_vague flow.OutOfMemory now rest alone none bad cause =
       (at (begun unknown 0) (Some faults.OutOfMemory), refl, inl (inr refl), begun_leaves unknown 0 unknown 0 (Some faults.OutOfMemory) now tt tt tt cause.later)
-  refused_vague (flow.Store stores.NotEmpty) now rest alone none cause = absurd alone
-  refused_vague (flow.Store (stores.StoreFull pages)) now rest alone none cause = absurd alone
-  refused_vague (flow.Store stores.Broken) now rest alone none cause = absurd alone
-  refused_vague (flow.Store stores.OutOfMemory) now rest alone none cause = absurd alone
-  refused_vague flow.NotImported now rest alone none cause = absurd alone
-  refused_vague flow.AlreadyImported now rest alone none cause = absurd alone
-  refused_vague flow.OldFormat now rest alone none cause = absurd alone
-  refused_vague flow.LastChange now rest alone none cause = absurd alone
-  refused_vague (flow.TooMany value) now rest alone none cause = absurd alone
+  refused_vague (flow.Store stores.NotEmpty) now rest alone none bad cause = absurd alone
+  refused_vague (flow.Store (stores.StoreFull pages)) now rest alone none bad cause = absurd alone
+  refused_vague (flow.Store stores.Broken) now rest alone none bad cause = absurd alone
+  refused_vague (flow.Store stores.OutOfMemory) now rest alone none bad cause = absurd alone
+  refused_vague flow.NotImported now rest alone none bad cause = absurd alone
+  refused_vague flow.AlreadyImported now rest alone none bad cause = absurd alone
+  refused_vague flow.OldFormat now rest alone none bad cause = absurd alone
+  refused_vague flow.LastChange now rest alone none bad cause = absurd alone
+  refused_vague (flow.TooMany value) now rest alone none bad cause = absurd alone

@@ -3,14 +3,14 @@ use Rattle.std.proofs.Common.{◌≡◌, ◌≤◌, ◌+◌, ◌⊎◌, ℕ, tru
 use Rattle.osm_base.specs.bounds.Limits.{standard}
 use Rattle.osm_base.specs.declared.bounds.limits.LimitNumbers.{LimitNumbers}
 use Rattle.outside.specs.Causes.{Rose}
-use Rattle.outside.specs.Disk.{Crashes, Goes}
+use Rattle.outside.specs.Disk.{Crashes, Goes, Stays}
 use Rattle.outside.specs.Inputs.{FilesView}
 use Rattle.outside.specs.Sink.{SinkView}
 use Rattle.page_journal.specs.declared.fault.StoreFault.TheVariants as stores
 use Rattle.update_flow.specs.AtRest.{HasFlowCause, IsAt, IsOfEither, RestsAt}
 use Rattle.update_flow.specs.History.{History, state_after}
-use Rattle.update_flow.specs.Needed.{FitsLimit, NeedsFrom, NeedsOn}
-use Rattle.update_flow.proofs.Needs.{fits_as, needs_from}
+use Rattle.update_flow.specs.Needed.{FitsLimit, Grows, HasStood, NeedsFrom, NeedsOn, Writes}
+use Rattle.update_flow.proofs.Needs.{fits_as, needs_from, stood_grown, stood_stays}
 use Rattle.update_flow.specs.Refusals.{IsCallFault, IsNoDiskFault, MayAnswer, MayLook, OrFull, Refuses, RefusesLook}
 use Rattle.update_flow.specs.Stands.{StandsFor}
 use Rattle.update_flow.specs.State.{Holding, State, imported, Step, after, was_old}
@@ -38,11 +38,11 @@ record IsPlain (fault : FlowFault) : Type 1 where
   looks_so : (state : State) → MayLook state (Some fault) → RefusesLook state (Some fault)
 
 -- what is needed of an open store
-needed_here : (limits : LimitNumbers) (store : Handle) → limits ≡ standard → (fault : Option FlowFault) (state : State) (step : Step) → IsOpen state store
-    → FitsLimit limits (NeedsOn (view_of store) (after state step)) fault → FitsLimit standard (NeedsFrom state (after state step)) fault
-needed_here limits store same fault state step opened fits =
-    fits_as standard (NeedsOn (view_of store) (after state step)) (NeedsFrom state (after state step)) fault
-    (λ many. needs_from state (after state step) (view_of store) many opened.at_rest)
+needed_here : (limits : LimitNumbers) (store : Handle) → limits ≡ standard → (first : Option (List ℕ)) → HasStood standard first (view_of store) → (fault : Option FlowFault) (state : State) (step : Step) → IsOpen state store
+    → FitsLimit limits (NeedsOn (view_of store) (after state step)) fault → FitsLimit standard (NeedsFrom standard first state (after state step)) fault
+needed_here limits store same first stood fault state step opened fits =
+    fits_as standard (NeedsOn (view_of store) (after state step)) (NeedsFrom standard first state (after state step)) fault
+    (λ many. needs_from standard first state (after state step) (view_of store) many opened.at_rest stood)
     (subst (λ (own : LimitNumbers). FitsLimit own (NeedsOn (view_of store) (after state step)) fault) same fits)
 
 data Kinds (fault : FlowFault) : Type 1 where
@@ -122,6 +122,7 @@ module _ (start done : Progress) (state : State) (next : ℕ) (old : Before) (fi
       here = subst (λ (store : Standing). IsHere store done.cut other now) (sym is) shown;
       vague = head.vague;
       limits = same ∙ head.limits;
+      stood = λ certain. absurd (subst (λ (store : Standing). IsCertain store) is certain);
       unread = head.unread;
       so_far = vague_leaves None tt;
     }
@@ -152,11 +153,12 @@ module _ (start done : Progress) (state : State) (next : ℕ) (old : Before) (fi
         → Leaves start (at done fault) old (world files (view_of now) output)
     rested_leaves fault rests goes cause = store_leaves done.store done.cut fault (rested_stands fault rests) (rested_moments goes) cause later
 
-    rested_head : IsOpen state now → RestsAt state (view_of before) (view_of now) → limits_of now ≡ limits_of before → IsHead start done state next old files now output
-    rested_head rests goes same = record {
+    rested_head : IsOpen state now → RestsAt state (view_of before) (view_of now) → Stays (view_of before) (view_of now) → limits_of now ≡ limits_of before → IsHead start done state next old files now output
+    rested_head rests goes only same = record {
       here = subst (λ (store : Standing). IsHere store done.cut state now) (sym is) (record { all = here.all; cut_within = here.cut_within; stands = here.stands; rests = rests });
       vague = head.vague;
       limits = same ∙ head.limits;
+      stood = λ certain. stood_stays standard old.content (view_of before) (view_of now) only (head.stood certain);
       unread = head.unread;
       so_far = rested_leaves None rests.at_rest goes tt;
     }
@@ -184,8 +186,8 @@ module _ (start done : Progress) (state : State) (next : ℕ) (old : Before) (fi
           (λ (stands : StandsFor left (after state step)). (length kept.history.steps + 1, omega (arith, here.cut_within), subst (λ (history : History). Is left history (length kept.history.steps + 1)) (sym same) (next_here left stands))) either)
 
       -- and is done
-      stepped_head : IsOpen (after state step) now → limits_of now ≡ limits_of before → IsHead start (committed step kept done) (after state step) next old files now output
-      stepped_head rests same = record {
+      stepped_head : IsOpen (after state step) now → Grows standard (after state step) (view_of before) (view_of now) → limits_of now ≡ limits_of before → IsHead start (committed step kept done) (after state step) next old files now output
+      stepped_head rests grown same = record {
         here = record {
           all = refl;
           cut_within = omega (arith, here.cut_within, length_more kept.history.steps step);
@@ -194,6 +196,7 @@ module _ (start done : Progress) (state : State) (next : ℕ) (old : Before) (fi
         };
         vague = λ e. absurd (cc);
         limits = same ∙ head.limits;
+        stood = λ _. stood_grown standard old.content state (after state step) (view_of before) (view_of now) here.rests.at_rest rests.at_rest grown;
         unread = head.unread;
         so_far = store_leaves (keeps (with_step step kept)) done.cut None (
           (λ left out. subst (λ (bytes : List ℕ). IsOneOf (with_step step kept) bytes) (sym (rests.at_rest.only left out))
@@ -239,8 +242,12 @@ module _ (start done : Progress) (state : State) (next : ℕ) (old : Before) (fi
   pub not_outdated : was_old state ≡ false → (fault : FlowFault) → (fault ≡ flow.OldFormat → is_old before ≡ true) → fault ≡ flow.OldFormat → ⊥
   not_outdated new fault refused is = absurd (let two : true ≡ false = sym (refused is) ∙ (shows_here done.store done.cut state before head.here).old_is ∙ new in cc)
 
+  -- what is known of the store
+  certain_here : (kept : Kept) → done.store ≡ keeps kept → IsCertain done.store
+  certain_here kept is = subst (λ (store : Standing). IsCertain store) (sym is) tt
+
   -- a step is taken
-  module _ (step : Step) (takes : (own : State) → IsOpen own before → Takes own step None before now) (shows : Shows state before → Shows (after state step) now)
+  module _ (step : Step) (writes : Writes state step) (takes : (own : State) → IsOpen own before → Takes own step None before now) (shows : Shows state before → Shows (after state step) now)
       (sound : is_whole now ≡ is_whole before) (same : limits_of now ≡ limits_of before) (cause : HasFlowCause None (view_of before) (view_of now)) where
     taken_by : (store : Standing) → done.store ≡ store → IsHere store done.cut state before → IsStepped start done state next old files now output step
     taken_by unused is here = absurd here
@@ -249,23 +256,25 @@ module _ (start done : Progress) (state : State) (next : ℕ) (old : Before) (fi
       further = done;
       head = vague_head start done state next old files before now output head is cause.later (after state step) (record { shows = shows here.shows; whole = sound ∙ here.whole }) same;
       leads = λ rest ending comes. inr (subst (λ (store : Standing). ByStore store
-          (λ kept. (ending ≡ at (in_doubt step kept done) (Some faults.DiskFault)) ⊎ IsRefusedFor (IsRefusal (state_after kept.history) step) done ending
-          ⊎ (MayTake (state_after kept.history) step × Comes old rest (committed step kept done) ending))
+          (λ kept. (ending ≡ at (in_doubt step kept done) (Some faults.DiskFault)) ⊎ IsRefusedFor (IsRefusal old (state_after kept.history) step) done ending
+          ⊎ (MayTake old (state_after kept.history) step × Comes old rest (committed step kept done) ending))
           (IsRefusedFor IsStepFault done ending ⊎ Comes old rest done ending)) (sym is) (inr comes));
       certain = λ certain. certain;
     }
     taken_by (keeps kept) is here =
         let own = takes state here.rests in
         let answer : Refuses standard state step None = subst (λ (limits : LimitNumbers). Refuses limits state step None) head.limits own.answer in
-        let need : IsOfNeed state step None = λ writes. needed_here (limits_of before) before head.limits None state step here.rests (own.needs writes) in
+        let need : IsOfNeed old state step None = λ writes. needed_here (limits_of before) before head.limits old.content (head.stood (certain_here kept is)) None state step here.rests (own.needs writes) in
+        let grown : Grows standard (after state step) (view_of before) (view_of now) =
+        subst (λ (limits : LimitNumbers). Grows limits (after state step) (view_of before) (view_of now)) head.limits (own.grown writes refl) in
         record {
           further = committed step kept done;
-          head = stepped_head start done state next old files before now output head kept is here cause.later step own.moments (own.done refl) same;
+          head = stepped_head start done state next old files before now output head kept is here cause.later step own.moments (own.done refl) grown same;
           leads = λ rest ending comes. inr (subst (λ (store : Standing). ByStore store
-              (λ kept. (ending ≡ at (in_doubt step kept done) (Some faults.DiskFault)) ⊎ IsRefusedFor (IsRefusal (state_after kept.history) step) done ending
-              ⊎ (MayTake (state_after kept.history) step × Comes old rest (committed step kept done) ending))
+              (λ kept. (ending ≡ at (in_doubt step kept done) (Some faults.DiskFault)) ⊎ IsRefusedFor (IsRefusal old (state_after kept.history) step) done ending
+              ⊎ (MayTake old (state_after kept.history) step × Comes old rest (committed step kept done) ending))
               (IsRefusedFor IsStepFault done ending ⊎ Comes old rest done ending)) (sym is)
-              (inr (inr (subst (λ (own : State). MayTake own step) (sym here.stands) (answer, need), comes))));
+              (inr (inr (subst (λ (own : State). MayTake old own step) (sym here.stands) (answer, need), comes))));
           certain = λ _. subst (λ (store : Standing). IsCertain store) (sym is) tt;
         }
 
@@ -279,8 +288,8 @@ module _ (start done : Progress) (state : State) (next : ℕ) (old : Before) (fi
     Goal = GoesOn (commits step rest) start done (Some (flow_fault fault)) old (world files (view_of now) output)
 
     abbrev Known : Ending → Kept → Type 0
-    Known ending kept = (ending ≡ at (in_doubt step kept done) (Some faults.DiskFault)) ⊎ IsRefusedFor (IsRefusal (state_after kept.history) step) done ending
-        ⊎ (MayTake (state_after kept.history) step × Comes old rest (committed step kept done) ending)
+    Known ending kept = (ending ≡ at (in_doubt step kept done) (Some faults.DiskFault)) ⊎ IsRefusedFor (IsRefusal old (state_after kept.history) step) done ending
+        ⊎ (MayTake old (state_after kept.history) step × Comes old rest (committed step kept done) ending)
 
     abbrev Vague : Ending → Type 0
     Vague ending = IsRefusedFor IsStepFault done ending ⊎ Comes old rest done ending
@@ -322,7 +331,8 @@ module _ (start done : Progress) (state : State) (next : ℕ) (old : Before) (fi
     refused_known kept is here (plain own) =
         let rested = (takes state here.rests).refused (λ e. absurd (cc)) own.no_disk in
         let why = own.answers standard state step (subst (λ (limits : LimitNumbers). MayAnswer limits state step (Some fault)) head.limits (takes state here.rests).answer) in
-        let need : IsOfNeed state step (Some fault) = λ writes. needed_here (limits_of before) before head.limits (Some fault) state step here.rests ((takes state here.rests).needs writes) in (
+        let need : IsOfNeed old state step (Some fault) = λ writes.
+        needed_here (limits_of before) before head.limits old.content (head.stood (certain_here kept is)) (Some fault) state step here.rests ((takes state here.rests).needs writes) in (
           at done (Some (flow_fault fault)),
           refl,
           inr (subst (λ (store : Standing). ByStore store (Known (at done (Some (flow_fault fault)))) (Vague (at done (Some (flow_fault fault))))) (sym is)
@@ -331,7 +341,7 @@ module _ (start done : Progress) (state : State) (next : ℕ) (old : Before) (fi
                 (
                   own.step,
                   subst (λ (state : State). OrFull standard (Some fault) (Refuses standard state step (Some fault))) (sym here.stands) why,
-                  subst (λ (state : State). IsOfNeed state step (Some fault)) (sym here.stands) need,
+                  subst (λ (state : State). IsOfNeed old state step (Some fault)) (sym here.stands) need,
                 ),
                 refl,
               )))),
@@ -358,7 +368,7 @@ module _ (start done : Progress) (held : Holding) (next : ℕ) (old : Before) (f
     looked_by unknown is here = vague_head start done (imported held) next old files before now output head is cause.later (imported held) (record { shows = shows here.shows; whole = sound ∙ here.whole }) same
     looked_by (keeps kept) is here =
         let own = looked (imported held) here.rests in
-        rested_head start done (imported held) next old files before now output head kept is here cause.later (own.stays tt) own.moments same
+        rested_head start done (imported held) next old files before now output head kept is here cause.later (own.stays tt) own.moments own.only same
 
     pub looked_at : IsHead start done (imported held) next old files now output
     looked_at = looked_by done.store refl head.here

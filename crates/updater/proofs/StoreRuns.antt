@@ -197,7 +197,7 @@ module _ (start done : Progress) (held : Holding) (next : ℕ) (old : Before) (f
   pub clear_done : ((own : State) → IsOpen own before → Takes own Clear None before now) → TellsAs before now → is_whole now ≡ is_whole before → limits_of now ≡ limits_of before → HasFlowCause None (view_of before) (view_of now)
       → GoesOn (clears true) start done None old (world files (view_of now) output)
   clear_done takes tells sound same cause =
-      let own = taken start done (imported held) next old files before now output head Clear takes
+      let own = taken start done (imported held) next old files before now output head Clear tt takes
       (λ shows. record { changes_are = tells.changes_same ∙ shows.changes_are; imported_is = tells.imported_same ∙ shows.imported_is; old_is = tells.old_same ∙ shows.old_is; style_is = tells.style_same ∙ shows.style_is }) sound same cause in
       goes_back (clears true) ends start done own.further None old (world files (view_of now) output)
       (ends_here start own.further (after (imported held) Clear) next old files now output own.head) (own.leads ends)

@@ -12,6 +12,7 @@ use Rattle.update_flow.specs.AtRest.{HasFlowCause}
 use Rattle.update_flow.specs.Refusals.{IsCallFault}
 use Rattle.update_flow.specs.State.{Holding, State, imported, Step, after, was_old}
 use Rattle.update_flow.specs.Handle.{Handle, IsOpen, Shows, Takes, is_old, is_whole, limits_of, view_of}
+use Rattle.update_flow.specs.Needed.{Writes}
 use Rattle.update_flow.specs.declared.fault.FlowFault.{FlowFault}
 use Rattle.update_flow.specs.declared.fault.FlowFault.TheVariants as flow
 use Rattle.updater.specs.declared.fault.Fault.{Fault}
@@ -35,7 +36,8 @@ goes_back course rest start done further fault old new goes leads = (goes.0, goe
 
 -- a version is committed of what a file holds, and told; `next` is what the store holds then
 module _ (start done : Progress) (state : State) (file : ℕ) (old : Before) (files read : FilesView) (before : Handle) (output : SinkView)
-    (head : IsHead start done state file old files before output) (step : List Entry → Step) (line : List ℕ) (next : List Entry → Holding) (law : (entries : List Entry) → after state (step entries) ≡ imported (next entries)) where
+    (head : IsHead start done state file old files before output) (step : List Entry → Step) (line : List ℕ) (next : List Entry → Holding) (law : (entries : List Entry) → after state (step entries) ≡ imported (next entries))
+    (writes : (entries : List Entry) → Writes state (step entries)) where
   abbrev course : Onward → Course
   course last = reads file (IsChange file) (λ entries. commits (step entries) (tells line (onward last (next entries))))
 
@@ -60,7 +62,7 @@ module _ (start done : Progress) (state : State) (file : ℕ) (old : Before) (fi
     module _ (takes : (own : State) → IsOpen own before → Takes own (step entries) None before now) (shows : Shows state before → Shows (after state (step entries)) now)
         (sound : is_whole now ≡ is_whole before) (same : limits_of now ≡ limits_of before) (cause : HasFlowCause None (view_of before) (view_of now)) where
       stepped : IsStepped start (past file done) state (file + 1) old read now output (step entries)
-      stepped = taken start (past file done) state (file + 1) old read before now output head_read (step entries) takes shows sound same cause
+      stepped = taken start (past file done) state (file + 1) old read before now output head_read (step entries) (writes entries) takes shows sound same cause
 
       abbrev head_stepped : IsHead start stepped.further (after state (step entries)) (file + 1) old read now output
       head_stepped = stepped.head

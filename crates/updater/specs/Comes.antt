@@ -7,8 +7,10 @@ use Rattle.updater.specs.declared.fault.Fault.{Fault}
 use Rattle.updater.specs.declared.fault.Fault.TheVariants.{Malformed, BadStyle, BadBounds, BadQuery, Limit, ReadFault, NotFormatted, NotEmpty, WriteFault, DiskFault, OutOfMemory}
 use Rattle.osm_base.specs.bounds.Limits.{standard}
 use Rattle.page_journal.specs.declared.fault.StoreFault.TheVariants as stores
+use Rattle.update_flow.specs.AtRest.{IsDamaged}
 use Rattle.update_flow.specs.History.{state_after}
 use Rattle.update_flow.specs.Needed.{FitsLimit, NeedsFrom, Writes}
+use Rattle.update_flow.specs.Opening.{MayOpenAs}
 use Rattle.update_flow.specs.Refusals.{OrFull, Refuses}
 use Rattle.update_flow.specs.State.{State, Step, after}
 use Rattle.update_flow.specs.declared.fault.FlowFault.{FlowFault}
@@ -86,21 +88,25 @@ IsStepFault flow.OldFormat = ⊥
 IsStepFault _ = Unit {0}
 
 -- a step that writes is done where the pages that a store of this state needs after it are within the limit; a refusal for its
--- pages tells just those
-abbrev pub IsOfNeed : State → Step → Option FlowFault → Type 0
-IsOfNeed state step fault = Writes state step → FitsLimit standard (NeedsFrom state (after state step)) fault
+-- pages tells just those. The pages that it had are those of the bytes as the run began, or no more than the limit.
+abbrev pub IsOfNeed : Before → State → Step → Option FlowFault → Type 0
+IsOfNeed old state step fault = Writes state step → FitsLimit standard (NeedsFrom standard old.content state (after state step)) fault
 
 -- and for which one of this state refuses it
-abbrev pub IsRefusal : State → Step → FlowFault → Type 0
-IsRefusal state step fault = IsStepFault fault × OrFull standard (Some fault) (Refuses standard state step (Some fault)) × IsOfNeed state step (Some fault)
+abbrev pub IsRefusal : Before → State → Step → FlowFault → Type 0
+IsRefusal old state step fault = IsStepFault fault × OrFull standard (Some fault) (Refuses standard state step (Some fault)) × IsOfNeed old state step (Some fault)
 
 -- or it is taken
-abbrev pub MayTake : State → Step → Type 0
-MayTake state step = Refuses standard state step None × IsOfNeed state step None
+abbrev pub MayTake : Before → State → Step → Type 0
+MayTake old state step = Refuses standard state step None × IsOfNeed old state step None
 
 -- the run ends in a step that is refused for such a fault
 abbrev pub IsRefusedFor : (FlowFault → Type 0) → Progress → Ending → Type 0
 IsRefusedFor IsWhy done ending = (fault : FlowFault) × IsWhy fault × (ending ≡ at done (Some (flow_fault fault)))
+
+-- a disk of which nothing is known holds a damaged store
+abbrev pub IsBroken : Before → Progress → Ending → Type 0
+IsBroken old done ending = IfTold old.content IsDamaged × IsRefusedFor IsBadStore done ending
 
 abbrev pub Comes : Before → Course → Progress → Ending → Type 0
 Comes old ends done ending = ending ≡ at done None
@@ -114,11 +120,11 @@ Comes old (formats rest) done ending = IfUnused done.store (HoldsBytes old done 
     ⊎ (ending ≡ at (with_store half_made done) (Some DiskFault)) ⊎ Comes old rest (with_store (made old.content) done) ending)
 Comes old (opens rest) done ending = Breaks done ending ⊎ ByStore done.store
     (λ kept. (cut : ℕ) × (kept.least ≤ cut) × (cut ≤ kept.most) × Comes old (rest (state_after (first cut kept.history))) (opened kept cut done) ending)
-    (IsNoStore old done ending ⊎ IsRefusedFor IsBadStore done ending ⊎ ((state : State) × Comes old (rest state) done ending))
+    (IsNoStore old done ending ⊎ IsBroken old done ending ⊎ ((state : State) × IfTold old.content (MayOpenAs state) × Comes old (rest state) done ending))
 Comes old (looks rest) done ending = Breaks done ending ⊎ IfUnknown done.store (IsRefusedFor IsStepFault done ending) ⊎ Comes old rest done ending
 Comes old (commits step rest) done ending = Breaks done ending ⊎ ByStore done.store
-    (λ kept. (ending ≡ at (in_doubt step kept done) (Some DiskFault)) ⊎ IsRefusedFor (IsRefusal (state_after kept.history) step) done ending
-    ⊎ (MayTake (state_after kept.history) step × Comes old rest (committed step kept done) ending))
+    (λ kept. (ending ≡ at (in_doubt step kept done) (Some DiskFault)) ⊎ IsRefusedFor (IsRefusal old (state_after kept.history) step) done ending
+    ⊎ (MayTake old (state_after kept.history) step × Comes old rest (committed step kept done) ending))
     (IsRefusedFor IsStepFault done ending ⊎ Comes old rest done ending)
 Comes old (tells text rest) done ending = (ending ≡ at_text text done WriteFault) ⊎ Comes old rest (plus text done) ending
 -- what files that are not told hold is not known, nor what an unknown store holds, and neither is their text
@@ -147,10 +153,10 @@ IsDue old (formats rest) done ending = IfUnused done.store (HoldsBytes old done 
     ⊎ IsDue old rest (with_store (made old.content) done) ending)
 IsDue old (opens rest) done ending = ByStore done.store
     (λ kept. (cut : ℕ) × (kept.least ≤ cut) × (cut ≤ kept.most) × IsDue old (rest (state_after (first cut kept.history))) (opened kept cut done) ending)
-    (IsNoStore old done ending ⊎ IsRefusedFor IsBadStore done ending ⊎ ((state : State) × IsDue old (rest state) done ending))
+    (IsNoStore old done ending ⊎ IsBroken old done ending ⊎ ((state : State) × IfTold old.content (MayOpenAs state) × IsDue old (rest state) done ending))
 IsDue old (looks rest) done ending = IfUnknown done.store (IsRefusedFor IsStepFault done ending) ⊎ IsDue old rest done ending
 IsDue old (commits step rest) done ending = ByStore done.store
-    (λ kept. IsRefusedFor (IsRefusal (state_after kept.history) step) done ending ⊎ (MayTake (state_after kept.history) step × IsDue old rest (committed step kept done) ending))
+    (λ kept. IsRefusedFor (IsRefusal old (state_after kept.history) step) done ending ⊎ (MayTake old (state_after kept.history) step × IsDue old rest (committed step kept done) ending))
     (IsRefusedFor IsStepFault done ending ⊎ IsDue old rest done ending)
 IsDue old (tells text rest) done ending = IsDue old rest (plus text done) ending
 IsDue old (writes Fits rest) done ending =

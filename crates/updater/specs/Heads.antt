@@ -7,8 +7,9 @@ use Rattle.osm_base.specs.bounds.Limits.{standard}
 use Rattle.update_flow.specs.History.{state_after}
 use Rattle.update_flow.specs.State.{Holding, State, imported}
 use Rattle.update_flow.specs.Handle.{Handle, IsOpen, Shows, is_whole, limits_of, view_of}
+use Rattle.update_flow.specs.Needed.{HasStood}
 use Rattle.updater.specs.declared.fault.Fault.{Fault}
-use Rattle.updater.specs.Comes.{Comes}
+use Rattle.updater.specs.Comes.{Comes, IsCertain}
 use Rattle.updater.specs.Course.{Course}
 use Rattle.tile_cover.specs.Table.{BoundsOf}
 use Rattle.updater.specs.Courses.{Onward, appends, onward}
@@ -53,6 +54,7 @@ pub record IsHead (start done : Progress) (state : State) (next : ℕ) (old : Be
   pub here : IsHere done.store done.cut state updater
   pub vague : done.store ≡ unknown → KeptNone start.store
   pub limits : limits_of updater ≡ standard
+  pub stood : IsCertain done.store → HasStood standard old.content (view_of updater)
   pub unread : (file : ℕ) → next ≤ file → ¬ IsIn done.read file
   pub so_far : Leaves start (at done None) old (world files (view_of updater) output)
 

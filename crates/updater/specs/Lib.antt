@@ -6,6 +6,7 @@ pub mod Command
 pub mod CommandOf
 pub mod Course
 pub mod Courses
+pub mod EndsWell
 pub mod Faults
 pub mod Files
 pub mod Forms

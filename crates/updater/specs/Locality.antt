@@ -23,6 +23,7 @@ use Rattle.chain_store.specs.declared.walking.Walked.{Walked}
 use Rattle.store_maps.specs.Asked.{May}
 use Rattle.update_step.specs.Touch.{MayTouch}
 use Rattle.update_flow.specs.Handle.{Handle, IsOpen, view_of}
+use Rattle.update_flow.specs.Needed.{Needs}
 use Rattle.update_flow.specs.OpeningReads.{text_first}
 use Rattle.update_flow.specs.Reads.{HasChain, MayLoad}
 use Rattle.update_flow.specs.Stands.{StandsFor}
@@ -55,6 +56,11 @@ pub record IsStore (pages : List (List ℕ)) (held : Holding) : Type 0 where
   pub home : Home pages bytes
   pub stands : StandsFor bytes (imported held)
 
+-- and that had those home pages before: it has as many as it needs, none is given back, and what no chain has is its free list
+pub record IsNextStore (before pages : List (List ℕ)) (held : Holding) : Type 0 where
+  pub store : IsStore pages held
+  pub needed : Needs (length before + 1) (imported held) (length pages + 1)
+
 -- in a store with these home pages, which holds this, a change costs so many: those of the due tiles, of buckets of keys that may be
 -- asked, and of the free list, each once
 pub record IsCost (may : May) (held : Holding) (pages : List (List ℕ)) (count : ℕ) : Type 0 where
@@ -74,11 +80,11 @@ MayEachTouch bounds held (change ∷ changes) mays =
     MayTouch held.style held.objects change (mays 0) × MayEachTouch bounds (changed bounds change held) changes (λ place. mays (place + 1))
 
 -- they cost so many pages together: the first in the store with these home pages, and each later one in a store that holds what the
--- one before it left
+-- one before it left, in as many pages as that needs
 abbrev pub Cost : BoundsOf → List (List ℕ) → Holding → List (List Entry) → (ℕ → May) → ℕ → Type 0
 Cost bounds pages held [] mays total = total ≡ 0
 Cost bounds pages held (change ∷ changes) mays total = (one : ℕ) × (later : ℕ) × (next : List (List ℕ)) × IsCost (mays 0) held pages one
-    × IsStore next (changed bounds change held) × Cost bounds next (changed bounds change held) changes (λ place. mays (place + 1)) later
+    × IsNextStore pages next (changed bounds change held) × Cost bounds next (changed bounds change held) changes (λ place. mays (place + 1)) later
     × (total ≡ one + later)
 
 -- from one moment to another the disk was read no more often than a change costs, or changes
@@ -101,6 +107,7 @@ pub record AppendsHere (bounds : BoundsOf) (held : Holding) (pages : List (List 
   pub accepted : IfTold (files.left file) (λ bytes. IsChange file bytes (Ok change))
   pub others : (other : ℕ) → other ≢ file → read.left other ≡ files.left other
   pub opened : IsOpen (imported (changed bounds change held)) after
+  pub needed : (next : List (List ℕ)) → IsAtRest next (view_of after) → Needs (length pages + 1) (imported (changed bounds change held)) (length next + 1)
   pub reads : ReadsOne held change pages (view_of before).reads (view_of after).reads
 
 -- and so many from this one on

@@ -1,9 +1,10 @@
 //! What holds of the runs of every command, by their courses.
-ghost use Rattle.std.specs.Prelude.{◌≡◌, List, None, ℕ};
+ghost use Rattle.std.specs.Prelude.{◌≡◌, List, None, true, ℕ};
 ghost use Rattle.updater.specs.Causes.{WantsNewFormat};
 ghost use Rattle.updater.specs.Comes.{Comes, IsDue, IsOutside};
-ghost use Rattle.updater.specs.Command.{CommandOf, migrate_of, use_of};
+ghost use Rattle.updater.specs.Command.{CommandOf, append_of, import_of, migrate_of, tiles_of, use_of};
 ghost use Rattle.updater.specs.Courses.{course_of};
+ghost use Rattle.updater.specs.EndsWell.{IsAppended, IsCleared, IsFirstImport};
 ghost use Rattle.updater.specs.InTurn.{FaultNames, IsInTurn};
 ghost use Rattle.updater.specs.Keeps.{Kept};
 ghost use Rattle.updater.specs.Migrating.{IsMigrated, LeavesOld};
@@ -11,6 +12,7 @@ ghost use Rattle.updater.specs.Progress.{Ending, Progress, begun, keeps};
 ghost use Rattle.updater.specs.Reading.{HasItsFiles};
 ghost use Rattle.updater.specs.Runs.{MayBegin};
 ghost use Rattle.updater.specs.World.{Before};
+ghost use Rattle.updater.specs.declared.files.Files.{Files};
 
 /// A run whose fault blames nothing outside, nor the want of memory, came to the end that is due.
 pub fn ends_are_due()
@@ -35,4 +37,25 @@ pub fn old_stores_are_left()
 pub fn migrations_end_well()
     ensures migrated { (old : Before) (store : List ℕ) (kept : Kept) (ending : Ending)
         → Comes old (course_of (migrate_of store)) (begun (keeps kept) kept.least) ending → ending.fault ≡ None → IsMigrated kept ending }
+{}
+
+/// An append that ends well has appended each of its change files, one after another, and told each.
+pub fn appends_end_well()
+    ensures appended { (old : Before) (store : List ℕ) (files : Files) (workers : ℕ) (kept : Kept) (ending : Ending)
+        → Comes old (course_of (append_of store files workers)) (begun (keeps kept) kept.least) ending → ending.fault ≡ None
+        → IsAppended old files kept ending }
+{}
+
+/// An import that ends well was the first one, and has told so.
+pub fn imports_end_well()
+    ensures imported { (old : Before) (store : List ℕ) (files : Files) (buckets workers : ℕ) (kept : Kept) (ending : Ending)
+        → Comes old (course_of (import_of store files buckets workers)) (begun (keeps kept) kept.least) ending → ending.fault ≡ None
+        → IsFirstImport old files buckets kept ending }
+{}
+
+/// A clearing that ends well has written the tiles that were due, and none is due any more.
+pub fn clearings_end_well()
+    ensures cleared { (old : Before) (store : List ℕ) (least : ℕ) (kept : Kept) (ending : Ending)
+        → Comes old (course_of (tiles_of store least true)) (begun (keeps kept) kept.least) ending → ending.fault ≡ None
+        → IsCleared least kept ending }
 {}

@@ -14,20 +14,20 @@ use Rattle.updater.proofs.versions.commit_file.Goals as goal
 pub returns-in-Err-clause-leads : goal.returns-in-Err-clause-leads
 returns-in-Err-clause-leads g c = λ old start done held head.
     file_unread start done (imported held) c.args.file old (g.I.Inputs.view c.args.inputs.now) (g.I.Inputs.view c.read_change.new.inputs) (handle_of c.args.store.now) (g.S.Sink.view c.args.out.now) head
-    (λ entries. Append c.args.bounds.now entries) (version_line (held.changes + 1)) (λ entries. changed c.args.bounds.now entries held) (λ entries. refl)
+    (λ entries. Append c.args.bounds.now entries) (version_line (held.changes + 1)) (λ entries. changed c.args.bounds.now entries held) (λ entries. refl) (λ entries. tt)
     c.in-Err.fault c.in-Err.ensures.err
 
 pub returns-in-Err-append_one-clause-leads : goal.returns-in-Err-append_one-clause-leads
 returns-in-Err-append_one-clause-leads g c = rw c.in_flow.ensures.fault (λ old start done held head.
     step_refused start done (imported held) c.args.file old (g.I.Inputs.view c.args.inputs.now) (g.I.Inputs.view c.read_change.new.inputs) (handle_of c.args.store.now) (g.S.Sink.view c.args.out.now) head
-    (λ entries. Append c.args.bounds.now entries) (version_line (held.changes + 1)) (λ entries. changed c.args.bounds.now entries held) (λ entries. refl)
+    (λ entries. Append c.args.bounds.now entries) (version_line (held.changes + 1)) (λ entries. changed c.args.bounds.now entries held) (λ entries. refl) (λ entries. tt)
     c.in-Ok.change c.in-Ok.ensures.ok (handle_of c.append_one.new.self) c.in-Err-append_one.fault c.in-Err-append_one.ensures.takes c.in-Err-append_one.ensures.alone (λ is. c.in-Err-append_one.ensures.broken (ap Err is)) refl (λ is. c.in-Err-append_one.ensures.not_old (ap Err is)) c.in-Err-append_one.ensures.cause)
 
 pub returns-in-Ok-tell_version-clause-leads : goal.returns-in-Ok-tell_version-clause-leads
 returns-in-Ok-tell_version-clause-leads g c = λ old start done held head.
     let shown = shows_here done.store done.cut (imported held) (handle_of c.args.store.now) head.here in
     version_done start done (imported held) c.args.file old (g.I.Inputs.view c.args.inputs.now) (g.I.Inputs.view c.read_change.new.inputs) (handle_of c.args.store.now) (g.S.Sink.view c.args.out.now) head
-    (λ entries. Append c.args.bounds.now entries) (version_line (held.changes + 1)) (λ entries. changed c.args.bounds.now entries held) (λ entries. refl)
+    (λ entries. Append c.args.bounds.now entries) (version_line (held.changes + 1)) (λ entries. changed c.args.bounds.now entries held) (λ entries. refl) (λ entries. tt)
     c.in-Ok.change c.in-Ok.ensures.ok (handle_of c.append_one.new.self) c.in-Ok-append_one.ensures.takes
     (λ shows. record { changes_are = c.in-Ok-append_one.ensures.changes ∙ ap (λ n. n + 1) shows.changes_are; imported_is = c.in-Ok-append_one.ensures.style.0; old_is = c.in-Ok-append_one.ensures.style.1; style_is = c.in-Ok-append_one.ensures.style.2 ∙ shows.style_is })
     c.in-Ok-append_one.ensures.whole c.append_one.ensures.stays.same_limits c.in-Ok-append_one.ensures.cause
@@ -41,7 +41,7 @@ pub returns-in-Err-tell_version-clause-leads : goal.returns-in-Err-tell_version-
 returns-in-Err-tell_version-clause-leads g c = λ old start done held head.
     let shown = shows_here done.store done.cut (imported held) (handle_of c.args.store.now) head.here in
     version_told start done (imported held) c.args.file old (g.I.Inputs.view c.args.inputs.now) (g.I.Inputs.view c.read_change.new.inputs) (handle_of c.args.store.now) (g.S.Sink.view c.args.out.now) head
-    (λ entries. Append c.args.bounds.now entries) (version_line (held.changes + 1)) (λ entries. changed c.args.bounds.now entries held) (λ entries. refl)
+    (λ entries. Append c.args.bounds.now entries) (version_line (held.changes + 1)) (λ entries. changed c.args.bounds.now entries held) (λ entries. refl) (λ entries. tt)
     c.in-Ok.change c.in-Ok.ensures.ok (handle_of c.append_one.new.self) c.in-Ok-append_one.ensures.takes
     (λ shows. record { changes_are = c.in-Ok-append_one.ensures.changes ∙ ap (λ n. n + 1) shows.changes_are; imported_is = c.in-Ok-append_one.ensures.style.0; old_is = c.in-Ok-append_one.ensures.style.1; style_is = c.in-Ok-append_one.ensures.style.2 ∙ shows.style_is })
     c.in-Ok-append_one.ensures.whole c.append_one.ensures.stays.same_limits c.in-Ok-append_one.ensures.cause
@@ -55,5 +55,6 @@ returns-in-Ok-tell_version-clause-local g c = λ held pages is rests. record {
   accepted = c.in-Ok.ensures.ok.accepted;
   others = c.in-Ok.ensures.ok.alone.others;
   opened = (c.in-Ok-append_one.ensures.takes (imported held) is).done refl;
+  needed = λ next last. ((c.in-Ok-append_one.ensures.takes (imported held) is).grown tt refl pages next rests last).0;
   reads = reads_one held c.in-Ok.change pages (view_of (handle_of c.args.store.now)) (view_of (handle_of c.append_one.new.self)) (c.in-Ok-append_one.ensures.reads held is) rests;
 }

@@ -1,4 +1,4 @@
-use Rattle.std.proofs.Common.{ℕ, List, [], ◌∷◌, ◌∙◌, sym}
+use Rattle.std.proofs.Common.{ℕ, List, [], ◌∷◌, ◌∙◌, refl, sym}
 use Rattle.std.specs.Result.{result_err}
 use Rattle.page_journal.specs.Pages.{page_from}
 use Rattle.updater.specs.Course.{looks}
@@ -32,7 +32,7 @@ returns-clause-goes_on g c = λ old read head.
     goes_over_made read c.args.first old (g.I.Inputs.view c.args.inputs.now) (g.D.Disk.view c.args.disk.now) (g.S.Sink.view c.args.out.now) head
     (λ (now : List ℕ). page_from now 4096 ∷ []) (g.D.Disk.view c.format.new.disk) c.in_default.ensures.fresh c.in_default.ensures.cause.later
     c.open.new.disk c.over-store.result c.over-store.ensures.disk c.in-Ok.ensures.opens (λ told state at. c.over-store.ensures.open state at (c.in-Ok.ensures.found told state at))
-    (c.over-store.ensures.limits ∙ c.standard-limits.ensures.numbers) c.over-store.ensures.whole (λ is. (c.over-store.ensures.begun is, c.over-store.ensures.unbegun is)) c.in-Ok.ensures.cause
+    (c.over-store.ensures.limits ∙ c.standard-limits.ensures.numbers) c.over-store.ensures.whole (λ is. (c.over-store.ensures.begun is, c.over-store.ensures.unbegun is)) c.in-Ok.ensures.cause (λ now. refl) c.in-Ok.ensures.same
     (fills (c.args.style.style, c.args.style.bytes) c.args.bounds.now c.args.first c.args.changes) (result_err c.fill_store-done.result) c.fill_store-done.new.store
     c.disk-1.given.0 (c.disk-1.given.1 (sym c.over-store.ensures.same_disk ∙ sym c.fill_store-done.ensures.stays.same_disk ∙ sym c.close-disk.ensures.same_disk) ∙ c.close-disk.ensures.disk)
     (g.I.Inputs.view c.fill_store-done.new.inputs) (g.S.Sink.view c.fill_store-done.new.out) c.fill_store-done.ensures.goes_on
