@@ -1,8 +1,9 @@
-//! A crash in each call of a disk that a change makes, and in each of the opening that follows.
+//! A crash in each call of a disk that a change or a clearing makes, and in each of the opening that follows.
 
 use crate::end::End;
 use crate::setting::{Setting, bounds};
-use crate::stores::{appended, imported, text_of, told};
+use crate::stores::{appended, cleared, imported, text_of, told};
+use due_tiles::tiles_text;
 use osm_base::{Bytes, Limits};
 use outside::{CrashPick, Fails, MemDisk};
 use std::alloc::Global;
@@ -21,20 +22,23 @@ const PICKS: [CrashPick; 4] = [
 /// More than a disk in memory holds.
 const MAX_BYTES: u64 = 1 << 62;
 
-/// What a store tells: how many changes it has had, and its tables.
+/// What a store tells: how many changes it has had, its tables, and the tiles that are due.
 #[derive(Drop)]
 struct Version {
     changes: u64,
     text: String,
+    due: Vec<u8>,
 }
 
 impl Version {
     fn is(&self, other: &Version) -> bool {
-        self.changes == other.changes && self.text.as_str() == other.text.as_str()
+        self.changes == other.changes
+            && self.text.as_str() == other.text.as_str()
+            && self.due == other.due
     }
 }
 
-/// The store before a change and after it, and whether the change was acknowledged.
+/// The store before a step and after it, and whether the step was acknowledged.
 #[derive(Clone, Copy)]
 struct Versions<'a> {
     before: &'a Version,
@@ -42,47 +46,74 @@ struct Versions<'a> {
     acknowledged: bool,
 }
 
-/// Crashes in each call of the second of two changes, and then in the opening: the store is that before the change or after it,
-/// and after it from the change's end on.
+/// What is done to a store.
+#[derive(Clone, Copy)]
+pub enum Deed<'a> {
+    /// A change is appended.
+    Append(&'a str),
+    /// The due tiles are cleared.
+    Clear,
+}
+
+/// Crashes in each call of a deed that follows an import and a change, and then in the opening: the store is that before the deed
+/// or after it, and after it from the deed's end on.
 pub fn crashes_of<R: Threads + Sync>(
     rt: &R,
     alloc: Global,
     buckets: u64,
-    texts: [&str; 3],
+    texts: [&str; 2],
+    deed: Deed<'_>,
 ) -> Result<String, End> {
     let setting = Setting {
         workers: 1,
         buckets,
     };
-    let [first, change, second] = texts;
+    let [first, change] = texts;
     let mut disk = imported(rt, alloc, setting, first)?;
-    changed_twice(rt, alloc, &mut disk, setting, [change, second])
+    changed(rt, alloc, &mut disk, setting, change, deed)
 }
 
-fn changed_twice<R: Threads + Sync>(
+fn changed<R: Threads + Sync>(
     rt: &R,
     alloc: Global,
     disk: &mut MemDisk,
     setting: Setting,
-    changes: [&str; 2],
+    change: &str,
+    deed: Deed<'_>,
 ) -> Result<String, End> {
     let bounds = bounds(alloc)?;
-    let [change, second] = changes;
     appended(rt, alloc, disk, &bounds, setting, change)?;
-    from_here(rt, alloc, disk, &bounds, setting, second)
+    from_here(rt, alloc, disk, &bounds, setting, deed)
 }
 
-// No call of the disk is kept that was made before the second change.
+fn does<R: Threads + Sync>(
+    rt: &R,
+    alloc: Global,
+    disk: &mut MemDisk,
+    bounds: &Bounds,
+    setting: Setting,
+    deed: Deed<'_>,
+) -> Result<(), End> {
+    match deed {
+        Deed::Append(change) => {
+            appended(rt, alloc, disk, bounds, setting, change)?;
+            Ok(())
+        }
+        Deed::Clear => cleared(alloc, disk),
+    }
+}
+
+// No call of the disk is kept that was made before the deed.
 fn from_here<R: Threads + Sync>(
     rt: &R,
     alloc: Global,
     disk: &MemDisk,
     bounds: &Bounds,
     setting: Setting,
-    change: &str,
+    deed: Deed<'_>,
 ) -> Result<String, End> {
     let mut disk = again(alloc, disk)?;
-    in_each(rt, alloc, &mut disk, bounds, setting, change)
+    in_each(rt, alloc, &mut disk, bounds, setting, deed)
 }
 
 fn in_each<R: Threads + Sync>(
@@ -91,11 +122,11 @@ fn in_each<R: Threads + Sync>(
     disk: &mut MemDisk,
     bounds: &Bounds,
     setting: Setting,
-    change: &str,
+    deed: Deed<'_>,
 ) -> Result<String, End> {
     let before = version_of(alloc, disk)?;
     let begun = disk.calls();
-    appended(rt, alloc, disk, bounds, setting, change)?;
+    does(rt, alloc, disk, bounds, setting, deed)?;
     let done = disk.calls();
     let after = version_of(alloc, disk)?;
     if before.is(&after) {
@@ -187,6 +218,7 @@ fn version_of(alloc: Global, disk: &mut MemDisk) -> Result<Version, End> {
     Ok(Version {
         changes: standing.changes,
         text: text_of(alloc, &standing.tables)?,
+        due: tiles_text(alloc, &standing.due, 0)?,
     })
 }
 

@@ -1,4 +1,4 @@
-//! What all histories share: a style with each kind of table, and boundaries.
+//! What all histories share: a style with each kind of table, whose selection reaches ways and nodes, and boundaries.
 
 use crate::end::End;
 use osm_base::OutOfMemory;
@@ -14,6 +14,7 @@ table = [
   { name = 'roads', source = 'way', geometry = 'line', where = ['highway'], column = [{ name = 'lanes', from = 'tag:lanes', type = 'int' }, { name = 'buses', from = 'selected:bus' }] },
   { name = 'areas', source = 'area', geometry = 'polygon', any = ['landuse', 'type=multipolygon'], expire = 'full-area', column = [{ name = 'tags', from = 'tags' }] },
   { name = 'trails', source = 'relation', geometry = 'lines', where = ['type=route'] },
+  { name = 'stops', source = 'node', geometry = 'point', where = ['selected:bus'], column = [{ name = 'name', from = 'tag:name' }, { name = 'lines', from = 'selected:bus' }] },
 ]
 ";
 

@@ -2,7 +2,7 @@
 
 use crate::bounded::{Texts, answers_under};
 use crate::counted::reads_of;
-use crate::crashed::crashes_of;
+use crate::crashed::{Deed, crashes_of};
 use crate::end::End;
 use example_table::{is_told, number_of, refuse_row, row_of, sides_of};
 use osm_base::{LimitNumbers, Limits};
@@ -96,13 +96,16 @@ fn crashed<R: Threads + Sync + Files + AllocGlobal>(
     let Some(buckets) = words.next().and_then(number_of) else {
         return Ok(None);
     };
-    let (Some(first), Some(change), Some(second)) = (words.next(), words.next(), words.next())
-    else {
+    let (Some(first), Some(change), Some(deed)) = (words.next(), words.next(), words.next()) else {
         return Ok(None);
     };
     let first = fs::read_to_string(rt, first)?;
     let change = fs::read_to_string(rt, change)?;
-    let second = fs::read_to_string(rt, second)?;
-    let texts = [first.as_str(), change.as_str(), second.as_str()];
-    Ok(Some(crashes_of(rt, rt.alloc(), buckets, texts)))
+    let texts = [first.as_str(), change.as_str()];
+    if deed == "clear" {
+        return Ok(Some(crashes_of(rt, rt.alloc(), buckets, texts, Deed::Clear)));
+    }
+    let second = fs::read_to_string(rt, deed)?;
+    let deed = Deed::Append(second.as_str());
+    Ok(Some(crashes_of(rt, rt.alloc(), buckets, texts, deed)))
 }

@@ -180,9 +180,9 @@ fn relation_line(alloc: Global, dice: &mut Dice, id: u64) -> Result<String, Allo
     let mut line = format!(in alloc; "r{id}{tags} M")?;
     for place in 0..dice.below(4) {
         let between = if place == 0 { "" } else { "," };
-        match dice.below(6) {
-            0 => push_ref(alloc, &mut line, between, "n", dice.below(NODES) + 1, "@")?,
-            1 => push_ref(
+        match dice.below(8) {
+            0 | 1 | 2 => push_ref(alloc, &mut line, between, "n", dice.below(NODES) + 1, "@")?,
+            3 => push_ref(
                 alloc,
                 &mut line,
                 between,
@@ -190,7 +190,7 @@ fn relation_line(alloc: Global, dice: &mut Dice, id: u64) -> Result<String, Allo
                 dice.below(RELATIONS) + 1,
                 "@",
             )?,
-            2 => push_ref(
+            4 => push_ref(
                 alloc,
                 &mut line,
                 between,
