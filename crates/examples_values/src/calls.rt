@@ -20,14 +20,23 @@ const BUCKETS: u64 = 16;
 /// What the calls of a row answer, one after another, in a store that was just made. The first refusal is the last answer.
 pub fn calls(alloc: Global, given: &str) -> Result<Option<String>, OutOfMemory> {
     let mut disk = MemDisk::new(alloc, Bytes::new(alloc), Fails::never(alloc));
+    called(alloc, &mut disk, given)
+}
+
+/// The same on this disk, which is formatted first.
+pub fn called(
+    alloc: Global,
+    disk: &mut MemDisk,
+    given: &str,
+) -> Result<Option<String>, OutOfMemory> {
     let limits = Limits::standard();
-    if format(&mut disk).is_err() {
+    if format(disk).is_err() {
         return Ok(None);
     }
-    let Ok(opened) = open(alloc, &mut disk, &limits) else {
+    let Ok(opened) = open(alloc, disk, &limits) else {
         return Ok(None);
     };
-    let mut buckets = Buckets::on(alloc, &mut disk, &limits, opened);
+    let mut buckets = Buckets::on(alloc, disk, &limits, opened);
     if buckets.root().buckets != 0 || !BUCKETS.is_power_of_two() {
         return Ok(None);
     }
@@ -65,8 +74,8 @@ fn answers_of(
     Ok(Some(answers))
 }
 
-// Puts an answer behind the others.
-fn push_answer(answers: &mut String, answer: &str) -> Result<(), OutOfMemory> {
+/// Puts an answer behind the others.
+pub fn push_answer(answers: &mut String, answer: &str) -> Result<(), OutOfMemory> {
     if !answers.is_empty() {
         answers.push_str("; ")?;
     }

@@ -3,6 +3,7 @@
 //! The head of `values.txt` says what its columns are, and where what is wanted comes from.
 #![tactic(auto)]
 
+mod asked;
 mod calls;
 mod hex;
 mod lists;
@@ -29,6 +30,7 @@ impl Examples for OfValues {
     fn answer_of(alloc: Global, kind: &str, given: &str) -> Result<Option<String>, OutOfMemory> {
         match kind {
             "calls" => calls::calls(alloc, given),
+            "ways" => asked::ways(alloc, given),
             "cut" => cut(alloc, given),
             _ => match hex::bytes_of(alloc, given)? {
                 Some(bytes) => value(alloc, kind, &bytes),
