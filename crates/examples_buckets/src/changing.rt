@@ -9,7 +9,7 @@ use example_table::{number_of, row_of};
 use osm_base::Bytes;
 use outside::MemDisk;
 use page_journal::StoreFault;
-use std::alloc::Global;
+use std::alloc::{AllocError, Global};
 
 /// Sets the value of a key.
 pub fn put(
@@ -26,7 +26,8 @@ pub fn put(
     if buckets.root().buckets == 0 {
         return none(alloc);
     }
-    match buckets.put(which, key, value.as_bytes()) {
+    let value = spelled(alloc, value)?;
+    match buckets.put(which, key, &value) {
         Ok(()) => Ok(String::from_str(alloc, "ok")?),
         Err(fault) => Err(fault),
     }
@@ -65,7 +66,7 @@ pub fn give(
     let Some((n, text)) = string_of(text) else {
         return none(alloc);
     };
-    let bytes = Vec::from_slice(alloc, text.as_bytes())?;
+    let bytes = spelled(alloc, text)?;
     match buckets.store(n, Bytes::from_vec(bytes)) {
         Ok(()) => Ok(String::from_str(alloc, "ok")?),
         Err(fault) => Err(fault),
@@ -109,6 +110,18 @@ pub fn settle(
     }
     buckets.set_buckets(count);
     Ok(String::from_str(alloc, "ok")?)
+}
+
+// The bytes of a text: `*COUNT` is so many `x`.
+fn spelled(alloc: Global, text: &str) -> Result<Vec<u8>, AllocError> {
+    let Some(count) = text.strip_prefix('*') else {
+        return Vec::from_slice(alloc, text.as_bytes());
+    };
+    let mut bytes = Vec::new(alloc);
+    for _ in 0..number_of(count).unwrap_or(0) {
+        bytes.push(b'x')?;
+    }
+    Ok(bytes)
 }
 
 // Three numbers.

@@ -141,8 +141,11 @@ fn records_text(alloc: Global, records: &[(u64, Bytes)]) -> Result<String, Store
     Ok(text)
 }
 
-// The bytes as text, where they are some.
+// The bytes as text, where they are some; of many the number alone, as `*COUNT`.
 fn value_text(alloc: Global, bytes: &[u8]) -> Result<String, StoreFault> {
+    if bytes.len() > 100 {
+        return Ok(format!(in alloc; "*{}", bytes.len())?);
+    }
     match std::str::from_utf8(bytes) {
         Ok(text) => Ok(String::from_str(alloc, text)?),
         Err(_) => Ok(format!(in alloc; "{bytes:?}")?),

@@ -110,8 +110,34 @@ fn answer_of(
         "at" => overwritten(alloc, disk, deeds),
         "look" => Ok(Some(transaction(alloc, disk, deeds, false)?)),
         "commit" => Ok(Some(transaction(alloc, disk, deeds, true)?)),
+        "turns" => turns(alloc, disk, deeds),
         _ => Ok(None),
     }
+}
+
+/// Commits two deeds by turns, so many in all, and tells how many home pages there are behind the first two and the
+/// last; or what a commit answers that is refused.
+fn turns(alloc: Global, disk: &mut MemDisk, text: &str) -> Result<Option<String>, AllocError> {
+    let (count, deeds) = row_of(text).unwrap_or((text, ""));
+    let Some((odd, even)) = deeds.split_once(" | ") else {
+        return Ok(None);
+    };
+    let count = number_of(count).unwrap_or(0);
+    let mut told = String::new(alloc);
+    for turn in 0..count {
+        let deed = if turn % 2 == 0 { odd } else { even };
+        let answer = transaction(alloc, disk, deed, true)?;
+        if answer.as_str() != "ok; ok" {
+            return Ok(Some(answer));
+        }
+        if turn < 2 || turn == count - 1 {
+            if turn > 0 {
+                told.push_str(" ")?;
+            }
+            told.push_str(pages_text(alloc, disk.bytes())?.as_str())?;
+        }
+    }
+    Ok(Some(told))
 }
 
 /// Puts these bytes on the disk, from a place on.
