@@ -10,6 +10,7 @@ pub mod Phases
 pub mod Members
 pub mod Places
 pub mod ReadCounts
+pub mod Runs
 pub mod Sets
 pub mod Settable
 pub mod Standing

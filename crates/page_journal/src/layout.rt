@@ -14,6 +14,9 @@ pub const PAGE_LEN: u64 = PAGE as u64;
 /// How many bytes the first two pages have.
 pub const HEAD: usize = 2 * PAGE;
 
+/// How many bytes of neighbouring pages are held back to be written in one call.
+pub const RUN: usize = 16 * PAGE;
+
 /// How many numbers fit a page.
 pub const PER_PAGE: usize = PAGE / 8;
 

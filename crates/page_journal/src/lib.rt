@@ -6,11 +6,12 @@
 //! 4,096 bytes, of which page 1 tells at its front how many there are, page 0 among them.
 //!
 //! A commit writes the set behind the home pages, makes that stable, and then sets one byte of page 0,
-//! the gate, to 1. From there on the set counts, and it is copied home and the gate shut again. Contracts
-//! speak of the bytes of the disk, where it tells them: `Home` says which pages they stand for, with the
-//! journal and without it, and at every moment of `commit` each outcome of a crash has the old home pages
-//! or the new ones. After `Ok` it has the new ones. `open` begins with a sync, and may crash itself: at
-//! every moment each outcome has the home pages of one of the outcomes at its entry.
+//! the gate, to 1. From there on the set counts, and it is copied home and the gate shut again. Neighbouring
+//! pages go to the disk in one call. Contracts speak of the bytes of the disk, where it tells them: `Home`
+//! says which pages they stand for, with the journal and without it, and at every moment of `commit` each
+//! outcome of a crash has the old home pages or the new ones. After `Ok` it has the new ones. `open` begins
+//! with a sync, and may crash itself: at every moment each outcome has the home pages of one of the outcomes
+//! at its entry.
 //!
 //! A store that is not formatted, whose open journal is not well formed or that does not hold its pages is
 //! refused, exactly there. After a failure of the disk a journal answers `Broken` until it is opened again.
@@ -24,6 +25,7 @@ mod laws;
 mod layout;
 mod numbers;
 mod opening;
+mod page_run;
 mod page_set;
 mod pages;
 mod reading;

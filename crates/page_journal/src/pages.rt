@@ -7,6 +7,7 @@ ghost use Rattle.page_journal.specs.PageSet.{number_at, page_at, plain};
 ghost use Rattle.page_journal.specs.Written.{FieldsPut, GatePut, HomePut, NumberPut, PagesPut};
 
 use crate::layout::{COUNT_AT, FIRST_AT, GATE_AT, PAGE};
+use crate::page_run::{PageRun, flush, put_page};
 use outside::{Disk, Failed};
 use std::collections::BTreeMap;
 
@@ -25,11 +26,13 @@ pub fn write_bodies<D: Disk>(
     ensures reads { (D.view disk.new).reads ≡ (D.view disk.old).reads }
     ensures cause { HasCause (D.view disk.old).faults (D.view disk.new).faults result }
 {
+    let mut run = PageRun::new(at);
     let mut next = at;
     for (_, page) in pages {
-        disk.write_at(next, page.as_slice())?;
+        put_page(disk, &mut run, next, page.as_slice())?;
         next += PAGE as u64;
     }
+    flush(disk, &mut run)?;
     Ok(())
 }
 
@@ -46,9 +49,11 @@ pub fn write_home<D: Disk>(disk: &mut D, pages: &BTreeMap<u64, Vec<u8>>) -> Resu
     ensures reads { (D.view disk.new).reads ≡ (D.view disk.old).reads }
     ensures cause { HasCause (D.view disk.old).faults (D.view disk.new).faults result }
 {
+    let mut run = PageRun::new(0);
     for (number, page) in pages {
-        disk.write_at(*number * PAGE as u64, page.as_slice())?;
+        put_page(disk, &mut run, *number * PAGE as u64, page.as_slice())?;
     }
+    flush(disk, &mut run)?;
     disk.sync()?;
     Ok(())
 }

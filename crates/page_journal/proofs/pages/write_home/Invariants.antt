@@ -1,6 +1,7 @@
-use Rattle.std.proofs.Common.{◌≡◌, ◌≤◌, List, ℕ, length}
+use Rattle.std.proofs.Common.{◌≡◌, ◌⊎◌, ◌+◌, ◌<◌, ◌≤◌, List, ℕ, length}
 use Rattle.outside.specs.Disk.{Tells, Goes, Within}
 use Rattle.page_journal.specs.Crash.{BesidePages, Spares}
+use Rattle.page_journal.specs.PageRun.{Fits, Shows}
 use Rattle.page_journal.specs.PageSet.{plain, number_at, page_at}
 use Rattle.page_journal.specs.Written.{HomePut}
 use Rattle.page_journal.proofs.pages.write_home.Given as goal
@@ -13,7 +14,9 @@ invariant-loop-number g l =
     record {
       can : (goal.iterator-loop-number g).can_next l.number-iterator;
       finite : (goal.iterator-loop-number g).is_finite l.number-iterator;
-      put : (bytes : List ℕ) → Tells old bytes → (left : List ℕ) × Tells now left
+      held : Fits l.run.at l.run.filled l.run.bytes;
+      spared : (i : ℕ) → beside i → (i < l.run.at) ⊎ (l.run.at + l.run.filled ≤ i);
+      put : (bytes : List ℕ) → Tells old bytes → (left : List ℕ) × Shows l.run.at l.run.filled l.run.bytes now left
           × HomePut (number_at (plain l.pages.entries)) (page_at (plain l.pages.entries)) (length l.yielded) bytes left;
       crash : (base : List ℕ) → Within (Spares beside base) old.crashes → Goes (Spares beside base) old.crashes now.crashes;
       reads : now.reads ≡ old.reads;
