@@ -11,6 +11,7 @@ struct call { char kind; long many; };
 int main(int count, char **words) {
     static struct call calls[1 << 20];
     size_t all = 0, room = 0, most = 0;
+    if (count != 3) return 1;
     FILE *list = fopen(words[2], "r");
     while (list && all < 1 << 20 && fscanf(list, " %c %ld", &calls[all].kind, &calls[all].many) == 2) {
         if (calls[all].kind == 'r') room += calls[all].many;
@@ -20,7 +21,7 @@ int main(int count, char **words) {
     int file = open(words[1], O_RDWR);
     char *fresh = malloc(room + 1), *piece = calloc(1, most + 1);
     struct timespec start, end;
-    if (count != 3 || !list || file < 0 || !fresh || !piece) return 1;
+    if (!list || file < 0 || !fresh || !piece) return 1;
     clock_gettime(CLOCK_MONOTONIC, &start);
     for (size_t at = 0; at < all; at++) {
         long many = calls[at].many;
