@@ -9,10 +9,14 @@ ghost use Rattle.updater.specs.Command.{command, makes_store, store_of};
 ghost use Rattle.updater_main.specs.Asked.{asked, run_of, seen};
 
 use osm_base::Bytes;
-use outside::{Failed, Fails, FileDisk, FileInputs, MemDisk, OpenGate, StdSink, put_all};
+use outside::{
+    Disk, Failed, Fails, FileDisk, FileInputs, Inputs, MemDisk, OpenGate, Sink, StdSink, put_all,
+};
 use std::alloc::Global;
 use std::process::ExitCode;
 use std::rt::Env;
+use std::sync::Wait;
+use std::thread::Threads;
 use std::{env, io};
 use updater::{Fault, Outcome, fault_line, makes_store, run, store_of};
 
@@ -77,27 +81,11 @@ fn main(rt: HostRuntime) -> ExitCode {
                 Asked::Version => told(put_all(&mut out, VERSION.as_bytes())),
                 Asked::Store { path, make } => {
                     let mut disk = FileDisk::new(&rt, path, make);
-                    run(
-                        &rt,
-                        rt.alloc(),
-                        words,
-                        &mut inputs,
-                        &mut disk,
-                        &mut out,
-                        &OpenGate,
-                    )
+                    outcome_of(&rt, rt.alloc(), words, &mut inputs, &mut disk, &mut out)
                 }
                 Asked::Run => {
                     let mut disk = no_disk(rt.alloc());
-                    run(
-                        &rt,
-                        rt.alloc(),
-                        words,
-                        &mut inputs,
-                        &mut disk,
-                        &mut out,
-                        &OpenGate,
-                    )
+                    outcome_of(&rt, rt.alloc(), words, &mut inputs, &mut disk, &mut out)
                 }
             }
         }
@@ -107,6 +95,18 @@ fn main(rt: HostRuntime) -> ExitCode {
         tell(&rt, fault);
     }
     ExitCode::from(status)
+}
+
+/// The outcome of a run. Its contract ends here: the real files, disk and output tell it nothing.
+fn outcome_of<R: Threads + Wait + Sync, I: Inputs, D: Disk, S: Sink>(
+    rt: &R,
+    alloc: Global,
+    words: &[String],
+    inputs: &mut I,
+    disk: &mut D,
+    out: &mut S,
+) -> Outcome {
+    run(rt, alloc, words, inputs, disk, out, &OpenGate)
 }
 
 /// What the words ask for.
