@@ -1,55 +1,64 @@
 //! Examples of boxes in a grid.
 use crate::notation::{box_of, spot_of};
-use example_table::number_of;
+use crate::refusal::Refusal;
 use grid_index::Grid;
-use osm_base::{KeyList, OutOfMemory};
+use osm_base::{GeoBox, KeyList};
 use std::alloc::Global;
 
 /// A row `SETS | TABLE:BOX`: what is found in a table after each row got its box, or lost it, one after another, and
 /// what the candidates are.
-pub fn searched(alloc: Global, given: &str) -> Result<Option<String>, OutOfMemory> {
+pub fn searched(alloc: Global, given: &str, out: &mut String) -> Result<(), Refusal> {
     let Some((sets, asked)) = given.split_once('|') else {
-        return Ok(None);
+        return Err(Refusal::NoRow);
     };
-    let Some(grid) = grid_of(alloc, sets)? else {
-        return Ok(None);
+    let Some((table, asked)) = asked_of(asked.trim()) else {
+        return Err(Refusal::NoRow);
     };
-    let Some((table, asked)) = asked.trim().split_once(':') else {
-        return Ok(None);
-    };
-    let (Some(table), Some(asked)) = (number_of(table), box_of(asked)) else {
-        return Ok(None);
-    };
-    let Some(table) = u32::try_from(table).ok() else {
-        return Ok(None);
-    };
-    let found = ids_text(alloc, &grid.find(alloc, table, asked)?)?;
-    let near = ids_text(alloc, &grid.candidates(alloc, table, asked)?)?;
-    Ok(Some(format!(in alloc; "found{found} candidates{near}")?))
+    let mut grid = Grid::new(alloc);
+    set_boxes(&mut grid, sets)?;
+    push_found(alloc, &grid, table, asked, out)
 }
 
-/// The grid after words `TABLE:ID:BOX`, or `TABLE:ID:-` where the box is gone.
-fn grid_of(alloc: Global, words: &str) -> Result<Option<Grid>, OutOfMemory> {
-    let mut grid = Grid::new(alloc);
+/// The table and the box of a word `TABLE:BOX`.
+fn asked_of(word: &str) -> Option<(u32, GeoBox)> {
+    let (table, asked) = word.split_once(':')?;
+    Some((table.parse::<u32>().ok()?, box_of(asked)?))
+}
+
+/// Sets the boxes of words `TABLE:ID:BOX`, or `TABLE:ID:-` where the box is gone.
+fn set_boxes(grid: &mut Grid, words: &str) -> Result<(), Refusal> {
     for word in words.split_ascii_whitespace() {
         let Some((spot, around)) = spot_of(word) else {
-            return Ok(None);
+            return Err(Refusal::NoRow);
         };
         let place = box_of(around);
         if place.is_none() && around != "-" {
-            return Ok(None);
+            return Err(Refusal::NoRow);
         }
         grid.set(spot.table, spot.key, place)?;
     }
-    Ok(Some(grid))
+    Ok(())
 }
 
-/// The ids of objects, with a blank before each.
-fn ids_text(alloc: Global, keys: &KeyList) -> Result<String, OutOfMemory> {
-    let mut text = String::new(alloc);
+/// Adds what is found in a box, and the candidates.
+fn push_found(
+    alloc: Global,
+    grid: &Grid,
+    table: u32,
+    asked: GeoBox,
+    out: &mut String,
+) -> Result<(), Refusal> {
+    out.push_str("found")?;
+    push_ids(&grid.find(alloc, table, asked)?, out)?;
+    out.push_str(" candidates")?;
+    push_ids(&grid.candidates(alloc, table, asked)?, out)
+}
+
+/// Adds the ids of objects, with a blank before each.
+fn push_ids(keys: &KeyList, out: &mut String) -> Result<(), Refusal> {
     for key in keys.as_slice() {
         let id = key.id;
-        text.push_str(format!(in alloc; " {id}")?.as_str())?;
+        write!(out, " {id}")?;
     }
-    Ok(text)
+    Ok(())
 }

@@ -1,12 +1,15 @@
 //! Examples of a reader of one version, of which calls fail.
 use crate::notation::{queries_of, style, tables_of};
-use crate::texts::{answer_text, note};
+use crate::refusal::Refusal;
+use crate::texts::{push_answer, push_shut};
 use example_table::{number_of, row_of};
-use osm_base::{Ids, OutOfMemory};
+use map_query::Queries;
+use osm_base::Ids;
 use outside::{Fails, Gate, GatePlace, OpenGate};
 use std::alloc::Global;
 use std::sync::atomic::{AtomicU64, Ordering};
-use table_versions::{HeldReader, Round, ask};
+use style_read::Style;
+use table_versions::{HeldReader, Reads, Round, ask};
 
 /// What a row `VERSION CALL QUERIES | ROWS` gives.
 #[derive(Clone, Copy)]
@@ -20,33 +23,27 @@ struct Given<'t> {
 
 /// A row `VERSION CALL QUERIES | ROWS`: what a reader of these rows answers to queries, where the call of this number
 /// fails, or none for 0.
-pub fn held(alloc: Global, given: &str) -> Result<Option<String>, OutOfMemory> {
+pub fn held(alloc: Global, given: &str, out: &mut String) -> Result<(), Refusal> {
     let Some(given) = given_by(given) else {
-        return Ok(None);
+        return Err(Refusal::NoRow);
     };
-    match round_of(alloc, given, 1, &OpenGate)? {
-        Some(round) => Ok(Some(round_text(alloc, &round)?)),
-        None => Ok(None),
-    }
+    let round = round_of(alloc, given, 1, &OpenGate)?;
+    push_round(alloc, &round, out)
 }
 
 /// The same row: how often the reader passed the gate before a look, with the version as its number, and how often
 /// otherwise.
-pub fn passed(alloc: Global, given: &str) -> Result<Option<String>, OutOfMemory> {
+pub fn passed(alloc: Global, given: &str, out: &mut String) -> Result<(), Refusal> {
     let Some(given) = given_by(given) else {
-        return Ok(None);
+        return Err(Refusal::NoRow);
     };
     let gate = Counts {
         number: given.version,
         looks: AtomicU64::new(0),
         others: AtomicU64::new(0),
     };
-    if round_of(alloc, given, given.version, &gate)?.is_none() {
-        return Ok(None);
-    }
-    let looks = gate.looks.load(Ordering::SeqCst);
-    let others = gate.others.load(Ordering::SeqCst);
-    Ok(Some(format!(in alloc; "{looks} looks, {others} others")?))
+    round_of(alloc, given, given.version, &gate)?;
+    push_passes(&gate, out)
 }
 
 /// A gate that counts who passes it before a look with this number, and who else.
@@ -67,6 +64,14 @@ impl Gate for Counts {
     }
 }
 
+/// Adds what a gate has counted.
+fn push_passes(gate: &Counts, out: &mut String) -> Result<(), Refusal> {
+    let looks = gate.looks.load(Ordering::SeqCst);
+    let others = gate.others.load(Ordering::SeqCst);
+    write!(out, "{looks} looks, {others} others")?;
+    Ok(())
+}
+
 /// What a row gives.
 fn given_by(text: &str) -> Option<Given<'_>> {
     let (version, rest) = row_of(text)?;
@@ -81,33 +86,40 @@ fn given_by(text: &str) -> Option<Given<'_>> {
 }
 
 /// What such a reader answers, when it is asked with this number.
-fn round_of<G: Gate>(
-    alloc: Global,
-    given: Given,
-    number: u64,
-    gate: &G,
-) -> Result<Option<Round>, OutOfMemory> {
+fn round_of<G: Gate>(alloc: Global, given: Given, number: u64, gate: &G) -> Result<Round, Refusal> {
     let style = style(alloc)?;
-    let Some(queries) = queries_of(alloc, &style, given.queries)? else {
-        return Ok(None);
-    };
-    let Some(tables) = tables_of(alloc, given.rows)? else {
-        return Ok(None);
-    };
-    let mut calls = Ids::new(alloc);
-    calls.push(given.call)?;
-    let mut reader = HeldReader::new(style, tables, given.version, Fails::new(calls, 0));
-    Ok(Some(ask(alloc, &mut reader, &queries, number, gate)?))
+    let queries = queries_of(alloc, &style, given.queries)?;
+    let mut reader = reader_of(alloc, style, given)?;
+    asked(alloc, &mut reader, &queries, number, gate)
 }
 
-/// The answers of a round, and a word where it is shut.
-fn round_text(alloc: Global, round: &Round) -> Result<String, OutOfMemory> {
-    let mut notes = String::new(alloc);
+/// Such a reader.
+fn reader_of(alloc: Global, style: Style, given: Given) -> Result<HeldReader, Refusal> {
+    let tables = tables_of(alloc, given.rows)?;
+    let mut calls = Ids::new(alloc);
+    calls.push(given.call)?;
+    let fails = Fails::new(calls, 0);
+    Ok(HeldReader::new(style, tables, given.version, fails))
+}
+
+/// A round of questions, its contract left behind.
+pub fn asked<E: Reads, G: Gate>(
+    alloc: Global,
+    reader: &mut E,
+    queries: &Queries,
+    number: u64,
+    gate: &G,
+) -> Result<Round, Refusal> {
+    Ok(ask(alloc, reader, queries, number, gate)?)
+}
+
+/// Adds the answers of a round, and a word where it is shut.
+fn push_round(alloc: Global, round: &Round, out: &mut String) -> Result<(), Refusal> {
     for answer in round.answers.as_slice() {
-        note(alloc, &mut notes, answer_text(alloc, answer)?.as_str())?;
+        push_answer(alloc, answer, out)?;
     }
     if round.shut {
-        note(alloc, &mut notes, "shut")?;
+        push_shut(out)?;
     }
-    Ok(notes)
+    Ok(())
 }

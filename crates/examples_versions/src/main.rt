@@ -7,6 +7,7 @@ mod grids;
 mod held;
 mod notation;
 mod plan;
+mod refusal;
 mod served;
 mod shows;
 mod stage;
@@ -15,7 +16,7 @@ mod texts;
 mod watch;
 
 use example_table::{is_told, refuse_row, row_of, sides_of};
-use osm_base::OutOfMemory;
+use refusal::Refusal;
 use std::process::ExitCode;
 use std::sync::Wait;
 use std::thread::Threads;
@@ -40,34 +41,38 @@ fn passes<R: Threads + Wait + Sync + Print + Eprint + AllocGlobal>(
         return Ok(true);
     };
     let (Some((name, given)), Some((_, wanted))) = (row_of(text), sides_of(text)) else {
-        refuse_row(rt, line)?;
-        return Ok(false);
+        return refuse(rt, line);
     };
     let given = given.split("=>").next().unwrap_or("").trim();
-    match answer_of(rt, kind, given) {
-        Ok(Some(answer)) if answer.as_str() == wanted => is_told(rt, name, None),
-        Ok(Some(answer)) => is_told(rt, name, Some(answer)),
-        Ok(None) => {
-            refuse_row(rt, line)?;
-            Ok(false)
-        }
-        Err(OutOfMemory) => Err(io::Error::from(io::ErrorKind::OutOfMemory)),
+    let mut answer = String::new(rt.alloc());
+    match run(rt, kind, given, &mut answer) {
+        Ok(()) if answer.as_str() == wanted => is_told(rt, name, None),
+        Ok(()) => is_told(rt, name, Some(answer)),
+        Err(Refusal::NoRow) => refuse(rt, line),
+        Err(Refusal::OutOfMemory) => Err(io::Error::from(io::ErrorKind::OutOfMemory)),
     }
 }
 
-/// What comes out of an example. `None`: the row is not in its form.
-fn answer_of<R: Threads + Wait + Sync + AllocGlobal>(
+/// Tells that a line is no row.
+fn refuse<R: Eprint>(rt: &R, line: &str) -> io::Result<bool> {
+    refuse_row(rt, line)?;
+    Ok(false)
+}
+
+/// Runs an example, and adds what comes out of it to a text.
+fn run<R: Threads + Wait + Sync + AllocGlobal>(
     rt: &R,
     kind: &str,
     given: &str,
-) -> Result<Option<String>, OutOfMemory> {
+    out: &mut String,
+) -> Result<(), Refusal> {
     let alloc = rt.alloc();
     match kind {
-        "grid" => grids::searched(alloc, given),
-        "held" => held::held(alloc, given),
-        "gate" => held::passed(alloc, given),
-        "steps" => steps::steps(rt, alloc, given),
-        "served" => served::served(rt, alloc, given),
-        _ => Ok(None),
+        "grid" => grids::searched(alloc, given, out),
+        "held" => held::held(alloc, given, out),
+        "gate" => held::passed(alloc, given, out),
+        "steps" => steps::steps(rt, alloc, given, out),
+        "served" => served::served(rt, alloc, given, out),
+        _ => Err(Refusal::NoRow),
     }
 }

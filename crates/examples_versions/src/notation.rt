@@ -1,9 +1,10 @@
 //! The style of the examples, and rows, queries and boxes as words write them.
+use crate::refusal::Refusal;
 use example_table::{bytes_of, number_of, signed_of};
 use map_query::{Queries, QueryFault, read_queries};
 use osm_base::{
-    Cell, Cells, GeoBox, Geometry, Items, Key, Kind, MAX_ID, MAX_LAT, MAX_LON, OutOfMemory, Place,
-    Places, Row, RowChange, RowChanges, Spot, Tables,
+    Cell, Cells, GeoBox, Geometry, Items, Key, Kind, MAX_ID, MAX_LAT, MAX_LON, Place, Places, Row,
+    RowChange, RowChanges, Spot, Tables,
 };
 use std::alloc::Global;
 use style_read::{Style, read_style};
@@ -23,88 +24,76 @@ column = [{ name = \"lanes\", from = \"tag:lanes\", type = \"int\" }]
 ";
 
 /// The style of the examples.
-pub fn style(alloc: Global) -> Result<Style, OutOfMemory> {
-    read_style(alloc, STYLE.as_bytes()).map_err(|_| OutOfMemory)
+pub fn style(alloc: Global) -> Result<Style, Refusal> {
+    match read_style(alloc, STYLE.as_bytes()) {
+        Ok(style) => Ok(style),
+        Err(_) => Err(Refusal::OutOfMemory),
+    }
 }
 
 /// The queries of lines, with `\n` between them.
-pub fn queries_of(
-    alloc: Global,
-    style: &Style,
-    lines: &str,
-) -> Result<Option<Queries>, OutOfMemory> {
-    let Some(bytes) = bytes_of(alloc, lines.trim())? else {
-        return Ok(None);
-    };
-    if bytes.len() > 4_294_967_295 {
-        return Ok(None);
+pub fn queries_of(alloc: Global, style: &Style, lines: &str) -> Result<Queries, Refusal> {
+    match bytes_of(alloc, lines.trim())? {
+        Some(bytes) => read(alloc, style, &bytes),
+        None => Err(Refusal::NoRow),
     }
-    match read_queries(alloc, &bytes, style) {
-        Ok(queries) => Ok(Some(queries)),
-        Err(QueryFault::Bad { .. }) => Ok(None),
-        Err(QueryFault::OutOfMemory) => Err(OutOfMemory),
+}
+
+/// The queries of the lines of a file.
+fn read(alloc: Global, style: &Style, bytes: &[u8]) -> Result<Queries, Refusal> {
+    if bytes.len() > 4_294_967_295 {
+        return Err(Refusal::NoRow);
+    }
+    match read_queries(alloc, bytes, style) {
+        Ok(queries) => Ok(queries),
+        Err(QueryFault::Bad { .. }) => Err(Refusal::NoRow),
+        Err(QueryFault::OutOfMemory) => Err(Refusal::OutOfMemory),
     }
 }
 
 /// Tables with a row for each word.
-pub fn tables_of(alloc: Global, words: &str) -> Result<Option<Tables>, OutOfMemory> {
-    let Some(changes) = changes_of(alloc, words)? else {
-        return Ok(None);
-    };
+pub fn tables_of(alloc: Global, words: &str) -> Result<Tables, Refusal> {
     let mut tables = Tables::new(alloc);
-    apply(&mut tables, changes)?;
-    Ok(Some(tables))
+    change_tables(alloc, &mut tables, words)?;
+    Ok(tables)
 }
 
-/// Changes tables.
-pub fn apply(tables: &mut Tables, changes: RowChanges) -> Result<(), OutOfMemory> {
-    for change in changes.into_vec() {
-        tables.apply(change)?;
+/// Changes a row of tables for each word.
+pub fn change_tables(alloc: Global, tables: &mut Tables, words: &str) -> Result<(), Refusal> {
+    for word in words.split_ascii_whitespace() {
+        tables.apply(change_of(alloc, word)?)?;
     }
     Ok(())
 }
 
 /// The change of a row for each word.
-pub fn changes_of(alloc: Global, words: &str) -> Result<Option<RowChanges>, OutOfMemory> {
+pub fn changes_of(alloc: Global, words: &str) -> Result<RowChanges, Refusal> {
     let mut changes = Items::new(alloc);
     for word in words.split_ascii_whitespace() {
-        let Some(change) = change_of(alloc, word)? else {
-            return Ok(None);
-        };
-        changes.push(change)?;
+        changes.push(change_of(alloc, word)?)?;
     }
-    Ok(Some(changes))
+    Ok(changes)
 }
 
 /// The change of a word `TABLE:ID:NUMBER:PLACE`, or `TABLE:ID:NUMBER:PLACE;PLACE..` of a line, or `TABLE:ID:-` where
 /// the row is gone.
-fn change_of(alloc: Global, word: &str) -> Result<Option<RowChange>, OutOfMemory> {
-    let Some((spot, row)) = spot_of(word) else {
-        return Ok(None);
+fn change_of(alloc: Global, word: &str) -> Result<RowChange, Refusal> {
+    let Some((Spot { table, key }, row)) = spot_of(word) else {
+        return Err(Refusal::NoRow);
     };
-    let Spot { table, key } = spot;
-    if row == "-" {
-        return Ok(Some(RowChange {
-            table,
-            key,
-            row: None,
-        }));
-    }
-    match row_of(alloc, row)? {
-        Some(row) => Ok(Some(RowChange {
-            table,
-            key,
-            row: Some(row),
-        })),
-        None => Ok(None),
-    }
+    let row = if row == "-" {
+        None
+    } else {
+        Some(row_of(alloc, row)?)
+    };
+    Ok(RowChange { table, key, row })
 }
 
 /// The spot of a word `TABLE:ID:REST`, where all objects are nodes, and the rest.
 pub fn spot_of(word: &str) -> Option<(Spot, &str)> {
     let (table, rest) = word.split_once(':')?;
     let (id, rest) = rest.split_once(':')?;
-    let table = u32::try_from(number_of(table)?).ok()?;
+    let table = table.parse::<u32>().ok()?;
     let id = number_of(id)?;
     if id == 0 || id > MAX_ID {
         return None;
@@ -114,41 +103,48 @@ pub fn spot_of(word: &str) -> Option<(Spot, &str)> {
 }
 
 /// The row of a word `NUMBER:PLACE` or `NUMBER:PLACE;PLACE..`.
-fn row_of(alloc: Global, word: &str) -> Result<Option<Row>, OutOfMemory> {
+fn row_of(alloc: Global, word: &str) -> Result<Row, Refusal> {
     let Some((number, places)) = word.split_once(':') else {
-        return Ok(None);
+        return Err(Refusal::NoRow);
     };
     let Some(number) = signed_of(number) else {
-        return Ok(None);
-    };
-    let Some(geometry) = geometry_of(alloc, places)? else {
-        return Ok(None);
+        return Err(Refusal::NoRow);
     };
     let mut cells = Cells::new(alloc);
     cells.push(Cell::Int(number))?;
-    Ok(Some(Row { cells, geometry }))
+    let geometry = geometry_of(alloc, places)?;
+    Ok(Row { cells, geometry })
 }
 
 /// A place, or the line of several.
-fn geometry_of(alloc: Global, word: &str) -> Result<Option<Geometry>, OutOfMemory> {
+fn geometry_of(alloc: Global, word: &str) -> Result<Geometry, Refusal> {
     let mut places = Places::new(alloc);
+    push_places(&mut places, word)?;
+    Ok(match places.as_slice() {
+        [place] => Geometry::Point(*place),
+        _ => Geometry::Line(places),
+    })
+}
+
+/// Adds the places between semicolons.
+fn push_places(places: &mut Places, word: &str) -> Result<(), Refusal> {
     for part in word.split(';') {
-        let Some(place) = place_of(part) else {
-            return Ok(None);
-        };
-        places.push(place)?;
+        match place_of(part) {
+            Some(place) => places.push(place)?,
+            None => return Err(Refusal::NoRow),
+        }
     }
-    match places.as_slice() {
-        [place] => Ok(Some(Geometry::Point(*place))),
-        _ => Ok(Some(Geometry::Line(places))),
-    }
+    Ok(())
 }
 
 /// The place of a word `LON,LAT`, in units of 1e-7 degree.
 fn place_of(word: &str) -> Option<Place> {
     let (lon, lat) = word.split_once(',')?;
-    let lon = side_of(lon, MAX_LON)?;
-    let lat = side_of(lat, MAX_LAT)?;
+    place_at(units_of(lon)?, units_of(lat)?)
+}
+
+/// The place with this longitude and latitude, if there is one.
+fn place_at(lon: i32, lat: i32) -> Option<Place> {
     if lon < -MAX_LON || lon > MAX_LON || lat < -MAX_LAT || lat > MAX_LAT {
         return None;
     }
@@ -160,24 +156,20 @@ pub fn box_of(word: &str) -> Option<GeoBox> {
     let (west, rest) = word.split_once(',')?;
     let (south, rest) = rest.split_once(',')?;
     let (east, north) = rest.split_once(',')?;
-    let (west, south) = (side_of(west, MAX_LON)?, side_of(south, MAX_LAT)?);
-    let (east, north) = (side_of(east, MAX_LON)?, side_of(north, MAX_LAT)?);
-    if east < west || north < south {
+    let from = place_at(units_of(west)?, units_of(south)?)?;
+    let to = place_at(units_of(east)?, units_of(north)?)?;
+    if to.lon < from.lon || to.lat < from.lat {
         return None;
     }
     Some(GeoBox {
-        west,
-        south,
-        east,
-        north,
+        west: from.lon,
+        south: from.lat,
+        east: to.lon,
+        north: to.lat,
     })
 }
 
-/// A number of units that is no further from zero than a greatest one.
-fn side_of(word: &str, most: i32) -> Option<i32> {
-    let units = i32::try_from(signed_of(word)?).ok()?;
-    if units.unsigned_abs() > most.unsigned_abs() {
-        return None;
-    }
-    Some(units)
+/// A number of units.
+fn units_of(word: &str) -> Option<i32> {
+    word.parse::<i32>().ok()
 }

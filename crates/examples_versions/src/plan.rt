@@ -1,9 +1,12 @@
 //! What many readers are to see: the changes of the tables, and what each version answers.
-use crate::notation::{apply, changes_of, queries_of, tables_of};
-use crate::texts::found_text;
-use map_query::{Queries, answer};
-use osm_base::{OutOfMemory, RowChanges, Tables};
+use crate::notation::{change_tables, changes_of, queries_of, tables_of};
+use crate::refusal::Refusal;
+use crate::texts::push_found;
+use map_query::{Queries, Query, answer};
+use osm_base::{RowChanges, Tables};
 use std::alloc::Global;
+use std::sync::atomic::{AtomicBool, Ordering};
+use std::thread;
 use style_read::Style;
 
 /// The rows that the tables begin with: two places, and a line that is wide.
@@ -13,77 +16,157 @@ const FIRST: &str = "0:1:0:0,0 0:2:0:10000000,0 1:9:0:-1000000000,0;1000000000,1
 const QUERIES: &str =
     "count cafes\\ncount roads\\nrow cafes n 1\\nbox cafes -1 -1 1 1\\nbox roads 0 0 1 1\\nbox cafes -180 -90 180 90";
 
-/// The queries, and what each version answers to them.
+/// A version: what it answers, a line for each query, and whether a reader saw it.
+#[derive(Drop)]
+struct Version {
+    truth: String,
+    seen: AtomicBool,
+}
+
+/// The queries, the versions, and how often readers ask at most.
 #[derive(Drop)]
 pub struct Plan {
     pub queries: Queries,
-    truths: Vec<Vec<String>>,
+    versions: Vec<Version>,
+    pub turns: u64,
 }
 
 impl Plan {
-    /// The plan of so many changes. `None`: one of them is none.
-    pub fn new(alloc: Global, style: &Style, changes: u64) -> Result<Option<Self>, OutOfMemory> {
-        let Some(queries) = queries_of(alloc, style, QUERIES)? else {
-            return Ok(None);
+    /// The plan of so many changes.
+    pub fn new(alloc: Global, style: &Style, changes: u64, turns: u64) -> Result<Self, Refusal> {
+        let mut plan = Self {
+            queries: queries_of(alloc, style, QUERIES)?,
+            versions: Vec::new(alloc),
+            turns,
         };
-        let Some(mut tables) = first_tables(alloc)? else {
-            return Ok(None);
-        };
-        let mut truths = Vec::new(alloc);
-        truths.push(truth_of(alloc, style, &tables, &queries)?)?;
+        plan.add_versions(alloc, style, changes)?;
+        Ok(plan)
+    }
+
+    /// Adds the first version, and one for each change.
+    fn add_versions(&mut self, alloc: Global, style: &Style, changes: u64) -> Result<(), Refusal> {
+        let mut tables = first_tables(alloc)?;
+        self.add_version(alloc, style, &tables)?;
         for version in 1..=changes {
-            let Some(change) = change_to(alloc, version)? else {
-                return Ok(None);
-            };
-            apply(&mut tables, change)?;
-            truths.push(truth_of(alloc, style, &tables, &queries)?)?;
+            change_to(alloc, &mut tables, version)?;
+            self.add_version(alloc, style, &tables)?;
         }
-        Ok(Some(Self { queries, truths }))
+        Ok(())
+    }
+
+    /// Adds a version with these tables.
+    fn add_version(
+        &mut self,
+        alloc: Global,
+        style: &Style,
+        tables: &Tables,
+    ) -> Result<(), Refusal> {
+        let truth = truth_of(alloc, style, tables, self.queries.as_slice())?;
+        let seen = AtomicBool::new(false);
+        self.versions.push(Version { truth, seen })?;
+        Ok(())
     }
 
     /// The number of the last version.
     pub fn last(&self) -> u64 {
-        (self.truths.len() as u64).saturating_sub(1)
+        (self.versions.len() as u64).saturating_sub(1)
+    }
+
+    /// The version with a number.
+    fn version(&self, number: u64) -> Option<&Version> {
+        self.versions.get(number as usize)
     }
 
     /// Whether this is what a version answers to a query, by its number.
     pub fn is_true(&self, version: u64, query: usize, found: &str) -> bool {
-        match self.truths.get(version as usize) {
-            Some(truth) => truth.get(query).is_some_and(|text| text.as_str() == found),
+        match self.version(version) {
+            Some(version) => version.truth.lines().nth(query) == Some(found),
             None => false,
         }
+    }
+
+    /// Marks a version as seen.
+    pub fn mark(&self, version: u64) {
+        if let Some(version) = self.version(version) {
+            version.seen.store(true, Ordering::SeqCst);
+        }
+    }
+
+    /// Waits until a version was seen, so many turns at most.
+    pub fn hold(&self, version: u64) {
+        let Some(version) = self.version(version) else {
+            return;
+        };
+        for _ in 0..self.turns {
+            if version.seen.load(Ordering::SeqCst) {
+                return;
+            }
+            thread::yield_now();
+        }
+    }
+
+    /// How many versions were seen.
+    pub fn count_seen(&self) -> usize {
+        self.versions
+            .iter()
+            .filter(|version| version.seen.load(Ordering::SeqCst))
+            .count()
     }
 }
 
 /// The tables that all begin with.
-pub fn first_tables(alloc: Global) -> Result<Option<Tables>, OutOfMemory> {
+pub fn first_tables(alloc: Global) -> Result<Tables, Refusal> {
     tables_of(alloc, FIRST)
 }
 
-/// The changes to a version: a place goes and another comes, so that as many are there; one moves into or out of the
-/// first box; the line is drawn anew.
-pub fn change_to(alloc: Global, version: u64) -> Result<Option<RowChanges>, OutOfMemory> {
+/// Changes tables to a version.
+fn change_to(alloc: Global, tables: &mut Tables, version: u64) -> Result<(), Refusal> {
+    let words = words_to(alloc, version)?;
+    change_tables(alloc, tables, words.as_str())
+}
+
+/// The changes to a version.
+pub fn changes_to(alloc: Global, version: u64) -> Result<RowChanges, Refusal> {
+    let words = words_to(alloc, version)?;
+    changes_of(alloc, words.as_str())
+}
+
+/// The words of the changes to a version: a place goes and another comes, so that as many are there; one moves into or
+/// out of the first box; the line is drawn anew.
+fn words_to(alloc: Global, version: u64) -> Result<String, Refusal> {
     let comes = version.saturating_add(2);
     let goes = version.saturating_add(1);
     let lon = if version % 2 == 0 { 0 } else { 20_000_000 };
     let lat = version;
-    let words = format!(in alloc;
+    Ok(format!(in alloc;
         "0:{goes}:- 0:{comes}:{version}:5000000,{lat} 0:1:{version}:{lon},0 1:9:{version}:-1000000000,{lat};1000000000,10000000"
-    )?;
-    changes_of(alloc, words.as_str())
+    )?)
 }
 
-/// What tables answer to queries.
+/// What tables answer to queries, a line for each.
 fn truth_of(
     alloc: Global,
     style: &Style,
     tables: &Tables,
-    queries: &Queries,
-) -> Result<Vec<String>, OutOfMemory> {
-    let mut texts = Vec::new(alloc);
-    for query in queries.as_slice() {
-        let found = answer(alloc, style, tables, query)?;
-        texts.push(found_text(alloc, &found)?)?;
+    queries: &[Query],
+) -> Result<String, Refusal> {
+    let mut truth = String::new(alloc);
+    for query in queries {
+        push_truth(alloc, style, tables, query, &mut truth)?;
     }
-    Ok(texts)
+    Ok(truth)
+}
+
+/// Adds the line of what tables answer to a query.
+fn push_truth(
+    alloc: Global,
+    style: &Style,
+    tables: &Tables,
+    query: &Query,
+    truth: &mut String,
+) -> Result<(), Refusal> {
+    let found = answer(alloc, style, tables, query)?;
+    push_found(alloc, &found, truth)?;
+    truth.push('\n')?;
+    Ok(())
 }

@@ -1,6 +1,7 @@
 //! A publisher that counts its versions.
 ghost use Rattle.std.specs.Prelude.{◌≡◌, ◌+◌, [], length};
 
+use crate::refusal::Refusal;
 use osm_base::{Delta, RowChanges};
 use std::sync::Wait;
 use table_versions::{Publisher, Told};
@@ -25,23 +26,21 @@ impl Shows {
         Self { publisher, version }
     }
 
-    /// Publishes changes, and says whether it did.
-    pub fn publish<R: Wait>(&mut self, rt: &R, changes: RowChanges) -> bool
+    /// Publishes changes.
+    pub fn publish<R: Wait>(&mut self, rt: &R, changes: RowChanges) -> Result<(), Refusal>
         ensures book { self.new.publisher.front.book ≡ self.old.publisher.front.book }
     {
         if self.version >= MOST {
-            return false;
+            return Err(Refusal::NoRow);
         }
         let version = self.version + 1;
-        if self
-            .publisher
-            .publish(rt, Delta { version, changes })
-            .is_err()
-        {
-            return false;
+        match self.publisher.publish(rt, Delta { version, changes }) {
+            Ok(()) => {
+                self.version = version;
+                Ok(())
+            }
+            Err(_) => Err(Refusal::OutOfMemory),
         }
-        self.version = version;
-        true
     }
 
     /// What was published.

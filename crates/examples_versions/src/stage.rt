@@ -1,16 +1,14 @@
 //! A publisher and one of its readers.
 ghost use Rattle.std.specs.Prelude.{◌≡◌};
 
+use crate::refusal::Refusal;
 use crate::shows::Shows;
-use crate::texts::{answer_text, counted_text};
+use crate::texts::{push_answer, push_counted, push_shut};
 use map_query::Query;
-use osm_base::{OutOfMemory, RowChanges};
+use osm_base::RowChanges;
 use std::alloc::Global;
 use std::sync::Wait;
 use table_versions::{LookRefused, MapReader, Reads};
-
-/// What a reader that is not let in answers.
-const SHUT: &str = "shut";
 
 /// A publisher, and a reader of what it publishes. End it by `end`.
 pub struct Stage {
@@ -27,8 +25,8 @@ impl Stage {
         Self { shows, reader }
     }
 
-    /// Publishes changes, and says whether it did.
-    pub fn publish<R: Wait>(&mut self, rt: &R, changes: RowChanges) -> bool {
+    /// Publishes changes.
+    pub fn publish<R: Wait>(&mut self, rt: &R, changes: RowChanges) -> Result<(), Refusal> {
         self.shows.publish(rt, changes)
     }
 
@@ -37,14 +35,14 @@ impl Stage {
         self.reader.learn(self.shows.tell());
     }
 
-    /// What the reader answers to a query.
-    pub fn look(&mut self, alloc: Global, query: &Query) -> Result<String, OutOfMemory> {
-        look(alloc, &mut self.reader, query)
+    /// Adds what the reader answers to a query.
+    pub fn look(&mut self, alloc: Global, query: &Query, out: &mut String) -> Result<(), Refusal> {
+        look(alloc, &mut self.reader, query, out)
     }
 
-    /// How many rows of a table it counts.
-    pub fn count(&mut self, alloc: Global, table: u32) -> Result<String, OutOfMemory> {
-        count(alloc, &mut self.reader, table)
+    /// Adds how many rows of a table it counts.
+    pub fn count(&mut self, table: u32, out: &mut String) -> Result<(), Refusal> {
+        count(&mut self.reader, table, out)
     }
 
     /// Ends the publisher; the reader is left.
@@ -55,23 +53,28 @@ impl Stage {
     }
 }
 
-/// What a reader answers to a query.
-pub fn look(alloc: Global, reader: &mut MapReader, query: &Query) -> Result<String, OutOfMemory>
+/// Adds what a reader answers to a query.
+fn look(
+    alloc: Global,
+    reader: &mut MapReader,
+    query: &Query,
+    out: &mut String,
+) -> Result<(), Refusal>
     ensures book { reader.new.seen.book ≡ reader.old.seen.book }
 {
     match reader.look(alloc, query) {
-        Ok(answer) => answer_text(alloc, &answer),
-        Err(LookRefused::Shut) => Ok(String::from_str(alloc, SHUT)?),
-        Err(LookRefused::OutOfMemory) => Err(OutOfMemory),
+        Ok(answer) => push_answer(alloc, &answer, out),
+        Err(LookRefused::Shut) => push_shut(out),
+        Err(LookRefused::OutOfMemory) => Err(Refusal::OutOfMemory),
     }
 }
 
-/// How many rows of a table a reader counts.
-pub fn count(alloc: Global, reader: &mut MapReader, table: u32) -> Result<String, OutOfMemory>
+/// Adds how many rows of a table a reader counts.
+pub fn count(reader: &mut MapReader, table: u32, out: &mut String) -> Result<(), Refusal>
     ensures book { reader.new.seen.book ≡ reader.old.seen.book }
 {
     match reader.count(table) {
-        Some(counted) => counted_text(alloc, counted),
-        None => Ok(String::from_str(alloc, SHUT)?),
+        Some(counted) => push_counted(counted, out),
+        None => push_shut(out),
     }
 }

@@ -1,58 +1,74 @@
 //! What readers answer, as text.
+use crate::refusal::Refusal;
 use map_query::Found;
-use osm_base::{NumberedRow, OutOfMemory};
+use osm_base::NumberedRow;
 use row_text::push_row;
 use std::alloc::Global;
 use table_versions::{Answer, Counted};
 
-/// An answer: its version, and the count or the rows.
-pub fn answer_text(alloc: Global, answer: &Answer) -> Result<String, OutOfMemory> {
+/// Adds an answer to those before it: its version, and the count or the rows.
+pub fn push_answer(alloc: Global, answer: &Answer, out: &mut String) -> Result<(), Refusal> {
     let version = answer.version;
-    let found = found_text(alloc, &answer.found)?;
-    Ok(format!(in alloc; "{version} {found}")?)
+    push_comma(out)?;
+    write!(out, "{version} ")?;
+    push_found(alloc, &answer.found, out)
 }
 
-/// A count of rows, with its version.
-pub fn counted_text(alloc: Global, counted: Counted) -> Result<String, OutOfMemory> {
+/// Adds a count of rows, with its version, to the answers before it.
+pub fn push_counted(counted: Counted, out: &mut String) -> Result<(), Refusal> {
     let Counted { version, rows } = counted;
-    Ok(format!(in alloc; "{version} count {rows}")?)
+    push_comma(out)?;
+    write!(out, "{version} count {rows}")?;
+    Ok(())
 }
 
-/// What a query finds.
-pub fn found_text(alloc: Global, found: &Found) -> Result<String, OutOfMemory> {
+/// Adds to the answers that the reader is not let in.
+pub fn push_shut(out: &mut String) -> Result<(), Refusal> {
+    push_comma(out)?;
+    out.push_str("shut")?;
+    Ok(())
+}
+
+/// Adds a comma, where something stands before it.
+fn push_comma(out: &mut String) -> Result<(), Refusal> {
+    if !out.is_empty() {
+        out.push_str(", ")?;
+    }
+    Ok(())
+}
+
+/// Adds what a query finds.
+pub fn push_found(alloc: Global, found: &Found, out: &mut String) -> Result<(), Refusal> {
     match found {
-        Found::Count(count) => Ok(format!(in alloc; "count {count}")?),
-        Found::Rows(rows) => rows_text(alloc, rows.as_slice()),
+        Found::Count(count) => {
+            write!(out, "count {count}")?;
+            Ok(())
+        }
+        Found::Rows(rows) => push_rows(alloc, rows.as_slice(), out),
     }
 }
 
-/// Rows, with a blank before each and a bar behind it.
-fn rows_text(alloc: Global, rows: &[NumberedRow]) -> Result<String, OutOfMemory> {
-    let mut lines = String::from_str(alloc, "rows")?;
+/// Adds rows, with a blank before each and a bar behind it.
+fn push_rows(alloc: Global, rows: &[NumberedRow], out: &mut String) -> Result<(), Refusal> {
+    out.push_str("rows")?;
+    let mut line = String::new(alloc);
     for row in rows {
-        lines.push('\t')?;
-        push_row(&mut lines, row.number, &row.row)?;
+        line.clear();
+        push_row(&mut line, row.number, &row.row)?;
+        out.push(' ')?;
+        push_readable(line.as_str(), out)?;
     }
-    readable(alloc, lines.as_str())
+    Ok(())
 }
 
-/// A text with blanks for tabs, and bars for newlines.
-fn readable(alloc: Global, text: &str) -> Result<String, OutOfMemory> {
-    let mut readable = String::new(alloc);
+/// Adds a text with blanks for tabs, and bars for newlines.
+fn push_readable(text: &str, out: &mut String) -> Result<(), Refusal> {
     for letter in text.chars() {
-        readable.push(match letter {
+        out.push(match letter {
             '\t' => ' ',
             '\n' => '|',
             _ => letter,
         })?;
     }
-    Ok(readable)
-}
-
-/// Adds an answer to those before it, behind a comma.
-pub fn note(alloc: Global, notes: &mut String, answer: &str) -> Result<(), OutOfMemory> {
-    let between = if notes.is_empty() { "" } else { ", " };
-    let piece = format!(in alloc; "{between}{answer}")?;
-    notes.push_str(piece.as_str())?;
     Ok(())
 }
