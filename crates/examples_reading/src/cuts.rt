@@ -1,59 +1,87 @@
 //! Examples of files: their lines, and the limits that they pass.
-use crate::cutting::{copied, lent};
-use crate::verdict::{Verdict, compared};
-use example_table::{bytes_of, number_of, row_of, sides_of};
+ghost use Rattle.std.specs.Prelude.{◌<◌};
+
+use crate::cutting::{put_copied, put_lent};
+use example_table::{bytes_of, number_of, row_of};
 use osm_base::{LimitNumbers, Limits};
 use std::alloc::{AllocError, Global};
 
 /// The size of the longest pieces.
 const LONGEST_PIECE: usize = 8;
 
-/// A row `lines FILE => WANTED`: how many lines the file has, and each behind a newline.
-pub fn lines(alloc: Global, text: &str) -> Result<Verdict, AllocError> {
-    in_all_pieces(alloc, &Limits::standard(), text)
-}
-
-/// A row `within BYTES LINES FILE => WANTED`: the same where lines may have so many bytes and so many may
-/// come, or which of these limits is passed first.
-pub fn within(alloc: Global, text: &str) -> Result<Verdict, AllocError> {
-    let Some((bytes, text)) = row_of(text) else {
-        return Ok(Verdict::NoRow);
-    };
-    let Some((lines, text)) = row_of(text) else {
-        return Ok(Verdict::NoRow);
-    };
-    match limits_of(bytes, lines) {
-        Some(limits) => in_all_pieces(alloc, &limits, text),
-        None => Ok(Verdict::NoRow),
+/// Adds what a row finds: of `lines FILE`, how many lines the file has, and each behind a newline; of `within BYTES LINES
+/// FILE`, the same where lines may have so many bytes and so many may come, or which of these limits is passed first.
+pub fn cuts(
+    alloc: Global,
+    found: &mut Vec<u8>,
+    word: &str,
+    given: &str,
+) -> Result<bool, AllocError> {
+    if word == "lines" {
+        return put_file(alloc, found, &Limits::standard(), given);
+    }
+    match limits_of(given) {
+        Some((limits, file)) => put_file(alloc, found, &limits, file),
+        None => Ok(false),
     }
 }
 
-/// The limits that two fields write.
-fn limits_of(bytes: &str, lines: &str) -> Option<Limits> {
-    Limits::new(LimitNumbers {
-        line_bytes: number_of(bytes)?,
+/// The limits that the first two fields write, and the text behind them.
+fn limits_of(text: &str) -> Option<(Limits, &str)> {
+    let (line_bytes, text) = row_of(text)?;
+    let (lines, file) = row_of(text)?;
+    let limits = Limits::new(LimitNumbers {
+        line_bytes: number_of(line_bytes)?,
         lines: number_of(lines)?,
         ..Limits::standard().numbers()
-    })
+    })?;
+    Some((limits, file))
 }
 
-/// Whether a file in pieces of every size has the lines that are wanted, by both calls of the reader.
-fn in_all_pieces(alloc: Global, limits: &Limits, text: &str) -> Result<Verdict, AllocError> {
-    let Some((given, wanted)) = sides_of(text) else {
-        return Ok(Verdict::NoRow);
-    };
-    let Some(file) = bytes_of(alloc, given)? else {
-        return Ok(Verdict::NoRow);
-    };
-    for size in 1..LONGEST_PIECE + 1 {
-        let by_copies = compared(alloc, &copied(alloc, limits, &file, size)?, wanted)?;
-        let Verdict::Same = by_copies else {
-            return Ok(by_copies);
-        };
-        let by_loans = compared(alloc, &lent(alloc, limits, &file, size)?, wanted)?;
-        let Verdict::Same = by_loans else {
-            return Ok(by_loans);
-        };
+/// Adds the lines of the file that a field writes.
+fn put_file(
+    alloc: Global,
+    found: &mut Vec<u8>,
+    limits: &Limits,
+    field: &str,
+) -> Result<bool, AllocError> {
+    match bytes_of(alloc, field)? {
+        Some(file) => put_lines(alloc, found, limits, &file),
+        None => Ok(false),
     }
-    Ok(Verdict::Same)
+}
+
+/// Adds the lines of a file, if they are the same in pieces of every size, by both calls of the reader.
+fn put_lines(
+    alloc: Global,
+    found: &mut Vec<u8>,
+    limits: &Limits,
+    file: &[u8],
+) -> Result<bool, AllocError> {
+    put_copied(alloc, found, limits, file, LONGEST_PIECE)?;
+    for size in 1..LONGEST_PIECE + 1 {
+        if !has_lines(alloc, found, limits, file, size)? {
+            found.extend_from_slice(b", and others in other pieces")?;
+            return Ok(false);
+        }
+    }
+    Ok(true)
+}
+
+/// Whether a file in pieces of a size has these lines, by both calls of the reader.
+fn has_lines(
+    alloc: Global,
+    lines: &[u8],
+    limits: &Limits,
+    file: &[u8],
+    size: usize,
+) -> Result<bool, AllocError>
+    requires { 0 < size }
+{
+    let mut again = Vec::new(alloc);
+    put_copied(alloc, &mut again, limits, file, size)?;
+    let by_copies = again.as_slice() == lines;
+    again.clear();
+    put_lent(alloc, &mut again, limits, file, size)?;
+    Ok(by_copies && again.as_slice() == lines)
 }

@@ -1,117 +1,117 @@
 //! Examples of files that are read whole: their bytes, and their entries.
-use crate::key::key_text;
-use crate::verdict::{Verdict, compared};
-use example_table::{bytes_of, number_of, row_of, sides_of};
+use crate::key::{put_key, put_number};
+use example_table::{bytes_of, number_of, row_of};
 use object_fold::{Change, FileFault, WholeFault, read_all, read_file};
 use opl_object::Why;
 use osm_base::{Bytes, Entry, FileList, Ids, LimitKind, LimitNumbers, Limits, OutOfMemory};
 use outside::{Fails, MemInputs};
 use std::alloc::{AllocError, Global};
 
-/// One file, whose word has the number 0.
-fn inputs_of(alloc: Global, file: Vec<u8>, fails: Fails) -> Result<MemInputs, OutOfMemory> {
+/// One file, whose word has the number 0, and of which the call with a number fails; none has the number 0.
+fn inputs_of(alloc: Global, file: Vec<u8>, call: u64) -> Result<MemInputs, OutOfMemory> {
+    let at = Vec::from_slice(alloc, &[call])?;
     let mut files = FileList::new(alloc);
     files.push(Bytes::from_vec(file))?;
-    Ok(MemInputs::new(files, fails))
+    Ok(MemInputs::new(files, Fails::new(Ids::from_vec(at), 0)))
 }
 
-/// The plan by which one call fails.
-fn failing(alloc: Global, call: u64) -> Result<Fails, AllocError> {
-    let at = Vec::from_slice(alloc, &[call])?;
-    Ok(Fails::new(Ids::from_vec(at), 0))
-}
-
-/// The entries of a file.
-pub fn read_entries(alloc: Global, limits: &Limits, file: Vec<u8>) -> Result<Change, FileFault> {
-    let mut inputs = inputs_of(alloc, file, Fails::never(alloc))?;
+/// The entries of a file of which a call may fail.
+pub fn read_entries(
+    alloc: Global,
+    limits: &Limits,
+    file: Vec<u8>,
+    call: u64,
+) -> Result<Change, FileFault> {
+    let mut inputs = inputs_of(alloc, file, call)?;
     read_file(alloc, &mut inputs, 0, limits)
 }
 
-/// The same, where one call fails.
-fn read_entries_failing(alloc: Global, call: u64, file: Vec<u8>) -> Result<Change, FileFault> {
-    let mut inputs = inputs_of(alloc, file, failing(alloc, call)?)?;
-    read_file(alloc, &mut inputs, 0, &Limits::standard())
-}
-
-/// All bytes of a file that has so many at most.
-fn read_bytes(alloc: Global, most: u64, file: Vec<u8>) -> Result<Bytes, WholeFault> {
-    let mut inputs = inputs_of(alloc, file, Fails::never(alloc))?;
+/// All bytes of a file that has so many at most, and of which a call may fail.
+fn read_bytes(alloc: Global, most: u64, file: Vec<u8>, call: u64) -> Result<Bytes, WholeFault> {
+    let mut inputs = inputs_of(alloc, file, call)?;
     read_all(alloc, &mut inputs, 0, most)
 }
 
-/// All bytes of a file, where one call fails.
-fn read_bytes_failing(alloc: Global, call: u64, file: Vec<u8>) -> Result<Bytes, WholeFault> {
-    let most = file.len() as u64;
-    let mut inputs = inputs_of(alloc, file, failing(alloc, call)?)?;
-    read_all(alloc, &mut inputs, 0, most)
+/// Adds what `MOST FILE` finds: the bytes of the file, or `too_long`.
+pub fn whole(alloc: Global, found: &mut Vec<u8>, given: &str) -> Result<bool, AllocError> {
+    let Some((most, field)) = numbered(given) else {
+        return Ok(false);
+    };
+    match bytes_of(alloc, field)? {
+        Some(file) => put_bytes(found, &read_bytes(alloc, most, file, 0)),
+        None => Ok(false),
+    }
 }
 
-/// A row `MOST FILE => WANTED`: the bytes of the file, or `too_long`.
-pub fn whole(alloc: Global, text: &str) -> Result<Verdict, AllocError> {
-    let Some((most, text)) = numbered(text) else {
-        return Ok(Verdict::NoRow);
-    };
-    let Some((file, wanted)) = file_of(alloc, text)? else {
-        return Ok(Verdict::NoRow);
-    };
-    let found = bytes_text(alloc, read_bytes(alloc, most, file))?;
-    compared(alloc, &found, wanted)
+/// Adds what `LIMITS FILE` finds: the keys of the entries, or what stops the reading.
+pub fn within(alloc: Global, found: &mut Vec<u8>, given: &str) -> Result<bool, AllocError> {
+    match limited(given) {
+        Some((limits, field)) => put_file(alloc, found, &limits, bytes_of(alloc, field)?, 0),
+        None => Ok(false),
+    }
 }
 
-/// A row `CALL FILE => WANTED`: the same of a file of which this call fails.
-pub fn whole_failing(alloc: Global, text: &str) -> Result<Verdict, AllocError> {
-    let Some((call, text)) = numbered(text) else {
-        return Ok(Verdict::NoRow);
+/// Adds what is found of `bytes CALL FILE` and `entries CALL FILE`, where this call fails, and of `behind COUNT FILE`,
+/// the entries of a file before which so many lines `#` stand.
+pub fn reads(
+    alloc: Global,
+    found: &mut Vec<u8>,
+    word: &str,
+    given: &str,
+) -> Result<bool, AllocError> {
+    let Some((number, field)) = numbered(given) else {
+        return Ok(false);
     };
-    let Some((file, wanted)) = file_of(alloc, text)? else {
-        return Ok(Verdict::NoRow);
-    };
-    let found = bytes_text(alloc, read_bytes_failing(alloc, call, file))?;
-    compared(alloc, &found, wanted)
+    match word {
+        "bytes" => failing(alloc, found, number, field),
+        "entries" => put_file(
+            alloc,
+            found,
+            &Limits::standard(),
+            bytes_of(alloc, field)?,
+            number,
+        ),
+        "behind" => put_file(
+            alloc,
+            found,
+            &Limits::standard(),
+            behind(alloc, number, field)?,
+            0,
+        ),
+        _ => Ok(false),
+    }
 }
 
-/// A row `LIMITS FILE => WANTED`: the keys of the entries, or what stops the reading.
-pub fn entries(alloc: Global, text: &str) -> Result<Verdict, AllocError> {
-    let Some((limits, text)) = row_of(text) else {
-        return Ok(Verdict::NoRow);
-    };
-    let Some(limits) = limits_of(limits) else {
-        return Ok(Verdict::NoRow);
-    };
-    let Some((file, wanted)) = file_of(alloc, text)? else {
-        return Ok(Verdict::NoRow);
-    };
-    let found = entries_text(alloc, read_entries(alloc, &limits, file))?;
-    compared(alloc, found.as_bytes(), wanted)
+/// Adds the bytes of a file, all of which may be read, but for a call that fails.
+fn failing(alloc: Global, found: &mut Vec<u8>, call: u64, field: &str) -> Result<bool, AllocError> {
+    match bytes_of(alloc, field)? {
+        Some(file) => {
+            let most = file.len() as u64;
+            put_bytes(found, &read_bytes(alloc, most, file, call))
+        }
+        None => Ok(false),
+    }
 }
 
-/// A row `CALL FILE => WANTED`: the same of a file of which this call fails.
-pub fn entries_failing(alloc: Global, text: &str) -> Result<Verdict, AllocError> {
-    let Some((call, text)) = numbered(text) else {
-        return Ok(Verdict::NoRow);
-    };
-    let Some((file, wanted)) = file_of(alloc, text)? else {
-        return Ok(Verdict::NoRow);
-    };
-    let found = entries_text(alloc, read_entries_failing(alloc, call, file))?;
-    compared(alloc, found.as_bytes(), wanted)
-}
-
-/// A row `COUNT FILE => WANTED`: the same of a file before which so many lines `#` stand.
-pub fn entries_behind(alloc: Global, text: &str) -> Result<Verdict, AllocError> {
-    let Some((count, text)) = numbered(text) else {
-        return Ok(Verdict::NoRow);
-    };
-    let Some((file, wanted)) = file_of(alloc, text)? else {
-        return Ok(Verdict::NoRow);
-    };
+/// The file that a field writes, behind so many lines `#`.
+fn behind(alloc: Global, count: u64, field: &str) -> Result<Option<Vec<u8>>, AllocError> {
     let mut long = Vec::new(alloc);
     for _ in 0..count {
         long.extend_from_slice(b"#\n")?;
     }
-    long.extend_from_slice(&file)?;
-    let found = entries_text(alloc, read_entries(alloc, &Limits::standard(), long))?;
-    compared(alloc, found.as_bytes(), wanted)
+    let good = put_field(alloc, &mut long, field)?;
+    Ok(if good { Some(long) } else { None })
+}
+
+/// Adds the bytes that a field writes. False: it writes none.
+fn put_field(alloc: Global, bytes: &mut Vec<u8>, field: &str) -> Result<bool, AllocError> {
+    match bytes_of(alloc, field)? {
+        Some(more) => {
+            bytes.extend_from_slice(&more)?;
+            Ok(true)
+        }
+        None => Ok(false),
+    }
 }
 
 /// The number in front of a row, and the text behind it.
@@ -120,84 +120,108 @@ fn numbered(text: &str) -> Option<(u64, &str)> {
     Some((number_of(number)?, text))
 }
 
-/// The file that stands before the arrow of a row, and what is wanted behind it.
-fn file_of(alloc: Global, text: &str) -> Result<Option<(Vec<u8>, &str)>, AllocError> {
-    let Some((given, wanted)) = sides_of(text) else {
-        return Ok(None);
-    };
-    let file = bytes_of(alloc, given)?;
-    Ok(file.map(|file| (file, wanted)))
-}
-
-/// What reading all bytes gave.
-fn bytes_text(alloc: Global, read: Result<Bytes, WholeFault>) -> Result<Vec<u8>, AllocError> {
-    match read {
-        Ok(bytes) => Ok(bytes.into_vec()),
-        Err(WholeFault::TooLong) => Vec::from_slice(alloc, b"too_long"),
-        Err(WholeFault::ReadFault) => Vec::from_slice(alloc, b"read_fault"),
-        Err(WholeFault::OutOfMemory) => Vec::from_slice(alloc, b"out_of_memory"),
-    }
-}
-
-/// What reading the entries gave.
-fn entries_text(alloc: Global, read: Result<Change, FileFault>) -> Result<String, AllocError> {
-    match read {
-        Ok(change) => keys_text(alloc, change.entries()),
-        Err(fault) => fault_text(alloc, fault),
-    }
-}
-
-/// The limits that a field writes: `standard`, or bytes of a line, lines and entries with commas between.
-fn limits_of(field: &str) -> Option<Limits> {
+/// The limits in front of a row, and the text behind them: `standard`, or bytes of a line, lines and entries with commas
+/// between.
+fn limited(text: &str) -> Option<(Limits, &str)> {
+    let (field, text) = row_of(text)?;
     if field == "standard" {
-        return Some(Limits::standard());
+        return Some((Limits::standard(), text));
     }
     let (line_bytes, rest) = field.split_once(',')?;
     let (lines, entries) = rest.split_once(',')?;
-    Limits::new(LimitNumbers {
+    let limits = Limits::new(LimitNumbers {
         line_bytes: number_of(line_bytes)?,
         lines: number_of(lines)?,
         entries: number_of(entries)?,
         ..Limits::standard().numbers()
-    })
+    })?;
+    Some((limits, text))
 }
 
-/// The keys of entries, each with a minus where it is deleted.
-fn keys_text(alloc: Global, entries: &[Entry]) -> Result<String, AllocError> {
-    let mut text = String::new(alloc);
-    for entry in entries {
-        if !text.is_empty() {
-            text.push(' ')?;
+/// Adds what reading all bytes gave.
+fn put_bytes(found: &mut Vec<u8>, read: &Result<Bytes, WholeFault>) -> Result<bool, AllocError> {
+    let bytes: &[u8] = match read {
+        Ok(bytes) => bytes.as_slice(),
+        Err(WholeFault::TooLong) => b"too_long",
+        Err(WholeFault::ReadFault) => b"read_fault",
+        Err(WholeFault::OutOfMemory) => b"out_of_memory",
+    };
+    found.extend_from_slice(bytes)?;
+    Ok(true)
+}
+
+/// Adds what reading the entries of a file gives, of which a call may fail. False: there is no file.
+fn put_file(
+    alloc: Global,
+    found: &mut Vec<u8>,
+    limits: &Limits,
+    file: Option<Vec<u8>>,
+    call: u64,
+) -> Result<bool, AllocError> {
+    match file {
+        Some(file) => {
+            put_entries(alloc, found, &read_entries(alloc, limits, file, call))?;
+            Ok(true)
         }
-        text.push_str(&key_text(alloc, entry.key)?)?;
+        None => Ok(false),
+    }
+}
+
+/// Adds what reading the entries gave.
+fn put_entries(
+    alloc: Global,
+    found: &mut Vec<u8>,
+    read: &Result<Change, FileFault>,
+) -> Result<(), AllocError> {
+    match read {
+        Ok(change) => put_keys(alloc, found, change.entries()),
+        Err(FileFault::Malformed { line, why }) => put_malformed(alloc, found, *line, *why),
+        Err(FileFault::Limit { which, value }) => {
+            put_number(alloc, found, limit_words(*which), *value)
+        }
+        Err(FileFault::ReadFault) => found.extend_from_slice(b"read_fault"),
+        Err(FileFault::OutOfMemory) => found.extend_from_slice(b"out_of_memory"),
+    }
+}
+
+/// Adds the keys of entries, each with a minus where it is deleted.
+fn put_keys(alloc: Global, found: &mut Vec<u8>, entries: &[Entry]) -> Result<(), AllocError> {
+    for entry in entries {
+        if !found.is_empty() {
+            found.push(b' ')?;
+        }
+        put_key(alloc, found, entry.key)?;
         if entry.object.is_none() {
-            text.push('-')?;
+            found.push(b'-')?;
         }
     }
-    Ok(text)
+    Ok(())
 }
 
-/// What stops the reading of a file.
-fn fault_text(alloc: Global, fault: FileFault) -> Result<String, AllocError> {
-    match fault {
-        FileFault::Malformed { line, why } => match why {
-            Why::Order { earlier, later } => {
-                let earlier = key_text(alloc, earlier)?;
-                let later = key_text(alloc, later)?;
-                format!(in alloc; "malformed {line} {} {earlier} {later}", why.number())
-            }
-            _ => format!(in alloc; "malformed {line} {}", why.number()),
-        },
-        FileFault::Limit { which, value } => {
-            let name = match which {
-                LimitKind::LineBytes => "line_bytes",
-                LimitKind::FileLines => "lines",
-                LimitKind::FileEntries => "entries",
-                _ => "another",
-            };
-            format!(in alloc; "limit {name} {value}")
-        }
-        FileFault::ReadFault => String::from_str(alloc, "read_fault"),
-        FileFault::OutOfMemory => String::from_str(alloc, "out_of_memory"),
+/// Adds a line with a fault and its cause.
+fn put_malformed(
+    alloc: Global,
+    found: &mut Vec<u8>,
+    line: u32,
+    why: Why,
+) -> Result<(), AllocError> {
+    let text = format!(in alloc; "malformed {line} {}", why.number())?;
+    found.extend_from_slice(text.as_bytes())?;
+    if let Why::Order { earlier, later } = why {
+        found.push(b' ')?;
+        put_key(alloc, found, earlier)?;
+        found.push(b' ')?;
+        put_key(alloc, found, later)?;
+    }
+    Ok(())
+}
+
+/// The words before the number that passes a limit.
+fn limit_words(which: LimitKind) -> &'static str {
+    match which {
+        LimitKind::LineBytes => "limit line_bytes ",
+        LimitKind::FileLines => "limit lines ",
+        LimitKind::FileEntries => "limit entries ",
+        _ => "limit another ",
     }
 }

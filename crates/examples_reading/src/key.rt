@@ -6,14 +6,25 @@ use example_table::number_of;
 use osm_base::{Key, Kind, MAX_ID};
 use std::alloc::{AllocError, Global};
 
-/// The text of a key.
-pub fn key_text(alloc: Global, key: Key) -> Result<String, AllocError> {
+/// Adds the text of a key.
+pub fn put_key(alloc: Global, found: &mut Vec<u8>, key: Key) -> Result<(), AllocError> {
     let letter = match key.kind {
-        Kind::Node => 'n',
-        Kind::Way => 'w',
-        Kind::Relation => 'r',
+        Kind::Node => "n",
+        Kind::Way => "w",
+        Kind::Relation => "r",
     };
-    format!(in alloc; "{letter}{}", key.id)
+    put_number(alloc, found, letter, key.id)
+}
+
+/// Adds a number behind a text.
+pub fn put_number(
+    alloc: Global,
+    found: &mut Vec<u8>,
+    before: &str,
+    number: u64,
+) -> Result<(), AllocError> {
+    let text = format!(in alloc; "{before}{number}")?;
+    found.extend_from_slice(text.as_bytes())
 }
 
 /// The key that a field writes.

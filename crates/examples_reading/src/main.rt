@@ -6,6 +6,8 @@
 //! after changes (`folds.txt`), the ways that a change makes due (`ways_due.txt`) and the objects whose rows
 //! it may change (`pending.txt`). The head of each says what its columns are, and where what is wanted comes
 //! from.
+//!
+//! What runs an example adds what is found to bytes that `passes` owns, and says whether its row is in its form.
 #![tactic(auto)]
 
 mod changes;
@@ -17,13 +19,11 @@ mod pending_sets;
 mod questions;
 mod tags;
 mod values;
-mod verdict;
 
-use example_table::{is_told, refuse_row, row_of};
+use example_table::{bytes_of, row_of, sides_of};
 use std::alloc::{AllocError, Global};
 use std::process::ExitCode;
 use std::{fs, io};
-use verdict::Verdict;
 
 /// The tables.
 const TABLES: [&str; 11] = [
@@ -41,58 +41,112 @@ const TABLES: [&str; 11] = [
 ];
 
 fn main(rt: HostRuntime) -> io::Result<ExitCode> {
-    let alloc = rt.alloc();
     for name in TABLES {
         let table = fs::read_to_string(&rt, name)?;
-        for line in table.lines() {
-            let Some((word, text)) = row_of(line) else {
-                continue;
-            };
-            if !passes(&rt, alloc, name, word, text)? {
-                return Ok(ExitCode::from(1));
-            }
+        if !passes_all(&rt, name, &table)? {
+            return Ok(ExitCode::from(1));
         }
     }
     Ok(ExitCode::from(0))
 }
 
-/// Runs the example of a row of a table, and prints its name or tells what differs.
-fn passes<R: Print + Eprint>(
+/// Runs the examples of a table up to the first that differs. True: none does.
+fn passes_all<R: Print + Eprint + AllocGlobal>(
     rt: &R,
-    alloc: Global,
+    name: &str,
+    table: &str,
+) -> io::Result<bool> {
+    for line in table.lines() {
+        if let Some((word, text)) = row_of(line) {
+            if !passes(rt, name, word, text)? {
+                return Ok(false);
+            }
+        }
+    }
+    Ok(true)
+}
+
+/// Runs the example of a row of a table, and prints its name or tells what was found.
+fn passes<R: Print + Eprint + AllocGlobal>(
+    rt: &R,
     table: &str,
     word: &str,
     text: &str,
 ) -> io::Result<bool> {
-    let verdict = verdict_of(alloc, table, word, text)?;
-    let name = format!(in alloc; "{table} {word} {text}")?;
-    match verdict {
-        Verdict::Same => is_told(rt, &name, None),
-        Verdict::Differs(found) => is_told(rt, &name, Some(found)),
-        Verdict::NoRow => {
-            refuse_row(rt, &name)?;
-            Ok(false)
-        }
+    let mut found = Vec::new(rt.alloc());
+    let same = is_same(rt.alloc(), &mut found, table, word, text)?;
+    if same {
+        println!(rt; "{table} {word} {text}")?;
+    } else {
+        tell(rt, table, word, text, &found)?;
+    }
+    Ok(same)
+}
+
+/// Tells on standard error what was found of a row that differs, or is not in its form.
+fn tell<R: Eprint>(rt: &R, table: &str, word: &str, text: &str, found: &[u8]) -> io::Result<()> {
+    match std::str::from_utf8(found) {
+        Ok(found) => eprintln!(rt; "{table} {word} {text}: found {found}"),
+        Err(_) => eprintln!(rt; "{table} {word} {text}: found {found:?}"),
     }
 }
 
-/// What became of the example of a row.
-fn verdict_of(alloc: Global, table: &str, word: &str, text: &str) -> Result<Verdict, AllocError> {
-    match (table, word) {
-        ("degrees.txt", _) => values::degrees(alloc, word, text),
-        ("keys.txt", _) => values::keys(alloc, word, text),
-        ("limits.txt", _) => values::limits(alloc, word, text),
-        ("tags.txt", _) => tags::tags(alloc, word, text),
-        ("cuts.txt", "lines") => cuts::lines(alloc, text),
-        ("cuts.txt", "within") => cuts::within(alloc, text),
-        ("whole.txt", _) => entries::whole(alloc, text),
-        ("entries.txt", _) => entries::entries(alloc, text),
-        ("reads.txt", "bytes") => entries::whole_failing(alloc, text),
-        ("reads.txt", "entries") => entries::entries_failing(alloc, text),
-        ("reads.txt", "behind") => entries::entries_behind(alloc, text),
-        ("folds.txt", _) => changes::folds(alloc, text),
-        ("ways_due.txt", _) => changes::ways(alloc, text),
-        ("pending.txt", _) => pending_sets::sets(alloc, text),
-        _ => Ok(Verdict::NoRow),
+/// Adds what an example finds to `found`, and says whether it is what its row wants.
+fn is_same(
+    alloc: Global,
+    found: &mut Vec<u8>,
+    table: &str,
+    word: &str,
+    text: &str,
+) -> Result<bool, AllocError> {
+    let Some((given, wanted)) = sides_of(text) else {
+        return Ok(false);
+    };
+    let good = match table {
+        "folds.txt" => changes::folds(alloc, found, given, wanted)?,
+        _ => put_found(alloc, found, table, word, given)?,
+    };
+    Ok(good && is_text(alloc, found, wanted)?)
+}
+
+/// Whether bytes are what a field writes.
+fn is_text(alloc: Global, bytes: &[u8], field: &str) -> Result<bool, AllocError> {
+    match bytes_of(alloc, field)? {
+        Some(wanted) => Ok(bytes == wanted.as_slice()),
+        None => Ok(false),
+    }
+}
+
+/// Adds what the example of a row finds. False: the row is not in its form.
+fn put_found(
+    alloc: Global,
+    found: &mut Vec<u8>,
+    table: &str,
+    word: &str,
+    given: &str,
+) -> Result<bool, AllocError> {
+    match table {
+        "degrees.txt" => values::degrees(found, word),
+        "keys.txt" => put_word(found, values::order(word, given)),
+        "limits.txt" => put_word(found, values::limits(word, given)),
+        "tags.txt" => tags::tags(alloc, found, word, given),
+        "cuts.txt" => cuts::cuts(alloc, found, word, given),
+        "whole.txt" => entries::whole(alloc, found, given),
+        "entries.txt" => entries::within(alloc, found, given),
+        "reads.txt" => entries::reads(alloc, found, word, given),
+        "ways_due.txt" => changes::ways(alloc, found, given),
+        "pending.txt" => pending_sets::sets(alloc, found, given),
+        _ => Ok(false),
+    }
+}
+
+/// Adds a word, where there is one.
+fn put_word(found: &mut Vec<u8>, word: Option<&str>) -> Result<bool, AllocError> {
+    match word {
+        Some(word) => {
+            found.extend_from_slice(word.as_bytes())?;
+            Ok(true)
+        }
+        None => Ok(false),
     }
 }

@@ -1,126 +1,143 @@
 //! Examples of the objects whose rows a change may change.
-use crate::changes::{change_of, objects_of};
-use crate::verdict::{Verdict, compared};
+use crate::changes::{change_of, fold_files};
+use crate::key::put_number;
 use dep_closure::{PendingFault, pending};
-use example_table::{bytes_of, number_of, row_of, sides_of};
+use example_table::{bytes_of, number_of, row_of};
 use object_fold::{Change, ObjectIndex, Objects};
 use osm_base::{Limits, PendingSet};
 use std::alloc::{AllocError, Global};
 use style_read::{Style, read_style};
 
-/// What a row gives: a style, the objects before a change and after it, the change, and the most
-/// objects that may be pending.
-#[derive(Drop)]
-struct Given {
-    style: Style,
-    old: Objects,
-    new: Objects,
-    change: Change,
-    limits: Limits,
-}
-
-/// A row `STYLE FILE CHANGE LIMIT => WANTED`: the keys of the objects that are pending.
-pub fn sets(alloc: Global, text: &str) -> Result<Verdict, AllocError> {
-    let Some((fields, wanted)) = sides_of(text) else {
-        return Ok(Verdict::NoRow);
+/// Adds what `STYLE FILE CHANGE LIMIT` finds: the keys of the objects that are pending.
+pub fn sets(alloc: Global, found: &mut Vec<u8>, given: &str) -> Result<bool, AllocError> {
+    let Some((style, rest)) = row_of(given) else {
+        return Ok(false);
     };
-    let Some((style, rest)) = row_of(fields) else {
-        return Ok(Verdict::NoRow);
-    };
-    let Some((file, rest)) = row_of(rest) else {
-        return Ok(Verdict::NoRow);
-    };
-    let Some((change, limit)) = row_of(rest) else {
-        return Ok(Verdict::NoRow);
-    };
-    let Some(given) = fields_of(alloc, style, file, change, limit)? else {
-        return Ok(Verdict::NoRow);
-    };
-    let found = set_text(alloc, &given)?;
-    compared(alloc, found.as_bytes(), wanted)
-}
-
-/// What the fields of a row give.
-fn fields_of(
-    alloc: Global,
-    style: &str,
-    file: &str,
-    change: &str,
-    limit: &str,
-) -> Result<Option<Given>, AllocError> {
-    let Some(style) = style_of(alloc, style)? else {
-        return Ok(None);
-    };
-    let files = format!(in alloc; "{file} {change}")?;
-    let Some(old) = objects_of(alloc, file)? else {
-        return Ok(None);
-    };
-    let Some(new) = objects_of(alloc, files.as_str())? else {
-        return Ok(None);
-    };
-    let Some(change) = change_of(alloc, change)? else {
-        return Ok(None);
-    };
-    let Some(limits) = limits_of(limit) else {
-        return Ok(None);
-    };
-    Ok(Some(Given {
-        style,
-        old,
-        new,
-        change,
-        limits,
-    }))
-}
-
-/// The style that a field writes.
-fn style_of(alloc: Global, field: &str) -> Result<Option<Style>, AllocError> {
-    let Some(bytes) = bytes_of(alloc, field)? else {
-        return Ok(None);
-    };
-    Ok(read_style(alloc, bytes.as_slice()).ok())
-}
-
-/// The limits of the program, but for so many pending objects.
-fn limits_of(field: &str) -> Option<Limits> {
-    let mut numbers = Limits::standard().numbers();
-    numbers.pending = number_of(field)?;
-    Limits::new(numbers)
-}
-
-/// What is pending, or why it is not told.
-fn set_text(alloc: Global, given: &Given) -> Result<String, AllocError> {
-    let mut index = ObjectIndex::new(&given.new);
-    match pending(
-        alloc,
-        &given.style,
-        &given.change,
-        &mut index,
-        &given.old,
-        &given.limits,
-    ) {
-        Ok(set) => keys_of(alloc, &set),
-        Err(PendingFault::TooMany { value }) => format!(in alloc; "many {value}"),
-        Err(_) => String::from_str(alloc, "refused"),
+    match style_of(alloc, style) {
+        Some(style) => set_of(alloc, found, &style, rest),
+        None => Ok(false),
     }
 }
 
-/// The keys of a set, with blanks between.
-fn keys_of(alloc: Global, set: &PendingSet) -> Result<String, AllocError> {
-    let mut text = String::new(alloc);
-    push_keys(alloc, &mut text, 'n', set.nodes())?;
-    push_keys(alloc, &mut text, 'w', set.ways())?;
-    push_keys(alloc, &mut text, 'r', set.relations())?;
-    Ok(text)
+/// The style that a field writes.
+fn style_of(alloc: Global, field: &str) -> Option<Style> {
+    match bytes_of(alloc, field) {
+        Ok(Some(bytes)) => read_style(alloc, &bytes).ok(),
+        _ => None,
+    }
+}
+
+/// The fields `FILE CHANGE LIMIT`.
+#[derive(Clone, Copy)]
+struct Fields<'a> {
+    file: &'a str,
+    change: &'a str,
+    limits: Limits,
+}
+
+/// The fields that a text has.
+fn fields_of(text: &str) -> Option<Fields<'_>> {
+    let (file, text) = row_of(text)?;
+    let (change, limit) = row_of(text)?;
+    let mut numbers = Limits::standard().numbers();
+    numbers.pending = number_of(limit)?;
+    let limits = Limits::new(numbers)?;
+    Some(Fields {
+        file,
+        change,
+        limits,
+    })
+}
+
+/// Adds the keys of what is pending with a style.
+fn set_of(
+    alloc: Global,
+    found: &mut Vec<u8>,
+    style: &Style,
+    text: &str,
+) -> Result<bool, AllocError> {
+    let Some(fields) = fields_of(text) else {
+        return Ok(false);
+    };
+    match change_of(alloc, fields.change) {
+        Some(change) => set_after(alloc, found, style, &fields, &change),
+        None => Ok(false),
+    }
+}
+
+/// Adds the keys of what is pending after a change.
+fn set_after(
+    alloc: Global,
+    found: &mut Vec<u8>,
+    style: &Style,
+    fields: &Fields<'_>,
+    change: &Change,
+) -> Result<bool, AllocError> {
+    let mut old = Objects::new(alloc);
+    if fold_files(alloc, &mut old, fields.file) {
+        set_between(alloc, found, style, fields, change, &old)
+    } else {
+        Ok(false)
+    }
+}
+
+/// Adds the keys of what is pending between the objects before a change and those after it.
+fn set_between(
+    alloc: Global,
+    found: &mut Vec<u8>,
+    style: &Style,
+    fields: &Fields<'_>,
+    change: &Change,
+    old: &Objects,
+) -> Result<bool, AllocError> {
+    let mut new = Objects::new(alloc);
+    let file = fold_files(alloc, &mut new, fields.file);
+    if fold_files(alloc, &mut new, fields.change) && file {
+        put_set(alloc, found, style, change, &new, old, &fields.limits)
+    } else {
+        Ok(false)
+    }
+}
+
+/// Adds the keys of what is pending, or why it is not told.
+fn put_set(
+    alloc: Global,
+    found: &mut Vec<u8>,
+    style: &Style,
+    change: &Change,
+    new: &Objects,
+    old: &Objects,
+    limits: &Limits,
+) -> Result<bool, AllocError> {
+    match pending(
+        alloc,
+        style,
+        change,
+        &mut ObjectIndex::new(new),
+        old,
+        limits,
+    ) {
+        Ok(set) => put_keys(alloc, found, &set)?,
+        Err(PendingFault::TooMany { value }) => put_number(alloc, found, "many ", value)?,
+        Err(_) => return Ok(false),
+    }
+    Ok(true)
+}
+
+/// Adds the keys of a set, with blanks between.
+fn put_keys(alloc: Global, found: &mut Vec<u8>, set: &PendingSet) -> Result<(), AllocError> {
+    put_ids(alloc, found, "n", set.nodes())?;
+    put_ids(alloc, found, "w", set.ways())?;
+    put_ids(alloc, found, "r", set.relations())
 }
 
 /// Adds the keys of one kind.
-fn push_keys(alloc: Global, text: &mut String, kind: char, ids: &[u64]) -> Result<(), AllocError> {
+fn put_ids(alloc: Global, found: &mut Vec<u8>, kind: &str, ids: &[u64]) -> Result<(), AllocError> {
     for id in ids {
-        if !text.is_empty() {
-            text.push(' ')?;
+        if !found.is_empty() {
+            found.push(b' ')?;
         }
-        text.push_str(&format!(in alloc; "{kind}{id}")?)?;
+        put_number(alloc, found, kind, *id)?;
     }
     Ok(())
 }

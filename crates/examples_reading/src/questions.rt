@@ -1,130 +1,96 @@
-//! Questions about objects, with their answers.
+//! Questions about objects, with the answers that are wanted.
 ghost use Rattle.std.specs.Prelude.{◌≡◌, false};
 
-use crate::key::{key_of, key_text};
+use crate::key::key_of;
 use example_table::{number_of, row_of};
 use object_fold::{ObjectIndex, Objects};
 use osm_base::{Back, DegreesBuffer, Ids, Lookup, Object, Tags};
-use std::alloc::{AllocError, Global};
+use std::alloc::AllocError;
 
-/// The questions that a text asks, each with the answer that the objects give. `None`: one of them is none.
-pub fn answers(
-    alloc: Global,
+/// Adds the questions of a text, if the objects answer each as it says, and else what is left from the first that they
+/// answer otherwise.
+pub fn put_answers(
+    found: &mut Vec<u8>,
     objects: &mut Objects,
-    asked: &str,
-) -> Result<Option<String>, AllocError> {
-    let mut text = String::new(alloc);
-    let mut rest = asked;
-    for _ in 0..asked.len() {
-        let Some((word, behind)) = row_of(rest) else {
-            return Ok(Some(text));
-        };
-        let Some((answer, behind)) = answer(alloc, objects, word, behind)? else {
-            return Ok(None);
-        };
-        if !text.is_empty() {
-            text.push(' ')?;
-        }
-        text.push_str(&answer)?;
-        rest = behind;
+    questions: &str,
+) -> Result<bool, AllocError> {
+    let left = unanswered(objects, questions);
+    if left.is_empty() {
+        found.extend_from_slice(questions.as_bytes())?;
+    } else {
+        found.extend_from_slice(b"otherwise: ")?;
+        found.extend_from_slice(left.as_bytes())?;
     }
-    Ok(Some(text))
+    Ok(true)
 }
 
-/// The answer to one question, and the text behind it.
-fn answer<'a>(
-    alloc: Global,
-    objects: &mut Objects,
-    word: &str,
-    text: &'a str,
-) -> Result<Option<(String, &'a str)>, AllocError> {
-    let Some((subject, rest)) = row_of(text) else {
-        return Ok(None);
-    };
-    let found = match word {
-        "there" | "gone" => presence(alloc, objects, subject)?,
-        "place" | "placeless" => place(alloc, objects, subject)?,
+/// What is left of a text from the first question on that objects answer otherwise.
+fn unanswered<'a>(objects: &mut Objects, questions: &'a str) -> &'a str {
+    let mut rest = questions;
+    for _ in 0..questions.len() {
+        match row_of(rest) {
+            Some((word, text)) => match behind(objects, word, text) {
+                Some(behind) => rest = behind,
+                None => return rest,
+            },
+            None => return rest,
+        }
+    }
+    rest
+}
+
+/// The text behind a question that objects answer as it says.
+fn behind<'a>(objects: &mut Objects, word: &str, text: &'a str) -> Option<&'a str> {
+    let (subject, rest) = row_of(text)?;
+    let (good, rest) = match word {
+        "there" => (is_there(objects, subject)?, rest),
+        "gone" => (!is_there(objects, subject)?, rest),
+        "placeless" => (objects.place_of(number_of(subject)?).is_none(), rest),
+        "place" => {
+            let (lon, rest) = row_of(rest)?;
+            let (lat, rest) = row_of(rest).unwrap_or((rest, ""));
+            (is_at(objects, number_of(subject)?, lon, lat), rest)
+        }
         "tagged" | "bare" => {
-            let Some((name, rest)) = row_of(rest) else {
-                return Ok(None);
-            };
-            let found = tag(alloc, objects, subject, name)?;
-            return Ok(found.map(|found| (found, rest)));
+            let (name, rest) = row_of(rest)?;
+            (
+                is_tagged(objects, subject, name)? == (word == "tagged"),
+                rest,
+            )
         }
-        _ => listing(alloc, objects, word, subject)?,
+        _ => {
+            let (id, ids) = subject.split_once('=')?;
+            (are_listers(objects, word, number_of(id)?, ids), rest)
+        }
     };
-    let rest = if word == "place" {
-        behind_two(rest)
-    } else {
-        rest
-    };
-    Ok(found.map(|found| (found, rest)))
+    if good { Some(rest) } else { None }
 }
 
-/// The text behind its first two words.
-fn behind_two(text: &str) -> &str {
-    match row_of(text) {
-        Some((_, text)) => match row_of(text) {
-            Some((_, text)) => text,
-            None => "",
-        },
-        None => "",
-    }
+/// Whether there is an object of the key that a field writes.
+fn is_there(objects: &Objects, field: &str) -> Option<bool> {
+    Some(objects.object_of(key_of(field)?).is_some())
 }
 
-/// Whether there is an object of a key.
-fn presence(alloc: Global, objects: &Objects, field: &str) -> Result<Option<String>, AllocError> {
-    let Some(key) = key_of(field) else {
-        return Ok(None);
-    };
-    let word = if objects.object_of(key).is_some() {
-        "there"
-    } else {
-        "gone"
-    };
-    Ok(Some(format!(in alloc; "{word} {}", key_text(alloc, key)?)?))
-}
-
-/// The place of a node, where it has one.
-fn place(alloc: Global, objects: &Objects, field: &str) -> Result<Option<String>, AllocError> {
-    let Some(id) = number_of(field) else {
-        return Ok(None);
-    };
+/// Whether a node is at a place.
+fn is_at(objects: &Objects, id: u64, lon: &str, lat: &str) -> bool {
     match objects.place_of(id) {
-        None => Ok(Some(format!(in alloc; "placeless {id}")?)),
-        Some(place) => {
-            let lon = degrees(alloc, place.lon)?;
-            let lat = degrees(alloc, place.lat)?;
-            Ok(Some(format!(in alloc; "place {id} {lon} {lat}")?))
-        }
+        Some(place) => is_degrees(place.lon, lon) && is_degrees(place.lat, lat),
+        None => false,
     }
 }
 
-/// A coordinate in degrees.
-fn degrees(alloc: Global, units: i32) -> Result<String, AllocError> {
+/// Whether a coordinate in degrees is this text.
+fn is_degrees(units: i32, text: &str) -> bool {
     let mut buffer = DegreesBuffer::new();
-    match std::str::from_utf8(buffer.format(units)) {
-        Ok(text) => String::from_str(alloc, text),
-        Err(_) => Ok(String::new(alloc)),
-    }
+    buffer.format(units) == text.as_bytes()
 }
 
 /// Whether an object has a tag of this name.
-fn tag(
-    alloc: Global,
-    objects: &Objects,
-    field: &str,
-    name: &str,
-) -> Result<Option<String>, AllocError> {
-    let Some(key) = key_of(field) else {
-        return Ok(None);
-    };
-    let held = match objects.object_of(key) {
-        Some(object) => tags_of(object).get(name).is_some(),
-        None => false,
-    };
-    let word = if held { "tagged" } else { "bare" };
-    Ok(Some(format!(in alloc; "{word} {} {name}", key_text(alloc, key)?)?))
+fn is_tagged(objects: &Objects, field: &str, name: &str) -> Option<bool> {
+    match objects.object_of(key_of(field)?) {
+        Some(object) => Some(tags_of(object).get(name).is_some()),
+        None => Some(false),
+    }
 }
 
 /// The tags of an object.
@@ -135,37 +101,31 @@ fn tags_of(object: &Object) -> &Tags {
     }
 }
 
-/// Who lists an object, as the objects and an index of them tell, and `Lookup` where it can be asked.
-fn listing(
-    alloc: Global,
-    objects: &mut Objects,
-    word: &str,
-    field: &str,
-) -> Result<Option<String>, AllocError> {
-    let Some((subject, _)) = field.split_once('=') else {
-        return Ok(None);
-    };
-    let Some(id) = number_of(subject) else {
-        return Ok(None);
-    };
-    let Some(ids) = listers(objects, word, id) else {
-        return Ok(None);
-    };
-    let Some(again) = listers(&mut ObjectIndex::new(objects), word, id) else {
-        return Ok(None);
-    };
-    if ids.as_slice() != again.as_slice() || !is_looked_up(objects, word, id, &ids) {
-        return Ok(Some(String::from_str(alloc, "another answer")?));
-    }
-    Ok(Some(format!(in alloc; "{word} {id}={}", listed(alloc, &ids)?)?))
+/// Whether these list an object, as the objects and an index of them tell, and `Lookup` where it can be asked.
+fn are_listers(objects: &mut Objects, word: &str, id: u64, field: &str) -> bool {
+    are_told(objects, word, id, field)
+        && are_told(&mut ObjectIndex::new(objects), word, id, field)
+        && are_looked_up(objects, word, id, field)
 }
 
 /// Whether a look-up gives these ids too, where the question of a word is one of it.
-fn is_looked_up(objects: &Objects, word: &str, id: u64, ids: &Ids) -> bool {
+fn are_looked_up(objects: &Objects, word: &str, id: u64, field: &str) -> bool {
     match word {
-        "of_node" => ids.as_slice() == objects.relations_of_node(id),
-        "of_way" => ids.as_slice() == objects.relations_of_way(id),
+        "of_node" => are_ids(objects.relations_of_node(id), field),
+        "of_way" => are_ids(objects.relations_of_way(id), field),
         _ => true,
+    }
+}
+
+/// Whether an index gives these ids to the question of a word.
+fn are_told<B: Back>(back: &mut B, word: &str, id: u64, field: &str) -> bool
+where
+    B::Refusal: Drop,
+    requires { B.spent back.old ≡ false }
+{
+    match listers(back, word, id) {
+        Some(ids) => are_ids(ids.as_slice(), field),
+        None => false,
     }
 }
 
@@ -183,14 +143,17 @@ where
     }
 }
 
-/// Ids with commas between.
-fn listed(alloc: Global, ids: &Ids) -> Result<String, AllocError> {
-    let mut text = String::new(alloc);
-    for id in ids.as_slice() {
-        if !text.is_empty() {
-            text.push(',')?;
-        }
-        text.push_str(&format!(in alloc; "{id}")?)?;
+/// Whether a field writes these ids, with commas between.
+fn are_ids(ids: &[u64], field: &str) -> bool {
+    if field.is_empty() {
+        return ids.is_empty();
     }
-    Ok(text)
+    let mut rest = ids;
+    for number in field.split(',') {
+        match (rest, number_of(number)) {
+            ([first, behind @ ..], Some(number)) if *first == number => rest = behind,
+            _ => return false,
+        }
+    }
+    rest.is_empty()
 }

@@ -1,70 +1,91 @@
 //! Examples of tags.
-use crate::verdict::{Verdict, compared};
-use example_table::{sides_of, text_of};
+use example_table::words_of;
 use osm_base::{OutOfMemory, TagList, Tags, TryCopy};
 use std::alloc::{AllocError, Global};
 
-/// A row `KEY KEY .. => KEYS`: the keys of tags in their order, each also the value, or `twice`.
-pub fn tags(alloc: Global, first: &str, text: &str) -> Result<Verdict, AllocError> {
-    let Some((others, wanted)) = sides_of(text) else {
-        return Ok(Verdict::NoRow);
-    };
-    let Some(keys) = keys_of(alloc, first, others)? else {
-        return Ok(Verdict::NoRow);
-    };
-    let Ok(list) = list_of(alloc, &keys) else {
-        return Ok(Verdict::NoRow);
-    };
-    match list.into_tags() {
-        Some(tags) => compared(alloc, found(alloc, &tags, &keys)?.as_bytes(), wanted),
-        None => compared(alloc, b"twice", wanted),
+/// Adds the keys of tags in their order, each also its value, or `twice`.
+pub fn tags(
+    alloc: Global,
+    found: &mut Vec<u8>,
+    first: &str,
+    others: &str,
+) -> Result<bool, AllocError> {
+    let all = format!(in alloc; "{first} {others}")?;
+    match words_of(alloc, &all)? {
+        Some(keys) => put_tags(alloc, found, &keys),
+        None => Ok(false),
     }
 }
 
-/// The keys that fields write; `-` is the empty key.
-fn keys_of(alloc: Global, first: &str, others: &str) -> Result<Option<Vec<String>>, AllocError> {
-    let mut keys = Vec::new(alloc);
-    let mut good = true;
-    let all = format!(in alloc; "{first} {others}")?;
-    for field in all.split_ascii_whitespace() {
-        let field = if field == "-" { "" } else { field };
-        match text_of(alloc, field)? {
-            Some(key) => keys.push(key)?,
-            None => good = false,
-        }
+/// The key that a word of a row stands for; `-` is the empty one.
+fn key_of(word: &str) -> &str {
+    if word == "-" { "" } else { word }
+}
+
+/// Adds the keys of tags of these words, or `twice`.
+fn put_tags(alloc: Global, found: &mut Vec<u8>, words: &[String]) -> Result<bool, AllocError> {
+    let Ok(list) = list_of(alloc, words) else {
+        return Ok(false);
+    };
+    match list.into_tags() {
+        Some(tags) => put_keys(alloc, found, &tags, words)?,
+        None => found.extend_from_slice(b"twice")?,
     }
-    Ok(if good { Some(keys) } else { None })
+    Ok(true)
 }
 
 /// Tags of these keys, each with its key as the value.
-fn list_of(alloc: Global, keys: &[String]) -> Result<TagList, OutOfMemory> {
-    let mut list = TagList::with_room(alloc, keys.len(), keys.len())?;
-    for key in keys {
-        list.push(key, key)?;
+fn list_of(alloc: Global, words: &[String]) -> Result<TagList, OutOfMemory> {
+    let mut list = TagList::with_room(alloc, words.len(), words.len())?;
+    for word in words {
+        list.push(key_of(word), key_of(word))?;
     }
     Ok(list)
 }
 
-/// The keys of tags in their order, if these and their copy have the values of the keys and no other.
-fn found(alloc: Global, tags: &Tags, keys: &[String]) -> Result<String, AllocError> {
-    let Ok(copy) = tags.copy(alloc) else {
-        return String::from_str(alloc, "no copy");
-    };
-    for key in keys {
-        if tags.get(key) != Some(key.as_str()) || copy.get(key) != Some(key.as_str()) {
-            return String::from_str(alloc, "another value");
-        }
+/// Adds the keys of tags in their order, if these and their copy have the values of the keys and no other.
+fn put_keys(
+    alloc: Global,
+    found: &mut Vec<u8>,
+    tags: &Tags,
+    words: &[String],
+) -> Result<(), AllocError> {
+    if !are_of(tags, words) || !is_copied(alloc, tags, words) {
+        return found.extend_from_slice(b"other tags");
     }
-    if tags.get("nam").is_some() || tags.is_empty() || copy.len() != keys.len() {
-        return String::from_str(alloc, "other tags");
-    }
-    let mut text = String::new(alloc);
     for place in 0..tags.len() {
         if place > 0 {
-            text.push(' ')?;
+            found.push(b' ')?;
         }
         let (key, _) = tags.nth(place);
-        text.push_str(if key.is_empty() { "-" } else { key })?;
+        let key = if key.is_empty() { "-" } else { key };
+        found.extend_from_slice(key.as_bytes())?;
     }
-    Ok(text)
+    Ok(())
+}
+
+/// Whether a copy of tags has the values of these keys and no other.
+fn is_copied(alloc: Global, tags: &Tags, words: &[String]) -> bool {
+    match tags.copy(alloc) {
+        Ok(copy) => are_of(&copy, words),
+        Err(_) => false,
+    }
+}
+
+/// Whether tags have the values of these keys and no other.
+fn are_of(tags: &Tags, words: &[String]) -> bool {
+    for word in words {
+        if !has_its_value(tags, key_of(word)) {
+            return false;
+        }
+    }
+    !tags.is_empty() && tags.len() == words.len() && tags.get("nam").is_none()
+}
+
+/// Whether a key has itself as its value.
+fn has_its_value(tags: &Tags, key: &str) -> bool {
+    match tags.get(key) {
+        Some(value) => value == key,
+        None => false,
+    }
 }

@@ -1,21 +1,18 @@
 //! Examples of values: coordinates, keys and limits.
 use crate::key::key_of;
-use crate::verdict::{Verdict, compared};
-use example_table::{number_of, row_of, sides_of, signed_of};
+use example_table::{number_of, row_of, signed_of};
 use osm_base::{DegreesBuffer, LimitNumbers, Limits};
-use std::alloc::{AllocError, Global};
+use std::alloc::AllocError;
 use std::cmp::Ordering;
 
-/// A row `UNITS => DEGREES`.
-pub fn degrees(alloc: Global, units: &str, text: &str) -> Result<Verdict, AllocError> {
-    let Some((_, wanted)) = sides_of(text) else {
-        return Ok(Verdict::NoRow);
-    };
-    let Some(units) = units_of(units) else {
-        return Ok(Verdict::NoRow);
+/// Adds the degrees of units that a field writes.
+pub fn degrees(found: &mut Vec<u8>, field: &str) -> Result<bool, AllocError> {
+    let Some(units) = units_of(field) else {
+        return Ok(false);
     };
     let mut buffer = DegreesBuffer::new();
-    compared(alloc, buffer.format(units), wanted)
+    found.extend_from_slice(buffer.format(units))?;
+    Ok(true)
 }
 
 /// The units that a field writes.
@@ -23,42 +20,22 @@ fn units_of(field: &str) -> Option<i32> {
     i32::try_from(signed_of(field)?).ok()
 }
 
-/// A row `KEY KEY => below`, `equal` or `above`.
-pub fn keys(alloc: Global, first: &str, text: &str) -> Result<Verdict, AllocError> {
-    let Some((second, wanted)) = sides_of(text) else {
-        return Ok(Verdict::NoRow);
-    };
-    match order_of(first, second) {
-        Some(Ordering::Less) => compared(alloc, b"below", wanted),
-        Some(Ordering::Equal) => compared(alloc, b"equal", wanted),
-        Some(Ordering::Greater) => compared(alloc, b"above", wanted),
-        None => Ok(Verdict::NoRow),
+/// Whether the first key is `below`, `equal` to or `above` the second.
+pub fn order(first: &str, second: &str) -> Option<&'static str> {
+    match key_of(first)?.cmp(&key_of(second)?) {
+        Ordering::Less => Some("below"),
+        Ordering::Equal => Some("equal"),
+        Ordering::Greater => Some("above"),
     }
 }
 
-/// The order of the keys that two fields write.
-fn order_of(first: &str, second: &str) -> Option<Ordering> {
-    Some(key_of(first)?.cmp(&key_of(second)?))
-}
-
-/// A row `BYTES LINES ENTRIES PAGES PENDING => taken` or `refused`.
-pub fn limits(alloc: Global, line_bytes: &str, text: &str) -> Result<Verdict, AllocError> {
-    let Some((rest, wanted)) = sides_of(text) else {
-        return Ok(Verdict::NoRow);
-    };
-    let Some(numbers) = numbers_of(line_bytes, rest) else {
-        return Ok(Verdict::NoRow);
-    };
+/// Whether limits of the numbers `BYTES LINES ENTRIES PAGES PENDING` are `taken` or `refused`.
+pub fn limits(line_bytes: &str, text: &str) -> Option<&'static str> {
+    let numbers = numbers_of(line_bytes, text)?;
     match Limits::new(numbers) {
-        Some(limits) => {
-            let found: &[u8] = if has_numbers(&limits, numbers) {
-                b"taken"
-            } else {
-                b"other numbers"
-            };
-            compared(alloc, found, wanted)
-        }
-        None => compared(alloc, b"refused", wanted),
+        Some(limits) if has_numbers(&limits, numbers) => Some("taken"),
+        Some(_) => Some("other numbers"),
+        None => Some("refused"),
     }
 }
 
