@@ -1,9 +1,10 @@
 //! Workers that run beside each other.
 
-use crate::built::{nodes_to, rows_by};
-use example_table::{number_of, row_of};
+use crate::built::{numbers_of, rows_by};
+use crate::pending::nodes_to;
+use crate::refusal::Refusal;
 use object_fold::Objects;
-use osm_base::{OutOfMemory, PendingSet};
+use osm_base::PendingSet;
 use outside::{Gate, GatePlace};
 use std::alloc::Global;
 use std::sync::atomic::{AtomicBool, Ordering};
@@ -46,40 +47,31 @@ pub fn beside<R: Threads + Sync>(
     rt: &R,
     alloc: Global,
     given: &str,
-) -> Result<Option<String>, OutOfMemory> {
-    let Some((workers, turns)) = row_of(given) else {
-        return Ok(None);
+    out: &mut String,
+) -> Result<(), Refusal> {
+    let Some((workers, turns)) = numbers_of(given) else {
+        return Err(Refusal::NoRow);
     };
-    let (Some(workers), Some(turns)) = (number_of(workers), number_of(turns)) else {
-        return Ok(None);
-    };
-    match nodes_to(alloc, 3)? {
-        Some(pending) => held(rt, alloc, workers, turns, &pending),
-        None => Ok(None),
-    }
-}
-
-/// Whether ticket 1 was built while ticket 0 was held.
-fn held<R: Threads + Sync>(
-    rt: &R,
-    alloc: Global,
-    workers: u64,
-    turns: u64,
-    pending: &PendingSet,
-) -> Result<Option<String>, OutOfMemory> {
     let gate = HoldsFirst {
         turns,
         built: AtomicBool::new(false),
         seen: AtomicBool::new(false),
     };
-    let rows = rows_by(rt, alloc, workers, pending, &Objects::new(alloc), &gate)?;
-    if rows.is_none() {
-        return Ok(None);
-    }
-    let answer = if gate.seen.load(Ordering::SeqCst) {
-        "beside"
-    } else {
-        "one after another"
-    };
-    Ok(Some(String::from_str(alloc, answer)?))
+    let pending = nodes_to(alloc, 3)?;
+    build_held(rt, alloc, workers, &pending, &gate)?;
+    let seen = gate.seen.load(Ordering::SeqCst);
+    out.push_str(if seen { "beside" } else { "one after another" })?;
+    Ok(())
+}
+
+/// Builds the rows of no object behind a gate.
+fn build_held<R: Threads + Sync>(
+    rt: &R,
+    alloc: Global,
+    workers: u64,
+    pending: &PendingSet,
+    gate: &HoldsFirst,
+) -> Result<(), Refusal> {
+    rows_by(rt, alloc, workers, pending, &Objects::new(alloc), gate)?;
+    Ok(())
 }

@@ -2,10 +2,11 @@
 ghost use Rattle.std.specs.Prelude.{◌≡◌, ◌≤◌, true, length};
 ghost use Rattle.geom_workers.specs.Keys.{keys_of};
 
-use crate::pending::{objects_of, pending_of, set_of};
+use crate::pending::{nodes_to, objects_of, pending_of};
+use crate::refusal::Refusal;
 use example_table::{number_of, row_of};
 use geom_workers::{MAX_KEYS, Part, build_all, key_count, work};
-use object_fold::{Objects, RisingIds};
+use object_fold::Objects;
 use osm_base::{OutOfMemory, PendingSet, RowLists, TableRow};
 use outside::{Gate, OpenGate};
 use pending_book::Book;
@@ -25,11 +26,14 @@ table = [
 ";
 
 /// The style of a town.
-pub fn town(alloc: Global) -> Result<Style, OutOfMemory> {
-    read_style(alloc, TOWN.as_bytes()).map_err(|_| OutOfMemory)
+fn town(alloc: Global) -> Result<Style, Refusal> {
+    match read_style(alloc, TOWN.as_bytes()) {
+        Ok(style) => Ok(style),
+        Err(_) => Err(Refusal::OutOfMemory),
+    }
 }
 
-/// The rows that some workers build. `None`: there may not be so many workers or keys.
+/// The rows that some workers build.
 pub fn rows_by<G: Gate, R: Threads + Sync>(
     rt: &R,
     alloc: Global,
@@ -37,13 +41,28 @@ pub fn rows_by<G: Gate, R: Threads + Sync>(
     pending: &PendingSet,
     objects: &Objects,
     gate: &G,
-) -> Result<Option<RowLists>, OutOfMemory> {
-    if workers < 1 || workers > 64 || !are_few(pending) {
-        return Ok(None);
-    }
+) -> Result<RowLists, Refusal> {
     let style = town(alloc)?;
-    let built = build_all(rt, alloc, workers as u32, &style, pending, objects, gate)?;
-    Ok(Some(built.rows))
+    build(rt, alloc, workers, &style, pending, objects, gate)
+}
+
+/// The rows that some workers build, the contract left behind.
+fn build<G: Gate, R: Threads + Sync>(
+    rt: &R,
+    alloc: Global,
+    workers: u64,
+    style: &Style,
+    pending: &PendingSet,
+    objects: &Objects,
+    gate: &G,
+) -> Result<RowLists, Refusal> {
+    if workers < 1 || workers > 64 || !are_few(pending) {
+        return Err(Refusal::NoRow);
+    }
+    match build_all(rt, alloc, workers as u32, style, pending, objects, gate) {
+        Ok(built) => Ok(built.rows),
+        Err(OutOfMemory) => Err(Refusal::OutOfMemory),
+    }
 }
 
 /// Whether no more keys wait than there may be tickets.
@@ -61,48 +80,34 @@ pub fn built<R: Threads + Sync>(
     rt: &R,
     alloc: Global,
     given: &str,
-) -> Result<Option<String>, OutOfMemory> {
-    let Some((workers, rest)) = row_of(given) else {
-        return Ok(None);
+    out: &mut String,
+) -> Result<(), Refusal> {
+    let Some((workers, keys, files)) = given_by(given) else {
+        return Err(Refusal::NoRow);
     };
-    let Some(workers) = number_of(workers) else {
-        return Ok(None);
-    };
-    match set_and_objects(alloc, rest)? {
-        Some((pending, objects)) => rows_text(rt, alloc, workers, &pending, &objects),
-        None => Ok(None),
-    }
+    let pending = pending_of(alloc, keys)?;
+    let objects = objects_of(alloc, files)?;
+    push_built(rt, alloc, workers, &pending, &objects, out)
 }
 
-/// The text of the rows that some workers build.
-fn rows_text<R: Threads + Sync>(
+/// The number of workers, the keys and the files of a row.
+fn given_by(text: &str) -> Option<(u64, &str, &str)> {
+    let (workers, rest) = row_of(text)?;
+    let (keys, files) = row_of(rest)?;
+    Some((number_of(workers)?, keys, files))
+}
+
+/// Adds the rows that some workers build.
+fn push_built<R: Threads + Sync>(
     rt: &R,
     alloc: Global,
     workers: u64,
     pending: &PendingSet,
     objects: &Objects,
-) -> Result<Option<String>, OutOfMemory> {
-    match rows_by(rt, alloc, workers, pending, objects, &OpenGate)? {
-        Some(rows) => Ok(Some(text_of(alloc, &rows)?)),
-        None => Ok(None),
-    }
-}
-
-/// What `KEYS FILE..` writes.
-fn set_and_objects(
-    alloc: Global,
-    text: &str,
-) -> Result<Option<(PendingSet, Objects)>, OutOfMemory> {
-    let Some((keys, files)) = row_of(text) else {
-        return Ok(None);
-    };
-    let Some(pending) = pending_of(alloc, keys)? else {
-        return Ok(None);
-    };
-    match objects_of(alloc, files)? {
-        Some(objects) => Ok(Some((pending, objects))),
-        None => Ok(None),
-    }
+    out: &mut String,
+) -> Result<(), Refusal> {
+    let rows = rows_by(rt, alloc, workers, pending, objects, &OpenGate)?;
+    push_lists(alloc, &rows, out)
 }
 
 /// A row `COUNT WORKERS`: as many nodes wait, and none of them is an object. How many lists come out.
@@ -110,102 +115,90 @@ pub fn many<R: Threads + Sync>(
     rt: &R,
     alloc: Global,
     given: &str,
-) -> Result<Option<String>, OutOfMemory> {
-    let Some((count, workers)) = row_of(given) else {
-        return Ok(None);
+    out: &mut String,
+) -> Result<(), Refusal> {
+    let Some((count, workers)) = numbers_of(given) else {
+        return Err(Refusal::NoRow);
     };
-    let (Some(count), Some(workers)) = (number_of(count), number_of(workers)) else {
-        return Ok(None);
-    };
-    match nodes_to(alloc, count)? {
-        Some(pending) => counted(rt, alloc, workers, &pending, &Objects::new(alloc)),
-        None => Ok(None),
-    }
+    let pending = nodes_to(alloc, count)?;
+    push_count(rt, alloc, workers, &pending, out)
 }
 
-/// How many lists some workers build.
-fn counted<R: Threads + Sync>(
+/// Two numbers.
+pub fn numbers_of(text: &str) -> Option<(u64, u64)> {
+    let (first, second) = row_of(text)?;
+    Some((number_of(first)?, number_of(second)?))
+}
+
+/// Adds how many lists some workers build where there is no object.
+fn push_count<R: Threads + Sync>(
     rt: &R,
     alloc: Global,
     workers: u64,
     pending: &PendingSet,
-    objects: &Objects,
-) -> Result<Option<String>, OutOfMemory> {
-    match rows_by(rt, alloc, workers, pending, objects, &OpenGate)? {
-        Some(rows) => Ok(Some(format!(in alloc; "{} lists", rows.as_slice().len())?)),
-        None => Ok(None),
-    }
+    out: &mut String,
+) -> Result<(), Refusal> {
+    let rows = rows_by(rt, alloc, workers, pending, &Objects::new(alloc), &OpenGate)?;
+    let count = rows.as_slice().len();
+    write!(out, "{count} lists")?;
+    Ok(())
 }
 
-/// The nodes from 1 to a number.
-pub fn nodes_to(alloc: Global, last: u64) -> Result<Option<PendingSet>, OutOfMemory> {
-    let mut ids = Vec::new(alloc);
-    for id in 1..=last {
-        ids.push(id)?;
-    }
-    Ok(set_of(
-        RisingIds::from_vec(ids),
-        RisingIds::new(alloc),
-        RisingIds::new(alloc),
-    ))
-}
-
-/// The rows of lists, each with the number of its list and of its table.
-fn text_of(alloc: Global, rows: &RowLists) -> Result<String, OutOfMemory> {
-    let mut out = String::new(alloc);
+/// Adds the rows of lists, each with the number of its list and of its table.
+fn push_lists(alloc: Global, rows: &RowLists, out: &mut String) -> Result<(), Refusal> {
+    let mut line = String::new(alloc);
     for (number, list) in rows.as_slice().iter().enumerate() {
         for row in list.as_slice() {
-            push_line(alloc, &mut out, number, row)?;
+            line.clear();
+            push_line(number, row, &mut line)?;
+            push_readable(line.as_str(), out)?;
         }
     }
-    readable(alloc, out.as_str())
+    Ok(())
 }
 
-fn push_line(
-    alloc: Global,
-    out: &mut String,
-    number: usize,
-    row: &TableRow,
-) -> Result<(), OutOfMemory> {
-    let front = format!(in alloc; "{number}\t{}\t", row.table)?;
-    out.push_str(front.as_str())?;
-    push_row(out, 0, &row.row)
+/// Adds the line of a row.
+fn push_line(number: usize, row: &TableRow, out: &mut String) -> Result<(), Refusal> {
+    let table = row.table;
+    write!(out, "{number}\t{table}\t")?;
+    push_row(out, 0, &row.row)?;
+    Ok(())
 }
 
-/// A text with blanks for tabs, and bars for newlines.
-fn readable(alloc: Global, text: &str) -> Result<String, OutOfMemory> {
-    let mut readable = String::new(alloc);
+/// Adds a text with blanks for tabs, and bars for newlines.
+fn push_readable(text: &str, out: &mut String) -> Result<(), Refusal> {
     for letter in text.chars() {
-        readable.push(match letter {
+        out.push(match letter {
             '\t' => ' ',
             '\n' => '|',
             _ => letter,
         })?;
     }
-    Ok(readable)
+    Ok(())
 }
 
 /// A row `KEYS FILE..`: the rows of one worker, and its tickets.
-pub fn worked(alloc: Global, given: &str) -> Result<Option<String>, OutOfMemory> {
-    match set_and_objects(alloc, given)? {
-        Some((pending, objects)) => part_text(alloc, &pending, &objects),
-        None => Ok(None),
-    }
+pub fn worked(alloc: Global, given: &str, out: &mut String) -> Result<(), Refusal> {
+    let Some((keys, files)) = row_of(given) else {
+        return Err(Refusal::NoRow);
+    };
+    let pending = pending_of(alloc, keys)?;
+    let objects = objects_of(alloc, files)?;
+    push_worked(alloc, &pending, &objects, out)
 }
 
-/// The text of what one worker builds. `None`: there are too many keys.
-fn part_text(
+/// Adds what one worker builds: the rows, and its tickets.
+fn push_worked(
     alloc: Global,
     pending: &PendingSet,
     objects: &Objects,
-) -> Result<Option<String>, OutOfMemory> {
-    if !are_few(pending) {
-        return Ok(None);
-    }
+    out: &mut String,
+) -> Result<(), Refusal> {
     let style = town(alloc)?;
     let part = part_of(alloc, &style, pending, objects)?;
-    let rows = text_of(alloc, &part.rows)?;
-    Ok(Some(format!(in alloc; "{rows}{:?}", part.tickets.as_slice())?))
+    push_lists(alloc, &part.rows, out)?;
+    write!(out, "{:?}", part.tickets.as_slice())?;
+    Ok(())
 }
 
 /// What one worker builds of all keys.
@@ -214,9 +207,10 @@ fn part_of(
     style: &Style,
     pending: &PendingSet,
     objects: &Objects,
-) -> Result<Part, OutOfMemory>
-    requires few { length (keys_of pending.now) ≤ MAX_KEYS }
-{
+) -> Result<Part, Refusal> {
+    if !are_few(pending) {
+        return Err(Refusal::NoRow);
+    }
     let (book, mut seat) = Book::new(alloc, key_count(pending) as u32, 1)?;
-    work(alloc, &book, &mut seat, style, pending, objects, &OpenGate)
+    Ok(work(alloc, &book, &mut seat, style, pending, objects, &OpenGate)?)
 }

@@ -1,39 +1,46 @@
 //! Examples of the machine of the stages.
 ghost use Rattle.std.specs.Prelude.{◌≡◌, ◌<◌, IfSome};
 
-use example_table::number_of;
-use osm_base::OutOfMemory;
+use crate::refusal::Refusal;
+use example_table::{number_of, row_of};
 use pending_book::{Book, Seat};
 use stage_core::{CoreState, Event};
 use std::alloc::Global;
 
 /// A row `TICKETS WORKERS READERS STEP..`: a `y` for each step that is possible, and an `n` for each other. A
 /// step is `draw0`, `build0` or `end0` of worker 0, `commit`, `publish`, `ack`, `enter0` of reader 0, or `crash`.
-pub fn steps(alloc: Global, given: &str) -> Result<Option<String>, OutOfMemory> {
-    let mut words = given.split_ascii_whitespace();
-    let (Some(tickets), Some(workers), Some(readers)) = (
-        small(words.next()),
-        small(words.next()),
-        small(words.next()),
-    ) else {
-        return Ok(None);
+pub fn steps(alloc: Global, given: &str, out: &mut String) -> Result<(), Refusal> {
+    let Some((tickets, workers, readers, steps)) = given_by(given) else {
+        return Err(Refusal::NoRow);
     };
     let mut state = CoreState::new(alloc, tickets, workers, readers)?;
-    let mut answers = String::new(alloc);
-    for word in words {
-        let Some(event) = event_of(word) else {
-            return Ok(None);
-        };
-        take(&mut state, event, &mut answers)?;
+    take_all(&mut state, steps, out)
+}
+
+/// The numbers of a row, and its steps.
+fn given_by(text: &str) -> Option<(u32, u32, u32, &str)> {
+    let (tickets, rest) = row_of(text)?;
+    let (workers, rest) = row_of(rest)?;
+    let (readers, steps) = row_of(rest)?;
+    Some((small(tickets)?, small(workers)?, small(readers)?, steps))
+}
+
+/// Takes the steps of words, and adds whether each was possible.
+fn take_all(state: &mut CoreState, words: &str, out: &mut String) -> Result<(), Refusal> {
+    for word in words.split_ascii_whitespace() {
+        match event_of(word) {
+            Some(event) => take(state, event, out)?,
+            None => return Err(Refusal::NoRow),
+        }
     }
-    Ok(Some(answers))
+    Ok(())
 }
 
 /// A number below a hundred.
-fn small(word: Option<&str>) -> Option<u32>
+fn small(word: &str) -> Option<u32>
     ensures small { IfSome result (λ number. number < 100) }
 {
-    let number = number_of(word?)?;
+    let number = number_of(word)?;
     if number < 100 {
         Some(number as u32)
     } else {
@@ -53,49 +60,45 @@ fn event_of(word: &str) -> Option<Event> {
 
 fn numbered_event(word: &str) -> Option<Event> {
     if let Some(number) = word.strip_prefix("draw") {
-        return Some(Event::Draw(small(Some(number))?));
+        return Some(Event::Draw(small(number)?));
     }
     if let Some(number) = word.strip_prefix("build") {
-        return Some(Event::Build(small(Some(number))?));
+        return Some(Event::Build(small(number)?));
     }
     if let Some(number) = word.strip_prefix("end") {
-        return Some(Event::End(small(Some(number))?));
+        return Some(Event::End(small(number)?));
     }
-    Some(Event::Enter(small(Some(word.strip_prefix("enter")?))?))
+    Some(Event::Enter(small(word.strip_prefix("enter")?)?))
 }
 
-/// Takes a step, and notes whether it was possible.
-fn take(state: &mut CoreState, event: Event, answers: &mut String) -> Result<(), OutOfMemory> {
+/// Takes a step, and adds whether it was possible.
+fn take(state: &mut CoreState, event: Event, out: &mut String) -> Result<(), Refusal> {
     let possible = state.step(event)?;
-    answers.push(if possible { 'y' } else { 'n' })?;
+    out.push(if possible { 'y' } else { 'n' })?;
     Ok(())
 }
 
 /// A row `TICKETS`, an even number: two seats of a book draw by turns. Each draw is an event of the machine, a ticket is built
 /// at once, and a seat without one ends; then the change is committed, told, published and seen. The answers.
-pub fn played(alloc: Global, given: &str) -> Result<Option<String>, OutOfMemory> {
-    let Some(tickets) = small(Some(given)) else {
-        return Ok(None);
+pub fn played(alloc: Global, given: &str, out: &mut String) -> Result<(), Refusal> {
+    let Some(tickets) = small(given) else {
+        return Err(Refusal::NoRow);
     };
     if tickets % 2 == 1 {
-        return Ok(None);
+        return Err(Refusal::NoRow);
     }
+    let mut state = CoreState::new(alloc, tickets, 2, 1)?;
+    play(alloc, tickets, &mut state, out)
+}
+
+/// The events of two seats that draw all tickets, and of what follows.
+fn play(alloc: Global, tickets: u32, state: &mut CoreState, out: &mut String) -> Result<(), Refusal>
+    requires few { tickets < 100 }
+{
     let (book, mut first) = Book::new(alloc, tickets, 2)?;
     let mut second = book.split(&mut first, 1);
-    let mut state = CoreState::new(alloc, tickets, 2, 1)?;
-    let mut answers = String::new(alloc);
-    play_all(
-        &book,
-        &mut first,
-        &mut second,
-        &mut state,
-        tickets / 2 + 1,
-        &mut answers,
-    )?;
-    for event in [Event::Commit, Event::Ack, Event::Publish, Event::Enter(0)] {
-        take(&mut state, event, &mut answers)?;
-    }
-    Ok(Some(answers))
+    play_all(&book, &mut first, &mut second, state, tickets / 2 + 1, out)?;
+    take_all(state, "commit ack publish enter0", out)
 }
 
 /// The events of two seats that draw by turns.
@@ -105,28 +108,28 @@ fn play_all(
     second: &mut Seat,
     state: &mut CoreState,
     rounds: u32,
-    answers: &mut String,
-) -> Result<(), OutOfMemory>
+    out: &mut String,
+) -> Result<(), Refusal>
     requires first { first.old.book ≡ book.now }
     requires second { second.old.book ≡ book.now }
 {
     for _ in 0..rounds {
-        play(state, 0, book.draw(first), answers)?;
-        play(state, 1, book.draw(second), answers)?;
+        play_one(state, 0, book.draw(first), out)?;
+        play_one(state, 1, book.draw(second), out)?;
     }
     Ok(())
 }
 
 /// The events of a draw and of what follows it.
-fn play(
+fn play_one(
     state: &mut CoreState,
     worker: u32,
     drawn: Option<u32>,
-    answers: &mut String,
-) -> Result<(), OutOfMemory> {
-    take(state, Event::Draw(worker), answers)?;
+    out: &mut String,
+) -> Result<(), Refusal> {
+    take(state, Event::Draw(worker), out)?;
     match drawn {
-        Some(_) => take(state, Event::Build(worker), answers),
-        None => take(state, Event::End(worker), answers),
+        Some(_) => take(state, Event::Build(worker), out),
+        None => take(state, Event::End(worker), out),
     }
 }

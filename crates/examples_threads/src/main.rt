@@ -8,9 +8,10 @@ mod books;
 mod built;
 mod machine;
 mod pending;
+mod refusal;
 
 use example_table::{is_told, refuse_row, row_of, sides_of};
-use osm_base::OutOfMemory;
+use refusal::Refusal;
 use std::process::ExitCode;
 use std::thread::Threads;
 use std::{fs, io};
@@ -34,37 +35,41 @@ fn passes<R: Threads + Sync + Print + Eprint + AllocGlobal>(
         return Ok(true);
     };
     let (Some((name, given)), Some((_, wanted))) = (row_of(text), sides_of(text)) else {
-        refuse_row(rt, line)?;
-        return Ok(false);
+        return refuse(rt, line);
     };
     let given = given.split("=>").next().unwrap_or("").trim();
-    match answer_of(rt, kind, given) {
-        Ok(Some(answer)) if answer.as_str() == wanted => is_told(rt, name, None),
-        Ok(Some(answer)) => is_told(rt, name, Some(answer)),
-        Ok(None) => {
-            refuse_row(rt, line)?;
-            Ok(false)
-        }
-        Err(OutOfMemory) => Err(io::Error::from(io::ErrorKind::OutOfMemory)),
+    let mut answer = String::new(rt.alloc());
+    match run(rt, kind, given, &mut answer) {
+        Ok(()) if answer.as_str() == wanted => is_told(rt, name, None),
+        Ok(()) => is_told(rt, name, Some(answer)),
+        Err(Refusal::NoRow) => refuse(rt, line),
+        Err(Refusal::OutOfMemory) => Err(io::Error::from(io::ErrorKind::OutOfMemory)),
     }
 }
 
-/// What comes out of an example. `None`: the row is not in its form.
-fn answer_of<R: Threads + Sync + AllocGlobal>(
+/// Tells that a line is no row.
+fn refuse<R: Eprint>(rt: &R, line: &str) -> io::Result<bool> {
+    refuse_row(rt, line)?;
+    Ok(false)
+}
+
+/// Runs an example, and adds what comes out of it to a text.
+fn run<R: Threads + Sync + AllocGlobal>(
     rt: &R,
     kind: &str,
     given: &str,
-) -> Result<Option<String>, OutOfMemory> {
+    out: &mut String,
+) -> Result<(), Refusal> {
     let alloc = rt.alloc();
     match kind {
-        "whole" => books::whole(alloc, given),
-        "turns" => books::by_turns(alloc, given),
-        "steps" => machine::steps(alloc, given),
-        "played" => machine::played(alloc, given),
-        "built" => built::built(rt, alloc, given),
-        "worked" => built::worked(alloc, given),
-        "many" => built::many(rt, alloc, given),
-        "beside" => beside::beside(rt, alloc, given),
-        _ => Ok(None),
+        "whole" => books::whole(alloc, given, out),
+        "turns" => books::by_turns(alloc, given, out),
+        "steps" => machine::steps(alloc, given, out),
+        "played" => machine::played(alloc, given, out),
+        "built" => built::built(rt, alloc, given, out),
+        "worked" => built::worked(alloc, given, out),
+        "many" => built::many(rt, alloc, given, out),
+        "beside" => beside::beside(rt, alloc, given, out),
+        _ => Err(Refusal::NoRow),
     }
 }

@@ -4,76 +4,97 @@ ghost use Rattle.std.specs.List.{AllByRecursion};
 ghost use Rattle.osm_base.specs.values.Ids.{AreRisingIds};
 ghost use Rattle.osm_base.specs.values.Key.{IsId};
 
+use crate::refusal::Refusal;
 use example_table::{bytes_of, number_of};
-use object_fold::{Objects, RisingIds, read_file};
-use osm_base::{Bytes, FileList, Ids, Limits, MAX_ID, OutOfMemory, PendingSet};
+use object_fold::{Change, Objects, RisingIds, read_file};
+use osm_base::{Bytes, FileList, Ids, Limits, MAX_ID, PendingSet};
 use outside::{Fails, MemInputs};
 use std::alloc::Global;
 
-/// The objects after the files that words write, one after another. `None`: a word is in no form.
-pub fn objects_of(alloc: Global, files: &str) -> Result<Option<Objects>, OutOfMemory> {
+/// The objects after the files that words write, one after another.
+pub fn objects_of(alloc: Global, files: &str) -> Result<Objects, Refusal> {
     let mut objects = Objects::new(alloc);
-    for word in files.split_ascii_whitespace() {
-        let Some(file) = bytes_of(alloc, word)? else {
-            return Ok(None);
-        };
-        if !fold_file(alloc, &mut objects, file)? {
-            return Ok(None);
-        }
-    }
-    Ok(Some(objects))
+    fold_files(alloc, files, &mut objects)?;
+    Ok(objects)
 }
 
-/// Folds a file into objects. `false`: it is malformed.
-fn fold_file(alloc: Global, objects: &mut Objects, file: Vec<u8>) -> Result<bool, OutOfMemory> {
+/// Folds the files that words write into objects.
+fn fold_files(alloc: Global, files: &str, objects: &mut Objects) -> Result<(), Refusal> {
+    for word in files.split_ascii_whitespace() {
+        match bytes_of(alloc, word)? {
+            Some(file) => objects.fold(change_of(alloc, file)?)?,
+            None => return Err(Refusal::NoRow),
+        }
+    }
+    Ok(())
+}
+
+/// The change that a file says.
+fn change_of(alloc: Global, file: Vec<u8>) -> Result<Change, Refusal> {
     let mut files = Vec::new(alloc);
     files.push(Bytes::from_vec(file))?;
     let mut inputs = MemInputs::new(FileList::from_vec(files), Fails::never(alloc));
-    match read_file(alloc, &mut inputs, 0, &Limits::standard()) {
-        Ok(change) => {
-            objects.fold(change)?;
-            Ok(true)
-        }
-        Err(_) => Ok(false),
+    read(alloc, &mut inputs)
+}
+
+/// The change that the first file says, the contract left behind.
+fn read(alloc: Global, inputs: &mut MemInputs) -> Result<Change, Refusal> {
+    match read_file(alloc, inputs, 0, &Limits::standard()) {
+        Ok(change) => Ok(change),
+        Err(_) => Err(Refusal::NoRow),
     }
 }
 
 /// The keys that a word names, as `n2,w10,r20`, or none as `-`.
-pub fn pending_of(alloc: Global, word: &str) -> Result<Option<PendingSet>, OutOfMemory> {
-    let nodes = ids_after(alloc, word, "n")?;
-    let ways = ids_after(alloc, word, "w")?;
-    let relations = ids_after(alloc, word, "r")?;
-    Ok(set_of(nodes, ways, relations))
+pub fn pending_of(alloc: Global, word: &str) -> Result<PendingSet, Refusal> {
+    let mut nodes = Vec::new(alloc);
+    let mut ways = Vec::new(alloc);
+    let mut relations = Vec::new(alloc);
+    push_ids(word, &mut nodes, &mut ways, &mut relations)?;
+    set_of(nodes, ways, relations)
 }
 
-/// The ids of the words between commas that begin so.
-fn ids_after(alloc: Global, word: &str, letter: &str) -> Result<RisingIds, OutOfMemory> {
-    let mut ids = Vec::new(alloc);
-    for key in word.split(',') {
-        if let Some(id) = key.strip_prefix(letter).and_then(number_of) {
-            ids.push(id)?;
+/// Adds the ids of the words between commas.
+fn push_ids(
+    words: &str,
+    nodes: &mut Vec<u64>,
+    ways: &mut Vec<u64>,
+    relations: &mut Vec<u64>,
+) -> Result<(), Refusal> {
+    for word in words.split(',') {
+        if let Some(id) = word.strip_prefix('n').and_then(number_of) {
+            nodes.push(id)?;
+        } else if let Some(id) = word.strip_prefix('w').and_then(number_of) {
+            ways.push(id)?;
+        } else if let Some(id) = word.strip_prefix('r').and_then(number_of) {
+            relations.push(id)?;
         }
     }
-    Ok(RisingIds::from_vec(ids))
+    Ok(())
+}
+
+/// The nodes from 1 to a number.
+pub fn nodes_to(alloc: Global, last: u64) -> Result<PendingSet, Refusal> {
+    let mut ids = Vec::new(alloc);
+    for id in 1..=last {
+        ids.push(id)?;
+    }
+    set_of(ids, Vec::new(alloc), Vec::new(alloc))
 }
 
 /// The set of these ids, if they are ids.
-pub fn set_of(nodes: RisingIds, ways: RisingIds, relations: RisingIds) -> Option<PendingSet> {
-    let (Some(nodes), Some(ways), Some(relations)) = (
-        as_ids(nodes),
-        as_ids(ways),
-        as_ids(relations),
-    ) else {
-        return None;
-    };
-    Some(PendingSet::new(nodes, ways, relations))
+fn set_of(nodes: Vec<u64>, ways: Vec<u64>, relations: Vec<u64>) -> Result<PendingSet, Refusal> {
+    match (ids_of(nodes), ids_of(ways), ids_of(relations)) {
+        (Some(nodes), Some(ways), Some(relations)) => Ok(PendingSet::new(nodes, ways, relations)),
+        _ => Err(Refusal::NoRow),
+    }
 }
 
-/// The same as ids, if they are.
-fn as_ids(rising: RisingIds) -> Option<Ids>
+/// The ids of a vector, if they are ids.
+fn ids_of(ids: Vec<u64>) -> Option<Ids>
     ensures ids { IfSome result AreRisingIds }
 {
-    let ids = rising.into_ids();
+    let ids = RisingIds::from_vec(ids).into_ids();
     if are_ids(ids.as_slice()) {
         Some(ids)
     } else {
