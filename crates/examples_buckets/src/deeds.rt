@@ -9,7 +9,7 @@ use bucket_store::Buckets;
 use example_table::{number_of, row_of};
 use outside::MemDisk;
 use page_journal::StoreFault;
-use std::alloc::Global;
+use std::alloc::{AllocError, Global};
 
 /// What a deed answers.
 pub fn answer_of(
@@ -42,6 +42,14 @@ pub fn answer_of(
 /// The answer of a deed that is none.
 pub fn none(alloc: Global) -> Result<String, StoreFault> {
     Ok(String::from_str(alloc, "no deed")?)
+}
+
+/// Adds a blank, where something stands before it.
+pub fn push_blank(text: &mut String) -> Result<(), AllocError> {
+    if text.is_empty() {
+        return Ok(());
+    }
+    text.push(' ')
 }
 
 /// A map, and the text behind it. `None`: there is no such map.

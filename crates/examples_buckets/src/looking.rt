@@ -2,13 +2,13 @@
 ghost use Rattle.std.specs.Prelude.{◌≡◌, false, OnOk};
 ghost use Rattle.bucket_store.specs.Transaction.{has_refused};
 
-use crate::deeds::{key_of, map_of, none, string_of};
+use crate::deeds::{key_of, map_of, none, push_blank, string_of};
 use bucket_store::{Buckets, WholeMap};
 use example_table::number_of;
 use osm_base::Bytes;
 use outside::MemDisk;
 use page_journal::StoreFault;
-use std::alloc::Global;
+use std::alloc::{AllocError, Global};
 
 /// The value of a key, or `none`.
 pub fn get(
@@ -26,7 +26,7 @@ pub fn get(
         return none(alloc);
     }
     match buckets.get(which, key) {
-        Ok(Some(value)) => value_text(alloc, value.as_slice()),
+        Ok(Some(value)) => Ok(value_text(alloc, value.as_slice())?),
         Ok(None) => Ok(String::from_str(alloc, "none")?),
         Err(fault) => Err(fault),
     }
@@ -48,7 +48,7 @@ pub fn listed(
         return none(alloc);
     }
     match buckets.records(which, key) {
-        Ok(records) => records_text(alloc, &records),
+        Ok(records) => Ok(records_text(alloc, &records)?),
         Err(fault) => Err(fault),
     }
 }
@@ -69,7 +69,7 @@ pub fn whole(
         return none(alloc);
     }
     match buckets.whole(which) {
-        Ok(whole) => values_text(alloc, &whole, keys),
+        Ok(whole) => Ok(values_text(alloc, &whole, keys)?),
         Err(fault) => Err(fault),
     }
 }
@@ -87,7 +87,7 @@ pub fn load(
         return none(alloc);
     };
     match buckets.load(n) {
-        Ok(bytes) => value_text(alloc, bytes.as_slice()),
+        Ok(bytes) => Ok(value_text(alloc, bytes.as_slice())?),
         Err(fault) => Err(fault),
     }
 }
@@ -105,49 +105,53 @@ pub fn root_text(alloc: Global, buckets: &mut Buckets<'_, MemDisk>) -> Result<St
 }
 
 // The value of each key, or `none`.
-fn values_text(alloc: Global, whole: &WholeMap, keys: &str) -> Result<String, StoreFault> {
+fn values_text(alloc: Global, whole: &WholeMap, keys: &str) -> Result<String, AllocError> {
     let mut text = String::new(alloc);
     for key in keys.split(' ') {
-        if !text.is_empty() {
-            text.push_str(" ")?;
-        }
-        match number_of(key) {
-            Some(key) => text.push_str(found_text(alloc, whole.get(key))?.as_str())?,
-            None => text.push_str("no key")?,
-        }
+        push_found(&mut text, whole, key)?;
     }
     Ok(text)
 }
 
-// The value, or `none`.
-fn found_text(alloc: Global, found: Option<&[u8]>) -> Result<String, StoreFault> {
-    match found {
-        Some(value) => value_text(alloc, value),
-        None => Ok(String::from_str(alloc, "none")?),
+fn push_found(text: &mut String, whole: &WholeMap, key: &str) -> Result<(), AllocError> {
+    push_blank(text)?;
+    let Some(key) = number_of(key) else {
+        return text.push_str("no key");
+    };
+    match whole.get(key) {
+        None => text.push_str("none"),
+        Some(value) => push_value(text, value),
     }
 }
 
 // Each key and its value.
-fn records_text(alloc: Global, records: &[(u64, Bytes)]) -> Result<String, StoreFault> {
+fn records_text(alloc: Global, records: &[(u64, Bytes)]) -> Result<String, AllocError> {
     let mut text = String::new(alloc);
     for (key, value) in records {
-        if !text.is_empty() {
-            text.push_str(" ")?;
-        }
-        let value = value_text(alloc, value.as_slice())?;
-        let record = format!(in alloc; "{key}={value}")?;
-        text.push_str(record.as_str())?;
+        push_record(&mut text, *key, value.as_slice())?;
     }
     Ok(text)
 }
 
-// The bytes as text, where they are some; of many the number alone, as `*COUNT`.
-fn value_text(alloc: Global, bytes: &[u8]) -> Result<String, StoreFault> {
+fn push_record(text: &mut String, key: u64, value: &[u8]) -> Result<(), AllocError> {
+    push_blank(text)?;
+    write!(text, "{key}=")?;
+    push_value(text, value)
+}
+
+fn value_text(alloc: Global, bytes: &[u8]) -> Result<String, AllocError> {
+    let mut text = String::new(alloc);
+    push_value(&mut text, bytes)?;
+    Ok(text)
+}
+
+// Adds the bytes as text, where they are some; of many the number alone, as `*COUNT`.
+fn push_value(text: &mut String, bytes: &[u8]) -> Result<(), AllocError> {
     if bytes.len() > 100 {
-        return Ok(format!(in alloc; "*{}", bytes.len())?);
+        return write!(text, "*{}", bytes.len());
     }
     match std::str::from_utf8(bytes) {
-        Ok(text) => Ok(String::from_str(alloc, text)?),
-        Err(_) => Ok(format!(in alloc; "{bytes:?}")?),
+        Ok(own) => text.push_str(own),
+        Err(_) => write!(text, "{bytes:?}"),
     }
 }

@@ -10,6 +10,7 @@ mod looking;
 mod pages;
 mod transaction;
 
+use deeds::push_blank;
 use example_table::{is_told, number_of, refuse_row, row_of, sides_of};
 use osm_base::{Bytes, Ids};
 use outside::{Disk, Fails, MemDisk};
@@ -99,19 +100,21 @@ fn answer_of(
     deeds: &str,
 ) -> Result<Option<String>, AllocError> {
     match word {
-        "format" => {
-            let text = match format(disk) {
-                Ok(()) => String::from_str(alloc, "ok")?,
-                Err(fault) => format!(in alloc; "{fault}")?,
-            };
-            Ok(Some(text))
-        }
+        "format" => Ok(Some(formatted(alloc, disk)?)),
         "pages" => Ok(Some(pages_text(alloc, disk.bytes())?)),
         "at" => overwritten(alloc, disk, deeds),
         "look" => Ok(Some(transaction(alloc, disk, deeds, false)?)),
         "commit" => Ok(Some(transaction(alloc, disk, deeds, true)?)),
         "turns" => turns(alloc, disk, deeds),
         _ => Ok(None),
+    }
+}
+
+/// What formatting answers.
+fn formatted(alloc: Global, disk: &mut MemDisk) -> Result<String, AllocError> {
+    match format(disk) {
+        Ok(()) => String::from_str(alloc, "ok"),
+        Err(fault) => format!(in alloc; "{fault}"),
     }
 }
 
@@ -126,18 +129,32 @@ fn turns(alloc: Global, disk: &mut MemDisk, text: &str) -> Result<Option<String>
     let mut told = String::new(alloc);
     for turn in 0..count {
         let deed = if turn % 2 == 0 { odd } else { even };
-        let answer = transaction(alloc, disk, deed, true)?;
-        if answer.as_str() != "ok; ok" {
-            return Ok(Some(answer));
-        }
-        if turn < 2 || turn == count - 1 {
-            if turn > 0 {
-                told.push_str(" ")?;
-            }
-            told.push_str(pages_text(alloc, disk.bytes())?.as_str())?;
+        let is_shown = turn < 2 || turn == count - 1;
+        if !is_committed(alloc, disk, deed, is_shown, &mut told)? {
+            break;
         }
     }
     Ok(Some(told))
+}
+
+/// Commits a deed, and tells the home pages where they are to be shown. False: a refusal is told in the place of all.
+fn is_committed(
+    alloc: Global,
+    disk: &mut MemDisk,
+    deed: &str,
+    is_shown: bool,
+    told: &mut String,
+) -> Result<bool, AllocError> {
+    let answer = transaction(alloc, disk, deed, true)?;
+    if answer.as_str() != "ok; ok" {
+        *told = answer;
+        return Ok(false);
+    }
+    if is_shown {
+        push_blank(told)?;
+        push_pages(told, disk.bytes())?;
+    }
+    Ok(true)
 }
 
 /// Puts these bytes on the disk, from a place on.
@@ -146,34 +163,66 @@ fn overwritten(
     disk: &mut MemDisk,
     text: &str,
 ) -> Result<Option<String>, AllocError> {
-    let (place, behind) = row_of(text).unwrap_or((text, ""));
-    let mut bytes = Vec::new(alloc);
-    for field in behind.split(' ') {
-        match field.parse::<u8>() {
-            Ok(byte) => bytes.push(byte)?,
-            Err(_) => return Ok(None),
-        }
-    }
-    let place = number_of(place).unwrap_or(MOST);
-    if place >= MOST || bytes.len() as u64 >= MOST {
-        return Ok(None);
-    }
-    let word = match disk.write_at(place, &bytes) {
-        Ok(()) => "ok",
-        Err(_) => "disk fault",
+    let (place, fields) = row_of(text).unwrap_or((text, ""));
+    let word = match bytes_of(alloc, fields)? {
+        None => None,
+        Some(bytes) => written(disk, number_of(place).unwrap_or(MOST), &bytes),
     };
-    Ok(Some(String::from_str(alloc, word)?))
+    match word {
+        None => Ok(None),
+        Some(word) => Ok(Some(String::from_str(alloc, word)?)),
+    }
+}
+
+/// The bytes that these numbers are. `None`: one of them is no byte.
+fn bytes_of(alloc: Global, fields: &str) -> Result<Option<Vec<u8>>, AllocError> {
+    let mut bytes = Vec::new(alloc);
+    for field in fields.split(' ') {
+        let Some(byte) = byte_of(field) else {
+            return Ok(None);
+        };
+        bytes.push(byte)?;
+    }
+    Ok(Some(bytes))
+}
+
+fn byte_of(field: &str) -> Option<u8> {
+    field.parse::<u8>().ok()
+}
+
+/// What writing these bytes at a place answers. `None`: the place or the number of bytes is none of a row.
+fn written(disk: &mut MemDisk, place: u64, bytes: &[u8]) -> Option<&'static str> {
+    if place >= MOST || bytes.len() as u64 >= MOST {
+        return None;
+    }
+    let outcome = disk.write_at(place, bytes);
+    Some(if outcome.is_ok() { "ok" } else { "disk fault" })
 }
 
 /// How many home pages the root page tells.
 fn pages_text(alloc: Global, bytes: &[u8]) -> Result<String, AllocError> {
-    if bytes.len() < 8192 {
-        return String::from_str(alloc, "none");
+    let mut text = String::new(alloc);
+    push_pages(&mut text, bytes)?;
+    Ok(text)
+}
+
+fn push_pages(text: &mut String, bytes: &[u8]) -> Result<(), AllocError> {
+    match home_pages(bytes) {
+        None => text.push_str("none"),
+        Some(pages) => write!(text, "{pages}"),
     }
-    let mut spelled = [0; 8];
-    spelled.copy_from_slice(&bytes[4096..4104]);
-    let pages = u64::from_le_bytes(spelled);
-    format!(in alloc; "{pages}")
+}
+
+/// The number with which the root page begins. `None`: the bytes are less than two pages.
+fn home_pages(bytes: &[u8]) -> Option<u64> {
+    if bytes.len() < 8192 {
+        return None;
+    }
+    let mut pages = 0;
+    for &byte in bytes.get(4096..4104)?.iter().rev() {
+        pages = (pages << 8) | u64::from(byte);
+    }
+    Some(pages)
 }
 
 /// A disk without bytes, on which each call from this one on fails, where it is not 0.

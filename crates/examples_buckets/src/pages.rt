@@ -3,12 +3,12 @@ ghost use Rattle.std.specs.Prelude.{◌≡◌, ◌⊎◌, ◌<◌, false, IfSome
 ghost use Rattle.bucket_store.specs.Buckets.{IsBucketChain, bucket_count};
 ghost use Rattle.bucket_store.specs.Transaction.{chains_of, has_refused};
 
-use crate::deeds::none;
+use crate::deeds::{none, push_blank};
 use bucket_store::Buckets;
 use example_table::number_of;
 use outside::MemDisk;
 use page_journal::StoreFault;
-use std::alloc::Global;
+use std::alloc::{AllocError, Global};
 
 /// The pages of a chain, in their order.
 pub fn pages_of(
@@ -23,7 +23,7 @@ pub fn pages_of(
         return none(alloc);
     };
     match buckets.pages_of(n) {
-        Ok(pages) => numbers_text(alloc, pages.as_slice()),
+        Ok(pages) => Ok(numbers_text(alloc, pages.as_slice())?),
         Err(fault) => Err(fault),
     }
 }
@@ -34,7 +34,7 @@ pub fn free(alloc: Global, buckets: &mut Buckets<'_, MemDisk>) -> Result<String,
     ensures { OnOk result (has_refused buckets.new ≡ false) }
 {
     match buckets.free_pages() {
-        Ok(pages) => numbers_text(alloc, pages.as_slice()),
+        Ok(pages) => Ok(numbers_text(alloc, pages.as_slice())?),
         Err(fault) => Err(fault),
     }
 }
@@ -64,13 +64,11 @@ fn chain_of(text: &str, buckets: u64) -> Option<u32>
 }
 
 // Numbers with blanks between them.
-fn numbers_text(alloc: Global, numbers: &[u64]) -> Result<String, StoreFault> {
+fn numbers_text(alloc: Global, numbers: &[u64]) -> Result<String, AllocError> {
     let mut text = String::new(alloc);
     for number in numbers {
-        if !text.is_empty() {
-            text.push_str(" ")?;
-        }
-        text.push_str(format!(in alloc; "{number}")?.as_str())?;
+        push_blank(&mut text)?;
+        write!(text, "{number}")?;
     }
     Ok(text)
 }
