@@ -1,7 +1,7 @@
 //! What is asked in a row, and what comes out.
-use crate::kernels::{boxed, crossed, lying_on, marked, met, odd, products};
+use crate::kernels::{asked, boxed, compared};
 use crate::nesting::nested;
-use crate::nodes::{line_along, points_along};
+use crate::nodes::along;
 use crate::pieces::{closed, extended, joined, taken, tested};
 use crate::rows::written;
 use example_table::Examples;
@@ -21,15 +21,10 @@ impl Examples for OfGeometry {
             "extend" => extended(alloc, given),
             "join" => joined(alloc, given),
             "rings" => closed(alloc, given),
-            "points" => points_along(alloc, given),
-            "line" => line_along(alloc, given),
+            "points" | "line" => along(alloc, kind, given),
             "box" => boxed(alloc, given),
-            "meet" => marked(alloc, given),
-            "met" => met(alloc, given),
-            "odd" => odd(alloc, given),
-            "crosses" => crossed(alloc, given),
-            "on" => lying_on(alloc, given),
-            "products" => products(alloc, given),
+            "meet" | "met" => compared(alloc, kind, given),
+            "odd" | "crosses" | "on" | "products" => asked(alloc, kind, given),
             "nest" => nested(alloc, given),
             "row" => written(alloc, given),
             _ => Ok(None),

@@ -1,5 +1,5 @@
 //! Rings nested to polygons.
-use crate::notation::{lines_of, push_word, word_of_line};
+use crate::notation::{lines_of, push_lines, push_word};
 use osm_base::{LineList, OutOfMemory};
 use ring_build::are_rings;
 use ring_nest::nest;
@@ -25,9 +25,7 @@ fn text_of_polygons(alloc: Global, polygons: &[LineList]) -> Result<String, Allo
         if !text.is_empty() {
             push_word(&mut text, "/")?;
         }
-        for ring in polygon.as_slice() {
-            push_word(&mut text, word_of_line(alloc, ring.as_slice())?.as_str())?;
-        }
+        push_lines(alloc, &mut text, polygon.as_slice())?;
     }
     Ok(text)
 }

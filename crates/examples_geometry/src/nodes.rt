@@ -5,7 +5,7 @@ use crate::notation::{place_of, word_of_line};
 use example_table::number_of;
 use line_build::{line_of, points_of};
 use osm_base::{Key, Lookup, Object, OutOfMemory, Place};
-use std::alloc::Global;
+use std::alloc::{AllocError, Global};
 
 /// The place, if it has one, of each node from 0 on.
 #[derive(Drop)]
@@ -42,7 +42,7 @@ impl Lookup for Nodes {
 }
 
 /// The nodes whose places stand in a text, node 0 without one first: `-` for a node that has none.
-fn nodes_of(alloc: Global, text: &str) -> Result<Nodes, OutOfMemory> {
+fn nodes_of(alloc: Global, text: &str) -> Result<Nodes, AllocError> {
     let mut places = Vec::new(alloc);
     places.push(None)?;
     for word in text.split_ascii_whitespace() {
@@ -52,7 +52,7 @@ fn nodes_of(alloc: Global, text: &str) -> Result<Nodes, OutOfMemory> {
 }
 
 /// The ids that a text writes.
-fn ids_of(alloc: Global, text: &str) -> Result<Option<Vec<u64>>, OutOfMemory> {
+fn ids_of(alloc: Global, text: &str) -> Result<Option<Vec<u64>>, AllocError> {
     let mut ids = Vec::new(alloc);
     for word in text.split_ascii_whitespace() {
         let Some(id) = number_of(word) else {
@@ -63,30 +63,31 @@ fn ids_of(alloc: Global, text: &str) -> Result<Option<Vec<u64>>, OutOfMemory> {
     Ok(Some(ids))
 }
 
-/// The points along nodes.
-pub fn points_along(alloc: Global, given: &str) -> Result<Option<String>, OutOfMemory> {
+/// The points along nodes, or the line along them for `line`, and `-` where there is none.
+pub fn along(alloc: Global, kind: &str, given: &str) -> Result<Option<String>, OutOfMemory> {
     let Some((places, ids)) = given.split_once('/') else {
         return Ok(None);
     };
-    let nodes = nodes_of(alloc, places)?;
     let Some(ids) = ids_of(alloc, ids)? else {
         return Ok(None);
     };
-    let points = points_of(alloc, &nodes, &ids)?;
-    Ok(Some(word_of_line(alloc, points.as_slice())?))
+    let nodes = nodes_of(alloc, places)?;
+    let text = if kind == "line" {
+        line_text(alloc, &nodes, &ids)
+    } else {
+        points_text(alloc, &nodes, &ids)
+    };
+    Ok(Some(text?))
 }
 
-/// The line along nodes, and `-` where there is none.
-pub fn line_along(alloc: Global, given: &str) -> Result<Option<String>, OutOfMemory> {
-    let Some((places, ids)) = given.split_once('/') else {
-        return Ok(None);
-    };
-    let nodes = nodes_of(alloc, places)?;
-    let Some(ids) = ids_of(alloc, ids)? else {
-        return Ok(None);
-    };
-    match line_of(alloc, &nodes, &ids)? {
-        None => Ok(Some(String::from_str(alloc, "-")?)),
-        Some(line) => Ok(Some(word_of_line(alloc, line.as_slice())?)),
+fn points_text(alloc: Global, nodes: &Nodes, ids: &[u64]) -> Result<String, OutOfMemory> {
+    let points = points_of(alloc, nodes, ids)?;
+    Ok(word_of_line(alloc, points.as_slice())?)
+}
+
+fn line_text(alloc: Global, nodes: &Nodes, ids: &[u64]) -> Result<String, OutOfMemory> {
+    match line_of(alloc, nodes, ids)? {
+        None => Ok(String::from_str(alloc, "-")?),
+        Some(line) => Ok(word_of_line(alloc, line.as_slice())?),
     }
 }

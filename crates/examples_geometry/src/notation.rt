@@ -84,10 +84,17 @@ fn ring_round(alloc: Global, low: &str, high: &str) -> Result<Option<Places>, Ou
     Ok(Some(ring))
 }
 
-/// The places of a text with a sign between them.
-fn places_between(alloc: Global, text: &str, sign: char) -> Result<Option<Places>, OutOfMemory> {
+/// The places of a text with a sign between them, or more of it.
+pub fn places_between(
+    alloc: Global,
+    text: &str,
+    sign: char,
+) -> Result<Option<Places>, OutOfMemory> {
     let mut places = Places::new(alloc);
     for field in text.split(sign) {
+        if field.is_empty() {
+            continue;
+        }
         let Some(place) = place_of(field) else {
             return Ok(None);
         };
@@ -100,18 +107,6 @@ fn places_of_letters(alloc: Global, word: &str) -> Result<Option<Places>, OutOfM
     let mut places = Places::new(alloc);
     for letter in word.bytes() {
         let Some(place) = place_of_letter(letter) else {
-            return Ok(None);
-        };
-        places.push(place)?;
-    }
-    Ok(Some(places))
-}
-
-/// The places of a text, a word each.
-pub fn places_of(alloc: Global, text: &str) -> Result<Option<Places>, OutOfMemory> {
-    let mut places = Places::new(alloc);
-    for word in text.split_ascii_whitespace() {
-        let Some(place) = place_of(word) else {
             return Ok(None);
         };
         places.push(place)?;
@@ -184,31 +179,49 @@ fn push_place(text: &mut String, place: Place) -> Result<(), AllocError> {
 fn word_of_letters(alloc: Global, line: &[Place]) -> Result<Option<String>, AllocError> {
     let mut word = String::new(alloc);
     for place in line {
-        let place = *place;
-        match u8::try_from(place.lon) {
-            Ok(letter) if place.lat == 0 && letter.is_ascii_lowercase() => {
-                word.push(char::from(letter))?;
-            }
-            _ => return Ok(None),
-        }
+        let Some(letter) = letter_at(*place) else {
+            return Ok(None);
+        };
+        word.push(letter)?;
     }
     Ok(Some(word))
+}
+
+/// The letter that stands for a place, if one does.
+fn letter_at(place: Place) -> Option<char> {
+    let letter = u8::try_from(place.lon).ok()?;
+    if place.lat == 0 && letter.is_ascii_lowercase() {
+        Some(char::from(letter))
+    } else {
+        None
+    }
 }
 
 /// The words that write lines.
 pub fn text_of_lines(alloc: Global, lines: &[Places]) -> Result<String, AllocError> {
     let mut text = String::new(alloc);
-    for line in lines {
-        push_word(&mut text, word_of_line(alloc, line.as_slice())?.as_str())?;
-    }
+    push_lines(alloc, &mut text, lines)?;
     Ok(text)
+}
+
+/// Adds the words that write lines.
+pub fn push_lines(alloc: Global, text: &mut String, lines: &[Places]) -> Result<(), AllocError> {
+    for line in lines {
+        push_word(text, word_of_line(alloc, line.as_slice())?.as_str())?;
+    }
+    Ok(())
 }
 
 /// The words of answers: `yes` or `no` for each.
 pub fn text_of_answers(alloc: Global, answers: &[bool]) -> Result<String, AllocError> {
     let mut text = String::new(alloc);
     for answer in answers {
-        push_word(&mut text, if *answer { "yes" } else { "no" })?;
+        push_answer(&mut text, *answer)?;
     }
     Ok(text)
+}
+
+/// Adds the word of an answer.
+pub fn push_answer(text: &mut String, answer: bool) -> Result<(), AllocError> {
+    push_word(text, if answer { "yes" } else { "no" })
 }

@@ -6,7 +6,7 @@ use crate::notation::{
     line_of_word, lines_of, place_of, push_word, text_of_answers, text_of_lines, word_of_line,
 };
 use line_build::join_lines;
-use osm_base::{LineList, OutOfMemory, Places};
+use osm_base::{LineList, OutOfMemory, Place, Places};
 use piece_ends::{UnusedPieces, are_pieces, extend};
 use ring_build::rings_of;
 use std::alloc::{AllocError, Global};
@@ -65,17 +65,26 @@ pub fn extended(alloc: Global, given: &str) -> Result<Option<String>, OutOfMemor
     let Some((line, pieces)) = given.split_once('/') else {
         return Ok(None);
     };
-    let Some(line) = line_of_word(alloc, line.trim())? else {
-        return Ok(None);
-    };
     let Some(pieces) = pieces_of(alloc, pieces)? else {
         return Ok(None);
     };
-    let mut line = line.into_vec();
+    match line_of_word(alloc, line.trim())? {
+        None => Ok(None),
+        Some(line) => extended_by(alloc, line.into_vec(), &pieces),
+    }
+}
+
+fn extended_by(
+    alloc: Global,
+    mut line: Vec<Place>,
+    pieces: &LineList,
+) -> Result<Option<String>, OutOfMemory>
+    requires { ArePieces pieces.now }
+{
     if line.is_empty() {
         return Ok(None);
     }
-    let mut unused = UnusedPieces::new(alloc, &pieces)?;
+    let mut unused = UnusedPieces::new(alloc, pieces)?;
     extend(&mut line, &mut unused)?;
     Ok(Some(word_of_line(alloc, line.as_slice())?))
 }

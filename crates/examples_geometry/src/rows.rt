@@ -3,7 +3,7 @@ use crate::notation::{line_of_word, lines_of, place_of};
 use example_table::{row_of, signed_of, text_of};
 use osm_base::{Cell, Cells, Geometry, OutOfMemory, Polygons, Row, Text};
 use row_text::push_row;
-use std::alloc::Global;
+use std::alloc::{AllocError, Global};
 
 /// The line of a row, with `\t`, `\n` and `\\` for tabs, newlines and backslashes.
 pub fn written(alloc: Global, given: &str) -> Result<Option<String>, OutOfMemory> {
@@ -117,15 +117,19 @@ fn area_of(alloc: Global, text: &str) -> Result<Option<Geometry>, OutOfMemory> {
 }
 
 /// A text as a field of a table.
-fn shown(alloc: Global, text: &str) -> Result<String, OutOfMemory> {
+fn shown(alloc: Global, text: &str) -> Result<String, AllocError> {
     let mut field = String::new(alloc);
     for character in text.chars() {
-        match character {
-            '\t' => field.push_str("\\t")?,
-            '\n' => field.push_str("\\n")?,
-            '\\' => field.push_str("\\\\")?,
-            other => field.push(other)?,
-        }
+        push_shown(&mut field, character)?;
     }
     Ok(field)
+}
+
+fn push_shown(field: &mut String, character: char) -> Result<(), AllocError> {
+    match character {
+        '\t' => field.push_str("\\t"),
+        '\n' => field.push_str("\\n"),
+        '\\' => field.push_str("\\\\"),
+        other => field.push(other),
+    }
 }
