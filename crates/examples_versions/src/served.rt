@@ -41,7 +41,11 @@ pub fn served<R: Threads + Wait + Sync>(
 fn given_by(text: &str) -> Option<(u32, u64, u64)> {
     let (readers, rest) = row_of(text)?;
     let (changes, turns) = row_of(rest)?;
-    Some((readers.parse::<u32>().ok()?, number_of(changes)?, number_of(turns)?))
+    Some((
+        readers.parse::<u32>().ok()?,
+        number_of(changes)?,
+        number_of(turns)?,
+    ))
 }
 
 /// Lets so many readers watch a publisher, which is ended then. How many found all good.
