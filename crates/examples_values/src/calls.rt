@@ -5,22 +5,28 @@ ghost use Rattle.bucket_store.specs.Transaction.{chains_of, has_refused};
 
 use crate::hex;
 use crate::lists::ids_text;
-use crate::typed::{on_node, on_object, rows_got, rows_put, rows_removed};
+use crate::rows::style;
+use crate::typed::{on_node, on_object, on_rows, rows_removed};
 use back_index::listers;
 use bucket_store::{Buckets, open};
 use example_table::{number_of, row_of};
 use osm_base::{Bytes, Key, Kind, Limits, MAX_ID, OutOfMemory};
 use outside::{Fails, MemDisk};
 use page_journal::{StoreFault, format};
-use std::alloc::Global;
+use std::alloc::{AllocError, Global};
 
 /// How many buckets the store of a row has.
 const BUCKETS: u64 = 16;
 
 /// What the calls of a row answer, one after another, in a store that was just made. The first refusal is the last answer.
 pub fn calls(alloc: Global, given: &str) -> Result<Option<String>, OutOfMemory> {
-    let mut disk = MemDisk::new(alloc, Bytes::new(alloc), Fails::never(alloc));
+    let mut disk = empty(alloc);
     called(alloc, &mut disk, given)
+}
+
+/// A disk without bytes.
+pub fn empty(alloc: Global) -> MemDisk {
+    MemDisk::new(alloc, Bytes::new(alloc), Fails::never(alloc))
 }
 
 /// The same on this disk, which is formatted first.
@@ -65,8 +71,7 @@ fn answers_of(
             Ok(None) => return Ok(None),
             Err(StoreFault::OutOfMemory) => return Err(OutOfMemory),
             Err(fault) => {
-                let told = format!(in alloc; "{fault}")?;
-                push_answer(&mut answers, told.as_str())?;
+                push_fault(&mut answers, &fault)?;
                 break;
             }
         }
@@ -74,13 +79,24 @@ fn answers_of(
     Ok(Some(answers))
 }
 
-/// Puts an answer behind the others.
-pub fn push_answer(answers: &mut String, answer: &str) -> Result<(), OutOfMemory> {
-    if !answers.is_empty() {
-        answers.push_str("; ")?;
+/// Adds what stands between answers, where there is one already.
+pub fn push_gap(answers: &mut String) -> Result<(), AllocError> {
+    if answers.is_empty() {
+        return Ok(());
     }
-    answers.push_str(if answer.is_empty() { "-" } else { answer })?;
-    Ok(())
+    answers.push_str("; ")
+}
+
+/// Puts a refusal behind the answers.
+pub fn push_fault(answers: &mut String, fault: &StoreFault) -> Result<(), AllocError> {
+    push_gap(answers)?;
+    write!(answers, "{fault}")
+}
+
+// Puts an answer behind the others.
+fn push_answer(answers: &mut String, answer: &str) -> Result<(), AllocError> {
+    push_gap(answers)?;
+    answers.push_str(if answer.is_empty() { "-" } else { answer })
 }
 
 // What a call answers. `None`: there is no such call.
@@ -123,8 +139,10 @@ fn on_key(
         return Ok(None);
     };
     match word {
-        "rows" => rows_got(alloc, buckets, key),
-        "put_rows" => rows_put(alloc, buckets, key, &bytes),
+        "rows" | "put_rows" => match style(alloc)? {
+            None => Ok(None),
+            Some(style) => on_rows(alloc, buckets, &style, word, key, &bytes),
+        },
         "remove_rows" => rows_removed(alloc, buckets, key),
         _ => match key.kind {
             Kind::Node => on_node(alloc, buckets, word, key.id, &bytes),

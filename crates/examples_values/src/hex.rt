@@ -33,16 +33,11 @@ fn byte_of(high: u32, low: u32) -> u8 {
 }
 
 /// What is told of a value that was read out of bytes and gives these again.
-pub fn told(
-    alloc: Global,
-    text: String,
-    bytes: &[u8],
-    again: &[u8],
-) -> Result<Option<String>, OutOfMemory> {
-    if bytes == again {
-        return Ok(Some(text));
+pub fn told(mut text: String, bytes: &[u8], again: &[u8]) -> Result<Option<String>, OutOfMemory> {
+    if bytes != again {
+        text.push_str(", but written as other bytes")?;
     }
-    Ok(Some(format!(in alloc; "{text}, but written as other bytes")?))
+    Ok(Some(text))
 }
 
 /// What is told where the bytes are no value.

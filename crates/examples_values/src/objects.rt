@@ -5,7 +5,7 @@ use crate::hex::{none, told};
 use middle_nodes::{NodeRecord, read_old};
 use middle_objs::{object_bytes, read_object};
 use osm_base::{Kind, Member, Object, OutOfMemory, Place, Tags};
-use std::alloc::Global;
+use std::alloc::{AllocError, Global};
 use value_bytes::{ValueFault, bytes_of, read_whole};
 
 /// The record of a node with these bytes.
@@ -13,7 +13,7 @@ pub fn node(alloc: Global, bytes: &[u8]) -> Result<Option<String>, OutOfMemory> 
     match read_whole::<NodeRecord>(alloc, bytes) {
         Ok(record) => {
             let again = bytes_of(alloc, &record)?;
-            told(alloc, record_text(alloc, &record)?, bytes, again.as_slice())
+            told(record_text(alloc, &record)?, bytes, again.as_slice())
         }
         Err(ValueFault::NotSpelled) => none(alloc),
         Err(ValueFault::OutOfMemory) => Err(OutOfMemory),
@@ -25,7 +25,7 @@ pub fn place(alloc: Global, bytes: &[u8]) -> Result<Option<String>, OutOfMemory>
     match read_old(alloc, bytes) {
         Ok(place) => {
             let again = bytes_of(alloc, &place)?;
-            told(alloc, place_text(alloc, place)?, bytes, again.as_slice())
+            told(place_text(alloc, place)?, bytes, again.as_slice())
         }
         Err(ValueFault::NotSpelled) => none(alloc),
         Err(ValueFault::OutOfMemory) => Err(OutOfMemory),
@@ -60,87 +60,93 @@ fn object_told(
     requires { IsKept kind object.now }
 {
     let again = object_bytes(alloc, kind, object)?;
-    told(alloc, object_text(alloc, object)?, bytes, again.as_slice())
+    told(object_text(alloc, object)?, bytes, again.as_slice())
 }
 
 /// A place or none, as a row says it.
-pub fn place_text(alloc: Global, place: Option<Place>) -> Result<String, OutOfMemory> {
+pub fn place_text(alloc: Global, place: Option<Place>) -> Result<String, AllocError> {
     let mut text = String::new(alloc);
-    push_place(alloc, &mut text, place)?;
+    push_place(&mut text, place)?;
     Ok(text)
 }
 
 /// A record, as a row says it.
-pub fn record_text(alloc: Global, record: &NodeRecord) -> Result<String, OutOfMemory> {
+pub fn record_text(alloc: Global, record: &NodeRecord) -> Result<String, AllocError> {
     let mut text = String::new(alloc);
-    push_place(alloc, &mut text, record.place)?;
-    match &record.tags {
-        Some(tags) => push_tags(&mut text, tags)?,
-        None => text.push_str(" unknown")?,
-    }
+    push_record(&mut text, record)?;
     Ok(text)
+}
+
+fn push_record(text: &mut String, record: &NodeRecord) -> Result<(), AllocError> {
+    push_place(text, record.place)?;
+    match &record.tags {
+        Some(tags) => push_tags(text, tags),
+        None => text.push_str(" unknown"),
+    }
 }
 
 /// An object, as a row says it.
-pub fn object_text(alloc: Global, object: &Object) -> Result<String, OutOfMemory> {
+pub fn object_text(alloc: Global, object: &Object) -> Result<String, AllocError> {
     let mut text = String::new(alloc);
-    match object {
-        Object::Node { place, tags } => {
-            push_place(alloc, &mut text, *place)?;
-            push_tags(&mut text, tags)?;
-        }
-        Object::Way { nodes, tags } => {
-            push_numbers(alloc, &mut text, nodes.as_slice())?;
-            push_tags(&mut text, tags)?;
-        }
-        Object::Relation { members, tags } => {
-            push_members(alloc, &mut text, members.as_slice())?;
-            push_tags(&mut text, tags)?;
-        }
-    }
+    push_object(&mut text, object)?;
     Ok(text)
 }
 
-/// Adds `at LON LAT`, or `nowhere`.
-fn push_place(alloc: Global, text: &mut String, place: Option<Place>) -> Result<(), OutOfMemory> {
-    match place {
-        Some(place) => text.push_str(&format!(in alloc; "at {} {}", place.lon, place.lat)?)?,
-        None => text.push_str("nowhere")?,
+fn push_object(text: &mut String, object: &Object) -> Result<(), AllocError> {
+    match object {
+        Object::Node { place, tags } => {
+            push_place(text, *place)?;
+            push_tags(text, tags)
+        }
+        Object::Way { nodes, tags } => {
+            push_numbers(text, nodes.as_slice())?;
+            push_tags(text, tags)
+        }
+        Object::Relation { members, tags } => {
+            push_members(text, members.as_slice())?;
+            push_tags(text, tags)
+        }
     }
-    Ok(())
+}
+
+/// Adds `at LON LAT`, or `nowhere`.
+fn push_place(text: &mut String, place: Option<Place>) -> Result<(), AllocError> {
+    match place {
+        Some(place) => write!(text, "at {} {}", place.lon, place.lat),
+        None => text.push_str("nowhere"),
+    }
 }
 
 /// Adds ` KEY=VALUE` for each tag.
-fn push_tags(text: &mut String, tags: &Tags) -> Result<(), OutOfMemory> {
+fn push_tags(text: &mut String, tags: &Tags) -> Result<(), AllocError> {
     for index in 0..tags.len() {
         let (key, value) = tags.nth(index);
-        text.push_str(" ")?;
-        text.push_str(key)?;
-        text.push_str("=")?;
-        text.push_str(value)?;
+        write!(text, " {key}={value}")?;
     }
     Ok(())
 }
 
 /// Adds `(NUMBER)` for each number.
-pub fn push_numbers(alloc: Global, text: &mut String, numbers: &[u64]) -> Result<(), OutOfMemory> {
+pub fn push_numbers(text: &mut String, numbers: &[u64]) -> Result<(), AllocError> {
     for number in numbers {
-        text.push_str(&format!(in alloc; "({number})")?)?;
+        write!(text, "({number})")?;
     }
     Ok(())
 }
 
 /// Adds `(KINDID ROLE)` for each member.
-fn push_members(alloc: Global, text: &mut String, members: &[Member]) -> Result<(), OutOfMemory> {
+fn push_members(text: &mut String, members: &[Member]) -> Result<(), AllocError> {
     for member in members {
-        let letter = match member.key.kind {
-            Kind::Node => "n",
-            Kind::Way => "w",
-            Kind::Relation => "r",
-        };
-        text.push_str(&format!(in alloc; "({letter}{} ", member.key.id)?)?;
-        text.push_str(member.role.as_str())?;
-        text.push_str(")")?;
+        push_member(text, member)?;
     }
     Ok(())
+}
+
+fn push_member(text: &mut String, member: &Member) -> Result<(), AllocError> {
+    let letter = match member.key.kind {
+        Kind::Node => "n",
+        Kind::Way => "w",
+        Kind::Relation => "r",
+    };
+    write!(text, "({letter}{} {})", member.key.id, member.role.as_str())
 }

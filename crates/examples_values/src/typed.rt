@@ -6,7 +6,7 @@ ghost use Rattle.bucket_store.specs.Transaction.{chains_of, has_refused};
 
 use crate::calls::ok;
 use crate::objects::{object_text, place_text, record_text};
-use crate::rows::{rows_text, style};
+use crate::rows::rows_text;
 use back_index::relist;
 use bucket_store::Buckets;
 use middle_nodes::NodeRecord;
@@ -16,6 +16,7 @@ use outside::MemDisk;
 use page_journal::StoreFault;
 use row_store::read_rows;
 use std::alloc::Global;
+use style_read::Style;
 use value_bytes::{ValueFault, read_whole};
 
 /// What a call on a node answers. `None`: there is no such call.
@@ -128,30 +129,12 @@ fn with_object(
     }
 }
 
-/// The rows of an object.
-pub fn rows_got(
+/// What a call on the rows of an object answers: it gets them, or sets those with these bytes.
+pub fn on_rows(
     alloc: Global,
     buckets: &mut Buckets<'_, MemDisk>,
-    key: Key,
-) -> Result<Option<String>, StoreFault>
-    requires some { 1 ≤ bucket_count (chains_of buckets.old) }
-    requires going { has_refused buckets.old ≡ false }
-    ensures { OnOk result (has_refused buckets.new ≡ false) }
-{
-    let Some(style) = style(alloc)? else {
-        return Ok(None);
-    };
-    match row_store::get(alloc, buckets, &style, key) {
-        Ok(Some(rows)) => Ok(Some(rows_text(alloc, &rows)?)),
-        Ok(None) => none(alloc),
-        Err(fault) => Err(fault),
-    }
-}
-
-/// Sets the rows of an object with these bytes.
-pub fn rows_put(
-    alloc: Global,
-    buckets: &mut Buckets<'_, MemDisk>,
+    style: &Style,
+    word: &str,
     key: Key,
     bytes: &[u8],
 ) -> Result<Option<String>, StoreFault>
@@ -159,11 +142,15 @@ pub fn rows_put(
     requires going { has_refused buckets.old ≡ false }
     ensures { OnOk result (has_refused buckets.new ≡ false) }
 {
-    let Some(style) = style(alloc)? else {
-        return Ok(None);
-    };
-    match read_rows(alloc, &style, bytes) {
-        Ok(rows) => match row_store::put(alloc, buckets, &style, key, &rows) {
+    if word == "rows" {
+        return match row_store::get(alloc, buckets, style, key) {
+            Ok(Some(rows)) => Ok(Some(rows_text(alloc, &rows)?)),
+            Ok(None) => none(alloc),
+            Err(fault) => Err(fault),
+        };
+    }
+    match read_rows(alloc, style, bytes) {
+        Ok(rows) => match row_store::put(alloc, buckets, style, key, &rows) {
             Ok(()) => ok(alloc),
             Err(fault) => Err(fault),
         },
@@ -195,5 +182,6 @@ fn none(alloc: Global) -> Result<Option<String>, StoreFault> {
 
 // What a call answers that says whether there was something.
 fn said(alloc: Global, was: bool) -> Result<Option<String>, StoreFault> {
-    Ok(Some(format!(in alloc; "{was}")?))
+    let word = if was { "true" } else { "false" };
+    Ok(Some(String::from_str(alloc, word)?))
 }
