@@ -15,37 +15,21 @@ const SIDE: u32 = 8;
 /// The table: the latitudes 800, 600 and so on to -800.
 const TABLE: &str = "800,200,9";
 
-/// The next of numbers that look like those of chance.
-fn next(state: u64) -> u64 {
-    state
+/// The next of numbers that look like those of chance: the upper bits of the state.
+fn next(state: &mut u64) -> u64 {
+    *state = (*state)
         .wrapping_mul(6_364_136_223_846_793_005)
-        .wrapping_add(1_442_695_040_888_963_407)
+        .wrapping_add(1_442_695_040_888_963_407);
+    *state >> 33
 }
 
-/// A number below a bound, of the upper bits.
-fn below(state: u64, bound: u64) -> u64 {
-    if bound == 0 {
-        return 0;
-    }
-    (state >> 33) % bound
-}
-
-/// A ring or a line of so many places, often on the sides of tiles, and the state after it.
-fn places_by_chance(
-    alloc: Global,
-    state: u64,
-    count: u64,
-    closed: bool,
-) -> Result<(Places, u64), OutOfMemory> {
+/// A line of so many places, often on the sides of tiles.
+fn line_by_chance(alloc: Global, state: &mut u64, count: u64) -> Result<Places, OutOfMemory> {
     let mut places = Places::new(alloc);
-    let mut state = state;
     for _ in 0..count {
-        state = next(state);
-        let across = ((state >> 33) % 17) as i64;
-        state = next(state);
-        let along = ((state >> 33) % 21) as i64;
-        state = next(state);
-        let off = ((state >> 33) % 3) as i64;
+        let across = (next(state) % 17) as i64;
+        let along = (next(state) % 21) as i64;
+        let off = (next(state) % 3) as i64;
         // Each second place of the grid is a corner of tiles, and a third of the places lies on the grid.
         let lon = across * 225_000_000 - 1_800_000_000 - off;
         let lat = along * 100 - 1_000 + off;
@@ -53,11 +37,23 @@ fn places_by_chance(
             places.push(place)?;
         }
     }
-    if closed && let Some(first) = places.as_slice().first() {
+    Ok(places)
+}
+
+/// Adds a ring of so many places.
+fn push_ring(
+    alloc: Global,
+    rings: &mut LineList,
+    state: &mut u64,
+    count: u64,
+) -> Result<(), OutOfMemory> {
+    let mut ring = line_by_chance(alloc, state, count)?;
+    if let Some(first) = ring.as_slice().first() {
         let first = *first;
-        places.push(first)?;
+        ring.push(first)?;
     }
-    Ok((places, state))
+    rings.push(ring)?;
+    Ok(())
 }
 
 /// Whether runs have a tile.
@@ -86,24 +82,26 @@ fn is_just(table: &Bounds, runs: &[Run], geometry: &Geometry, mode: Mode) -> boo
     true
 }
 
-/// A geometry by chance, and the state after it.
-fn geometry_by_chance(alloc: Global, state: u64) -> Result<(Geometry, u64), OutOfMemory> {
-    let state = next(state);
-    let kind = below(state, 4);
-    let state = next(state);
-    let count = below(state, 6).saturating_add(1);
+/// A geometry by chance: a line, or an area with a hole.
+fn geometry_by_chance(alloc: Global, state: &mut u64) -> Result<Geometry, OutOfMemory> {
+    let kind = next(state) % 4;
+    let count = next(state) % 6 + 1;
     if kind == 0 {
-        let (line, state) = places_by_chance(alloc, state, count, false)?;
-        return Ok((Geometry::Line(line), state));
+        return Ok(Geometry::Line(line_by_chance(alloc, state, count)?));
     }
-    let (outer, state) = places_by_chance(alloc, state, count, true)?;
-    let (inner, state) = places_by_chance(alloc, state, kind, true)?;
     let mut rings = LineList::new(alloc);
-    rings.push(outer)?;
-    rings.push(inner)?;
+    push_ring(alloc, &mut rings, state, count)?;
+    push_ring(alloc, &mut rings, state, kind)?;
     let mut polygons = Polygons::new(alloc);
     polygons.push(rings)?;
-    Ok((Geometry::Area(polygons), state))
+    Ok(Geometry::Area(polygons))
+}
+
+/// Whether the cover of the next geometry is just what it has to be.
+fn agrees(alloc: Global, table: &Bounds, state: &mut u64, mode: Mode) -> Result<bool, OutOfMemory> {
+    let geometry = geometry_by_chance(alloc, state)?;
+    let set = cover(alloc, table, &geometry, mode)?;
+    Ok(is_just(table, set.as_slice(), &geometry, mode))
 }
 
 /// So many geometries by chance from a seed: `SEED COUNT`.
@@ -119,15 +117,12 @@ pub fn agree(alloc: Global, given: &str) -> Result<Option<String>, OutOfMemory> 
     };
     let mut state = seed;
     for case in 0..count {
-        let (geometry, after) = geometry_by_chance(alloc, state)?;
-        state = after;
         let mode = if case % 4 == 0 {
             Mode::Boundary
         } else {
             Mode::Full
         };
-        let set = cover(alloc, &table, &geometry, mode)?;
-        if !is_just(&table, set.as_slice(), &geometry, mode) {
+        if !agrees(alloc, &table, &mut state, mode)? {
             return Ok(Some(format!(in alloc; "differs at {case}")?));
         }
     }

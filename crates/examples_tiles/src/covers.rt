@@ -3,13 +3,13 @@ use crate::notation::{geometry_of, mode_of};
 use crate::tables::table_of;
 use example_table::{number_of, row_of};
 use osm_base::{Geometry, OutOfMemory};
-use std::alloc::Global;
+use std::alloc::{AllocError, Global};
 use style_read::Mode;
-use tile_cover::{Bounds, Run, cover};
+use tile_cover::{Bounds, Run, TileRuns, cover};
 
 /// A table, a mode and a geometry, as a row gives them.
 #[derive(Drop)]
-pub struct Asked {
+struct Asked {
     table: Bounds,
     mode: Mode,
     geometry: Geometry,
@@ -40,63 +40,60 @@ fn asked_of(alloc: Global, given: &str) -> Result<Option<Asked>, OutOfMemory> {
 }
 
 /// The runs of a cover, a word `ZOOM/ROW:FIRST-LAST` each.
-pub fn text_of_runs(alloc: Global, runs: &[Run]) -> Result<String, OutOfMemory> {
+pub fn text_of_runs(alloc: Global, runs: &[Run]) -> Result<String, AllocError> {
     let mut text = String::new(alloc);
     for run in runs {
-        let run = *run;
-        if !text.is_empty() {
-            text.push(' ')?;
-        }
-        let Run {
-            zoom,
-            y,
-            first,
-            last,
-        } = run;
-        let word = format!(in alloc; "{zoom}/{y}:{first}-{last}")?;
-        text.push_str(word.as_str())?;
+        push_run(&mut text, *run)?;
     }
     Ok(text)
 }
 
-/// The runs that cover a geometry.
-pub fn listed(alloc: Global, given: &str) -> Result<Option<String>, OutOfMemory> {
-    let Some(
-        Asked {
-            table,
-            mode,
-            geometry,
-        },
-    ) = asked_of(alloc, given)?
-    else {
+fn push_run(text: &mut String, run: Run) -> Result<(), AllocError> {
+    let Run {
+        zoom,
+        y,
+        first,
+        last,
+    } = run;
+    if !text.is_empty() {
+        text.push(' ')?;
+    }
+    write!(text, "{zoom}/{y}:{first}-{last}")
+}
+
+/// The runs that cover the geometry of a row.
+fn covered(alloc: Global, given: &str) -> Result<Option<TileRuns>, OutOfMemory> {
+    let Some(asked) = asked_of(alloc, given)? else {
         return Ok(None);
     };
-    let set = cover(alloc, &table, &geometry, mode)?;
-    Ok(Some(text_of_runs(alloc, set.as_slice())?))
+    let set = cover(alloc, &asked.table, &asked.geometry, asked.mode)?;
+    Ok(Some(set))
+}
+
+/// The runs that cover a geometry, as words.
+pub fn listed(alloc: Global, given: &str) -> Result<Option<String>, OutOfMemory> {
+    match covered(alloc, given)? {
+        None => Ok(None),
+        Some(set) => Ok(Some(text_of_runs(alloc, set.as_slice())?)),
+    }
 }
 
 /// How many runs cover a geometry, and how many tiles they have.
 pub fn counted(alloc: Global, given: &str) -> Result<Option<String>, OutOfMemory> {
-    let Some(
-        Asked {
-            table,
-            mode,
-            geometry,
-        },
-    ) = asked_of(alloc, given)?
-    else {
-        return Ok(None);
-    };
-    let set = cover(alloc, &table, &geometry, mode)?;
-    let runs = set.as_slice();
+    match covered(alloc, given)? {
+        None => Ok(None),
+        Some(set) => Ok(Some(text_of_count(alloc, set.as_slice())?)),
+    }
+}
+
+fn text_of_count(alloc: Global, runs: &[Run]) -> Result<String, AllocError> {
     let mut tiles = 0u64;
     for run in runs {
-        let run = *run;
         let columns = u64::from(run.last).saturating_sub(u64::from(run.first));
         tiles = tiles.saturating_add(columns).saturating_add(1);
     }
     let count = runs.len();
-    Ok(Some(format!(in alloc; "{count} runs {tiles} tiles")?))
+    format!(in alloc; "{count} runs {tiles} tiles")
 }
 
 /// Whether a geometry meets the tile of the row `X Y TABLE MODE GEOMETRY`.
@@ -113,23 +110,23 @@ pub fn met(alloc: Global, given: &str) -> Result<Option<String>, OutOfMemory> {
     let Some(asked) = asked_of(alloc, rest)? else {
         return Ok(None);
     };
-    let Some(is_met) = meets_at(&asked, x, y) else {
-        return Ok(None);
-    };
-    let word = if is_met { "yes" } else { "no" };
-    Ok(Some(String::from_str(alloc, word)?))
+    match word_at(&asked, x, y) {
+        None => Ok(None),
+        Some(word) => Ok(Some(String::from_str(alloc, word)?)),
+    }
 }
 
 /// Whether the geometry meets a tile, where there is such a tile.
-fn meets_at(asked: &Asked, x: u64, y: u64) -> Option<bool> {
-    let zoom = asked.table.zoom();
-    let count = 1u64 << zoom;
-    if x < count && y < count {
-        return Some(
-            asked
-                .table
-                .meets(x as u32, y as u32, &asked.geometry, asked.mode),
-        );
+fn word_at(asked: &Asked, x: u64, y: u64) -> Option<&'static str> {
+    let Asked {
+        table,
+        mode,
+        geometry,
+    } = asked;
+    let count = 1u64 << table.zoom();
+    if x >= count || y >= count {
+        return None;
     }
-    None
+    let is_met = table.meets(x as u32, y as u32, geometry, *mode);
+    Some(if is_met { "yes" } else { "no" })
 }

@@ -4,7 +4,7 @@ use due_tiles::{DueFault, TilesFault, decode, encode, union, write_tiles};
 use example_table::{bytes_of, number_of, row_of};
 use osm_base::OutOfMemory;
 use outside::{Fails, MemSink};
-use std::alloc::Global;
+use std::alloc::{AllocError, Global};
 use tile_cover::TileRuns;
 
 /// The numbers of a run `ZOOM/ROW:FIRST-LAST`.
@@ -21,18 +21,22 @@ fn numbers_of(word: &str) -> Option<[u64; 4]> {
 }
 
 /// The bytes of runs, a word each, whether or not a set has them.
-fn bytes_of_runs(alloc: Global, text: &str) -> Result<Option<Vec<u8>>, OutOfMemory> {
+fn bytes_of_runs(alloc: Global, text: &str) -> Result<Option<Vec<u8>>, AllocError> {
     let mut bytes = Vec::new(alloc);
     for word in text.split_ascii_whitespace() {
         let Some(numbers) = numbers_of(word) else {
             return Ok(None);
         };
-        for number in &numbers {
-            let number = *number;
-            bytes.extend_from_slice(&number.to_le_bytes())?;
-        }
+        push_numbers(&mut bytes, numbers)?;
     }
     Ok(Some(bytes))
+}
+
+fn push_numbers(bytes: &mut Vec<u8>, numbers: [u64; 4]) -> Result<(), AllocError> {
+    for number in &numbers {
+        bytes.extend_from_slice(&number.to_le_bytes())?;
+    }
+    Ok(())
 }
 
 /// What the bytes spell. `None`: no set.
@@ -44,16 +48,30 @@ fn set_of(alloc: Global, bytes: &[u8]) -> Result<Option<TileRuns>, OutOfMemory> 
     }
 }
 
+/// The set of runs, a word each. `None`: they are no set.
+fn set_of_runs(alloc: Global, text: &str) -> Result<Option<TileRuns>, OutOfMemory> {
+    match bytes_of_runs(alloc, text)? {
+        None => Ok(None),
+        Some(bytes) => set_of(alloc, &bytes),
+    }
+}
+
 /// The runs that bytes spell, where the set has these bytes again.
 fn answer(alloc: Global, bytes: &[u8]) -> Result<Option<String>, OutOfMemory> {
-    let Some(set) = set_of(alloc, bytes)? else {
-        return Ok(Some(String::from_str(alloc, "no set")?));
+    let text = match set_of(alloc, bytes)? {
+        None => String::from_str(alloc, "no set")?,
+        Some(set) => text_of_set(alloc, &set, bytes)?,
     };
-    let again = encode(alloc, &set)?;
+    Ok(Some(text))
+}
+
+fn text_of_set(alloc: Global, set: &TileRuns, bytes: &[u8]) -> Result<String, OutOfMemory> {
+    let again = encode(alloc, set)?;
     if again.as_slice() == bytes {
-        return Ok(Some(text_of_runs(alloc, set.as_slice())?));
+        Ok(text_of_runs(alloc, set.as_slice())?)
+    } else {
+        Ok(String::from_str(alloc, "other bytes")?)
     }
-    Ok(Some(String::from_str(alloc, "other bytes")?))
 }
 
 /// What the bytes of runs spell.
@@ -77,13 +95,10 @@ pub fn joined(alloc: Global, given: &str) -> Result<Option<String>, OutOfMemory>
     let Some((one, other)) = given.split_once('|') else {
         return Ok(None);
     };
-    let (Some(one), Some(other)) = (bytes_of_runs(alloc, one)?, bytes_of_runs(alloc, other)?) else {
+    let Some(mut one) = set_of_runs(alloc, one)? else {
         return Ok(None);
     };
-    let Some(mut one) = set_of(alloc, &one)? else {
-        return Ok(None);
-    };
-    let Some(other) = set_of(alloc, &other)? else {
+    let Some(other) = set_of_runs(alloc, other)? else {
         return Ok(None);
     };
     union(alloc, &mut one, &other)?;
@@ -91,7 +106,7 @@ pub fn joined(alloc: Global, given: &str) -> Result<Option<String>, OutOfMemory>
 }
 
 /// The lines of a text, a word each.
-fn words_of(alloc: Global, bytes: &[u8]) -> Result<Option<String>, OutOfMemory> {
+fn words_of(alloc: Global, bytes: &[u8]) -> Result<Option<String>, AllocError> {
     let Ok(text) = std::str::from_utf8(bytes) else {
         return Ok(None);
     };
@@ -110,18 +125,38 @@ pub fn listed(alloc: Global, given: &str) -> Result<Option<String>, OutOfMemory>
     let Some((least, runs)) = row_of(given) else {
         return Ok(None);
     };
-    let (Some(least), Some(bytes)) = (number_of(least), bytes_of_runs(alloc, runs)?) else {
+    let Ok(least) = least.parse::<u32>() else {
         return Ok(None);
     };
-    let Ok(least) = u32::try_from(least) else {
-        return Ok(None);
-    };
-    let Some(set) = set_of(alloc, &bytes)? else {
-        return Ok(None);
-    };
+    match set_of_runs(alloc, runs)? {
+        None => Ok(None),
+        Some(set) => written(alloc, &set, least),
+    }
+}
+
+fn written(alloc: Global, set: &TileRuns, least: u32) -> Result<Option<String>, OutOfMemory> {
     let mut sink = MemSink::new(alloc, Fails::never(alloc));
-    match write_tiles(alloc, &set, least, &mut sink) {
-        Ok(()) => words_of(alloc, sink.taken()),
+    let outcome = outcome_of(alloc, set, least, &mut sink);
+    words_written(alloc, outcome, sink.taken())
+}
+
+/// The writing, its contract left behind.
+fn outcome_of(
+    alloc: Global,
+    set: &TileRuns,
+    least: u32,
+    sink: &mut MemSink,
+) -> Result<(), TilesFault> {
+    write_tiles(alloc, set, least, sink)
+}
+
+fn words_written(
+    alloc: Global,
+    outcome: Result<(), TilesFault>,
+    bytes: &[u8],
+) -> Result<Option<String>, OutOfMemory> {
+    match outcome {
+        Ok(()) => Ok(words_of(alloc, bytes)?),
         Err(TilesFault::WriteFault) => Ok(Some(String::from_str(alloc, "write fault")?)),
         Err(TilesFault::OutOfMemory) => Err(OutOfMemory),
     }

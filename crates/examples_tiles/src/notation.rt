@@ -25,8 +25,7 @@ pub fn steps_text(alloc: Global, word: &str) -> Result<Option<String>, OutOfMemo
     let mut text = String::new(alloc);
     let mut lat = first;
     for _ in 0..count {
-        let line = format!(in alloc; "{lat}\n")?;
-        text.push_str(line.as_str())?;
+        write!(text, "{lat}\n")?;
         lat = lat.saturating_sub(step);
     }
     Ok(Some(text))
