@@ -1,10 +1,9 @@
 //! Crashes of a disk, and what they leave.
 
 use crate::deeds::bytes_text;
-use crate::stores::store_answer;
+use crate::stores::{opened, store_answer};
 use example_table::{number_of, row_of};
 use outside::{CrashPick, MemDisk};
-use page_journal::open;
 use std::alloc::{AllocError, Global};
 
 /// What unsynced ranges may hold.
@@ -36,9 +35,9 @@ pub fn pages_after(
     disk: &MemDisk,
     text: &str,
 ) -> Result<Option<String>, AllocError> {
-    match crashed(alloc, disk, text)? {
+    match crash_of(text) {
         None => Ok(None),
-        Some(mut left) => store_answer(alloc, open(&mut left)),
+        Some((call, pick)) => answer_after(alloc, disk, call, pick),
     }
 }
 
@@ -65,21 +64,45 @@ pub fn crashed_pages(
     };
     let mut answers = String::new(alloc);
     for call in first..last.min(1000) + 1 {
-        for pick in PICKS {
-            let Some(mut left) = crashed_in(alloc, disk, call, pick)? else {
-                return Ok(None);
-            };
-            if let Some(answer) = store_answer(alloc, open(&mut left))? {
-                add_answer(&mut answers, answer.as_str())?;
-            }
+        if !adds_answers(alloc, disk, call, &mut answers)? {
+            return Ok(None);
         }
     }
     Ok(Some(answers))
 }
 
+// Puts the answers after a crash in this call behind the others. False: there is no such call.
+fn adds_answers(
+    alloc: Global,
+    disk: &MemDisk,
+    call: u64,
+    answers: &mut String,
+) -> Result<bool, AllocError> {
+    for pick in PICKS {
+        match answer_after(alloc, disk, call, pick)? {
+            None => return Ok(false),
+            Some(answer) => add_answer(answers, answer.as_str())?,
+        }
+    }
+    Ok(true)
+}
+
+// What opening answers after a crash. `None`: there is no such call.
+fn answer_after(
+    alloc: Global,
+    disk: &MemDisk,
+    call: u64,
+    pick: CrashPick,
+) -> Result<Option<String>, AllocError> {
+    match crashed_in(alloc, disk, call, pick)? {
+        None => Ok(None),
+        Some(mut left) => store_answer(alloc, opened(&mut left)),
+    }
+}
+
 // Puts an answer behind the others, where it is not among them.
 fn add_answer(answers: &mut String, answer: &str) -> Result<(), AllocError> {
-    if answers.as_str().split(' ').any(|other| other == answer) {
+    if has_word(answers.as_str(), answer) {
         return Ok(());
     }
     if !answers.is_empty() {
@@ -88,15 +111,27 @@ fn add_answer(answers: &mut String, answer: &str) -> Result<(), AllocError> {
     answers.push_str(answer)
 }
 
+fn has_word(text: &str, word: &str) -> bool {
+    for other in text.split(' ') {
+        if other == word {
+            return true;
+        }
+    }
+    false
+}
+
 // What a crash leaves, in the call with this number, with this pick.
 fn crashed(alloc: Global, disk: &MemDisk, text: &str) -> Result<Option<MemDisk>, AllocError> {
-    let Some((call, pick)) = row_of(text) else {
-        return Ok(None);
-    };
-    match (number_of(call), pick_of(pick)) {
-        (Some(call), Some(pick)) => crashed_in(alloc, disk, call, pick),
-        _ => Ok(None),
+    match crash_of(text) {
+        None => Ok(None),
+        Some((call, pick)) => crashed_in(alloc, disk, call, pick),
     }
+}
+
+// The number of a call, and a pick.
+fn crash_of(text: &str) -> Option<(u64, CrashPick)> {
+    let (call, pick) = row_of(text)?;
+    Some((number_of(call)?, pick_of(pick)?))
 }
 
 fn crashed_in(

@@ -2,10 +2,9 @@
 ghost use Rattle.std.specs.Prelude.{◌≤◌, IfSome};
 
 use crate::crashes::{after_crash, crashed_pages, left_in, pages_after};
-use crate::stores::{commit_answer, read_answer, store_answer};
+use crate::stores::{commit_answer, formatted, opened, read_answer, store_answer};
 use example_table::{bytes_of, number_of, row_of};
 use outside::{Disk, Failed, MemDisk};
-use page_journal::{format, open};
 use std::alloc::{AllocError, Global};
 
 /// The most bytes of a disk that a deed names.
@@ -19,8 +18,8 @@ pub fn answer_of(
     text: &str,
 ) -> Result<Option<String>, AllocError> {
     match word {
-        "format" => store_answer(alloc, format(disk).map(|()| 0)),
-        "open" => store_answer(alloc, open(disk)),
+        "format" => store_answer(alloc, formatted(disk)),
+        "open" => store_answer(alloc, opened(disk)),
         "commit" => commit_answer(alloc, disk, text),
         "read" => read_answer(alloc, disk, text),
         "crash" => after_crash(alloc, disk, text),
@@ -42,8 +41,8 @@ fn disk_answer(
         "put" => put(alloc, disk, text),
         "write" => write(alloc, disk, text),
         "get" => get(alloc, disk, text),
-        "sync" => done(alloc, disk.sync()),
-        "len" => counted(alloc, disk.len()),
+        "sync" => done(alloc, is_synced(disk)),
+        "len" => counted(alloc, disk),
         "length" => number(alloc, disk.bytes().len() as u64),
         "filled" => number(alloc, filled(disk.bytes())),
         "calls" => number(alloc, disk.calls()),
@@ -54,7 +53,17 @@ fn disk_answer(
 
 // How many bytes are not 0.
 fn filled(bytes: &[u8]) -> u64 {
-    bytes.iter().filter(|byte| **byte != 0).count() as u64
+    let mut count = 0u64;
+    for byte in bytes {
+        if *byte != 0 {
+            count = count.saturating_add(1);
+        }
+    }
+    count
+}
+
+fn is_synced(disk: &mut MemDisk) -> bool {
+    disk.sync().is_ok()
 }
 
 // Writes bytes at a place.
@@ -62,13 +71,22 @@ fn put(alloc: Global, disk: &mut MemDisk, text: &str) -> Result<Option<String>, 
     let Some((at, field)) = place_of(text) else {
         return Ok(None);
     };
-    let Some(bytes) = bytes_of(alloc, field)? else {
-        return Ok(None);
-    };
-    if bytes.len() as u64 > MAX_AT {
+    match bytes_of(alloc, field)? {
+        None => Ok(None),
+        Some(bytes) => written(alloc, disk, at, &bytes),
+    }
+}
+
+fn written(
+    alloc: Global,
+    disk: &mut MemDisk,
+    at: u64,
+    bytes: &[u8],
+) -> Result<Option<String>, AllocError> {
+    if at > MAX_AT || bytes.len() as u64 > MAX_AT {
         return Ok(None);
     }
-    done(alloc, disk.write_at(at, &bytes))
+    done(alloc, disk.write_at(at, bytes).is_ok())
 }
 
 // Writes a number at a place.
@@ -79,7 +97,7 @@ fn write(alloc: Global, disk: &mut MemDisk, text: &str) -> Result<Option<String>
     let Some(value) = number_of(field) else {
         return Ok(None);
     };
-    done(alloc, disk.write_at(at, &value.to_le_bytes()))
+    written(alloc, disk, at, &value.to_le_bytes())
 }
 
 // Reads up to eight bytes.
@@ -90,7 +108,7 @@ fn get(alloc: Global, disk: &mut MemDisk, text: &str) -> Result<Option<String>, 
     let mut bytes = [0; 8];
     match disk.read_at(at, &mut bytes) {
         Ok(count) => Ok(Some(bytes_text(alloc, &bytes[..count])?)),
-        Err(Failed) => done(alloc, Err(Failed)),
+        Err(Failed) => done(alloc, false),
     }
 }
 
@@ -111,13 +129,18 @@ fn number_at(alloc: Global, bytes: &[u8], text: &str) -> Result<Option<String>, 
     let Some((at, _)) = place_of(text) else {
         return Ok(None);
     };
-    let at = at as usize;
-    if bytes.len() < at + 8 {
-        return Ok(None);
+    match number_of_bytes(bytes, at as usize) {
+        None => Ok(None),
+        Some(value) => number(alloc, value),
     }
-    let mut spelled = [0; 8];
-    spelled.copy_from_slice(&bytes[at..at + 8]);
-    number(alloc, u64::from_le_bytes(spelled))
+}
+
+fn number_of_bytes(bytes: &[u8], at: usize) -> Option<u64> {
+    let mut number = 0;
+    for &byte in bytes.get(at..at.saturating_add(8))?.iter().rev() {
+        number = (number << 8) | u64::from(byte);
+    }
+    Some(number)
 }
 
 /// Bytes as numbers, with blanks between them.
@@ -127,8 +150,7 @@ pub fn bytes_text(alloc: Global, bytes: &[u8]) -> Result<String, AllocError> {
         if !text.is_empty() {
             text.push_str(" ")?;
         }
-        let number = format!(in alloc; "{byte}")?;
-        text.push_str(number.as_str())?;
+        write!(text, "{byte}")?;
     }
     Ok(text)
 }
@@ -137,14 +159,14 @@ fn number(alloc: Global, value: u64) -> Result<Option<String>, AllocError> {
     Ok(Some(format!(in alloc; "{value}")?))
 }
 
-fn counted(alloc: Global, outcome: Result<u64, Failed>) -> Result<Option<String>, AllocError> {
-    match outcome {
+fn counted(alloc: Global, disk: &mut MemDisk) -> Result<Option<String>, AllocError> {
+    match disk.len() {
         Ok(count) => number(alloc, count),
-        Err(Failed) => done(alloc, Err(Failed)),
+        Err(Failed) => done(alloc, false),
     }
 }
 
-fn done(alloc: Global, outcome: Result<(), Failed>) -> Result<Option<String>, AllocError> {
-    let text = if outcome.is_ok() { "ok" } else { "failed" };
+fn done(alloc: Global, is_done: bool) -> Result<Option<String>, AllocError> {
+    let text = if is_done { "ok" } else { "failed" };
     Ok(Some(String::from_str(alloc, text)?))
 }

@@ -13,8 +13,9 @@ use example_table::{is_told, number_of, refuse_row, row_of, sides_of};
 use osm_base::{Bytes, Ids};
 use outside::{Fails, MemDisk};
 use std::alloc::{AllocError, Global};
+use std::fs::{self, Files};
+use std::io;
 use std::process::ExitCode;
-use std::{fs, io};
 
 /// The tables, those of the lower crate first.
 const TABLES: [&str; 2] = ["disks.txt", "stores.txt"];
@@ -28,12 +29,17 @@ struct Example<'t> {
 
 fn main(rt: HostRuntime) -> io::Result<ExitCode> {
     for name in TABLES {
-        let table = fs::read_to_string(&rt, name)?;
-        if !passes(&rt, &table)? {
+        if !passes_all(&rt, name)? {
             return Ok(ExitCode::from(1));
         }
     }
     Ok(ExitCode::from(0))
+}
+
+/// Runs the examples of the table with this name.
+fn passes_all<R: Files + Print + Eprint + AllocGlobal>(rt: &R, name: &str) -> io::Result<bool> {
+    let table = fs::read_to_string(rt, name)?;
+    passes(rt, &table)
 }
 
 /// Runs the examples of a table. False: one differs, and that is told.
@@ -77,17 +83,23 @@ fn step<'t, R: Print + Eprint + AllocGlobal>(
             refuse_row(rt, line)?;
             Ok(false)
         }
-        Some(answer) => {
-            if answer.as_str() == wanted {
-                return Ok(true);
-            }
-            is_told(
-                rt,
-                example.name,
-                Some(format!(in rt.alloc(); "{line}: {answer}")?),
-            )
-        }
+        Some(answer) => is_wanted(rt, example.name, line, answer.as_str(), wanted),
     }
+}
+
+/// Whether a line answers what is wanted; what it answers otherwise is told.
+fn is_wanted<R: Print + Eprint + AllocGlobal>(
+    rt: &R,
+    name: &str,
+    line: &str,
+    answer: &str,
+    wanted: &str,
+) -> io::Result<bool> {
+    if answer == wanted {
+        return Ok(true);
+    }
+    let difference = format!(in rt.alloc(); "{line}: {answer}")?;
+    is_told(rt, name, Some(difference))
 }
 
 /// Begins an example with an empty disk: behind its name stand the number from which on each call fails,

@@ -3,7 +3,7 @@
 use example_table::{number_of, row_of};
 use osm_base::{LimitNumbers, Limits};
 use outside::MemDisk;
-use page_journal::{Journal, PageSet, StoreFault, open};
+use page_journal::{Journal, PageSet, StoreFault, format, open};
 use std::alloc::{AllocError, Global};
 
 /// The byte that fills each page behind the root.
@@ -24,6 +24,19 @@ pub fn store_answer(
     }
 }
 
+/// Opening a store, its contract left behind.
+pub fn opened(disk: &mut MemDisk) -> Result<u64, StoreFault> {
+    open(disk)
+}
+
+/// Formatting a disk, its contract left behind.
+pub fn formatted(disk: &mut MemDisk) -> Result<u64, StoreFault> {
+    match format(disk) {
+        Ok(()) => Ok(0),
+        Err(fault) => Err(fault),
+    }
+}
+
 /// Opens the store, and commits to it a root that tells so many home pages and filled pages up to them, under
 /// a limit of pages where one is named.
 pub fn commit_answer(
@@ -41,11 +54,17 @@ pub fn commit_answer(
         return Ok(None);
     }
     let limits = limits_of(number_of(limit).unwrap_or(MAX_HOME));
-    let set = match filled_pages(alloc, home) {
-        Ok(set) => set,
-        Err(fault) => return store_answer(alloc, Err(fault)),
-    };
-    store_answer(alloc, commit(disk, &set, home, &limits))
+    store_answer(alloc, committed(alloc, disk, home, &limits))
+}
+
+fn committed(
+    alloc: Global,
+    disk: &mut MemDisk,
+    home: u64,
+    limits: &Limits,
+) -> Result<u64, StoreFault> {
+    let set = filled_pages(alloc, home)?;
+    commit(disk, &set, home, limits)
 }
 
 // The limits of the program with this one of pages.
