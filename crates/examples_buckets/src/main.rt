@@ -79,17 +79,23 @@ fn step<'t, R: Print + Eprint + AllocGlobal>(
             refuse_row(rt, line)?;
             Ok(false)
         }
-        Some(answer) => {
-            if answer.as_str() == wanted {
-                return Ok(true);
-            }
-            is_told(
-                rt,
-                example.name,
-                Some(format!(in rt.alloc(); "{line}: {answer}")?),
-            )
-        }
+        Some(answer) => is_wanted(rt, example.name, line, answer.as_str(), wanted),
     }
+}
+
+/// Whether a line answers what is wanted; what it answers otherwise is told.
+fn is_wanted<R: Print + Eprint + AllocGlobal>(
+    rt: &R,
+    name: &str,
+    line: &str,
+    answer: &str,
+    wanted: &str,
+) -> io::Result<bool> {
+    if answer == wanted {
+        return Ok(true);
+    }
+    let difference = format!(in rt.alloc(); "{line}: {answer}")?;
+    is_told(rt, name, Some(difference))
 }
 
 /// What a line answers. `None`: there is no such line.
