@@ -1,15 +1,14 @@
 //! A crash in each call of a disk that a change or a clearing makes, and in each of the opening that follows.
 
-use crate::end::End;
-use crate::setting::{Setting, bounds};
-use crate::stores::{appended, cleared, imported, text_of, told};
+use crate::end::{End, Part};
+use crate::setting::{Rules, STYLE, Setting};
+use crate::stores::{append, clear, formatted, import, opened, tables_text, told};
 use due_tiles::tiles_text;
-use osm_base::{Bytes, Limits};
+use osm_base::{Bytes, Limits, OutOfMemory};
 use outside::{CrashPick, Fails, MemDisk};
 use std::alloc::Global;
 use std::thread::Threads;
-use tile_cover::Bounds;
-use update_flow::open;
+use update_flow::FlowFault;
 
 /// What a crash may make of the ranges that are not synced.
 const PICKS: [CrashPick; 4] = [
@@ -38,69 +37,48 @@ impl Version {
     }
 }
 
-/// The store before a step and after it, and whether the step was acknowledged.
-#[derive(Clone, Copy)]
-struct Versions<'a> {
-    before: &'a Version,
-    after: &'a Version,
-    acknowledged: bool,
-}
-
-/// What is done to a store.
-#[derive(Clone, Copy)]
-pub enum Deed<'a> {
-    /// A change is appended.
-    Append(&'a str),
-    /// The due tiles are cleared.
-    Clear,
-}
-
 /// Crashes in each call of a deed that follows an import and a change, and then in the opening: the store is that before the deed
-/// or after it, and after it from the deed's end on.
+/// or after it, and after it from the deed's end on. The deed is a second change, or where its text is empty, that no tile is due.
 pub fn crashes_of<R: Threads + Sync>(
     rt: &R,
     alloc: Global,
+    rules: &Rules,
     buckets: u64,
-    texts: [&str; 2],
-    deed: Deed<'_>,
+    texts: [&str; 3],
 ) -> Result<String, End> {
     let setting = Setting {
-        workers: 1,
+        style: STYLE,
         buckets,
+        workers: 1,
     };
-    let [first, change] = texts;
-    let mut disk = imported(rt, alloc, setting, first)?;
-    changed(rt, alloc, &mut disk, setting, change, deed)
-}
-
-fn changed<R: Threads + Sync>(
-    rt: &R,
-    alloc: Global,
-    disk: &mut MemDisk,
-    setting: Setting,
-    change: &str,
-    deed: Deed<'_>,
-) -> Result<String, End> {
-    let bounds = bounds(alloc)?;
-    appended(rt, alloc, disk, &bounds, setting, change)?;
-    from_here(rt, alloc, disk, &bounds, setting, deed)
+    let [first, change, deed] = texts;
+    let mut disk = formatted(alloc)?;
+    import(rt, alloc, &mut disk, &Limits::standard(), setting, first)?;
+    does(rt, alloc, &mut disk, rules, change)?;
+    from_here(rt, alloc, &disk, rules, deed)?;
+    Ok(String::from_str(alloc, "before or after")?)
 }
 
 fn does<R: Threads + Sync>(
     rt: &R,
     alloc: Global,
     disk: &mut MemDisk,
-    bounds: &Bounds,
-    setting: Setting,
-    deed: Deed<'_>,
+    rules: &Rules,
+    change: &str,
 ) -> Result<(), End> {
-    match deed {
-        Deed::Append(change) => {
-            appended(rt, alloc, disk, bounds, setting, change)?;
-            Ok(())
-        }
-        Deed::Clear => cleared(alloc, disk),
+    if change.is_empty() {
+        return Ok(clear(alloc, disk)?);
     }
+    let _delta = append(
+        rt,
+        alloc,
+        disk,
+        &Limits::standard(),
+        &rules.bounds,
+        1,
+        change,
+    )?;
+    Ok(())
 }
 
 // No call of the disk is kept that was made before the deed.
@@ -108,140 +86,119 @@ fn from_here<R: Threads + Sync>(
     rt: &R,
     alloc: Global,
     disk: &MemDisk,
-    bounds: &Bounds,
-    setting: Setting,
-    deed: Deed<'_>,
-) -> Result<String, End> {
-    let mut disk = again(alloc, disk)?;
-    in_each(rt, alloc, &mut disk, bounds, setting, deed)
+    rules: &Rules,
+    deed: &str,
+) -> Result<(), End> {
+    let mut disk = again(alloc, disk.bytes())?;
+    in_each(rt, alloc, &mut disk, rules, deed)
+}
+
+/// A disk with these bytes.
+fn again(alloc: Global, bytes: &[u8]) -> Result<MemDisk, OutOfMemory> {
+    if bytes.len() as u64 > MAX_BYTES {
+        return Err(OutOfMemory);
+    }
+    let bytes = Bytes::from_vec(Vec::from_slice(alloc, bytes)?);
+    Ok(MemDisk::new(alloc, bytes, Fails::never(alloc)))
 }
 
 fn in_each<R: Threads + Sync>(
     rt: &R,
     alloc: Global,
     disk: &mut MemDisk,
-    bounds: &Bounds,
-    setting: Setting,
-    deed: Deed<'_>,
-) -> Result<String, End> {
-    let before = version_of(alloc, disk)?;
+    rules: &Rules,
+    deed: &str,
+) -> Result<(), End> {
+    let before = version_of(alloc, disk, rules)?;
     let begun = disk.calls();
-    does(rt, alloc, disk, bounds, setting, deed)?;
+    does(rt, alloc, disk, rules, deed)?;
     let done = disk.calls();
-    let after = version_of(alloc, disk)?;
+    let after = version_of(alloc, disk, rules)?;
     if before.is(&after) {
-        return Err(End::Differs(String::from_str(alloc, "no change")?));
+        return Err(End::Differs(Part::Deed, before.changes));
     }
-    from_call(alloc, disk, begun, done, &before, &after)
+    let kept = cut_in_each(alloc, disk, rules, begun, done, [&before, &after])?
+        && cut_in_each(alloc, disk, rules, done, disk.calls(), [&after, &after])?;
+    if kept {
+        Ok(())
+    } else {
+        Err(End::Differs(Part::Store, before.changes))
+    }
 }
 
-fn from_call(
+// Whether a cut of a disk in each of these calls leaves one of two versions.
+fn cut_in_each(
     alloc: Global,
     disk: &MemDisk,
+    rules: &Rules,
     begun: u64,
-    done: u64,
-    before: &Version,
-    after: &Version,
-) -> Result<String, End> {
-    for call in begun..disk.calls() {
-        let acknowledged = call >= done;
-        let versions = Versions {
-            before,
-            after,
-            acknowledged,
-        };
-        by_each_pick(alloc, disk, call, versions)?;
-    }
-    Ok(String::from_str(alloc, "before or after")?)
-}
-
-fn by_each_pick(
-    alloc: Global,
-    disk: &MemDisk,
-    call: u64,
-    versions: Versions<'_>,
-) -> Result<(), End> {
-    for pick in PICKS {
-        by_pick(alloc, disk, call, pick, versions)?;
-    }
-    Ok(())
-}
-
-fn by_pick(
-    alloc: Global,
-    disk: &MemDisk,
-    call: u64,
-    pick: CrashPick,
-    versions: Versions<'_>,
-) -> Result<(), End> {
-    let mut left = crash(alloc, disk, call, pick)?;
-    once_more(alloc, &mut left, versions)
-}
-
-fn once_more(alloc: Global, left: &mut MemDisk, versions: Versions<'_>) -> Result<(), End> {
-    opened(alloc, left)?;
-    in_the_opening(alloc, left, versions)?;
-    one_of_both(alloc, left, versions)
-}
-
-fn in_the_opening(alloc: Global, disk: &MemDisk, versions: Versions<'_>) -> Result<(), End> {
-    for call in 0..disk.calls() {
+    end: u64,
+    versions: [&Version; 2],
+) -> Result<bool, FlowFault> {
+    for call in begun..end {
         for pick in PICKS {
-            opening_cut(alloc, disk, call, pick, versions)?;
+            let mut left = crash(alloc, disk, call, pick)?;
+            if !once_more(alloc, &mut left, rules, versions)? {
+                return Ok(false);
+            }
         }
     }
+    Ok(true)
+}
+
+// Whether the opening, and a cut of it in each of its calls, leave one of two versions.
+fn once_more(
+    alloc: Global,
+    left: &mut MemDisk,
+    rules: &Rules,
+    versions: [&Version; 2],
+) -> Result<bool, FlowFault> {
+    is_opened(alloc, left)?;
+    for call in 0..left.calls() {
+        for pick in PICKS {
+            let mut last = crash(alloc, left, call, pick)?;
+            if !is_one_of(alloc, &mut last, rules, versions)? {
+                return Ok(false);
+            }
+        }
+    }
+    is_one_of(alloc, left, rules, versions)
+}
+
+fn is_opened(alloc: Global, disk: &mut MemDisk) -> Result<(), FlowFault> {
+    let _updater = opened(alloc, disk, &Limits::standard())?;
     Ok(())
 }
 
-fn opening_cut(
+fn is_one_of(
     alloc: Global,
-    disk: &MemDisk,
-    call: u64,
-    pick: CrashPick,
-    versions: Versions<'_>,
-) -> Result<(), End> {
-    let mut left = crash(alloc, disk, call, pick)?;
-    one_of_both(alloc, &mut left, versions)
+    disk: &mut MemDisk,
+    rules: &Rules,
+    versions: [&Version; 2],
+) -> Result<bool, FlowFault> {
+    let found = version_of(alloc, disk, rules)?;
+    let [one, other] = versions;
+    Ok(found.is(one) || found.is(other))
 }
 
-fn one_of_both(alloc: Global, disk: &mut MemDisk, versions: Versions<'_>) -> Result<(), End> {
-    let found = version_of(alloc, disk)?;
-    if found.is(versions.after) || (found.is(versions.before) && !versions.acknowledged) {
-        return Ok(());
-    }
-    let changes = found.changes;
-    Err(End::Differs(format!(in alloc; "a store of version {changes}")?))
-}
-
-fn version_of(alloc: Global, disk: &mut MemDisk) -> Result<Version, End> {
+fn version_of(alloc: Global, disk: &mut MemDisk, rules: &Rules) -> Result<Version, FlowFault> {
     let standing = told(alloc, disk)?;
     Ok(Version {
         changes: standing.changes,
-        text: text_of(alloc, &standing.tables)?,
+        text: tables_text(alloc, &rules.style, &standing.tables)?,
         due: tiles_text(alloc, &standing.due, 0)?,
     })
 }
 
-fn opened(alloc: Global, disk: &mut MemDisk) -> Result<(), End> {
-    match open(alloc, disk, &Limits::standard()) {
-        Ok(_) => Ok(()),
-        Err(fault) => Err(End::Differs(format!(in alloc; "open: {fault}")?)),
-    }
-}
-
 /// What a crash leaves in the call behind so many.
-fn crash(alloc: Global, disk: &MemDisk, before: u64, pick: CrashPick) -> Result<MemDisk, End> {
+fn crash(
+    alloc: Global,
+    disk: &MemDisk,
+    before: u64,
+    pick: CrashPick,
+) -> Result<MemDisk, OutOfMemory> {
     if before >= disk.calls() {
-        return Err(End::OutOfMemory);
+        return Err(OutOfMemory);
     }
-    Ok(disk.after_crash(alloc, before + 1, pick)?)
-}
-
-/// A disk with the same bytes, of which no call is kept.
-fn again(alloc: Global, disk: &MemDisk) -> Result<MemDisk, End> {
-    let bytes = disk.bytes().to_vec(alloc)?;
-    if bytes.len() as u64 > MAX_BYTES {
-        return Err(End::OutOfMemory);
-    }
-    Ok(MemDisk::new(alloc, Bytes::from_vec(bytes), Fails::never(alloc)))
+    disk.after_crash(alloc, before + 1, pick)
 }

@@ -1,31 +1,29 @@
 //! How two states of the tables differ, looked at row by row.
 
-use crate::end::End;
-use crate::setting::style;
+use crate::setting::Rules;
 use due_tiles::union;
-use osm_base::{Delta, Row, Same, Tables};
+use osm_base::{Delta, OutOfMemory, Row, Same, Tables};
 use std::alloc::Global;
 use style_read::Mode;
-use tile_cover::{Bounds, TileRuns, cover};
+use tile_cover::{TileRuns, cover};
 
 /// Puts the tiles to a set that a row meets which the other tables do not have equally.
 pub fn add_differing(
     alloc: Global,
-    bounds: &Bounds,
+    rules: &Rules,
     tables: &Tables,
     others: &Tables,
     due: &mut TileRuns,
-) -> Result<(), End> {
-    let style = style(alloc)?;
+) -> Result<(), OutOfMemory> {
     for (spot, row) in tables.rows() {
         if is_same(row, others.get(*spot)) {
             continue;
         }
-        let mode = match style.tables.as_slice().get(spot.table as usize) {
+        let mode = match rules.style.tables.as_slice().get(spot.table as usize) {
             Some(table) => table.mode,
             None => Mode::Boundary,
         };
-        let tiles = cover(alloc, bounds, &row.geometry, mode)?;
+        let tiles = cover(alloc, &rules.bounds, &row.geometry, mode)?;
         union(alloc, due, &tiles)?;
     }
     Ok(())
@@ -39,11 +37,10 @@ fn is_same(row: &Row, other: Option<&Row>) -> bool {
     }
 }
 
-/// The tables after a delta.
-pub fn applied(tables: Tables, delta: Delta) -> Result<Tables, End> {
-    let mut tables = tables;
+/// Takes tables over a delta.
+pub fn apply(tables: &mut Tables, delta: Delta) -> Result<(), OutOfMemory> {
     for change in delta.changes.into_vec() {
         tables.apply(change)?;
     }
-    Ok(tables)
+    Ok(())
 }

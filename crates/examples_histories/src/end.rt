@@ -1,31 +1,81 @@
-//! Why a history ends before its last change.
+//! Why an example ends before its last step.
 ghost use Rattle.std.specs.Prelude.{◌≡◌};
 
-use osm_base::OutOfMemory as NoMemory;
-use std::alloc::{AllocError, AllocFailed};
+use object_fold::FileFault;
+use osm_base::OutOfMemory;
+use std::alloc::{AllocError, Global};
+use update_flow::FlowFault;
 
-/// Why a history ends before its last change.
-#[derive(Drop)]
+/// Why an example ends before its last step.
+#[derive(Clone, Copy)]
 pub enum End {
-    /// Something is other than it has to be.
-    Differs(String),
-    OutOfMemory,
+    /// After so many changes this is other than it has to be.
+    Differs(Part, u64),
+    /// A text of entries does not read.
+    File(FileFault),
+    /// A store refuses.
+    Refused(FlowFault),
 }
 
-impl From<NoMemory> for End {
-    fn from(_: NoMemory) -> Self {
-        End::OutOfMemory
+/// What is other than it has to be.
+#[derive(Clone, Copy)]
+pub enum Part {
+    Workers,
+    Version,
+    Tables,
+    Delta,
+    Tiles,
+    /// A deed makes no difference.
+    Deed,
+    /// A store is neither that before a deed nor that after it.
+    Store,
+}
+
+/// The text of an end.
+pub fn end_text(alloc: Global, end: End) -> Result<String, AllocError> {
+    match end {
+        End::Differs(part, changes) => {
+            let part = part_text(part);
+            format!(in alloc; "{part} after change {changes}")
+        }
+        End::File(fault) => format!(in alloc; "{fault}"),
+        End::Refused(fault) => format!(in alloc; "{fault}"),
+    }
+}
+
+// The word for a part.
+fn part_text(part: Part) -> &'static str {
+    match part {
+        Part::Workers => "workers",
+        Part::Version => "version",
+        Part::Tables => "tables",
+        Part::Delta => "delta",
+        Part::Tiles => "tiles",
+        Part::Deed => "deed",
+        Part::Store => "store",
+    }
+}
+
+impl From<FileFault> for End {
+    fn from(fault: FileFault) -> Self {
+        End::File(fault)
+    }
+}
+
+impl From<FlowFault> for End {
+    fn from(fault: FlowFault) -> Self {
+        End::Refused(fault)
+    }
+}
+
+impl From<OutOfMemory> for End {
+    fn from(_: OutOfMemory) -> Self {
+        End::Refused(FlowFault::OutOfMemory)
     }
 }
 
 impl From<AllocError> for End {
     fn from(_: AllocError) -> Self {
-        End::OutOfMemory
-    }
-}
-
-impl<T: Drop> From<AllocFailed<T>> for End {
-    fn from(_: AllocFailed<T>) -> Self {
-        End::OutOfMemory
+        End::Refused(FlowFault::OutOfMemory)
     }
 }

@@ -1,18 +1,17 @@
 //! One history after another.
 
 use crate::dice::Dice;
-use crate::differing::{add_differing, applied};
-use crate::end::End;
-use crate::setting::{Setting, bounds};
-use crate::stores::{Standing, appended, cleared, imported, text_of, told};
+use crate::differing::{add_differing, apply};
+use crate::end::{End, Part, end_text};
+use crate::setting::{Rules, STYLE, Setting};
+use crate::stores::{Standing, append, clear, formatted, import, tables_text, told};
 use crate::world::World;
 use due_tiles::{tiles_text, union};
-use osm_base::Delta;
+use osm_base::{Delta, Limits, Tables};
 use outside::MemDisk;
-use std::alloc::Global;
-use std::mem;
+use std::alloc::{AllocError, Global};
 use std::thread::Threads;
-use tile_cover::{Bounds, TileRuns};
+use tile_cover::TileRuns;
 
 /// How many changes a history has.
 const CHANGES: u64 = 10;
@@ -20,179 +19,204 @@ const CHANGES: u64 = 10;
 /// A history as far as it has come: the map, the store and what the store tells.
 #[derive(Drop)]
 struct History {
-    seed: u64,
-    setting: Setting,
+    workers: u32,
     dice: Dice,
     world: World,
     disk: MemDisk,
     now: Standing,
 }
 
-/// Runs so many histories, from a seed on, each by one worker and by 64. Both leave the same bytes.
+/// Runs so many histories, from a seed on, and answers how the first ends that does not come to its last change.
 pub fn histories<R: Threads + Sync>(
     rt: &R,
     alloc: Global,
+    rules: &Rules,
     first: u64,
     count: u64,
-) -> Result<(), End> {
+) -> Result<String, AllocError> {
     for place in 0..count {
         let seed = first.wrapping_add(place);
-        let buckets = match seed % 3 {
-            0 => 1,
-            1 => 16,
-            _ => 1024,
-        };
-        let one = left_by(
-            rt,
-            alloc,
-            seed,
-            Setting {
-                workers: 1,
-                buckets,
-            },
-        )?;
-        let many = left_by(
-            rt,
-            alloc,
-            seed,
-            Setting {
-                workers: 64,
-                buckets,
-            },
-        )?;
-        if one.bytes() != many.bytes() {
-            return Err(End::Differs(format!(in alloc; "seed {seed}: workers")?));
+        if let Err(end) = run_both(rt, alloc, rules, seed) {
+            let text = end_text(alloc, end)?;
+            return format!(in alloc; "seed {seed}: {text}");
         }
     }
-    Ok(())
+    Ok(String::new(alloc))
 }
 
-// The disk after a history.
+// Runs a history by one worker and by 64. Both leave the same bytes.
+fn run_both<R: Threads + Sync>(rt: &R, alloc: Global, rules: &Rules, seed: u64) -> Result<(), End> {
+    let one = left_by(rt, alloc, rules, seed, 1)?;
+    let many = left_by(rt, alloc, rules, seed, 64)?;
+    if one == many {
+        Ok(())
+    } else {
+        Err(End::Differs(Part::Workers, CHANGES))
+    }
+}
+
+// The bytes of the disk after a history.
 fn left_by<R: Threads + Sync>(
     rt: &R,
     alloc: Global,
+    rules: &Rules,
     seed: u64,
-    setting: Setting,
-) -> Result<MemDisk, End> {
-    let bounds = bounds(alloc)?;
-    let mut history = begun(rt, alloc, seed, setting)?;
-    for number in 1..CHANGES + 1 {
-        history.turn(rt, alloc, &bounds, number)?;
-        history.clear_at_times(alloc)?;
-    }
-    Ok(history.disk)
+    workers: u32,
+) -> Result<Vec<u8>, End> {
+    let mut history = History {
+        workers,
+        dice: Dice::new(seed),
+        world: World::new(alloc)?,
+        disk: formatted(alloc)?,
+        now: Standing {
+            changes: 0,
+            tables: Tables::new(alloc),
+            due: TileRuns::new(alloc),
+        },
+    };
+    history.run(rt, alloc, rules, buckets_of(seed))?;
+    Ok(Vec::from_slice(alloc, history.disk.bytes())?)
 }
 
-// A history with its import.
-fn begun<R: Threads + Sync>(
-    rt: &R,
-    alloc: Global,
-    seed: u64,
-    setting: Setting,
-) -> Result<History, End> {
-    let mut dice = Dice::new(seed);
-    let mut world = World::new(alloc)?;
-    let text = world.change(alloc, &mut dice, 1)?;
-    let mut disk = imported(rt, alloc, setting, text.as_str())?;
-    let now = told(alloc, &mut disk)?;
-    Ok(History {
-        seed,
-        setting,
-        dice,
-        world,
-        disk,
-        now,
-    })
+// How many buckets the maps of a seed's store have.
+fn buckets_of(seed: u64) -> u64 {
+    match seed % 3 {
+        0 => 1,
+        1 => 16,
+        _ => 1024,
+    }
 }
 
 impl History {
+    /// The import, and all changes.
+    fn run<R: Threads + Sync>(
+        &mut self,
+        rt: &R,
+        alloc: Global,
+        rules: &Rules,
+        buckets: u64,
+    ) -> Result<(), End> {
+        let setting = Setting {
+            style: STYLE,
+            buckets,
+            workers: self.workers,
+        };
+        let text = self.world.change(alloc, &mut self.dice, 1)?;
+        self.now = imported(rt, alloc, &mut self.disk, setting, text.as_str())?;
+        for number in 1..CHANGES + 1 {
+            self.turn(rt, alloc, rules, number)?;
+            self.clear_at_times(alloc)?;
+        }
+        Ok(())
+    }
+
     /// A change, after which the store is compared with a fresh one.
     fn turn<R: Threads + Sync>(
         &mut self,
         rt: &R,
         alloc: Global,
-        bounds: &Bounds,
+        rules: &Rules,
         number: u64,
     ) -> Result<(), End> {
+        let delta = self.changed(rt, alloc, rules)?;
+        let after = told(alloc, &mut self.disk)?;
+        if delta.version != number || after.changes != number {
+            return Err(End::Differs(Part::Version, number));
+        }
+        let compared = self.compare(rt, alloc, rules, delta, &after);
+        self.now = after;
+        compared
+    }
+
+    /// Changes the store as the map is changed.
+    fn changed<R: Threads + Sync>(
+        &mut self,
+        rt: &R,
+        alloc: Global,
+        rules: &Rules,
+    ) -> Result<Delta, End> {
+        let limits = Limits::standard();
         let text = self.world.change(alloc, &mut self.dice, 6)?;
-        let delta = appended(
+        append(
             rt,
             alloc,
             &mut self.disk,
-            bounds,
-            self.setting,
+            &limits,
+            &rules.bounds,
+            self.workers,
             text.as_str(),
-        )?;
-        let after = told(alloc, &mut self.disk)?;
-        let wanted = wanted_due(alloc, bounds, &self.now, &after)?;
-        let before = mem::replace(&mut self.now, after);
-        match self.fault_of(rt, alloc, number, before, delta, &wanted)? {
-            None => Ok(()),
-            Some(part) => {
-                let seed = self.seed;
-                Err(End::Differs(format!(in alloc; "seed {seed} change {number}: {part}")?))
-            }
-        }
+        )
     }
 
-    /// What differs from the store of a fresh import, or from what the rows say.
-    fn fault_of<R: Threads + Sync>(
-        &self,
+    /// Compares what the store tells with the store of a fresh import, and with what the rows and the delta say.
+    fn compare<R: Threads + Sync>(
+        &mut self,
         rt: &R,
         alloc: Global,
-        number: u64,
-        before: Standing,
+        rules: &Rules,
         delta: Delta,
-        wanted: &TileRuns,
-    ) -> Result<Option<&'static str>, End> {
-        if delta.version != number || self.now.changes != number {
-            return Ok(Some("version"));
+        after: &Standing,
+    ) -> Result<(), End> {
+        let number = delta.version;
+        if !is_due(alloc, rules, &self.now, after)? {
+            return Err(End::Differs(Part::Tiles, number));
         }
-        let fresh = fresh_text(rt, alloc, &self.world)?;
-        if text_of(alloc, &self.now.tables)? != fresh {
-            return Ok(Some("tables"));
+        apply(&mut self.now.tables, delta)?;
+        let fresh = fresh_text(rt, alloc, rules, &self.world)?;
+        if tables_text(alloc, &rules.style, &after.tables)? != fresh {
+            return Err(End::Differs(Part::Tables, number));
         }
-        if text_of(alloc, &applied(before.tables, delta)?)? != fresh {
-            return Ok(Some("delta"));
+        if tables_text(alloc, &rules.style, &self.now.tables)? != fresh {
+            return Err(End::Differs(Part::Delta, number));
         }
-        if tiles_text(alloc, &self.now.due, 0)? != tiles_text(alloc, wanted, 0)? {
-            return Ok(Some("tiles"));
-        }
-        Ok(None)
+        Ok(())
     }
 
     /// Once in four times no tile is due any more.
     fn clear_at_times(&mut self, alloc: Global) -> Result<(), End> {
         if self.dice.once_in(4) {
-            cleared(alloc, &mut self.disk)?;
+            clear(alloc, &mut self.disk)?;
             self.now.due = TileRuns::new(alloc);
         }
         Ok(())
     }
 }
 
-// The tiles that were due, and those that a row that differs meets.
-fn wanted_due(
-    alloc: Global,
-    bounds: &Bounds,
-    before: &Standing,
-    after: &Standing,
-) -> Result<TileRuns, End> {
+// Whether the tiles are due that were, and those that a row that differs meets.
+fn is_due(alloc: Global, rules: &Rules, before: &Standing, after: &Standing) -> Result<bool, End> {
     let mut due = TileRuns::new(alloc);
     union(alloc, &mut due, &before.due)?;
-    add_differing(alloc, bounds, &before.tables, &after.tables, &mut due)?;
-    add_differing(alloc, bounds, &after.tables, &before.tables, &mut due)?;
-    Ok(due)
+    add_differing(alloc, rules, &before.tables, &after.tables, &mut due)?;
+    add_differing(alloc, rules, &after.tables, &before.tables, &mut due)?;
+    Ok(tiles_text(alloc, &after.due, 0)? == tiles_text(alloc, &due, 0)?)
 }
 
 // The text of the tables of a fresh import.
-fn fresh_text<R: Threads + Sync>(rt: &R, alloc: Global, world: &World) -> Result<String, End> {
-    let one = Setting {
-        workers: 1,
+fn fresh_text<R: Threads + Sync>(
+    rt: &R,
+    alloc: Global,
+    rules: &Rules,
+    world: &World,
+) -> Result<String, End> {
+    let setting = Setting {
+        style: STYLE,
         buckets: 4,
+        workers: 1,
     };
     let text = world.text(alloc)?;
-    let mut disk = imported(rt, alloc, one, text.as_str())?;
-    let fresh = told(alloc, &mut disk)?;
-    text_of(alloc, &fresh.tables)
+    let mut disk = formatted(alloc)?;
+    let fresh = imported(rt, alloc, &mut disk, setting, text.as_str())?;
+    Ok(tables_text(alloc, &rules.style, &fresh.tables)?)
+}
+
+// What the store tells once these objects are imported.
+fn imported<R: Threads + Sync>(
+    rt: &R,
+    alloc: Global,
+    disk: &mut MemDisk,
+    setting: Setting<'_>,
+    text: &str,
+) -> Result<Standing, End> {
+    import(rt, alloc, disk, &Limits::standard(), setting, text)?;
+    Ok(told(alloc, disk)?)
 }

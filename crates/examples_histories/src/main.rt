@@ -12,56 +12,68 @@ mod dice;
 mod differing;
 mod end;
 mod history;
+mod row;
 mod setting;
 mod step;
 mod stores;
 mod world;
 
-use end::End;
-use example_table::{is_told, number_of, refuse_row, row_of, sides_of};
-use history::histories;
+use example_table::{is_told, refuse_row, row_of};
+use row::{Row, row_in};
+use setting::{Rules, rules_of_all};
+use std::fs::{self, Files};
+use std::io;
 use std::process::ExitCode;
 use std::thread::Threads;
-use std::{fs, io};
+use step::answer_of;
 
 fn main(rt: HostRuntime) -> io::Result<ExitCode> {
-    let table = fs::read_to_string(&rt, "histories.txt")?;
-    for line in table.lines() {
-        if !passes(&rt, line)? {
-            return Ok(ExitCode::from(1));
-        }
-    }
-    let table = fs::read_to_string(&rt, "steps.txt")?;
-    for line in table.lines() {
-        if !step::passes(&rt, line)? {
-            return Ok(ExitCode::from(1));
-        }
-    }
-    Ok(ExitCode::from(0))
+    let rules = rules_of_all(rt.alloc())?;
+    let passed = passes_all(&rt, &rules, "histories.txt")? && passes_all(&rt, &rules, "steps.txt")?;
+    Ok(ExitCode::from(if passed { 0 } else { 1 }))
 }
 
-/// Runs the histories of a line, if it has some, and tells of them. True: the next line may run.
-fn passes<R: Threads + Sync + Print + Eprint + AllocGlobal>(
+/// Takes the examples of a table up to the first that differs. True: none does.
+fn passes_all<R: Threads + Sync + Files + Print + Eprint + AllocGlobal>(
     rt: &R,
+    rules: &Rules,
+    name: &str,
+) -> io::Result<bool> {
+    let table = fs::read_to_string(rt, name)?;
+    for line in table.lines() {
+        if row_of(line).is_some() && !passes(rt, rules, name, line)? {
+            return Ok(false);
+        }
+    }
+    Ok(true)
+}
+
+/// Takes the example of a line of a table, and tells of it. True: the next one may run.
+fn passes<R: Threads + Sync + Files + Print + Eprint + AllocGlobal>(
+    rt: &R,
+    rules: &Rules,
+    table: &str,
     line: &str,
 ) -> io::Result<bool> {
-    let Some((name, text)) = row_of(line) else {
-        return Ok(true);
-    };
-    let (given, _) = sides_of(text).unwrap_or((text, ""));
-    let Some((first, count)) = numbers_of(given) else {
-        refuse_row(rt, line)?;
-        return Ok(false);
-    };
-    match histories(rt, rt.alloc(), first, count) {
-        Ok(()) => is_told(rt, name, None),
-        Err(End::Differs(text)) => is_told(rt, name, Some(text)),
-        Err(End::OutOfMemory) => Err(io::Error::from(io::ErrorKind::OutOfMemory)),
+    match row_in(table, line) {
+        Some(row) => differs_not(rt, rules, row),
+        None => {
+            refuse_row(rt, line)?;
+            Ok(false)
+        }
     }
 }
 
-/// The first seed, and how many there are.
-fn numbers_of(given: &str) -> Option<(u64, u64)> {
-    let (first, count) = row_of(given)?;
-    Some((number_of(first)?, number_of(count)?))
+/// Takes an example, and tells of it. True: the next one may run.
+fn differs_not<R: Threads + Sync + Files + Print + Eprint + AllocGlobal>(
+    rt: &R,
+    rules: &Rules,
+    row: Row<'_>,
+) -> io::Result<bool> {
+    let answer = answer_of(rt, rules, row.kind, row.given)?;
+    if answer.as_str() == row.wanted {
+        is_told(rt, row.name, None)
+    } else {
+        is_told(rt, row.name, Some(answer))
+    }
 }

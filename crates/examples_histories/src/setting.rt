@@ -1,8 +1,6 @@
 //! What all histories share: a style with each kind of table, whose selection reaches ways and nodes, and boundaries.
 
-use crate::end::End;
-use osm_base::OutOfMemory;
-use std::alloc::Global;
+use std::alloc::{AllocError, Global};
 use style_read::{Style, read_style};
 use tile_cover::{Bounds, read_bounds};
 
@@ -21,19 +19,28 @@ table = [
 /// The boundaries of zoom 2.
 const BOUNDS: &str = "850511288\n665132604\n0\n-665132604\n-850511288\n";
 
-/// How a history is run.
+/// The style and the boundaries.
+#[derive(Drop)]
+pub struct Rules {
+    pub style: Style,
+    pub bounds: Bounds,
+}
+
+/// How a store is imported.
 #[derive(Clone, Copy)]
-pub struct Setting {
-    pub workers: u32,
+pub struct Setting<'a> {
+    pub style: &'a str,
     pub buckets: u64,
+    pub workers: u32,
 }
 
-/// The style.
-pub fn style(alloc: Global) -> Result<Style, End> {
-    Ok(read_style(alloc, STYLE.as_bytes()).map_err(|_| OutOfMemory)?)
-}
-
-/// The boundaries.
-pub fn bounds(alloc: Global) -> Result<Bounds, End> {
-    Ok(read_bounds(alloc, BOUNDS.as_bytes()).map_err(|_| OutOfMemory)?)
+/// The rules of all histories.
+pub fn rules_of_all(alloc: Global) -> Result<Rules, AllocError> {
+    let Ok(style) = read_style(alloc, STYLE.as_bytes()) else {
+        return Err(AllocError);
+    };
+    match read_bounds(alloc, BOUNDS.as_bytes()) {
+        Ok(bounds) => Ok(Rules { style, bounds }),
+        Err(_) => Err(AllocError),
+    }
 }

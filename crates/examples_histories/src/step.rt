@@ -1,111 +1,94 @@
-//! Single steps of stores, each with what it has to answer.
+//! An example of each kind, and what it answers.
 
-use crate::bounded::{Texts, answers_under};
+use crate::bounded::answers_under;
 use crate::counted::reads_of;
-use crate::crashed::{Deed, crashes_of};
-use crate::end::End;
-use example_table::{is_told, number_of, refuse_row, row_of, sides_of};
+use crate::crashed::crashes_of;
+use crate::end::{End, end_text};
+use crate::history::histories;
+use crate::setting::{Rules, Setting};
+use example_table::number_of;
 use osm_base::{LimitNumbers, Limits};
-use std::rt::Files;
+use std::alloc::Global;
+use std::fs::{self, Files};
+use std::io;
 use std::thread::Threads;
-use std::{fs, io};
 
-/// Takes the step of a line, if it has one, and tells of it. True: the next line may run.
-pub fn passes<R: Threads + Sync + Files + Print + Eprint + AllocGlobal>(
-    rt: &R,
-    line: &str,
-) -> io::Result<bool> {
-    let Some((kind, row)) = row_of(line) else {
-        return Ok(true);
-    };
-    let Some((given, wanted)) = sides_of(row) else {
-        refuse_row(rt, line)?;
-        return Ok(false);
-    };
-    let Some((name, words)) = row_of(given) else {
-        refuse_row(rt, line)?;
-        return Ok(false);
-    };
-    match answer_of(rt, kind, words)? {
-        None => {
-            refuse_row(rt, line)?;
-            Ok(false)
-        }
-        Some(Ok(answer)) if answer.as_str() == wanted => is_told(rt, name, None),
-        Some(Ok(answer) | Err(End::Differs(answer))) => is_told(rt, name, Some(answer)),
-        Some(Err(End::OutOfMemory)) => Err(io::Error::from(io::ErrorKind::OutOfMemory)),
-    }
+/// What the words of an example give: numbers, and texts of files.
+#[derive(Drop)]
+struct Given {
+    numbers: Vec<u64>,
+    texts: Vec<String>,
 }
 
-/// What the step answers. `None`: the words are no step.
-fn answer_of<R: Threads + Sync + Files + AllocGlobal>(
+/// What an example of this kind answers to these words.
+pub fn answer_of<R: Threads + Sync + Files + AllocGlobal>(
     rt: &R,
+    rules: &Rules,
     kind: &str,
     words: &str,
-) -> io::Result<Option<Result<String, End>>> {
-    match kind {
-        "limits" => bounded(rt, words),
-        "reads" => Ok(counted(rt, words)),
-        "crashes" => crashed(rt, words),
-        _ => Ok(None),
+) -> io::Result<String> {
+    let mut given = Given {
+        numbers: Vec::new(rt.alloc()),
+        texts: Vec::new(rt.alloc()),
+    };
+    for word in words.split_ascii_whitespace() {
+        take(rt, &mut given, word)?;
+    }
+    Ok(match answer_to(rt, rt.alloc(), rules, kind, &given) {
+        Ok(answer) => answer,
+        Err(end) => end_text(rt.alloc(), end)?,
+    })
+}
+
+// Takes up a word: a number, `clear` for an empty text, or the path of a file.
+fn take<R: Files + AllocGlobal>(rt: &R, given: &mut Given, word: &str) -> io::Result<()> {
+    if let Some(number) = number_of(word) {
+        given.numbers.push(number)?;
+    } else if word == "clear" {
+        given.texts.push(String::new(rt.alloc()))?;
+    } else {
+        given.texts.push(fs::read_to_string(rt, word)?)?;
+    }
+    Ok(())
+}
+
+// What an example of this kind answers.
+fn answer_to<R: Threads + Sync>(
+    rt: &R,
+    alloc: Global,
+    rules: &Rules,
+    kind: &str,
+    given: &Given,
+) -> Result<String, End> {
+    match (kind, given.numbers.as_slice(), given.texts.as_slice()) {
+        ("histories", [first, count], []) => Ok(histories(rt, alloc, rules, *first, *count)?),
+        ("limits", [buckets, pages, pending], [style, first, change]) => {
+            let setting = Setting {
+                style: style.as_str(),
+                buckets: *buckets,
+                workers: 1,
+            };
+            let limits = limits_of(*pages, *pending);
+            let texts = [first.as_str(), change.as_str()];
+            answers_under(rt, alloc, &limits, &rules.bounds, setting, texts)
+        }
+        ("reads", [buckets, nodes], []) => reads_of(rt, alloc, &rules.bounds, *buckets, *nodes),
+        ("crashes", [buckets], [first, change, deed]) => {
+            let texts = [first.as_str(), change.as_str(), deed.as_str()];
+            crashes_of(rt, alloc, rules, *buckets, texts)
+        }
+        _ => Ok(String::from_str(alloc, "no example")?),
     }
 }
 
-fn bounded<R: Threads + Sync + Files + AllocGlobal>(
-    rt: &R,
-    words: &str,
-) -> io::Result<Option<Result<String, End>>> {
-    let mut words = words.split_ascii_whitespace();
-    let buckets = words.next().and_then(number_of);
-    let pages = words.next().and_then(number_of);
-    let pending = words.next().and_then(number_of);
-    let (Some(buckets), Some(pages), Some(pending)) = (buckets, pages, pending) else {
-        return Ok(None);
-    };
-    let (Some(style), Some(first), Some(change)) = (words.next(), words.next(), words.next()) else {
-        return Ok(None);
-    };
-    let numbers = Limits::standard().numbers();
-    let Some(limits) = Limits::new(LimitNumbers {
+// The limits with so many pages and pending objects; the standard ones where those are none.
+fn limits_of(pages: u64, pending: u64) -> Limits {
+    let standard = Limits::standard();
+    let numbers = standard.numbers();
+    Limits::new(LimitNumbers {
         pages,
         pending,
         ..numbers
-    }) else {
-        return Ok(None);
-    };
-    let texts = Texts {
-        buckets,
-        style: fs::read_to_string(rt, style)?,
-        first: fs::read_to_string(rt, first)?,
-        change: fs::read_to_string(rt, change)?,
-    };
-    Ok(Some(answers_under(rt, rt.alloc(), &limits, &texts)))
-}
-
-fn counted<R: Threads + Sync + AllocGlobal>(rt: &R, words: &str) -> Option<Result<String, End>> {
-    let (buckets, nodes) = row_of(words)?;
-    let (buckets, nodes) = (number_of(buckets)?, number_of(nodes)?);
-    Some(reads_of(rt, rt.alloc(), buckets, nodes))
-}
-
-fn crashed<R: Threads + Sync + Files + AllocGlobal>(
-    rt: &R,
-    words: &str,
-) -> io::Result<Option<Result<String, End>>> {
-    let mut words = words.split_ascii_whitespace();
-    let Some(buckets) = words.next().and_then(number_of) else {
-        return Ok(None);
-    };
-    let (Some(first), Some(change), Some(deed)) = (words.next(), words.next(), words.next()) else {
-        return Ok(None);
-    };
-    let first = fs::read_to_string(rt, first)?;
-    let change = fs::read_to_string(rt, change)?;
-    let texts = [first.as_str(), change.as_str()];
-    if deed == "clear" {
-        return Ok(Some(crashes_of(rt, rt.alloc(), buckets, texts, Deed::Clear)));
-    }
-    let second = fs::read_to_string(rt, deed)?;
-    let deed = Deed::Append(second.as_str());
-    Ok(Some(crashes_of(rt, rt.alloc(), buckets, texts, deed)))
+    })
+    .unwrap_or(standard)
 }

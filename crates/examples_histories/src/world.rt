@@ -10,22 +10,20 @@ const WAYS: u64 = 8;
 
 const RELATIONS: u64 = 5;
 
-/// Of each object the line that writes it; empty where it is not there.
+/// Of each object the line that writes it, empty where it is not there: of the nodes, then of the ways, then of the relations.
 #[derive(Drop)]
 pub struct World {
-    nodes: Vec<String>,
-    ways: Vec<String>,
-    relations: Vec<String>,
+    lines: Vec<String>,
 }
 
 impl World {
     /// No object.
     pub fn new(alloc: Global) -> Result<Self, AllocError> {
-        Ok(World {
-            nodes: empty_lines(alloc, NODES)?,
-            ways: empty_lines(alloc, WAYS)?,
-            relations: empty_lines(alloc, RELATIONS)?,
-        })
+        let mut lines = Vec::new(alloc);
+        for _ in 0..NODES + WAYS + RELATIONS {
+            lines.push(String::new(alloc))?;
+        }
+        Ok(World { lines })
     }
 
     /// A change of about one object in so many, as a file writes it.
@@ -36,190 +34,149 @@ impl World {
         one_in: u64,
     ) -> Result<String, AllocError> {
         let mut text = String::new(alloc);
-        change_some(alloc, dice, one_in, Form::Node, &mut self.nodes, &mut text)?;
-        change_some(alloc, dice, one_in, Form::Way, &mut self.ways, &mut text)?;
-        change_some(
-            alloc,
-            dice,
-            one_in,
-            Form::Relation,
-            &mut self.relations,
-            &mut text,
-        )?;
+        for (place, line) in self.lines.iter_mut().enumerate() {
+            if dice.once_in(one_in.max(1)) {
+                change_line(alloc, dice, place as u64, line, &mut text)?;
+            }
+        }
         Ok(text)
     }
 
     /// All objects, as a file writes them.
     pub fn text(&self, alloc: Global) -> Result<String, AllocError> {
         let mut text = String::new(alloc);
-        for lines in [&self.nodes, &self.ways, &self.relations] {
-            for line in lines {
-                push_line(&mut text, line.as_str())?;
-            }
+        for line in &self.lines {
+            text.push_str(line.as_str())?;
         }
         Ok(text)
     }
 }
 
-/// The three kinds of objects.
-#[derive(Clone, Copy)]
-enum Form {
-    Node,
-    Way,
-    Relation,
-}
-
-// So many empty lines.
-fn empty_lines(alloc: Global, count: u64) -> Result<Vec<String>, AllocError> {
-    let mut lines = Vec::new(alloc);
-    for _ in 0..count {
-        lines.push(String::new(alloc))?;
-    }
-    Ok(lines)
-}
-
-// A line of a file, unless it is empty.
-fn push_line(text: &mut String, line: &str) -> Result<(), AllocError> {
-    if line.is_empty() {
-        return Ok(());
-    }
-    text.push_str(line)?;
-    text.push_str("\n")
-}
-
-// Changes about one object in so many, and writes what it did.
-fn change_some(
+// Deletes an object, once in five times, or makes it a random one, and writes what it did.
+fn change_line(
     alloc: Global,
     dice: &mut Dice,
-    one_in: u64,
-    form: Form,
-    lines: &mut Vec<String>,
+    place: u64,
+    line: &mut String,
     text: &mut String,
 ) -> Result<(), AllocError> {
-    for (place, line) in lines.iter_mut().enumerate() {
-        if !dice.once_in(one_in.max(1)) {
-            continue;
-        }
-        let id = place as u64 + 1;
-        if dice.once_in(5) {
-            push_line(text, deleted(alloc, form, id)?.as_str())?;
-            *line = String::new(alloc);
-        } else {
-            let own = line_of(alloc, dice, form, id)?;
-            push_line(text, own.as_str())?;
-            *line = own;
-        }
+    *line = String::new(alloc);
+    if dice.once_in(5) {
+        let (kind, id) = key_of(place);
+        return push_ref(alloc, text, kind, id, " dD\n");
     }
-    Ok(())
+    push_object(alloc, dice, place, line)?;
+    line.push_str("\n")?;
+    text.push_str(line.as_str())
 }
 
-// The line that deletes an object.
-fn deleted(alloc: Global, form: Form, id: u64) -> Result<String, AllocError> {
-    match form {
-        Form::Node => format!(in alloc; "n{id} dD"),
-        Form::Way => format!(in alloc; "w{id} dD"),
-        Form::Relation => format!(in alloc; "r{id} dD"),
+// The letter and the id of the object at a place.
+fn key_of(place: u64) -> (&'static str, u64) {
+    if place < NODES {
+        ("n", place + 1)
+    } else if place < NODES + WAYS {
+        ("w", place - NODES + 1)
+    } else {
+        ("r", place - (NODES + WAYS) + 1)
     }
 }
 
 // A random object.
-fn line_of(alloc: Global, dice: &mut Dice, form: Form, id: u64) -> Result<String, AllocError> {
-    match form {
-        Form::Node => node_line(alloc, dice, id),
-        Form::Way => way_line(alloc, dice, id),
-        Form::Relation => relation_line(alloc, dice, id),
+fn push_object(
+    alloc: Global,
+    dice: &mut Dice,
+    place: u64,
+    line: &mut String,
+) -> Result<(), AllocError> {
+    let (kind, id) = key_of(place);
+    match kind {
+        "n" => push_node(alloc, dice, id, line),
+        "w" => push_way(alloc, dice, id, line),
+        _ => push_relation(alloc, dice, id, line),
     }
 }
 
 // A node on a coarse grid: so that rings close and segments touch.
-fn node_line(alloc: Global, dice: &mut Dice, id: u64) -> Result<String, AllocError> {
+fn push_node(alloc: Global, dice: &mut Dice, id: u64, line: &mut String) -> Result<(), AllocError> {
     let lon = 20 * dice.below(5);
     let lat = 10 * dice.below(5);
-    let west = if dice.once_in(4) { "-" } else { "" };
-    let south = if dice.once_in(4) { "-" } else { "" };
+    let west = if dice.once_in(4) { " x-" } else { " x" };
+    let south = if dice.once_in(4) { " y-" } else { " y" };
     let tags = match dice.below(4) {
         0 => " Tamenity=cafe,name=A",
         1 => " Tamenity=cafe",
         2 => " Tname=B",
         _ => "",
     };
-    format!(in alloc; "n{id}{tags} x{west}{lon} y{south}{lat}")
+    push_ref(alloc, line, "n", id, tags)?;
+    push_ref(alloc, line, west, lon, "")?;
+    push_ref(alloc, line, south, lat, "")
 }
 
 // A way of some nodes, of which not all need be there; it is a ring half of the time.
-fn way_line(alloc: Global, dice: &mut Dice, id: u64) -> Result<String, AllocError> {
+fn push_way(alloc: Global, dice: &mut Dice, id: u64, line: &mut String) -> Result<(), AllocError> {
     let tags = match dice.below(5) {
-        0 => " Thighway=residential,lanes=2",
-        1 => " Thighway=path",
-        2 => " Tlanduse=grass",
-        3 => " Thighway=service,landuse=grass",
-        _ => "",
+        0 => " Thighway=residential,lanes=2 N",
+        1 => " Thighway=path N",
+        2 => " Tlanduse=grass N",
+        3 => " Thighway=service,landuse=grass N",
+        _ => " N",
     };
-    let mut line = format!(in alloc; "w{id}{tags} N")?;
+    push_ref(alloc, line, "w", id, tags)?;
     let count = dice.below(5) + 1;
     let first = dice.below(NODES) + 1;
-    push_ref(alloc, &mut line, "", "n", first, "")?;
+    push_ref(alloc, line, "n", first, "")?;
     for _ in 1..count {
-        let next = dice.below(NODES) + 1;
-        push_ref(alloc, &mut line, ",", "n", next, "")?;
+        push_ref(alloc, line, ",n", dice.below(NODES) + 1, "")?;
     }
     if dice.once_in(2) {
-        push_ref(alloc, &mut line, ",", "n", first, "")?;
+        push_ref(alloc, line, ",n", first, "")?;
     }
-    Ok(line)
+    Ok(())
 }
 
 // A relation of some objects, of which not all need be there.
-fn relation_line(alloc: Global, dice: &mut Dice, id: u64) -> Result<String, AllocError> {
+fn push_relation(
+    alloc: Global,
+    dice: &mut Dice,
+    id: u64,
+    line: &mut String,
+) -> Result<(), AllocError> {
     let tags = match dice.below(4) {
-        0 => " Ttype=multipolygon",
-        1 => " Ttype=route,route=bus,ref=100",
-        2 => " Tref=M1,route=bus,type=route",
-        _ => " Ttype=route",
+        0 => " Ttype=multipolygon M",
+        1 => " Ttype=route,route=bus,ref=100 M",
+        2 => " Tref=M1,route=bus,type=route M",
+        _ => " Ttype=route M",
     };
-    let mut line = format!(in alloc; "r{id}{tags} M")?;
+    push_ref(alloc, line, "r", id, tags)?;
     for place in 0..dice.below(4) {
-        let between = if place == 0 { "" } else { "," };
-        match dice.below(8) {
-            0 | 1 | 2 => push_ref(alloc, &mut line, between, "n", dice.below(NODES) + 1, "@")?,
-            3 => push_ref(
-                alloc,
-                &mut line,
-                between,
-                "r",
-                dice.below(RELATIONS) + 1,
-                "@",
-            )?,
-            4 => push_ref(
-                alloc,
-                &mut line,
-                between,
-                "w",
-                dice.below(WAYS) + 1,
-                "@inner",
-            )?,
-            _ => push_ref(
-                alloc,
-                &mut line,
-                between,
-                "w",
-                dice.below(WAYS) + 1,
-                "@outer",
-            )?,
+        if place > 0 {
+            line.push_str(",")?;
         }
+        push_member(alloc, dice, line)?;
     }
-    Ok(line)
+    Ok(())
 }
 
-// An object that a line lists, and what stands around it.
+// A random member with its role.
+fn push_member(alloc: Global, dice: &mut Dice, line: &mut String) -> Result<(), AllocError> {
+    let (kind, ids, role) = match dice.below(8) {
+        0 | 1 | 2 => ("n", NODES, "@"),
+        3 => ("r", RELATIONS, "@"),
+        4 => ("w", WAYS, "@inner"),
+        _ => ("w", WAYS, "@outer"),
+    };
+    push_ref(alloc, line, kind, dice.below(ids.max(1)) + 1, role)
+}
+
+// A number, and what stands around it.
 fn push_ref(
     alloc: Global,
     line: &mut String,
-    between: &str,
-    kind: &str,
-    id: u64,
-    role: &str,
+    before: &str,
+    number: u64,
+    behind: &str,
 ) -> Result<(), AllocError> {
-    let text = format!(in alloc; "{between}{kind}{id}{role}")?;
+    let text = format!(in alloc; "{before}{number}{behind}")?;
     line.push_str(text.as_str())
 }
