@@ -1,6 +1,7 @@
 //! Runs the examples of styles, of the texts of tables and of rows, and prints the name of each up to the first that differs.
 //!
-//! The head of each table says what its columns are, and where what is wanted comes from.
+//! The head of each table says what its columns are, and where what is wanted comes from. What runs an example adds what
+//! comes out to a text, and says whether its row is in its form; want of memory may be told as a row that is not.
 #![tactic(auto)]
 
 mod many;
@@ -9,8 +10,7 @@ mod styles;
 mod tables;
 
 use example_table::{Examples, run_examples};
-use osm_base::OutOfMemory;
-use std::alloc::Global;
+use std::alloc::{AllocError, Global};
 use std::io;
 use std::process::ExitCode;
 
@@ -22,18 +22,30 @@ fn main(rt: HostRuntime) -> io::Result<ExitCode> {
 struct OfRows;
 
 impl Examples for OfRows {
-    type Refusal = OutOfMemory;
+    type Refusal = AllocError;
 
-    fn answer_of(alloc: Global, kind: &str, given: &str) -> Result<Option<String>, OutOfMemory> {
-        match kind {
-            "style" => styles::read(alloc, given),
-            "many" => many::read(alloc, given),
-            "text" => tables::text(alloc, given),
-            "number" => tables::number(alloc, given),
-            "rows" => objects::rows(alloc, given),
-            "rows_at_once" => objects::rows_at_once(alloc, given),
-            "selects" => objects::selected(alloc, given),
-            _ => Ok(None),
-        }
+    fn answer_of(alloc: Global, kind: &str, given: &str) -> Result<Option<String>, AllocError> {
+        let mut answer = String::new(alloc);
+        let good = put_answer(alloc, &mut answer, kind, given)?;
+        Ok(if good { Some(answer) } else { None })
+    }
+}
+
+/// Adds what comes out of an example. False: the row is not in its form.
+fn put_answer(
+    alloc: Global,
+    answer: &mut String,
+    kind: &str,
+    given: &str,
+) -> Result<bool, AllocError> {
+    match kind {
+        "style" => styles::read(alloc, answer, given),
+        "many" => many::read(alloc, answer, given),
+        "text" => tables::text(alloc, answer, given),
+        "number" => tables::number(alloc, answer, given),
+        "rows" => objects::rows(alloc, answer, given, false),
+        "rows_at_once" => objects::rows(alloc, answer, given, true),
+        "selects" => objects::selected(alloc, answer, given),
+        _ => Ok(false),
     }
 }

@@ -1,22 +1,28 @@
 //! Styles of many parts, made from their numbers.
-use crate::styles::refusal;
+use crate::styles::put_refusal;
 use example_table::{number_of, row_of};
-use osm_base::OutOfMemory;
-use std::alloc::Global;
+use std::alloc::{AllocError, Global};
 use style_read::{StyleFault, read_style};
 
-/// What reading the style of a row `SELECTIONS TABLES COLUMNS` gives: `read`, or its cause and part. The
-/// columns are those of the last table. `None`: the row is not in its form.
-pub fn read(alloc: Global, given: &str) -> Result<Option<String>, OutOfMemory> {
+/// Adds what reading the style of a row `SELECTIONS TABLES COLUMNS` gives: `read`, or its cause and part. The
+/// columns are those of the last table.
+pub fn read(alloc: Global, answer: &mut String, given: &str) -> Result<bool, AllocError> {
     let Some((selections, tables, columns)) = numbers_of(given) else {
-        return Ok(None);
+        return Ok(false);
     };
-    let text = style_of(alloc, selections, tables, columns)?;
-    match read_style(alloc, text.as_bytes()) {
-        Ok(_) => Ok(Some(String::from_str(alloc, "read")?)),
-        Err(StyleFault::Bad { why, part }) => Ok(Some(refusal(alloc, why, part)?)),
-        Err(StyleFault::OutOfMemory) => Err(OutOfMemory),
+    let mut style = String::new(alloc);
+    put_parts(alloc, &mut style, selections, tables, columns)?;
+    put_read(alloc, answer, style.as_bytes())
+}
+
+/// Adds what reading a style gives.
+fn put_read(alloc: Global, answer: &mut String, style: &[u8]) -> Result<bool, AllocError> {
+    match read_style(alloc, style) {
+        Ok(_) => answer.push_str("read")?,
+        Err(StyleFault::Bad { why, part }) => put_refusal(alloc, answer, why, part)?,
+        Err(StyleFault::OutOfMemory) => return Ok(false),
     }
+    Ok(true)
 }
 
 /// Three numbers behind one another.
@@ -26,37 +32,46 @@ fn numbers_of(given: &str) -> Option<(u64, u64, u64)> {
     Some((number_of(first)?, number_of(second)?, number_of(third)?))
 }
 
-/// A style with so many selections and tables, and so many columns behind the last table.
-fn style_of(
+/// Adds so many selections and tables, and so many columns behind the last table.
+fn put_parts(
     alloc: Global,
+    style: &mut String,
     selections: u64,
     tables: u64,
     columns: u64,
-) -> Result<String, OutOfMemory> {
-    let mut text = String::new(alloc);
+) -> Result<(), AllocError> {
     for number in 0..selections {
-        push_named(alloc, &mut text, "select", number)?;
-        text.push_str("where = []\ntake = \"ref\"\n")?;
+        put_part(
+            alloc,
+            style,
+            "select",
+            number,
+            "where = []\ntake = \"ref\"\n",
+        )?;
     }
     for number in 0..tables {
-        push_named(alloc, &mut text, "table", number)?;
-        text.push_str("source = \"node\"\ngeometry = \"point\"\n")?;
+        put_part(
+            alloc,
+            style,
+            "table",
+            number,
+            "source = \"node\"\ngeometry = \"point\"\n",
+        )?;
     }
     for number in 0..columns {
-        push_named(alloc, &mut text, "table.column", number)?;
-        text.push_str("from = \"tags\"\n")?;
+        put_part(alloc, style, "table.column", number, "from = \"tags\"\n")?;
     }
-    Ok(text)
+    Ok(())
 }
 
-/// Adds the header of a part and its name.
-fn push_named(
+/// Adds the header of a part, its name and its lines.
+fn put_part(
     alloc: Global,
-    text: &mut String,
+    style: &mut String,
     header: &str,
     number: u64,
-) -> Result<(), OutOfMemory> {
-    let lines = format!(in alloc; "[[{header}]]\nname = \"part_{number}\"\n")?;
-    text.push_str(lines.as_str())?;
-    Ok(())
+    lines: &str,
+) -> Result<(), AllocError> {
+    let part = format!(in alloc; "[[{header}]]\nname = \"part_{number}\"\n{lines}")?;
+    style.push_str(part.as_str())
 }

@@ -1,80 +1,116 @@
 //! A style of a row, and what reading it gives.
 use example_table::bytes_of;
-use osm_base::{OutOfMemory, TryCopy};
-use std::alloc::Global;
+use osm_base::TryCopy;
+use std::alloc::{AllocError, Global};
 use style_read::{
     Column, Condition, Mode, Origin, Selection, Source, Style, StyleFault, StylePart, StyleWhy,
     TableDef, read_style,
 };
 
-/// What reading the style of a row gives. `None`: the row is not in its form.
-pub fn read(alloc: Global, given: &str) -> Result<Option<String>, OutOfMemory> {
-    let Some(bytes) = bytes_of(alloc, given)? else {
-        return Ok(None);
-    };
-    match read_style(alloc, &bytes) {
-        Ok(style) => Ok(Some(style_text(alloc, &style.copy(alloc)?)?)),
-        Err(StyleFault::Bad { why, part }) => Ok(Some(refusal(alloc, why, part)?)),
-        Err(StyleFault::OutOfMemory) => Err(OutOfMemory),
+/// Adds what reading the style of a row gives.
+pub fn read(alloc: Global, answer: &mut String, given: &str) -> Result<bool, AllocError> {
+    match bytes_of(alloc, given)? {
+        Some(bytes) => put_read(alloc, answer, &bytes),
+        None => Ok(false),
     }
 }
 
-/// A cause and its part, as a row says them.
-pub fn refusal(alloc: Global, why: StyleWhy, part: StylePart) -> Result<String, OutOfMemory> {
-    let cause = why.number();
+/// Adds what reading a style gives.
+fn put_read(alloc: Global, answer: &mut String, bytes: &[u8]) -> Result<bool, AllocError> {
+    match read_style(alloc, bytes) {
+        Ok(style) => put_copy(alloc, answer, &style),
+        Err(StyleFault::Bad { why, part }) => {
+            put_refusal(alloc, answer, why, part)?;
+            Ok(true)
+        }
+        Err(StyleFault::OutOfMemory) => Ok(false),
+    }
+}
+
+/// Adds a copy of a style.
+fn put_copy(alloc: Global, answer: &mut String, style: &Style) -> Result<bool, AllocError> {
+    match style.copy(alloc) {
+        Ok(copy) => {
+            put_style(alloc, answer, &copy)?;
+            Ok(true)
+        }
+        Err(_) => Ok(false),
+    }
+}
+
+/// Adds a cause and its part, as a row says them.
+pub fn put_refusal(
+    alloc: Global,
+    answer: &mut String,
+    why: StyleWhy,
+    part: StylePart,
+) -> Result<(), AllocError> {
+    put_number(alloc, answer, "cause ", why.number() as u32)?;
     match part {
-        StylePart::Top => Ok(format!(in alloc; "cause {cause} top")?),
-        StylePart::Selection(number) => Ok(format!(in alloc; "cause {cause} selection {number}")?),
-        StylePart::Table(number) => Ok(format!(in alloc; "cause {cause} table {number}")?),
+        StylePart::Top => answer.push_str(" top"),
+        StylePart::Selection(number) => put_number(alloc, answer, " selection ", number),
+        StylePart::Table(number) => put_number(alloc, answer, " table ", number),
     }
 }
 
-/// A style, as a row says it.
-fn style_text(alloc: Global, style: &Style) -> Result<String, OutOfMemory> {
-    let mut text = String::new(alloc);
+/// Adds a style, as a row says it.
+fn put_style(alloc: Global, answer: &mut String, style: &Style) -> Result<(), AllocError> {
     for selection in style.selections.as_slice() {
-        push_selection(alloc, &mut text, selection)?;
+        put_selection(alloc, answer, selection)?;
     }
     for table in style.tables.as_slice() {
-        push_table(alloc, &mut text, table)?;
+        put_table(alloc, answer, table)?;
         if style.table_named(table.name.as_str()).is_none() {
-            text.push_str("unnamed")?;
+            answer.push_str("unnamed")?;
         }
     }
-    Ok(text)
+    Ok(())
+}
+
+/// Adds texts behind one another.
+fn put(answer: &mut String, texts: &[&str]) -> Result<(), AllocError> {
+    for text in texts {
+        answer.push_str(text)?;
+    }
+    Ok(())
+}
+
+/// Adds a number behind a text.
+fn put_number(
+    alloc: Global,
+    answer: &mut String,
+    before: &str,
+    number: u32,
+) -> Result<(), AllocError> {
+    let text = format!(in alloc; "{before}{number}")?;
+    answer.push_str(text.as_str())
 }
 
 /// Adds `(NAME CONDITIONS take KEY)`.
-fn push_selection(
+fn put_selection(
     alloc: Global,
-    text: &mut String,
+    answer: &mut String,
     selection: &Selection,
-) -> Result<(), OutOfMemory> {
-    text.push_str("(")?;
-    text.push_str(selection.name.as_str())?;
-    push_conditions(alloc, text, selection.conditions.as_slice())?;
-    text.push_str(" take ")?;
-    text.push_str(selection.take.as_str())?;
-    text.push_str(")")?;
-    Ok(())
+) -> Result<(), AllocError> {
+    put(answer, &["(", selection.name.as_str()])?;
+    put_conditions(alloc, answer, selection.conditions.as_slice())?;
+    put(answer, &[" take ", selection.take.as_str(), ")"])
 }
 
 /// Adds `[NAME SOURCE MODE all CONDITIONS any CONDITIONS columns COLUMNS]`.
-fn push_table(alloc: Global, text: &mut String, table: &TableDef) -> Result<(), OutOfMemory> {
-    text.push_str("[")?;
-    text.push_str(table.name.as_str())?;
-    text.push_str(source_text(table.source))?;
-    text.push_str(mode_text(table.mode))?;
-    text.push_str(" all")?;
-    push_conditions(alloc, text, table.all_of.as_slice())?;
-    text.push_str(" any")?;
-    push_conditions(alloc, text, table.one_of.as_slice())?;
-    text.push_str(" columns")?;
+fn put_table(alloc: Global, answer: &mut String, table: &TableDef) -> Result<(), AllocError> {
+    put(answer, &["[", table.name.as_str()])?;
+    answer.push_str(source_text(table.source))?;
+    answer.push_str(mode_text(table.mode))?;
+    answer.push_str(" all")?;
+    put_conditions(alloc, answer, table.all_of.as_slice())?;
+    answer.push_str(" any")?;
+    put_conditions(alloc, answer, table.one_of.as_slice())?;
+    answer.push_str(" columns")?;
     for column in table.columns.as_slice() {
-        push_column(alloc, text, column)?;
+        put_column(alloc, answer, column)?;
     }
-    text.push_str("]")?;
-    Ok(())
+    answer.push_str("]")
 }
 
 /// The word of a source.
@@ -96,69 +132,39 @@ fn mode_text(mode: Mode) -> &'static str {
 }
 
 /// Adds conditions, each behind a blank.
-fn push_conditions(
+fn put_conditions(
     alloc: Global,
-    text: &mut String,
+    answer: &mut String,
     conditions: &[Condition],
-) -> Result<(), OutOfMemory> {
+) -> Result<(), AllocError> {
     for condition in conditions {
-        text.push_str(" ")?;
-        push_condition(alloc, text, condition)?;
+        put_condition(alloc, answer, condition)?;
     }
     Ok(())
 }
 
-/// Adds `+KEY`, `-KEY`, `KEY==VALUE`, `KEY<>VALUE` or `@NUMBER`.
-fn push_condition(
+/// Adds ` +KEY`, ` -KEY`, ` KEY==VALUE`, ` KEY<>VALUE` or ` @NUMBER`.
+fn put_condition(
     alloc: Global,
-    text: &mut String,
+    answer: &mut String,
     condition: &Condition,
-) -> Result<(), OutOfMemory> {
+) -> Result<(), AllocError> {
     match condition {
-        Condition::Has(key) => push_two(text, "+", key.as_str()),
-        Condition::Lacks(key) => push_two(text, "-", key.as_str()),
-        Condition::Is { key, value } => push_between(text, key.as_str(), "==", value.as_str()),
-        Condition::Isnt { key, value } => push_between(text, key.as_str(), "<>", value.as_str()),
-        Condition::Selected(number) => push_number(alloc, text, *number),
+        Condition::Has(key) => put(answer, &[" +", key.as_str()]),
+        Condition::Lacks(key) => put(answer, &[" -", key.as_str()]),
+        Condition::Is { key, value } => put(answer, &[" ", key.as_str(), "==", value.as_str()]),
+        Condition::Isnt { key, value } => put(answer, &[" ", key.as_str(), "<>", value.as_str()]),
+        Condition::Selected(number) => put_number(alloc, answer, " @", *number),
     }
-}
-
-/// Adds two texts.
-fn push_two(text: &mut String, first: &str, second: &str) -> Result<(), OutOfMemory> {
-    text.push_str(first)?;
-    text.push_str(second)?;
-    Ok(())
-}
-
-/// Adds a text between two.
-fn push_between(
-    text: &mut String,
-    first: &str,
-    between: &str,
-    second: &str,
-) -> Result<(), OutOfMemory> {
-    push_two(text, first, between)?;
-    text.push_str(second)?;
-    Ok(())
-}
-
-/// Adds the number of a selection.
-fn push_number(alloc: Global, text: &mut String, number: u32) -> Result<(), OutOfMemory> {
-    let digits = format!(in alloc; "@{number}")?;
-    text.push_str(digits.as_str())?;
-    Ok(())
 }
 
 /// Adds ` NAME:ORIGIN`, with `:int` where it is kept as a whole number.
-fn push_column(alloc: Global, text: &mut String, column: &Column) -> Result<(), OutOfMemory> {
-    push_between(text, " ", column.name.as_str(), ":")?;
+fn put_column(alloc: Global, answer: &mut String, column: &Column) -> Result<(), AllocError> {
+    put(answer, &[" ", column.name.as_str(), ":"])?;
     match &column.origin {
-        Origin::Tag(key) => push_two(text, "tag ", key.as_str())?,
-        Origin::AllTags => text.push_str("tags")?,
-        Origin::Selected(number) => push_number(alloc, text, *number)?,
+        Origin::Tag(key) => put(answer, &["tag ", key.as_str()])?,
+        Origin::AllTags => answer.push_str("tags")?,
+        Origin::Selected(number) => put_number(alloc, answer, "@", *number)?,
     }
-    if column.int {
-        text.push_str(":int")?;
-    }
-    Ok(())
+    answer.push_str(if column.int { ":int" } else { "" })
 }

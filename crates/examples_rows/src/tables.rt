@@ -4,54 +4,52 @@ use osm_base::{
     Cell, Cells, Geometry, Key, Kind, MAX_ID, OutOfMemory, Place, Row, RowChange, Tables, Text,
 };
 use row_text::{row_number, table_text};
-use std::alloc::Global;
-use style_read::{Style, StyleFault, read_style};
+use std::alloc::{AllocError, Global};
+use style_read::{Style, read_style};
 
-/// The text of the table 1 of a row `SOURCE TABLE:KIND:ID..`; that table has this source. Each row has
-/// its own word as its cell, and its point is 0 0. `None`: the row is not in its form.
-pub fn text(alloc: Global, given: &str) -> Result<Option<String>, OutOfMemory> {
+/// Adds the text of the table 1 of a row `SOURCE TABLE:KIND:ID..`; that table has this source. Each row has
+/// its own word as its cell, and its point is 0 0.
+pub fn text(alloc: Global, answer: &mut String, given: &str) -> Result<bool, AllocError> {
     let Some((source, words)) = row_of(given) else {
-        return Ok(None);
+        return Ok(false);
     };
-    let Some(style) = style_of(alloc, source)? else {
-        return Ok(None);
-    };
-    let Some(tables) = tables_of(alloc, words)? else {
-        return Ok(None);
-    };
-    let text = table_text(alloc, &style, &tables, 1)?;
-    Ok(Some(shown(alloc, text.as_str())?))
+    match style_of(alloc, source) {
+        Some(style) => put_rows(alloc, answer, &style, words),
+        None => Ok(false),
+    }
 }
 
-/// The number that the row of an object has in a table with a source, of a row `SOURCE KIND:ID`.
-pub fn number(alloc: Global, given: &str) -> Result<Option<String>, OutOfMemory> {
-    let Some((source, word)) = row_of(given) else {
-        return Ok(None);
-    };
-    let Some(style) = style_of(alloc, source)? else {
-        return Ok(None);
-    };
-    let Some(key) = key_of(word) else {
-        return Ok(None);
-    };
-    let number = row_number(&style, 1, key);
-    Ok(Some(format!(in alloc; "{number}")?))
+/// Adds the number that the row of an object has in a table with a source, of a row `SOURCE KIND:ID`.
+pub fn number(alloc: Global, answer: &mut String, given: &str) -> Result<bool, AllocError> {
+    match number_in(alloc, given) {
+        Some(number) => {
+            let digits = format!(in alloc; "{number}")?;
+            answer.push_str(digits.as_str())?;
+            Ok(true)
+        }
+        None => Ok(false),
+    }
 }
 
-/// A style of three tables, of which that in the middle has this source.
-fn style_of(alloc: Global, source: &str) -> Result<Option<Style>, OutOfMemory> {
-    let Some(geometry) = geometry_of(source) else {
-        return Ok(None);
-    };
+/// The number that the row of an object has in a table with a source.
+fn number_in(alloc: Global, given: &str) -> Option<i64> {
+    let (source, word) = row_of(given)?;
+    let key = key_of(word)?;
+    let style = style_of(alloc, source)?;
+    Some(row_number(&style, 1, key))
+}
+
+/// A style of three tables, of which that in the middle has this source. `None`: there is no such source, or memory ran
+/// out.
+fn style_of(alloc: Global, source: &str) -> Option<Style> {
+    let geometry = geometry_of(source)?;
     let nodes = "source = \"node\"\ngeometry = \"point\"";
-    let own = format!(in alloc; "source = \"{source}\"\ngeometry = \"{geometry}\"")?;
     let style = format!(in alloc;
-        "[[table]]\nname = \"a\"\n{nodes}\n[[table]]\nname = \"b\"\n{own}\n[[table]]\nname = \"c\"\n{nodes}\n"
-    )?;
-    match read_style(alloc, style.as_bytes()) {
-        Ok(style) => Ok(Some(style)),
-        Err(StyleFault::Bad { .. }) => Ok(None),
-        Err(StyleFault::OutOfMemory) => Err(OutOfMemory),
+        "[[table]]\nname = \"a\"\n{nodes}\n[[table]]\nname = \"b\"\nsource = \"{source}\"\ngeometry = \"{geometry}\"\n[[table]]\nname = \"c\"\n{nodes}\n"
+    );
+    match style {
+        Ok(style) => read_style(alloc, style.as_bytes()).ok(),
+        Err(_) => None,
     }
 }
 
@@ -66,31 +64,51 @@ fn geometry_of(source: &str) -> Option<&'static str> {
     }
 }
 
-/// Tables with a row for each word.
-fn tables_of(alloc: Global, words: &str) -> Result<Option<Tables>, OutOfMemory> {
+/// Adds the text of the table 1, with a row for each word.
+fn put_rows(
+    alloc: Global,
+    answer: &mut String,
+    style: &Style,
+    words: &str,
+) -> Result<bool, AllocError> {
     let mut tables = Tables::new(alloc);
-    for word in words.split_ascii_whitespace() {
-        let Some(change) = change_of(alloc, word)? else {
-            return Ok(None);
-        };
-        tables.apply(change)?;
+    if fill(alloc, &mut tables, words) {
+        put_text(alloc, answer, style, &tables)
+    } else {
+        Ok(false)
     }
-    Ok(Some(tables))
 }
 
-/// The change that puts the row of a word `TABLE:KIND:ID`.
-fn change_of(alloc: Global, word: &str) -> Result<Option<RowChange>, OutOfMemory> {
+/// Puts a row for each word. False: one is not in its form, or memory ran out.
+fn fill(alloc: Global, tables: &mut Tables, words: &str) -> bool {
+    for word in words.split_ascii_whitespace() {
+        if !fill_row(alloc, tables, word) {
+            return false;
+        }
+    }
+    true
+}
+
+/// Puts the row of a word `TABLE:KIND:ID`.
+fn fill_row(alloc: Global, tables: &mut Tables, word: &str) -> bool {
     let Some((table, key)) = spot_of(word) else {
-        return Ok(None);
+        return false;
     };
+    match row_with(alloc, word) {
+        Ok(row) => {
+            let row = Some(row);
+            tables.apply(RowChange { table, key, row }).is_ok()
+        }
+        Err(_) => false,
+    }
+}
+
+/// A row with this word as its cell.
+fn row_with(alloc: Global, word: &str) -> Result<Row, OutOfMemory> {
     let mut cells = Cells::new(alloc);
     cells.push(Cell::Text(Text::from_str(alloc, word)?))?;
     let geometry = Geometry::Point(Place::new(0, 0));
-    Ok(Some(RowChange {
-        table,
-        key,
-        row: Some(Row { cells, geometry }),
-    }))
+    Ok(Row { cells, geometry })
 }
 
 /// The table and the key of a word.
@@ -120,18 +138,33 @@ fn kind_of(word: &str) -> Option<Kind> {
     }
 }
 
-/// A text with `\n` for its newlines, and a blank for its tabs; `empty` where it has no line.
-fn shown(alloc: Global, text: &str) -> Result<String, OutOfMemory> {
-    let mut field = String::new(alloc);
+/// Adds the text of the table 1.
+fn put_text(
+    alloc: Global,
+    answer: &mut String,
+    style: &Style,
+    tables: &Tables,
+) -> Result<bool, AllocError> {
+    match table_text(alloc, style, tables, 1) {
+        Ok(text) => {
+            put_shown(answer, text.as_str())?;
+            Ok(true)
+        }
+        Err(_) => Ok(false),
+    }
+}
+
+/// Adds a text with `\n` for its newlines, and a blank for its tabs; `empty` where it has no line.
+fn put_shown(answer: &mut String, text: &str) -> Result<(), AllocError> {
     if text.is_empty() {
-        field.push_str("empty")?;
+        return answer.push_str("empty");
     }
     for character in text.chars() {
         match character {
-            '\t' => field.push_str(" ")?,
-            '\n' => field.push_str("\\n")?,
-            other => field.push(other)?,
+            '\t' => answer.push(' ')?,
+            '\n' => answer.push_str("\\n")?,
+            other => answer.push(other)?,
         }
     }
-    Ok(field)
+    Ok(())
 }
