@@ -5,7 +5,7 @@ use osm_base::{Entry, Ids, Members, Object, Place, Same, Tags};
 use std::alloc::Global;
 
 /// What a line came to.
-#[derive(Clone, Copy, Debug)]
+#[derive(Clone, Copy)]
 pub enum Outcome {
     Skipped,
     Entry,
@@ -14,22 +14,38 @@ pub enum Outcome {
 
 /// What both readers give of a line. `None`: they differ, or memory ran out.
 pub fn outcome_of(alloc: Global, line: &[u8]) -> Option<Outcome> {
-    match (read_line(alloc, line), read_line_exactly(alloc, line)) {
-        (Ok(None), Ok(None)) => Some(Outcome::Skipped),
-        (Ok(Some(entry)), Ok(Some(other))) => {
-            if are_same(&entry, &other) {
-                Some(Outcome::Entry)
-            } else {
-                None
-            }
-        }
-        (Err(LineRefused::Bad(why)), Err(LineRefused::Bad(other))) => {
-            if why == other {
-                Some(Outcome::Refused(why))
-            } else {
-                None
-            }
-        }
+    agreed(&read(alloc, line), &read_exactly(alloc, line))
+}
+
+/// What the reader of a file gives of a line.
+fn read(alloc: Global, line: &[u8]) -> Result<Option<Entry>, LineRefused> {
+    read_line(alloc, line)
+}
+
+/// What the other reader gives of a line.
+fn read_exactly(alloc: Global, line: &[u8]) -> Result<Option<Entry>, LineRefused> {
+    read_line_exactly(alloc, line)
+}
+
+/// What two readings of a line come to, if they are the same.
+fn agreed(
+    one: &Result<Option<Entry>, LineRefused>,
+    other: &Result<Option<Entry>, LineRefused>,
+) -> Option<Outcome> {
+    match (one, other) {
+        (Ok(entry), Ok(other)) => agreed_entry(entry, other),
+        (Err(LineRefused::Bad(why)), Err(LineRefused::Bad(other))) if why == other => Some(
+            Outcome::Refused(*why),
+        ),
+        _ => None,
+    }
+}
+
+/// What two entries come to, if they are the same.
+fn agreed_entry(entry: &Option<Entry>, other: &Option<Entry>) -> Option<Outcome> {
+    match (entry, other) {
+        (None, None) => Some(Outcome::Skipped),
+        (Some(entry), Some(other)) if are_same(entry, other) => Some(Outcome::Entry),
         _ => None,
     }
 }

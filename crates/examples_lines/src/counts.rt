@@ -6,7 +6,7 @@ use std::alloc::{AllocError, Global};
 const CAUSES: usize = 14;
 
 /// How many lines came to what.
-#[derive(Debug, Drop)]
+#[derive(Drop)]
 pub struct Counts {
     lines: u64,
     straight: u64,
@@ -47,12 +47,18 @@ impl Counts {
             "{} lines, of which {} are not bent: {} skipped, {} entries, refused by cause",
             self.lines, self.straight, self.skipped, self.entries
         )?;
+        self.put_refused(alloc, &mut text)?;
+        Ok(text)
+    }
+
+    /// Adds each cause and how many lines were refused by it.
+    fn put_refused(&self, alloc: Global, text: &mut String) -> Result<(), AllocError> {
         for (cause, count) in self.refused.iter().enumerate() {
             if *count != 0 {
                 let part = format!(in alloc; " {cause}: {count}")?;
                 text.push_str(&part)?;
             }
         }
-        Ok(text)
+        Ok(())
     }
 }

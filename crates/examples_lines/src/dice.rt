@@ -2,7 +2,7 @@
 ghost use Rattle.std.specs.Prelude.{◌<◌};
 
 /// What the next number follows from.
-#[derive(Debug, Drop)]
+#[derive(Drop)]
 pub struct Dice {
     state: u64,
 }

@@ -17,9 +17,9 @@ use bent::bent;
 use both::outcome_of;
 use counts::Counts;
 use dice::Dice;
-use example_table::{is_told, row_of};
+use example_table::row_of;
 use made::made_line;
-use rows::{difference, shown};
+use rows::is_fine;
 use std::alloc::{AllocError, Global};
 use std::process::ExitCode;
 use std::{fs, io};
@@ -39,15 +39,38 @@ fn main(rt: HostRuntime) -> io::Result<ExitCode> {
 /// Whether each row of the table is fine.
 fn are_rows_fine<R: Print + Eprint>(rt: &R, alloc: Global, table: &str) -> io::Result<bool> {
     for line in table.lines() {
-        let Some((word, text)) = row_of(line) else {
-            continue;
-        };
-        let name = format!(in alloc; "lines.txt {word} {text}")?;
-        if !is_told(rt, &name, difference(alloc, text)?)? {
-            return Ok(false);
+        if let Some((word, text)) = row_of(line) {
+            if !is_row_fine(rt, alloc, word, text)? {
+                return Ok(false);
+            }
         }
     }
     Ok(true)
+}
+
+/// Whether a row of the table is fine. Its name is printed, or what is found is told.
+fn is_row_fine<R: Print + Eprint>(
+    rt: &R,
+    alloc: Global,
+    word: &str,
+    text: &str,
+) -> io::Result<bool> {
+    let mut found = Vec::new(alloc);
+    let fine = is_fine(alloc, &mut found, text)?;
+    if fine {
+        println!(rt; "lines.txt {word} {text}")?;
+    } else {
+        tell(rt, text, &found)?;
+    }
+    Ok(fine)
+}
+
+/// Tells bytes on standard error, as a text, or as numbers where they are none.
+fn tell<R: Eprint>(rt: &R, subject: &str, bytes: &[u8]) -> io::Result<()> {
+    match std::str::from_utf8(bytes) {
+        Ok(text) => eprintln!(rt; "{subject}: {text}"),
+        Err(_) => eprintln!(rt; "{subject}: {bytes:?}"),
+    }
 }
 
 /// Whether both readers agree on all lines that are made.
@@ -55,16 +78,33 @@ fn are_made_lines_fine<R: Print + Eprint>(rt: &R, alloc: Global) -> io::Result<b
     let mut dice = Dice::new(SEED);
     let mut counts = Counts::new();
     for _ in 0..LINES {
-        let times = dice.below(4);
-        let line = line_bent(alloc, &mut dice, times)?;
-        let Some(outcome) = outcome_of(alloc, &line) else {
-            eprintln!(rt; "the readers differ: {}", shown(alloc, &line)?)?;
+        if !is_next_line_fine(rt, alloc, &mut dice, &mut counts)? {
             return Ok(false);
-        };
-        counts.add(times == 0, outcome);
+        }
     }
     println!(rt; "{}", counts.told(alloc)?)?;
     Ok(true)
+}
+
+/// Whether both readers agree on the next line that is made, and counts it.
+fn is_next_line_fine<R: Eprint>(
+    rt: &R,
+    alloc: Global,
+    dice: &mut Dice,
+    counts: &mut Counts,
+) -> io::Result<bool> {
+    let times = dice.below(4);
+    let line = line_bent(alloc, dice, times)?;
+    match outcome_of(alloc, &line) {
+        Some(outcome) => {
+            counts.add(times == 0, outcome);
+            Ok(true)
+        }
+        None => {
+            tell(rt, "the readers differ", &line)?;
+            Ok(false)
+        }
+    }
 }
 
 /// A line that is bent so many times.
