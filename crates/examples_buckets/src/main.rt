@@ -68,9 +68,7 @@ fn step<'t, R: Print + Eprint + AllocGlobal>(
         if !example.name.is_empty() && !is_told(rt, example.name, None)? {
             return Ok(false);
         }
-        let (name, from) = row_of(text).unwrap_or((text, ""));
-        example.name = name;
-        example.disk = empty(rt.alloc(), number_of(from).unwrap_or(0));
+        begin(rt.alloc(), example, text);
         return Ok(true);
     }
     let (deeds, wanted) = sides_of(text).unwrap_or((text, "ok"));
@@ -229,6 +227,13 @@ fn home_pages(bytes: &[u8]) -> Option<u64> {
         pages = (pages << 8) | u64::from(byte);
     }
     Some(pages)
+}
+
+/// Begins an example with an empty disk: behind its name stands the number from which on each call fails.
+fn begin<'t>(alloc: Global, example: &mut Example<'t>, text: &'t str) {
+    let (name, from) = row_of(text).unwrap_or((text, ""));
+    example.name = name;
+    example.disk = empty(alloc, number_of(from).unwrap_or(0));
 }
 
 /// A disk without bytes, on which each call from this one on fails, where it is not 0.
