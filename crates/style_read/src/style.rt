@@ -17,7 +17,7 @@ pub const MAX_TABLES: usize = 256;
 pub const MAX_COLUMNS: usize = 256;
 
 /// What has to hold of an object.
-#[derive(Debug, Drop)]
+#[derive(Drop)]
 pub enum Condition {
     /// It has a tag with this key.
     Has(Text),
@@ -35,7 +35,7 @@ pub enum Condition {
 pub type Conditions = Items<Condition>;
 
 /// Which relations hand a value to their members.
-#[derive(Debug, Drop)]
+#[derive(Drop)]
 pub struct Selection {
     pub name: Text,
     /// All of them hold of a relation that meets the selection; each is on tags.
@@ -67,7 +67,7 @@ pub enum Mode {
 }
 
 /// From what the cells of a column are made.
-#[derive(Debug, Drop)]
+#[derive(Drop)]
 pub enum Origin {
     /// The value of the tag with this key.
     Tag(Text),
@@ -78,7 +78,7 @@ pub enum Origin {
 }
 
 /// A column of a table.
-#[derive(Debug, Drop)]
+#[derive(Drop)]
 pub struct Column {
     pub name: Text,
     pub origin: Origin,
@@ -90,7 +90,7 @@ pub struct Column {
 pub type Columns = Items<Column>;
 
 /// A table.
-#[derive(Debug, Drop)]
+#[derive(Drop)]
 pub struct TableDef {
     pub name: Text,
     pub source: Source,
@@ -106,7 +106,7 @@ pub struct TableDef {
 pub type TableDefs = Items<TableDef>;
 
 /// A style. Each number of a selection in it names one of its selections.
-#[derive(Debug, Drop)]
+#[derive(Drop)]
 pub struct Style {
     pub selections: Selections,
     pub tables: TableDefs,

@@ -6,6 +6,7 @@ ghost use Rattle.std.specs.String.{string_bytes};
 ghost use Rattle.toml.specs.View.{view};
 ghost use Rattle.style_read.specs.Document.{has_other_key};
 ghost use Rattle.style_read.specs.Words as spec;
+ghost use Rattle.style_read.specs.declared.words.Level.TheVariants as levels;
 
 use crate::style::{Mode, Source};
 use toml::{Table, Value};
@@ -27,17 +28,23 @@ fn is_key_of(level: Level, key: &str) -> bool
     match level {
         Level::Top => key == "select" || key == "table",
         Level::Selection => key == "name" || key == "where" || key == "take",
-        Level::Table => {
-            key == "name"
-                || key == "source"
-                || key == "geometry"
-                || key == "where"
-                || key == "any"
-                || key == "expire"
-                || key == "column"
-        }
+        Level::Table => is_key_of_table(key),
         Level::Column => key == "name" || key == "from" || key == "type",
     }
+}
+
+/// Whether a key has a meaning in a table of the map.
+#[tactic(auto, unfolding(crate::specs::Words::is_key_of))]
+fn is_key_of_table(key: &str) -> bool
+    ensures key { result ≡ spec.is_key_of levels.Table key.now }
+{
+    key == "name"
+        || key == "source"
+        || key == "geometry"
+        || key == "where"
+        || key == "any"
+        || key == "expire"
+        || key == "column"
 }
 
 /// Whether a table has a key with no meaning at this level. What is no table has none.
