@@ -1,7 +1,8 @@
 //! The words of a style, and the keys that may stand in each of its tables.
-ghost use Rattle.std.specs.Prelude.{◌≡◌, not, option_map, is_some};
+ghost use Rattle.std.specs.Prelude.{◌≡◌, ◌||◌, not, option_map, is_some, codes};
 ghost use Rattle.std.specs.BTreeMap.{keys};
 ghost use Rattle.std.specs.List.{list_any};
+ghost use Rattle.std.specs.Str.{bytes_eq};
 ghost use Rattle.std.specs.String.{string_bytes};
 ghost use Rattle.toml.specs.View.{view};
 ghost use Rattle.style_read.specs.Document.{has_other_key};
@@ -38,13 +39,15 @@ fn is_key_of(level: Level, key: &str) -> bool
 fn is_key_of_table(key: &str) -> bool
     ensures key { result ≡ spec.is_key_of levels.Table key.now }
 {
-    key == "name"
-        || key == "source"
-        || key == "geometry"
-        || key == "where"
-        || key == "any"
-        || key == "expire"
-        || key == "column"
+    key == "name" || key == "source" || key == "geometry" || is_free_key(key)
+}
+
+/// Whether a table of the map may have this key, and may be without it.
+fn is_free_key(key: &str) -> bool
+    ensures key { result ≡ (bytes_eq key.now (codes "where") || (bytes_eq key.now (codes "any")
+        || (bytes_eq key.now (codes "expire") || bytes_eq key.now (codes "column")))) }
+{
+    key == "where" || key == "any" || key == "expire" || key == "column"
 }
 
 /// Whether a table has a key with no meaning at this level. What is no table has none.
