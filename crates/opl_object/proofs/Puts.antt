@@ -1,16 +1,19 @@
 -- Bytes put one after the other, and lists put item by item.
-use Rattle.std.proofs.Common.{◌≡◌, ℕ, zero, suc, ◌+◌, eqb, false, Option, Some, None, Result, Ok, Err, List, [], ◌∷◌, ◌++◌, length, take, drop, refl, sym, ◌∙◌, ap, subst, append_assoc, add-one, arith}
+use Rattle.std.proofs.Common.{◌≡◌, ℕ, zero, suc, ◌+◌, ◌≤◌, eqb, false, Option, Some, None, Result, Ok, Err, List, [], ◌∷◌, ◌++◌, length, take, drop, refl, sym, ◌∙◌, ap, subst, append_assoc, add-one, arith}
 use Rattle.std.specs.Prelude.{codes, flat_map}
 use Rattle.std.specs.List.{join_by, slice_get, AllByRecursion}
-use Rattle.std.specs.Result.{OnErr}
+use Rattle.std.specs.Result.{OnOk, OnErr}
 use Rattle.std.specs.Io.KnownBytes.{Appends}
 use Rattle.std.proofs.lemmas.List.{append-nil}
 use Rattle.std.proofs.lemmas.Bool.Decides.{nat_tests}
 use Rattle.outside.specs.Bytes.{AppendsPrefix}
+use Rattle.outside.specs.Causes.{HasCause}
 use Rattle.osm_base.specs.declared.values.object.Object.{Object}
 use Rattle.osm_base.specs.declared.values.object.Object.TheVariants.{Node, Way, Relation}
-use Rattle.opl_object.specs.Lists.{comma_before, tags_text, nodes_text, members_text}
-use Rattle.opl_object.specs.Written.{place_text, object_text}
+use Rattle.osm_base.specs.values.Tags.{TagMap}
+use Rattle.opl_object.specs.Escapes.{IsText}
+use Rattle.opl_object.specs.Lists.{comma_before, OfTags}
+use Rattle.opl_object.specs.Written.{place_text, object_text, tag_field, node_field, member_field, tags_in, own_text, IsSound, IsOwnSound}
 
 -- ---- one after the other
 
@@ -152,8 +155,54 @@ err-second result before mid now xs ys zs p q = err-first result before now (xs 
 pub err-third : {T E : Type 0} (result : Result T E) (before one two now : Option (List ℕ)) (xs ys zs : List ℕ) → Appends before one xs → Appends one two ys → AppendsPrefix two now zs → OnErr result (AppendsPrefix before now (xs ++ ys ++ zs))
 err-third result before one two now xs ys zs p q r = err-then result before two now (xs ++ ys) zs (Appends-then before one two xs ys p q) r
 
--- a fault before the fields of an object
-pub err-object : {T E : Type 0} (result : Result T E) (before now : Option (List ℕ)) (object : Object) → AppendsPrefix before now (codes " T") → OnErr result (AppendsPrefix before now (object_text object))
-err-object result before now (Node place tags) p = err-of-three result before now (codes " T") (tags_text tags) (place_text place) p
-err-object result before now (Way nodes tags) p = err-of-three result before now (codes " T") (tags_text tags) (codes " N" ++ nodes_text nodes) p
-err-object result before now (Relation members tags) p = err-of-three result before now (codes " T") (tags_text tags) (codes " M" ++ members_text members) p
+-- ---- what is put last says how it went
+
+pub ok-after : {T E : Type 0} (result : Result T E) (before mid now : Option (List ℕ)) (xs ys : List ℕ) → Appends before mid xs → OnOk result (Appends mid now ys) → OnOk result (Appends before now (xs ++ ys))
+ok-after (Ok x) before mid now xs ys p q = Appends-then before mid now xs ys p q
+ok-after (Err e) before mid now xs ys p q = tt
+
+pub err-after : {T E : Type 0} (result : Result T E) (before mid now : Option (List ℕ)) (xs ys : List ℕ) → Appends before mid xs → OnErr result (AppendsPrefix mid now ys) → OnErr result (AppendsPrefix before now (xs ++ ys))
+err-after (Ok x) before mid now xs ys p q = tt
+err-after (Err e) before mid now xs ys p q = AppendsPrefix-then before mid now xs ys p q
+
+pub cause-after : {T E : Type 0} (result : Result T E) (before mid now : ℕ) → before ≤ mid → HasCause mid now result → HasCause before now result
+cause-after (Ok x) before mid now first last = record { later = omega (arith, last.later); failed = tt }
+cause-after (Err e) before mid now first last = record { later = omega (arith, last.later); failed = omega (arith, last.failed) }
+
+-- ---- the tags of an object, and then its own fields
+
+object_err : {T E : Type 0} (result : Result T E) (before now : Option (List ℕ)) (object : Object) → AppendsPrefix before now (tag_field (tags_in object)) → OnErr result (AppendsPrefix before now (object_text object))
+unfolding tags_in
+object_err result before now (Node place tags) p = err-first result before now (tag_field tags) (place_text place) p
+object_err result before now (Way nodes tags) p = err-first result before now (tag_field tags) (node_field nodes) p
+object_err result before now (Relation members tags) p = err-first result before now (tag_field tags) (member_field members) p
+
+object_parts : (object : Object) → object_text object ≡ tag_field (tags_in object) ++ own_text object
+unfolding tags_in own_text
+object_parts (Node place tags) = refl
+object_parts (Way nodes tags) = refl
+object_parts (Relation members tags) = refl
+
+module _ {T E : Type 0} (result : Result T E) (object : Object) (tags : TagMap) (same : tags ≡ tags_in object) where
+  pub object-err_first : (before now : Option (List ℕ)) → AppendsPrefix before now (tag_field tags) → OnErr result (AppendsPrefix before now (object_text object))
+  object-err_first before now p = object_err result before now object (subst (λ tags. AppendsPrefix before now (tag_field tags)) same p)
+
+  module _ (before mid now : Option (List ℕ)) (front : Appends before mid (tag_field tags)) where
+    own : Appends before mid (tag_field (tags_in object))
+    own = subst (λ tags. Appends before mid (tag_field tags)) same front
+
+    pub object-ok : OnOk result (Appends mid now (own_text object)) → OnOk result (Appends before now (object_text object))
+    object-ok p = subst (λ text. OnOk result (Appends before now text)) (sym (object_parts object)) (ok-after result before mid now (tag_field (tags_in object)) (own_text object) own p)
+
+    pub object-err : OnErr result (AppendsPrefix mid now (own_text object)) → OnErr result (AppendsPrefix before now (object_text object))
+    object-err p = subst (λ text. OnErr result (AppendsPrefix before now text)) (sym (object_parts object)) (err-after result before mid now (tag_field (tags_in object)) (own_text object) own p)
+
+sound : (object : Object) → OfTags IsText (tags_in object) → IsOwnSound object → IsSound object
+unfolding tags_in IsOwnSound
+sound (Node place tags) p q = (q, p)
+sound (Way nodes tags) p q = p
+sound (Relation members tags) p q = (p, q)
+
+pub object-sound : {T E : Type 0} (result : Result T E) (object : Object) (tags : TagMap) → tags ≡ tags_in object → OfTags IsText tags → OnOk result (IsOwnSound object) → OnOk result (IsSound object)
+object-sound (Ok x) object tags same p q = sound object (subst (OfTags IsText) same p) q
+object-sound (Err e) object tags same p q = tt

@@ -7,11 +7,13 @@ use Rattle.std.specs.List.{AllByRecursion}
 use Rattle.osm_base.specs.declared.values.key.Kind.{Kind}
 use Rattle.osm_base.specs.declared.values.key.Kind.TheVariants as kinds
 use Rattle.osm_base.specs.declared.values.object.Entry.{Entry}
+use Rattle.osm_base.specs.declared.values.object.Member.{Member}
 use Rattle.osm_base.specs.declared.values.object.Object.{Object}
 use Rattle.osm_base.specs.declared.values.object.Object.TheVariants.{Node, Way, Relation}
 use Rattle.osm_base.specs.values.Degrees.{degrees}
 use Rattle.osm_base.specs.values.Key.{IsId}
 use Rattle.osm_base.specs.values.Place.{PlaceOf, IsOnEarth}
+use Rattle.osm_base.specs.values.Tags.{TagMap}
 use Rattle.opl_object.specs.Escapes.{IsText, IsWithoutZero}
 use Rattle.opl_object.specs.Lists.{key_text, tags_text, nodes_text, members_text, OfTags, IsMember}
 
@@ -25,6 +27,28 @@ abbrev pub object_text : Object → List ℕ
 object_text (Node place tags) = codes " T" ++ tags_text tags ++ place_text place
 object_text (Way nodes tags) = codes " T" ++ tags_text tags ++ (codes " N" ++ nodes_text nodes)
 object_text (Relation members tags) = codes " T" ++ tags_text tags ++ (codes " M" ++ members_text members)
+
+-- the field of the tags, of the nodes of a way and of the members of a relation
+abbrev pub tag_field : TagMap → List ℕ
+tag_field tags = codes " T" ++ tags_text tags
+
+abbrev pub node_field : List ℕ → List ℕ
+node_field nodes = codes " N" ++ nodes_text nodes
+
+abbrev pub member_field : List Member → List ℕ
+member_field members = codes " M" ++ members_text members
+
+-- the tags of an object
+unfoldable pub tags_in : Object → TagMap
+tags_in (Node place tags) = tags
+tags_in (Way nodes tags) = tags
+tags_in (Relation members tags) = tags
+
+-- the fields behind the tags, which only objects of this kind have
+unfoldable pub own_text : Object → List ℕ
+own_text (Node place tags) = place_text place
+own_text (Way nodes tags) = node_field nodes
+own_text (Relation members tags) = member_field members
 
 -- or of one that is deleted
 abbrev pub fields_text : Option Object → List ℕ
@@ -68,3 +92,9 @@ abbrev pub IsSound : Object → Type 0
 IsSound (Node place tags) = IfSome place (λ place. IsOnEarth place.lon place.lat) × OfTags IsText tags
 IsSound (Way nodes tags) = OfTags IsText tags
 IsSound (Relation members tags) = OfTags IsText tags × AllByRecursion IsMember members
+
+-- the same without its tags
+unfoldable pub IsOwnSound : Object → Type 0
+IsOwnSound (Node place tags) = IfSome place (λ place. IsOnEarth place.lon place.lat)
+IsOwnSound (Way nodes tags) = Unit {0}
+IsOwnSound (Relation members tags) = AllByRecursion IsMember members

@@ -9,7 +9,7 @@ use crate::fields::{after_first, first_byte};
 use osm_base::Kind;
 
 /// What a field tells, which its first character says.
-#[derive(Clone, Copy, Debug)]
+#[derive(Clone, Copy)]
 pub enum Letter {
     Version,
     Visible,
@@ -81,7 +81,7 @@ pub(crate) fn letter_at(kind: Kind, field: &str) -> Option<(Letter, &str)>
 }
 
 /// The letters that stood in a line.
-#[derive(Debug, Drop)]
+#[derive(Drop)]
 pub struct Seen {
     flags: [bool; 128],
 }

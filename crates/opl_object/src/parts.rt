@@ -24,7 +24,7 @@ use osm_base::{Ids, Kind, Members, Tags};
 use std::alloc::Global;
 
 /// What the fields of a line say.
-#[derive(Debug, Drop)]
+#[derive(Drop)]
 pub struct Parts {
     pub deleted: bool,
     pub lon: Option<i32>,

@@ -5,37 +5,25 @@ ghost use Rattle.opl_object.specs.Why.{number_of};
 
 use osm_base::{Key, OutOfMemory};
 use std::alloc::{AllocError, AllocFailed};
+use std::{error, fmt};
 use thiserror::Error;
 
 /// The cause that comes first in a line, from its left to its right.
-#[derive(Clone, Copy, Debug, PartialEq, Eq, Error)]
+#[derive(Clone, Copy, Debug, PartialEq, Eq)]
 pub enum Why {
-    #[error("the line is not UTF-8")]
     Utf8,
-    #[error("the line begins with no kind of object")]
     Kind,
-    #[error("an id is no number from 1 to 9223372036854775807")]
     Id,
-    #[error("a field is none of this kind of object")]
     Field,
-    #[error("a field stands twice")]
     Repeated,
-    #[error("a number or a time is not in its form")]
     Number,
-    #[error("a coordinate is out of its range")]
     Range,
-    #[error("a text has an escape or a character that it may not have")]
     Escape,
-    #[error("a tag has no equals sign")]
     Tag,
-    #[error("a key of a tag stands twice")]
     RepeatedKey,
-    #[error("an item of a list is not in its form")]
     Member,
-    #[error("a place has only one of its coordinates")]
     HalfPlace,
     /// The line before has a key that is not below this line's.
-    #[error("the key is not above the one before")]
     Order { earlier: Key, later: Key },
 }
 
@@ -60,10 +48,37 @@ impl Why {
             Why::Order { .. } => 13,
         }
     }
+
+    /// What is wrong, in words.
+    fn text(&self) -> &'static str {
+        match self {
+            Why::Utf8 => "the line is not UTF-8",
+            Why::Kind => "the line begins with no kind of object",
+            Why::Id => "an id is no number from 1 to 9223372036854775807",
+            Why::Field => "a field is none of this kind of object",
+            Why::Repeated => "a field stands twice",
+            Why::Number => "a number or a time is not in its form",
+            Why::Range => "a coordinate is out of its range",
+            Why::Escape => "a text has an escape or a character that it may not have",
+            Why::Tag => "a tag has no equals sign",
+            Why::RepeatedKey => "a key of a tag stands twice",
+            Why::Member => "an item of a list is not in its form",
+            Why::HalfPlace => "a place has only one of its coordinates",
+            Why::Order { .. } => "the key is not above the one before",
+        }
+    }
 }
 
+impl fmt::Display for Why {
+    fn fmt<W: fmt::Write>(&self, f: &mut fmt::Formatter<W>) -> fmt::Result {
+        f.write_str(self.text())
+    }
+}
+
+impl error::Error for Why {}
+
 /// Why `read_line` gave nothing.
-#[derive(Clone, Copy, Debug, PartialEq, Eq, Error)]
+#[derive(Clone, Copy, Debug, Error)]
 pub enum LineRefused {
     #[error("{0}")]
     Bad(Why),

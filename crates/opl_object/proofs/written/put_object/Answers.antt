@@ -1,18 +1,22 @@
-use Rattle.std.proofs.Common.{◌++◌}
-use Rattle.std.specs.Prelude.{codes}
-use Rattle.opl_object.specs.Lists.{tags_text, nodes_text, members_text}
-use Rattle.opl_object.proofs.Puts.{AppendsPrefix-more, err-third, err-object}
+use Rattle.opl_object.proofs.Puts.{cause-after, object-err_first, object-ok, object-err, object-sound}
 use Rattle.opl_object.proofs.written.put_object.Goals as goal
 
-pub returns-in_err-put_all-clause-err : goal.returns-in_err-put_all-clause-err
-returns-in_err-put_all-clause-err g c = err-object c.from_residual.result _ _ c.args.object.now c.in_err-put_all.ensures.err
+pub returns-in_err-put_tag_field-clause-err : goal.returns-in_err-put_tag_field-clause-err
+returns-in_err-put_tag_field-clause-err g c =
+    object-err_first c.from_residual.result c.args.object.now c.tags_in.result.now c.tags_in.ensures.tags _ _ c.in_err-put_tag_field.ensures.err
 
-pub returns-in_err-put_all-in-Way-clause-err : goal.returns-in_err-put_all-in-Way-clause-err
-returns-in_err-put_all-in-Way-clause-err g c =
-    rw c.in-Way.is (err-third c.from_residual-in_err-put_all-in-Way.result _ _ _ _ (codes " T") (tags_text c.in-Way.tags) (codes " N" ++ nodes_text c.in-Way.nodes)
-    c.in_ok-put_all.ensures.ok c.in_ok-put_tags-in-Way.ensures.ok (AppendsPrefix-more _ _ (codes " N") (nodes_text c.in-Way.nodes) c.in_err-put_all-in-Way.ensures.err))
+pub returns-clause-ok : goal.returns-clause-ok
+returns-clause-ok g c =
+    object-ok c.put_own.result c.args.object.now c.tags_in.result.now c.tags_in.ensures.tags _ _ _ c.in_ok-put_tag_field.ensures.ok c.put_own.ensures.ok
 
-pub returns-in_err-put_all-in-Relation-clause-err : goal.returns-in_err-put_all-in-Relation-clause-err
-returns-in_err-put_all-in-Relation-clause-err g c =
-    rw c.in-Relation.is (err-third c.from_residual-in_err-put_all-in-Relation.result _ _ _ _ (codes " T") (tags_text c.in-Relation.tags) (codes " M" ++ members_text c.in-Relation.members)
-    c.in_ok-put_all.ensures.ok c.in_ok-put_tags-in-Relation.ensures.ok (AppendsPrefix-more _ _ (codes " M") (members_text c.in-Relation.members) c.in_err-put_all-in-Relation.ensures.err))
+pub returns-clause-err : goal.returns-clause-err
+returns-clause-err g c =
+    object-err c.put_own.result c.args.object.now c.tags_in.result.now c.tags_in.ensures.tags _ _ _ c.in_ok-put_tag_field.ensures.ok c.put_own.ensures.err
+
+pub returns-clause-cause : goal.returns-clause-cause
+returns-clause-cause g c =
+    cause-after c.put_own.result _ _ _ c.in_ok-put_tag_field.ensures.cause.later c.put_own.ensures.cause
+
+pub returns-clause-sound : goal.returns-clause-sound
+returns-clause-sound g c =
+    object-sound c.put_own.result c.args.object.now c.tags_in.result.now c.tags_in.ensures.tags c.in_ok-put_tag_field.ensures.texts c.put_own.ensures.sound
