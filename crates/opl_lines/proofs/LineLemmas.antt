@@ -1,10 +1,11 @@
 -- The lines of bytes that are put together, and the manual's rules on examples.
-use Rattle.std.proofs.Common.{◌≡◌, ◌≢◌, ℕ, ◌<◌, true, false, List, [], ◌∷◌, ◌++◌, ◌==◌, cond, length, refl, ap, arith}
+use Rattle.std.proofs.Common.{◌≡◌, ◌≢◌, ℕ, zero, suc, ◌+◌, ◌<◌, true, false, List, [], ◌∷◌, ◌++◌, ◌==◌, cond, length, take, drop, refl, sym, ◌∙◌, ap, arith}
 use Rattle.std.proofs.lemmas.Bool.{ne_eqb}
-use Rattle.std.proofs.lemmas.List.Elements.{All-head, All-tail}
-use Rattle.std.specs.List.{onto_first}
+use Rattle.std.proofs.lemmas.List.Elements.{All-nil, All-cons, All-head, All-tail}
+use Rattle.std.specs.List.{onto_first, slice_index}
 use Rattle.opl_lines.specs.declared.reader.TheConstants.{NEWLINE}
 use Rattle.opl_lines.specs.Lines.{lines_of, first_of, first_line, IsWithinLine}
+use Rattle.opl_lines.specs.Steps.{IsFront}
 
 module _ (byte : ℕ) (bytes : List ℕ) (h : IsWithinLine (byte ∷ bytes)) where
   head_is_other : (byte == NEWLINE) ≡ false
@@ -64,3 +65,15 @@ lines_of-some (byte ∷ bytes) some =
       | true ↦ omega arith
       | false ↦ some_lines byte (lines_of bytes)
     ]
+
+-- what stands before the first newline of a piece
+pub front_ended : (piece : List ℕ) (end : ℕ) → ((k : ℕ) → k < end → slice_index piece k ≢ NEWLINE) → end < length piece → slice_index piece end ≡ NEWLINE → IsFront piece (take end piece) true
+front_ended [] end before high here = absurd (omega arith)
+front_ended (byte ∷ piece) zero before high here = record { within_line = All-nil (λ b. b ≢ NEWLINE); parts = ap (λ b. b ∷ piece) here }
+front_ended (byte ∷ piece) (suc end) before high here =
+    let later = front_ended piece end (λ k lt. before (suc k) (omega (arith, lt))) (omega (arith, high)) here in
+    let place : suc (length (take end piece)) + 1 ≡ suc (length (take end piece) + 1) = omega arith in
+    record {
+      within_line = All-cons (λ b. b ≢ NEWLINE) byte (take end piece) (before 0 (omega arith)) later.within_line;
+      parts = ap (λ bytes. byte ∷ bytes) later.parts ∙ ap (λ n. byte ∷ (take end piece ++ NEWLINE ∷ drop n (byte ∷ piece))) (sym place);
+    }

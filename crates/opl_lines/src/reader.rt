@@ -22,7 +22,7 @@ pub fn shared_numbers()
 {}
 
 /// What `take` did with a piece.
-#[derive(Clone, Copy, Debug, PartialEq, Eq)]
+#[derive(Clone, Copy)]
 pub struct Taken {
     /// How many bytes of the piece were taken.
     pub used: usize,
@@ -31,7 +31,7 @@ pub struct Taken {
 }
 
 /// What `take_line` did with a piece.
-#[derive(Clone, Copy, Debug)]
+#[derive(Clone, Copy)]
 pub struct Cut<'p> {
     /// How many bytes of the piece were taken.
     pub used: usize,
@@ -40,7 +40,7 @@ pub struct Cut<'p> {
 }
 
 /// Where a line lies that ended.
-#[derive(Clone, Copy, Debug)]
+#[derive(Clone, Copy)]
 pub enum Line<'p> {
     /// In the piece: nothing was copied, and the reader's `line` is not it.
     InPiece(&'p [u8]),
@@ -51,7 +51,7 @@ pub enum Line<'p> {
 }
 
 /// Cuts a file into lines, in whatever pieces its bytes come.
-#[derive(Debug, Drop)]
+#[derive(Drop)]
 pub struct LineReader {
     line: Vec<u8>,
     whole: bool,

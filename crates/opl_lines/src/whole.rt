@@ -1,5 +1,5 @@
 //! All the lines of a file, in whatever pieces its bytes come.
-ghost use Rattle.std.specs.Prelude.{◌≡◌, ◌≢◌, ℕ, List, ◌++◌, None, Some, map, flat_map, IfOk, IfErr, OnOk};
+ghost use Rattle.std.specs.Prelude.{◌≡◌, ◌≢◌, ℕ, List, [], ◌++◌, None, Some, map, flat_map, IfOk, IfErr, OnOk};
 ghost use Rattle.opl_lines.specs.Lines.{lines_of};
 ghost use Rattle.opl_lines.specs.Reading.{begun};
 ghost use Rattle.opl_lines.specs.Whole.{texts, limit_passed, limit_left, GoesOn};
@@ -16,15 +16,33 @@ pub fn lines_in(alloc: Global, limits: &Limits, pieces: &[&[u8]]) -> Result<Vec<
     ensures passed { IfErr result (λ fault. fault ≢ LineFault.OutOfMemory
         → limit_passed limits.now.line_bytes limits.now.lines (lines_of (flat_map (λ piece. piece.now) pieces.now)) ≡ Some fault) }
 {
-    let mut reader = LineReader::new(alloc, limits);
     let mut lines = Vec::new(alloc);
+    take_pieces(alloc, limits, &mut lines, pieces)?;
+    Ok(lines)
+}
+
+/// Adds the lines of the pieces.
+fn take_pieces(
+    alloc: Global,
+    limits: &Limits,
+    lines: &mut Vec<Vec<u8>>,
+    pieces: &[&[u8]],
+) -> Result<(), LineFault>
+    requires { lines.old.items ≡ [] }
+    ensures lines { OnOk result (texts lines.new.items ≡ lines_of (flat_map (λ piece. piece.now) pieces.now)) }
+    ensures within { OnOk result (limit_passed limits.now.line_bytes limits.now.lines
+        (lines_of (flat_map (λ piece. piece.now) pieces.now)) ≡ None) }
+    ensures passed { IfErr result (λ fault. fault ≢ LineFault.OutOfMemory
+        → limit_passed limits.now.line_bytes limits.now.lines (lines_of (flat_map (λ piece. piece.now) pieces.now)) ≡ Some fault) }
+{
+    let mut reader = LineReader::new(alloc, limits);
     for piece in pieces {
-        take_piece(alloc, &mut reader, &mut lines, piece)?;
+        take_piece(alloc, &mut reader, lines, piece)?;
     }
     if reader.finish() {
         lines.push(Vec::from_slice(alloc, reader.line())?)?;
     }
-    Ok(lines)
+    Ok(())
 }
 
 /// Takes a piece, and adds each line that ends in it.

@@ -2,7 +2,7 @@ use Rattle.std.proofs.Common.{ℕ, List, Bor, flat_map, sym, ◌∙◌, ap, arit
 use Rattle.std.proofs.lemmas.List.{drop_all}
 use Rattle.opl_lines.specs.Whole.{limit_left}
 use Rattle.opl_lines.proofs.Walk.{limit_left-end}
-use Rattle.opl_lines.proofs.whole.lines_in.Goals as goal
+use Rattle.opl_lines.proofs.whole.take_pieces.Goals as goal
 
 pub returns-clause-within : goal.returns-clause-within
 returns-clause-within c =

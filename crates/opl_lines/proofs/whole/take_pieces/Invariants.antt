@@ -3,7 +3,7 @@ use Rattle.std.proofs.Common.{◌≡◌, None, ◌++◌, drop, flat_map}
 use Rattle.opl_lines.specs.Lines.{lines_of}
 use Rattle.opl_lines.specs.Reading.{begun}
 use Rattle.opl_lines.specs.Whole.{texts, limit_passed, limit_left}
-use Rattle.opl_lines.proofs.whole.lines_in.Given as goal
+use Rattle.opl_lines.proofs.whole.take_pieces.Given as goal
 
 abbrev pub invariant-loop-piece : goal.invariant-loop-piece
 invariant-loop-piece l =
