@@ -5,7 +5,7 @@ ghost use Rattle.value_bytes.specs.Forms.{IsAtFront, IsFront, IsFrontless, Needs
 ghost use Rattle.value_bytes.specs.Lists.{list_bytes, IsList};
 ghost use Rattle.value_bytes.specs.Numbers.{number_bytes, IsNumber};
 
-use crate::numbers::{front_number, push_number};
+use crate::numbers::{at_most, front_number, push_number};
 use crate::{Spelled, ValueFault};
 use osm_base::{Ids, Items, OutOfMemory};
 use std::alloc::Global;
@@ -19,7 +19,8 @@ pub fn front_many<'b, T: Spelled>(
     ensures values { IfOk result (λ (values, rest). IsFront (all_bytes T.spell) (AreMany count T.is) bytes.now values rest.now) }
     ensures refused { IfErr result (NeedsFor (IsFrontless (all_bytes T.spell) (AreMany count T.is) bytes.now)) }
 {
-    let mut values = Vec::with_capacity(alloc, room(count, bytes))?;
+    // Each value has eight bytes at least.
+    let mut values = Vec::with_capacity(alloc, at_most(count, bytes.len() / 8))?;
     let mut rest = bytes;
     for _ in 0..count {
         let (value, behind) = match T::front(alloc, rest) {
@@ -41,11 +42,6 @@ pub fn push_many<T: Spelled>(out: &mut Vec<u8>, values: &[T]) -> Result<(), OutO
         value.push_to(out)?;
     }
     Ok(())
-}
-
-/// For how many of so many values these bytes may suffice, if each has eight.
-fn room(count: u64, bytes: &[u8]) -> usize {
-    count.min(bytes.len() as u64 / 8) as usize
 }
 
 impl<T: Spelled> Spelled for Items<T> {

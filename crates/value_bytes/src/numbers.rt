@@ -1,5 +1,5 @@
 //! Numbers in bytes, the lowest byte first.
-ghost use Rattle.std.specs.Prelude.{◌≡◌, [], ◌∷◌, ◌++◌, length, OnOk, IfSome, IsNone};
+ghost use Rattle.std.specs.Prelude.{◌≡◌, ◌≤◌, [], ◌∷◌, ◌++◌, length, OnOk, IfSome, IsNone};
 ghost use Rattle.value_bytes.specs.Forms.{IsFront, IsFrontless};
 ghost use Rattle.value_bytes.specs.Numbers.{number_bytes, IsNumber, int_bytes, IsInt};
 
@@ -75,6 +75,17 @@ pub(crate) fn front_byte(bytes: &[u8]) -> Option<(u8, &[u8])>
     match bytes.split_first() {
         Some((byte, rest)) => Some((*byte, rest)),
         None => None,
+    }
+}
+
+/// A number, where it is no more than this length, and otherwise the length.
+pub(crate) fn at_most(number: u64, most: usize) -> usize
+    ensures most { result ≤ most }
+{
+    if number < most as u64 {
+        number as usize
+    } else {
+        most
     }
 }
 

@@ -3,6 +3,7 @@ ghost use Rattle.std.specs.Prelude.{◌≡◌, ◌++◌, OnOk, IfOk, IfErr};
 ghost use Rattle.value_bytes.specs.Options.{option_bytes, IsOption};
 
 use crate::numbers::front_byte;
+use crate::spelled::push_form;
 use crate::{Spelled, ValueFault};
 use osm_base::OutOfMemory;
 use std::alloc::Global;
@@ -33,8 +34,7 @@ impl<T: Spelled> Spelled for Option<T> {
                 Ok(())
             }
             Some(value) => {
-                out.push(1)?;
-                value.push_to(out)?;
+                push_form(out, 1, value)?;
                 Ok(())
             }
         }

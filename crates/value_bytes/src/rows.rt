@@ -2,6 +2,7 @@
 ghost use Rattle.value_bytes.specs.Rows.{cell_bytes, IsCell, geometry_bytes, IsGeometry};
 
 use crate::numbers::{front_byte, front_int, push_int};
+use crate::spelled::push_form;
 use crate::texts::{front_text, push_text};
 use crate::{Spelled, ValueFault};
 use osm_base::{Cell, Geometry, LineList, OutOfMemory, Place, Places, Polygons, Text};
@@ -82,26 +83,10 @@ impl Spelled for Geometry {
 
     fn push_to(&self, out: &mut Vec<u8>) -> Result<(), OutOfMemory> {
         match self {
-            Geometry::Point(place) => {
-                out.push(1)?;
-                place.push_to(out)?;
-                Ok(())
-            }
-            Geometry::Line(places) => {
-                out.push(2)?;
-                places.push_to(out)?;
-                Ok(())
-            }
-            Geometry::Lines(lines) => {
-                out.push(3)?;
-                lines.push_to(out)?;
-                Ok(())
-            }
-            Geometry::Area(polygons) => {
-                out.push(4)?;
-                polygons.push_to(out)?;
-                Ok(())
-            }
+            Geometry::Point(place) => push_form(out, 1, place),
+            Geometry::Line(places) => push_form(out, 2, places),
+            Geometry::Lines(lines) => push_form(out, 3, lines),
+            Geometry::Area(polygons) => push_form(out, 4, polygons),
         }
     }
 }

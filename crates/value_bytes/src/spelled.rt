@@ -1,5 +1,5 @@
 //! Values that have a spelling in bytes.
-ghost use Rattle.std.specs.Prelude.{◌≡◌, ◌++◌, ℕ, List, OnOk, IfOk, IfErr};
+ghost use Rattle.std.specs.Prelude.{◌≡◌, [], ◌∷◌, ◌++◌, ℕ, List, OnOk, IfOk, IfErr};
 ghost use Rattle.value_bytes.specs.Forms.{IsFront, IsFrontless, NeedsFor};
 
 use crate::ValueFault;
@@ -23,4 +23,18 @@ pub trait Spelled: Sized + Drop {
     fn push_to(&self, out: &mut Vec<u8>) -> Result<(), OutOfMemory>
         ensures ok { OnOk result (out.new.items ≡ out.old.items ++ spell self.now) }
         ensures is { OnOk result (is self.now) };
+}
+
+/// Puts the byte of a form, and the bytes of the value in it, behind those that are there.
+pub(crate) fn push_form<T: Spelled>(
+    out: &mut Vec<u8>,
+    form: u8,
+    value: &T,
+) -> Result<(), OutOfMemory>
+    ensures ok { OnOk result (out.new.items ≡ (out.old.items ++ form ∷ []) ++ T.spell value.now) }
+    ensures is { OnOk result (T.is value.now) }
+{
+    out.push(form)?;
+    value.push_to(out)?;
+    Ok(())
 }

@@ -6,7 +6,7 @@ ghost use Rattle.std.specs.FinMap as map;
 ghost use Rattle.value_bytes.specs.Forms.{IsFront, IsFrontless, NeedsFor, all_bytes, AreMany};
 ghost use Rattle.value_bytes.specs.Tags.{tag_bytes, IsTag, tags_bytes, AreTags};
 
-use crate::numbers::{front_number, push_number};
+use crate::numbers::{at_most, front_number, push_number};
 use crate::texts::{front_text, push_text};
 use crate::{Spelled, ValueFault};
 use osm_base::{OutOfMemory, TagList, Tags};
@@ -62,8 +62,10 @@ fn front_list(alloc: Global, count: u64, bytes: &[u8]) -> Result<(TagList, &[u8]
 fn with_room(alloc: Global, count: u64, bytes: &[u8]) -> Result<TagList, OutOfMemory>
     ensures empty { IfOk result (λ tags. tags ≡ []) }
 {
-    let tags = count.min(bytes.len() as u64 / 16) as usize;
-    TagList::with_room(alloc, tags, bytes.len() - 16 * tags)
+    let tags = at_most(count, bytes.len() / 16);
+    let of_lengths = 16 * tags;
+    let of_texts = bytes.len() - of_lengths;
+    TagList::with_room(alloc, tags, of_texts)
 }
 
 /// Puts each tag behind the bytes that are there.
