@@ -33,6 +33,15 @@ fn next_place(place: usize, depth: usize, rings: usize) -> usize
     if depth % 2 == 0 { place + 1 } else { place }
 }
 
+/// The polygon of an outer ring, without inner ones.
+fn polygon_of(alloc: Global, ring: &Places) -> Result<LineList, OutOfMemory>
+    ensures { IfOk result (λ polygon. polygon ≡ ring.now ∷ []) }
+{
+    let mut polygon = LineList::new(alloc);
+    polygon.push(ring.copy(alloc)?)?;
+    Ok(polygon)
+}
+
 /// Adds the polygon of an outer ring.
 fn add_outer(
     alloc: Global,
@@ -43,8 +52,7 @@ fn add_outer(
     ensures { OnOk result (polygons.new.items ≡ (if depth % 2 == 0 then polygons.old.items ++ (ring.now ∷ []) ∷ [] else polygons.old.items)) }
 {
     if depth % 2 == 0 {
-        let mut polygon = LineList::new(alloc);
-        polygon.push(ring.copy(alloc)?)?;
+        let polygon = polygon_of(alloc, ring)?;
         polygons.push(polygon)?;
         Ok(())
     } else {

@@ -62,10 +62,13 @@ fn leaf_of(alloc: Global, boxes: &[GeoBox], numbers: Vec<usize>) -> Result<Leaf,
 
 /// The west or the south side of the box with a number.
 fn side_of(boxes: &[GeoBox], number: usize, is_west: bool) -> i32 {
-    match boxes.get(number) {
-        None => 0,
-        Some(around) => { if is_west { around.west } else { around.south } }
+    let Some(around) = boxes.get(number) else {
+        return 0;
+    };
+    if is_west {
+        return around.west;
     }
+    around.south
 }
 
 /// Whether the west sides of the boxes with these numbers lie farther apart than their south sides.
