@@ -1,7 +1,11 @@
-use Rattle.std.proofs.Common.{◌≡◌, ◌≤◌, length, take}
+use Rattle.std.proofs.Common.{◌≡◌, ◌≤◌, arith, length, take}
+use Rattle.std.proofs.lemmas.Grind.{common_steps}
 use Rattle.std.proofs.lemmas.List.{take_all}
 use Rattle.ring_nest.proofs.Walked.{leaf_covers}
 use Rattle.ring_nest.proofs.tree.leaf_of.Goals as goal
+
+pub loop-number-preserved : goal.loop-number-preserved
+loop-number-preserved c = grind (arith, common_steps)
 
 pub returns-clause-is_leaf : goal.returns-clause-is_leaf
 returns-clause-is_leaf c =
