@@ -1,4 +1,5 @@
 pub mod Bytes
+pub mod Causes
 pub mod Entries
 pub mod Finishing
 pub mod Fresh
@@ -13,6 +14,7 @@ pub mod ReadCounts
 pub mod Runs
 pub mod Sets
 pub mod Settable
+pub mod Shut
 pub mod Standing
 pub mod Trees
 pub mod Uniqueness

@@ -40,8 +40,7 @@ pub fn write_through<D: Disk>(
     write_journal(disk, pages, home)?;
     set_gate(disk, OPEN)?;
     write_home(disk, pages)?;
-    set_gate(disk, SHUT)?;
-    Ok(())
+    set_gate(disk, SHUT)
 }
 
 // Writes the journal behind the home pages, and makes it stable.
@@ -66,8 +65,7 @@ fn write_journal<D: Disk>(
     write_numbers(disk, pages, home * PAGE_LEN)?;
     write_bodies(disk, pages, bodies)?;
     write_fields(disk, home, count)?;
-    disk.sync()?;
-    Ok(())
+    disk.sync()
 }
 
 // Where the pages stand in a journal of so many behind so many home pages.

@@ -53,10 +53,10 @@ pub fn write_numbers<D: Disk>(
     for (number, _) in pages {
         add_number(disk, &mut page, *number)?;
     }
-    if page.filled > 0 {
-        flush(disk, &mut page)?;
+    if page.filled == 0 {
+        return Ok(());
     }
-    Ok(())
+    flush(disk, &mut page)
 }
 
 // Puts a number behind those on the page, and writes the page where it is full.

@@ -259,8 +259,7 @@ fn copy_and_shut<D: Disk>(disk: &mut D, first: u64, count: u64) -> Result<(), Fa
     ensures cause { HasCause (D.view disk.old).faults (D.view disk.new).faults result }
 {
     copy_home(disk, first, count)?;
-    set_gate(disk, SHUT)?;
-    Ok(())
+    set_gate(disk, SHUT)
 }
 
 // Copies the pages of the journal home, and makes them stable.
@@ -286,8 +285,7 @@ fn copy_home<D: Disk>(disk: &mut D, first: u64, count: u64) -> Result<(), Failed
             number.min(first) * PAGE_LEN,
         )?;
     }
-    disk.sync()?;
-    Ok(())
+    disk.sync()
 }
 
 // Copies one page.
@@ -303,6 +301,5 @@ fn copy_page<D: Disk>(disk: &mut D, from: u64, to: u64) -> Result<(), Failed>
 {
     let mut page = [0; PAGE];
     disk.read_at(from, &mut page)?;
-    disk.write_at(to, &page)?;
-    Ok(())
+    disk.write_at(to, &page)
 }

@@ -10,7 +10,7 @@ use std::collections::BTreeMap;
 use std::marker::Model;
 
 /// Pages by their numbers, which a commit writes as a whole or not at all.
-#[derive(Debug, Drop)]
+#[derive(Drop)]
 pub struct PageSet {
     alloc: Global,
     pub(crate) pages: BTreeMap<u64, Vec<u8>>,

@@ -32,8 +32,7 @@ pub fn write_bodies<D: Disk>(
         put_page(disk, &mut run, next, page.as_slice())?;
         next += PAGE as u64;
     }
-    flush(disk, &mut run)?;
-    Ok(())
+    flush(disk, &mut run)
 }
 
 /// Writes the pages to their places.
@@ -54,8 +53,7 @@ pub fn write_home<D: Disk>(disk: &mut D, pages: &BTreeMap<u64, Vec<u8>>) -> Resu
         put_page(disk, &mut run, *number * PAGE as u64, page.as_slice())?;
     }
     flush(disk, &mut run)?;
-    disk.sync()?;
-    Ok(())
+    disk.sync()
 }
 
 /// Writes the journal's first page and its number of pages to page 0.
@@ -68,8 +66,7 @@ pub fn write_fields<D: Disk>(disk: &mut D, first: u64, count: u64) -> Result<(),
     ensures cause { HasCause (D.view disk.old).faults (D.view disk.new).faults result }
 {
     write_number(disk, FIRST_AT, first)?;
-    write_number(disk, COUNT_AT, count)?;
-    Ok(())
+    write_number(disk, COUNT_AT, count)
 }
 
 // Writes a field of page 0.
@@ -83,8 +80,7 @@ fn write_number<D: Disk>(disk: &mut D, at: u64, value: u64) -> Result<(), Failed
     ensures reads { (D.view disk.new).reads ≡ (D.view disk.old).reads }
     ensures cause { HasCause (D.view disk.old).faults (D.view disk.new).faults result }
 {
-    disk.write_at(at, &value.to_le_bytes())?;
-    Ok(())
+    disk.write_at(at, &value.to_le_bytes())
 }
 
 /// Writes the gate, and makes it stable.
@@ -97,6 +93,5 @@ pub fn set_gate<D: Disk>(disk: &mut D, value: u8) -> Result<(), Failed>
     ensures cause { HasCause (D.view disk.old).faults (D.view disk.new).faults result }
 {
     disk.write_at(GATE_AT, &[value])?;
-    disk.sync()?;
-    Ok(())
+    disk.sync()
 }

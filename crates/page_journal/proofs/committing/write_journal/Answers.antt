@@ -1,15 +1,63 @@
-use Rattle.std.proofs.Common.{◌≡◌, ℕ, ◌+◌, ◌*◌, length, ap, ◌∙◌, subst, arith, rules}
+use Rattle.std.proofs.Common.{◌≡◌, ◌≤◌, ℕ, List, ◌+◌, ◌*◌, length, ap, ◌∙◌, subst, arith, rules}
+use Rattle.std.proofs.Math.Nat.{le_trans}
+use Rattle.outside.specs.Disk.{Only, Tells}
+use Rattle.page_journal.specs.Crash.{BesideJournal, Spares}
 use Rattle.page_journal.specs.Pages.{number_pages}
 use Rattle.page_journal.specs.PageSet.{plain}
-use Rattle.page_journal.specs.Written.{NumbersPut, FieldsPut}
+use Rattle.page_journal.specs.Written.{NumbersPut, FieldsPut, JournalPut}
+use Rattle.page_journal.proofs.Causes.{cause_after, caused, on_ok}
+use Rattle.page_journal.proofs.Moments.{goes_quiet, goes_then}
 use Rattle.page_journal.proofs.Phases.{journal_put}
 use Rattle.page_journal.proofs.committing.write_journal.Goals as goal
 
+pub returns-in_err-write_numbers-clause-crash : goal.returns-in_err-write_numbers-clause-crash
+returns-in_err-write_numbers-clause-crash g c = λ base within.
+    let start : 4096 * c.args.home ≤ c.args.home * 4096 = omega arith in
+    c.write_numbers.ensures.crash (4096 * c.args.home) base start within
+
+pub returns-in_err-write_bodies-clause-crash : goal.returns-in_err-write_bodies-clause-crash
+returns-in_err-write_bodies-clause-crash g c = λ base within.
+    let P : List ℕ → Type 0 = Spares (BesideJournal (4096 * c.args.home)) base in
+    let start : 4096 * c.args.home ≤ c.args.home * 4096 = omega arith in
+    let behind : 4096 * c.args.home ≤ c.bodies_at-bodies.result = omega (arith, c.bodies_at-bodies.ensures.place) in
+    let one = c.write_numbers.ensures.crash (4096 * c.args.home) base start within in
+    goes_then P _ _ _ one (c.write_bodies.ensures.crash (4096 * c.args.home) base behind one.now)
+
+pub returns-in_err-write_bodies-clause-reads : goal.returns-in_err-write_bodies-clause-reads
+returns-in_err-write_bodies-clause-reads g c = c.write_bodies.ensures.reads ∙ c.write_numbers.ensures.reads
+
+pub returns-in_err-write_bodies-clause-cause : goal.returns-in_err-write_bodies-clause-cause
+returns-in_err-write_bodies-clause-cause g c =
+    caused _ _ _ _ c.write_numbers.ensures.cause.later c.write_bodies.ensures.cause.later c.in_err-write_bodies.ensures.cause.failed
+
+pub returns-in_err-write_fields-clause-crash : goal.returns-in_err-write_fields-clause-crash
+returns-in_err-write_fields-clause-crash g c = λ base within.
+    let P : List ℕ → Type 0 = Spares (BesideJournal (4096 * c.args.home)) base in
+    let start : 4096 * c.args.home ≤ c.args.home * 4096 = omega arith in
+    let behind : 4096 * c.args.home ≤ c.bodies_at-bodies.result = omega (arith, c.bodies_at-bodies.ensures.place) in
+    let one = c.write_numbers.ensures.crash (4096 * c.args.home) base start within in
+    let two = goes_then P _ _ _ one (c.write_bodies.ensures.crash (4096 * c.args.home) base behind one.now) in
+    goes_then P _ _ _ two (c.write_fields.ensures.crash (4096 * c.args.home) base two.now)
+
+pub returns-in_err-write_fields-clause-reads : goal.returns-in_err-write_fields-clause-reads
+returns-in_err-write_fields-clause-reads g c = c.write_fields.ensures.reads ∙ (c.write_bodies.ensures.reads ∙ c.write_numbers.ensures.reads)
+
+pub returns-in_err-write_fields-clause-cause : goal.returns-in_err-write_fields-clause-cause
+returns-in_err-write_fields-clause-cause g c =
+    caused _ _ _ _ (le_trans c.write_numbers.ensures.cause.later c.write_bodies.ensures.cause.later) c.write_fields.ensures.cause.later
+    c.in_err-write_fields.ensures.cause.failed
+
 pub returns-clause-put : goal.returns-clause-put
-returns-clause-put g c = λ bytes told.
+returns-clause-put g c =
     let entries = plain c.args.pages.now.entries in
     let count = length c.args.pages.now.entries in
     let home = c.args.home in
+    let old = g.D.Disk.view c.args.disk.now in
+    let mid = g.D.Disk.view c.write_fields.new.disk in
+    let new = g.D.Disk.view c.sync.new.self in
+    on_ok ((content : List ℕ) → Tells mid content → Only content new.crashes)
+    ((bytes : List ℕ) → Tells old bytes → (now : List ℕ) × Tells new now × Only now new.crashes × JournalPut entries count home bytes now) c.sync.result
+    (λ durable bytes told.
     let one = c.in_ok-write_numbers.ensures.put bytes told in
     let two = c.in_ok-write_bodies.ensures.put one.0 one.1 in
     let three = c.in_ok-write_fields.ensures.put two.0 two.1 in
@@ -21,7 +69,27 @@ returns-clause-put g c = λ bytes told.
     let fields = subst (λ (n : ℕ). FieldsPut home n two.0 three.0) many three.2 in (
       three.0,
       c.sync.ensures.content ∙ three.1,
-      c.in_ok-sync.ensures.durable three.0 three.1,
+      durable three.0 three.1,
       journal_put entries count home c.bodies_at-bodies.result bytes one.0 two.0 three.0 (omega (arith, c.requires.some, c.requires.few))
           c.requires.some at-is numbers two.2 fields,
-    )
+    ))
+    c.sync.ensures.durable
+
+pub returns-clause-crash : goal.returns-clause-crash
+returns-clause-crash g c = λ base within.
+    let P : List ℕ → Type 0 = Spares (BesideJournal (4096 * c.args.home)) base in
+    let start : 4096 * c.args.home ≤ c.args.home * 4096 = omega arith in
+    let behind : 4096 * c.args.home ≤ c.bodies_at-bodies.result = omega (arith, c.bodies_at-bodies.ensures.place) in
+    let one = c.write_numbers.ensures.crash (4096 * c.args.home) base start within in
+    let two = goes_then P _ _ _ one (c.write_bodies.ensures.crash (4096 * c.args.home) base behind one.now) in
+    let three = goes_then P _ _ _ two (c.write_fields.ensures.crash (4096 * c.args.home) base two.now) in
+    goes_quiet P _ _ _ three c.sync.ensures.time c.sync.ensures.crash
+
+pub returns-clause-reads : goal.returns-clause-reads
+returns-clause-reads g c =
+    c.sync.ensures.reads ∙ (c.write_fields.ensures.reads ∙ (c.write_bodies.ensures.reads ∙ c.write_numbers.ensures.reads))
+
+pub returns-clause-cause : goal.returns-clause-cause
+returns-clause-cause g c =
+    cause_after _ _ _ c.sync.result
+    (le_trans c.write_numbers.ensures.cause.later (le_trans c.write_bodies.ensures.cause.later c.write_fields.ensures.cause.later)) c.sync.ensures.cause

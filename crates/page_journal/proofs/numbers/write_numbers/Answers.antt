@@ -1,12 +1,14 @@
-use Rattle.std.proofs.Common.{◌≡◌, ℕ, length, sym, ◌∙◌, subst, arith, rules}
+use Rattle.std.proofs.Common.{◌≡◌, ℕ, List, length, option_map, sym, ◌∙◌, subst, arith, rules}
+use Rattle.std.proofs.Math.Nat.{le_trans}
 use Rattle.std.proofs.lemmas.List.{length_push}
 use Rattle.std.proofs.lemmas.Map.Iter.{iter_turn, iter_end}
 use Rattle.std.specs.Map.Iter.{deref_pair}
-use Rattle.outside.specs.Disk.{overlaid}
+use Rattle.outside.specs.Disk.{Tells, overlaid}
 use Rattle.page_journal.specs.Crash.{BesideJournal, Spares}
 use Rattle.page_journal.specs.PageSet.{plain}
 use Rattle.page_journal.specs.Written.{NumbersHeld, NumbersPut}
-use Rattle.page_journal.proofs.Counting.{held_start, held_last}
+use Rattle.page_journal.proofs.Causes.{cause_after, caused, on_ok}
+use Rattle.page_journal.proofs.Counting.{held_start, held_last, held_none}
 use Rattle.page_journal.proofs.Entries.{number_at-plain}
 use Rattle.page_journal.proofs.Moments.{started, goes_then, told_written}
 use Rattle.page_journal.proofs.numbers.write_numbers.Goals as goal
@@ -64,17 +66,86 @@ loop-number-preserved g c =
       later = omega (arith, so_far.later, c.add_number.ensures.cause.later);
     }
 
-pub returns-in_ok-flush-clause-put : goal.returns-in_ok-flush-clause-put
-returns-in_ok-flush-clause-put g c = λ bytes told.
-    let so_far = c.loop-number.invariant in
+pub add_number-requires-clause-within : goal.add_number-requires-clause-within
+add_number-requires-clause-within g c =
     let entries = c.args.pages.now.entries in
+    let start : c.into_iter-number-iterator.result ≡ entries = c.into_iter-number-iterator.ensures.into_iter_gives.0 in
+    let turn = iter_turn deref_pair entries c.loop-number.yielded c.into_iter-number-iterator.result _ _ _ start c.loop-number.yielded_by
+    (c.in-Some.number, c.in-Some.field-0-1) c.in-Some.is c.next.ensures.steps in
+    omega (arith, c.requires, c.loop-number.invariant.place, turn.0)
+
+pub returns-in_err-add_number-clause-crash : goal.returns-in_err-add_number-clause-crash
+returns-in_err-add_number-clause-crash g c = λ low base le within.
+    let so_far = c.loop-number.invariant in
+    let run = so_far.crash low base le within in
+    goes_then (Spares (BesideJournal low) base) _ _ _ run (c.add_number.ensures.crash low base (le_trans le so_far.from) run.now)
+
+pub returns-in_err-add_number-clause-reads : goal.returns-in_err-add_number-clause-reads
+returns-in_err-add_number-clause-reads g c = c.add_number.ensures.reads ∙ c.loop-number.invariant.reads
+
+pub returns-in_err-add_number-clause-cause : goal.returns-in_err-add_number-clause-cause
+returns-in_err-add_number-clause-cause g c =
+    caused _ _ _ _ c.loop-number.invariant.later c.add_number.ensures.cause.later c.in_err-add_number.ensures.cause.failed
+
+pub returns-then-page-eq0-clause-put : goal.returns-then-page-eq0-clause-put
+returns-then-page-eq0-clause-put g c = λ bytes told.
+    let so_far = c.loop-number.invariant in
     let page = c.loop-number.page in
+    let entries = c.args.pages.now.entries in
     let start : c.into_iter-number-iterator.result ≡ entries = c.into_iter-number-iterator.ensures.into_iter_gives.0 in
     let end = iter_end deref_pair entries c.loop-number.yielded c.into_iter-number-iterator.result _ _ _ start c.loop-number.yielded_by
     c.in-None.is c.next.ensures.steps in
     let held = so_far.put bytes told in (
+      held.0,
+      held.1,
+      subst (λ (n : ℕ). NumbersPut (plain entries) n c.args.at bytes held.0) end.1
+          (held_none (plain entries) (length c.loop-number.yielded) c.args.at page.at page.filled page.bytes bytes held.0 held.2 c.if-page-eq0.true),
+    )
+
+pub returns-then-page-eq0-clause-crash : goal.returns-then-page-eq0-clause-crash
+returns-then-page-eq0-clause-crash g c = λ low base le within. c.loop-number.invariant.crash low base le within
+
+pub returns-then-page-eq0-clause-cause : goal.returns-then-page-eq0-clause-cause
+returns-then-page-eq0-clause-cause g c = record { later = c.loop-number.invariant.later; failed = tt }
+
+pub flush-requires : goal.flush-requires
+flush-requires g c =
+    let entries = c.args.pages.now.entries in
+    let start : c.into_iter-number-iterator.result ≡ entries = c.into_iter-number-iterator.ensures.into_iter_gives.0 in
+    let end = iter_end deref_pair entries c.loop-number.yielded c.into_iter-number-iterator.result _ _ _ start c.loop-number.yielded_by
+    c.in-None.is c.next.ensures.steps in
+    omega (arith, c.requires, c.loop-number.invariant.place, end.1)
+
+pub returns-clause-put : goal.returns-clause-put
+returns-clause-put g c =
+    let page = c.loop-number.page in
+    let old = g.D.Disk.view c.args.disk.now in
+    let mid = g.D.Disk.view c.loop-number.disk in
+    let new = g.D.Disk.view c.flush.new.disk in
+    let entries = c.args.pages.now.entries in
+    let start : c.into_iter-number-iterator.result ≡ entries = c.into_iter-number-iterator.ensures.into_iter_gives.0 in
+    let end = iter_end deref_pair entries c.loop-number.yielded c.into_iter-number-iterator.result _ _ _ start c.loop-number.yielded_by
+    c.in-None.is c.next.ensures.steps in
+    on_ok (new.content ≡ option_map (overlaid page.at page.bytes) mid.content)
+    ((bytes : List ℕ) → Tells old bytes → (now : List ℕ) × Tells new now × NumbersPut (plain entries) (length entries) c.args.at bytes now) c.flush.result
+    (λ written bytes told.
+    let so_far = c.loop-number.invariant in
+    let held = so_far.put bytes told in (
       overlaid page.at page.bytes held.0,
-      told_written (overlaid page.at page.bytes) _ _ held.0 held.1 c.in_ok-flush.ensures.written,
+      told_written (overlaid page.at page.bytes) _ _ held.0 held.1 written,
       subst (λ (n : ℕ). NumbersPut (plain entries) n c.args.at bytes (overlaid page.at page.bytes held.0)) end.1
           (held_last (plain entries) (length c.loop-number.yielded) c.args.at page.at page.filled page.bytes bytes held.0 held.2 (omega (arith, so_far.room))),
-    )
+    ))
+    c.flush.ensures.written
+
+pub returns-clause-crash : goal.returns-clause-crash
+returns-clause-crash g c = λ low base le within.
+    let so_far = c.loop-number.invariant in
+    let run = so_far.crash low base le within in
+    goes_then (Spares (BesideJournal low) base) _ _ _ run (c.flush.ensures.crash low base (le_trans le so_far.from) run.now)
+
+pub returns-clause-reads : goal.returns-clause-reads
+returns-clause-reads g c = c.flush.ensures.reads ∙ c.loop-number.invariant.reads
+
+pub returns-clause-cause : goal.returns-clause-cause
+returns-clause-cause g c = cause_after _ _ _ c.flush.result c.loop-number.invariant.later c.flush.ensures.cause

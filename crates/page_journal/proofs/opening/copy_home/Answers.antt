@@ -1,9 +1,11 @@
-use Rattle.std.proofs.Common.{◌≡◌, ℕ, ◌+◌, ◌*◌, ◌<◌, ap, ◌∙◌, subst, refl, arith}
-use Rattle.outside.specs.Disk.{overlaid}
+use Rattle.std.proofs.Common.{◌≡◌, ℕ, List, ◌+◌, ◌*◌, ◌<◌, ap, ◌∙◌, subst, refl, arith}
+use Rattle.outside.specs.Disk.{Only, Tells, overlaid}
 use Rattle.page_journal.specs.Crash.{BesidePages, Spares}
-use Rattle.page_journal.specs.Pages.{entry, number_pages, page_from}
+use Rattle.page_journal.specs.Home.{IsWellFormed}
+use Rattle.page_journal.specs.Pages.{entry, first_page, number_pages, page_count, page_from}
 use Rattle.page_journal.specs.Written.{HomePut}
 use Rattle.page_journal.proofs.Bytes.{page_long}
+use Rattle.page_journal.proofs.Causes.{cause_after, on_ok}
 use Rattle.page_journal.proofs.Finishing.{bodies_of, number_fits, copy_to, body_fits, copied_body, rises_to}
 use Rattle.page_journal.proofs.Moments.{started, goes_stays, goes_quiet}
 use Rattle.page_journal.proofs.Parts.{home_none, home_more, beside_page}
@@ -88,22 +90,30 @@ returns-in_err-copy_page-clause-crash g c = λ bytes told well first-is count-is
     (goes_stays (Spares (BesidePages count (entry bytes)) bytes) _ _ _ (c.loop-place.invariant.crash bytes told well first-is count-is within) c.read_number.ensures.stays)
     c.copy_page.ensures.time c.copy_page.ensures.torn (beside_page count (entry bytes) place to 4096 inside to-is refl)
 
-pub returns-in_err-sync-clause-crash : goal.returns-in_err-sync-clause-crash
-returns-in_err-sync-clause-crash g c = λ bytes told well first-is count-is within.
-    goes_quiet (Spares (BesidePages c.args.count (entry bytes)) bytes) _ _ _
-    (c.loop-place.invariant.crash bytes told well first-is count-is within) c.sync.ensures.time c.sync.ensures.crash
-
 pub returns-clause-crash : goal.returns-clause-crash
 returns-clause-crash g c = λ bytes told well first-is count-is within.
     goes_quiet (Spares (BesidePages c.args.count (entry bytes)) bytes) _ _ _
     (c.loop-place.invariant.crash bytes told well first-is count-is within) c.sync.ensures.time c.sync.ensures.crash
 
 pub returns-clause-put : goal.returns-clause-put
-returns-clause-put g c = λ bytes told well first-is count-is.
+returns-clause-put g c =
+    let first = c.args.first in
+    let count = c.args.count in
+    let old = g.D.Disk.view c.args.disk.now in
+    let mid = g.D.Disk.view c.loop-place.disk in
+    let new = g.D.Disk.view c.sync.new.self in
+    on_ok ((content : List ℕ) → Tells mid content → Only content new.crashes)
+    ((bytes : List ℕ) → Tells old bytes → IsWellFormed bytes → first ≡ first_page bytes → count ≡ page_count bytes
+    → (now : List ℕ) × Tells new now × Only now new.crashes × HomePut (entry bytes) (bodies_of bytes) count bytes now) c.sync.result
+    (λ durable bytes told well first-is count-is.
     let left = c.loop-place.invariant.put bytes told well first-is count-is in
     let end : c.loop-place.place ≡ c.args.count = omega (arith, c.loop-place-test.false) in (
       left.0,
       c.sync.ensures.content ∙ left.1,
-      c.in_ok-sync.ensures.durable left.0 left.1,
+      durable left.0 left.1,
       subst (λ (n : ℕ). HomePut (entry bytes) (bodies_of bytes) n bytes left.0) end left.2,
-    )
+    ))
+    c.sync.ensures.durable
+
+pub returns-clause-cause : goal.returns-clause-cause
+returns-clause-cause g c = cause_after _ _ _ c.sync.result c.loop-place.invariant.later c.sync.ensures.cause

@@ -1,11 +1,13 @@
-use Rattle.std.proofs.Common.{◌≡◌, ◌≤◌, ℕ, inl, ⊎_elim, length, ap, sym, ◌∙◌, subst, arith, rules}
+use Rattle.std.proofs.Common.{◌≡◌, ◌≤◌, ℕ, List, inl, ⊎_elim, length, ap, sym, ◌∙◌, subst, arith, rules}
 use Rattle.std.proofs.lemmas.List.{length_push}
 use Rattle.std.proofs.lemmas.Map.Iter.{iter_turn, iter_end}
 use Rattle.std.specs.Map.Iter.{deref_pair}
-use Rattle.outside.specs.Disk.{overlaid}
+use Rattle.outside.specs.Disk.{Tells, overlaid}
 use Rattle.page_journal.specs.Crash.{BesideJournal, Spares}
+use Rattle.page_journal.specs.PageRun.{Shows}
 use Rattle.page_journal.specs.PageSet.{plain, page_at}
 use Rattle.page_journal.specs.Written.{PagesPut}
+use Rattle.page_journal.proofs.Causes.{cause_after, caused, on_ok}
 use Rattle.page_journal.proofs.Entries.{page_at-plain}
 use Rattle.page_journal.proofs.Moments.{started}
 use Rattle.page_journal.proofs.Parts.{bodies_none, bodies_more}
@@ -96,13 +98,6 @@ returns-in_err-put_page-clause-crash g c = λ low base le within.
     goes_write (BesideJournal low) base run.at run.filled _ _ _ (so_far.crash low base le within) c.put_page.ensures.time c.put_page.ensures.crash
     (λ i keeps. let below = keeps.1 in inl (omega (arith, below, le, so_far.from)))
 
-pub returns-in_err-flush-clause-crash : goal.returns-in_err-flush-clause-crash
-returns-in_err-flush-clause-crash g c = λ low base le within.
-    let so_far = c.loop-page.invariant in
-    let run = c.loop-page.run in
-    goes_write (BesideJournal low) base run.at run.filled _ _ _ (so_far.crash low base le within) c.flush.ensures.time c.flush.ensures.crash
-    (λ i keeps. let below = keeps.1 in inl (omega (arith, below, le, so_far.from)))
-
 pub returns-clause-crash : goal.returns-clause-crash
 returns-clause-crash g c = λ low base le within.
     let so_far = c.loop-page.invariant in
@@ -111,13 +106,34 @@ returns-clause-crash g c = λ low base le within.
     (λ i keeps. let below = keeps.1 in inl (omega (arith, below, le, so_far.from)))
 
 pub returns-clause-put : goal.returns-clause-put
-returns-clause-put g c = λ bytes told.
+returns-clause-put g c =
     let entries = c.args.pages.now.entries in
+    let run = c.loop-page.run in
+    let old = g.D.Disk.view c.args.disk.now in
+    let mid = g.D.Disk.view c.loop-page.disk in
+    let new = g.D.Disk.view c.flush.new.disk in
+    on_ok ((content : List ℕ) → Shows run.at run.filled run.bytes mid content → Tells new content)
+    ((bytes : List ℕ) → Tells old bytes → (now : List ℕ) × Tells new now × PagesPut (plain entries) (length entries) c.args.at bytes now) c.flush.result
+    (λ tells bytes told.
     let start : c.into_iter-page-iterator.result ≡ entries = c.into_iter-page-iterator.ensures.into_iter_gives.0 in
     let end = iter_end deref_pair entries c.loop-page.yielded c.into_iter-page-iterator.result _ _ _ start c.loop-page.yielded_by
     c.in-None.is c.next.ensures.steps in
     let now = c.loop-page.invariant.put bytes told in (
       now.0,
-      c.in_ok-flush.ensures.tells now.0 now.1,
+      tells now.0 now.1,
       subst (λ (n : ℕ). PagesPut (plain entries) n c.args.at bytes now.0) end.1 now.2,
-    )
+    ))
+    c.flush.ensures.tells
+
+pub returns-clause-reads : goal.returns-clause-reads
+returns-clause-reads g c = c.flush.ensures.reads ∙ c.loop-page.invariant.reads
+
+pub returns-clause-cause : goal.returns-clause-cause
+returns-clause-cause g c = cause_after _ _ _ c.flush.result c.loop-page.invariant.later c.flush.ensures.cause
+
+pub returns-in_err-put_page-clause-reads : goal.returns-in_err-put_page-clause-reads
+returns-in_err-put_page-clause-reads g c = c.put_page.ensures.reads ∙ c.loop-page.invariant.reads
+
+pub returns-in_err-put_page-clause-cause : goal.returns-in_err-put_page-clause-cause
+returns-in_err-put_page-clause-cause g c =
+    caused _ _ _ _ c.loop-page.invariant.later c.put_page.ensures.cause.later c.in_err-put_page.ensures.cause.failed

@@ -1,11 +1,13 @@
-use Rattle.std.proofs.Common.{◌≡◌, ℕ, ◌*◌, ◌^◌, ◌<◌, inr, length, ap, sym, ◌∙◌, subst, arith, refl, rules}
+use Rattle.std.proofs.Common.{◌≡◌, ℕ, List, ◌*◌, ◌^◌, ◌<◌, inr, length, ap, sym, ◌∙◌, subst, arith, refl, rules}
+use Rattle.std.proofs.Math.Nat.{le_trans}
 use Rattle.std.proofs.lemmas.List.{length_push}
 use Rattle.std.proofs.lemmas.Map.Iter.{iter_turn, iter_end}
 use Rattle.std.specs.Map.Iter.{deref_pair}
-use Rattle.outside.specs.Disk.{overlaid}
+use Rattle.outside.specs.Disk.{Only, Tells, overlaid}
 use Rattle.page_journal.specs.Crash.{BesidePages, Spares}
 use Rattle.page_journal.specs.PageSet.{plain, number_at, page_at}
 use Rattle.page_journal.specs.Written.{HomePut}
+use Rattle.page_journal.proofs.Causes.{cause_after, caused, on_ok}
 use Rattle.page_journal.proofs.Entries.{number_at-plain, page_at-plain}
 use Rattle.page_journal.proofs.Moments.{started, goes_quiet}
 use Rattle.page_journal.proofs.Parts.{home_none, home_more, beside_page}
@@ -120,15 +122,6 @@ returns-in_err-flush-clause-crash g c = λ base within.
     goes_write (BesidePages (length entries) (number_at (plain entries))) base run.at run.filled _ _ _ (so_far.crash base within)
     c.flush.ensures.time c.flush.ensures.crash so_far.spared
 
-pub returns-in_err-sync-clause-crash : goal.returns-in_err-sync-clause-crash
-returns-in_err-sync-clause-crash g c = λ base within.
-    let so_far = c.loop-number.invariant in
-    let entries = c.args.pages.now.entries in
-    let beside = BesidePages (length entries) (number_at (plain entries)) in
-    let run = c.loop-number.run in
-    let flushed = goes_write beside base run.at run.filled _ _ _ (so_far.crash base within) c.flush.ensures.time c.flush.ensures.crash so_far.spared in
-    goes_quiet (Spares beside base) _ _ _ flushed c.sync.ensures.time c.sync.ensures.crash
-
 pub returns-clause-crash : goal.returns-clause-crash
 returns-clause-crash g c = λ base within.
     let so_far = c.loop-number.invariant in
@@ -139,8 +132,15 @@ returns-clause-crash g c = λ base within.
     goes_quiet (Spares beside base) _ _ _ flushed c.sync.ensures.time c.sync.ensures.crash
 
 pub returns-clause-put : goal.returns-clause-put
-returns-clause-put g c = λ bytes told.
+returns-clause-put g c =
     let entries = c.args.pages.now.entries in
+    let old = g.D.Disk.view c.args.disk.now in
+    let mid = g.D.Disk.view c.flush.new.disk in
+    let new = g.D.Disk.view c.sync.new.self in
+    on_ok ((content : List ℕ) → Tells mid content → Only content new.crashes)
+    ((bytes : List ℕ) → Tells old bytes → (now : List ℕ) × Tells new now
+    × Only now new.crashes × HomePut (number_at (plain entries)) (page_at (plain entries)) (length entries) bytes now) c.sync.result
+    (λ durable bytes told.
     let start : c.into_iter-number-iterator.result ≡ entries = c.into_iter-number-iterator.ensures.into_iter_gives.0 in
     let end = iter_end deref_pair entries c.loop-number.yielded c.into_iter-number-iterator.result _ _ _ start c.loop-number.yielded_by
     c.in-None.is c.next.ensures.steps in
@@ -148,6 +148,28 @@ returns-clause-put g c = λ bytes told.
     let tells = c.in_ok-flush.ensures.tells now.0 now.1 in (
       now.0,
       c.sync.ensures.content ∙ tells,
-      c.in_ok-sync.ensures.durable now.0 tells,
+      durable now.0 tells,
       subst (λ (n : ℕ). HomePut (number_at (plain entries)) (page_at (plain entries)) n bytes now.0) end.1 now.2,
-    )
+    ))
+    c.sync.ensures.durable
+
+pub returns-clause-reads : goal.returns-clause-reads
+returns-clause-reads g c = c.sync.ensures.reads ∙ (c.flush.ensures.reads ∙ c.loop-number.invariant.reads)
+
+pub returns-clause-cause : goal.returns-clause-cause
+returns-clause-cause g c =
+    cause_after _ _ _ c.sync.result (le_trans c.loop-number.invariant.later c.flush.ensures.cause.later) c.sync.ensures.cause
+
+pub returns-in_err-flush-clause-reads : goal.returns-in_err-flush-clause-reads
+returns-in_err-flush-clause-reads g c = c.flush.ensures.reads ∙ c.loop-number.invariant.reads
+
+pub returns-in_err-flush-clause-cause : goal.returns-in_err-flush-clause-cause
+returns-in_err-flush-clause-cause g c =
+    caused _ _ _ _ c.loop-number.invariant.later c.flush.ensures.cause.later c.in_err-flush.ensures.cause.failed
+
+pub returns-in_err-put_page-clause-reads : goal.returns-in_err-put_page-clause-reads
+returns-in_err-put_page-clause-reads g c = c.put_page.ensures.reads ∙ c.loop-number.invariant.reads
+
+pub returns-in_err-put_page-clause-cause : goal.returns-in_err-put_page-clause-cause
+returns-in_err-put_page-clause-cause g c =
+    caused _ _ _ _ c.loop-number.invariant.later c.put_page.ensures.cause.later c.in_err-put_page.ensures.cause.failed

@@ -1,6 +1,7 @@
 use Rattle.std.proofs.Common.{◌≡◌, ℕ, ◌*◌, length, ap, ◌∙◌, arith, rules}
 use Rattle.page_journal.specs.Pages.{page_from}
 use Rattle.page_journal.proofs.Bytes.{page_read}
+use Rattle.page_journal.proofs.Moments.{stays_call}
 use Rattle.page_journal.proofs.journal.Journal.read_page.Goals as goal
 
 pub returns-else-count-lt-PAGE-clause-page : goal.returns-else-count-lt-PAGE-clause-page
@@ -11,3 +12,12 @@ returns-else-count-lt-PAGE-clause-page g c = λ bytes told.
     let many : c.in-Ok.count ≡ 4096 = omega (arith, c.in-Ok.ensures.bound, c.if-count-lt-PAGE.false, long) in
     page_read bytes c.as_mut_slice.result.now c.read_at.new.buf (c.args.page * 4096) c.in-Ok.count long many reads
     ∙ ap (λ (at : ℕ). page_from bytes at) at-is
+
+pub returns-then-count-lt-PAGE-clause-stays : goal.returns-then-count-lt-PAGE-clause-stays
+returns-then-count-lt-PAGE-clause-stays g c = stays_call _ _ c.read_at.ensures.content c.read_at.ensures.crash c.read_at.ensures.time
+
+pub returns-else-count-lt-PAGE-clause-stays : goal.returns-else-count-lt-PAGE-clause-stays
+returns-else-count-lt-PAGE-clause-stays g c = stays_call _ _ c.read_at.ensures.content c.read_at.ensures.crash c.read_at.ensures.time
+
+pub returns-in-Err-clause-stays : goal.returns-in-Err-clause-stays
+returns-in-Err-clause-stays g c = stays_call _ _ c.read_at.ensures.content c.read_at.ensures.crash c.read_at.ensures.time
