@@ -15,39 +15,81 @@ use std::rt::Clock;
 use std::time::Instant;
 
 fn main(rt: HostRuntime) -> Result<()> {
-    let mut path = String::new(rt.alloc());
-    let mut pages = 2u64;
-    let mut commits = 0u64;
-    let mut timed = false;
-    for (index, word) in env::args(&rt)?.enumerate() {
-        match index {
-            1 => path = word,
-            2 => pages = word.as_str().parse::<u64>()?,
-            3 => commits = word.as_str().parse::<u64>()?,
-            4 => timed = true,
-            _ => {}
+    let words = env::args(&rt)?.collect::<Vec<String>>(rt.alloc())?;
+    let asked = asked_of(&words)?;
+    make(&mut FileDisk::new(&rt, asked.path, true))?;
+    run(&rt, &mut FileDisk::new(&rt, asked.path, false), asked)
+}
+
+/// What the words ask for.
+#[derive(Clone, Copy)]
+struct Asked<'a> {
+    path: &'a str,
+    pages: u64,
+    commits: u64,
+    timed: bool,
+}
+
+/// What the words ask for: two pages and no commit where they tell no number.
+fn asked_of(words: &[String]) -> Result<Asked<'_>> {
+    Ok(Asked {
+        path: match words.get(1) {
+            Some(path) => path.as_str(),
+            None => "",
+        },
+        pages: number_at(words, 2, 2)?,
+        commits: number_at(words, 3, 0)?,
+        timed: words.len() > 4,
+    })
+}
+
+/// The number that a word writes, or another where there is no such word.
+fn number_at(words: &[String], place: usize, other: u64) -> Result<u64> {
+    match words.get(place) {
+        Some(word) => Ok(word.as_str().parse::<u64>()?),
+        None => Ok(other),
+    }
+}
+
+/// Makes a store of an empty file; one that is not empty is left as it is.
+fn make<D: Disk>(disk: &mut D) -> Result<()> {
+    match format(disk) {
+        Ok(()) | Err(StoreFault::NotEmpty) => Ok(()),
+        Err(fault) => Err(fault.into()),
+    }
+}
+
+/// Commits the pages that are asked for, and tells the times or the pages.
+fn run<D: Disk, R: Clock + Print + AllocGlobal>(
+    rt: &R,
+    disk: &mut D,
+    asked: Asked<'_>,
+) -> Result<()> {
+    let mut journal = Journal::attach(disk, &Limits::standard())?;
+    let home = asked.pages.clamp(2, 1_000_000) + 1;
+    for round in 0..asked.commits {
+        let micros = commit_all(rt, &mut journal, home, (round % 200) as u8 + 1)?;
+        if asked.timed {
+            println!(rt; "{} {micros}", asked.pages)?;
         }
     }
-    let home = pages.clamp(2, 1_000_000) + 1;
-    match format(&mut FileDisk::new(&rt, path.as_str(), true)) {
-        Ok(()) | Err(StoreFault::NotEmpty) => {}
-        Err(fault) => return Err(fault.into()),
+    if asked.timed {
+        return Ok(());
     }
-    let mut disk = FileDisk::new(&rt, path.as_str(), false);
-    let mut journal = Journal::attach(&mut disk, &Limits::standard())?;
-    for round in 0..commits {
-        let set = all_pages(rt.alloc(), home, (round % 200) as u8 + 1)?;
-        let micros = commit(&rt, &mut journal, &set, home)?;
-        if timed {
-            println!(rt; "{pages} {micros}")?;
-        }
-    }
-    if !timed {
-        for page in 1..journal.pages() {
-            print_page(&rt, &mut journal, page)?;
-        }
+    for page in 1..journal.pages() {
+        print_page(rt, &mut journal, page)?;
     }
     Ok(())
+}
+
+/// Commits the pages from 1 to below `home`, and answers how many microseconds that took.
+fn commit_all<D: Disk, R: Clock + AllocGlobal>(
+    rt: &R,
+    journal: &mut Journal<'_, D>,
+    home: u64,
+    byte: u8,
+) -> Result<u128> {
+    commit(rt, journal, &all_pages(rt.alloc(), home, byte)?, home)
 }
 
 /// The pages from 1 to below `home`.
