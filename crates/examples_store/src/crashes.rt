@@ -1,7 +1,7 @@
-//! Crashes of a disk, and what they leave.
+//! Crashes of a disk, and what they leave. Each example adds what comes out, and answers whether its row is in its form.
 
-use crate::deeds::bytes_text;
-use crate::stores::{opened, store_answer};
+use crate::deeds::put_bytes;
+use crate::stores::{opened_once, put_outcome};
 use example_table::{number_of, row_of};
 use outside::{CrashPick, MemDisk};
 use std::alloc::{AllocError, Global};
@@ -15,88 +15,102 @@ const PICKS: [CrashPick; 4] = [
 ];
 
 /// Goes on with the disk that a crash leaves.
-pub fn after_crash(
+pub fn go_on(
     alloc: Global,
     disk: &mut MemDisk,
     text: &str,
-) -> Result<Option<String>, AllocError> {
+    answer: &mut String,
+) -> Result<bool, AllocError> {
     match crashed(alloc, disk, text)? {
-        None => Ok(None),
-        Some(left) => {
-            *disk = left;
-            Ok(Some(String::from_str(alloc, "ok")?))
-        }
+        Some(left) => *disk = left,
+        None => return Ok(false),
     }
+    answer.push_str("ok")?;
+    Ok(true)
 }
 
 /// How many home pages there are after a crash.
-pub fn pages_after(
+pub fn put_pages(
     alloc: Global,
     disk: &MemDisk,
     text: &str,
-) -> Result<Option<String>, AllocError> {
+    answer: &mut String,
+) -> Result<bool, AllocError> {
     match crash_of(text) {
-        None => Ok(None),
-        Some((call, pick)) => answer_after(alloc, disk, call, pick),
+        Some((call, pick)) => put_opened(alloc, disk, call, pick, answer),
+        None => Ok(false),
     }
 }
 
 /// The bytes that a crash leaves.
-pub fn left_in(alloc: Global, disk: &MemDisk, text: &str) -> Result<Option<String>, AllocError> {
+pub fn put_left(
+    alloc: Global,
+    disk: &MemDisk,
+    text: &str,
+    answer: &mut String,
+) -> Result<bool, AllocError> {
     match crashed(alloc, disk, text)? {
-        None => Ok(None),
-        Some(left) => Ok(Some(bytes_text(alloc, left.bytes())?)),
+        Some(left) => put_bytes(answer, left.bytes()),
+        None => Ok(false),
     }
 }
 
 /// How many home pages there may be after a crash in one of these calls: each answer once, in the order in which
 /// they came.
-pub fn crashed_pages(
+pub fn put_all_pages(
     alloc: Global,
     disk: &MemDisk,
     text: &str,
-) -> Result<Option<String>, AllocError> {
-    let Some((first, last)) = row_of(text) else {
-        return Ok(None);
-    };
-    let (Some(first), Some(last)) = (number_of(first), number_of(last)) else {
-        return Ok(None);
-    };
-    let mut answers = String::new(alloc);
-    for call in first..last.min(1000) + 1 {
-        if !adds_answers(alloc, disk, call, &mut answers)? {
-            return Ok(None);
-        }
-    }
-    Ok(Some(answers))
-}
-
-// Puts the answers after a crash in this call behind the others. False: there is no such call.
-fn adds_answers(
-    alloc: Global,
-    disk: &MemDisk,
-    call: u64,
     answers: &mut String,
 ) -> Result<bool, AllocError> {
-    for pick in PICKS {
-        match answer_after(alloc, disk, call, pick)? {
-            None => return Ok(false),
-            Some(answer) => add_answer(answers, answer.as_str())?,
+    let Some((first, last)) = calls_of(text) else {
+        return Ok(false);
+    };
+    let mut answer = String::new(alloc);
+    for call in first..last.min(1000) + 1 {
+        if !add_answers(alloc, disk, call, &mut answer, answers)? {
+            return Ok(false);
         }
     }
     Ok(true)
 }
 
-// What opening answers after a crash. `None`: there is no such call.
-fn answer_after(
+// The first and the last call.
+fn calls_of(text: &str) -> Option<(u64, u64)> {
+    let (first, last) = row_of(text)?;
+    Some((number_of(first)?, number_of(last)?))
+}
+
+// Puts the answers after a crash in this call behind the others; `answer` holds one of them. False: there is no such
+// call.
+fn add_answers(
+    alloc: Global,
+    disk: &MemDisk,
+    call: u64,
+    answer: &mut String,
+    answers: &mut String,
+) -> Result<bool, AllocError> {
+    for pick in PICKS {
+        answer.clear();
+        if !put_opened(alloc, disk, call, pick, answer)? {
+            return Ok(false);
+        }
+        add_answer(answers, answer.as_str())?;
+    }
+    Ok(true)
+}
+
+// What opening answers after a crash. False: there is no such call.
+fn put_opened(
     alloc: Global,
     disk: &MemDisk,
     call: u64,
     pick: CrashPick,
-) -> Result<Option<String>, AllocError> {
+    answer: &mut String,
+) -> Result<bool, AllocError> {
     match crashed_in(alloc, disk, call, pick)? {
-        None => Ok(None),
-        Some(mut left) => store_answer(alloc, opened(&mut left)),
+        Some(left) => put_outcome(answer, opened_once(left)),
+        None => Ok(false),
     }
 }
 

@@ -1,8 +1,8 @@
-//! The deeds of the examples, by their words.
+//! The deeds of the examples, by their words. Each adds its answer, and answers whether its row is in its form.
 ghost use Rattle.std.specs.Prelude.{◌≤◌, IfSome};
 
-use crate::crashes::{after_crash, crashed_pages, left_in, pages_after};
-use crate::stores::{commit_answer, formatted, opened, read_answer, store_answer};
+use crate::crashes::{go_on, put_all_pages, put_left, put_pages};
+use crate::stores::{commit_pages, formatted, opened, put_outcome, read_page};
 use example_table::{bytes_of, number_of, row_of};
 use outside::{Disk, Failed, MemDisk};
 use std::alloc::{AllocError, Global};
@@ -10,44 +10,46 @@ use std::alloc::{AllocError, Global};
 /// The most bytes of a disk that a deed names.
 const MAX_AT: u64 = 1 << 20;
 
-/// What a deed answers. `None`: there is no such deed.
-pub fn answer_of(
+/// Does a deed. False: there is no such deed.
+pub fn put_answer(
     alloc: Global,
     disk: &mut MemDisk,
     word: &str,
     text: &str,
-) -> Result<Option<String>, AllocError> {
+    answer: &mut String,
+) -> Result<bool, AllocError> {
     match word {
-        "format" => store_answer(alloc, formatted(disk)),
-        "open" => store_answer(alloc, opened(disk)),
-        "commit" => commit_answer(alloc, disk, text),
-        "read" => read_answer(alloc, disk, text),
-        "crash" => after_crash(alloc, disk, text),
-        "after" => pages_after(alloc, disk, text),
-        "crashes" => crashed_pages(alloc, disk, text),
-        "left" => left_in(alloc, disk, text),
-        _ => disk_answer(alloc, disk, word, text),
+        "format" => put_outcome(answer, formatted(disk)),
+        "open" => put_outcome(answer, opened(disk)),
+        "commit" => commit_pages(alloc, disk, text, answer),
+        "read" => read_page(disk, text, answer),
+        "crash" => go_on(alloc, disk, text, answer),
+        "after" => put_pages(alloc, disk, text, answer),
+        "crashes" => put_all_pages(alloc, disk, text, answer),
+        "left" => put_left(alloc, disk, text, answer),
+        _ => put_disk_answer(alloc, disk, word, text, answer),
     }
 }
 
-// What a deed on the disk alone answers.
-fn disk_answer(
+// Does a deed on the disk alone.
+fn put_disk_answer(
     alloc: Global,
     disk: &mut MemDisk,
     word: &str,
     text: &str,
-) -> Result<Option<String>, AllocError> {
+    answer: &mut String,
+) -> Result<bool, AllocError> {
     match word {
-        "put" => put(alloc, disk, text),
-        "write" => write(alloc, disk, text),
-        "get" => get(alloc, disk, text),
-        "sync" => done(alloc, is_synced(disk)),
-        "len" => counted(alloc, disk),
-        "length" => number(alloc, disk.bytes().len() as u64),
-        "filled" => number(alloc, filled(disk.bytes())),
-        "calls" => number(alloc, disk.calls()),
-        "number" => number_at(alloc, disk.bytes(), text),
-        _ => Ok(None),
+        "put" => put(alloc, disk, text, answer),
+        "write" => write(disk, text, answer),
+        "get" => get(disk, text, answer),
+        "sync" => put_done(answer, is_synced(disk)),
+        "len" => put_len(disk, answer),
+        "length" => put_number(answer, disk.bytes().len() as u64),
+        "filled" => put_number(answer, filled(disk.bytes())),
+        "calls" => put_number(answer, disk.calls()),
+        "number" => put_number_at(disk.bytes(), text, answer),
+        _ => Ok(false),
     }
 }
 
@@ -67,48 +69,55 @@ fn is_synced(disk: &mut MemDisk) -> bool {
 }
 
 // Writes bytes at a place.
-fn put(alloc: Global, disk: &mut MemDisk, text: &str) -> Result<Option<String>, AllocError> {
+fn put(
+    alloc: Global,
+    disk: &mut MemDisk,
+    text: &str,
+    answer: &mut String,
+) -> Result<bool, AllocError> {
     let Some((at, field)) = place_of(text) else {
-        return Ok(None);
+        return Ok(false);
     };
     match bytes_of(alloc, field)? {
-        None => Ok(None),
-        Some(bytes) => written(alloc, disk, at, &bytes),
+        Some(bytes) => put_at(disk, at, &bytes, answer),
+        None => Ok(false),
     }
 }
 
-fn written(
-    alloc: Global,
+fn put_at(
     disk: &mut MemDisk,
     at: u64,
     bytes: &[u8],
-) -> Result<Option<String>, AllocError> {
+    answer: &mut String,
+) -> Result<bool, AllocError> {
     if at > MAX_AT || bytes.len() as u64 > MAX_AT {
-        return Ok(None);
+        return Ok(false);
     }
-    done(alloc, disk.write_at(at, bytes).is_ok())
+    put_done(answer, disk.write_at(at, bytes).is_ok())
 }
 
 // Writes a number at a place.
-fn write(alloc: Global, disk: &mut MemDisk, text: &str) -> Result<Option<String>, AllocError> {
-    let Some((at, field)) = place_of(text) else {
-        return Ok(None);
-    };
-    let Some(value) = number_of(field) else {
-        return Ok(None);
-    };
-    written(alloc, disk, at, &value.to_le_bytes())
+fn write(disk: &mut MemDisk, text: &str, answer: &mut String) -> Result<bool, AllocError> {
+    match place_and_number_of(text) {
+        Some((at, value)) => put_at(disk, at, &value.to_le_bytes(), answer),
+        None => Ok(false),
+    }
+}
+
+fn place_and_number_of(text: &str) -> Option<(u64, u64)> {
+    let (at, field) = place_of(text)?;
+    Some((at, number_of(field)?))
 }
 
 // Reads up to eight bytes.
-fn get(alloc: Global, disk: &mut MemDisk, text: &str) -> Result<Option<String>, AllocError> {
+fn get(disk: &mut MemDisk, text: &str, answer: &mut String) -> Result<bool, AllocError> {
     let Some((at, _)) = place_of(text) else {
-        return Ok(None);
+        return Ok(false);
     };
     let mut bytes = [0; 8];
     match disk.read_at(at, &mut bytes) {
-        Ok(count) => Ok(Some(bytes_text(alloc, &bytes[..count])?)),
-        Err(Failed) => done(alloc, false),
+        Ok(count) => put_bytes(answer, &bytes[..count]),
+        Err(Failed) => put_done(answer, false),
     }
 }
 
@@ -125,13 +134,13 @@ fn place_of(text: &str) -> Option<(u64, &str)>
 }
 
 // The number of eight bytes at a place.
-fn number_at(alloc: Global, bytes: &[u8], text: &str) -> Result<Option<String>, AllocError> {
+fn put_number_at(bytes: &[u8], text: &str, answer: &mut String) -> Result<bool, AllocError> {
     let Some((at, _)) = place_of(text) else {
-        return Ok(None);
+        return Ok(false);
     };
     match number_of_bytes(bytes, at as usize) {
-        None => Ok(None),
-        Some(value) => number(alloc, value),
+        Some(value) => put_number(answer, value),
+        None => Ok(false),
     }
 }
 
@@ -143,30 +152,30 @@ fn number_of_bytes(bytes: &[u8], at: usize) -> Option<u64> {
     Some(number)
 }
 
-/// Bytes as numbers, with blanks between them.
-pub fn bytes_text(alloc: Global, bytes: &[u8]) -> Result<String, AllocError> {
-    let mut text = String::new(alloc);
+/// Adds bytes as numbers, with blanks between them.
+pub fn put_bytes(answer: &mut String, bytes: &[u8]) -> Result<bool, AllocError> {
     for byte in bytes {
-        if !text.is_empty() {
-            text.push_str(" ")?;
+        if !answer.is_empty() {
+            answer.push_str(" ")?;
         }
-        write!(text, "{byte}")?;
+        write!(answer, "{byte}")?;
     }
-    Ok(text)
+    Ok(true)
 }
 
-fn number(alloc: Global, value: u64) -> Result<Option<String>, AllocError> {
-    Ok(Some(format!(in alloc; "{value}")?))
+fn put_number(answer: &mut String, value: u64) -> Result<bool, AllocError> {
+    write!(answer, "{value}")?;
+    Ok(true)
 }
 
-fn counted(alloc: Global, disk: &mut MemDisk) -> Result<Option<String>, AllocError> {
+fn put_len(disk: &mut MemDisk, answer: &mut String) -> Result<bool, AllocError> {
     match disk.len() {
-        Ok(count) => number(alloc, count),
-        Err(Failed) => done(alloc, false),
+        Ok(count) => put_number(answer, count),
+        Err(Failed) => put_done(answer, false),
     }
 }
 
-fn done(alloc: Global, is_done: bool) -> Result<Option<String>, AllocError> {
-    let text = if is_done { "ok" } else { "failed" };
-    Ok(Some(String::from_str(alloc, text)?))
+fn put_done(answer: &mut String, is_done: bool) -> Result<bool, AllocError> {
+    answer.push_str(if is_done { "ok" } else { "failed" })?;
+    Ok(true)
 }

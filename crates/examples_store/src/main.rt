@@ -8,7 +8,7 @@ mod crashes;
 mod deeds;
 mod stores;
 
-use deeds::answer_of;
+use deeds::put_answer;
 use example_table::{is_told, number_of, refuse_row, row_of, sides_of};
 use osm_base::{Bytes, Ids};
 use outside::{Fails, MemDisk};
@@ -48,58 +48,74 @@ fn passes<R: Print + Eprint + AllocGlobal>(rt: &R, table: &str) -> io::Result<bo
         name: "",
         disk: empty(rt.alloc(), Ids::new(rt.alloc()), 0),
     };
-    let mut told = Ok(true);
-    for line in table.lines() {
-        told = step(rt, &mut example, line);
-        if !matches!(&told, Ok(true)) {
-            break;
-        }
-    }
-    match told {
-        Ok(true) => is_told(rt, example.name, None),
-        other => other,
-    }
+    takes_all(rt, &mut example, table)
 }
 
-/// Runs the deed of a line, or begins the next example.
-fn step<'t, R: Print + Eprint + AllocGlobal>(
+/// Takes the lines of a table one after another, up to one that differs.
+fn takes_all<'t, R: Print + Eprint + AllocGlobal>(
     rt: &R,
     example: &mut Example<'t>,
-    line: &'t str,
+    table: &'t str,
 ) -> io::Result<bool> {
-    let Some((word, text)) = row_of(line) else {
-        return Ok(true);
-    };
-    if word == "store" {
-        if !example.name.is_empty() && !is_told(rt, example.name, None)? {
-            return Ok(false);
+    for line in table.lines() {
+        if let Some((word, text)) = row_of(line) {
+            if !takes(rt, example, line, word, text)? {
+                return Ok(false);
+            }
         }
-        begin(rt.alloc(), example, text)?;
-        return Ok(true);
     }
-    let (deed, wanted) = sides_of(text).unwrap_or((text, "ok"));
-    match answer_of(rt.alloc(), &mut example.disk, word, deed)? {
-        None => {
-            refuse_row(rt, line)?;
-            Ok(false)
-        }
-        Some(answer) => is_wanted(rt, example.name, line, answer.as_str(), wanted),
-    }
+    is_told(rt, example.name, None)
 }
 
-/// Whether a line answers what is wanted; what it answers otherwise is told.
-fn is_wanted<R: Print + Eprint + AllocGlobal>(
+/// Does the deed of a line, or begins the next example.
+fn takes<'t, R: Print + Eprint + AllocGlobal>(
+    rt: &R,
+    example: &mut Example<'t>,
+    line: &str,
+    word: &str,
+    text: &'t str,
+) -> io::Result<bool> {
+    if word != "store" {
+        return does(rt, example, line, word, text);
+    }
+    if !example.name.is_empty() && !is_told(rt, example.name, None)? {
+        return Ok(false);
+    }
+    begin(rt.alloc(), example, text)?;
+    Ok(true)
+}
+
+/// Does the deed of a line. True: it answers what is wanted.
+fn does<R: Print + Eprint + AllocGlobal>(
+    rt: &R,
+    example: &mut Example<'_>,
+    line: &str,
+    word: &str,
+    text: &str,
+) -> io::Result<bool> {
+    let (deed, wanted) = sides_of(text).unwrap_or((text, "ok"));
+    let mut answer = String::new(rt.alloc());
+    let is_deed = put_answer(rt.alloc(), &mut example.disk, word, deed, &mut answer)?;
+    if is_deed && answer.as_str() == wanted {
+        return Ok(true);
+    }
+    tell(rt, example.name, line, is_deed, answer.as_str())
+}
+
+/// Tells what a line answers otherwise, or that it has no deed.
+fn tell<R: Eprint>(
     rt: &R,
     name: &str,
     line: &str,
+    is_deed: bool,
     answer: &str,
-    wanted: &str,
 ) -> io::Result<bool> {
-    if answer == wanted {
-        return Ok(true);
+    if is_deed {
+        eprintln!(rt; "{name}: {line}: {answer}")?;
+    } else {
+        refuse_row(rt, line)?;
     }
-    let difference = format!(in rt.alloc(); "{line}: {answer}")?;
-    is_told(rt, name, Some(difference))
+    Ok(false)
 }
 
 /// Begins an example with an empty disk: behind its name stand the number from which on each call fails,

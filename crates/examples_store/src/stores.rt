@@ -1,4 +1,4 @@
-//! Deeds on a store.
+//! Deeds on a store. Each adds its answer, and answers whether its row is in its form.
 
 use example_table::{number_of, row_of};
 use osm_base::{LimitNumbers, Limits};
@@ -12,21 +12,27 @@ const FILLED: u8 = 42;
 /// The most home pages of a store of an example.
 const MAX_HOME: u64 = 64;
 
-/// A number, `ok` for 0, or the fault.
-pub fn store_answer(
-    alloc: Global,
+/// Adds a number, `ok` for 0, or the fault.
+pub fn put_outcome(
+    answer: &mut String,
     outcome: Result<u64, StoreFault>,
-) -> Result<Option<String>, AllocError> {
+) -> Result<bool, AllocError> {
     match outcome {
-        Ok(0) => Ok(Some(String::from_str(alloc, "ok")?)),
-        Ok(count) => Ok(Some(format!(in alloc; "{count}")?)),
-        Err(fault) => Ok(Some(format!(in alloc; "{fault}")?)),
+        Ok(0) => answer.push_str("ok")?,
+        Ok(count) => write!(answer, "{count}")?,
+        Err(fault) => write!(answer, "{fault}")?,
     }
+    Ok(true)
 }
 
 /// Opening a store, its contract left behind.
 pub fn opened(disk: &mut MemDisk) -> Result<u64, StoreFault> {
     open(disk)
+}
+
+/// Opening a store on a disk that is let go then.
+pub fn opened_once(mut disk: MemDisk) -> Result<u64, StoreFault> {
+    opened(&mut disk)
 }
 
 /// Formatting a disk, its contract left behind.
@@ -38,23 +44,27 @@ pub fn formatted(disk: &mut MemDisk) -> Result<u64, StoreFault> {
 }
 
 /// Opens the store, and commits to it a root that tells so many home pages and filled pages up to them, under
-/// a limit of pages where one is named.
-pub fn commit_answer(
+/// a limit of pages where one is named. Adds what comes out.
+pub fn commit_pages(
     alloc: Global,
     disk: &mut MemDisk,
     text: &str,
-) -> Result<Option<String>, AllocError> {
-    let Some((home, limit)) = row_of(text) else {
-        return Ok(None);
-    };
-    let Some(home) = number_of(home) else {
-        return Ok(None);
-    };
-    if home > MAX_HOME {
-        return Ok(None);
+    answer: &mut String,
+) -> Result<bool, AllocError> {
+    match asked_of(text) {
+        Some((home, limits)) => put_outcome(answer, committed(alloc, disk, home, &limits)),
+        None => Ok(false),
     }
-    let limits = limits_of(number_of(limit).unwrap_or(MAX_HOME));
-    store_answer(alloc, committed(alloc, disk, home, &limits))
+}
+
+// The number of home pages, and the limits.
+fn asked_of(text: &str) -> Option<(u64, Limits)> {
+    let (home, limit) = row_of(text)?;
+    let home = number_of(home)?;
+    if home > MAX_HOME {
+        return None;
+    }
+    Some((home, limits_of(number_of(limit).unwrap_or(MAX_HOME))))
 }
 
 fn committed(
@@ -108,19 +118,18 @@ fn commit(
     Ok(0)
 }
 
-/// Opens the store twice, and reads a page once or twice: its first byte, or the last fault.
-pub fn read_answer(
-    alloc: Global,
-    disk: &mut MemDisk,
-    text: &str,
-) -> Result<Option<String>, AllocError> {
-    let Some((page, again)) = row_of(text) else {
-        return Ok(None);
-    };
-    let Some(page) = number_of(page) else {
-        return Ok(None);
-    };
-    store_answer(alloc, read(disk, page, again == "again"))
+/// Opens the store twice, and reads a page once or twice. Adds its first byte, or the last fault.
+pub fn read_page(disk: &mut MemDisk, text: &str, answer: &mut String) -> Result<bool, AllocError> {
+    match page_of(text) {
+        Some((page, again)) => put_outcome(answer, read(disk, page, again)),
+        None => Ok(false),
+    }
+}
+
+// The number of a page, and whether it is read twice.
+fn page_of(text: &str) -> Option<(u64, bool)> {
+    let (page, again) = row_of(text)?;
+    Some((number_of(page)?, again == "again"))
 }
 
 fn read(disk: &mut MemDisk, page: u64, again: bool) -> Result<u64, StoreFault> {
