@@ -1,5 +1,5 @@
 -- The order that the code has of keys is that of a file. It is total, and no two keys tie.
-use Rattle.std.proofs.Common.{◌≡◌, ℕ, refl, arith}
+use Rattle.std.proofs.Common.{◌≡◌, ℕ, zero, suc, refl, sym, ◌∙◌, ap}
 use Rattle.std.specs.FinMap.{IsAntisymmetric, nat_cmp-IsAntisymmetric}
 use Rattle.std.specs.Cmp.{IsTotalOrder, nat_cmp_total, on_total, then_total}
 use Rattle.std.specs.declared.cmp.Ordering.{Ordering}
@@ -40,16 +40,19 @@ both_equal Less second e = absurd (cc)
 both_equal Equal second e = (refl, e)
 both_equal Greater second e = absurd (cc)
 
+-- the kind of a rank
+abbrev kind_at : ℕ → Kind
+kind_at zero = Node
+kind_at (suc zero) = Way
+kind_at (suc (suc n)) = Relation
+
+kind_at-rank : (kind : Kind) → kind_at (rank kind) ≡ kind
+kind_at-rank Node = refl
+kind_at-rank Way = refl
+kind_at-rank Relation = refl
+
 same_kind : (kind other : Kind) → rank kind ≡ rank other → kind ≡ other
-same_kind Node Node e = refl
-same_kind Node Way e = absurd (omega (arith, e))
-same_kind Node Relation e = absurd (omega (arith, e))
-same_kind Way Node e = absurd (omega (arith, e))
-same_kind Way Way e = refl
-same_kind Way Relation e = absurd (omega (arith, e))
-same_kind Relation Node e = absurd (omega (arith, e))
-same_kind Relation Way e = absurd (omega (arith, e))
-same_kind Relation Relation e = refl
+same_kind kind other e = sym (kind_at-rank kind) ∙ ap kind_at e ∙ kind_at-rank other
 
 pub key_cmp-IsAntisymmetric : IsAntisymmetric key_cmp
 key_cmp-IsAntisymmetric key other e =

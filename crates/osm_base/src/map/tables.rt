@@ -106,12 +106,36 @@ fn remove_row(rows: &mut BTreeMap<Spot, Row>, spot: Spot)
     rows.remove(&spot);
 }
 
+/// Gives a spot a row that is equal to this one.
+fn copy_row(
+    rows: &mut BTreeMap<Spot, Row>,
+    spot: Spot,
+    row: &Row,
+    alloc: Global,
+) -> Result<(), OutOfMemory>
+    ensures ok { OnOk result (rows_in rows.new ≡ map.insert (rows_in rows.old) spot row.now) }
+{
+    set_row(rows, spot, row.copy(alloc)?)
+}
+
+/// A tree of equal rows.
+fn copied_rows(
+    rows: &BTreeMap<Spot, Row>,
+    alloc: Global,
+) -> Result<BTreeMap<Spot, Row>, OutOfMemory>
+    ensures equal { IfOk result (λ copy. rows_in copy ≡ rows_in rows.now) }
+{
+    let mut copy = BTreeMap::new(alloc);
+    for (spot, row) in rows.iter().rev() {
+        copy_row(&mut copy, *spot, row, alloc)?;
+    }
+    Ok(copy)
+}
+
 impl TryCopy for Tables {
     fn copy(&self, alloc: Global) -> Result<Self, OutOfMemory> {
-        let mut copy = Self::new(alloc);
-        for (spot, row) in self.rows.iter().rev() {
-            set_row(&mut copy.rows, *spot, row.copy(alloc)?)?;
-        }
-        Ok(copy)
+        Ok(Self {
+            rows: copied_rows(&self.rows, alloc)?,
+        })
     }
 }
