@@ -9,7 +9,7 @@ use osm_base::{Kind, Member, Object, OutOfMemory};
 use std::alloc::Global;
 
 /// The ids of the nodes and of the ways that an object lists.
-#[derive(Debug, Drop)]
+#[derive(Drop)]
 pub struct Listed {
     pub nodes: RisingIds,
     pub ways: RisingIds,

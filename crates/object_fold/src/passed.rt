@@ -11,7 +11,7 @@ use osm_base::{Entry, Key, LimitKind, Limits};
 use std::alloc::Global;
 
 /// What of a file stands before a line.
-#[derive(Clone, Copy, Debug)]
+#[derive(Clone, Copy)]
 pub struct Passed {
     pub lines: u64,
     pub entries: u64,

@@ -15,7 +15,7 @@ use osm_base::{LimitKind, Limits};
 use std::alloc::Global;
 
 /// How far a file was read.
-#[derive(Debug, Drop)]
+#[derive(Drop)]
 pub struct Progress {
     pub reader: LineReader,
     pub passed: Passed,

@@ -12,7 +12,7 @@ use std::alloc::{AllocError, Global};
 use thiserror::Error;
 
 /// What ends the reading of all bytes of a file.
-#[derive(Clone, Copy, Debug, PartialEq, Eq, Error)]
+#[derive(Clone, Copy, Debug, Error)]
 pub enum WholeFault {
     #[error("the file is too long")]
     TooLong,

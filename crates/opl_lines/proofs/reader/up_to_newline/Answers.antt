@@ -1,6 +1,5 @@
 use Rattle.std.proofs.Common.{eq-eqb, arith}
 use Rattle.std.proofs.lemmas.Bool.{eqb-true}
-use Rattle.opl_lines.specs.declared.reader.TheConstants.{NEWLINE}
 use Rattle.opl_lines.proofs.LineLemmas.{front_ended}
 use Rattle.opl_lines.proofs.reader.up_to_newline.Goals as goal
 
