@@ -14,7 +14,7 @@ use osm_base::{Entry, Kind, OutOfMemory};
 use std::alloc::Global;
 
 /// An id that an object lists.
-#[derive(Clone, Copy, Debug, PartialEq, Eq)]
+#[derive(Clone, Copy, PartialEq, Eq)]
 pub struct Mention {
     /// The block, the node or the way that is listed.
     pub id: u64,

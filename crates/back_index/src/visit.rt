@@ -22,7 +22,7 @@ pub fn shared_numbers()
 {}
 
 /// A list of the index that is looked at where an object comes, goes or changes.
-#[derive(Clone, Copy, Debug, PartialEq, Eq)]
+#[derive(Clone, Copy, PartialEq, Eq)]
 pub struct Visit {
     /// The map of the list.
     pub which: u8,

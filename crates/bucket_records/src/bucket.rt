@@ -19,7 +19,7 @@ use value_bytes::ValueFault;
 
 /// A finite map from keys to values: records in bytes, and what was changed since they were read. It knows the bytes
 /// that it was read from.
-#[derive(Debug, Drop)]
+#[derive(Drop)]
 pub struct Bucket {
     alloc: Global,
     records: Records,

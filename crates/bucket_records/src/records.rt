@@ -14,7 +14,7 @@ use std::marker::Model;
 use value_bytes::ValueFault;
 
 /// Records by strictly rising keys, as they lie in bytes.
-#[derive(Debug, Drop)]
+#[derive(Drop)]
 pub struct Records {
     bytes: Vec<u8>,
     // How many there are.

@@ -10,7 +10,7 @@ use std::collections::BTreeMap;
 use std::marker::Model;
 
 /// A bucket, and whether the transaction has changed it.
-#[derive(Debug, Drop)]
+#[derive(Drop)]
 pub struct Cached {
     pub bucket: Bucket,
     pub changed: bool,

@@ -13,7 +13,7 @@ use crate::numbers::number_at;
 use crate::walking::Walked;
 
 /// The root page and the directories of a store.
-#[derive(Debug, Drop)]
+#[derive(Drop)]
 pub struct Kept {
     front: Vec<u8>,
     directories: Vec<Walked>,

@@ -1,7 +1,7 @@
 //! The fields of a store that are not its chains.
 
 /// The fields of a store that are not its chains.
-#[derive(Clone, Copy, Debug, PartialEq, Eq)]
+#[derive(Clone, Copy, PartialEq, Eq)]
 pub struct Root {
     pub format: u64,
     pub state: u64,

@@ -15,7 +15,7 @@ use page_journal::{Journal, StoreFault};
 use std::alloc::Global;
 
 /// The pages of a chain, and the bytes that they hold.
-#[derive(Debug, Drop)]
+#[derive(Drop)]
 pub struct Walked {
     pub pages: Vec<u64>,
     pub bytes: Vec<u8>,

@@ -5,7 +5,7 @@ use osm_base::{Ids, Items, OutOfMemory, RowLists, TableRows};
 use std::alloc::Global;
 
 /// The tickets that a worker drew, in order, and at the same places the rows of each.
-#[derive(Debug, Drop)]
+#[derive(Drop)]
 pub struct Part {
     pub tickets: Ids,
     pub rows: RowLists,

@@ -9,7 +9,7 @@ use osm_base::{GeoBox, Key, OutOfMemory, Spot};
 use std::collections::BTreeSet;
 
 /// The mark of a box: its table, the number of the part of the earth that holds it, and the key of its object.
-#[derive(Clone, Copy, Debug, PartialEq, Eq, PartialOrd, Ord)]
+#[derive(Clone, Copy, PartialEq, Eq, PartialOrd, Ord)]
 pub struct Mark {
     pub table: u32,
     pub part: u32,

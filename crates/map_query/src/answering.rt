@@ -12,7 +12,7 @@ use std::alloc::Global;
 use style_read::Style;
 
 /// What a query finds.
-#[derive(Debug, Drop)]
+#[derive(Drop)]
 pub enum Found {
     /// How many rows there are.
     Count(u64),

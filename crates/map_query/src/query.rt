@@ -2,7 +2,7 @@
 use osm_base::{GeoBox, Items, Key};
 
 /// A question about the rows of one table, which is named by its number from 0.
-#[derive(Clone, Copy, Debug, PartialEq, Eq)]
+#[derive(Clone, Copy, PartialEq, Eq)]
 pub enum Query {
     /// How many rows it has.
     Count { table: u32 },

@@ -6,7 +6,7 @@ use std::alloc::Global;
 use value_bytes::{Spelled, ValueFault};
 
 /// The place of a node and its tags.
-#[derive(Debug, Drop)]
+#[derive(Drop)]
 pub struct NodeRecord {
     /// `None`: it has no place.
     pub place: Option<Place>,

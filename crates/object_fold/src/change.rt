@@ -11,7 +11,7 @@ use std::alloc::Global;
 use std::marker::Model;
 
 /// Entries whose keys strictly rise, each object of its key's kind; the nodes of a way have ids.
-#[derive(Debug, Drop)]
+#[derive(Drop)]
 pub struct Change {
     entries: Vec<Entry>,
 }

@@ -8,7 +8,7 @@ use std::alloc::Global;
 use std::marker::Model;
 
 /// Ids, each once, from the least to the greatest.
-#[derive(Debug, Drop)]
+#[derive(Drop)]
 pub struct RisingIds {
     ids: Vec<u64>,
 }

@@ -6,7 +6,7 @@ ghost use Rattle.outside.specs.Causes.{HasCause};
 use crate::{Failed, Fails};
 use std::marker::Model;
 
-#[derive(Debug, Drop)]
+#[derive(Drop)]
 pub struct Calls {
     fails: Fails,
     made: u64,

@@ -8,7 +8,7 @@ use std::marker::Model;
 
 /// The calls of an object in memory that are to fail, by their numbers from 1 on: each whose number
 /// stands in a list and, from some number on, every one.
-#[derive(Debug, Drop)]
+#[derive(Drop)]
 pub struct Fails {
     at: Ids,
     from: u64,

@@ -7,7 +7,7 @@ use std::mem;
 
 /// Files whose bytes are given out from the front. Only where another file is turned to, what is left
 /// of the one before is moved to its front.
-#[derive(Debug, Drop)]
+#[derive(Drop)]
 pub struct FilesLeft {
     files: Vec<Bytes>,
     current: usize,

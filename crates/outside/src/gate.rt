@@ -3,7 +3,7 @@
 /// Where a thread passes a gate. The number that it brings is the ticket at `Drawn` and `Built`, the
 /// change file's number from 1 at `BeforeChange`, the version at `Published`, and the reader's number
 /// from 1 at `BeforeLook`.
-#[derive(Clone, Copy, Debug, PartialEq, Eq)]
+#[derive(Clone, Copy, PartialEq, Eq)]
 pub enum GatePlace {
     Drawn,
     Built,
@@ -20,7 +20,7 @@ pub trait Gate: Send + Sync {
 }
 
 /// A gate that holds nobody.
-#[derive(Clone, Copy, Debug, PartialEq, Eq)]
+#[derive(Clone, Copy, PartialEq, Eq)]
 pub struct OpenGate;
 
 impl Gate for OpenGate {

@@ -17,7 +17,7 @@ use std::alloc::{AllocError, Global};
 
 /// A disk in memory that keeps every call, so that a crash in any of them can be tried. It fails at the
 /// calls that a plan names and for want of memory, and nowhere else.
-#[derive(Debug, Drop)]
+#[derive(Drop)]
 pub struct MemDisk {
     recorded: Recorded,
     calls: Calls,

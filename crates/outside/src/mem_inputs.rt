@@ -14,7 +14,7 @@ use std::marker::Model;
 
 /// Files in memory, of which each call tells how many bytes are left. They fail at the calls that a
 /// plan names and at a word that has no file, and nowhere else.
-#[derive(Debug, Drop)]
+#[derive(Drop)]
 pub struct MemInputs {
     files: FilesLeft,
     calls: Calls,

@@ -11,7 +11,7 @@ use std::marker::Model;
 
 /// A sink that keeps all that it takes, and takes all of each piece. It fails at the calls that a plan
 /// names and for want of memory, and nowhere else.
-#[derive(Debug, Drop)]
+#[derive(Drop)]
 pub struct MemSink {
     taken: Vec<u8>,
     short: bool,

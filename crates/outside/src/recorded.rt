@@ -14,7 +14,7 @@ use osm_base::Bytes;
 use std::alloc::{AllocError, Global};
 
 /// Bytes in memory, and all calls that made them of those that were there first.
-#[derive(Debug, Drop)]
+#[derive(Drop)]
 pub struct Recorded {
     start: Option<Vec<u8>>,
     bytes: Vec<u8>,

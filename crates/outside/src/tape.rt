@@ -7,7 +7,7 @@ use osm_base::Bytes;
 use std::alloc::AllocError;
 
 /// A call of a disk in memory. The flag says that it was done, and not refused.
-#[derive(Debug, Drop)]
+#[derive(Drop)]
 pub enum Call {
     Look,
     Write(u64, Bytes, bool),

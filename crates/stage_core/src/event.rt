@@ -1,7 +1,7 @@
 //! The steps of the machine.
 
 /// One atomic action of one actor. Workers and readers are numbered from 0.
-#[derive(Clone, Copy, Debug, PartialEq, Eq)]
+#[derive(Clone, Copy, PartialEq, Eq)]
 pub enum Event {
     /// A worker draws the next number.
     Draw(u32),

@@ -11,7 +11,7 @@ use std::alloc::Global;
 use std::marker::Model;
 
 /// A state that events reached. Proofs see the whole of it.
-#[derive(Debug, Drop)]
+#[derive(Drop)]
 pub struct CoreState {
     tickets: u32,
     next: u64,

@@ -7,7 +7,7 @@ use std::alloc::Global;
 use std::marker::Model;
 
 /// The tickets that a worker drew, and what it did with them.
-#[derive(Debug, Drop)]
+#[derive(Drop)]
 pub struct Worker {
     tickets: Vec<u32>,
     built: usize,

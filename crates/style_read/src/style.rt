@@ -48,7 +48,7 @@ pub struct Selection {
 pub type Selections = Items<Selection>;
 
 /// Of what objects a table has rows.
-#[derive(Clone, Copy, Debug, PartialEq, Eq)]
+#[derive(Clone, Copy, PartialEq, Eq)]
 pub enum Source {
     Node,
     Way,
@@ -58,7 +58,7 @@ pub enum Source {
 }
 
 /// Which tiles a changed area makes due.
-#[derive(Clone, Copy, Debug, PartialEq, Eq)]
+#[derive(Clone, Copy, PartialEq, Eq)]
 pub enum Mode {
     /// Those that its boundary meets.
     Boundary,

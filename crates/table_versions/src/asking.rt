@@ -15,7 +15,7 @@ use std::alloc::Global;
 pub type Answers = Items<Answer>;
 
 /// What a reader answers to a list of queries.
-#[derive(Debug, Drop)]
+#[derive(Drop)]
 pub struct Round {
     pub answers: Answers,
     /// It was not let in at the query behind these answers.

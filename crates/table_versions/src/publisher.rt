@@ -19,7 +19,7 @@ use std::sync::Wait;
 pub(crate) type Board = Writer<Shown, Step, View, Published>;
 
 /// Why nothing was published.
-#[derive(Clone, Copy, Debug, PartialEq, Eq)]
+#[derive(Clone, Copy, PartialEq, Eq)]
 pub enum PublishRefused {
     /// An earlier publish was refused.
     Stopped,

@@ -7,7 +7,7 @@ use crate::climb::{Climb, from_pole, lat_from_pole, lat_south_of};
 use std::marker::Model;
 
 /// The latitudes that bound the rows of tiles of a zoom, from north to south.
-#[derive(Debug, Drop)]
+#[derive(Drop)]
 pub struct Bounds {
     zoom: u32,
     lats: Vec<i32>,

@@ -8,7 +8,7 @@ use osm_base::{MAX_LAT, MAX_LON, Place};
 
 /// The ends of a segment: longitudes counted from the antimeridian on and taken as often as there are columns, latitudes
 /// from the south pole on.
-#[derive(Clone, Copy, Debug)]
+#[derive(Clone, Copy)]
 pub(crate) struct Climb {
     pub(crate) start: u64,
     pub(crate) south: u64,

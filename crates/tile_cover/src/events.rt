@@ -11,7 +11,7 @@ use crate::span::{Span, span_in};
 use osm_base::{Geometry, LineList, OutOfMemory, Place, Places};
 
 /// The columns that one segment meets in one row.
-#[derive(Clone, Copy, Debug)]
+#[derive(Clone, Copy)]
 pub(crate) struct Event {
     pub(crate) row: u32,
     pub(crate) span: Span,

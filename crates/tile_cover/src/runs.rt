@@ -11,7 +11,7 @@ use std::marker::Model;
 pub const MAX_ZOOM: u32 = 16;
 
 /// Tiles side by side: the columns from `first` to `last`, in row `y` of a zoom.
-#[derive(Clone, Copy, Debug, PartialEq, Eq)]
+#[derive(Clone, Copy, PartialEq, Eq)]
 pub struct Run {
     pub zoom: u32,
     /// The row, from 0 in the north.
@@ -21,7 +21,7 @@ pub struct Run {
 }
 
 /// A set of tiles. Each set is told by one list of runs: sorted, and those of a row apart by at least a column.
-#[derive(Debug, Drop)]
+#[derive(Drop)]
 pub struct TileRuns {
     runs: Vec<Run>,
 }

@@ -10,7 +10,7 @@ use crate::span::{Span, span_in};
 use osm_base::{Geometry, LineList, Place, Places};
 
 /// A tile: its column, how many there are, and the sides of its row from the south pole on.
-#[derive(Clone, Copy, Debug)]
+#[derive(Clone, Copy)]
 pub(crate) struct Tile {
     pub(crate) x: u32,
     pub(crate) columns: u32,
@@ -19,7 +19,7 @@ pub(crate) struct Tile {
 }
 
 /// What is seen of segments.
-#[derive(Clone, Copy, Debug)]
+#[derive(Clone, Copy)]
 pub(crate) struct Seen {
     /// One touches the tile.
     pub(crate) touched: bool,

@@ -6,7 +6,7 @@ ghost use Rattle.tile_cover.specs.Tile.{box_between};
 use crate::climb::Climb;
 
 /// The columns of a row that a segment meets, from the first to the last.
-#[derive(Clone, Copy, Debug)]
+#[derive(Clone, Copy)]
 pub(crate) struct Span {
     pub(crate) first: u32,
     pub(crate) last: u32,

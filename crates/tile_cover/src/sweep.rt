@@ -11,7 +11,7 @@ use osm_base::OutOfMemory;
 use std::alloc::Global;
 
 /// How far the walk has come.
-#[derive(Clone, Copy, Debug)]
+#[derive(Clone, Copy)]
 pub(crate) struct Cursor {
     row: u32,
     /// The first column of the row that is not decided yet.

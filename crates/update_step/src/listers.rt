@@ -6,7 +6,7 @@ use osm_base::Ids;
 use std::marker::Model;
 
 /// Rising ids of relations.
-#[derive(Debug, Drop)]
+#[derive(Drop)]
 pub(crate) struct Listers {
     ids: Ids,
 }

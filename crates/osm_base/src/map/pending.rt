@@ -7,7 +7,7 @@ use std::alloc::Global;
 use std::marker::Model;
 
 /// Nodes, ways and relations that wait until their rows are built anew, each list by rising ids.
-#[derive(Debug, Drop)]
+#[derive(Drop)]
 pub struct PendingSet {
     nodes: Ids,
     ways: Ids,

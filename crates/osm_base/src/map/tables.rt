@@ -12,7 +12,7 @@ use std::marker::Model;
 
 /// Where a row stands: the number of its table, from 0, and the key of its object. They are ordered by table and then
 /// by key.
-#[derive(Clone, Copy, Debug, PartialEq, Eq, PartialOrd, Ord)]
+#[derive(Clone, Copy, PartialEq, Eq, PartialOrd, Ord)]
 pub struct Spot {
     pub table: u32,
     pub key: Key,

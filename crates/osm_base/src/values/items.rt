@@ -73,7 +73,7 @@ impl TryCopy for Place {
 }
 
 /// A growing list.
-#[derive(Debug, Drop)]
+#[derive(Drop)]
 pub struct Items<T> {
     items: Vec<T>,
 }

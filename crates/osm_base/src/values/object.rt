@@ -5,7 +5,7 @@ use crate::{Ids, Items, Key, OutOfMemory, Place, Tags, Text, TryCopy};
 use std::alloc::Global;
 
 /// A member of a relation, with its role.
-#[derive(Debug, Drop)]
+#[derive(Drop)]
 pub struct Member {
     pub key: Key,
     pub role: Text,
@@ -15,7 +15,7 @@ pub struct Member {
 pub type Members = Items<Member>;
 
 /// What a map knows of a node, a way or a relation.
-#[derive(Debug, Drop)]
+#[derive(Drop)]
 pub enum Object {
     /// A node; `None` where it has no place.
     Node { place: Option<Place>, tags: Tags },
@@ -25,7 +25,7 @@ pub enum Object {
 }
 
 /// What a line of a file says: the object of this key is now this one, or is deleted.
-#[derive(Debug, Drop)]
+#[derive(Drop)]
 pub struct Entry {
     pub key: Key,
     /// `None`: deleted.

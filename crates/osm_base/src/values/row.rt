@@ -5,7 +5,7 @@ use crate::{Items, Key, LineList, OutOfMemory, Place, Places, Polygons, Text, Tr
 use std::alloc::Global;
 
 /// Where a row is.
-#[derive(Debug, Drop)]
+#[derive(Drop)]
 pub enum Geometry {
     Point(Place),
     /// The points of a way.
@@ -17,7 +17,7 @@ pub enum Geometry {
 }
 
 /// What a row says in a column.
-#[derive(Debug, Drop)]
+#[derive(Drop)]
 pub enum Cell {
     /// Nothing.
     Null,
@@ -29,14 +29,14 @@ pub enum Cell {
 pub type Cells = Items<Cell>;
 
 /// A row of a table.
-#[derive(Debug, Drop)]
+#[derive(Drop)]
 pub struct Row {
     pub cells: Cells,
     pub geometry: Geometry,
 }
 
 /// A row, and the number of its table, from 0.
-#[derive(Debug, Drop)]
+#[derive(Drop)]
 pub struct TableRow {
     pub table: u32,
     pub row: Row,
@@ -49,7 +49,7 @@ pub type TableRows = Items<TableRow>;
 pub type RowLists = Items<TableRows>;
 
 /// A row, and the number that it has in its table: the id of its object, negated where a relation bounds an area.
-#[derive(Debug, Drop)]
+#[derive(Drop)]
 pub struct NumberedRow {
     pub number: i64,
     pub row: Row,
@@ -59,7 +59,7 @@ pub struct NumberedRow {
 pub type RowList = Items<NumberedRow>;
 
 /// What became of the row that an object has in a table.
-#[derive(Debug, Drop)]
+#[derive(Drop)]
 pub struct RowChange {
     pub table: u32,
     pub key: Key,
@@ -71,7 +71,7 @@ pub struct RowChange {
 pub type RowChanges = Items<RowChange>;
 
 /// What a change of the map makes of the tables.
-#[derive(Debug, Drop)]
+#[derive(Drop)]
 pub struct Delta {
     /// How many changes the tables have seen with it.
     pub version: u64,

@@ -22,7 +22,7 @@ use std::marker::Model;
 const FEW: usize = 8;
 
 /// Where the key and the value of a tag stand: from `key` to `value`, and from there to `end`.
-#[derive(Clone, Copy, Debug)]
+#[derive(Clone, Copy)]
 struct Span {
     key: usize,
     value: usize,
@@ -30,7 +30,7 @@ struct Span {
 }
 
 /// Keys with their values, each key once, by rising keys.
-#[derive(Debug, Drop)]
+#[derive(Drop)]
 pub struct Tags {
     text: Vec<u8>,
     spans: Vec<Span>,

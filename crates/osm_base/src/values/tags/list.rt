@@ -15,7 +15,7 @@ use std::alloc::Global;
 use std::marker::Model;
 
 /// Tags in the order of their coming. A key may stand several times.
-#[derive(Debug, Drop)]
+#[derive(Drop)]
 pub struct TagList {
     text: Vec<u8>,
     spans: Vec<Span>,
