@@ -4,11 +4,12 @@ use crate::nesting::nested;
 use crate::nodes::along;
 use crate::pieces::{closed, extended, joined, taken, tested};
 use crate::rows::written;
+use crate::{agreement, covers, due, tables};
 use example_table::Examples;
 use osm_base::OutOfMemory;
 use std::alloc::Global;
 
-/// The examples of geometry and of rows.
+/// The examples of geometry, of rows and of tiles.
 pub struct OfGeometry;
 
 impl Examples for OfGeometry {
@@ -27,7 +28,24 @@ impl Examples for OfGeometry {
             "odd" | "crosses" | "on" | "products" => asked(alloc, kind, given),
             "nest" => nested(alloc, given),
             "row" => written(alloc, given),
-            _ => Ok(None),
+            _ => answer_of_tiles(alloc, kind, given),
         }
+    }
+}
+
+/// What comes out of an example of tiles.
+fn answer_of_tiles(alloc: Global, kind: &str, given: &str) -> Result<Option<String>, OutOfMemory> {
+    match kind {
+        "bounds" => tables::read(alloc, given),
+        "steps" => tables::steps(alloc, given),
+        "cover" => covers::listed(alloc, given),
+        "count" => covers::counted(alloc, given),
+        "meets" => covers::met(alloc, given),
+        "agree" => agreement::agree(alloc, given),
+        "due" => due::spelled(alloc, given),
+        "bytes" => due::read(alloc, given),
+        "union" => due::joined(alloc, given),
+        "text" => due::listed(alloc, given),
+        _ => Ok(None),
     }
 }

@@ -32,7 +32,7 @@ fn place_of_letter(letter: u8) -> Option<Place> {
 }
 
 /// The place with this longitude and latitude, if it is on the earth.
-fn on_earth(lon: i64, lat: i64) -> Option<Place> {
+pub fn on_earth(lon: i64, lat: i64) -> Option<Place> {
     let lon = i32::try_from(lon).ok()?;
     let lat = i32::try_from(lat).ok()?;
     if -MAX_LON <= lon && lon <= MAX_LON && -MAX_LAT <= lat && lat <= MAX_LAT {

@@ -1,7 +1,7 @@
 //! Rows written as lines.
-use crate::notation::{line_of_word, lines_of, place_of};
-use example_table::{row_of, signed_of, text_of};
-use osm_base::{Cell, Cells, Geometry, OutOfMemory, Polygons, Row, Text};
+use crate::shapes::geometry_of;
+use example_table::{signed_of, text_of};
+use osm_base::{Cell, Cells, OutOfMemory, Row, Text};
 use row_text::push_row;
 use std::alloc::{AllocError, Global};
 
@@ -28,7 +28,7 @@ fn row_of_fields(alloc: Global, cells: &str, geometry: &str) -> Result<Option<Ro
     let Some(cells) = cells_of(alloc, cells)? else {
         return Ok(None);
     };
-    let Some(geometry) = geometry_of(alloc, geometry)? else {
+    let Some(geometry) = geometry_of(alloc, geometry, '|')? else {
         return Ok(None);
     };
     Ok(Some(Row { cells, geometry }))
@@ -71,49 +71,6 @@ fn text_cell_of(alloc: Global, field: &str) -> Result<Option<Cell>, OutOfMemory>
         None => Ok(None),
         Some(text) => Ok(Some(Cell::Text(Text::from_string(text)))),
     }
-}
-
-/// The geometry of a text: `point PLACE`, `line LINE`, `lines LINE..`, `area RING..` with `|` between polygons.
-fn geometry_of(alloc: Global, text: &str) -> Result<Option<Geometry>, OutOfMemory> {
-    let Some((kind, text)) = row_of(text) else {
-        return Ok(None);
-    };
-    match kind {
-        "point" => Ok(point_of(text)),
-        "line" => line_geometry_of(alloc, text),
-        "lines" => lines_geometry_of(alloc, text),
-        "area" => area_of(alloc, text),
-        _ => Ok(None),
-    }
-}
-
-fn point_of(text: &str) -> Option<Geometry> {
-    Some(Geometry::Point(place_of(text)?))
-}
-
-fn line_geometry_of(alloc: Global, text: &str) -> Result<Option<Geometry>, OutOfMemory> {
-    match line_of_word(alloc, text)? {
-        None => Ok(None),
-        Some(line) => Ok(Some(Geometry::Line(line))),
-    }
-}
-
-fn lines_geometry_of(alloc: Global, text: &str) -> Result<Option<Geometry>, OutOfMemory> {
-    match lines_of(alloc, text)? {
-        None => Ok(None),
-        Some(lines) => Ok(Some(Geometry::Lines(lines))),
-    }
-}
-
-fn area_of(alloc: Global, text: &str) -> Result<Option<Geometry>, OutOfMemory> {
-    let mut polygons = Polygons::new(alloc);
-    for part in text.split('|') {
-        let Some(rings) = lines_of(alloc, part)? else {
-            return Ok(None);
-        };
-        polygons.push(rings)?;
-    }
-    Ok(Some(Geometry::Area(polygons)))
 }
 
 /// A text as a field of a table.

@@ -3,30 +3,39 @@
 //! The tables in `data` go the way of the data: values (`degrees.txt`, `keys.txt`, `limits.txt`,
 //! `tags.txt`), files in pieces (`cuts.txt`), all bytes of a file (`whole.txt`),
 //! entries of a file (`entries.txt`), reads that fail and files over several reads (`reads.txt`), objects
-//! after changes (`folds.txt`), the ways that a change makes due (`ways_due.txt`) and the objects whose rows
-//! it may change (`pending.txt`). The head of each says what its columns are, and where what is wanted comes
-//! from.
+//! after changes (`folds.txt`), the ways that a change makes due (`ways_due.txt`), the objects whose rows
+//! it may change (`pending.txt`), and single lines through both readers (`lines.txt`). The head of each says what its
+//! columns are, and where what is wanted comes from. Then both readers read a million lines that are made, and the program
+//! prints how many came to what.
 //!
 //! What runs an example adds what is found to bytes that `passes` owns, and says whether its row is in its form.
 #![tactic(auto)]
 
+mod bent;
+mod both;
 mod changes;
+mod counts;
 mod cuts;
 mod cutting;
+mod dice;
 mod entries;
 mod key;
+mod lines;
+mod made;
+mod million;
 mod pending_sets;
 mod questions;
 mod tags;
 mod values;
 
 use example_table::{bytes_of, row_of, sides_of};
+use million::are_made_lines_fine;
 use std::alloc::{AllocError, Global};
 use std::process::ExitCode;
 use std::{fs, io};
 
 /// The tables.
-const TABLES: [&str; 11] = [
+const TABLES: [&str; 12] = [
     "degrees.txt",
     "keys.txt",
     "limits.txt",
@@ -38,6 +47,7 @@ const TABLES: [&str; 11] = [
     "folds.txt",
     "ways_due.txt",
     "pending.txt",
+    "lines.txt",
 ];
 
 fn main(rt: HostRuntime) -> io::Result<ExitCode> {
@@ -47,7 +57,8 @@ fn main(rt: HostRuntime) -> io::Result<ExitCode> {
             return Ok(ExitCode::from(1));
         }
     }
-    Ok(ExitCode::from(0))
+    let same = are_made_lines_fine(&rt, rt.alloc())?;
+    Ok(ExitCode::from(if same { 0 } else { 1 }))
 }
 
 /// Runs the examples of a table up to the first that differs. True: none does.
@@ -136,6 +147,7 @@ fn put_found(
         "reads.txt" => entries::reads(alloc, found, word, given),
         "ways_due.txt" => changes::ways(alloc, found, given),
         "pending.txt" => pending_sets::sets(alloc, found, given),
+        "lines.txt" => lines::lines(alloc, found, given),
         _ => Ok(false),
     }
 }

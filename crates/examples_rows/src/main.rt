@@ -1,24 +1,39 @@
-//! Runs the examples of styles, of the texts of tables and of rows, and prints the name of each up to the first that differs.
+//! Runs the examples of styles, of the texts of tables, of rows and of queries, and prints the name of each up to the first
+//! that differs.
 //!
 //! The head of each table says what its columns are, and where what is wanted comes from. What runs an example adds what
 //! comes out to a text, and says whether its row is in its form; want of memory may be told as a row that is not.
 #![tactic(auto)]
 
+mod asking;
 mod many;
+mod notation;
 mod objects;
+mod reading;
+mod refusal;
 mod styles;
 mod tables;
 
 use example_table::{Examples, run_examples};
+use refusal::Refusal;
 use std::alloc::{AllocError, Global};
 use std::io;
 use std::process::ExitCode;
 
+/// The tables, those of the lower crates first.
+const TABLES: [&str; 5] = [
+    "styles.txt",
+    "tables.txt",
+    "objects.txt",
+    "queries.txt",
+    "answers.txt",
+];
+
 fn main(rt: HostRuntime) -> io::Result<ExitCode> {
-    run_examples::<OfRows, HostRuntime>(&rt, &["styles.txt", "tables.txt", "objects.txt"])
+    run_examples::<OfRows, HostRuntime>(&rt, &TABLES)
 }
 
-/// The examples of styles, of texts and of rows.
+/// The examples of styles, of texts, of rows and of queries.
 struct OfRows;
 
 impl Examples for OfRows {
@@ -46,6 +61,17 @@ fn put_answer(
         "rows" => objects::rows(alloc, answer, given, false),
         "rows_at_once" => objects::rows(alloc, answer, given, true),
         "selects" => objects::selected(alloc, answer, given),
+        "read" => is_row(reading::read(alloc, given, answer)),
+        "ask" => is_row(asking::asked(alloc, given, answer)),
         _ => Ok(false),
+    }
+}
+
+/// Whether a row is in its form, by its outcome.
+fn is_row(outcome: Result<(), Refusal>) -> Result<bool, AllocError> {
+    match outcome {
+        Ok(()) => Ok(true),
+        Err(Refusal::NoRow) => Ok(false),
+        Err(Refusal::OutOfMemory) => Err(AllocError),
     }
 }

@@ -111,8 +111,8 @@ fn row_with(alloc: Global, word: &str) -> Result<Row, OutOfMemory> {
     Ok(Row { cells, geometry })
 }
 
-/// The table and the key of a word.
-fn spot_of(word: &str) -> Option<(u32, Key)> {
+/// The table and the key of a word `TABLE:KIND:ID`.
+pub fn spot_of(word: &str) -> Option<(u32, Key)> {
     let (table, key) = word.split_once(':')?;
     let table = u32::try_from(number_of(table)?).ok()?;
     Some((table, key_of(key)?))

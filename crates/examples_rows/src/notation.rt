@@ -1,10 +1,9 @@
-//! The style of the examples, and rows as words write them.
+//! The style of the examples of queries, and rows as words write them.
 use crate::refusal::Refusal;
-use example_table::number_of;
+use crate::tables::spot_of;
 use map_query::{Queries, QueryFault, read_queries};
 use osm_base::{
-    Cell, Cells, Geometry, Items, Key, Kind, LineList, MAX_ID, MAX_LAT, MAX_LON, Place, Places,
-    Row, RowChange, Tables,
+    Cell, Cells, Geometry, Items, LineList, MAX_LAT, MAX_LON, Place, Places, Row, RowChange, Tables,
 };
 use std::alloc::Global;
 use style_read::{Style, read_style};
@@ -50,28 +49,6 @@ fn change_of(alloc: Global, word: &str) -> Result<RowChange, Refusal> {
     let geometry = geometry_of(alloc, shape)?;
     let row = Some(Row { cells, geometry });
     Ok(RowChange { table, key, row })
-}
-
-/// The table and the key of a word `TABLE:KIND:ID`.
-fn spot_of(word: &str) -> Option<(u32, Key)> {
-    let (table, key) = word.split_once(':')?;
-    let (kind, id) = key.split_once(':')?;
-    let table = table.parse::<u32>().ok()?;
-    let kind = kind_of(kind)?;
-    let id = number_of(id)?;
-    if id == 0 || id > MAX_ID {
-        return None;
-    }
-    Some((table, Key::new(kind, id)))
-}
-
-fn kind_of(word: &str) -> Option<Kind> {
-    match word {
-        "node" => Some(Kind::Node),
-        "way" => Some(Kind::Way),
-        "relation" => Some(Kind::Relation),
-        _ => None,
-    }
 }
 
 /// The geometry of a word: a place `X,Y`; behind a letter `l` the places of a line, with semicolons between

@@ -1,9 +1,41 @@
 //! Tables of boundaries.
-use crate::notation::{steps_text, table_text};
-use example_table::bytes_of;
+use example_table::{bytes_of, number_of, signed_of};
 use osm_base::OutOfMemory;
 use std::alloc::Global;
 use tile_cover::{Bounds, BoundsFault, read_bounds};
+
+/// The lines of a table: latitudes with `:` between them, or even steps.
+fn table_text(alloc: Global, word: &str) -> Result<Option<String>, OutOfMemory> {
+    if word.contains(',') {
+        return steps_text(alloc, word);
+    }
+    let mut text = String::new(alloc);
+    for lat in word.split(':') {
+        text.push_str(lat)?;
+        text.push('\n')?;
+    }
+    Ok(Some(text))
+}
+
+/// The lines of a table `FIRST,STEP,COUNT`.
+fn steps_text(alloc: Global, word: &str) -> Result<Option<String>, OutOfMemory> {
+    let Some((first, step, count)) = steps_of(word) else {
+        return Ok(None);
+    };
+    let mut text = String::new(alloc);
+    let mut lat = first;
+    for _ in 0..count {
+        write!(text, "{lat}\n")?;
+        lat = lat.saturating_sub(step);
+    }
+    Ok(Some(text))
+}
+
+fn steps_of(word: &str) -> Option<(i64, i64, u64)> {
+    let (first, rest) = word.split_once(',')?;
+    let (step, count) = rest.split_once(',')?;
+    Some((signed_of(first)?, signed_of(step)?, number_of(count)?))
+}
 
 /// What reading these bytes gives: the zoom, or the line that is not good.
 fn answer(alloc: Global, bytes: &[u8]) -> Result<Option<String>, OutOfMemory> {

@@ -1,5 +1,5 @@
 //! The tiles that geometries meet.
-use crate::notation::{geometry_of, mode_of};
+use crate::shapes::geometry_of;
 use crate::tables::table_of;
 use example_table::{number_of, row_of};
 use osm_base::{Geometry, OutOfMemory};
@@ -29,7 +29,7 @@ fn asked_of(alloc: Global, given: &str) -> Result<Option<Asked>, OutOfMemory> {
     let Some(table) = table_of(alloc, word)? else {
         return Ok(None);
     };
-    let Some(geometry) = geometry_of(alloc, text)? else {
+    let Some(geometry) = geometry_of(alloc, text, '/')? else {
         return Ok(None);
     };
     Ok(Some(Asked {
@@ -37,6 +37,15 @@ fn asked_of(alloc: Global, given: &str) -> Result<Option<Asked>, OutOfMemory> {
         mode,
         geometry,
     }))
+}
+
+/// The mode that a word names.
+fn mode_of(word: &str) -> Option<Mode> {
+    match word {
+        "full" => Some(Mode::Full),
+        "boundary" => Some(Mode::Boundary),
+        _ => None,
+    }
 }
 
 /// The runs of a cover, a word `ZOOM/ROW:FIRST-LAST` each.

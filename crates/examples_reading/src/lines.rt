@@ -2,7 +2,7 @@
 ghost use Rattle.opl_object.specs.Written.{IsWritable};
 
 use crate::both::outcome_of;
-use example_table::{bytes_of, sides_of};
+use example_table::bytes_of;
 use opl_object::{LineRefused, Why, read_line, write_entry};
 use osm_base::{Entry, Ids};
 use outside::{Fails, MemSink};
@@ -11,23 +11,14 @@ use std::alloc::{AllocError, Global};
 /// More calls of a sink than a line of the tables takes.
 const MOST_CALLS: u64 = 4_000;
 
-/// Adds what reading the line of a row `GIVEN => WANTED` gives: `skipped`, `cause N`, or the line that is written of the
-/// entry. True: it is what is wanted, and both readers give it.
-pub fn is_fine(alloc: Global, found: &mut Vec<u8>, text: &str) -> Result<bool, AllocError> {
-    let Some((given, wanted)) = sides_of(text) else {
-        return Ok(false);
-    };
-    match bytes_of(alloc, given)? {
-        Some(line) => put_found(alloc, found, &line)?,
-        None => return Ok(false),
-    }
-    is_text(alloc, found, wanted)
-}
-
-/// Whether bytes are what a field writes.
-fn is_text(alloc: Global, bytes: &[u8], field: &str) -> Result<bool, AllocError> {
+/// Adds what reading the line of a row gives, by both readers: `skipped`, `cause N`, or the line that is written of the
+/// entry.
+pub fn lines(alloc: Global, found: &mut Vec<u8>, field: &str) -> Result<bool, AllocError> {
     match bytes_of(alloc, field)? {
-        Some(wanted) => Ok(bytes == wanted.as_slice()),
+        Some(line) => {
+            put_found(alloc, found, &line)?;
+            Ok(true)
+        }
         None => Ok(false),
     }
 }

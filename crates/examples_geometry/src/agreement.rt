@@ -1,5 +1,5 @@
 //! Covers against the test of each tile, for geometries by chance.
-use crate::notation::place_at;
+use crate::notation::on_earth;
 use crate::tables::table_of;
 use example_table::{number_of, row_of};
 use osm_base::{Geometry, LineList, OutOfMemory, Places, Polygons};
@@ -33,7 +33,7 @@ fn line_by_chance(alloc: Global, state: &mut u64, count: u64) -> Result<Places, 
         // Each second place of the grid is a corner of tiles, and a third of the places lies on the grid.
         let lon = across * 225_000_000 - 1_800_000_000 - off;
         let lat = along * 100 - 1_000 + off;
-        if let Some(place) = place_at(lon, lat) {
+        if let Some(place) = on_earth(lon, lat) {
             places.push(place)?;
         }
     }
