@@ -130,3 +130,6 @@ on_err A (Err fault) b is told a = a
 pub on_done : {E : Type 0} (A : Type 0) (result : Result (Unit {0}) E) (b : Bool) → b ≡ is_err result → b ≡ false → OnOk result A → A
 on_done A (Ok done) b is told a = a
 on_done A (Err fault) b is told a = absurd (cc)
+
+pub ok_has : {T E : Type 0} (A : T → Type 0) (result : Result T E) (value : T) → result ≡ Ok value → IfOk result A → A value
+ok_has A result value is has = subst (λ r. IfOk r A) is has

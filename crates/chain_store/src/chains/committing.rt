@@ -1,5 +1,5 @@
 //! What a transaction has written is made to stand.
-ghost use Rattle.std.specs.Prelude.{◌≡◌, ◌≢◌, ◌*◌, ◌⊎◌, ◌≤◌, ◌<◌, ◌||◌, List, ℕ, false, is_err, IfOk, IsErr, IsTrue, OnOk};
+ghost use Rattle.std.specs.Prelude.{◌≡◌, ◌≢◌, ◌*◌, ◌⊎◌, ◌≤◌, ◌<◌, ◌||◌, List, ℕ, false, is_err, IfOk, IsErr, IsSome, IsTrue, OnOk, Some};
 ghost use Rattle.std.specs.FinMap as map;
 ghost use Rattle.std.specs.Int.{is_power_of_two};
 ghost use Rattle.outside.specs.Disk.{Goes};
@@ -11,18 +11,20 @@ ghost use Rattle.chain_store.specs.Ends.{Ends, IsCommitAnswer, ReadsFree};
 ghost use Rattle.chain_store.specs.Known.{changed};
 ghost use Rattle.chain_store.specs.Needed.{FitsNeeded, needed};
 ghost use Rattle.chain_store.specs.State.{HasState, IsState};
+ghost use Rattle.chain_store.specs.Taken.{Plans};
 ghost use Rattle.chain_store.specs.declared.root.Root.{Root};
 
 use super::Chains;
-use crate::Root;
 use crate::gathering::gather;
 use crate::layout::FREE;
 use crate::number_map::NumberMap;
 use crate::planning::Plan;
 use crate::walking::walk;
-use osm_base::{Bytes, Ids};
+use crate::{Kept, Root};
+use osm_base::{Bytes, Ids, OutOfMemory};
 use outside::Disk;
 use page_journal::StoreFault;
+use std::alloc::Global;
 use std::mem;
 
 /// What a transaction has written, with marks for the pages that stay, and read, and the fields that it gives the store.
@@ -135,19 +137,13 @@ impl<'d, D: Disk> Chains<'d, D> {
         ensures broken { is_broken (journal_of self.new) ≡ (is_broken (journal_of self.old) || answers_disk_fault result) }
         ensures cause { HasDiskCause (disk_of self.old).faults (disk_of self.new).faults result }
     {
-        let Taken {
-            written,
-            read,
-            before,
-            root,
-        } = taken;
+        let root = taken.root;
         let home = self.journal.pages();
         let free = match walk(self.alloc, &mut self.journal, self.kept.first(FREE), FREE) {
             Ok(free) => free,
             Err(fault) => return Err(fault),
         };
-        let parts = gather(self.alloc, written, read, before)?;
-        let plan = Plan::of(self.alloc, &self.kept, &root, parts, &free.pages, home)?;
+        let plan = planned(self.alloc, &self.kept, taken, &free.pages, home)?;
         let Plan { set, home, kept } = plan;
         if let Err(fault) = self.journal.commit(&set, home) {
             return Err(fault);
@@ -156,4 +152,26 @@ impl<'d, D: Disk> Chains<'d, D> {
         self.kept = kept;
         Ok(())
     }
+}
+
+// What it takes to make this stand, over a store of which that is kept and whose free pages these are.
+fn planned(
+    alloc: Global,
+    kept: &Kept,
+    taken: Taken,
+    free: &[u64],
+    home: u64,
+) -> Result<Plan, OutOfMemory>
+    requires few { taken.root.buckets ≤ 65536 }
+    requires known { (n : ℕ) (bytes : List ℕ) → map.get taken.written n ≡ Some bytes → IsSome (map.get taken.read n) }
+    ensures { IfOk result (λ plan. Plans kept.now taken free.now home plan) }
+{
+    let Taken {
+        written,
+        read,
+        before,
+        root,
+    } = taken;
+    let parts = gather(alloc, written, read, before)?;
+    Plan::of(alloc, kept, &root, parts, free, home)
 }

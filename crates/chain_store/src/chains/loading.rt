@@ -73,7 +73,8 @@ impl<'d, D: Disk> Chains<'d, D> {
             self.refused = true;
             return Err(fault);
         }
-        if self.keep(n, bytes).is_err() {
+        let same = self.marks(n, &bytes);
+        if self.put(n, same, bytes).is_err() {
             self.refused = true;
             return Err(StoreFault::OutOfMemory);
         }
@@ -107,46 +108,12 @@ impl<'d, D: Disk> Chains<'d, D> {
             self.refused = true;
             return Err(fault);
         }
-        if self.keep_over(n, before, bytes).is_err() {
+        let same = self.marks_over(n, before, &bytes);
+        if self.put(n, same, bytes).is_err() {
             self.refused = true;
             return Err(StoreFault::OutOfMemory);
         }
         Ok(())
-    }
-
-    // Gives a chain that was read these bytes.
-    fn keep(&mut self, n: u32, bytes: Bytes) -> Result<(), OutOfMemory>
-        requires string { IsString (root_of self.old).buckets n }
-        requires brought { IsSome (map.get (read_of self.old) n) }
-        ensures written { OnOk result (written_of self.new ≡ map.insert (written_of self.old) n bytes) }
-        ensures err { OnErr result (written_of self.new ≡ written_of self.old) }
-        ensures open { (pages : List (List ℕ)) → IsOpen pages self.old → IsOpen pages self.new }
-        ensures journal { journal_of self.new ≡ journal_of self.old }
-        ensures kept { kept_of self.new ≡ kept_of self.old }
-        ensures root { root_of self.new ≡ root_of self.old }
-        ensures read { read_of self.new ≡ read_of self.old }
-        ensures going { is_refused self.new ≡ is_refused self.old }
-    {
-        let same = self.marks(n, &bytes)?;
-        self.put(n, same, bytes)
-    }
-
-    // The same, where these are the bytes that `load` gives.
-    fn keep_over(&mut self, n: u32, before: Bytes, bytes: Bytes) -> Result<(), OutOfMemory>
-        requires string { IsString (root_of self.old).buckets n }
-        requires brought { IsSome (map.get (read_of self.old) n) }
-        ensures written { OnOk result (written_of self.new ≡ map.insert (written_of self.old) n bytes) }
-        ensures err { OnErr result (written_of self.new ≡ written_of self.old) }
-        ensures open { (pages : List (List ℕ)) → IsOpen pages self.old
-            → LoadedIs pages n (first_of self.old n) (map.get (written_of self.old) n) before → IsOpen pages self.new }
-        ensures journal { journal_of self.new ≡ journal_of self.old }
-        ensures kept { kept_of self.new ≡ kept_of self.old }
-        ensures root { root_of self.new ≡ root_of self.old }
-        ensures read { read_of self.new ≡ read_of self.old }
-        ensures going { is_refused self.new ≡ is_refused self.old }
-    {
-        let same = self.marks_over(n, before, &bytes)?;
-        self.put(n, same, bytes)
     }
 
     // Marks for the pages of a chain that keep their bytes, where its bytes in the store are at hand.
@@ -172,20 +139,29 @@ impl<'d, D: Disk> Chains<'d, D> {
         same_pages(self.alloc, before.as_slice(), bytes.as_slice())
     }
 
-    // Gives a chain that was read these bytes, with marks for the pages that keep theirs.
-    fn put(&mut self, n: u32, same: Bytes, bytes: Bytes) -> Result<(), OutOfMemory>
+    // Gives a chain that was read these bytes, with marks for the pages that keep theirs, where memory was found for them.
+    fn put(
+        &mut self,
+        n: u32,
+        same: Result<Bytes, OutOfMemory>,
+        bytes: Bytes,
+    ) -> Result<(), OutOfMemory>
         requires string { IsString (root_of self.old).buckets n }
         requires brought { IsSome (map.get (read_of self.old) n) }
         ensures written { OnOk result (written_of self.new ≡ map.insert (written_of self.old) n bytes) }
         ensures err { OnErr result (written_of self.new ≡ written_of self.old) }
         ensures open { (pages : List (List ℕ)) → IsOpen pages self.old
-            → IsMarked pages n (first_of self.old n) same bytes → IsOpen pages self.new }
+            → IfOk same (λ same. IsMarked pages n (first_of self.old n) same bytes) → IsOpen pages self.new }
         ensures journal { journal_of self.new ≡ journal_of self.old }
         ensures kept { kept_of self.new ≡ kept_of self.old }
         ensures root { root_of self.new ≡ root_of self.old }
         ensures read { read_of self.new ≡ read_of self.old }
         ensures going { is_refused self.new ≡ is_refused self.old }
     {
+        let same = match same {
+            Ok(same) => same,
+            Err(fault) => return Err(fault),
+        };
         if self.before.put(n, same).is_err() {
             return Err(OutOfMemory);
         }

@@ -1,6 +1,7 @@
-use Rattle.std.proofs.Common.{◌≡◌, ◌∷◌, [], ◌++◌, ◌+◌, ◌*◌, ◌<◌, ℕ, List, length, sym, ap, subst, ◌∙◌, arith, length-append}
+use Rattle.std.proofs.Common.{Bool, ◌||◌, ◌≡◌, ◌∷◌, [], ◌++◌, ◌+◌, ◌*◌, ◌<◌, ℕ, List, length, sym, ap, subst, ◌∙◌, arith, length-append}
 use Rattle.std.proofs.Math.Bool.{or-false}
 use Rattle.outside.specs.Disk.{ReadsAtMost}
+use Rattle.page_journal.specs.Answers.{is_disk_fault}
 use Rattle.page_journal.specs.Journal.{home_count, is_broken, view_of}
 use Rattle.page_journal.specs.Pages.{number}
 use Rattle.page_journal.proofs.ReadCounts.{reads_then}
@@ -52,3 +53,15 @@ loop-m-preserved g c =
           (subst (λ (n : ℕ). ReadsAtMost (length here.pages.items) (4096 * n) (view_of c.loop-m.journal) (view_of c.read_directory.new.journal)) inv.looked.pages ok.reads));
       later = omega (arith, inv.later, ok.cause.later);
     }
+
+pub returns-in-Err-clause-looked : goal.returns-in-Err-clause-looked
+returns-in-Err-clause-looked g c =
+    looked_then c.args.journal.now c.loop-m.journal c.read_directory.new.journal c.loop-m.invariant.looked c.read_directory.ensures.looked
+
+pub returns-in_err-push-clause-looked : goal.returns-in_err-push-clause-looked
+returns-in_err-push-clause-looked g c =
+    looked_then c.args.journal.now c.loop-m.journal c.read_directory.new.journal c.loop-m.invariant.looked c.read_directory.ensures.looked
+
+pub returns-in-Err-clause-broken : goal.returns-in-Err-clause-broken
+returns-in-Err-clause-broken g c =
+    c.in-Err.ensures.broken ∙ ap (λ (b : Bool). b || is_disk_fault c.in-Err.fault) c.loop-m.invariant.broken

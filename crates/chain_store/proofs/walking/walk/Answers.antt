@@ -1,8 +1,9 @@
-use Rattle.std.proofs.Common.{◌≡◌, ◌∷◌, [], ◌+◌, ◌*◌, ◌<◌, ◌≤◌, ◌++◌, ℕ, List, length, refl, sym, ap, subst, ◌∙◌, arith, length-append}
+use Rattle.std.proofs.Common.{Bool, ◌||◌, ◌≡◌, ◌∷◌, [], ◌+◌, ◌*◌, ◌<◌, ◌≤◌, ◌++◌, ℕ, List, length, refl, sym, ap, subst, ◌∙◌, arith, length-append}
 use Rattle.page_journal.specs.Pages.{number}
 use Rattle.std.proofs.Math.Bool.{or-false}
 use Rattle.std.proofs.lemmas.List.Elements.{All-push}
 use Rattle.outside.specs.Disk.{ReadsAtMost}
+use Rattle.page_journal.specs.Answers.{is_disk_fault}
 use Rattle.page_journal.specs.Journal.{home_count, is_broken, view_of}
 use Rattle.page_journal.proofs.ReadCounts.{reads_then}
 use Rattle.chain_store.specs.Chain.{AreBehindRoot, IsBehindRoot, IsGood, Path, data_in}
@@ -49,3 +50,19 @@ loop-at-preserved g c =
           (subst (λ (n : ℕ). ReadsAtMost 1 (4096 * n) (view_of c.loop-at.journal) (view_of c.look_at.new.journal)) inv.looked.pages c.in_default.ensures.reads));
       later = omega (arith, inv.later, c.in_default.ensures.cause.later);
     }
+
+pub returns-in-Err-clause-looked : goal.returns-in-Err-clause-looked
+returns-in-Err-clause-looked g c =
+    looked_then c.args.journal.now c.loop-at.journal c.look_at.new.journal c.loop-at.invariant.looked c.look_at.ensures.looked
+
+pub returns-in_err-push-clause-looked : goal.returns-in_err-push-clause-looked
+returns-in_err-push-clause-looked g c =
+    looked_then c.args.journal.now c.loop-at.journal c.look_at.new.journal c.loop-at.invariant.looked c.look_at.ensures.looked
+
+pub returns-in_err-extend_from_slice-clause-looked : goal.returns-in_err-extend_from_slice-clause-looked
+returns-in_err-extend_from_slice-clause-looked g c =
+    looked_then c.args.journal.now c.loop-at.journal c.look_at.new.journal c.loop-at.invariant.looked c.look_at.ensures.looked
+
+pub returns-in-Err-clause-broken : goal.returns-in-Err-clause-broken
+returns-in-Err-clause-broken g c =
+    c.in-Err.ensures.broken ∙ ap (λ (b : Bool). b || is_disk_fault c.in-Err.fault) c.loop-at.invariant.broken

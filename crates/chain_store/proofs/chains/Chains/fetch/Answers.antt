@@ -1,7 +1,8 @@
-use Rattle.std.proofs.Common.{inl, inr, ℕ, ◌+◌, List, length, refl, sym, ap, subst, ◌∙◌}
+use Rattle.std.proofs.Common.{inl, inr, ℕ, ◌+◌, ◌*◌, List, length, refl, sym, ap, subst, ◌∙◌}
 use Rattle.std.specs.Option.{is_some}
 use Rattle.std.specs.FinMap as map
-use Rattle.page_journal.specs.Journal.{home_count}
+use Rattle.outside.specs.Disk.{ReadsAtMost}
+use Rattle.page_journal.specs.Journal.{home_count, view_of}
 use Rattle.chain_store.specs.Chain.{AreBehindRoot, HasPages}
 use Rattle.chain_store.specs.Chains.{IsOpenStore}
 use Rattle.chain_store.specs.Kept.{AreAllBehindRoot}
@@ -9,7 +10,7 @@ use Rattle.chain_store.specs.Known.{AreHeld, AreKnown, AreStored, Lists}
 use Rattle.chain_store.specs.Links.{page_in}
 use Rattle.chain_store.specs.Store.{kept_first}
 use Rattle.chain_store.proofs.Looks.{looked_same}
-use Rattle.chain_store.proofs.Puts.{get-here, held_bytes, held_put, held_read, known_more, open_held, open_more, put_cases, stored_read}
+use Rattle.chain_store.proofs.Puts.{get-here, held_bytes, held_put, held_read, known_more, open_held, open_looked, open_more, put_cases, stored_read}
 use Rattle.chain_store.proofs.chains.Chains.fetch.Goals as goal
 
 pub invariant_of-self-in-Break-1 : goal.invariant_of-self-in-Break-1
@@ -99,3 +100,29 @@ pub returns-clause-known : goal.returns-clause-known
 returns-clause-known g c =
     ap (λ (lists : Lists). is_some (map.get lists c.args.n)) c.in_ok-put.ensures.ok
     ∙ ap is_some (get-here c.args.self.now.read c.args.n c.from_vec.result c.args.n refl)
+
+pub returns-in-Err-clause-stays : goal.returns-in-Err-clause-stays
+returns-in-Err-clause-stays g c = record { looked = c.walk.ensures.looked; kept = refl; root = refl; written = refl }
+
+pub returns-in_err-hold-clause-stays : goal.returns-in_err-hold-clause-stays
+returns-in_err-hold-clause-stays g c = record { looked = c.walk.ensures.looked; kept = refl; root = refl; written = refl }
+
+pub returns-in_err-put-clause-stays : goal.returns-in_err-put-clause-stays
+returns-in_err-put-clause-stays g c = record { looked = c.walk.ensures.looked; kept = refl; root = refl; written = refl }
+
+pub returns-clause-stays : goal.returns-clause-stays
+returns-clause-stays g c = record { looked = c.walk.ensures.looked; kept = refl; root = refl; written = refl }
+
+pub returns-clause-reads : goal.returns-clause-reads
+returns-clause-reads g c =
+    let self = c.args.self.now in (
+      c.from_vec.result,
+      c.in_ok-put.ensures.ok,
+      subst (λ (ns : List ℕ). ReadsAtMost (length ns) (4096 * home_count self.journal) (view_of self.journal) (view_of c.walk.new.journal)) (sym c.from_vec.ensures.items)
+          c.in-Ok.ensures.reads,
+    )
+
+pub returns-in-Err-clause-open : goal.returns-in-Err-clause-open
+returns-in-Err-clause-open g c = λ pages opened.
+    let self = c.args.self.now in
+    open_looked pages self.journal c.walk.new.journal self.kept self.read self.texts self.written self.before opened c.walk.ensures.looked

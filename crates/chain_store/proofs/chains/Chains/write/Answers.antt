@@ -8,18 +8,21 @@ use Rattle.chain_store.specs.Known.{AreKnown, changed}
 use Rattle.chain_store.specs.Links.{page_in}
 use Rattle.chain_store.specs.Needed.{needed}
 use Rattle.chain_store.specs.Plan.{IsPlan}
-use Rattle.chain_store.specs.State.{IsState}
+use Rattle.chain_store.specs.State.{HasState, IsState}
 use Rattle.chain_store.specs.Store.{Keeps, kept_first}
 use Rattle.chain_store.specs.declared.layout.TheConstants.{FREE}
 use Rattle.chain_store.specs.declared.root.Root.{Root}
 use Rattle.chain_store.proofs.Carried.{renewed_keeps, renewed_long, renewed_needed, renewed_state}
-use Rattle.chain_store.proofs.Commits.{behind_of, can_of, ran}
+use Rattle.chain_store.proofs.Commits.{behind_of, can_of, idle, ran}
 use Rattle.chain_store.proofs.Looks.{looked_untouched, rests_looked}
 use Rattle.chain_store.proofs.Needs.{fits_refused}
 use Rattle.chain_store.proofs.NewStore.{pages_long}
-use Rattle.chain_store.proofs.Puts.{held_none, known_none, stored_none}
+use Rattle.chain_store.proofs.Puts.{held_none, known_none, open_looked, stored_none}
 use Rattle.chain_store.proofs.Taking.{opened_new, plan_root}
 use Rattle.chain_store.proofs.chains.Chains.write.Goals as goal
+
+pub planned-requires-clause-known : goal.planned-requires-clause-known
+planned-requires-clause-known g c = λ n bytes got. (c.requires.may.stored n bytes got).0
 
 pub commit-requires : goal.commit-requires
 commit-requires g c =
@@ -28,8 +31,8 @@ commit-requires g c =
     let plan = c.in_ok-plan.plan in
     let is_home : c.pages-home.result ≡ home_count self.journal = c.pages-home.ensures.pages in
     subst (λ (n : ℕ). CanCommit plan.set n plan.home) (is_home ∙ sym c.walk.ensures.looked.pages)
-    (can_of self.kept taken.root taken.written taken.read taken.before c.in_ok-parts.parts.items c.in-Ok.free.pages.items c.pages-home.result plan
-    (subst (λ (l : List ℕ). IsPlan c.args.self.now.kept c.args.taken.root c.in_ok-parts.parts.items l c.pages-home.result c.in_ok-plan.plan) c.deref.ensures.value c.in_ok-plan.ensures) c.in_ok-parts.ensures.each
+    (can_of self.kept taken.root taken.written taken.read taken.before c.in_ok-plan.ensures.parts c.in-Ok.free.pages.items c.pages-home.result plan
+    (subst (λ (l : List ℕ). IsPlan c.args.self.now.kept c.args.taken.root c.in_ok-plan.ensures.parts l c.pages-home.result c.in_ok-plan.plan) c.deref.ensures.value c.in_ok-plan.ensures.is) c.in_ok-plan.ensures.gathered.each
     (subst (λ (n : ℕ). AreKnown n taken.read) (sym is_home) c.requires.may.known)
     (subst (λ (n : ℕ). AreAllBehindRoot n self.kept.directories.items) (sym is_home) self.behind)
     c.pages-home.ensures.some
@@ -42,16 +45,16 @@ returns-in-Err-commit-clause-any_moment g c = λ root strings pages opened state
     let plan = c.in_ok-plan.plan in
     let settled = opened.rests.0.1 in
     let is_home : c.pages-home.result ≡ length pages + 1 = c.pages-home.ensures.pages ∙ sym opened.rests.1 in
-    let is : IsPlan self.kept taken.root c.in_ok-parts.parts.items c.in-Ok.free.pages.items (length pages + 1) plan =
-    subst (λ (n : ℕ). IsPlan self.kept taken.root c.in_ok-parts.parts.items c.in-Ok.free.pages.items n plan) is_home (subst (λ (l : List ℕ). IsPlan c.args.self.now.kept c.args.taken.root c.in_ok-parts.parts.items l c.pages-home.result c.in_ok-plan.plan) c.deref.ensures.value c.in_ok-plan.ensures) in
+    let is : IsPlan self.kept taken.root c.in_ok-plan.ensures.parts c.in-Ok.free.pages.items (length pages + 1) plan =
+    subst (λ (n : ℕ). IsPlan self.kept taken.root c.in_ok-plan.ensures.parts c.in-Ok.free.pages.items n plan) is_home (subst (λ (l : List ℕ). IsPlan c.args.self.now.kept c.args.taken.root c.in_ok-plan.ensures.parts l c.pages-home.result c.in_ok-plan.plan) c.deref.ensures.value c.in_ok-plan.ensures.is) in
     let free : HasPages (page_in pages) (length pages + 1) FREE (kept_first self.kept FREE) c.in-Ok.free.pages.items =
     subst (λ (n : ℕ). HasPages (page_in pages) (length pages + 1) FREE n c.in-Ok.free.pages.items) c.first.ensures.first (c.in-Ok.ensures.answers pages opened.rests).0 in
     let now = rests_looked pages self.journal c.walk.new.journal opened.rests c.walk.ensures.looked in
     ran pages (overwritten plan.set plan.home pages) opened.rests.0.0 (view_of self.journal) (view_of c.walk.new.journal) (view_of c.commit.new.self)
     root taken.root strings (changed strings taken.written) settled c.walk.ensures.looked.stays state
-    (renewed_state pages self.kept taken.root taken.written taken.read taken.before c.in_ok-parts.parts.items c.in-Ok.free.pages.items plan
+    (renewed_state pages self.kept taken.root taken.written taken.read taken.before c.in_ok-plan.ensures.parts c.in-Ok.free.pages.items plan
     root strings state opened.keeps opened.known opened.marked (pages_long pages opened.rests.0.0 (view_of self.journal) settled)
-    c.requires.may.stored c.requires.may.gone c.requires.may.few c.requires.may.count c.in_ok-parts.ensures free is)
+    c.requires.may.stored c.requires.may.gone c.requires.may.few c.requires.may.count c.in_ok-plan.ensures.gathered free is)
     (c.in-Err-commit.ensures.any_moment pages now.0 now.1)
 
 pub invariant_of-self-2 : goal.invariant_of-self-2
@@ -60,12 +63,12 @@ invariant_of-self-2 g c =
     let taken = c.args.taken in
     let plan = c.in_ok-plan.plan in
     let is_home : c.pages-home.result ≡ home_count self.journal = c.pages-home.ensures.pages in
-    let buckets = ap (λ (root : Root). root.buckets) (plan_root self.kept taken.root c.in_ok-parts.parts.items c.in-Ok.free.pages.items c.pages-home.result plan (subst (λ (l : List ℕ). IsPlan c.args.self.now.kept c.args.taken.root c.in_ok-parts.parts.items l c.pages-home.result c.in_ok-plan.plan) c.deref.ensures.value c.in_ok-plan.ensures)) in
+    let buckets = ap (λ (root : Root). root.buckets) (plan_root self.kept taken.root c.in_ok-plan.ensures.parts c.in-Ok.free.pages.items c.pages-home.result plan (subst (λ (l : List ℕ). IsPlan c.args.self.now.kept c.args.taken.root c.in_ok-plan.ensures.parts l c.pages-home.result c.in_ok-plan.plan) c.deref.ensures.value c.in_ok-plan.ensures.is)) in
     record {
       known = known_none self.read c.requires.read _;
       behind = subst (λ (n : ℕ). AreAllBehindRoot n plan.kept.directories.items) (sym c.in_default.ensures.pages)
-          (behind_of self.kept taken.root taken.written taken.read taken.before c.in_ok-parts.parts.items c.in-Ok.free.pages.items c.pages-home.result plan
-          (subst (λ (l : List ℕ). IsPlan c.args.self.now.kept c.args.taken.root c.in_ok-parts.parts.items l c.pages-home.result c.in_ok-plan.plan) c.deref.ensures.value c.in_ok-plan.ensures) c.in_ok-parts.ensures.each
+          (behind_of self.kept taken.root taken.written taken.read taken.before c.in_ok-plan.ensures.parts c.in-Ok.free.pages.items c.pages-home.result plan
+          (subst (λ (l : List ℕ). IsPlan c.args.self.now.kept c.args.taken.root c.in_ok-plan.ensures.parts l c.pages-home.result c.in_ok-plan.plan) c.deref.ensures.value c.in_ok-plan.ensures.is) c.in_ok-plan.ensures.gathered.each
           (subst (λ (n : ℕ). AreKnown n taken.read) (sym is_home) c.requires.may.known)
           (subst (λ (n : ℕ). AreAllBehindRoot n self.kept.directories.items) (sym is_home) self.behind)
           c.pages-home.ensures.some
@@ -84,16 +87,16 @@ returns-clause-any_moment g c = λ root strings pages opened state.
     let plan = c.in_ok-plan.plan in
     let settled = opened.rests.0.1 in
     let is_home : c.pages-home.result ≡ length pages + 1 = c.pages-home.ensures.pages ∙ sym opened.rests.1 in
-    let is : IsPlan self.kept taken.root c.in_ok-parts.parts.items c.in-Ok.free.pages.items (length pages + 1) plan =
-    subst (λ (n : ℕ). IsPlan self.kept taken.root c.in_ok-parts.parts.items c.in-Ok.free.pages.items n plan) is_home (subst (λ (l : List ℕ). IsPlan c.args.self.now.kept c.args.taken.root c.in_ok-parts.parts.items l c.pages-home.result c.in_ok-plan.plan) c.deref.ensures.value c.in_ok-plan.ensures) in
+    let is : IsPlan self.kept taken.root c.in_ok-plan.ensures.parts c.in-Ok.free.pages.items (length pages + 1) plan =
+    subst (λ (n : ℕ). IsPlan self.kept taken.root c.in_ok-plan.ensures.parts c.in-Ok.free.pages.items n plan) is_home (subst (λ (l : List ℕ). IsPlan c.args.self.now.kept c.args.taken.root c.in_ok-plan.ensures.parts l c.pages-home.result c.in_ok-plan.plan) c.deref.ensures.value c.in_ok-plan.ensures.is) in
     let free : HasPages (page_in pages) (length pages + 1) FREE (kept_first self.kept FREE) c.in-Ok.free.pages.items =
     subst (λ (n : ℕ). HasPages (page_in pages) (length pages + 1) FREE n c.in-Ok.free.pages.items) c.first.ensures.first (c.in-Ok.ensures.answers pages opened.rests).0 in
     let now = rests_looked pages self.journal c.walk.new.journal opened.rests c.walk.ensures.looked in
     ran pages (overwritten plan.set plan.home pages) opened.rests.0.0 (view_of self.journal) (view_of c.walk.new.journal) (view_of c.commit.new.self)
     root taken.root strings (changed strings taken.written) settled c.walk.ensures.looked.stays state
-    (renewed_state pages self.kept taken.root taken.written taken.read taken.before c.in_ok-parts.parts.items c.in-Ok.free.pages.items plan
+    (renewed_state pages self.kept taken.root taken.written taken.read taken.before c.in_ok-plan.ensures.parts c.in-Ok.free.pages.items plan
     root strings state opened.keeps opened.known opened.marked (pages_long pages opened.rests.0.0 (view_of self.journal) settled)
-    c.requires.may.stored c.requires.may.gone c.requires.may.few c.requires.may.count c.in_ok-parts.ensures free is)
+    c.requires.may.stored c.requires.may.gone c.requires.may.few c.requires.may.count c.in_ok-plan.ensures.gathered free is)
     (c.in_default.ensures.any_moment pages now.0 now.1)
 
 pub returns-clause-done : goal.returns-clause-done
@@ -103,8 +106,8 @@ returns-clause-done g c = λ root strings pages opened state.
     let plan = c.in_ok-plan.plan in
     let settled = opened.rests.0.1 in
     let is_home : c.pages-home.result ≡ length pages + 1 = c.pages-home.ensures.pages ∙ sym opened.rests.1 in
-    let is : IsPlan self.kept taken.root c.in_ok-parts.parts.items c.in-Ok.free.pages.items (length pages + 1) plan =
-    subst (λ (n : ℕ). IsPlan self.kept taken.root c.in_ok-parts.parts.items c.in-Ok.free.pages.items n plan) is_home (subst (λ (l : List ℕ). IsPlan c.args.self.now.kept c.args.taken.root c.in_ok-parts.parts.items l c.pages-home.result c.in_ok-plan.plan) c.deref.ensures.value c.in_ok-plan.ensures) in
+    let is : IsPlan self.kept taken.root c.in_ok-plan.ensures.parts c.in-Ok.free.pages.items (length pages + 1) plan =
+    subst (λ (n : ℕ). IsPlan self.kept taken.root c.in_ok-plan.ensures.parts c.in-Ok.free.pages.items n plan) is_home (subst (λ (l : List ℕ). IsPlan c.args.self.now.kept c.args.taken.root c.in_ok-plan.ensures.parts l c.pages-home.result c.in_ok-plan.plan) c.deref.ensures.value c.in_ok-plan.ensures.is) in
     let free : HasPages (page_in pages) (length pages + 1) FREE (kept_first self.kept FREE) c.in-Ok.free.pages.items =
     subst (λ (n : ℕ). HasPages (page_in pages) (length pages + 1) FREE n c.in-Ok.free.pages.items) c.first.ensures.first (c.in-Ok.ensures.answers pages opened.rests).0 in
     let now = rests_looked pages self.journal c.walk.new.journal opened.rests c.walk.ensures.looked in
@@ -112,14 +115,14 @@ returns-clause-done g c = λ root strings pages opened state.
     let may = c.requires.may in
     let new : List (List ℕ) = overwritten plan.set plan.home pages in
     let many : length new + 1 ≡ plan.home =
-    renewed_long pages self.kept taken.root taken.written taken.read taken.before c.in_ok-parts.parts.items c.in-Ok.free.pages.items plan
-    root strings state opened.keeps opened.known opened.marked long may.stored may.gone may.few may.count c.in_ok-parts.ensures free is in
+    renewed_long pages self.kept taken.root taken.written taken.read taken.before c.in_ok-plan.ensures.parts c.in-Ok.free.pages.items plan
+    root strings state opened.keeps opened.known opened.marked long may.stored may.gone may.few may.count c.in_ok-plan.ensures.gathered free is in
     let keeps : Keeps new plan.kept =
-    renewed_keeps pages self.kept taken.root taken.written taken.read taken.before c.in_ok-parts.parts.items c.in-Ok.free.pages.items plan
-    root strings state opened.keeps opened.known opened.marked long may.stored may.gone may.few may.count c.in_ok-parts.ensures free is in
+    renewed_keeps pages self.kept taken.root taken.written taken.read taken.before c.in_ok-plan.ensures.parts c.in-Ok.free.pages.items plan
+    root strings state opened.keeps opened.known opened.marked long may.stored may.gone may.few may.count c.in_ok-plan.ensures.gathered free is in
     let renewed : IsState taken.root (changed strings taken.written) new =
-    renewed_state pages self.kept taken.root taken.written taken.read taken.before c.in_ok-parts.parts.items c.in-Ok.free.pages.items plan
-    root strings state opened.keeps opened.known opened.marked long may.stored may.gone may.few may.count c.in_ok-parts.ensures free is in (
+    renewed_state pages self.kept taken.root taken.written taken.read taken.before c.in_ok-plan.ensures.parts c.in-Ok.free.pages.items plan
+    root strings state opened.keeps opened.known opened.marked long may.stored may.gone may.few may.count c.in_ok-plan.ensures.gathered free is in (
       new,
       opened_new new c.commit.new.self plan.kept self.read self.texts self.written self.before (c.in_default.ensures.done pages now.0 now.1) (many ∙ sym c.in_default.ensures.pages) keeps
           c.requires.read c.requires.texts c.requires.before,
@@ -128,7 +131,7 @@ returns-clause-done g c = λ root strings pages opened state.
 
 pub returns-clause-is_root : goal.returns-clause-is_root
 returns-clause-is_root g c =
-    plan_root c.args.self.now.kept c.args.taken.root c.in_ok-parts.parts.items c.in-Ok.free.pages.items c.pages-home.result c.in_ok-plan.plan (subst (λ (l : List ℕ). IsPlan c.args.self.now.kept c.args.taken.root c.in_ok-parts.parts.items l c.pages-home.result c.in_ok-plan.plan) c.deref.ensures.value c.in_ok-plan.ensures)
+    plan_root c.args.self.now.kept c.args.taken.root c.in_ok-plan.ensures.parts c.in-Ok.free.pages.items c.pages-home.result c.in_ok-plan.plan (subst (λ (l : List ℕ). IsPlan c.args.self.now.kept c.args.taken.root c.in_ok-plan.ensures.parts l c.pages-home.result c.in_ok-plan.plan) c.deref.ensures.value c.in_ok-plan.ensures.is)
 
 pub returns-in-Err-commit-clause-looked : goal.returns-in-Err-commit-clause-looked
 returns-in-Err-commit-clause-looked g c = λ err fine.
@@ -153,16 +156,16 @@ returns-clause-needs g c = λ root strings pages opened state.
     let plan = c.in_ok-plan.plan in
     let settled = opened.rests.0.1 in
     let is_home : c.pages-home.result ≡ length pages + 1 = c.pages-home.ensures.pages ∙ sym opened.rests.1 in
-    let is : IsPlan self.kept taken.root c.in_ok-parts.parts.items c.in-Ok.free.pages.items (length pages + 1) plan =
-    subst (λ (n : ℕ). IsPlan self.kept taken.root c.in_ok-parts.parts.items c.in-Ok.free.pages.items n plan) is_home (subst (λ (l : List ℕ). IsPlan c.args.self.now.kept c.args.taken.root c.in_ok-parts.parts.items l c.pages-home.result c.in_ok-plan.plan) c.deref.ensures.value c.in_ok-plan.ensures) in
+    let is : IsPlan self.kept taken.root c.in_ok-plan.ensures.parts c.in-Ok.free.pages.items (length pages + 1) plan =
+    subst (λ (n : ℕ). IsPlan self.kept taken.root c.in_ok-plan.ensures.parts c.in-Ok.free.pages.items n plan) is_home (subst (λ (l : List ℕ). IsPlan c.args.self.now.kept c.args.taken.root c.in_ok-plan.ensures.parts l c.pages-home.result c.in_ok-plan.plan) c.deref.ensures.value c.in_ok-plan.ensures.is) in
     let free : HasPages (page_in pages) (length pages + 1) FREE (kept_first self.kept FREE) c.in-Ok.free.pages.items =
     subst (λ (n : ℕ). HasPages (page_in pages) (length pages + 1) FREE n c.in-Ok.free.pages.items) c.first.ensures.first (c.in-Ok.ensures.answers pages opened.rests).0 in
     let may = c.requires.may in
     let enough : plan.home ≡ needed (home_count self.journal) taken.root.buckets (changed strings taken.written) =
     subst (λ (n : ℕ). plan.home ≡ needed n taken.root.buckets (changed strings taken.written)) opened.rests.1
-    (renewed_needed pages self.kept taken.root taken.written taken.read taken.before c.in_ok-parts.parts.items c.in-Ok.free.pages.items plan
+    (renewed_needed pages self.kept taken.root taken.written taken.read taken.before c.in_ok-plan.ensures.parts c.in-Ok.free.pages.items plan
     root strings state opened.keeps opened.known opened.marked (pages_long pages opened.rests.0.0 (view_of self.journal) settled)
-    may.stored may.gone may.few may.count c.in_ok-parts.ensures free is) in (
+    may.stored may.gone may.few may.count c.in_ok-plan.ensures.gathered free is) in (
       c.in_default.ensures.pages ∙ enough,
       subst (λ (n : ℕ). n ≤ page_limit self.journal) enough (omega (arith, c.in_default.ensures.answers.1, c.walk.ensures.looked.limit)),
     )
@@ -174,16 +177,47 @@ returns-in-Err-commit-clause-needs g c = λ root strings pages opened state.
     let plan = c.in_ok-plan.plan in
     let settled = opened.rests.0.1 in
     let is_home : c.pages-home.result ≡ length pages + 1 = c.pages-home.ensures.pages ∙ sym opened.rests.1 in
-    let is : IsPlan self.kept taken.root c.in_ok-parts.parts.items c.in-Ok.free.pages.items (length pages + 1) plan =
-    subst (λ (n : ℕ). IsPlan self.kept taken.root c.in_ok-parts.parts.items c.in-Ok.free.pages.items n plan) is_home (subst (λ (l : List ℕ). IsPlan c.args.self.now.kept c.args.taken.root c.in_ok-parts.parts.items l c.pages-home.result c.in_ok-plan.plan) c.deref.ensures.value c.in_ok-plan.ensures) in
+    let is : IsPlan self.kept taken.root c.in_ok-plan.ensures.parts c.in-Ok.free.pages.items (length pages + 1) plan =
+    subst (λ (n : ℕ). IsPlan self.kept taken.root c.in_ok-plan.ensures.parts c.in-Ok.free.pages.items n plan) is_home (subst (λ (l : List ℕ). IsPlan c.args.self.now.kept c.args.taken.root c.in_ok-plan.ensures.parts l c.pages-home.result c.in_ok-plan.plan) c.deref.ensures.value c.in_ok-plan.ensures.is) in
     let free : HasPages (page_in pages) (length pages + 1) FREE (kept_first self.kept FREE) c.in-Ok.free.pages.items =
     subst (λ (n : ℕ). HasPages (page_in pages) (length pages + 1) FREE n c.in-Ok.free.pages.items) c.first.ensures.first (c.in-Ok.ensures.answers pages opened.rests).0 in
     let may = c.requires.may in
     let enough : plan.home ≡ needed (home_count self.journal) taken.root.buckets (changed strings taken.written) =
     subst (λ (n : ℕ). plan.home ≡ needed n taken.root.buckets (changed strings taken.written)) opened.rests.1
-    (renewed_needed pages self.kept taken.root taken.written taken.read taken.before c.in_ok-parts.parts.items c.in-Ok.free.pages.items plan
+    (renewed_needed pages self.kept taken.root taken.written taken.read taken.before c.in_ok-plan.ensures.parts c.in-Ok.free.pages.items plan
     root strings state opened.keeps opened.known opened.marked (pages_long pages opened.rests.0.0 (view_of self.journal) settled)
-    may.stored may.gone may.few may.count c.in_ok-parts.ensures free is) in
+    may.stored may.gone may.few may.count c.in_ok-plan.ensures.gathered free is) in
     fits_refused c.in-Err-commit.fault (is_broken c.walk.new.journal) (page_limit c.walk.new.journal) (page_limit self.journal) plan.home
     (home_count c.commit.new.self) (needed (home_count self.journal) taken.root.buckets (changed strings taken.written))
     c.in-Err-commit.ensures.answers c.walk.ensures.looked.limit enough
+
+pub returns-in-Err-clause-any_moment : goal.returns-in-Err-clause-any_moment
+returns-in-Err-clause-any_moment g c = λ root strings pages opened state.
+    let self = c.args.self.now in
+    let taken = c.args.taken in
+    idle pages opened.rests.0.0 (view_of self.journal) (view_of c.walk.new.journal) root strings (HasState taken.root (changed strings taken.written))
+    opened.rests.0.1 c.walk.ensures.looked.stays state
+
+pub returns-in-Err-clause-open : goal.returns-in-Err-clause-open
+returns-in-Err-clause-open g c = λ err fine pages opened.
+    let self = c.args.self.now in
+    open_looked pages self.journal c.walk.new.journal self.kept self.read self.texts self.written self.before opened c.walk.ensures.looked
+
+pub returns-in_err-plan-clause-any_moment : goal.returns-in_err-plan-clause-any_moment
+returns-in_err-plan-clause-any_moment g c = λ root strings pages opened state.
+    let self = c.args.self.now in
+    let taken = c.args.taken in
+    idle pages opened.rests.0.0 (view_of self.journal) (view_of c.walk.new.journal) root strings (HasState taken.root (changed strings taken.written))
+    opened.rests.0.1 c.walk.ensures.looked.stays state
+
+pub returns-in_err-plan-clause-open : goal.returns-in_err-plan-clause-open
+returns-in_err-plan-clause-open g c = λ err fine pages opened.
+    let self = c.args.self.now in
+    open_looked pages self.journal c.walk.new.journal self.kept self.read self.texts self.written self.before opened c.walk.ensures.looked
+
+pub returns-in-Err-commit-clause-open : goal.returns-in-Err-commit-clause-open
+returns-in-Err-commit-clause-open g c = λ err fine pages opened.
+    let self = c.args.self.now in
+    open_looked pages self.journal c.commit.new.self self.kept self.read self.texts self.written self.before opened
+    (looked_untouched self.journal c.walk.new.journal c.commit.new.self c.walk.ensures.looked (c.in-Err-commit.ensures.untouched refl fine)
+    c.in-Err-commit.ensures.pages c.in-Err-commit.ensures.limit c.in-Err-commit.ensures.same_disk)

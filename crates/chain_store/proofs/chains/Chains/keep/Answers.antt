@@ -1,4 +1,0 @@
-use Rattle.chain_store.proofs.chains.Chains.keep.Goals as goal
-
-pub returns-clause-open : goal.returns-clause-open
-returns-clause-open g c = λ pages opened. c.put.ensures.open pages opened (c.in_ok-same.ensures.marked pages opened)
