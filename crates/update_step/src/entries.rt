@@ -12,6 +12,7 @@ ghost use Rattle.update_step.specs.Old.{with_old};
 ghost use Rattle.update_step.specs.Touch.{MayEntries, MayTurnAll};
 
 use crate::StepFault;
+use crate::looking::form_of;
 use object_fold::{Change, Objects};
 use osm_base::{Entry, Kind};
 use std::alloc::Global;
@@ -77,7 +78,7 @@ fn add_old<S: MapStore>(
     if key.kind != Kind::Relation {
         return Ok(());
     }
-    let object = store.form(key).map_err(StepFault::Store)?;
+    let object = form_of(store, key)?;
     objects.apply(Entry { key, object })?;
     Ok(())
 }

@@ -36,7 +36,8 @@ fn add_row(
     match row {
         Some(row) => {
             let tiles = cover(alloc, bounds, &row.geometry, definition.mode)?;
-            union(alloc, set, &tiles)
+            union(alloc, set, &tiles)?;
+            Ok(())
         }
         None => Ok(()),
     }

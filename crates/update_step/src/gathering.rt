@@ -14,6 +14,7 @@ ghost use Rattle.update_step.specs.Touch.{MayAsk, MayAskAll};
 use crate::StepFault;
 use crate::answers::Answers;
 use crate::listers::Listers;
+use crate::looking::{object_of, place_of, relations_along, relations_around};
 use osm_base::{Key, Kind, Member, Object};
 use row_map::may_have_rows;
 use std::alloc::Global;
@@ -42,7 +43,7 @@ fn gather_place<S: MapStore>(
     if answers.has_place(id) {
         return Ok(());
     }
-    let place = store.place(id).map_err(StepFault::Store)?;
+    let place = place_of(store, id)?;
     answers.put_place(id, place)?;
     Ok(())
 }
@@ -117,7 +118,7 @@ fn gather_form<S: MapStore>(
         (λ _. ⊥)) }
     ensures allowed { (under : S.Under) (maps : Maps) → S.holds store.old under maps → IfErr result (MayRefuse S.allowed) }
 {
-    let form = store.object(key).map_err(StepFault::Store)?;
+    let form = object_of(store, key)?;
     gather_nodes(store, answers, &form)?;
     answers.put_form(key, form)?;
     Ok(())
@@ -224,7 +225,7 @@ fn gather_relation<S: MapStore>(
     ensures allowed { (under : S.Under) (maps : Maps) → S.holds store.old under maps → IfErr result (MayRefuse S.allowed) }
 {
     let key = Key::new(Kind::Relation, id);
-    let form = store.object(key).map_err(StepFault::Store)?;
+    let form = object_of(store, key)?;
     answers.put_form(key, form)?;
     Ok(())
 }
@@ -275,7 +276,7 @@ fn gather_along<S: MapStore>(
         (λ _. ⊥)) }
     ensures allowed { (under : S.Under) (maps : Maps) → S.holds store.old under maps → IfErr result (MayRefuse S.allowed) }
 {
-    let ids = store.along_way(id).map_err(StepFault::Store)?;
+    let ids = relations_along(store, id)?;
     gather_relations(store, answers, ids.as_slice())?;
     answers.put_along(id, Listers::new(ids))?;
     Ok(())
@@ -301,7 +302,7 @@ fn gather_around<S: MapStore>(
         (λ _. ⊥)) }
     ensures allowed { (under : S.Under) (maps : Maps) → S.holds store.old under maps → IfErr result (MayRefuse S.allowed) }
 {
-    let ids = store.around_node(id).map_err(StepFault::Store)?;
+    let ids = relations_around(store, id)?;
     gather_relations(store, answers, ids.as_slice())?;
     answers.put_around(id, Listers::new(ids))?;
     Ok(())
@@ -394,7 +395,7 @@ fn gather_key<S: MapStore>(
         (λ _. ⊥)) }
     ensures allowed { (under : S.Under) (maps : Maps) → S.holds store.old under maps → IfErr result (MayRefuse S.allowed) }
 {
-    let form = store.object(key).map_err(StepFault::Store)?;
+    let form = object_of(store, key)?;
     gather_parts(store, answers, style, reaches, key, &form)?;
     answers.put_form(key, form)?;
     Ok(())

@@ -32,11 +32,18 @@ use std::thread::Threads;
 use store_maps::MapStore;
 use style_read::Style;
 
+/// Whether a key is of a kind.
+fn is_of_kind(key: Key, kind: Kind) -> bool
+    ensures same { result ≡ is_kind kind key.kind }
+{
+    key.kind == kind
+}
+
 /// Whether an entry is of a kind and its object may have rows.
 fn is_wanted(style: &Style, kind: Kind, entry: &Entry) -> bool
     ensures wanted { result ≡ (is_kind kind entry.now.key.kind && may_have_rows style.now entry.now.object) }
 {
-    entry.key.kind == kind && may_have_rows(style, &entry.object)
+    is_of_kind(entry.key, kind) && may_have_rows(style, &entry.object)
 }
 
 /// The ids of the entries of one kind whose objects may have rows.

@@ -13,6 +13,7 @@ ghost use Rattle.update_step.specs.Lacking.{AreLacking};
 ghost use Rattle.update_step.specs.Touch.{MayEntries};
 
 use crate::StepFault;
+use crate::looking::{object_of, place_of};
 use object_fold::Change;
 use osm_base::{Key, Kind, Object};
 use row_map::may_have_rows;
@@ -47,9 +48,9 @@ fn lacks_rows<S: MapStore>(
         (λ _. ⊥)) }
     ensures allowed { (under : S.Under) (maps : Maps) → S.holds store.old under maps → IfErr result (MayRefuse S.allowed) }
 {
-    let object = store.object(key).map_err(StepFault::Store)?;
+    let object = object_of(store, key)?;
     if is_unknown_node(key, &object) {
-        let place = store.place(key.id).map_err(StepFault::Store)?;
+        let place = place_of(store, key.id)?;
         return Ok(place.is_none());
     }
     Ok(!may_have_rows(style, &object))

@@ -13,6 +13,7 @@ ghost use Rattle.update_step.specs.Lacking.{AreLacking};
 ghost use Rattle.update_step.specs.Touch.{MayAllRows};
 
 use crate::StepFault;
+use crate::looking::rows_of;
 use geom_workers::{MAX_KEYS, key_count, key_of};
 use osm_base::{Key, OutOfMemory, PendingSet, RowLists, Same, TableRow, TableRows};
 use std::alloc::Global;
@@ -25,8 +26,8 @@ pub(crate) fn keys_in(alloc: Global, pending: &PendingSet) -> Result<Vec<Key>, O
 {
     let count = key_count(pending);
     let mut keys = Vec::with_capacity(alloc, count)?;
-    for number in 0..count {
-        keys.push(key_of(pending, number as u32))?;
+    for number in 0..count as u32 {
+        keys.push(key_of(pending, number))?;
     }
     Ok(keys)
 }
@@ -56,7 +57,7 @@ fn rows_before<S: MapStore>(
         (λ _. ⊥)) }
     ensures allowed { (under : S.Under) (maps : Maps) → S.holds store.old under maps → IfErr result (MayRefuse S.allowed) }
 {
-    match store.rows(key).map_err(StepFault::Store)? {
+    match rows_of(store, key)? {
         Some(rows) => Ok(rows),
         None => Ok(TableRows::new(alloc)),
     }

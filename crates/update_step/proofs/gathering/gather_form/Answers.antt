@@ -1,4 +1,4 @@
-use Rattle.std.proofs.Common.{rules, ◌≡◌, [], ◌∷◌, List, Option, sym, subst}
+use Rattle.std.proofs.Common.{◌≡◌, [], ◌∷◌, List, Option, sym, subst}
 use Rattle.osm_base.specs.declared.values.object.Object.{Object}
 use Rattle.osm_base.specs.map.Known.{Known}
 use Rattle.store_maps.specs.Named.{known_on}
@@ -13,8 +13,8 @@ returns-clause-gathers g c under maps held =
     let second : Gathered = gathered_in c.gather_nodes.new.answers in
     let third : Gathered = gathered_in c.put_form.new.self in
     let asks : List Ask = place_asks (to.object c.args.key) in
-    let is : c.in_ok-form.form ≡ to.object c.args.key = search (rules, held) in
-    let later : g.S.MapStore.holds c.object.new.self under maps = search (rules, held) in
+    let is : c.in_ok-form.form ≡ to.object c.args.key = c.in_ok-form.ensures.object under maps held in
+    let later = c.in_ok-form.ensures.holds under maps held in
     let nodes = subst (λ (form : Option Object). Gathers to first second (place_asks form)) is (c.in_ok-gather_nodes.ensures.gathers under maps later) in
     let form = subst (λ (new : Gathered). Gathers to second new (OfKey c.args.key ∷ [])) (sym c.in_ok-put_form.ensures.ok) (with_form-gathers to second c.args.key c.in_ok-form.form is) in
     turned-gathers to first third asks (OfKey c.args.key ∷ []) (then-gathers to first second third asks (OfKey c.args.key ∷ []) nodes form)
