@@ -1,6 +1,6 @@
 //! Why a run ended early, with its status and its line of text.
 ghost use Rattle.std.specs.Prelude.{◌≡◌, IfOk, [], ◌∷◌};
-ghost use Rattle.updater.specs.Faults.{fault_of, fault_text, flow_fault, kind_text, status_of};
+ghost use Rattle.updater.specs.Faults.{fault_of, fault_text, flow_fault, kind_text, limit_text, status_of};
 ghost use Rattle.updater.specs.Making.{of_made};
 ghost use Rattle.updater.specs.Files.{bounds_fault, fault_in, query_fault, style_fault, whole_fault};
 
@@ -18,7 +18,7 @@ use tile_cover::BoundsFault;
 use update_flow::{FlowFault, LAST_CHANGE};
 
 /// Why a run did not do all that it was asked to. A file is told by the place of its word.
-#[derive(Clone, Copy, Debug, PartialEq, Eq)]
+#[derive(Clone, Copy, Debug)]
 pub enum Fault {
     /// The words are no command.
     Usage,
@@ -195,8 +195,25 @@ fn kind_letter(kind: Kind) -> char
     }
 }
 
+/// The name of a limit.
+fn limit_name(which: LimitKind) -> &'static str
+    ensures name { result.now ≡ limit_text which }
+{
+    match which {
+        LimitKind::LineBytes => "line-bytes",
+        LimitKind::FileLines => "file-lines",
+        LimitKind::FileEntries => "file-entries",
+        LimitKind::StyleBytes => "style-bytes",
+        LimitKind::BoundsBytes => "bounds-bytes",
+        LimitKind::QueryBytes => "query-bytes",
+        LimitKind::Pages => "pages",
+        LimitKind::Pending => "pending",
+        LimitKind::Changes => "changes",
+    }
+}
+
 /// How a run ended.
-#[derive(Clone, Copy, Debug, PartialEq, Eq)]
+#[derive(Clone, Copy, Debug)]
 pub struct Outcome {
     /// The status that the process ends with.
     pub status: u8,
@@ -249,23 +266,13 @@ impl fmt::Display for Fault {
 
     fn fmt<W: fmt::Write>(&self, f: &mut fmt::Formatter<W>) -> fmt::Result {
         match self {
-            Fault::Usage => write!(f, "usage"),
-            Fault::Malformed { file, line, why } => match why {
-                Why::Order { earlier, later } => write!(
-                    f,
-                    "malformed file {file} line {line} cause {} {}{} {}{}",
-                    why.number(),
-                    kind_letter(earlier.kind),
-                    earlier.id,
-                    kind_letter(later.kind),
-                    later.id
-                ),
-                _ => write!(
-                    f,
-                    "malformed file {file} line {line} cause {}",
-                    why.number()
-                ),
-            },
+            Fault::Usage => f.write_str("usage"),
+            Fault::Malformed { file, line, why } => write!(
+                f,
+                "malformed file {file} line {line} cause {}{}",
+                why.number(),
+                WrongOrder { why: *why }
+            ),
             Fault::BadStyle { file, why, part } => write!(
                 f,
                 "bad style file {file} cause {} part {}",
@@ -278,33 +285,52 @@ impl fmt::Display for Fault {
                 "bad query file {file} line {line} cause {}",
                 why.number()
             ),
-            Fault::Limit { which, value } => match which {
-                LimitKind::LineBytes => write!(f, "limit line-bytes value {value}"),
-                LimitKind::FileLines => write!(f, "limit file-lines value {value}"),
-                LimitKind::FileEntries => write!(f, "limit file-entries value {value}"),
-                LimitKind::StyleBytes => write!(f, "limit style-bytes value {value}"),
-                LimitKind::BoundsBytes => write!(f, "limit bounds-bytes value {value}"),
-                LimitKind::QueryBytes => write!(f, "limit query-bytes value {value}"),
-                LimitKind::Pages => write!(f, "limit pages value {value}"),
-                LimitKind::Pending => write!(f, "limit pending value {value}"),
-                LimitKind::Changes => write!(f, "limit changes value {value}"),
-            },
+            Fault::Limit { which, value } => {
+                write!(f, "limit {} value {value}", limit_name(*which))
+            }
             Fault::ReadFault { file } => write!(f, "read fault file {file}"),
-            Fault::NotFormatted => write!(f, "not formatted"),
-            Fault::NotEmpty => write!(f, "not empty"),
-            Fault::NotImported => write!(f, "not imported"),
-            Fault::AlreadyImported => write!(f, "already imported"),
-            Fault::OldFormat => write!(f, "old format"),
-            Fault::UnknownTable => write!(f, "unknown table"),
+            Fault::NotFormatted => f.write_str("not formatted"),
+            Fault::NotEmpty => f.write_str("not empty"),
+            Fault::NotImported => f.write_str("not imported"),
+            Fault::AlreadyImported => f.write_str("already imported"),
+            Fault::OldFormat => f.write_str("old format"),
+            Fault::UnknownTable => f.write_str("unknown table"),
             Fault::BadStore { page } => write!(f, "bad store page {page}"),
-            Fault::WriteFault => write!(f, "write fault"),
-            Fault::DiskFault => write!(f, "disk fault"),
-            Fault::OutOfMemory => write!(f, "out of memory"),
+            Fault::WriteFault => f.write_str("write fault"),
+            Fault::DiskFault => f.write_str("disk fault"),
+            Fault::OutOfMemory => f.write_str("out of memory"),
         }
     }
 }
 
 impl Error for Fault {}
+
+/// The two keys whose order is wrong, where that is why a line is malformed.
+#[derive(Drop)]
+struct WrongOrder {
+    why: Why,
+}
+
+impl fmt::Display for WrongOrder {
+    ghost use Rattle.std.specs.Prelude.{Some};
+    ghost use Rattle.updater.specs.Faults.{order_text};
+
+    ghost output = { λ own. Some (order_text own.why) };
+
+    fn fmt<W: fmt::Write>(&self, f: &mut fmt::Formatter<W>) -> fmt::Result {
+        match self.why {
+            Why::Order { earlier, later } => write!(
+                f,
+                " {}{} {}{}",
+                kind_letter(earlier.kind),
+                earlier.id,
+                kind_letter(later.kind),
+                later.id
+            ),
+            _ => Ok(()),
+        }
+    }
+}
 
 /// A part of a style, as a line of text names it.
 #[derive(Drop)]

@@ -25,7 +25,7 @@ pub const READERS: u32 = 2;
 pub const BUCKETS: u32 = 1_024;
 
 /// What the options of a command say.
-#[derive(Clone, Copy, Debug, PartialEq, Eq)]
+#[derive(Clone, Copy)]
 pub struct Options {
     pub workers: Option<u32>,
     pub readers: Option<u32>,
@@ -34,7 +34,7 @@ pub struct Options {
 }
 
 /// Which options belong to a command.
-#[derive(Clone, Copy, Debug, PartialEq, Eq)]
+#[derive(Clone, Copy)]
 pub struct Allowed {
     pub workers: bool,
     pub readers: bool,

@@ -14,7 +14,7 @@ use crate::files::Files;
 pub const MAX_WORDS: usize = 4_096;
 
 /// What the words of a command line ask for. A file is told by the place of its word.
-#[derive(Clone, Copy, Debug, PartialEq, Eq)]
+#[derive(Clone, Copy)]
 pub enum Command<'a> {
     /// The nodes of the files that have the tag KEY and a place.
     Points {
