@@ -1,9 +1,10 @@
-//! Runs the examples of what a store keeps, and prints the name of each up to the first that differs.
+//! Runs the examples of a store's buckets and of what is kept in them, and prints the name of each up to the first that differs.
 //!
-//! The head of `values.txt` says what its columns are, and where what is wanted comes from.
+//! The heads of `buckets.txt` and `values.txt` say how they are written, and where what is wanted comes from.
 #![tactic(auto)]
 
 mod asked;
+mod buckets;
 mod calls;
 mod hex;
 mod lists;
@@ -11,6 +12,7 @@ mod objects;
 mod rows;
 mod typed;
 
+use buckets::buckets_pass;
 use example_table::{Examples, run_examples};
 use osm_base::OutOfMemory;
 use std::alloc::Global;
@@ -18,6 +20,9 @@ use std::io;
 use std::process::ExitCode;
 
 fn main(rt: HostRuntime) -> io::Result<ExitCode> {
+    if !buckets_pass(&rt)? {
+        return Ok(ExitCode::from(1));
+    }
     run_examples::<OfValues, HostRuntime>(&rt, &["values.txt"])
 }
 

@@ -2,9 +2,9 @@
 ghost use Rattle.std.specs.Prelude.{◌≡◌, ◌<◌, false, IfSome, OnOk};
 ghost use Rattle.bucket_store.specs.Transaction.{has_refused};
 
-use crate::changing::{fields, give, put, remove, settle};
-use crate::looking::{get, listed, load, root_text, whole};
-use crate::pages::{free, home, pages_of};
+use crate::buckets::changing::{fields, give, put, remove, settle};
+use crate::buckets::looking::{get, listed, load, root_text, whole};
+use crate::buckets::pages::{free, home, pages_of};
 use bucket_store::Buckets;
 use example_table::{number_of, row_of};
 use outside::MemDisk;

@@ -2,7 +2,7 @@
 ghost use Rattle.std.specs.Prelude.{◌≡◌, false, OnOk};
 ghost use Rattle.bucket_store.specs.Transaction.{has_refused};
 
-use crate::deeds::{key_of, none, string_of};
+use crate::buckets::deeds::{key_of, none, string_of};
 use bucket_store::Buckets;
 use chain_store::Root;
 use example_table::{number_of, row_of};

@@ -2,7 +2,7 @@
 ghost use Rattle.std.specs.Prelude.{◌≡◌, false, OnOk};
 ghost use Rattle.bucket_store.specs.Transaction.{has_refused};
 
-use crate::deeds::{key_of, map_of, none, push_blank, string_of};
+use crate::buckets::deeds::{key_of, map_of, none, push_blank, string_of};
 use bucket_store::{Buckets, WholeMap};
 use example_table::number_of;
 use osm_base::Bytes;

@@ -2,7 +2,7 @@
 ghost use Rattle.std.specs.Prelude.{◌≡◌, false};
 ghost use Rattle.bucket_store.specs.Transaction.{has_refused};
 
-use crate::deeds::answer_of;
+use crate::buckets::deeds::answer_of;
 use bucket_store::{Buckets, open};
 use osm_base::Limits;
 use outside::MemDisk;

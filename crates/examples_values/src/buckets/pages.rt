@@ -3,7 +3,7 @@ ghost use Rattle.std.specs.Prelude.{◌≡◌, ◌⊎◌, ◌<◌, false, IfSome
 ghost use Rattle.bucket_store.specs.Buckets.{IsBucketChain, bucket_count};
 ghost use Rattle.bucket_store.specs.Transaction.{chains_of, has_refused};
 
-use crate::deeds::{none, push_blank};
+use crate::buckets::deeds::{none, push_blank};
 use bucket_store::Buckets;
 use example_table::number_of;
 use outside::MemDisk;

@@ -1,8 +1,7 @@
-//! Runs each example of the table of buckets and prints its name, up to the first that differs.
+//! Examples of transactions over the buckets of a store.
 //!
 //! An example is a disk in memory and transactions over the buckets of its store, one after another, each with
 //! what its deeds have to answer. `data/buckets.txt` says how they are written.
-#![tactic(auto)]
 
 mod changing;
 mod deeds;
@@ -10,15 +9,15 @@ mod looking;
 mod pages;
 mod transaction;
 
-use deeds::push_blank;
+use crate::buckets::deeds::push_blank;
+use crate::buckets::transaction::transaction;
 use example_table::{is_told, number_of, refuse_row, row_of, sides_of};
 use osm_base::{Bytes, Ids};
 use outside::{Disk, Fails, MemDisk};
 use page_journal::format;
 use std::alloc::{AllocError, Global};
-use std::process::ExitCode;
-use std::{fs, io};
-use transaction::transaction;
+use std::fs::{self, Files};
+use std::io;
 
 /// Behind the last place that a row may put bytes at.
 const MOST: u64 = 1 << 20;
@@ -30,14 +29,14 @@ struct Example<'t> {
     disk: MemDisk,
 }
 
-fn main(rt: HostRuntime) -> io::Result<ExitCode> {
-    let table = fs::read_to_string(&rt, "buckets.txt")?;
-    let passed = passes(&rt, &table)?;
-    Ok(ExitCode::from(if passed { 0 } else { 1 }))
+/// Runs the examples of the table of buckets. False: one differs, and that is told.
+pub fn buckets_pass<R: Files + Print + Eprint + AllocGlobal>(rt: &R) -> io::Result<bool> {
+    let table = fs::read_to_string(rt, "buckets.txt")?;
+    table_passes(rt, &table)
 }
 
-/// Runs the examples of a table. False: one differs, and that is told.
-fn passes<R: Print + Eprint + AllocGlobal>(rt: &R, table: &str) -> io::Result<bool> {
+/// Runs the examples of a table.
+fn table_passes<R: Print + Eprint + AllocGlobal>(rt: &R, table: &str) -> io::Result<bool> {
     let mut example = Example {
         name: "",
         disk: empty(rt.alloc(), 0),
