@@ -1,15 +1,15 @@
 //! An import and a change under limits.
 
-use crate::end::{End, end_text};
+use crate::end::{End, push_end};
 use crate::setting::Setting;
-use crate::stores::{append, formatted, import};
+use crate::stores::{change, formatted, import};
 use osm_base::Limits;
 use outside::MemDisk;
 use std::alloc::{AllocError, Global};
 use std::thread::Threads;
 use tile_cover::Bounds;
 
-/// What an import and then a change answer under these limits.
+/// Adds what an import and then a change answer under these limits.
 pub fn answers_under<R: Threads + Sync>(
     rt: &R,
     alloc: Global,
@@ -17,9 +17,10 @@ pub fn answers_under<R: Threads + Sync>(
     bounds: &Bounds,
     setting: Setting<'_>,
     texts: [&str; 2],
-) -> Result<String, End> {
+    out: &mut String,
+) -> Result<(), End> {
     let mut disk = formatted(alloc)?;
-    Ok(both(rt, alloc, &mut disk, limits, bounds, setting, texts)?)
+    Ok(both(rt, alloc, &mut disk, limits, bounds, setting, texts, out)?)
 }
 
 fn both<R: Threads + Sync>(
@@ -30,20 +31,18 @@ fn both<R: Threads + Sync>(
     bounds: &Bounds,
     setting: Setting<'_>,
     texts: [&str; 2],
-) -> Result<String, AllocError> {
-    let [first, change] = texts;
-    let first = answer_of(alloc, import(rt, alloc, disk, limits, setting, first).err())?;
-    let second = answer_of(
-        alloc,
-        append(rt, alloc, disk, limits, bounds, 1, change).err(),
-    )?;
-    format!(in alloc; "{first}, {second}")
+    out: &mut String,
+) -> Result<(), AllocError> {
+    let [first, second] = texts;
+    push_answer(out, import(rt, alloc, disk, limits, setting, first))?;
+    out.push_str(", ")?;
+    push_answer(out, change(rt, alloc, disk, limits, bounds, second))
 }
 
-// The text of what a call answers.
-fn answer_of(alloc: Global, end: Option<End>) -> Result<String, AllocError> {
-    match end {
-        None => String::from_str(alloc, "done"),
-        Some(end) => end_text(alloc, end),
+// Adds the text of what a call answers.
+fn push_answer(out: &mut String, answer: Result<(), End>) -> Result<(), AllocError> {
+    match answer {
+        Ok(()) => out.push_str("done"),
+        Err(end) => push_end(out, end),
     }
 }

@@ -2,25 +2,26 @@
 
 use crate::end::End;
 use crate::setting::{STYLE, Setting};
-use crate::stores::{append, formatted, import};
+use crate::stores::{change, formatted, import};
 use osm_base::Limits;
 use outside::MemDisk;
 use std::alloc::{AllocError, Global};
 use std::thread::Threads;
 use tile_cover::Bounds;
 
-/// How many reads of a page the opening and a change of one place make, and how many pages the store has: of so many nodes, with a way
-/// between each two.
+/// Adds how many reads of a page the opening and a change of one place make, and how many pages the store has: of so many nodes, with a
+/// way between each two.
 pub fn reads_of<R: Threads + Sync>(
     rt: &R,
     alloc: Global,
     bounds: &Bounds,
     buckets: u64,
     nodes: u64,
-) -> Result<String, End> {
+    out: &mut String,
+) -> Result<(), End> {
     let mut disk = formatted(alloc)?;
     import_pairs(rt, alloc, &mut disk, buckets, nodes)?;
-    reads_of_a_change(rt, alloc, &mut disk, bounds)
+    reads_of_a_change(rt, alloc, &mut disk, bounds, out)
 }
 
 fn import_pairs<R: Threads + Sync>(
@@ -36,8 +37,8 @@ fn import_pairs<R: Threads + Sync>(
         workers: 1,
     };
     let mut text = String::new(alloc);
-    add_pairs(alloc, &mut text, nodes)?;
-    import(rt, alloc, disk, &Limits::standard(), setting, text.as_str())
+    add_pairs(&mut text, nodes)?;
+    import(rt, alloc, disk, &Limits::standard(), setting, &text)
 }
 
 fn reads_of_a_change<R: Threads + Sync>(
@@ -45,32 +46,24 @@ fn reads_of_a_change<R: Threads + Sync>(
     alloc: Global,
     disk: &mut MemDisk,
     bounds: &Bounds,
-) -> Result<String, End> {
+    out: &mut String,
+) -> Result<(), End> {
     let pages = home_pages(disk.bytes());
     let before = disk.reads();
-    let _delta = append(
-        rt,
-        alloc,
-        disk,
-        &Limits::standard(),
-        bounds,
-        1,
-        "n1 x2 y2\n",
-    )?;
+    let limits = Limits::standard();
+    change(rt, alloc, disk, &limits, bounds, "n1 x2 y2\n")?;
     let reads = disk.reads().saturating_sub(before);
-    Ok(format!(in alloc; "{reads} of {pages}")?)
+    Ok(write!(out, "{reads} of {pages}")?)
 }
 
 /// So many nodes, and a way between each two.
-fn add_pairs(alloc: Global, text: &mut String, nodes: u64) -> Result<(), AllocError> {
+fn add_pairs(text: &mut String, nodes: u64) -> Result<(), AllocError> {
     for before in 0..nodes {
-        let line = format!(in alloc; "n{} x1 y1\n", before + 1)?;
-        text.push_str(line.as_str())?;
+        write!(text, "n{} x1 y1\n", before + 1)?;
     }
     for pair in 1..(nodes / 2).saturating_add(1) {
         let last = pair.saturating_mul(2);
-        let line = format!(in alloc; "w{pair} Nn{},n{last}\n", last.saturating_sub(1))?;
-        text.push_str(line.as_str())?;
+        write!(text, "w{pair} Nn{},n{last}\n", last.saturating_sub(1))?;
     }
     Ok(())
 }

@@ -2,7 +2,7 @@
 
 use crate::end::{End, Part};
 use crate::setting::{Rules, STYLE, Setting};
-use crate::stores::{append, clear, formatted, import, opened, tables_text, told};
+use crate::stores::{Standing, change, clear, formatted, import, opened, push_tables, told};
 use due_tiles::tiles_text;
 use osm_base::{Bytes, Limits, OutOfMemory};
 use outside::{CrashPick, Fails, MemDisk};
@@ -11,7 +11,7 @@ use std::thread::Threads;
 use update_flow::FlowFault;
 
 /// What a crash may make of the ranges that are not synced.
-const PICKS: [CrashPick; 4] = [
+pub const PICKS: [CrashPick; 4] = [
     CrashPick::Old,
     CrashPick::New,
     CrashPick::Half,
@@ -21,42 +21,41 @@ const PICKS: [CrashPick; 4] = [
 /// More than a disk in memory holds.
 const MAX_BYTES: u64 = 1 << 62;
 
-/// What a store tells: how many changes it has had, its tables, and the tiles that are due.
-#[derive(Drop)]
-struct Version {
-    changes: u64,
-    text: String,
-    due: Vec<u8>,
-}
-
-impl Version {
-    fn is(&self, other: &Version) -> bool {
-        self.changes == other.changes
-            && self.text.as_str() == other.text.as_str()
-            && self.due == other.due
-    }
-}
-
 /// Crashes in each call of a deed that follows an import and a change, and then in the opening: the store is that before the deed
-/// or after it, and after it from the deed's end on. The deed is a second change, or where its text is empty, that no tile is due.
+/// or after it, and after it from the deed's end on, which is added then. The deed is a second change, or where its text is empty, that no
+/// tile is due.
 pub fn crashes_of<R: Threads + Sync>(
     rt: &R,
     alloc: Global,
     rules: &Rules,
     buckets: u64,
     texts: [&str; 3],
-) -> Result<String, End> {
+    out: &mut String,
+) -> Result<(), End> {
+    let [first, change, deed] = texts;
     let setting = Setting {
         style: STYLE,
         buckets,
         workers: 1,
     };
-    let [first, change, deed] = texts;
     let mut disk = formatted(alloc)?;
-    import(rt, alloc, &mut disk, &Limits::standard(), setting, first)?;
-    does(rt, alloc, &mut disk, rules, change)?;
+    prepare(rt, alloc, &mut disk, rules, setting, [first, change])?;
     from_here(rt, alloc, &disk, rules, deed)?;
-    Ok(String::from_str(alloc, "before or after")?)
+    Ok(out.push_str("before or after")?)
+}
+
+// An import and a change.
+fn prepare<R: Threads + Sync>(
+    rt: &R,
+    alloc: Global,
+    disk: &mut MemDisk,
+    rules: &Rules,
+    setting: Setting<'_>,
+    texts: [&str; 2],
+) -> Result<(), End> {
+    let [first, change] = texts;
+    import(rt, alloc, disk, &Limits::standard(), setting, first)?;
+    does(rt, alloc, disk, rules, change)
 }
 
 fn does<R: Threads + Sync>(
@@ -64,21 +63,13 @@ fn does<R: Threads + Sync>(
     alloc: Global,
     disk: &mut MemDisk,
     rules: &Rules,
-    change: &str,
+    text: &str,
 ) -> Result<(), End> {
-    if change.is_empty() {
+    if text.is_empty() {
         return Ok(clear(alloc, disk)?);
     }
-    let _delta = append(
-        rt,
-        alloc,
-        disk,
-        &Limits::standard(),
-        &rules.bounds,
-        1,
-        change,
-    )?;
-    Ok(())
+    let limits = Limits::standard();
+    change(rt, alloc, disk, &limits, &rules.bounds, text)
 }
 
 // No call of the disk is kept that was made before the deed.
@@ -94,7 +85,7 @@ fn from_here<R: Threads + Sync>(
 }
 
 /// A disk with these bytes.
-fn again(alloc: Global, bytes: &[u8]) -> Result<MemDisk, OutOfMemory> {
+pub fn again(alloc: Global, bytes: &[u8]) -> Result<MemDisk, OutOfMemory> {
     if bytes.len() as u64 > MAX_BYTES {
         return Err(OutOfMemory);
     }
@@ -110,59 +101,89 @@ fn in_each<R: Threads + Sync>(
     deed: &str,
 ) -> Result<(), End> {
     let before = version_of(alloc, disk, rules)?;
+    does_and_cuts(rt, alloc, disk, rules, deed, &before)
+}
+
+// The deed on a store of this version, and cuts in each of its calls and of those behind it.
+fn does_and_cuts<R: Threads + Sync>(
+    rt: &R,
+    alloc: Global,
+    disk: &mut MemDisk,
+    rules: &Rules,
+    deed: &str,
+    before: &[u8],
+) -> Result<(), End> {
     let begun = disk.calls();
     does(rt, alloc, disk, rules, deed)?;
     let done = disk.calls();
     let after = version_of(alloc, disk, rules)?;
-    if before.is(&after) {
-        return Err(End::Differs(Part::Deed, before.changes));
-    }
-    let kept = cut_in_each(alloc, disk, rules, begun, done, [&before, &after])?
-        && cut_in_each(alloc, disk, rules, done, disk.calls(), [&after, &after])?;
-    if kept {
-        Ok(())
-    } else {
-        Err(End::Differs(Part::Store, before.changes))
-    }
+    compared(alloc, disk, rules, [begun, done], before, &after)
 }
 
-// Whether a cut of a disk in each of these calls leaves one of two versions.
+// Cuts in each call from a number on leave one of two versions, which differ, and from another number on the second.
+fn compared(
+    alloc: Global,
+    disk: &MemDisk,
+    rules: &Rules,
+    calls: [u64; 2],
+    before: &[u8],
+    after: &[u8],
+) -> Result<(), End> {
+    let [begun, done] = calls;
+    if before == after {
+        return Err(End::Differs(Part::Deed, begun));
+    }
+    cut_in_each(alloc, disk, rules, begun, done, [before, after])?;
+    cut_in_each(alloc, disk, rules, done, disk.calls(), [after, after])
+}
+
+// A cut of a disk in each of these calls leaves one of two versions.
 fn cut_in_each(
     alloc: Global,
     disk: &MemDisk,
     rules: &Rules,
     begun: u64,
     end: u64,
-    versions: [&Version; 2],
-) -> Result<bool, FlowFault> {
+    versions: [&[u8]; 2],
+) -> Result<(), End> {
     for call in begun..end {
         for pick in PICKS {
-            let mut left = crash(alloc, disk, call, pick)?;
-            if !once_more(alloc, &mut left, rules, versions)? {
-                return Ok(false);
+            if !once_more(alloc, disk, rules, call, pick, versions)? {
+                return Err(End::Differs(Part::Store, call));
             }
         }
     }
-    Ok(true)
+    Ok(())
 }
 
-// Whether the opening, and a cut of it in each of its calls, leave one of two versions.
+// Whether the opening of what a cut leaves, and a cut in each of its calls, leave one of two versions.
 fn once_more(
     alloc: Global,
-    left: &mut MemDisk,
+    disk: &MemDisk,
     rules: &Rules,
-    versions: [&Version; 2],
+    call: u64,
+    pick: CrashPick,
+    versions: [&[u8]; 2],
 ) -> Result<bool, FlowFault> {
-    is_opened(alloc, left)?;
-    for call in 0..left.calls() {
+    let mut left = crash(alloc, disk, call, pick)?;
+    is_kept_by_opening(alloc, &mut left, rules, versions)
+}
+
+fn is_kept_by_opening(
+    alloc: Global,
+    disk: &mut MemDisk,
+    rules: &Rules,
+    versions: [&[u8]; 2],
+) -> Result<bool, FlowFault> {
+    is_opened(alloc, disk)?;
+    for call in 0..disk.calls() {
         for pick in PICKS {
-            let mut last = crash(alloc, left, call, pick)?;
-            if !is_one_of(alloc, &mut last, rules, versions)? {
+            if !is_left(alloc, disk, rules, call, pick, versions)? {
                 return Ok(false);
             }
         }
     }
-    is_one_of(alloc, left, rules, versions)
+    is_one_of(alloc, disk, rules, versions)
 }
 
 fn is_opened(alloc: Global, disk: &mut MemDisk) -> Result<(), FlowFault> {
@@ -170,28 +191,50 @@ fn is_opened(alloc: Global, disk: &mut MemDisk) -> Result<(), FlowFault> {
     Ok(())
 }
 
+// Whether a cut leaves one of two versions.
+fn is_left(
+    alloc: Global,
+    disk: &MemDisk,
+    rules: &Rules,
+    call: u64,
+    pick: CrashPick,
+    versions: [&[u8]; 2],
+) -> Result<bool, FlowFault> {
+    let mut left = crash(alloc, disk, call, pick)?;
+    is_one_of(alloc, &mut left, rules, versions)
+}
+
 fn is_one_of(
     alloc: Global,
     disk: &mut MemDisk,
     rules: &Rules,
-    versions: [&Version; 2],
+    versions: [&[u8]; 2],
 ) -> Result<bool, FlowFault> {
     let found = version_of(alloc, disk, rules)?;
     let [one, other] = versions;
-    Ok(found.is(one) || found.is(other))
+    Ok(found.as_slice() == one || found.as_slice() == other)
 }
 
-fn version_of(alloc: Global, disk: &mut MemDisk, rules: &Rules) -> Result<Version, FlowFault> {
+// What a store tells, in bytes: how many changes it has had, its tables, and the tiles that are due.
+fn version_of(alloc: Global, disk: &mut MemDisk, rules: &Rules) -> Result<Vec<u8>, FlowFault> {
     let standing = told(alloc, disk)?;
-    Ok(Version {
-        changes: standing.changes,
-        text: tables_text(alloc, &rules.style, &standing.tables)?,
-        due: tiles_text(alloc, &standing.due, 0)?,
-    })
+    Ok(standing_bytes(alloc, rules, &standing)?)
+}
+
+fn standing_bytes(
+    alloc: Global,
+    rules: &Rules,
+    standing: &Standing,
+) -> Result<Vec<u8>, OutOfMemory> {
+    let mut text = format!(in alloc; "{} changes\n", standing.changes)?;
+    push_tables(alloc, &mut text, &rules.style, &standing.tables)?;
+    let mut bytes = text.into_bytes();
+    bytes.extend_from_slice(tiles_text(alloc, &standing.due, 0)?.as_slice())?;
+    Ok(bytes)
 }
 
 /// What a crash leaves in the call behind so many.
-fn crash(
+pub fn crash(
     alloc: Global,
     disk: &MemDisk,
     before: u64,

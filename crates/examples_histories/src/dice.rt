@@ -2,7 +2,7 @@
 ghost use Rattle.std.specs.Prelude.{◌≤◌, ◌<◌};
 
 /// A generator of numbers: a linear congruence of 64 bits, of which the upper 31 are used.
-#[derive(Drop)]
+#[derive(Clone, Copy)]
 pub struct Dice {
     state: u64,
 }

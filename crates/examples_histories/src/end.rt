@@ -3,7 +3,7 @@ ghost use Rattle.std.specs.Prelude.{◌≡◌};
 
 use object_fold::FileFault;
 use osm_base::OutOfMemory;
-use std::alloc::{AllocError, Global};
+use std::alloc::AllocError;
 use update_flow::FlowFault;
 
 /// Why an example ends before its last step.
@@ -31,15 +31,15 @@ pub enum Part {
     Store,
 }
 
-/// The text of an end.
-pub fn end_text(alloc: Global, end: End) -> Result<String, AllocError> {
+/// Adds the text of an end.
+pub fn push_end(text: &mut String, end: End) -> Result<(), AllocError> {
     match end {
         End::Differs(part, changes) => {
             let part = part_text(part);
-            format!(in alloc; "{part} after change {changes}")
+            write!(text, "{part} after change {changes}")
         }
-        End::File(fault) => format!(in alloc; "{fault}"),
-        End::Refused(fault) => format!(in alloc; "{fault}"),
+        End::File(fault) => write!(text, "{fault}"),
+        End::Refused(fault) => write!(text, "{fault}"),
     }
 }
 

@@ -2,46 +2,46 @@
 
 use crate::dice::Dice;
 use crate::differing::{add_differing, apply};
-use crate::end::{End, Part, end_text};
+use crate::end::{End, Part};
 use crate::setting::{Rules, STYLE, Setting};
 use crate::stores::{Standing, append, clear, formatted, import, tables_text, told};
 use crate::world::World;
 use due_tiles::{tiles_text, union};
-use osm_base::{Delta, Limits, Tables};
+use osm_base::{Delta, Limits, OutOfMemory, Tables};
 use outside::MemDisk;
-use std::alloc::{AllocError, Global};
+use std::alloc::Global;
 use std::thread::Threads;
 use tile_cover::TileRuns;
 
 /// How many changes a history has.
 const CHANGES: u64 = 10;
 
-/// A history as far as it has come: the map, the store and what the store tells.
+/// A history as far as it has come: the map, and what the store tells.
 #[derive(Drop)]
 struct History {
     workers: u32,
     dice: Dice,
     world: World,
-    disk: MemDisk,
     now: Standing,
 }
 
-/// Runs so many histories, from a seed on, and answers how the first ends that does not come to its last change.
+/// Runs so many histories, from a seed on, and adds the seed of the first that does not come to its last change.
 pub fn histories<R: Threads + Sync>(
     rt: &R,
     alloc: Global,
     rules: &Rules,
     first: u64,
     count: u64,
-) -> Result<String, AllocError> {
+    out: &mut String,
+) -> Result<(), End> {
     for place in 0..count {
         let seed = first.wrapping_add(place);
         if let Err(end) = run_both(rt, alloc, rules, seed) {
-            let text = end_text(alloc, end)?;
-            return format!(in alloc; "seed {seed}: {text}");
+            write!(out, "seed {seed}: ")?;
+            return Err(end);
         }
     }
-    Ok(String::new(alloc))
+    Ok(())
 }
 
 // Runs a history by one worker and by 64. Both leave the same bytes.
@@ -63,19 +63,31 @@ fn left_by<R: Threads + Sync>(
     seed: u64,
     workers: u32,
 ) -> Result<Vec<u8>, End> {
+    let mut disk = formatted(alloc)?;
+    run_on(rt, alloc, &mut disk, rules, seed, workers)?;
+    Ok(Vec::from_slice(alloc, disk.bytes())?)
+}
+
+// A history on this disk.
+fn run_on<R: Threads + Sync>(
+    rt: &R,
+    alloc: Global,
+    disk: &mut MemDisk,
+    rules: &Rules,
+    seed: u64,
+    workers: u32,
+) -> Result<(), End> {
     let mut history = History {
         workers,
         dice: Dice::new(seed),
-        world: World::new(alloc)?,
-        disk: formatted(alloc)?,
+        world: World::new(),
         now: Standing {
             changes: 0,
             tables: Tables::new(alloc),
             due: TileRuns::new(alloc),
         },
     };
-    history.run(rt, alloc, rules, buckets_of(seed))?;
-    Ok(Vec::from_slice(alloc, history.disk.bytes())?)
+    history.run(rt, alloc, disk, rules, buckets_of(seed))
 }
 
 // How many buckets the maps of a seed's store have.
@@ -93,7 +105,27 @@ impl History {
         &mut self,
         rt: &R,
         alloc: Global,
+        disk: &mut MemDisk,
         rules: &Rules,
+        buckets: u64,
+    ) -> Result<(), End> {
+        self.begin(rt, alloc, disk, buckets)?;
+        for number in 1..CHANGES + 1 {
+            self.turn(rt, alloc, disk, rules, number)?;
+            if self.dice.once_in(4) {
+                clear(alloc, disk)?;
+                self.now.due = TileRuns::new(alloc);
+            }
+        }
+        Ok(())
+    }
+
+    /// The import.
+    fn begin<R: Threads + Sync>(
+        &mut self,
+        rt: &R,
+        alloc: Global,
+        disk: &mut MemDisk,
         buckets: u64,
     ) -> Result<(), End> {
         let setting = Setting {
@@ -101,12 +133,9 @@ impl History {
             buckets,
             workers: self.workers,
         };
-        let text = self.world.change(alloc, &mut self.dice, 1)?;
-        self.now = imported(rt, alloc, &mut self.disk, setting, text.as_str())?;
-        for number in 1..CHANGES + 1 {
-            self.turn(rt, alloc, rules, number)?;
-            self.clear_at_times(alloc)?;
-        }
+        let mut text = String::new(alloc);
+        self.world.change(&mut self.dice, 1, &mut text)?;
+        self.now = imported(rt, alloc, disk, setting, &text)?;
         Ok(())
     }
 
@@ -115,15 +144,13 @@ impl History {
         &mut self,
         rt: &R,
         alloc: Global,
+        disk: &mut MemDisk,
         rules: &Rules,
         number: u64,
     ) -> Result<(), End> {
-        let delta = self.changed(rt, alloc, rules)?;
-        let after = told(alloc, &mut self.disk)?;
-        if delta.version != number || after.changes != number {
-            return Err(End::Differs(Part::Version, number));
-        }
-        let compared = self.compare(rt, alloc, rules, delta, &after);
+        let delta = self.changed(rt, alloc, disk, rules)?;
+        let after = told(alloc, disk)?;
+        let compared = self.compare(rt, alloc, rules, number, delta, &after);
         self.now = after;
         compared
     }
@@ -133,19 +160,13 @@ impl History {
         &mut self,
         rt: &R,
         alloc: Global,
+        disk: &mut MemDisk,
         rules: &Rules,
     ) -> Result<Delta, End> {
         let limits = Limits::standard();
-        let text = self.world.change(alloc, &mut self.dice, 6)?;
-        append(
-            rt,
-            alloc,
-            &mut self.disk,
-            &limits,
-            &rules.bounds,
-            self.workers,
-            text.as_str(),
-        )
+        let mut text = String::new(alloc);
+        self.world.change(&mut self.dice, 6, &mut text)?;
+        append(rt, alloc, disk, &limits, &rules.bounds, self.workers, &text)
     }
 
     /// Compares what the store tells with the store of a fresh import, and with what the rows and the delta say.
@@ -154,40 +175,69 @@ impl History {
         rt: &R,
         alloc: Global,
         rules: &Rules,
+        number: u64,
         delta: Delta,
         after: &Standing,
     ) -> Result<(), End> {
-        let number = delta.version;
-        if !is_due(alloc, rules, &self.now, after)? {
+        let version = delta.version;
+        let due = is_due(alloc, rules, &self.now, after);
+        apply(&mut self.now.tables, delta)?;
+        if version != number || after.changes != number {
+            return Err(End::Differs(Part::Version, number));
+        }
+        if !due? {
             return Err(End::Differs(Part::Tiles, number));
         }
-        apply(&mut self.now.tables, delta)?;
         let fresh = fresh_text(rt, alloc, rules, &self.world)?;
-        if tables_text(alloc, &rules.style, &after.tables)? != fresh {
-            return Err(End::Differs(Part::Tables, number));
-        }
-        if tables_text(alloc, &rules.style, &self.now.tables)? != fresh {
-            return Err(End::Differs(Part::Delta, number));
-        }
-        Ok(())
-    }
-
-    /// Once in four times no tile is due any more.
-    fn clear_at_times(&mut self, alloc: Global) -> Result<(), End> {
-        if self.dice.once_in(4) {
-            clear(alloc, &mut self.disk)?;
-            self.now.due = TileRuns::new(alloc);
-        }
-        Ok(())
+        compare_tables(
+            alloc,
+            rules,
+            number,
+            [&after.tables, &self.now.tables],
+            &fresh,
+        )
     }
 }
 
+// Compares the tables of a store, and those that the delta leads to, with the text of fresh ones.
+fn compare_tables(
+    alloc: Global,
+    rules: &Rules,
+    number: u64,
+    tables: [&Tables; 2],
+    fresh: &str,
+) -> Result<(), End> {
+    let [after, led] = tables;
+    if !has_text(alloc, rules, after, fresh)? {
+        return Err(End::Differs(Part::Tables, number));
+    }
+    if !has_text(alloc, rules, led, fresh)? {
+        return Err(End::Differs(Part::Delta, number));
+    }
+    Ok(())
+}
+
+// Whether tables have this text.
+fn has_text(
+    alloc: Global,
+    rules: &Rules,
+    tables: &Tables,
+    text: &str,
+) -> Result<bool, OutOfMemory> {
+    let own = tables_text(alloc, &rules.style, tables)?;
+    Ok(own.as_str() == text)
+}
+
 // Whether the tiles are due that were, and those that a row that differs meets.
-fn is_due(alloc: Global, rules: &Rules, before: &Standing, after: &Standing) -> Result<bool, End> {
+fn is_due(
+    alloc: Global,
+    rules: &Rules,
+    before: &Standing,
+    after: &Standing,
+) -> Result<bool, OutOfMemory> {
     let mut due = TileRuns::new(alloc);
     union(alloc, &mut due, &before.due)?;
-    add_differing(alloc, rules, &before.tables, &after.tables, &mut due)?;
-    add_differing(alloc, rules, &after.tables, &before.tables, &mut due)?;
+    add_differing(alloc, rules, [&before.tables, &after.tables], &mut due)?;
     Ok(tiles_text(alloc, &after.due, 0)? == tiles_text(alloc, &due, 0)?)
 }
 
@@ -198,15 +248,21 @@ fn fresh_text<R: Threads + Sync>(
     rules: &Rules,
     world: &World,
 ) -> Result<String, End> {
+    let fresh = fresh(rt, alloc, world)?;
+    Ok(tables_text(alloc, &rules.style, &fresh.tables)?)
+}
+
+// What a store tells in which all objects are imported.
+fn fresh<R: Threads + Sync>(rt: &R, alloc: Global, world: &World) -> Result<Standing, End> {
     let setting = Setting {
         style: STYLE,
         buckets: 4,
         workers: 1,
     };
-    let text = world.text(alloc)?;
+    let mut text = String::new(alloc);
+    world.push(&mut text)?;
     let mut disk = formatted(alloc)?;
-    let fresh = imported(rt, alloc, &mut disk, setting, text.as_str())?;
-    Ok(tables_text(alloc, &rules.style, &fresh.tables)?)
+    imported(rt, alloc, &mut disk, setting, &text)
 }
 
 // What the store tells once these objects are imported.

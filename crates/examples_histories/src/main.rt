@@ -1,17 +1,22 @@
-//! Runs random histories of a small map through stores, and single steps of stores, and prints the name of each row up to the first that
-//! differs.
+//! Runs random histories of a small map through stores, single steps of stores and openings of disks, and prints the name of each row up to
+//! the first that differs.
 //!
 //! After each change of a history the tables of the store are those of a fresh import of all objects, the delta leads to them, and the tiles
-//! that are due are those that a row that differs meets. The heads of `histories.txt` and `steps.txt` say how the rows are written.
+//! that are due are those that a row that differs meets. The heads of `histories.txt`, `steps.txt` and `openings.txt` say how the rows are
+//! written.
 #![tactic(auto)]
 
 mod bounded;
+mod calling;
 mod counted;
 mod crashed;
+mod deeds;
 mod dice;
 mod differing;
 mod end;
 mod history;
+mod migrated;
+mod opening;
 mod row;
 mod setting;
 mod step;
@@ -29,8 +34,21 @@ use step::answer_of;
 
 fn main(rt: HostRuntime) -> io::Result<ExitCode> {
     let rules = rules_of_all(rt.alloc())?;
-    let passed = passes_all(&rt, &rules, "histories.txt")? && passes_all(&rt, &rules, "steps.txt")?;
-    Ok(ExitCode::from(if passed { 0 } else { 1 }))
+    tables_pass(&rt, &rules, &["histories.txt", "steps.txt", "openings.txt"])
+}
+
+/// Takes the examples of these tables, up to the first that differs.
+fn tables_pass<R: Threads + Sync + Files + Print + Eprint + AllocGlobal>(
+    rt: &R,
+    rules: &Rules,
+    tables: &[&str],
+) -> io::Result<ExitCode> {
+    for name in tables {
+        if !passes_all(rt, rules, name)? {
+            return Ok(ExitCode::from(1));
+        }
+    }
+    Ok(ExitCode::from(0))
 }
 
 /// Takes the examples of a table up to the first that differs. True: none does.

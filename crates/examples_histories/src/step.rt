@@ -3,8 +3,9 @@
 use crate::bounded::answers_under;
 use crate::counted::reads_of;
 use crate::crashed::crashes_of;
-use crate::end::{End, end_text};
+use crate::end::{End, push_end};
 use crate::history::histories;
+use crate::opening::push_after;
 use crate::setting::{Rules, Setting};
 use example_table::number_of;
 use osm_base::{LimitNumbers, Limits};
@@ -20,13 +21,44 @@ struct Given {
     texts: Vec<String>,
 }
 
-/// What an example of this kind answers to these words.
+/// What an example of this kind answers, given these words or deeds.
 pub fn answer_of<R: Threads + Sync + Files + AllocGlobal>(
     rt: &R,
     rules: &Rules,
     kind: &str,
-    words: &str,
+    given: &str,
 ) -> io::Result<String> {
+    let mut answer = String::new(rt.alloc());
+    match kind {
+        "histories" | "limits" | "reads" | "crashes" => {
+            push_stepped(rt, rules, kind, given, &mut answer)?
+        }
+        _ => {
+            if !push_after(rt.alloc(), kind, given, &mut answer)? {
+                answer.push_str("no example")?;
+            }
+        }
+    }
+    Ok(answer)
+}
+
+// Adds what a step of this kind answers to these words.
+fn push_stepped<R: Threads + Sync + Files + AllocGlobal>(
+    rt: &R,
+    rules: &Rules,
+    kind: &str,
+    words: &str,
+    answer: &mut String,
+) -> io::Result<()> {
+    let given = given_by(rt, words)?;
+    if let Err(end) = push_answer(rt, rt.alloc(), rules, kind, &given, answer) {
+        push_end(answer, end)?;
+    }
+    Ok(())
+}
+
+// What words give.
+fn given_by<R: Files + AllocGlobal>(rt: &R, words: &str) -> io::Result<Given> {
     let mut given = Given {
         numbers: Vec::new(rt.alloc()),
         texts: Vec::new(rt.alloc()),
@@ -34,10 +66,7 @@ pub fn answer_of<R: Threads + Sync + Files + AllocGlobal>(
     for word in words.split_ascii_whitespace() {
         take(rt, &mut given, word)?;
     }
-    Ok(match answer_to(rt, rt.alloc(), rules, kind, &given) {
-        Ok(answer) => answer,
-        Err(end) => end_text(rt.alloc(), end)?,
-    })
+    Ok(given)
 }
 
 // Takes up a word: a number, `clear` for an empty text, or the path of a file.
@@ -52,16 +81,17 @@ fn take<R: Files + AllocGlobal>(rt: &R, given: &mut Given, word: &str) -> io::Re
     Ok(())
 }
 
-// What an example of this kind answers.
-fn answer_to<R: Threads + Sync>(
+// Adds what an example of this kind answers.
+fn push_answer<R: Threads + Sync>(
     rt: &R,
     alloc: Global,
     rules: &Rules,
     kind: &str,
     given: &Given,
-) -> Result<String, End> {
+    out: &mut String,
+) -> Result<(), End> {
     match (kind, given.numbers.as_slice(), given.texts.as_slice()) {
-        ("histories", [first, count], []) => Ok(histories(rt, alloc, rules, *first, *count)?),
+        ("histories", [first, count], []) => histories(rt, alloc, rules, *first, *count, out),
         ("limits", [buckets, pages, pending], [style, first, change]) => {
             let setting = Setting {
                 style: style.as_str(),
@@ -70,14 +100,16 @@ fn answer_to<R: Threads + Sync>(
             };
             let limits = limits_of(*pages, *pending);
             let texts = [first.as_str(), change.as_str()];
-            answers_under(rt, alloc, &limits, &rules.bounds, setting, texts)
+            answers_under(rt, alloc, &limits, &rules.bounds, setting, texts, out)
         }
-        ("reads", [buckets, nodes], []) => reads_of(rt, alloc, &rules.bounds, *buckets, *nodes),
+        ("reads", [buckets, nodes], []) => {
+            reads_of(rt, alloc, &rules.bounds, *buckets, *nodes, out)
+        }
         ("crashes", [buckets], [first, change, deed]) => {
             let texts = [first.as_str(), change.as_str(), deed.as_str()];
-            crashes_of(rt, alloc, rules, *buckets, texts)
+            crashes_of(rt, alloc, rules, *buckets, texts, out)
         }
-        _ => Ok(String::from_str(alloc, "no example")?),
+        _ => Ok(out.push_str("no example")?),
     }
 }
 

@@ -59,6 +59,19 @@ pub fn append<R: Threads + Sync>(
     Ok(append_to(rt, &mut updater, bounds, workers, change)?)
 }
 
+/// Takes the store a change further by one worker.
+pub fn change<R: Threads + Sync>(
+    rt: &R,
+    alloc: Global,
+    disk: &mut MemDisk,
+    limits: &Limits,
+    bounds: &Bounds,
+    text: &str,
+) -> Result<(), End> {
+    let _delta = append(rt, alloc, disk, limits, bounds, 1, text)?;
+    Ok(())
+}
+
 /// No tile of the store is due any more.
 pub fn clear(alloc: Global, disk: &mut MemDisk) -> Result<(), FlowFault> {
     let mut updater = opened(alloc, disk, &Limits::standard())?;
@@ -74,14 +87,23 @@ pub fn told(alloc: Global, disk: &mut MemDisk) -> Result<Standing, FlowFault> {
 /// The text of all tables.
 pub fn tables_text(alloc: Global, style: &Style, tables: &Tables) -> Result<String, OutOfMemory> {
     let mut text = String::new(alloc);
+    push_tables(alloc, &mut text, style, tables)?;
+    Ok(text)
+}
+
+/// Adds the text of all tables.
+pub fn push_tables(
+    alloc: Global,
+    text: &mut String,
+    style: &Style,
+    tables: &Tables,
+) -> Result<(), OutOfMemory> {
     for (number, table) in style.tables.as_slice().iter().enumerate() {
-        text.push_str("table ")?;
-        text.push_str(table.name.as_str())?;
-        text.push_str("\n")?;
+        write!(text, "table {}\n", table.name.as_str())?;
         let rows = table_text(alloc, style, tables, number as u32)?;
         text.push_str(rows.as_str())?;
     }
-    Ok(text)
+    Ok(())
 }
 
 /// The open store of a disk.

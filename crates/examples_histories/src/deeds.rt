@@ -5,11 +5,14 @@ ghost use Rattle.bucket_store.specs.Transaction.{has_refused};
 use bucket_store::Buckets;
 use chain_store::Root;
 use example_table::{bytes_of, number_of, row_of};
-use osm_base::{Bytes, Ids, Limits};
+use osm_base::{Bytes, Limits};
 use outside::{Fails, MemDisk};
 use page_journal::{StoreFault, format};
 use std::alloc::{AllocError, Global};
 use update_flow::STYLE_TEXT;
+
+/// The most bytes that a deed lets a disk hold.
+const MAX_HELD: usize = 1 << 20;
 
 /// A change of a store.
 #[derive(Drop)]
@@ -32,44 +35,35 @@ enum Change {
     },
 }
 
-/// The disk after a deed. `None`: there is no such deed, or the disk refuses it.
-pub fn done(alloc: Global, disk: MemDisk, deed: &str) -> Result<Option<MemDisk>, AllocError> {
-    let mut disk = disk;
+/// Does a deed. False: there is no such deed, or the disk refuses it.
+pub fn is_done(alloc: Global, disk: &mut MemDisk, deed: &str) -> Result<bool, AllocError> {
     let Some((word, text)) = row_of(deed) else {
-        return Ok(None);
+        return Ok(false);
     };
     match word {
-        "none" => Ok(Some(disk)),
-        "format" => Ok(if format(&mut disk).is_ok() {
-            Some(disk)
-        } else {
-            None
-        }),
-        "bytes" => holding(alloc, bytes_of(alloc, text)?),
-        "cut" => holding(alloc, front_of(alloc, disk.bytes(), text)?),
-        _ => {
-            let Some(change) = change_of(alloc, word, text)? else {
-                return Ok(None);
-            };
-            Ok(if changed(alloc, &mut disk, change).is_ok() {
-                Some(disk)
-            } else {
-                None
-            })
+        "none" => Ok(true),
+        "format" => Ok(format(disk).is_ok()),
+        "bytes" => Ok(is_held(alloc, disk, bytes_of(alloc, text)?)),
+        "cut" => {
+            let front = front_of(alloc, disk.bytes(), text)?;
+            Ok(is_held(alloc, disk, front))
         }
+        _ => match change_of(alloc, word, text)? {
+            Some(change) => Ok(changed(alloc, disk, change).is_ok()),
+            None => Ok(false),
+        },
     }
 }
 
-// A disk with these bytes.
-fn holding(alloc: Global, bytes: Option<Vec<u8>>) -> Result<Option<MemDisk>, AllocError> {
-    let Some(bytes) = bytes else {
-        return Ok(None);
-    };
-    if bytes.len() > 1_048_576 {
-        return Ok(None);
+// The disk holds these bytes from now on, where they are not too many.
+fn is_held(alloc: Global, disk: &mut MemDisk, bytes: Option<Vec<u8>>) -> bool {
+    match bytes {
+        Some(bytes) if bytes.len() <= MAX_HELD => {
+            *disk = MemDisk::new(alloc, Bytes::from_vec(bytes), Fails::never(alloc));
+            true
+        }
+        _ => false,
     }
-    let whole = Fails::new(Ids::new(alloc), 0);
-    Ok(Some(MemDisk::new(alloc, Bytes::from_vec(bytes), whole)))
 }
 
 // So many of these bytes, from the first on.
