@@ -12,19 +12,28 @@ use std::marker::Model;
 use std::path::Path;
 use std::rt::Files;
 
-/// The file at a path, which is opened and locked for this disk alone at the first call. Every error of
-/// the system is a fault, and so are a file that another process has locked and one of more than 2^62
-/// bytes. No bytes are told, since no proof says what a file holds.
+/// The file at a path, which is opened and locked at the first call: for this disk alone, or beside others that only look.
+/// Every error of the system is a fault, and so are a file that another process has locked, one of more than 2^62 bytes, and
+/// a write to one that is only looked at. No bytes are told, since no proof says what a file holds.
 #[derive(Drop)]
 pub struct FileDisk<'p, R: Files> {
     rt: R,
     path: &'p str,
     make: bool,
+    // The byte that bars others, where the file is only looked at.
+    bar: Option<Bar>,
     named: bool,
     open: Option<R::File>,
     // Where the next call of the system reads or writes, if that is known.
     place: Option<u64>,
     faults: u64,
+}
+
+/// A byte of a file, and the value of it that means that the file has to be written before it is read.
+#[derive(Clone, Copy)]
+pub struct Bar {
+    pub at: u64,
+    pub value: u8,
 }
 
 // Contracts see the count of faults.
@@ -46,30 +55,66 @@ impl<'p, R: Files> FileDisk<'p, R> {
             rt,
             path,
             make,
+            bar: None,
             named: !make,
             open: None,
             place: None,
             faults: 0,
         }
     }
+
+    /// The file at this path, which has to be there and is only looked at, beside others that only look. Where the bar says
+    /// that it has to be written first, it is this disk's alone.
+    pub fn looking(rt: R, path: &'p str, bar: Bar) -> Self
+        ensures none { result ≡ 0 }
+    {
+        Self {
+            bar: Some(bar),
+            ..Self::new(rt, path, false)
+        }
+    }
 }
 
 impl<R: Files<File = File> + Drop> FileDisk<'_, R> {
-    // Opens and locks the file, if no earlier call has: an opening of a store may finish a commit, and two
-    // processes that write would destroy it.
+    // Opens and locks the file, if no earlier call has.
     fn begin(&mut self) -> io::Result<()>
         ensures same { self.new ≡ self.old }
     {
         if self.open.is_none() {
-            let mut options = OpenOptions::new();
-            options.read(true);
-            options.write(true);
-            options.create(self.make);
-            let file = options.open(&self.rt, self.path)?;
-            file.try_lock()?;
+            let beside = match self.bar {
+                Some(bar) => self.beside(bar)?,
+                None => None,
+            };
+            let file = match beside {
+                Some(file) => file,
+                None => self.alone()?,
+            };
             self.open = Some(file);
         }
         Ok(())
+    }
+
+    // The file for this disk alone: an opening of a store may finish a commit, and two processes that write would destroy it.
+    fn alone(&self) -> io::Result<File> {
+        let mut options = OpenOptions::new();
+        options.read(true);
+        options.write(true);
+        options.create(self.make);
+        let file = options.open(&self.rt, self.path)?;
+        file.try_lock()?;
+        Ok(file)
+    }
+
+    // The file beside others that only look, unless it has to be written first.
+    fn beside(&self, bar: Bar) -> io::Result<Option<File>> {
+        let mut file = fs::open(&self.rt, self.path)?;
+        file.try_lock_shared()?;
+        file.seek(SeekFrom::Start(bar.at))?;
+        let mut byte = [0];
+        if fill(&mut file, &mut byte)? == 1 && byte == [bar.value] {
+            return Ok(None);
+        }
+        Ok(Some(file))
     }
 
     // Makes the name of a file stable that this disk may have made. It stays so, so that once is enough.

@@ -6,10 +6,10 @@ ghost use Rattle.outside.specs.Calls.{one_more};
 ghost use Rattle.outside.specs.Causes.{HasCause};
 
 use crate::{Failed, Inputs};
-use std::io::{Error, ErrorKind, Read};
+use std::fs::{self, OpenFile};
+use std::io::{self, Error, ErrorKind, Read};
 use std::marker::Model;
 use std::rt::Files;
-use std::{fs, io};
 
 /// The files that words name, which are their paths. A file is opened at its first read, and one is
 /// open at a time: a file that was left for another is read from its first byte again. Every error
@@ -47,6 +47,22 @@ impl<'w, R: Files> FileInputs<'w, R> {
 }
 
 impl<R: Files + Drop> FileInputs<'_, R> {
+    /// The path of a file, where there is such a word.
+    pub(crate) fn path_of(&self, file: u32) -> Option<&str> {
+        Some(self.words.get(file as usize)?.as_str())
+    }
+
+    /// How many bytes the file has that is open, where it tells that: a pipe does not.
+    pub(crate) fn open_len(&self) -> Option<u64> {
+        let (_, open) = self.open.as_ref()?;
+        let told = open.metadata().ok()?;
+        if told.is_file() {
+            Some(told.len())
+        } else {
+            None
+        }
+    }
+
     // Opens the file where another one is open, or none.
     fn turn_to(&mut self, file: u32) -> io::Result<()>
         ensures same { self.new ≡ self.old }
@@ -73,8 +89,8 @@ impl<R: Files + Drop> FileInputs<'_, R> {
         }
     }
 
-    // Reads on in a file; a fault is counted exactly where that fails.
-    fn read(&mut self, file: u32, buf: &mut [u8]) -> Result<usize, Failed>
+    /// Reads on in a file; a fault is counted exactly where that fails.
+    pub(crate) fn read(&mut self, file: u32, buf: &mut [u8]) -> Result<usize, Failed>
         ensures bound { IfOk result (λ count. count ≤ length buf.new) }
         ensures counted { self.new ≡ (if is_err result then one_more self.old else self.old) }
         ensures cause { HasCause self.old self.new result }

@@ -14,6 +14,9 @@
 //! those hold, so they tell no bytes, and each counts its faults. `put_all` writes a whole text.
 //!
 //! A `Gate` is what threads pass at five places of a run. `OpenGate` holds nobody.
+//!
+//! `TellingFiles`, `TellingGate` and `TellingSink` do what those over real files, nobody and a real stream do, and tell by a
+//! `Progress` how far a long run is: a line before who waits, of which no clause speaks.
 #![tactic(auto)]
 
 mod calls;
@@ -30,21 +33,27 @@ mod mem_disk;
 mod mem_inputs;
 mod mem_sink;
 mod overwrite;
+mod progress;
 mod recorded;
 mod sink;
 mod std_sink;
 mod tape;
+mod telling_files;
+mod telling_sink;
 
 pub use crash_pick::CrashPick;
 pub use disk::Disk;
 pub use failed::Failed;
 pub use fails::Fails;
-pub use file_disk::FileDisk;
+pub use file_disk::{Bar, FileDisk};
 pub use file_inputs::FileInputs;
-pub use gate::{Gate, GatePlace, OpenGate};
+pub use gate::{Gate, GatePlace, OpenGate, TellingGate};
 pub use inputs::Inputs;
 pub use mem_disk::MemDisk;
 pub use mem_inputs::MemInputs;
 pub use mem_sink::MemSink;
+pub use progress::Progress;
 pub use sink::{Sink, put_all};
 pub use std_sink::StdSink;
+pub use telling_files::TellingFiles;
+pub use telling_sink::TellingSink;

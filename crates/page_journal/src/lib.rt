@@ -14,7 +14,8 @@
 //! at its entry.
 //!
 //! A store that is not formatted, whose open journal is not well formed or that does not hold its pages is
-//! refused, exactly there. After a failure of the disk a journal answers `Broken` until it is opened again.
+//! refused, exactly there. After a failure of the disk a journal answers `Broken` until it is opened again. Who only looks at
+//! a store finds by `GATE_AT` and `OPEN` whether an opening would write.
 #![tactic(auto)]
 
 mod committing;
@@ -34,5 +35,6 @@ pub use fault::StoreFault;
 pub use formatting::format;
 pub use journal::Journal;
 pub use laws::{home_is_one, shared_numbers};
+pub use layout::{GATE_AT, OPEN};
 pub use opening::open;
 pub use page_set::PageSet;

@@ -18,7 +18,7 @@ use Rattle.updater.specs.commands.Replay as replay
 use Rattle.updater.specs.commands.Serve as serve
 use Rattle.updater.specs.commands.Tiles as tiles
 use Rattle.updater.specs.declared.words.TheConstants.{MAX_WORDS}
-pub use Rattle.updater.specs.CommandOf.{CommandOf, points_of, lines_of, init_of, import_of, append_of, export_of, tiles_of, query_of, serve_of, replay_of, migrate_of, seen, store_of, makes_store, Use, no_store, new_store, old_store, use_of, files_of, Names, Fit, FitFrom, AreBuckets, AreReaders, AreWorkers, FilesFit}
+pub use Rattle.updater.specs.CommandOf.{CommandOf, points_of, lines_of, init_of, import_of, append_of, export_of, tiles_of, query_of, serve_of, replay_of, migrate_of, seen, store_of, makes_store, only_looks, Use, no_store, new_store, old_store, use_of, files_of, Names, Fit, FitFrom, AreBuckets, AreReaders, AreWorkers, FilesFit}
 
 -- what remains from the first on that fails a test
 abbrev pub behind : {A : Type 0} → (A → Bool) → List A → List A

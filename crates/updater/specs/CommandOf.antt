@@ -54,6 +54,13 @@ makes_store (Some (init_of store)) = true
 makes_store (Some (replay_of store files workers)) = true
 makes_store _ = false
 
+-- whether it only looks at its store
+abbrev pub only_looks : Option CommandOf → Bool
+only_looks (Some (export_of store table)) = true
+only_looks (Some (query_of store files)) = true
+only_looks (Some (tiles_of store least false)) = true
+only_looks _ = false
+
 -- how a command takes its disk: it has none, it makes a store on it, or the store is there
 pub data Use : Type 0 where
   no_store : Use

@@ -106,6 +106,16 @@ pub fn makes_store(words: &[String]) -> bool
     )
 }
 
+/// Whether the words name a store that is only looked at: the command writes nothing to one that is at rest.
+pub fn only_looks(words: &[String]) -> bool
+    ensures looks { result ≡ spec.only_looks (spec.command (map string_bytes words.now)) }
+{
+    matches!(
+        command_of(words),
+        Some(Command::Export { .. } | Command::Query { .. } | Command::Tiles { clear: false, .. })
+    )
+}
+
 /// The command that the words behind the program's name ask for.
 /// `None`: they are no command of this program.
 ///
