@@ -1,24 +1,26 @@
 //! The program: it hands the words of the command line, the real files, the real disk and standard output to
-//! `run` of `updater`, tells the fault and ends with the status.
+//! `run` of `updater`, tells the fault and ends with the status. On a terminal it tells meanwhile how far it is.
 #![tactic(auto)]
 
 ghost use Rattle.std.specs.Prelude.{◌≡◌, [], drop, map, Some, None, is_err, if◌then◌else◌};
 ghost use Rattle.std.specs.String.{string_bytes};
 ghost use Rattle.outside.specs.MemDisk.{disk_bytes};
-ghost use Rattle.updater.specs.Command.{command, makes_store, store_of};
-ghost use Rattle.updater_main.specs.Asked.{asked, run_of, seen};
+ghost use Rattle.updater.specs.Command.{command};
+ghost use Rattle.updater_main.specs.Asked.{asked, run_for, seen};
 
 use osm_base::Bytes;
 use outside::{
-    Disk, Failed, Fails, FileDisk, FileInputs, Inputs, MemDisk, OpenGate, Sink, StdSink, put_all,
+    Bar, Disk, Failed, Fails, FileDisk, Gate, Inputs, MemDisk, Progress, Sink, StdSink,
+    TellingFiles, TellingGate, TellingSink, put_all,
 };
+use page_journal::{GATE_AT, OPEN};
 use std::alloc::Global;
 use std::process::ExitCode;
-use std::rt::Env;
+use std::rt::{Env, Files};
 use std::sync::Wait;
 use std::thread::Threads;
-use std::{env, io};
-use updater::{Fault, Outcome, fault_line, makes_store, run, store_of};
+use std::{env, fs, io};
+use updater::{Fault, Outcome, fault_line, makes_store, only_looks, run, store_of};
 
 const HELP: &str = "\
 usage: yilgartzu points KEY INPUT [CHANGE..]
@@ -68,29 +70,55 @@ file could not be read; 8: the output failed; 9: the disk of STORE failed; 10: a
 limit; 11: out of memory; 12: no such table, or a line of QUERIES is wrong.
 ";
 
-const VERSION: &str = "yilgartzu 0.1.0\n";
+/// The version, and the line of the kit that proves the program.
+const VERSION: &str = "yilgartzu 0.2.0 (rattle-kit-13f logic dac8208d650f15bf)\n";
+
+/// The variable that says whether the program tells how far it is: `1`, where standard error is a terminal.
+const TELLS: &str = "YILGARTZU_PROGRESS";
+
+/// The variable that names a file for the line of a fault, from which the launcher explains it.
+const LEFT_IN: &str = "YILGARTZU_FAULT";
 
 fn main(rt: HostRuntime) -> ExitCode {
+    let progress = Progress::new(&rt, rt.alloc(), tells(&rt));
     let Outcome { status, fault } = match args_of(&rt) {
         Ok(args) => {
             let words = words_behind(&args);
-            let mut inputs = FileInputs::new(&rt, words);
-            let mut out = StdSink::new(io::writer(&rt));
+            let mut inputs = TellingFiles::new(&rt, words, &progress);
+            let mut out = TellingSink::new(StdSink::new(io::writer(&rt)), &progress);
+            let gate = TellingGate::new(&progress);
             match asked_of(words) {
                 Asked::Help => told(put_all(&mut out, HELP.as_bytes())),
                 Asked::Version => told(put_all(&mut out, VERSION.as_bytes())),
-                Asked::Store { path, make } => {
-                    let mut disk = FileDisk::new(&rt, path, make);
-                    outcome_of(&rt, rt.alloc(), words, &mut inputs, &mut disk, &mut out)
+                Asked::Store { path, make, looks } => {
+                    let mut disk = disk_of(&rt, path, make, looks);
+                    outcome_of(
+                        &rt,
+                        rt.alloc(),
+                        words,
+                        &mut inputs,
+                        &mut disk,
+                        &mut out,
+                        &gate,
+                    )
                 }
                 Asked::Run => {
                     let mut disk = no_disk(rt.alloc());
-                    outcome_of(&rt, rt.alloc(), words, &mut inputs, &mut disk, &mut out)
+                    outcome_of(
+                        &rt,
+                        rt.alloc(),
+                        words,
+                        &mut inputs,
+                        &mut disk,
+                        &mut out,
+                        &gate,
+                    )
                 }
             }
         }
         Err(fault) => Outcome::of(Some(fault)),
     };
+    progress.wipe();
     if let Some(fault) = &fault {
         tell(&rt, fault);
     }
@@ -98,15 +126,16 @@ fn main(rt: HostRuntime) -> ExitCode {
 }
 
 /// The outcome of a run. Its contract ends here: the real files, disk and output tell it nothing.
-fn outcome_of<R: Threads + Wait + Sync, I: Inputs, D: Disk, S: Sink>(
+fn outcome_of<R: Threads + Wait + Sync, I: Inputs, D: Disk, S: Sink, G: Gate>(
     rt: &R,
     alloc: Global,
     words: &[String],
     inputs: &mut I,
     disk: &mut D,
     out: &mut S,
+    gate: &G,
 ) -> Outcome {
-    run(rt, alloc, words, inputs, disk, out, &OpenGate)
+    run(rt, alloc, words, inputs, disk, out, gate)
 }
 
 /// What the words ask for.
@@ -115,8 +144,13 @@ enum Asked<'a> {
     Help,
     /// The version.
     Version,
-    /// A run with the store at this path, which is made where there is no file, or has to be there.
-    Store { path: &'a str, make: bool },
+    /// A run with the store at this path, which is made where there is no file, or has to be there; and whether it is only
+    /// looked at.
+    Store {
+        path: &'a str,
+        make: bool,
+        looks: bool,
+    },
     /// A run without a store.
     Run,
 }
@@ -134,14 +168,37 @@ fn asked_of(words: &[String]) -> Asked<'_>
 
 /// A run of these words, with the store that they name.
 fn run_for(words: &[String]) -> Asked<'_>
-    ensures run { seen result ≡ run_of (store_of (command (map string_bytes words.now))) (makes_store (command (map string_bytes words.now))) }
+    ensures run { seen result ≡ run_for (command (map string_bytes words.now)) }
 {
     match store_of(words) {
         Some(path) => Asked::Store {
             path,
             make: makes_store(words),
+            looks: only_looks(words),
         },
         None => Asked::Run,
+    }
+}
+
+/// The real disk of a run with the store at this path. One that is only looked at stays open to others that look, unless a
+/// commit has to be finished first.
+fn disk_of<R: Files>(rt: R, path: &str, make: bool, looks: bool) -> FileDisk<'_, R> {
+    if looks {
+        let bar = Bar {
+            at: GATE_AT,
+            value: OPEN,
+        };
+        FileDisk::looking(rt, path, bar)
+    } else {
+        FileDisk::new(rt, path, make)
+    }
+}
+
+/// Whether the program tells how far it is.
+fn tells(rt: &(impl Env + AllocGlobal)) -> bool {
+    match env::var(rt, TELLS) {
+        Ok(value) => value.as_str() == "1",
+        Err(_) => false,
     }
 }
 
@@ -178,9 +235,13 @@ fn told(written: Result<(), Failed>) -> Outcome
     Outcome::of(written.err().map(|_| Fault::WriteFault))
 }
 
-/// Prints the line of a fault to standard error. Where there is no memory for it, nothing is printed.
-fn tell(rt: &(impl Eprint + AllocGlobal), fault: &Fault) {
+/// Prints the line of a fault to standard error, and leaves it in the file that a variable names. Where there is no memory
+/// for it, nothing is printed.
+fn tell(rt: &(impl Eprint + AllocGlobal + Env + Files), fault: &Fault) {
     if let Ok(line) = fault_line(rt.alloc(), fault) {
         let _ = rt.eprintln(line.as_str());
+        if let Ok(path) = env::var(rt, LEFT_IN) {
+            let _ = fs::write(rt, path.as_str(), line.as_str());
+        }
     }
 }
