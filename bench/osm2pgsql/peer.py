@@ -1,4 +1,4 @@
-"""osm2pgsql with a PostgreSQL of its own, and how runs are measured beside it: used by bench/peers and bench/store_run."""
+"""osm2pgsql with a PostgreSQL of its own, and how runs are measured beside it: used by bench/peers, bench/store_run and bench/queries."""
 import os
 import pathlib
 import subprocess
@@ -68,7 +68,7 @@ class Peer:
         wall = time.perf_counter() - start
         if status != 0:
             with open(self.said, errors="replace") as said:
-                sys.exit(f"{sys.argv[0]}: {words} ended with {status}: {said.read()[-2000:]}")
+                sys.exit(f"{os.environ['BENCH']}: {words} ended with {status}: {said.read()[-2000:]}")
         if server:
             time.sleep(0.3)
         return Run(wall, usage, self.server_seconds() - before if server else 0)
