@@ -28,7 +28,7 @@ look() {
 # git lays the files of a pull while it holds its lock. So where nothing is of this tree it is looked at again, until it is
 # twice the same and git is done, for some seconds at most.
 settle() {
-  lock=$here/.git/index.lock left=40 seen=
+  lock=$here/.git/index.lock left=25 seen=
   if [ -f "$here/.git" ]; then lock=$(cd "$here" && cd "$(sed -n 's/^gitdir: //p' .git)" && pwd)/index.lock; fi
   while [ -z "$taken" ] && [ "$left" -gt 0 ] && { [ -e "$lock" ] || [ "$seen" != "$tree $why" ]; }; do
     left=$((left - 1))
@@ -41,15 +41,15 @@ settle() {
   done
 }
 
-# All that the answer depends on, by name, each ended by a zero byte: what tells by itself, each source, and each folder, which
-# tells what comes and goes.
+# All that the answer depends on, by name, each ended by a zero byte: each file, and each folder, which tells what comes and
+# goes. Those into which a mark may have come are told by ./ in front.
 depends() (
-  cd "$here" && printf '%s\0' /lib64/ld-linux-x86-64.so.2 HANDLES crates.txt || exit
-  for path in release release/* crates/updater_main/out crates/updater_main/out/updater_main crates/updater_main/out/built; do
+  cd "$here" && printf '%s\0' /lib64/ld-linux-x86-64.so.2 HANDLES crates.txt ./crates/updater_main || exit
+  for path in ./crates/updater_main/out crates/updater_main/out/updater_main crates/updater_main/out/built release release/*; do
     if [ -e "$path" ]; then printf '%s\0' "$path"; fi
   done
   find $(source_folders) -print0
-  source_folders | sed 's,/[^/]*$,,' | sort -u | tr '\n' '\0'
+  source_folders | sed 's,/[^/]*$,,; /updater_main$/d' | sort -u | tr '\n' '\0'
 )
 
 # Begins a mark before anything is looked at, beside the program where that can be written, else among what the user keeps. Its
@@ -60,7 +60,8 @@ begin_mark() {
     list=$(mkdir -p "$folder" 2>/dev/null && mktemp "$folder/of.XXXXXX" 2>/dev/null) && break
   done
   [ -n "$list" ] || return 0
-  began=$(($(date -r "$list" +%s) - 1))
+  set -- $(date -r "$list" '+%s %N')
+  began=$(($1 - 1)).$2
   depends >"$list"
   found=$(state "$list" "$list")
 }

@@ -69,6 +69,8 @@ release_fault() {
     echo "the release is not whole: release/MANIFEST was changed"
   elif [ "$(value_of "$manifest" program)" != "$(sum_of "$released")" ]; then
     echo "the release is not whole: release/yilgartzu-x86_64.bin is not the program that release/MANIFEST names"
+  elif [ ! -x "$released" ]; then
+    echo "the release is not whole: release/yilgartzu-x86_64.bin may not be executed (chmod +x lets it)"
   elif [ "$(value_of "$manifest" tree)" != "$1" ]; then
     echo "the release is of other sources than these"
   fi
