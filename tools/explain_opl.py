@@ -172,6 +172,13 @@ def not_opl(call, path, role):
     return None if kind in ("opl", "pipe", "folder") else wrong_file(call, path, role)
 
 
+def piped(path, line, cause, what):
+    """What is said of a line that came through a pipe, and is gone."""
+    if line == 1 and cause in (1, 2):
+        return f"{name(path)} gave no OPL text; in front of the pipe: osmium cat -f opl FILE"
+    return f"{what} ({name(path)} {KINDS['pipe']}, so the line can't be shown)"
+
+
 def malformed(call, file, line, cause, *keys):
     """What is said of a refused line: what the file is, where it is none of OPL; else the line, its cause and its piece."""
     path, line, cause = call.path(int(file)), int(line), int(cause)
@@ -187,7 +194,7 @@ def malformed(call, file, line, cause, *keys):
     fault = CAUSES[cause]
     what = f"{name(path)}, line {line}, {fault}"
     if len(lines) < min(line, 2):
-        return [f"{what} ({KINDS['pipe']}, so the line can't be shown)" if kind_of(path) == "pipe" else what]
+        return [piped(path, line, cause, what) if kind_of(path) == "pipe" else what]
     text = lines[-1].removesuffix(b"\n")
     piece = piece_of(text, cause)
     fault = OF_FIELDS.get(piece[:1], fault) if cause == 6 and piece else fault

@@ -116,9 +116,10 @@ def order_hint(call):
     if not missing and order != call.given and len(call.given) <= len(call.needed) + 8 * call.repeats:
         words = " ".join(map(quoted, [call.command, *call.options, *order]))
         return f"are the words in their order ({' '.join(call.needed)})? yilgartzu {words}"
-    may_lack = call.repeats or len(call.given) < len(call.needed)
-    if len(missing) == 1 and missing[0] in MADE_BY and order == call.given and may_lack:
-        return f"{missing[0]} is missing: {MADE_BY[missing[0]]}"
+    made_by = MADE_BY.get(missing[0]) if missing else None
+    may_lack = len(call.given) < len(call.needed) or (call.repeats and made_by)
+    if len(missing) == 1 and order == call.given and may_lack:
+        return f"{missing[0]} is missing{': ' + made_by if made_by else ''}"
     return None
 
 
