@@ -51,7 +51,11 @@ class Call:
         return self.roles[-1] if self.repeats else ""
 
     def path(self, place):
-        return self.words[place] if 0 < place < len(self.words) else None
+        """The file that the word at this place names: of standard input the file that was redirected, where there is one."""
+        word = self.words[place] if 0 < place < len(self.words) else None
+        if word and word.startswith(("/dev/", "/proc/")) and os.path.isfile(word):
+            return os.path.realpath(word)
+        return word
 
     def paths(self, *roles):
         """The words that stand for these, in order."""
