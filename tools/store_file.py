@@ -113,7 +113,7 @@ def read(path, seconds=1.0):
         try:
             while (found := settled(file)) is None:
                 if time.monotonic() > ends:
-                    raise Busy("busy: a command is writing it, or one was cut off; try again, or let any command finish it")
+                    raise Busy("busy: a command writes it, or one was cut off in a commit, which the next command finishes")
                 time.sleep(0.01)
         finally:
             os.close(file)
