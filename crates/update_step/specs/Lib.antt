@@ -3,6 +3,7 @@ pub mod Ends
 pub mod Gather
 pub mod Importing
 pub mod Lacking
+pub mod Looks
 pub mod NewObjects
 pub mod Old
 pub mod Suffices

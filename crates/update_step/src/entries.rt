@@ -7,7 +7,7 @@ ghost use Rattle.store_maps.specs.Asked.{May, MayList, MayObject};
 ghost use Rattle.store_maps.specs.Maps.{Maps, form_in};
 ghost use Rattle.store_maps.specs.Stands.{StandsOn};
 ghost use Rattle.store_maps.specs.Step.{AreTold, change_on, entry_on};
-ghost use Rattle.update_step.specs.Ends.{Ends, MayRefuse};
+ghost use Rattle.update_step.specs.Looks.{Looks};
 ghost use Rattle.update_step.specs.Old.{with_old};
 ghost use Rattle.update_step.specs.Touch.{MayEntries, MayTurnAll};
 
@@ -64,15 +64,8 @@ fn add_old<S: MapStore>(
 ) -> Result<(), StepFault<S::Refusal>>
     requires spent { S.spent store.old ≡ false }
     ensures old { OnOk result ((under : S.Under) (maps : Maps) → S.holds store.old under maps → objects.new ≡ with_old maps objects.old entry.now) }
-    ensures holds { OnOk result ((under : S.Under) (maps : Maps) → S.holds store.old under maps → S.holds store.new under maps) }
-    ensures looked { (first : S) → S.looked first store.old → S.looked first store.new }
     ensures within { (may : May) → MayObject may entry.now.key → S.within may store.old → S.within may store.new }
-    ensures spent { OnOk result (S.spent store.new ≡ false) }
-    ensures ends { IfErr result (Ends
-        (λ refusal. (first : S) → S.looked first store.old → S.bears store.new (S.faults first) refusal)
-        (S.spent store.new ≡ false)
-        (λ _. ⊥)) }
-    ensures allowed { (under : S.Under) (maps : Maps) → S.holds store.old under maps → IfErr result (MayRefuse S.allowed) }
+    ensures looks { Looks S.MapStore.own S.Back store.old store.new result }
 {
     let key = entry.key;
     if key.kind != Kind::Relation {
@@ -91,15 +84,8 @@ pub(crate) fn old_relations<S: MapStore>(
 ) -> Result<Objects, StepFault<S::Refusal>>
     requires spent { S.spent store.old ≡ false }
     ensures old { IfOk result (λ objects. (under : S.Under) (maps : Maps) → S.holds store.old under maps → objects ≡ fold (with_old maps) finite.empty change.now) }
-    ensures holds { OnOk result ((under : S.Under) (maps : Maps) → S.holds store.old under maps → S.holds store.new under maps) }
-    ensures looked { (first : S) → S.looked first store.old → S.looked first store.new }
     ensures within { (may : May) → MayEntries may change.now → S.within may store.old → S.within may store.new }
-    ensures spent { OnOk result (S.spent store.new ≡ false) }
-    ensures ends { IfErr result (Ends
-        (λ refusal. (first : S) → S.looked first store.old → S.bears store.new (S.faults first) refusal)
-        (S.spent store.new ≡ false)
-        (λ _. ⊥)) }
-    ensures allowed { (under : S.Under) (maps : Maps) → S.holds store.old under maps → IfErr result (MayRefuse S.allowed) }
+    ensures looks { Looks S.MapStore.own S.Back store.old store.new result }
 {
     let mut objects = Objects::new(alloc);
     for entry in change.entries() {

@@ -1,5 +1,5 @@
 //! What rows are built of, gathered from a store.
-ghost use Rattle.std.specs.Prelude.{◌≡◌, [], ◌∷◌, map, flat_map, false, IfOk, IfErr, OnOk};
+ghost use Rattle.std.specs.Prelude.{◌≡◌, [], ◌∷◌, map, flat_map, false, IfOk, OnOk};
 ghost use Rattle.osm_base.specs.declared.values.key.Kind.TheVariants as kinds;
 ghost use Rattle.osm_base.specs.values.Ids.{AreRisingIds};
 ghost use Rattle.osm_base.specs.values.Key.{IsId, relation_key};
@@ -7,8 +7,8 @@ ghost use Rattle.std.specs.List.{AllByRecursion};
 ghost use Rattle.store_maps.specs.Asked.{May};
 ghost use Rattle.store_maps.specs.Maps.{Maps};
 ghost use Rattle.store_maps.specs.Named.{known_on};
-ghost use Rattle.update_step.specs.Ends.{Ends, MayRefuse};
 ghost use Rattle.update_step.specs.Gather.{AlongWay, AreAsked, AroundNode, AtNode, Gathers, IsRight, OfKey, all_needs, form_asks, gathered_in, lister_asks, member_asks, needs, part_asks, place_asks, relation_asks, way_asks};
+ghost use Rattle.update_step.specs.Looks.{Looks};
 ghost use Rattle.update_step.specs.Touch.{MayAsk, MayAskAll};
 
 use crate::StepFault;
@@ -30,15 +30,8 @@ fn gather_place<S: MapStore>(
     requires spent { S.spent store.old ≡ false }
     ensures gathers { OnOk result ((under : S.Under) (maps : Maps) → S.holds store.old under maps
         → Gathers (known_on maps) (gathered_in answers.old) (gathered_in answers.new) (AtNode id ∷ [])) }
-    ensures holds { OnOk result ((under : S.Under) (maps : Maps) → S.holds store.old under maps → S.holds store.new under maps) }
-    ensures looked { (first : S) → S.looked first store.old → S.looked first store.new }
     ensures within { (may : May) → MayAsk may (AtNode id) → S.within may store.old → S.within may store.new }
-    ensures spent { OnOk result (S.spent store.new ≡ false) }
-    ensures ends { IfErr result (Ends
-        (λ refusal. (first : S) → S.looked first store.old → S.bears store.new (S.faults first) refusal)
-        (S.spent store.new ≡ false)
-        (λ _. ⊥)) }
-    ensures allowed { (under : S.Under) (maps : Maps) → S.holds store.old under maps → IfErr result (MayRefuse S.allowed) }
+    ensures looks { Looks S.MapStore.own S.Back store.old store.new result }
 {
     if answers.has_place(id) {
         return Ok(());
@@ -57,15 +50,8 @@ fn gather_places<S: MapStore>(
     requires spent { S.spent store.old ≡ false }
     ensures gathers { OnOk result ((under : S.Under) (maps : Maps) → S.holds store.old under maps
         → Gathers (known_on maps) (gathered_in answers.old) (gathered_in answers.new) (map AtNode ids.now)) }
-    ensures holds { OnOk result ((under : S.Under) (maps : Maps) → S.holds store.old under maps → S.holds store.new under maps) }
-    ensures looked { (first : S) → S.looked first store.old → S.looked first store.new }
     ensures within { (may : May) → MayAskAll may (map AtNode ids.now) → S.within may store.old → S.within may store.new }
-    ensures spent { OnOk result (S.spent store.new ≡ false) }
-    ensures ends { IfErr result (Ends
-        (λ refusal. (first : S) → S.looked first store.old → S.bears store.new (S.faults first) refusal)
-        (S.spent store.new ≡ false)
-        (λ _. ⊥)) }
-    ensures allowed { (under : S.Under) (maps : Maps) → S.holds store.old under maps → IfErr result (MayRefuse S.allowed) }
+    ensures looks { Looks S.MapStore.own S.Back store.old store.new result }
 {
     for &id in ids {
         gather_place(store, answers, id)?;
@@ -82,15 +68,8 @@ fn gather_nodes<S: MapStore>(
     requires spent { S.spent store.old ≡ false }
     ensures gathers { OnOk result ((under : S.Under) (maps : Maps) → S.holds store.old under maps
         → Gathers (known_on maps) (gathered_in answers.old) (gathered_in answers.new) (place_asks form.now)) }
-    ensures holds { OnOk result ((under : S.Under) (maps : Maps) → S.holds store.old under maps → S.holds store.new under maps) }
-    ensures looked { (first : S) → S.looked first store.old → S.looked first store.new }
     ensures within { (may : May) → MayAskAll may (place_asks form.now) → S.within may store.old → S.within may store.new }
-    ensures spent { OnOk result (S.spent store.new ≡ false) }
-    ensures ends { IfErr result (Ends
-        (λ refusal. (first : S) → S.looked first store.old → S.bears store.new (S.faults first) refusal)
-        (S.spent store.new ≡ false)
-        (λ _. ⊥)) }
-    ensures allowed { (under : S.Under) (maps : Maps) → S.holds store.old under maps → IfErr result (MayRefuse S.allowed) }
+    ensures looks { Looks S.MapStore.own S.Back store.old store.new result }
 {
     match form {
         Some(Object::Way { nodes, .. }) => gather_places(store, answers, nodes.as_slice()),
@@ -107,16 +86,9 @@ fn gather_form<S: MapStore>(
     requires spent { S.spent store.old ≡ false }
     ensures gathers { OnOk result ((under : S.Under) (maps : Maps) → S.holds store.old under maps
         → Gathers (known_on maps) (gathered_in answers.old) (gathered_in answers.new) (form_asks (known_on maps) key)) }
-    ensures holds { OnOk result ((under : S.Under) (maps : Maps) → S.holds store.old under maps → S.holds store.new under maps) }
-    ensures looked { (first : S) → S.looked first store.old → S.looked first store.new }
     ensures within { (under : S.Under) (maps : Maps) → S.holds store.old under maps → (may : May)
         → MayAskAll may (form_asks (known_on maps) key) → S.within may store.old → S.within may store.new }
-    ensures spent { OnOk result (S.spent store.new ≡ false) }
-    ensures ends { IfErr result (Ends
-        (λ refusal. (first : S) → S.looked first store.old → S.bears store.new (S.faults first) refusal)
-        (S.spent store.new ≡ false)
-        (λ _. ⊥)) }
-    ensures allowed { (under : S.Under) (maps : Maps) → S.holds store.old under maps → IfErr result (MayRefuse S.allowed) }
+    ensures looks { Looks S.MapStore.own S.Back store.old store.new result }
 {
     let form = object_of(store, key)?;
     gather_nodes(store, answers, &form)?;
@@ -133,16 +105,9 @@ fn gather_member<S: MapStore>(
     requires spent { S.spent store.old ≡ false }
     ensures gathers { OnOk result ((under : S.Under) (maps : Maps) → S.holds store.old under maps
         → Gathers (known_on maps) (gathered_in answers.old) (gathered_in answers.new) (member_asks (known_on maps) member.now)) }
-    ensures holds { OnOk result ((under : S.Under) (maps : Maps) → S.holds store.old under maps → S.holds store.new under maps) }
-    ensures looked { (first : S) → S.looked first store.old → S.looked first store.new }
     ensures within { (under : S.Under) (maps : Maps) → S.holds store.old under maps → (may : May)
         → MayAskAll may (member_asks (known_on maps) member.now) → S.within may store.old → S.within may store.new }
-    ensures spent { OnOk result (S.spent store.new ≡ false) }
-    ensures ends { IfErr result (Ends
-        (λ refusal. (first : S) → S.looked first store.old → S.bears store.new (S.faults first) refusal)
-        (S.spent store.new ≡ false)
-        (λ _. ⊥)) }
-    ensures allowed { (under : S.Under) (maps : Maps) → S.holds store.old under maps → IfErr result (MayRefuse S.allowed) }
+    ensures looks { Looks S.MapStore.own S.Back store.old store.new result }
 {
     if member.key.kind == Kind::Way {
         return gather_form(store, answers, member.key);
@@ -159,16 +124,9 @@ fn gather_members<S: MapStore>(
     requires spent { S.spent store.old ≡ false }
     ensures gathers { OnOk result ((under : S.Under) (maps : Maps) → S.holds store.old under maps
         → Gathers (known_on maps) (gathered_in answers.old) (gathered_in answers.new) (flat_map (member_asks (known_on maps)) members.now)) }
-    ensures holds { OnOk result ((under : S.Under) (maps : Maps) → S.holds store.old under maps → S.holds store.new under maps) }
-    ensures looked { (first : S) → S.looked first store.old → S.looked first store.new }
     ensures within { (under : S.Under) (maps : Maps) → S.holds store.old under maps → (may : May)
         → MayAskAll may (flat_map (member_asks (known_on maps)) members.now) → S.within may store.old → S.within may store.new }
-    ensures spent { OnOk result (S.spent store.new ≡ false) }
-    ensures ends { IfErr result (Ends
-        (λ refusal. (first : S) → S.looked first store.old → S.bears store.new (S.faults first) refusal)
-        (S.spent store.new ≡ false)
-        (λ _. ⊥)) }
-    ensures allowed { (under : S.Under) (maps : Maps) → S.holds store.old under maps → IfErr result (MayRefuse S.allowed) }
+    ensures looks { Looks S.MapStore.own S.Back store.old store.new result }
 {
     for member in members {
         gather_member(store, answers, member)?;
@@ -185,16 +143,9 @@ fn gather_ways<S: MapStore>(
     requires spent { S.spent store.old ≡ false }
     ensures gathers { OnOk result ((under : S.Under) (maps : Maps) → S.holds store.old under maps
         → Gathers (known_on maps) (gathered_in answers.old) (gathered_in answers.new) (way_asks (known_on maps) form.now)) }
-    ensures holds { OnOk result ((under : S.Under) (maps : Maps) → S.holds store.old under maps → S.holds store.new under maps) }
-    ensures looked { (first : S) → S.looked first store.old → S.looked first store.new }
     ensures within { (under : S.Under) (maps : Maps) → S.holds store.old under maps → (may : May)
         → MayAskAll may (way_asks (known_on maps) form.now) → S.within may store.old → S.within may store.new }
-    ensures spent { OnOk result (S.spent store.new ≡ false) }
-    ensures ends { IfErr result (Ends
-        (λ refusal. (first : S) → S.looked first store.old → S.bears store.new (S.faults first) refusal)
-        (S.spent store.new ≡ false)
-        (λ _. ⊥)) }
-    ensures allowed { (under : S.Under) (maps : Maps) → S.holds store.old under maps → IfErr result (MayRefuse S.allowed) }
+    ensures looks { Looks S.MapStore.own S.Back store.old store.new result }
 {
     match form {
         Some(Object::Relation { members, .. }) => {
@@ -214,15 +165,8 @@ fn gather_relation<S: MapStore>(
     requires id { IsId id }
     ensures gathers { OnOk result ((under : S.Under) (maps : Maps) → S.holds store.old under maps
         → Gathers (known_on maps) (gathered_in answers.old) (gathered_in answers.new) (OfKey (relation_key id) ∷ [])) }
-    ensures holds { OnOk result ((under : S.Under) (maps : Maps) → S.holds store.old under maps → S.holds store.new under maps) }
-    ensures looked { (first : S) → S.looked first store.old → S.looked first store.new }
     ensures within { (may : May) → MayAsk may (OfKey (relation_key id)) → S.within may store.old → S.within may store.new }
-    ensures spent { OnOk result (S.spent store.new ≡ false) }
-    ensures ends { IfErr result (Ends
-        (λ refusal. (first : S) → S.looked first store.old → S.bears store.new (S.faults first) refusal)
-        (S.spent store.new ≡ false)
-        (λ _. ⊥)) }
-    ensures allowed { (under : S.Under) (maps : Maps) → S.holds store.old under maps → IfErr result (MayRefuse S.allowed) }
+    ensures looks { Looks S.MapStore.own S.Back store.old store.new result }
 {
     let key = Key::new(Kind::Relation, id);
     let form = object_of(store, key)?;
@@ -240,15 +184,8 @@ fn gather_relations<S: MapStore>(
     requires ids { AllByRecursion IsId ids.now }
     ensures gathers { OnOk result ((under : S.Under) (maps : Maps) → S.holds store.old under maps
         → Gathers (known_on maps) (gathered_in answers.old) (gathered_in answers.new) (relation_asks ids.now)) }
-    ensures holds { OnOk result ((under : S.Under) (maps : Maps) → S.holds store.old under maps → S.holds store.new under maps) }
-    ensures looked { (first : S) → S.looked first store.old → S.looked first store.new }
     ensures within { (may : May) → MayAskAll may (relation_asks ids.now) → S.within may store.old → S.within may store.new }
-    ensures spent { OnOk result (S.spent store.new ≡ false) }
-    ensures ends { IfErr result (Ends
-        (λ refusal. (first : S) → S.looked first store.old → S.bears store.new (S.faults first) refusal)
-        (S.spent store.new ≡ false)
-        (λ _. ⊥)) }
-    ensures allowed { (under : S.Under) (maps : Maps) → S.holds store.old under maps → IfErr result (MayRefuse S.allowed) }
+    ensures looks { Looks S.MapStore.own S.Back store.old store.new result }
 {
     for &id in ids {
         gather_relation(store, answers, id)?;
@@ -265,16 +202,9 @@ fn gather_along<S: MapStore>(
     requires spent { S.spent store.old ≡ false }
     ensures gathers { OnOk result ((under : S.Under) (maps : Maps) → S.holds store.old under maps
         → Gathers (known_on maps) (gathered_in answers.old) (gathered_in answers.new) (AlongWay id ∷ relation_asks ((known_on maps).relations_of_way id))) }
-    ensures holds { OnOk result ((under : S.Under) (maps : Maps) → S.holds store.old under maps → S.holds store.new under maps) }
-    ensures looked { (first : S) → S.looked first store.old → S.looked first store.new }
     ensures within { (under : S.Under) (maps : Maps) → S.holds store.old under maps → (may : May)
         → MayAskAll may (AlongWay id ∷ relation_asks ((known_on maps).relations_of_way id)) → S.within may store.old → S.within may store.new }
-    ensures spent { OnOk result (S.spent store.new ≡ false) }
-    ensures ends { IfErr result (Ends
-        (λ refusal. (first : S) → S.looked first store.old → S.bears store.new (S.faults first) refusal)
-        (S.spent store.new ≡ false)
-        (λ _. ⊥)) }
-    ensures allowed { (under : S.Under) (maps : Maps) → S.holds store.old under maps → IfErr result (MayRefuse S.allowed) }
+    ensures looks { Looks S.MapStore.own S.Back store.old store.new result }
 {
     let ids = relations_along(store, id)?;
     gather_relations(store, answers, ids.as_slice())?;
@@ -291,16 +221,9 @@ fn gather_around<S: MapStore>(
     requires spent { S.spent store.old ≡ false }
     ensures gathers { OnOk result ((under : S.Under) (maps : Maps) → S.holds store.old under maps
         → Gathers (known_on maps) (gathered_in answers.old) (gathered_in answers.new) (AroundNode id ∷ relation_asks ((known_on maps).relations_of_node id))) }
-    ensures holds { OnOk result ((under : S.Under) (maps : Maps) → S.holds store.old under maps → S.holds store.new under maps) }
-    ensures looked { (first : S) → S.looked first store.old → S.looked first store.new }
     ensures within { (under : S.Under) (maps : Maps) → S.holds store.old under maps → (may : May)
         → MayAskAll may (AroundNode id ∷ relation_asks ((known_on maps).relations_of_node id)) → S.within may store.old → S.within may store.new }
-    ensures spent { OnOk result (S.spent store.new ≡ false) }
-    ensures ends { IfErr result (Ends
-        (λ refusal. (first : S) → S.looked first store.old → S.bears store.new (S.faults first) refusal)
-        (S.spent store.new ≡ false)
-        (λ _. ⊥)) }
-    ensures allowed { (under : S.Under) (maps : Maps) → S.holds store.old under maps → IfErr result (MayRefuse S.allowed) }
+    ensures looks { Looks S.MapStore.own S.Back store.old store.new result }
 {
     let ids = relations_around(store, id)?;
     gather_relations(store, answers, ids.as_slice())?;
@@ -318,16 +241,9 @@ fn gather_listers<S: MapStore>(
     requires spent { S.spent store.old ≡ false }
     ensures gathers { OnOk result ((under : S.Under) (maps : Maps) → S.holds store.old under maps
         → Gathers (known_on maps) (gathered_in answers.old) (gathered_in answers.new) (lister_asks reaches (known_on maps) key)) }
-    ensures holds { OnOk result ((under : S.Under) (maps : Maps) → S.holds store.old under maps → S.holds store.new under maps) }
-    ensures looked { (first : S) → S.looked first store.old → S.looked first store.new }
     ensures within { (under : S.Under) (maps : Maps) → S.holds store.old under maps → (may : May)
         → MayAskAll may (lister_asks reaches (known_on maps) key) → S.within may store.old → S.within may store.new }
-    ensures spent { OnOk result (S.spent store.new ≡ false) }
-    ensures ends { IfErr result (Ends
-        (λ refusal. (first : S) → S.looked first store.old → S.bears store.new (S.faults first) refusal)
-        (S.spent store.new ≡ false)
-        (λ _. ⊥)) }
-    ensures allowed { (under : S.Under) (maps : Maps) → S.holds store.old under maps → IfErr result (MayRefuse S.allowed) }
+    ensures looks { Looks S.MapStore.own S.Back store.old store.new result }
 {
     match key.kind {
         Kind::Node => {
@@ -353,16 +269,9 @@ fn gather_parts<S: MapStore>(
     requires spent { S.spent store.old ≡ false }
     ensures gathers { OnOk result ((under : S.Under) (maps : Maps) → S.holds store.old under maps
         → Gathers (known_on maps) (gathered_in answers.old) (gathered_in answers.new) (part_asks style.now reaches (known_on maps) key form.now)) }
-    ensures holds { OnOk result ((under : S.Under) (maps : Maps) → S.holds store.old under maps → S.holds store.new under maps) }
-    ensures looked { (first : S) → S.looked first store.old → S.looked first store.new }
     ensures within { (under : S.Under) (maps : Maps) → S.holds store.old under maps → (may : May)
         → MayAskAll may (part_asks style.now reaches (known_on maps) key form.now) → S.within may store.old → S.within may store.new }
-    ensures spent { OnOk result (S.spent store.new ≡ false) }
-    ensures ends { IfErr result (Ends
-        (λ refusal. (first : S) → S.looked first store.old → S.bears store.new (S.faults first) refusal)
-        (S.spent store.new ≡ false)
-        (λ _. ⊥)) }
-    ensures allowed { (under : S.Under) (maps : Maps) → S.holds store.old under maps → IfErr result (MayRefuse S.allowed) }
+    ensures looks { Looks S.MapStore.own S.Back store.old store.new result }
 {
     if !may_have_rows(style, form) {
         return Ok(());
@@ -384,16 +293,9 @@ fn gather_key<S: MapStore>(
     requires spent { S.spent store.old ≡ false }
     ensures gathers { OnOk result ((under : S.Under) (maps : Maps) → S.holds store.old under maps
         → Gathers (known_on maps) (gathered_in answers.old) (gathered_in answers.new) (needs style.now reaches (known_on maps) key)) }
-    ensures holds { OnOk result ((under : S.Under) (maps : Maps) → S.holds store.old under maps → S.holds store.new under maps) }
-    ensures looked { (first : S) → S.looked first store.old → S.looked first store.new }
     ensures within { (under : S.Under) (maps : Maps) → S.holds store.old under maps → (may : May)
         → MayAskAll may (needs style.now reaches (known_on maps) key) → S.within may store.old → S.within may store.new }
-    ensures spent { OnOk result (S.spent store.new ≡ false) }
-    ensures ends { IfErr result (Ends
-        (λ refusal. (first : S) → S.looked first store.old → S.bears store.new (S.faults first) refusal)
-        (S.spent store.new ≡ false)
-        (λ _. ⊥)) }
-    ensures allowed { (under : S.Under) (maps : Maps) → S.holds store.old under maps → IfErr result (MayRefuse S.allowed) }
+    ensures looks { Looks S.MapStore.own S.Back store.old store.new result }
 {
     let form = object_of(store, key)?;
     gather_parts(store, answers, style, reaches, key, &form)?;
@@ -412,16 +314,9 @@ fn gather_keys<S: MapStore>(
     requires spent { S.spent store.old ≡ false }
     ensures gathers { OnOk result ((under : S.Under) (maps : Maps) → S.holds store.old under maps
         → Gathers (known_on maps) (gathered_in answers.old) (gathered_in answers.new) (all_needs style.now reaches (known_on maps) keys.now)) }
-    ensures holds { OnOk result ((under : S.Under) (maps : Maps) → S.holds store.old under maps → S.holds store.new under maps) }
-    ensures looked { (first : S) → S.looked first store.old → S.looked first store.new }
     ensures within { (under : S.Under) (maps : Maps) → S.holds store.old under maps → (may : May)
         → MayAskAll may (all_needs style.now reaches (known_on maps) keys.now) → S.within may store.old → S.within may store.new }
-    ensures spent { OnOk result (S.spent store.new ≡ false) }
-    ensures ends { IfErr result (Ends
-        (λ refusal. (first : S) → S.looked first store.old → S.bears store.new (S.faults first) refusal)
-        (S.spent store.new ≡ false)
-        (λ _. ⊥)) }
-    ensures allowed { (under : S.Under) (maps : Maps) → S.holds store.old under maps → IfErr result (MayRefuse S.allowed) }
+    ensures looks { Looks S.MapStore.own S.Back store.old store.new result }
 {
     for &key in keys {
         gather_key(store, answers, style, reaches, key)?;
@@ -441,16 +336,9 @@ pub(crate) fn gathered<S: MapStore>(
     ensures right { IfOk result (λ answers. (under : S.Under) (maps : Maps) → S.holds store.old under maps → IsRight (gathered_in answers) (known_on maps)) }
     ensures asked { IfOk result (λ answers. (under : S.Under) (maps : Maps) → S.holds store.old under maps
         → AreAsked (gathered_in answers) (all_needs style.now reaches (known_on maps) keys.now)) }
-    ensures holds { OnOk result ((under : S.Under) (maps : Maps) → S.holds store.old under maps → S.holds store.new under maps) }
-    ensures looked { (first : S) → S.looked first store.old → S.looked first store.new }
     ensures within { (under : S.Under) (maps : Maps) → S.holds store.old under maps → (may : May)
         → MayAskAll may (all_needs style.now reaches (known_on maps) keys.now) → S.within may store.old → S.within may store.new }
-    ensures spent { OnOk result (S.spent store.new ≡ false) }
-    ensures ends { IfErr result (Ends
-        (λ refusal. (first : S) → S.looked first store.old → S.bears store.new (S.faults first) refusal)
-        (S.spent store.new ≡ false)
-        (λ _. ⊥)) }
-    ensures allowed { (under : S.Under) (maps : Maps) → S.holds store.old under maps → IfErr result (MayRefuse S.allowed) }
+    ensures looks { Looks S.MapStore.own S.Back store.old store.new result }
 {
     let mut answers = Answers::new(alloc);
     gather_keys(store, &mut answers, style, reaches, keys)?;

@@ -1,5 +1,5 @@
 //! The keys of a change that have no rows before it, so that none need be read.
-ghost use Rattle.std.specs.Prelude.{◌≡◌, ◌&&◌, not, is_some, true, false, [], IfOk, IfErr, OnOk};
+ghost use Rattle.std.specs.Prelude.{◌≡◌, ◌&&◌, not, is_some, true, false, [], IfOk, OnOk};
 ghost use Rattle.osm_base.specs.declared.values.key.Kind.TheVariants as kinds;
 ghost use Rattle.osm_base.specs.map.Listers.{is_kind};
 ghost use Rattle.osm_base.specs.map.Objects.{ObjectSet};
@@ -8,8 +8,8 @@ ghost use Rattle.row_map.specs.Rows.{rows_in};
 ghost use Rattle.store_maps.specs.Asked.{May, MayObject};
 ghost use Rattle.store_maps.specs.Maps.{Maps};
 ghost use Rattle.store_maps.specs.Stands.{StandsOn};
-ghost use Rattle.update_step.specs.Ends.{Ends, MayRefuse};
 ghost use Rattle.update_step.specs.Lacking.{AreLacking};
+ghost use Rattle.update_step.specs.Looks.{Looks};
 ghost use Rattle.update_step.specs.Touch.{MayEntries};
 
 use crate::StepFault;
@@ -38,15 +38,8 @@ fn lacks_rows<S: MapStore>(
     requires spent { S.spent store.old ≡ false }
     ensures none { IfOk result (λ lacks. (under : S.Under) (maps : Maps) (objects : ObjectSet) → S.holds store.old under maps → StandsOn (reaches_nodes style.now) maps objects
         → lacks ≡ true → rows_in style.now objects key ≡ []) }
-    ensures holds { OnOk result ((under : S.Under) (maps : Maps) → S.holds store.old under maps → S.holds store.new under maps) }
-    ensures looked { (first : S) → S.looked first store.old → S.looked first store.new }
     ensures within { (may : May) → MayObject may key → S.within may store.old → S.within may store.new }
-    ensures spent { OnOk result (S.spent store.new ≡ false) }
-    ensures ends { IfErr result (Ends
-        (λ refusal. (first : S) → S.looked first store.old → S.bears store.new (S.faults first) refusal)
-        (S.spent store.new ≡ false)
-        (λ _. ⊥)) }
-    ensures allowed { (under : S.Under) (maps : Maps) → S.holds store.old under maps → IfErr result (MayRefuse S.allowed) }
+    ensures looks { Looks S.MapStore.own S.Back store.old store.new result }
 {
     let object = object_of(store, key)?;
     if is_unknown_node(key, &object) {
@@ -66,15 +59,8 @@ fn add_lacking<S: MapStore>(
     requires spent { S.spent store.old ≡ false }
     ensures lacking { OnOk result ((under : S.Under) (maps : Maps) (objects : ObjectSet) → S.holds store.old under maps → StandsOn (reaches_nodes style.now) maps objects
         → AreLacking (rows_in style.now objects) keys.old.items → AreLacking (rows_in style.now objects) keys.new.items) }
-    ensures holds { OnOk result ((under : S.Under) (maps : Maps) → S.holds store.old under maps → S.holds store.new under maps) }
-    ensures looked { (first : S) → S.looked first store.old → S.looked first store.new }
     ensures within { (may : May) → MayObject may key → S.within may store.old → S.within may store.new }
-    ensures spent { OnOk result (S.spent store.new ≡ false) }
-    ensures ends { IfErr result (Ends
-        (λ refusal. (first : S) → S.looked first store.old → S.bears store.new (S.faults first) refusal)
-        (S.spent store.new ≡ false)
-        (λ _. ⊥)) }
-    ensures allowed { (under : S.Under) (maps : Maps) → S.holds store.old under maps → IfErr result (MayRefuse S.allowed) }
+    ensures looks { Looks S.MapStore.own S.Back store.old store.new result }
 {
     let lacks = lacks_rows(store, style, key)?;
     if !lacks {
@@ -94,15 +80,8 @@ pub(crate) fn keys_lacking<S: MapStore>(
     requires spent { S.spent store.old ≡ false }
     ensures lacking { IfOk result (λ keys. (under : S.Under) (maps : Maps) (objects : ObjectSet) → S.holds store.old under maps → StandsOn (reaches_nodes style.now) maps objects
         → AreLacking (rows_in style.now objects) keys.items) }
-    ensures holds { OnOk result ((under : S.Under) (maps : Maps) → S.holds store.old under maps → S.holds store.new under maps) }
-    ensures looked { (first : S) → S.looked first store.old → S.looked first store.new }
     ensures within { (may : May) → MayEntries may change.now → S.within may store.old → S.within may store.new }
-    ensures spent { OnOk result (S.spent store.new ≡ false) }
-    ensures ends { IfErr result (Ends
-        (λ refusal. (first : S) → S.looked first store.old → S.bears store.new (S.faults first) refusal)
-        (S.spent store.new ≡ false)
-        (λ _. ⊥)) }
-    ensures allowed { (under : S.Under) (maps : Maps) → S.holds store.old under maps → IfErr result (MayRefuse S.allowed) }
+    ensures looks { Looks S.MapStore.own S.Back store.old store.new result }
 {
     let mut keys = Vec::new(alloc);
     for entry in change.entries() {

@@ -1,12 +1,12 @@
 //! What a store answers, its refusal told as the end of a change.
-ghost use Rattle.std.specs.Prelude.{◌≡◌, true, false, IfOk, IfErr, OnOk};
+ghost use Rattle.std.specs.Prelude.{◌≡◌, true, false, IfOk};
 ghost use Rattle.std.specs.FinMap as finite;
 ghost use Rattle.osm_base.specs.values.Ids.{AreRisingIds};
 ghost use Rattle.object_fold.specs.Listing.{listers};
 ghost use Rattle.store_maps.specs.Named.{place_in};
 ghost use Rattle.store_maps.specs.Asked.{May, MayObject, MayRows};
 ghost use Rattle.store_maps.specs.Maps.{Maps, form_in, object_in, rows_at};
-ghost use Rattle.update_step.specs.Ends.{Ends, MayRefuse};
+ghost use Rattle.update_step.specs.Looks.{Looks};
 
 use crate::StepFault;
 use osm_base::{Ids, Key, Object, Place, TableRows};
@@ -19,15 +19,8 @@ pub(crate) fn object_of<S: MapStore>(
 ) -> Result<Option<Object>, StepFault<S::Refusal>>
     requires spent { S.spent store.old ≡ false }
     ensures object { IfOk result (λ object. (under : S.Under) (maps : Maps) → S.holds store.old under maps → object ≡ object_in maps key.kind key.id) }
-    ensures holds { OnOk result ((under : S.Under) (maps : Maps) → S.holds store.old under maps → S.holds store.new under maps) }
-    ensures looked { (first : S) → S.looked first store.old → S.looked first store.new }
     ensures within { (may : May) → MayObject may key → S.within may store.old → S.within may store.new }
-    ensures spent { OnOk result (S.spent store.new ≡ false) }
-    ensures ends { IfErr result (Ends
-        (λ refusal. (first : S) → S.looked first store.old → S.bears store.new (S.faults first) refusal)
-        (S.spent store.new ≡ false)
-        (λ _. ⊥)) }
-    ensures allowed { (under : S.Under) (maps : Maps) → S.holds store.old under maps → IfErr result (MayRefuse S.allowed) }
+    ensures looks { Looks S.MapStore.own S.Back store.old store.new result }
 {
     match store.object(key) {
         Ok(object) => Ok(object),
@@ -42,15 +35,8 @@ pub(crate) fn form_of<S: MapStore>(
 ) -> Result<Option<Object>, StepFault<S::Refusal>>
     requires spent { S.spent store.old ≡ false }
     ensures form { IfOk result (λ form. (under : S.Under) (maps : Maps) → S.holds store.old under maps → form ≡ form_in maps key.kind key.id) }
-    ensures holds { OnOk result ((under : S.Under) (maps : Maps) → S.holds store.old under maps → S.holds store.new under maps) }
-    ensures looked { (first : S) → S.looked first store.old → S.looked first store.new }
     ensures within { (may : May) → MayObject may key → S.within may store.old → S.within may store.new }
-    ensures spent { OnOk result (S.spent store.new ≡ false) }
-    ensures ends { IfErr result (Ends
-        (λ refusal. (first : S) → S.looked first store.old → S.bears store.new (S.faults first) refusal)
-        (S.spent store.new ≡ false)
-        (λ _. ⊥)) }
-    ensures allowed { (under : S.Under) (maps : Maps) → S.holds store.old under maps → IfErr result (MayRefuse S.allowed) }
+    ensures looks { Looks S.MapStore.own S.Back store.old store.new result }
 {
     match store.form(key) {
         Ok(form) => Ok(form),
@@ -65,15 +51,8 @@ pub(crate) fn place_of<S: MapStore>(
 ) -> Result<Option<Place>, StepFault<S::Refusal>>
     requires spent { S.spent store.old ≡ false }
     ensures place { IfOk result (λ place. (under : S.Under) (maps : Maps) → S.holds store.old under maps → place ≡ place_in (finite.get maps.nodes id)) }
-    ensures holds { OnOk result ((under : S.Under) (maps : Maps) → S.holds store.old under maps → S.holds store.new under maps) }
-    ensures looked { (first : S) → S.looked first store.old → S.looked first store.new }
     ensures within { (may : May) → may 0 id ≡ true → S.within may store.old → S.within may store.new }
-    ensures spent { OnOk result (S.spent store.new ≡ false) }
-    ensures ends { IfErr result (Ends
-        (λ refusal. (first : S) → S.looked first store.old → S.bears store.new (S.faults first) refusal)
-        (S.spent store.new ≡ false)
-        (λ _. ⊥)) }
-    ensures allowed { (under : S.Under) (maps : Maps) → S.holds store.old under maps → IfErr result (MayRefuse S.allowed) }
+    ensures looks { Looks S.MapStore.own S.Back store.old store.new result }
 {
     match store.place(id) {
         Ok(place) => Ok(place),
@@ -88,15 +67,8 @@ pub(crate) fn rows_of<S: MapStore>(
 ) -> Result<Option<TableRows>, StepFault<S::Refusal>>
     requires spent { S.spent store.old ≡ false }
     ensures rows { IfOk result (λ rows. (under : S.Under) (maps : Maps) → S.holds store.old under maps → rows ≡ rows_at maps key.kind key.id) }
-    ensures holds { OnOk result ((under : S.Under) (maps : Maps) → S.holds store.old under maps → S.holds store.new under maps) }
-    ensures looked { (first : S) → S.looked first store.old → S.looked first store.new }
     ensures within { (may : May) → MayRows may key → S.within may store.old → S.within may store.new }
-    ensures spent { OnOk result (S.spent store.new ≡ false) }
-    ensures ends { IfErr result (Ends
-        (λ refusal. (first : S) → S.looked first store.old → S.bears store.new (S.faults first) refusal)
-        (S.spent store.new ≡ false)
-        (λ _. ⊥)) }
-    ensures allowed { (under : S.Under) (maps : Maps) → S.holds store.old under maps → IfErr result (MayRefuse S.allowed) }
+    ensures looks { Looks S.MapStore.own S.Back store.old store.new result }
 {
     match store.rows(key) {
         Ok(rows) => Ok(rows),
@@ -112,15 +84,8 @@ pub(crate) fn relations_along<S: MapStore>(
     requires spent { S.spent store.old ≡ false }
     ensures ids { IfOk result (λ ids. (under : S.Under) (maps : Maps) → S.holds store.old under maps → ids ≡ listers maps.relations_of_ways id) }
     ensures rising { IfOk result AreRisingIds }
-    ensures holds { OnOk result ((under : S.Under) (maps : Maps) → S.holds store.old under maps → S.holds store.new under maps) }
-    ensures looked { (first : S) → S.looked first store.old → S.looked first store.new }
     ensures within { (may : May) → may 5 id ≡ true → S.within may store.old → S.within may store.new }
-    ensures spent { OnOk result (S.spent store.new ≡ false) }
-    ensures ends { IfErr result (Ends
-        (λ refusal. (first : S) → S.looked first store.old → S.bears store.new (S.faults first) refusal)
-        (S.spent store.new ≡ false)
-        (λ _. ⊥)) }
-    ensures allowed { (under : S.Under) (maps : Maps) → S.holds store.old under maps → IfErr result (MayRefuse S.allowed) }
+    ensures looks { Looks S.MapStore.own S.Back store.old store.new result }
 {
     match store.along_way(id) {
         Ok(ids) => Ok(ids),
@@ -136,15 +101,8 @@ pub(crate) fn relations_around<S: MapStore>(
     requires spent { S.spent store.old ≡ false }
     ensures ids { IfOk result (λ ids. (under : S.Under) (maps : Maps) → S.holds store.old under maps → ids ≡ listers maps.relations_of_nodes id) }
     ensures rising { IfOk result AreRisingIds }
-    ensures holds { OnOk result ((under : S.Under) (maps : Maps) → S.holds store.old under maps → S.holds store.new under maps) }
-    ensures looked { (first : S) → S.looked first store.old → S.looked first store.new }
     ensures within { (may : May) → may 4 id ≡ true → S.within may store.old → S.within may store.new }
-    ensures spent { OnOk result (S.spent store.new ≡ false) }
-    ensures ends { IfErr result (Ends
-        (λ refusal. (first : S) → S.looked first store.old → S.bears store.new (S.faults first) refusal)
-        (S.spent store.new ≡ false)
-        (λ _. ⊥)) }
-    ensures allowed { (under : S.Under) (maps : Maps) → S.holds store.old under maps → IfErr result (MayRefuse S.allowed) }
+    ensures looks { Looks S.MapStore.own S.Back store.old store.new result }
 {
     match store.around_node(id) {
         Ok(ids) => Ok(ids),

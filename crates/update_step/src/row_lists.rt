@@ -8,8 +8,8 @@ ghost use Rattle.store_maps.specs.Append.{MayKeep, set_all_rows};
 ghost use Rattle.store_maps.specs.Asked.{May, MayRows};
 ghost use Rattle.store_maps.specs.Maps.{Maps, all_kept, rows_at, set_rows, unless_empty};
 ghost use Rattle.store_maps.specs.Stands.{HoldsRows};
-ghost use Rattle.update_step.specs.Ends.{Ends, MayRefuse};
 ghost use Rattle.update_step.specs.Lacking.{AreLacking};
+ghost use Rattle.update_step.specs.Looks.{Looks};
 ghost use Rattle.update_step.specs.Touch.{MayAllRows};
 
 use crate::StepFault;
@@ -47,15 +47,8 @@ fn rows_before<S: MapStore>(
 ) -> Result<TableRows, StepFault<S::Refusal>>
     requires spent { S.spent store.old ≡ false }
     ensures kept { IfOk result (λ kept. (under : S.Under) (maps : Maps) → S.holds store.old under maps → kept ≡ all_kept maps key) }
-    ensures holds { OnOk result ((under : S.Under) (maps : Maps) → S.holds store.old under maps → S.holds store.new under maps) }
-    ensures looked { (first : S) → S.looked first store.old → S.looked first store.new }
     ensures within { (may : May) → MayRows may key → S.within may store.old → S.within may store.new }
-    ensures spent { OnOk result (S.spent store.new ≡ false) }
-    ensures ends { IfErr result (Ends
-        (λ refusal. (first : S) → S.looked first store.old → S.bears store.new (S.faults first) refusal)
-        (S.spent store.new ≡ false)
-        (λ _. ⊥)) }
-    ensures allowed { (under : S.Under) (maps : Maps) → S.holds store.old under maps → IfErr result (MayRefuse S.allowed) }
+    ensures looks { Looks S.MapStore.own S.Back store.old store.new result }
 {
     match rows_of(store, key)? {
         Some(rows) => Ok(rows),
@@ -73,15 +66,8 @@ fn rows_unless<S: MapStore>(
     requires spent { S.spent store.old ≡ false }
     ensures kept { IfOk result (λ kept. (under : S.Under) (maps : Maps) (old : KeyOf → List RowOfTable) → S.holds store.old under maps
         → HoldsRows maps old → AreLacking old lacking.now → kept ≡ old key) }
-    ensures holds { OnOk result ((under : S.Under) (maps : Maps) → S.holds store.old under maps → S.holds store.new under maps) }
-    ensures looked { (first : S) → S.looked first store.old → S.looked first store.new }
     ensures within { (may : May) → MayRows may key → S.within may store.old → S.within may store.new }
-    ensures spent { OnOk result (S.spent store.new ≡ false) }
-    ensures ends { IfErr result (Ends
-        (λ refusal. (first : S) → S.looked first store.old → S.bears store.new (S.faults first) refusal)
-        (S.spent store.new ≡ false)
-        (λ _. ⊥)) }
-    ensures allowed { (under : S.Under) (maps : Maps) → S.holds store.old under maps → IfErr result (MayRefuse S.allowed) }
+    ensures looks { Looks S.MapStore.own S.Back store.old store.new result }
 {
     if is_among(lacking, key) {
         return Ok(TableRows::new(alloc));
@@ -100,15 +86,8 @@ pub(crate) fn all_before<S: MapStore>(
     ensures kept { IfOk result (λ kept. (under : S.Under) (maps : Maps) (old : KeyOf → List RowOfTable) → S.holds store.old under maps
         → HoldsRows maps old → AreLacking old lacking.now → kept ≡ map old keys.now) }
     ensures count { IfOk result (λ kept. length kept ≡ length keys.now) }
-    ensures holds { OnOk result ((under : S.Under) (maps : Maps) → S.holds store.old under maps → S.holds store.new under maps) }
-    ensures looked { (first : S) → S.looked first store.old → S.looked first store.new }
     ensures within { (may : May) → MayAllRows may keys.now → S.within may store.old → S.within may store.new }
-    ensures spent { OnOk result (S.spent store.new ≡ false) }
-    ensures ends { IfErr result (Ends
-        (λ refusal. (first : S) → S.looked first store.old → S.bears store.new (S.faults first) refusal)
-        (S.spent store.new ≡ false)
-        (λ _. ⊥)) }
-    ensures allowed { (under : S.Under) (maps : Maps) → S.holds store.old under maps → IfErr result (MayRefuse S.allowed) }
+    ensures looks { Looks S.MapStore.own S.Back store.old store.new result }
 {
     let mut all = RowLists::new(alloc);
     for &key in keys {

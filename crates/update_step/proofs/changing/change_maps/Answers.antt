@@ -26,7 +26,7 @@ use Rattle.update_step.proofs.changing.change_maps.Goals as goal
 pub rebuild-requires-clause-style : goal.rebuild-requires-clause-style
 rebuild-requires-clause-style g c _ _ =
     let first = c.args.store.now in
-    g.met.S.MapStore.same_style first c.changed_keys.new.store (c.changed_keys.ensures.looked first (c.keys_lacking.ensures.looked first (g.met.S.MapStore.looked_none first))) ∙ c.requires.style
+    g.met.S.MapStore.same_style first c.changed_keys.new.store (c.changed_keys.ensures.looked first (c.keys_lacking.ensures.looks.looked first (g.met.S.MapStore.looked_none first))) ∙ c.requires.style
 
 pub rebuild-requires-clause-few : goal.rebuild-requires-clause-few
 rebuild-requires-clause-few g c =
@@ -44,7 +44,7 @@ returns-in-Ok-clause-stands g c =
     let set = c.in-Ok.set in
     let proper = change_proper change c.entries-entries.ensures.rise in
     let after : ObjectSet = folded_all objects change in
-    let still = c.in_ok-lacking.ensures.holds under maps held in
+    let still = c.in_ok-lacking.ensures.looks.holds under maps held in
     let both = c.in-Ok.ensures.pending under maps objects still stands.on in
     let changed : Maps = change_on maps change in
     let read = c.in-Ok.ensures.holds under maps still in
@@ -62,7 +62,7 @@ returns-in-Ok-clause-told g c =
     let set = c.in-Ok.set in
     let proper = change_proper change c.entries-entries.ensures.rise in
     let after : ObjectSet = folded_all objects change in
-    let still = c.in_ok-lacking.ensures.holds under maps held in
+    let still = c.in_ok-lacking.ensures.looks.holds under maps held in
     let both = c.in-Ok.ensures.pending under maps objects still stands.on in
     let changed : Maps = change_on maps change in
     let read = c.in-Ok.ensures.holds under maps still in
@@ -80,7 +80,7 @@ returns-in-Ok-clause-applied g c =
     let set = c.in-Ok.set in
     let proper = change_proper change c.entries-entries.ensures.rise in
     let after : ObjectSet = folded_all objects change in
-    let still = c.in_ok-lacking.ensures.holds under maps held in
+    let still = c.in_ok-lacking.ensures.looks.holds under maps held in
     let both = c.in-Ok.ensures.pending under maps objects still stands.on in
     let changed : Maps = change_on maps change in
     let read = c.in-Ok.ensures.holds under maps still in
@@ -99,7 +99,7 @@ returns-in-Ok-clause-due g c =
     let set = c.in-Ok.set in
     let proper = change_proper change c.entries-entries.ensures.rise in
     let after : ObjectSet = folded_all objects change in
-    let still = c.in_ok-lacking.ensures.holds under maps held in
+    let still = c.in_ok-lacking.ensures.looks.holds under maps held in
     let both = c.in-Ok.ensures.pending under maps objects still stands.on in
     let changed : Maps = change_on maps change in
     let read = c.in-Ok.ensures.holds under maps still in
@@ -112,13 +112,13 @@ returns-in-Ok-clause-due g c =
 pub returns-in-Ok-clause-few : goal.returns-in-Ok-clause-few
 returns-in-Ok-clause-few g c =
     on_ok-then c.rebuild.result c.rebuild.ensures.spent (λ _ under maps objects held stands own pending.
-    let both = c.in-Ok.ensures.pending under maps objects (c.in_ok-lacking.ensures.holds under maps held) stands.on in
+    let both = c.in-Ok.ensures.pending under maps objects (c.in_ok-lacking.ensures.looks.holds under maps held) stands.on in
     subst (λ (count : ℕ). count ≤ c.args.limits.now.pending) (same-size c.args.style.now objects c.args.change.now c.in-Ok.set own both.0 pending) c.in-Ok.ensures.few)
 
 pub returns-in-Ok-clause-ends : goal.returns-in-Ok-clause-ends
 returns-in-Ok-clause-ends g c =
     if_err-then c.rebuild.result c.rebuild.ensures.ends (λ why ends.
-    ends-then _ _ _ _ _ _ why (λ refusal bears first looked. bears first (c.changed_keys.ensures.looked first (c.keys_lacking.ensures.looked first looked))) (λ unspent. unspent) (λ value never. absurd never) ends)
+    ends-then _ _ _ _ _ _ why (λ refusal bears first looked. bears first (c.changed_keys.ensures.looked first (c.keys_lacking.ensures.looks.looked first looked))) (λ unspent. unspent) (λ value never. absurd never) ends)
 
 pub returns-in-Ok-clause-allowed : goal.returns-in-Ok-clause-allowed
 returns-in-Ok-clause-allowed g c under maps objects held stands =
@@ -126,15 +126,15 @@ returns-in-Ok-clause-allowed g c under maps objects held stands =
     let change = c.args.change.now in
     let kept = entries-keep maps change (rows_in style objects) stands.rows in
     let lacks : AreLacking (rows_in style objects) c.as_slice-lacking.result.now = subst (AreLacking (rows_in style objects)) (sym c.as_slice-lacking.ensures.value) (c.in_ok-lacking.ensures.lacking under maps objects held stands.on) in
-    c.rebuild.ensures.allowed under (change_on maps change) (rows_in style objects) (c.in-Ok.ensures.holds under maps (c.in_ok-lacking.ensures.holds under maps held)) kept lacks
+    c.rebuild.ensures.allowed under (change_on maps change) (rows_in style objects) (c.in-Ok.ensures.holds under maps (c.in_ok-lacking.ensures.looks.holds under maps held)) kept lacks
 
 pub returns-clause-ends : goal.returns-clause-ends
 returns-clause-ends g c =
-    ends-then _ _ _ _ _ _ c.in-Err.why (λ refusal bears first looked. bears first (c.keys_lacking.ensures.looked first looked)) (λ unspent. unspent)
-    (λ value many under maps objects held stands. many under maps objects (c.in_ok-lacking.ensures.holds under maps held) stands.on) c.in-Err.ensures.ends
+    ends-then _ _ _ _ _ _ c.in-Err.why (λ refusal bears first looked. bears first (c.keys_lacking.ensures.looks.looked first looked)) (λ unspent. unspent)
+    (λ value many under maps objects held stands. many under maps objects (c.in_ok-lacking.ensures.looks.holds under maps held) stands.on) c.in-Err.ensures.ends
 
 pub returns-clause-allowed : goal.returns-clause-allowed
-returns-clause-allowed g c under maps objects held stands = c.in-Err.ensures.allowed under maps objects (c.in_ok-lacking.ensures.holds under maps held) stands.on
+returns-clause-allowed g c under maps objects held stands = c.in-Err.ensures.allowed under maps objects (c.in_ok-lacking.ensures.looks.holds under maps held) stands.on
 
 pub returns-in-Ok-clause-within : goal.returns-in-Ok-clause-within
 returns-in-Ok-clause-within g c under maps objects held stands may touched before =
@@ -142,7 +142,7 @@ returns-in-Ok-clause-within g c under maps objects held stands may touched befor
     let change = c.args.change.now in
     let set = c.in-Ok.set in
     let on = entries_stand (reaches_nodes style) change maps objects stands.on (change_proper change c.entries-entries.ensures.rise) in
-    let still = c.in_ok-lacking.ensures.holds under maps held in
+    let still = c.in_ok-lacking.ensures.looks.holds under maps held in
     let pending = c.in-Ok.ensures.pending under maps objects still stands.on in
     c.rebuild.ensures.within under (change_on maps change) (c.in-Ok.ensures.holds under maps still) may
     (may-needs style objects change may touched (change_on maps change) on set pending.0) (may-rows style objects change may touched (change_on maps change) on set pending.0)
@@ -152,7 +152,7 @@ pub returns-clause-within : goal.returns-clause-within
 returns-clause-within g c under maps objects held stands may touched before =
     let style = c.args.style.now in
     let change = c.args.change.now in
-    c.changed_keys.ensures.within under maps objects (c.in_ok-lacking.ensures.holds under maps held) stands.on may touched (c.keys_lacking.ensures.within may (may-entries style objects change may touched) before)
+    c.changed_keys.ensures.within under maps objects (c.in_ok-lacking.ensures.looks.holds under maps held) stands.on may touched (c.keys_lacking.ensures.within may (may-entries style objects change may touched) before)
 
 pub returns-in_err-lacking-clause-within : goal.returns-in_err-lacking-clause-within
 returns-in_err-lacking-clause-within g c under maps objects held stands may touched before =

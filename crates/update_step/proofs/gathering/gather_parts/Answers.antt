@@ -26,8 +26,8 @@ returns-clause-gathers g c under maps held =
     let lines : List Ask = way_asks to c.args.form.now in
     let listers : List Ask = lister_asks c.args.reaches to c.args.key in
     let wanted : may_have_rows c.args.style.now c.args.form.now ≡ true = sym c.may_have_rows.ensures.may ∙ c.if-not-may_have_rows.false in
-    let held_nodes = c.in_ok-gather_nodes.ensures.holds under maps held in
-    let held_ways = c.in_ok-gather_ways.ensures.holds under maps held_nodes in
+    let held_nodes = c.in_ok-gather_nodes.ensures.looks.holds under maps held in
+    let held_ways = c.in_ok-gather_ways.ensures.looks.holds under maps held_nodes in
     let nodes = c.in_ok-gather_nodes.ensures.gathers under maps held in
     let ways = c.in_ok-gather_ways.ensures.gathers under maps held_nodes in
     let relations = c.in_ok-gather_listers.ensures.gathers under maps held_ways in
@@ -55,7 +55,7 @@ returns-in_err-gather_ways-clause-within g c under maps held may all before =
     let parts = subst (λ b. MayAskAll may (cond b (places ++ (lines ++ listers)) [])) wanted all in
     let nodes = c.gather_nodes.ensures.within may (all-front (MayAsk may) places (lines ++ listers) parts) before in
     let later = all-back (MayAsk may) places (lines ++ listers) parts in
-    let held_nodes = c.in_ok-gather_nodes.ensures.holds under maps held in
+    let held_nodes = c.in_ok-gather_nodes.ensures.looks.holds under maps held in
     let ways = c.gather_ways.ensures.within under maps held_nodes may (all-front (MayAsk may) lines listers later) nodes in
     ways
 
@@ -69,9 +69,9 @@ returns-in_err-gather_listers-clause-within g c under maps held may all before =
     let parts = subst (λ b. MayAskAll may (cond b (places ++ (lines ++ listers)) [])) wanted all in
     let nodes = c.gather_nodes.ensures.within may (all-front (MayAsk may) places (lines ++ listers) parts) before in
     let later = all-back (MayAsk may) places (lines ++ listers) parts in
-    let held_nodes = c.in_ok-gather_nodes.ensures.holds under maps held in
+    let held_nodes = c.in_ok-gather_nodes.ensures.looks.holds under maps held in
     let ways = c.gather_ways.ensures.within under maps held_nodes may (all-front (MayAsk may) lines listers later) nodes in
-    let held_ways = c.in_ok-gather_ways.ensures.holds under maps held_nodes in
+    let held_ways = c.in_ok-gather_ways.ensures.looks.holds under maps held_nodes in
     c.gather_listers.ensures.within under maps held_ways may (all-back (MayAsk may) lines listers later) ways
 
 pub returns-clause-within : goal.returns-clause-within
@@ -84,7 +84,7 @@ returns-clause-within g c under maps held may all before =
     let parts = subst (λ b. MayAskAll may (cond b (places ++ (lines ++ listers)) [])) wanted all in
     let nodes = c.gather_nodes.ensures.within may (all-front (MayAsk may) places (lines ++ listers) parts) before in
     let later = all-back (MayAsk may) places (lines ++ listers) parts in
-    let held_nodes = c.in_ok-gather_nodes.ensures.holds under maps held in
+    let held_nodes = c.in_ok-gather_nodes.ensures.looks.holds under maps held in
     let ways = c.gather_ways.ensures.within under maps held_nodes may (all-front (MayAsk may) lines listers later) nodes in
-    let held_ways = c.in_ok-gather_ways.ensures.holds under maps held_nodes in
+    let held_ways = c.in_ok-gather_ways.ensures.looks.holds under maps held_nodes in
     c.gather_listers.ensures.within under maps held_ways may (all-back (MayAsk may) lines listers later) ways

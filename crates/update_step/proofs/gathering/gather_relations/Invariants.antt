@@ -1,8 +1,9 @@
-use Rattle.std.proofs.Common.{◌≡◌, false, take}
+use Rattle.std.proofs.Common.{take}
 use Rattle.store_maps.specs.Asked.{May}
 use Rattle.store_maps.specs.Maps.{Maps}
 use Rattle.store_maps.specs.Named.{known_on}
 use Rattle.update_step.specs.Gather.{Gathers, gathered_in, relation_asks}
+use Rattle.update_step.specs.Looks.{HasLooked}
 use Rattle.update_step.specs.Touch.{MayAskAll}
 use Rattle.update_step.proofs.gathering.gather_relations.Given as goal
 
@@ -10,8 +11,6 @@ use Rattle.update_step.proofs.gathering.gather_relations.Given as goal
 abbrev pub invariant-loop-id : goal.invariant-loop-id
 invariant-loop-id g l = record {
   gathers : (under : g.S.MapStore.Under) (maps : Maps) → g.S.MapStore.holds l.initial.store under maps → Gathers (known_on maps) (gathered_in l.initial.answers) (gathered_in l.answers) (relation_asks (take l.id-index l.ids));
-  holds : (under : g.S.MapStore.Under) (maps : Maps) → g.S.MapStore.holds l.initial.store under maps → g.S.MapStore.holds l.store under maps;
-  looked : (first : g.row.S.Denot) → g.S.MapStore.looked first l.initial.store → g.S.MapStore.looked first l.store;
   within : (may : May) → MayAskAll may (relation_asks l.ids) → g.S.MapStore.within may l.initial.store → g.S.MapStore.within may l.store;
-  spent : g.S.Back.spent l.store ≡ false;
+  looks : HasLooked g.S.MapStore g.S.Back l.initial.store l.store;
 }

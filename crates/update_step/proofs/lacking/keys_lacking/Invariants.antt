@@ -1,4 +1,3 @@
-use Rattle.std.proofs.Common.{◌≡◌, false}
 use Rattle.osm_base.specs.map.Objects.{ObjectSet}
 use Rattle.row_map.specs.Condition.{reaches_nodes}
 use Rattle.row_map.specs.Rows.{rows_in}
@@ -6,6 +5,7 @@ use Rattle.store_maps.specs.Asked.{May}
 use Rattle.store_maps.specs.Maps.{Maps}
 use Rattle.store_maps.specs.Stands.{StandsOn}
 use Rattle.update_step.specs.Lacking.{AreLacking}
+use Rattle.update_step.specs.Looks.{HasLooked}
 use Rattle.update_step.specs.Touch.{MayEntries}
 use Rattle.update_step.proofs.lacking.keys_lacking.Given as goal
 
@@ -13,8 +13,6 @@ use Rattle.update_step.proofs.lacking.keys_lacking.Given as goal
 abbrev pub invariant-loop-entry : goal.invariant-loop-entry
 invariant-loop-entry g l = record {
   lacking : (under : g.S.MapStore.Under) (maps : Maps) (objects : ObjectSet) → g.S.MapStore.holds l.initial.store under maps → StandsOn (reaches_nodes l.style) maps objects → AreLacking (rows_in l.style objects) l.keys.items;
-  holds : (under : g.S.MapStore.Under) (maps : Maps) → g.S.MapStore.holds l.initial.store under maps → g.S.MapStore.holds l.store under maps;
-  looked : (first : g.row.S.Denot) → g.S.MapStore.looked first l.initial.store → g.S.MapStore.looked first l.store;
   within : (may : May) → MayEntries may l.change → g.S.MapStore.within may l.initial.store → g.S.MapStore.within may l.store;
-  spent : g.S.Back.spent l.store ≡ false;
+  looks : HasLooked g.S.MapStore g.S.Back l.initial.store l.store;
 }

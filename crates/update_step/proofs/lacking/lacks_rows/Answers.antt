@@ -15,7 +15,7 @@ returns-then-is_unknown_node-clause-none g c under maps objects held on lacks =
     let key : KeyOf = c.args.key in
     let is : c.in_ok-object.object ≡ object_in maps key.kind key.id = c.in_ok-object.ensures.object under maps held in
     let at : c.in_ok-place.place ≡ place_in (finite.get maps.nodes key.id) =
-    subst (λ (own : KeyOf). c.in_ok-place.place ≡ place_in (finite.get maps.nodes own.id)) c.key.view_is (c.in_ok-place.ensures.place under maps (c.in_ok-object.ensures.holds under maps held)) in
+    subst (λ (own : KeyOf). c.in_ok-place.place ≡ place_in (finite.get maps.nodes own.id)) c.key.view_is (c.in_ok-place.ensures.place under maps (c.in_ok-object.ensures.looks.holds under maps held)) in
     let unknown = ap (λ (object : Option Object). is_kind kinds.Node key.kind && not (is_some object)) (sym is) ∙ sym c.is_unknown_node.ensures.unknown ∙ c.if-is_unknown_node.true in
     lacks-place c.args.style.now maps objects on key unknown (sym at ∙ none-found c.in_ok-place.place (c.is_none.ensures ∙ ap not lacks))
 

@@ -18,7 +18,7 @@ returns-in-Ok-clause-pending g c =
     if_ok-then c.keys_due.result c.keys_due.ensures.pending (λ set is under maps objects held on.
     let forms : HasOldForms c.in_ok-old.old objects change = subst (λ (old : ObjectSet). HasOldForms old objects change) (sym (c.in_ok-old.ensures.old under maps held)) (old-forms maps objects reaches change on) in
     let after = entries_stand reaches change maps objects on (change_proper change c.entries-entries.ensures.rise) in
-    is objects forms under (change_on maps change) (c.in-Ok.ensures.holds under maps (c.in_ok-old.ensures.holds under maps held)) after)
+    is objects forms under (change_on maps change) (c.in-Ok.ensures.holds under maps (c.in_ok-old.ensures.looks.holds under maps held)) after)
 
 pub returns-in-Ok-clause-ends : goal.returns-in-Ok-clause-ends
 returns-in-Ok-clause-ends g c =
@@ -26,12 +26,12 @@ returns-in-Ok-clause-ends g c =
     let reaches = reaches_nodes c.args.style.now in
     if_err-then c.keys_due.result c.keys_due.ensures.ends (λ why ends.
     ends-then _ _ _ _ _ _ why
-    (λ refusal bears first looked. bears first (c.apply_change.ensures.looked first (c.old_relations.ensures.looked first looked)))
+    (λ refusal bears first looked. bears first (c.apply_change.ensures.looked first (c.old_relations.ensures.looks.looked first looked)))
     (λ unspent. unspent)
     (λ value many under maps objects held on.
     let forms : HasOldForms c.in_ok-old.old objects change = subst (λ (old : ObjectSet). HasOldForms old objects change) (sym (c.in_ok-old.ensures.old under maps held)) (old-forms maps objects reaches change on) in
     let after = entries_stand reaches change maps objects on (change_proper change c.entries-entries.ensures.rise) in
-    many objects forms under (change_on maps change) (c.in-Ok.ensures.holds under maps (c.in_ok-old.ensures.holds under maps held)) after)
+    many objects forms under (change_on maps change) (c.in-Ok.ensures.holds under maps (c.in_ok-old.ensures.looks.holds under maps held)) after)
     ends)
 
 pub returns-in-Ok-clause-allowed : goal.returns-in-Ok-clause-allowed
@@ -39,14 +39,14 @@ returns-in-Ok-clause-allowed g c under maps objects held on =
     let change = c.args.change.now in
     let reaches = reaches_nodes c.args.style.now in
     let after = entries_stand reaches change maps objects on (change_proper change c.entries-entries.ensures.rise) in
-    c.keys_due.ensures.allowed under (change_on maps change) (c.in-Ok.ensures.holds under maps (c.in_ok-old.ensures.holds under maps held)) (ways_are_there reaches (change_on maps change) (folded_all objects change) after)
+    c.keys_due.ensures.allowed under (change_on maps change) (c.in-Ok.ensures.holds under maps (c.in_ok-old.ensures.looks.holds under maps held)) (ways_are_there reaches (change_on maps change) (folded_all objects change) after)
 
 pub returns-in-Ok-clause-within : goal.returns-in-Ok-clause-within
 returns-in-Ok-clause-within g c under maps objects held on may touched before =
     let style = c.args.style.now in
     let change = c.args.change.now in
     let rise = c.entries-entries.ensures.rise in
-    let read = c.in_ok-old.ensures.holds under maps held in
+    let read = c.in_ok-old.ensures.looks.holds under maps held in
     let after = entries_stand (reaches_nodes style) change maps objects on (change_proper change rise) in
     c.keys_due.ensures.within under (change_on maps change) objects (c.in-Ok.ensures.holds under maps read) after may touched
     (c.apply_change.ensures.within under maps read (reaches_nodes style) objects on may (may-turn style objects change may touched rise)
@@ -56,7 +56,7 @@ pub returns-clause-within : goal.returns-clause-within
 returns-clause-within g c under maps objects held on may touched before =
     let style = c.args.style.now in
     let change = c.args.change.now in
-    let read = c.in_ok-old.ensures.holds under maps held in
+    let read = c.in_ok-old.ensures.looks.holds under maps held in
     c.apply_change.ensures.within under maps read (reaches_nodes style) objects on may (may-turn style objects change may touched c.entries-entries.ensures.rise)
     (c.old_relations.ensures.within may (may-entries style objects change may touched) before)
 

@@ -42,7 +42,7 @@ replace-requires-clause-kept g c =
     let g_in : Gathered = gathered_in c.in_ok-known.known in
     let news_are : c.as_slice-news.result.now ≡ map (rows_known style (known_in g_in)) keys = c.as_slice-news.ensures.items ∙ c.in_ok-built.ensures.rows in
     let first = c.args.store.now in
-    let style_is = g.met.S.MapStore.same_style first c.gathered.new.store (c.gathered.ensures.looked first (g.met.S.MapStore.looked_none first)) ∙ c.requires.style in
+    let style_is = g.met.S.MapStore.same_style first c.gathered.new.store (c.gathered.ensures.looks.looked first (g.met.S.MapStore.looked_none first)) ∙ c.requires.style in
     subst (λ (own : StyleOf). AllByRecursion (MayKeep own.tables) c.as_slice-news.result.now) (sym style_is)
     (subst (λ (lists : List (List TableRow)). AllByRecursion (MayKeep style.tables) lists) (sym news_are) (all-kept style g_in keys))
 
@@ -54,7 +54,7 @@ returns-clause-holds g c =
     let same : c.as_slice-keys.result.now ≡ keys = c.as_slice-keys.ensures.value ∙ c.in_ok-keys.ensures.keys in
     let news = rows_are style maps keys c.as_slice-keys.result.now rows (gathered_in c.in_ok-known.known) c.reaches_nodes.result c.as_slice-news.result.now built same c.reaches_nodes.ensures.reaches
     (c.in_ok-known.ensures.right under maps held) (c.in_ok-known.ensures.asked under maps held) (c.as_slice-news.ensures.items ∙ c.in_ok-built.ensures.rows) in
-    subst (λ (own : List KeyOf). g.S.MapStore.holds c.replace.new.store under (set_all_rows maps rows own)) same (holds under maps old rows (c.in_ok-known.ensures.holds under maps held) kept lacks news))
+    subst (λ (own : List KeyOf). g.S.MapStore.holds c.replace.new.store under (set_all_rows maps rows own)) same (holds under maps old rows (c.in_ok-known.ensures.looks.holds under maps held) kept lacks news))
 
 pub returns-clause-told : goal.returns-clause-told
 returns-clause-told g c =
@@ -64,7 +64,7 @@ returns-clause-told g c =
     let same : c.as_slice-keys.result.now ≡ keys = c.as_slice-keys.ensures.value ∙ c.in_ok-keys.ensures.keys in
     let news = rows_are style maps keys c.as_slice-keys.result.now rows (gathered_in c.in_ok-known.known) c.reaches_nodes.result c.as_slice-news.result.now built same c.reaches_nodes.ensures.reaches
     (c.in_ok-known.ensures.right under maps held) (c.in_ok-known.ensures.asked under maps held) (c.as_slice-news.ensures.items ∙ c.in_ok-built.ensures.rows) in
-    told under maps old rows (c.in_ok-known.ensures.holds under maps held) kept lacks news ∙ ap (told_all (length style.tables) old rows) same)
+    told under maps old rows (c.in_ok-known.ensures.looks.holds under maps held) kept lacks news ∙ ap (told_all (length style.tables) old rows) same)
 
 pub returns-clause-due : goal.returns-clause-due
 returns-clause-due g c =
@@ -74,13 +74,13 @@ returns-clause-due g c =
     let same : c.as_slice-keys.result.now ≡ keys = c.as_slice-keys.ensures.value ∙ c.in_ok-keys.ensures.keys in
     let news = rows_are style maps keys c.as_slice-keys.result.now rows (gathered_in c.in_ok-known.known) c.reaches_nodes.result c.as_slice-news.result.now built same c.reaches_nodes.ensures.reaches
     (c.in_ok-known.ensures.right under maps held) (c.in_ok-known.ensures.asked under maps held) (c.as_slice-news.ensures.items ∙ c.in_ok-built.ensures.rows) in
-    due under maps old rows (c.in_ok-known.ensures.holds under maps held) kept lacks news zoom x y
+    due under maps old rows (c.in_ok-known.ensures.looks.holds under maps held) kept lacks news zoom x y
     ∙ ap (λ (own : List KeyOf). has c.args.due.now zoom x y || list_any (λ (key : KeyOf). is_due_key style c.args.bounds.now (old key) (rows key) zoom x y) own) same)
 
 pub returns-clause-ends : goal.returns-clause-ends
 returns-clause-ends g c =
     if_err-then c.replace.result c.replace.ensures.ends (λ why ends.
-    ends-then _ _ _ _ _ _ why (λ refusal bears first looked. bears first (c.gathered.ensures.looked first looked)) (λ unspent. unspent) (λ value never. never) ends)
+    ends-then _ _ _ _ _ _ why (λ refusal bears first looked. bears first (c.gathered.ensures.looks.looked first looked)) (λ unspent. unspent) (λ value never. never) ends)
 
 pub returns-clause-allowed : goal.returns-clause-allowed
 returns-clause-allowed g c under maps old held kept lacks =
@@ -90,7 +90,7 @@ returns-clause-allowed g c under maps old held kept lacks =
     let same : c.as_slice-keys.result.now ≡ keys = c.as_slice-keys.ensures.value ∙ c.in_ok-keys.ensures.keys in
     let news : c.as_slice-news.result.now ≡ map (rows_known style (known_in g_in)) c.as_slice-keys.result.now =
     c.as_slice-news.ensures.items ∙ c.in_ok-built.ensures.rows ∙ ap (map (rows_known style (known_in g_in))) (sym same) in
-    c.replace.ensures.allowed under maps old (rows_known style (known_in g_in)) (c.in_ok-known.ensures.holds under maps held) kept lacks news
+    c.replace.ensures.allowed under maps old (rows_known style (known_in g_in)) (c.in_ok-known.ensures.looks.holds under maps held) kept lacks news
 
 pub returns-clause-within : goal.returns-clause-within
 returns-clause-within g c under maps held may asks rows before =

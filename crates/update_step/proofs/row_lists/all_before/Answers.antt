@@ -9,14 +9,12 @@ loop-key-preserved g c =
     record {
       kept = λ under maps old held has lacks.
           let was = c.loop-key.invariant.kept under maps old held has lacks in
-          let is = c.in_ok-rows.ensures.kept under maps old (c.loop-key.invariant.holds under maps held) has lacks in
+          let is = c.in_ok-rows.ensures.kept under maps old (c.loop-key.invariant.looks.holds under maps held) has lacks in
           grind (arith, common_steps, was, is);
       count = grind (arith, common_steps);
-      holds = search rules;
-      looked = search rules;
       within = λ may all before. c.rows_unless.ensures.within may
           (all_at (MayRows may) c.args.keys.now c.loop-key.key-index c.key-item.result c.key-item.result all c.loop-key-test.true c.key-item.is) (c.loop-key.invariant.within may all before);
-      spent = search rules;
+      looks = search rules;
     }
 
 pub returns-in_err-rows-clause-within : goal.returns-in_err-rows-clause-within
