@@ -9,75 +9,35 @@ import re
 import resource
 import stat
 
-from explain_files import KINDS, MOST_WHOLE, counted, head_of, kind_of, listed, megabytes, name, opened, quoted, shown
+from explain_files import KINDS, counted, head_of, kind_of, listed, megabytes, name, opened, quoted, shown
 from explain_words import order_hint
-
-try:
-    import tomllib
-except ImportError:
-    tomllib = None
-
-PAGE = 4_096
+from store_file import CHANGES, FORMAT, HOME, MARK, PAGE, STATE, STYLE_CHAIN, Fault, Pages, chain, is_open, number
+from store_file import tables_of as tables_in
 
 
-def number_at(data, at, length=8):
-    return int.from_bytes(data[at : at + length], "little")
-
-
-class Pages:
-    """The pages of a store, as they are after a commit that was cut short."""
-
-    def __init__(self, it):
-        self.it, self.moved = it, {}
-        head = self.raw(0)
-        if head[:8] != b"SLIMUPD1":
-            raise ValueError("no store")
-        # Where the gate is open, the pages that the journal holds count.
-        first, count = number_at(head, 8), min(number_at(head, 16), 1 << 20) if head[PAGE - 1] == 1 else 0
-        for at in range((count + 511) // 512):
-            numbers = self.raw(first + at)
-            for place in range(512 * at, min(512 * at + 512, count)):
-                self.moved[number_at(numbers, 8 * (place % 512))] = first + (count + 511) // 512 + place
-
-    def raw(self, number):
-        self.it.seek(PAGE * number)
-        return self.it.read(PAGE).ljust(PAGE, b"\0")
-
-    def page(self, number):
-        return self.raw(self.moved.get(number, number))
-
-
-def root_of(store):
-    """Of a store: its pages, its format, whether something was imported, its changes; None where it can't be read."""
-    it = opened(store)
+def in_store(path, what):
+    """What a function gives of the pages of a store; None where they can't be read."""
+    it = opened(path)
     if it is None:
         return None
     try:
         with it:
-            page = Pages(it).page(1)
-            return tuple(number_at(page, at) for at in (0, 8, 16, 24))
-    except (OSError, ValueError):
+            return what(Pages(it.fileno()))
+    except (OSError, Fault):
         return None
+
+
+def root_of(store):
+    """Of a store: its pages, its format, whether something was imported, its changes; None where it can't be read."""
+    return in_store(store, lambda pages: tuple(number(pages.page(1), at) for at in (HOME, FORMAT, STATE, CHANGES)))
 
 
 def tables_of(store):
     """The names of the tables of a store, from the style that it holds; none where it can't be read."""
-    it = opened(store)
-    if it is None or tomllib is None:
-        return []
+    style = in_store(store, lambda pages: chain(pages.page, pages.page(1), STYLE_CHAIN))
     try:
-        with it:
-            pages, style = Pages(it), b""
-            number = number_at(pages.page(1), 56)
-            while number and len(style) <= MOST_WHOLE:
-                page = pages.page(number)
-                length = number_at(page, 8, 4)
-                if number_at(page, 12, 4) != 1 or not 1 <= length <= PAGE - 16:
-                    return []
-                style += page[16 : 16 + length]
-                number = number_at(page, 0)
-            return [str(table["name"]) for table in tomllib.loads(style.decode("utf-8-sig"))["table"]]
-    except (OSError, ValueError, KeyError, TypeError):
+        return [str(table["name"]) for table in tables_in(style or b"")]
+    except (Fault, KeyError, TypeError):
         return []
 
 
@@ -116,7 +76,7 @@ def not_formatted(call):
     data, hint = head_of(store), order_hint(call)
     if data == b"":
         return [f"{name(store)} is empty; this makes it a store: yilgartzu init {quoted(store)}"]
-    if data and data[:8] == b"SLIMUPD1" and len(data) < 2 * PAGE:
+    if data and data.startswith(MARK) and len(data) < 2 * PAGE:
         return [f"{name(store)} is cut off: a store has 8,192 bytes at least, and it has {len(data)}; take the backup"]
     kind = kind_of(store)
     what = KINDS.get(kind, "does not begin as a store does")
@@ -221,15 +181,15 @@ def may(path, right):
     return os.access(path, right, effective_ids=os.access in os.supports_effective_ids)
 
 
-def process(number):
+def process(pid):
     """A process and the first words of its command line; a lock may outlive the one that took it."""
     try:
-        with open(f"/proc/{number}/cmdline", "rb") as it:
+        with open(f"/proc/{pid}/cmdline", "rb") as it:
             words = it.read(4_096).split(b"\0")
     except OSError:
         words = [b""]
     what = shown(b" ".join([os.path.basename(words[0]), *words[1:3]]).strip(), 60)
-    return f"another process ({number}, {what})" if what else "another process"
+    return f"another process ({pid}, {what})" if what else "another process"
 
 
 def lock_holder(path, found, shares):
@@ -295,7 +255,7 @@ def folder_fault(call, path):
 
 def store_fault(call, path, found):
     """What keeps a store that is there from being read and written."""
-    looks = call.only_looks() and (head_of(path, PAGE) or b"").ljust(PAGE, b"\0")[PAGE - 1] != 1
+    looks = call.only_looks() and not is_open(head_of(path, PAGE) or b"")
     if stat.S_ISDIR(found.st_mode):
         return f"{name(path)} is a folder"
     if not stat.S_ISREG(found.st_mode):

@@ -5,21 +5,31 @@ gate is open; page 0 and the root are looked at again behind the rest, and where
 again, for a second.
 """
 
+import functools
 import hashlib
 import os
 import stat
 import time
-import tomllib
+
+try:
+    import tomllib
+except ImportError:
+    # What stands in a store's pages is read by an older Python too.
+    tomllib = None
 
 PAGE = 4096
 MARK = b"SLIMUPD1"
 GATE, OPEN = 4095, 1
+# Where numbers stand in page 0, and how many page numbers one page of the journal has.
+JOURNAL, MOVED, NUMBERS = 8, 16, PAGE // 8
 # Where numbers stand in the root page.
 HOME, FORMAT, STATE, CHANGES, BUCKETS, CHAINS = 0, 8, 16, 24, 32, 48
 EMPTY_FORMAT, IMPORTED_FORMAT = 1, 2
 STYLE_CHAIN = 1
 # A page of a chain has the next page, how many bytes it holds and the chain's number, and then these bytes.
 CHAIN_HEAD, MOST = 16, PAGE - 16
+# The most bytes that a style may have.
+MOST_STYLE = 1_048_576
 
 
 class Fault(Exception):
@@ -48,34 +58,61 @@ def number(page, at, length=8):
 
 
 def page_of(file, at):
-    return os.pread(file, PAGE, at * PAGE)
+    """A page, or less where the file ends. A damaged store may name pages that no file can have."""
+    return os.pread(file, PAGE, at * PAGE) if at < 1 << 50 else b""
 
 
-def chain(file, root, which):
-    """The bytes of a chain."""
+def is_open(head):
+    """Whether a commit is under way, or was cut off, by page 0."""
+    return head.startswith(MARK) and head[GATE:] == bytes([OPEN])
+
+
+class Pages:
+    """The pages of a store as the next command will find them: where the gate is open, those that the journal holds count."""
+
+    def __init__(self, file):
+        self.file, self.moved = file, {}
+        head = page_of(file, 0)
+        if not head.startswith(MARK):
+            raise Fault("not formatted: this file is no store")
+        first, count = number(head, JOURNAL), min(number(head, MOVED), 1 << 20) if is_open(head) else 0
+        behind = first + -(-count // NUMBERS)
+        for at in range(count):
+            if at % NUMBERS == 0:
+                numbers = page_of(file, first + at // NUMBERS)
+            self.moved[number(numbers, 8 * (at % NUMBERS))] = behind + at
+
+    def page(self, at):
+        return page_of(self.file, self.moved.get(at, at))
+
+
+def chain(page, root, which, most=MOST_STYLE):
+    """The bytes of a chain, of which page gives each page by its number."""
     at, pages, parts = number(root, CHAINS + 8 * which), number(root, HOME), []
     while at:
-        page = page_of(file, at) if 2 <= at < pages and len(parts) < pages else b""
-        after, length = number(page, 0), number(page, 8, 4)
+        data = page(at) if 2 <= at < pages and MOST * len(parts) < most else b""
+        after, length = number(data, 0), number(data, 8, 4)
         good = MOST == length if after else 1 <= length <= MOST
-        if len(page) < PAGE or number(page, 12, 4) != which or not good:
+        if len(data) < PAGE or number(data, 12, 4) != which or not good:
             raise Fault(f"bad store page {at}: the file was damaged; take the backup")
-        parts.append(page[CHAIN_HEAD : CHAIN_HEAD + length])
+        parts.append(data[CHAIN_HEAD : CHAIN_HEAD + length])
         at = after
     return b"".join(parts)
 
 
 def tables_of(style):
     """The tables of a style that a store keeps."""
+    if tomllib is None:
+        raise Fault("to read its style Python 3.11 or later is needed")
     try:
-        return tomllib.loads(style.decode())["table"]
+        return tomllib.loads(style.decode("utf-8-sig"))["table"]
     except (ValueError, KeyError):
         raise Fault("bad store page 1: its style does not read; take the backup") from None
 
 
 def imported(file, head, root):
     """The store, where the pages are those of an imported one in the format of today."""
-    if len(root) < PAGE or head[: len(MARK)] != MARK:
+    if len(root) < PAGE or not head.startswith(MARK):
         raise Fault("not formatted: this file is no store")
     kind = number(root, STATE), number(root, FORMAT)
     if kind == (0, EMPTY_FORMAT):
@@ -84,7 +121,7 @@ def imported(file, head, root):
         raise Fault("old format: run `yilgartzu migrate` on it first")
     if kind != (1, IMPORTED_FORMAT):
         raise Fault("bad store page 1: its format and state are those of no store; take the backup")
-    return Store(root, chain(file, root, STYLE_CHAIN), os.fstat(file))
+    return Store(root, chain(functools.partial(page_of, file), root, STYLE_CHAIN), os.fstat(file))
 
 
 def settled(file):
@@ -94,8 +131,7 @@ def settled(file):
         found = imported(file, head, root)
     except Fault as fault:
         found = fault
-    moves = head[GATE:] == bytes([OPEN]) and head.startswith(MARK)
-    return None if moves or (page_of(file, 0), page_of(file, 1)) != (head, root) else found
+    return None if is_open(head) or (page_of(file, 0), page_of(file, 1)) != (head, root) else found
 
 
 def opened(path):
