@@ -5,6 +5,7 @@
 #   figures     `figure` for a program of awk, as bench/figures.py has it for Python
 #   measure     runs a text of Python, given on standard input, with that module and these words
 #   built       the path of the program, which the launcher proves and builds first where it is not there
+#   server      starts a PostgreSQL server of the run alone in $work/cluster, which is stopped at its end
 # Words that are not numbers from 1, or more than the benchmark's usage line has, print that line and end in 2.
 set -euo pipefail
 here=$(cd "$(dirname "${BASH_SOURCE[0]}")" && pwd)
@@ -34,6 +35,13 @@ figures='
 '
 
 measure() { BENCH=bench/${0##*/} PYTHONPATH=$here:$here/osm2pgsql PYTHONDONTWRITEBYTECODE=1 python3 - "$@"; }
+
+server() {
+  trap '"$here/osm2pgsql/cluster" stop "$work/cluster" || true; rm -rf "$work"' EXIT
+  # The server runs as another user where this runs as root.
+  chmod 711 "$work"
+  "$here/osm2pgsql/cluster" start "$work/cluster"
+}
 
 built() {
   YILGARTZU_BUILD=1 "$top/yilgartzu" --version >"$work/version" && echo "$top/crates/updater_main/out/updater_main"
