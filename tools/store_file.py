@@ -80,6 +80,8 @@ class Pages:
         for at in range(count):
             if at % NUMBERS == 0:
                 numbers = page_of(file, first + at // NUMBERS)
+            if len(numbers) < PAGE:
+                break
             self.moved[number(numbers, 8 * (at % NUMBERS))] = behind + at
 
     def page(self, at):
