@@ -154,10 +154,12 @@ def rows_of_tiles(path, zoom):
 
 
 def tool_module(name):
-    """The functions of a tool. Calls of these are many, and a start of Python takes longer than most."""
-    if str(HERE / "tools") not in sys.path:
-        sys.path.insert(0, str(HERE / "tools"))
-    loader = importlib.machinery.SourceFileLoader(name, str(next(it for it in (HERE / "tools" / name, HERE / f"tools/{name}.py") if it.is_file())))
+    """The functions of a tool, or of a module beside the tools. A start of Python takes longer than most calls of one."""
+    folder = HERE / "tools"
+    if str(folder) not in sys.path:
+        sys.path.insert(0, str(folder))
+    path = folder / name if (folder / name).is_file() else folder / f"{name}.py"
+    loader = importlib.machinery.SourceFileLoader(name, str(path))
     found = importlib.util.module_from_spec(importlib.util.spec_from_loader(name, loader))
     sys.modules[name] = found
     loader.exec_module(found)
