@@ -5,6 +5,7 @@
 #   figures     `figure` for a program of awk, as bench/figures.py has it for Python
 #   measure     runs a text of Python, given on standard input, with that module and these words
 #   built       the path of the program, which the launcher proves and builds first where it is not there
+#   packages    installs the Debian packages with these names where root runs it and they are missing; else tells which, and ends
 #   server      starts a PostgreSQL server of the run alone in $work/cluster, which is stopped at its end
 # Words that are not numbers from 1, or more than the benchmark's usage line has, print that line and end in 2.
 set -euo pipefail
@@ -35,6 +36,27 @@ figures='
 '
 
 measure() { BENCH=bench/${0##*/} PYTHONPATH=$here:$here/osm2pgsql PYTHONDONTWRITEBYTECODE=1 python3 - "$@"; }
+
+# By which a package is known to be there: a command, or a file.
+declare -A known_by=(
+  [gcc]=cc [osm2pgsql]=osm2pgsql [osmium-tool]=osmium [postgis]=shp2pgsql [sqlite3]=sqlite3 [strace]=strace
+  [postgresql]='/usr/lib/postgresql/*/bin/initdb' [postgresql-postgis]='/usr/share/postgresql/*/extension/postgis.control'
+)
+
+packages() {
+  local name lacking=()
+  for name in "$@"; do
+    command -v "${known_by[$name]}" >/dev/null || compgen -G "${known_by[$name]}" >/dev/null || lacking+=("$name")
+  done
+  if [ ${#lacking[@]} = 0 ]; then return; fi
+  if [ "$(id -u)" != 0 ] || ! command -v apt-get >/dev/null; then
+    echo "bench/${0##*/}: these Debian packages are missing: ${lacking[*]}" >&2
+    exit 1
+  fi
+  echo "bench/${0##*/}: installing ${lacking[*]}" >&2
+  apt-get -q update >&2
+  DEBIAN_FRONTEND=noninteractive apt-get -q install -y --no-install-recommends "${lacking[@]}" >&2
+}
 
 server() {
   trap '"$here/osm2pgsql/cluster" stop "$work/cluster" || true; rm -rf "$work"' EXIT

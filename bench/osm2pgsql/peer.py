@@ -1,4 +1,5 @@
-"""osm2pgsql with a PostgreSQL of its own, and how runs are measured beside it: used by bench/peers, bench/store_run and bench/queries."""
+"""osm2pgsql with a PostgreSQL of its own, and how runs are measured beside it: used by bench/peers, bench/store_run,
+bench/queries and bench/same_rows."""
 import os
 import pathlib
 import subprocess
