@@ -135,6 +135,8 @@ def read_fault(call, file):
         return []
     if path == "":
         return ["an empty word stands for a file"]
+    if path == "-" and not os.path.exists(path):
+        return ["- is the name of a file here: /dev/stdin reads standard input"]
     hint = order_hint(call)
     behind = f"; {hint}" if hint else ""
     try:
