@@ -1,4 +1,6 @@
 pub mod Cutting
 pub mod Joined
+pub mod KeptBoxes
+pub mod NearRows
 pub mod Tables
 pub mod Walk

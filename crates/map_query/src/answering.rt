@@ -99,7 +99,12 @@ fn is_in(asked: GeoBox, row: &Row) -> bool
 }
 
 /// Adds a copy of a row with its number.
-fn push(alloc: Global, rows: &mut RowList, number: i64, row: &Row) -> Result<(), OutOfMemory>
+pub(crate) fn push(
+    alloc: Global,
+    rows: &mut RowList,
+    number: i64,
+    row: &Row,
+) -> Result<(), OutOfMemory>
     ensures ok { OnOk result (rows.new ≡ rows.old ++ record { number = number; row = row.now } ∷ []) }
 {
     rows.push(NumberedRow {

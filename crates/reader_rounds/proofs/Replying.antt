@@ -9,9 +9,9 @@ use Rattle.osm_base.specs.map.Spots.{TableMap}
 use Rattle.style_read.specs.Style.{StyleOf}
 use Rattle.map_query.specs.Answer.{answer}
 use Rattle.map_query.specs.declared.query.Query.{Query}
-use Rattle.delta_log.specs.Fronts.{Begins, FrontOf}
-use Rattle.delta_log.proofs.Beginnings.{prefix_shorter}
-use Rattle.delta_log.proofs.Shapes.{begins_itself}
+use Rattle.table_versions.specs.Fronts.{Begins, FrontOf}
+use Rattle.table_versions.proofs.Beginnings.{prefix_shorter}
+use Rattle.table_versions.proofs.Shapes.{begins_itself}
 use Rattle.table_versions.specs.Answers.{AreAnswers, IsAnswer}
 use Rattle.table_versions.specs.Versions.{after, tables_of, version_of}
 use Rattle.table_versions.specs.declared.answers.Answer.{Answer}

@@ -6,8 +6,8 @@ use Rattle.std.specs.Prelude.{All}
 use Rattle.std.proofs.lemmas.List.Elements.{All-pop, All-push, All-tail}
 use Rattle.style_read.specs.Style.{StyleOf}
 use Rattle.map_query.specs.declared.query.Query.{Query}
-use Rattle.delta_log.specs.Fronts.{Begins, FrontOf}
-use Rattle.delta_log.proofs.Shapes.{begins_itself}
+use Rattle.table_versions.specs.Fronts.{Begins, FrontOf}
+use Rattle.table_versions.proofs.Shapes.{begins_itself}
 use Rattle.table_versions.specs.Answers.{AreAnswers}
 use Rattle.table_versions.specs.Views.{IsNewReader, ReaderOf}
 use Rattle.table_versions.specs.declared.answers.Answer.{Answer}

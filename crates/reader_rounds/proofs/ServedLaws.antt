@@ -5,8 +5,8 @@ use Rattle.std.proofs.lemmas.List.{map-append, length-replicate}
 use Rattle.osm_base.specs.map.Spots.{TableMap}
 use Rattle.style_read.specs.Style.{StyleOf}
 use Rattle.map_query.specs.declared.query.Query.{Query}
-use Rattle.delta_log.specs.Fronts.{Begins, FrontOf}
-use Rattle.delta_log.proofs.Shapes.{begins_itself}
+use Rattle.table_versions.specs.Fronts.{Begins, FrontOf}
+use Rattle.table_versions.proofs.Shapes.{begins_itself}
 use Rattle.table_versions.specs.Versions.{tables_of, version_of}
 use Rattle.table_versions.specs.declared.answers.Answer.{Answer}
 use Rattle.table_versions.proofs.Rounds.{begins_trans}

@@ -2,7 +2,7 @@
 use Rattle.std.specs.Prelude.{◌≡◌, ◌<◌, ℕ, true, List, [], ◌∷◌, ◌++◌, All, length, None}
 use Rattle.style_read.specs.Style.{StyleOf}
 use Rattle.map_query.specs.declared.query.Query.{Query}
-use Rattle.delta_log.specs.Fronts.{Begins, FrontOf}
+use Rattle.table_versions.specs.Fronts.{Begins, FrontOf}
 use Rattle.table_versions.specs.Answers.{AreAnswers}
 use Rattle.table_versions.specs.declared.answers.Answer.{Answer}
 use Rattle.reader_rounds.specs.declared.asker.Asker.{Asker}

@@ -4,7 +4,7 @@ use Rattle.std.specs.List.{AllByRecursion}
 use Rattle.style_read.specs.Style.{StyleOf}
 use Rattle.map_query.specs.Answer.{answer}
 use Rattle.map_query.specs.declared.query.Query.{Query}
-use Rattle.delta_log.specs.Fronts.{FrontOf}
+use Rattle.table_versions.specs.Fronts.{FrontOf}
 use Rattle.table_versions.specs.declared.answers.Answer.{Answer}
 use Rattle.table_versions.specs.Versions.{after}
 use Rattle.reader_rounds.specs.Settling.{HasLength}

@@ -1,7 +1,7 @@
 //! A reader that asks in rounds.
 ghost use Rattle.std.specs.Prelude.{◌≡◌, ◌≢◌, ◌+◌, ℕ, [], None, IfOk};
 ghost use Rattle.std.specs.Bool.{OnFalse, OnTrue};
-ghost use Rattle.delta_log.specs.Fronts.{Begins, FrontOf};
+ghost use Rattle.table_versions.specs.Fronts.{Begins, FrontOf};
 ghost use Rattle.style_read.specs.Style.{StyleOf};
 ghost use Rattle.table_versions.specs.Versions.{tables_of, version_of};
 ghost use Rattle.reader_rounds.specs.Asking.{AreAnswered, AsksRound, HasAsked, begin_of};

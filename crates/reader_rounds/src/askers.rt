@@ -1,7 +1,7 @@
 //! All readers that ask.
 ghost use Rattle.std.specs.Prelude.{◌≡◌, ◌≤◌, [], All, IfOk, List, length};
 ghost use Rattle.style_read.specs.Style.{StyleOf};
-ghost use Rattle.delta_log.specs.Fronts.{FrontOf};
+ghost use Rattle.table_versions.specs.Fronts.{FrontOf};
 ghost use Rattle.map_query.specs.declared.query.Query.{Query};
 ghost use Rattle.table_versions.specs.Versions.{tables_of, version_of};
 ghost use Rattle.table_versions.specs.Views.{IsNewReader};

@@ -21,6 +21,17 @@ pub const RETURN: u8 = 13;
 
 pub const BACKSLASH: u8 = 92;
 
+/// The numbers that code and definitions share are those of the format.
+pub fn shared_numbers()
+    ensures backspace { BACKSPACE ≡ 8 }
+    ensures tab { TAB ≡ 9 }
+    ensures newline { NEWLINE ≡ 10 }
+    ensures vertical_tab { VERTICAL_TAB ≡ 11 }
+    ensures form_feed { FORM_FEED ≡ 12 }
+    ensures carriage_return { RETURN ≡ 13 }
+    ensures backslash { BACKSLASH ≡ 92 }
+{}
+
 /// Appends a text with its escapes.
 pub fn push_copy_text(out: &mut String, text: &str) -> Result<(), OutOfMemory>
     ensures text { OnOk result (string_bytes out.new ≡ string_bytes out.old ++ copy_text text.now) }

@@ -14,8 +14,9 @@ mod table;
 
 pub use copy_text::{
     BACKSLASH, BACKSPACE, FORM_FEED, NEWLINE, RETURN, TAB, VERTICAL_TAB, push_copy_text,
+    shared_numbers,
 };
 pub use geometry::{push_degrees, push_geometry};
 pub use numbered::{KeyedRow, count_rows};
 pub use row::{push_row, push_text_row};
-pub use table::{row_number, rows_by_number, table_text};
+pub use table::{put_in_order, row_number, rows_by_number, table_text};

@@ -102,7 +102,7 @@ fn behind(table: u32) -> Bound<Spot>
 }
 
 /// Puts rows that stand by rising keys into the order of their numbers.
-fn put_in_order(of_areas: bool, rows: &mut [KeyedRow])
+pub(crate) fn put_in_order(of_areas: bool, rows: &mut [KeyedRow])
     requires { T (is_sorted key_cmp (map seen rows.old)) }
     ensures order { map seen rows.new ≡ finite.entries (finite.from_entries {R = by_number of_areas} (map seen rows.old)) }
 {

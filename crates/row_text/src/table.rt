@@ -1,10 +1,13 @@
 //! The text of a table.
-ghost use Rattle.std.specs.Prelude.{◌≡◌, ◌++◌, encode_utf8_all, map, IfOk, OnOk};
+ghost use Rattle.std.specs.Prelude.{◌≡◌, ◌++◌, encode_utf8_all, map, IfOk, OnOk, T};
+ghost use Rattle.std.specs.FinMap as finite;
+ghost use Rattle.std.specs.FinMap.{is_sorted};
 ghost use Rattle.std.specs.String.{string_bytes};
-ghost use Rattle.row_text.specs.Numbered.{rows_by_number, seen};
+ghost use Rattle.osm_base.specs.values.KeyOrder.{key_cmp};
+ghost use Rattle.row_text.specs.Numbered.{by_number, rows_by_number, seen};
 ghost use Rattle.row_text.specs.Table.{has_areas, is_area, lines_of, number_in, table_text};
 
-use crate::numbered::{KeyedRow, rows_in_order};
+use crate::numbered::{self, KeyedRow, rows_in_order};
 use crate::row::{number_of, push_row};
 use osm_base::{Key, OutOfMemory, Tables, Text};
 use std::alloc::Global;
@@ -27,6 +30,14 @@ pub fn rows_by_number<'t>(
     ensures rows { IfOk result (λ rows. map seen rows.items ≡ rows_by_number (has_areas style.now table) tables.now table) }
 {
     rows_in_order(alloc, has_areas(style, table), tables, table)
+}
+
+/// Puts rows of a table that stand by rising keys into the order of their numbers.
+pub fn put_in_order(style: &Style, table: u32, rows: &mut [KeyedRow])
+    requires rising { T (is_sorted key_cmp (map seen rows.old)) }
+    ensures order { map seen rows.new ≡ finite.entries (finite.from_entries {R = by_number (has_areas style.now table)} (map seen rows.old)) }
+{
+    numbered::put_in_order(has_areas(style, table), rows);
 }
 
 /// The lines of the rows of a table, by rising numbers.

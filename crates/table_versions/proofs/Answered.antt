@@ -5,8 +5,8 @@ use Rattle.style_read.specs.Style.{StyleOf}
 use Rattle.row_text.specs.Numbered.{rows_of}
 use Rattle.map_query.specs.Answer.{answer}
 use Rattle.map_query.specs.declared.query.Query.{Query}
-use Rattle.delta_log.specs.Fronts.{Begins, FrontOf}
-use Rattle.delta_log.proofs.Shapes.{begins_itself}
+use Rattle.table_versions.specs.Fronts.{Begins, FrontOf}
+use Rattle.table_versions.proofs.Shapes.{begins_itself}
 use Rattle.table_versions.specs.declared.answers.Answer.{Answer}
 use Rattle.table_versions.specs.declared.answers.Counted.{Counted}
 use Rattle.table_versions.specs.declared.shown.Shown.{Shown}

@@ -3,7 +3,7 @@ use Rattle.std.proofs.Common.{zero, suc, List, [], ◌∷◌, ◌++◌, arith}
 use Rattle.std.proofs.lemmas.List.Elements.{All-append}
 use Rattle.std.specs.Prelude.{All}
 use Rattle.style_read.specs.Style.{StyleOf}
-use Rattle.delta_log.specs.Fronts.{FrontOf}
+use Rattle.table_versions.specs.Fronts.{FrontOf}
 use Rattle.table_versions.specs.Views.{IsNewReader, ReaderOf}
 
 pub more_readers : (style : StyleOf) (front : FrontOf) (made : List ReaderOf) (reader : ReaderOf) → All (IsNewReader style front) made → IsNewReader style front reader

@@ -4,8 +4,8 @@ use Rattle.std.proofs.lemmas.List.{append-nil, drop_more}
 use mathlib.Core.List.{IsPrefix}
 use Rattle.style_read.specs.Style.{StyleOf}
 use Rattle.map_query.specs.declared.query.Query.{Query}
-use Rattle.delta_log.specs.Fronts.{Begins, FrontOf}
-use Rattle.delta_log.proofs.Shapes.{begins_itself}
+use Rattle.table_versions.specs.Fronts.{Begins, FrontOf}
+use Rattle.table_versions.proofs.Shapes.{begins_itself}
 use Rattle.table_versions.specs.declared.answers.Answer.{Answer}
 use Rattle.table_versions.specs.Answers.{AreAnswers, IsAnswer}
 use Rattle.table_versions.specs.Views.{ReaderOf}

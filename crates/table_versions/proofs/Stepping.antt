@@ -5,11 +5,11 @@ use Rattle.osm_base.specs.declared.values.row.Delta.{Delta}
 use Rattle.osm_base.specs.declared.values.row.RowChange.{RowChange}
 use Rattle.osm_base.specs.map.Spots.{TableMap, changed, changed_all}
 use Rattle.grid_index.specs.Grid.{with_box}
-use Rattle.delta_log.specs.Fronts.{FrontOf}
+use Rattle.table_versions.specs.Fronts.{FrontOf}
 use Rattle.table_versions.specs.declared.shown.Shown.{Shown}
 use Rattle.table_versions.specs.declared.shown.Step.TheVariants.{Whole}
-use Rattle.row_boxes.specs.Boxed.{IsBoxed, box_in}
-use Rattle.row_boxes.proofs.KeptBoxes.{boxed_change}
+use Rattle.map_query.specs.RowBoxes.{IsBoxed, box_in}
+use Rattle.map_query.proofs.KeptBoxes.{boxed_change}
 use Rattle.table_versions.specs.Rule.{IsVersion}
 use Rattle.table_versions.specs.Versions.{after, applied}
 use Rattle.table_versions.specs.Steps.{stepped, steps_of_all, steps_to}

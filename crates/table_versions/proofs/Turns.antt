@@ -6,7 +6,7 @@ use Rattle.left_right.specs.Register.{Admits, TurnsAt, Turns, Forks, Merges}
 use Rattle.atomic_table.proofs.Lists.{at_set, at_snoc}
 use Rattle.logbook.specs.Pages.{Book}
 use Rattle.osm_base.specs.declared.values.row.Delta.{Delta}
-use Rattle.delta_log.specs.Fronts.{FrontOf}
+use Rattle.table_versions.specs.Fronts.{FrontOf}
 use Rattle.table_versions.specs.declared.shown.Shown.{Shown}
 use Rattle.table_versions.specs.Rule.{IsKept, IsVersion, Knows, Looks}
 use Rattle.table_versions.specs.Steps.{stepped, steps_to}

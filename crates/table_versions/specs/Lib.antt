@@ -1,4 +1,6 @@
 pub mod Answers
+pub mod Fronts
+pub mod History
 pub mod Rule
 pub mod Steps
 pub mod Versions

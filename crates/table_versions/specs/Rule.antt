@@ -4,7 +4,7 @@ use mathlib.Core.Option.{some}
 use lib.ListN.{get_elem?}
 use Rattle.logbook.specs.Pages.{Book}
 use Rattle.table_versions.specs.declared.shown.Shown.{Shown}
-use Rattle.row_boxes.specs.Boxed.{IsBoxed}
+use Rattle.map_query.specs.RowBoxes.{IsBoxed}
 use Rattle.table_versions.specs.Versions.{tables_of, version_of}
 
 -- a version is what its history makes of the first tables, and its boxes are those of its rows

@@ -4,11 +4,11 @@ use Rattle.osm_base.specs.declared.values.row.Delta.{Delta}
 use Rattle.osm_base.specs.declared.values.row.RowChange.{RowChange}
 use Rattle.osm_base.specs.map.Spots.{changed}
 use Rattle.grid_index.specs.Grid.{with_box}
-use Rattle.delta_log.specs.Fronts.{FrontOf}
+use Rattle.table_versions.specs.Fronts.{FrontOf}
 use Rattle.table_versions.specs.declared.shown.Shown.{Shown}
 use Rattle.table_versions.specs.declared.shown.Step.{Step}
 use Rattle.table_versions.specs.declared.shown.Step.TheVariants.{Boxed, Changed, Whole}
-use Rattle.row_boxes.specs.Boxed.{box_in}
+use Rattle.map_query.specs.RowBoxes.{box_in}
 
 -- what a step makes of a version
 abbrev pub stepped : Shown → Step → Shown

@@ -2,7 +2,7 @@
 use Rattle.std.specs.Prelude.{ℕ, ◌+◌, List, fold, length}
 use Rattle.osm_base.specs.declared.values.row.Delta.{Delta}
 use Rattle.osm_base.specs.map.Spots.{TableMap, changed_all}
-use Rattle.delta_log.specs.Fronts.{FrontOf}
+use Rattle.table_versions.specs.Fronts.{FrontOf}
 
 -- what a delta makes of tables, and deltas, one after another
 abbrev pub applied : TableMap → Delta → TableMap

@@ -5,7 +5,7 @@ use Rattle.outside.specs.Fails.{FailPlan}
 use Rattle.outside.specs.contracts.fails.Fails as fails
 use Rattle.style_read.specs.contracts.style.Style as styles
 use Rattle.style_read.specs.Style.{StyleOf}
-use Rattle.delta_log.specs.Fronts.{FrontOf, front_code}
+use Rattle.table_versions.specs.Fronts.{FrontOf, front_code}
 
 -- the history of the published deltas, and whether a publish was refused
 pub record PublisherOf : Type 0 where

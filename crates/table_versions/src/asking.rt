@@ -1,7 +1,7 @@
 //! How a reader is asked a list of queries.
 ghost use Rattle.std.specs.Prelude.{◌≡◌, ◌<◌, ◌≤◌, ◌↔◌, false, true, length, IfOk, IsTrue, IsFalse};
 ghost use Rattle.outside.specs.Causes.{Rose};
-ghost use Rattle.delta_log.specs.Fronts.{Begins};
+ghost use Rattle.table_versions.specs.Fronts.{Begins};
 ghost use Rattle.table_versions.specs.Answers.{AreAnswers};
 
 use crate::answers::{Answer, LookRefused};

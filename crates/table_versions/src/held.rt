@@ -3,14 +3,14 @@ ghost use Rattle.std.specs.Prelude.{◌≡◌, ◌≤◌, ◌↔◌, [], true, I
 ghost use Rattle.std.specs.Bool.{OnFalse, OnTrue};
 ghost use Rattle.outside.specs.Causes.{Rose};
 ghost use Rattle.outside.specs.Fails.{Names};
-ghost use Rattle.delta_log.specs.Fronts.{Begins};
+ghost use Rattle.table_versions.specs.Fronts.{Begins};
 ghost use Rattle.table_versions.specs.Answers.{IsAnswer, IsCount, IsRefused};
 ghost use Rattle.table_versions.specs.Views.{next_call};
 ghost use Rattle.table_versions.specs.declared.answers.LookRefused.TheVariants.{Shut};
 
 use crate::answers::{Answer, Counted, LookRefused};
+use crate::front::{Front, open_history};
 use crate::looking::Reads;
-use delta_log::{Front, open_history};
 use map_query::{Query, answer};
 use osm_base::{OutOfMemory, Tables};
 use outside::Fails;
@@ -35,7 +35,7 @@ impl Model for HeldReader {
     ghost use Rattle.std.specs.Prelude.{◌≡◌, ◌≤◌, ◌↔◌, [], true, IfErr, IfNone, IfOk, IfSome, IsErrOf, IsNone, IsTrue, OnOk, OnSome};
     ghost use Rattle.outside.specs.Causes.{Rose};
     ghost use Rattle.outside.specs.Fails.{Names};
-    ghost use Rattle.delta_log.specs.Fronts.{Begins};
+    ghost use Rattle.table_versions.specs.Fronts.{Begins};
     ghost use Rattle.table_versions.specs.Answers.{IsAnswer, IsCount, IsRefused};
     ghost use Rattle.table_versions.specs.Views.{next_call};
     ghost use Rattle.table_versions.specs.declared.answers.LookRefused.TheVariants.{Shut};

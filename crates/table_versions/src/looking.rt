@@ -1,7 +1,7 @@
 //! What is asked of a reader, and what it answers.
 ghost use Rattle.std.specs.Prelude.{◌≡◌, ◌≤◌, true, IfErr, IfOk, IfSome, IfNone, OnOk, OnSome};
 ghost use Rattle.outside.specs.Causes.{Rose};
-ghost use Rattle.delta_log.specs.Fronts.{Begins};
+ghost use Rattle.table_versions.specs.Fronts.{Begins};
 ghost use Rattle.table_versions.specs.Answers.{IsAnswer, IsCount, IsRefused};
 ghost use Rattle.table_versions.specs.Views.{ReaderOf};
 

@@ -2,18 +2,18 @@
 ghost use Rattle.std.specs.Prelude.{◌≡◌, ◌≤◌, ◌++◌, ◌∷◌, [], drop, false, length, Some, All, IfOk, IfNone, IfSome, OnOk};
 ghost use Rattle.std.specs.Bool.{OnTrue};
 ghost use Rattle.left_right.specs.Sides.{view as knowledge};
-ghost use Rattle.row_boxes.specs.Boxed.{IsBoxed};
+ghost use Rattle.map_query.specs.RowBoxes.{IsBoxed};
 ghost use Rattle.table_versions.specs.Rule.{IsVersion};
 ghost use Rattle.table_versions.specs.Views.{IsNewReader};
 
+use crate::front::{Front, open_history};
 use crate::publisher::{Board, Publisher};
 use crate::reader::{Handle, MapReader};
 use crate::rule::{Notes, Opens};
 use crate::shown::Shown;
-use delta_log::{Front, open_history};
 use left_right::writer::Writer;
+use map_query::boxes_of;
 use osm_base::{OutOfMemory, Tables, TryCopy};
-use row_boxes::boxes_of;
 use std::alloc::Global;
 use std::marker::Model;
 use std::sync::Wait;

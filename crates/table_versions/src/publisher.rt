@@ -5,13 +5,13 @@ ghost use Rattle.left_right.specs.Sides.{view as knowledge};
 ghost use Rattle.table_versions.specs.Steps.{steps_of, steps_of_all, steps_to};
 ghost use Rattle.table_versions.specs.declared.publisher.PublishRefused.TheVariants.{Stopped};
 
+use crate::front::{Front, Head};
 use crate::rule::{Published, Sees, View};
 use crate::shown::{Shown, Step};
 use crate::told::Told;
-use delta_log::{Front, Head};
 use left_right::writer::Writer;
+use map_query::box_in;
 use osm_base::{Delta, RowChange, RowChanges};
-use row_boxes::box_in;
 use std::marker::Model;
 use std::sync::Wait;
 

@@ -1,14 +1,14 @@
 //! Who looks at what is published.
 ghost use Rattle.std.specs.Prelude.{◌≡◌, ◌⊎◌, true, false, None, Some, is_some, IfNone, IfSome};
 ghost use Rattle.left_right.specs.Sides.{view as knowledge};
-ghost use Rattle.delta_log.specs.Fronts.{Begins};
+ghost use Rattle.table_versions.specs.Fronts.{Begins};
 ghost use Rattle.table_versions.specs.Rule.{IsVersion};
 ghost use Rattle.table_versions.specs.Views.{IsNewReader};
 
+use crate::front::Front;
 use crate::rule::{Published, Sees, View};
 use crate::shown::Shown;
 use crate::told::Told;
-use delta_log::Front;
 use left_right::reader::{Reader, Reading};
 use std::marker::Model;
 use style_read::Style;

@@ -2,9 +2,8 @@
 use crate::answers::{Answer, Counted, LookRefused};
 use crate::looking::Reads;
 use crate::reader::{MapReader, enter};
-use map_query::Query;
+use map_query::{Query, answer_by_boxes};
 use osm_base::OutOfMemory;
-use row_boxes::answer_by_boxes;
 use row_text::count_rows;
 use std::alloc::Global;
 

@@ -1,8 +1,8 @@
 //! The rule of the versions that readers are shown: each is what its history makes of the first tables.
+use crate::front::Head;
 use crate::shown::Shown;
 use atomic_table::{Join, Split};
 use crossbeam_utils::rule::{Outcome, Protocol};
-use delta_log::Head;
 
 /// What a thread knows: which history is shown, if it knows it.
 pub type View = Option<Head>;

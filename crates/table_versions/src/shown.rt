@@ -1,5 +1,5 @@
 //! What readers are shown, and the steps from one version of it to the next.
-use delta_log::Front;
+use crate::front::Front;
 use grid_index::Grid;
 use osm_base::{GeoBox, Key, RowChange, Tables};
 use std::alloc::Global;

@@ -1,5 +1,5 @@
 //! What a publisher tells a reader.
-use delta_log::Front;
+use crate::front::Front;
 use std::marker::Model;
 
 /// All that was published when it was told. Contracts see the history, and its deltas.
@@ -9,7 +9,7 @@ pub struct Told {
 }
 
 impl Model for Told {
-    ghost use Rattle.delta_log.specs.Fronts.{FrontOf, front_code};
+    ghost use Rattle.table_versions.specs.Fronts.{FrontOf, front_code};
 
     ghost Value = { FrontOf };
 

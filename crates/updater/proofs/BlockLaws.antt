@@ -8,7 +8,7 @@ use Rattle.osm_base.specs.map.Spots.{TableMap}
 use Rattle.map_query.specs.Answer.{answer}
 use Rattle.map_query.specs.declared.query.Query.{Query}
 use Rattle.style_read.specs.Style.{StyleOf}
-use Rattle.delta_log.specs.Fronts.{FrontOf}
+use Rattle.table_versions.specs.Fronts.{FrontOf}
 use Rattle.table_versions.specs.Versions.{after}
 use Rattle.table_versions.specs.declared.answers.Answer.{Answer}
 use Rattle.reader_rounds.specs.Rounds.{AreServed, Climbs, answer_of, answers_of}

@@ -9,7 +9,7 @@ use Rattle.outside.specs.Sink.{SinkView}
 use Rattle.map_query.specs.declared.query.Query.{Query}
 use Rattle.style_read.specs.Style.{StyleOf}
 use Rattle.tile_cover.specs.Table.{BoundsOf}
-use Rattle.delta_log.specs.Fronts.{FrontOf}
+use Rattle.table_versions.specs.Fronts.{FrontOf}
 use Rattle.update_flow.specs.State.{Holding, imported}
 use Rattle.update_flow.specs.Handle.{Handle, view_of}
 use Rattle.updater.specs.declared.fault.Fault.{Fault}

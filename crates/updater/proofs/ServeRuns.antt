@@ -8,7 +8,7 @@ use Rattle.outside.specs.Inputs.{FilesView}
 use Rattle.outside.specs.Sink.{SinkView}
 use Rattle.map_query.specs.declared.query.Query.{Query}
 use Rattle.tile_cover.specs.Table.{BoundsOf}
-use Rattle.delta_log.specs.Fronts.{FrontOf}
+use Rattle.table_versions.specs.Fronts.{FrontOf}
 use Rattle.update_flow.specs.Changes.{IsDeltaOf}
 use Rattle.update_flow.specs.State.{Append, Holding, changed, imported}
 use Rattle.update_flow.specs.Handle.{Handle, view_of}

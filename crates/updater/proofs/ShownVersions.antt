@@ -6,7 +6,7 @@ use Rattle.osm_base.specs.declared.values.row.Delta.{Delta}
 use Rattle.osm_base.specs.map.Spots.{TableMap, changed_all}
 use Rattle.row_map.specs.Row.{tables}
 use Rattle.style_read.specs.Style.{StyleOf}
-use Rattle.delta_log.specs.Fronts.{FrontOf}
+use Rattle.table_versions.specs.Fronts.{FrontOf}
 use Rattle.table_versions.specs.Versions.{after, applied, tables_of, version_of}
 use Rattle.update_flow.specs.State.{Holding}
 use Rattle.updater.specs.Blocks.{version_at}

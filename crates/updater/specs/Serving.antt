@@ -9,7 +9,7 @@ use Rattle.map_query.specs.declared.query.Query.{Query}
 use Rattle.row_map.specs.Row.{tables}
 use Rattle.style_read.specs.Style.{StyleOf}
 use Rattle.tile_cover.specs.Table.{BoundsOf}
-use Rattle.delta_log.specs.Fronts.{FrontOf}
+use Rattle.table_versions.specs.Fronts.{FrontOf}
 use Rattle.table_versions.specs.Versions.{after}
 use Rattle.table_versions.specs.declared.answers.Answer.{Answer}
 use Rattle.reader_rounds.specs.Rounds.{AreServed}

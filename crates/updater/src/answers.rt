@@ -3,8 +3,7 @@ ghost use Rattle.std.specs.Prelude.{◌≡◌, ◌++◌, List, ℕ, codes, IfOk,
 ghost use Rattle.std.specs.String.{string_bytes};
 ghost use Rattle.updater.specs.Answers.{answers_text, counted, found_text, rows_text};
 
-use boxed_rows::{answer_in_order, boxed_tables};
-use map_query::{Found, Query};
+use map_query::{Found, Query, answer_in_order, boxed_tables};
 use osm_base::{NumberedRow, OutOfMemory, Tables};
 use row_text::push_row;
 use std::alloc::Global;

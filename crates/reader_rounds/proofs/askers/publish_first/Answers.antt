@@ -1,7 +1,7 @@
 use Rattle.std.proofs.Common.{◌≡◌, [], ap, sym, subst, ◌∙◌}
 use Rattle.std.specs.Prelude.{All}
 use Rattle.style_read.specs.Style.{StyleOf}
-use Rattle.delta_log.specs.Fronts.{FrontOf}
+use Rattle.table_versions.specs.Fronts.{FrontOf}
 use Rattle.table_versions.specs.Views.{IsNewReader, PublisherOf}
 use Rattle.reader_rounds.specs.Asking.{AreAsking, begin_of}
 use Rattle.reader_rounds.proofs.askers.publish_first.Goals as goal

@@ -1,8 +1,8 @@
 use Rattle.std.proofs.Common.{◌≡◌, ◌∙◌, sym, subst}
 use Rattle.osm_base.specs.map.Spots.{TableMap}
 use Rattle.grid_index.specs.Grid.{BoxMap}
-use Rattle.row_boxes.specs.Boxed.{IsBoxed}
-use Rattle.row_boxes.proofs.KeptBoxes.{same_boxes}
+use Rattle.map_query.specs.RowBoxes.{IsBoxed}
+use Rattle.map_query.proofs.KeptBoxes.{same_boxes}
 use Rattle.table_versions.proofs.making.copies.Goals as goal
 
 pub returns-clause-alike : goal.returns-clause-alike

@@ -1,6 +1,6 @@
 use Rattle.std.proofs.Common.{◌+◌, List, ℕ, subst, sym}
 use Rattle.std.specs.String.{string_bytes}
-use Rattle.delta_log.specs.Fronts.{FrontOf}
+use Rattle.table_versions.specs.Fronts.{FrontOf}
 use Rattle.reader_rounds.specs.Asking.{AreAsking, begin_of, count_of}
 use Rattle.update_flow.specs.Updater.{handle_of}
 use Rattle.updater.specs.Serving.{IsServed}

@@ -1,4 +1,4 @@
-use Rattle.delta_log.specs.Fronts.{FrontOf}
+use Rattle.table_versions.specs.Fronts.{FrontOf}
 use Rattle.style_read.specs.Style.{StyleOf}
 use Rattle.reader_rounds.specs.Asking.{HasAsked}
 use Rattle.reader_rounds.proofs.asker.Asker.ask_rounds.Given as goal

@@ -1,7 +1,7 @@
 use Rattle.std.proofs.Common.{◌≡◌, ◌+◌, List, length}
 use Rattle.std.specs.Prelude.{All}
 use Rattle.style_read.specs.Style.{StyleOf}
-use Rattle.delta_log.specs.Fronts.{FrontOf}
+use Rattle.table_versions.specs.Fronts.{FrontOf}
 use Rattle.map_query.specs.declared.query.Query.{Query}
 use Rattle.table_versions.specs.Views.{IsNewReader}
 use Rattle.reader_rounds.specs.Asking.{HasAsked}

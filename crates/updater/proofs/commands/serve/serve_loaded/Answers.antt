@@ -1,6 +1,6 @@
 use Rattle.std.proofs.Common.{◌≡◌, ◌∙◌, ℕ, None, Some, [], ap, subst, sym}
 use Rattle.std.specs.Result.{result_err}
-use Rattle.delta_log.specs.Fronts.{FrontOf}
+use Rattle.table_versions.specs.Fronts.{FrontOf}
 use Rattle.update_flow.specs.Handle.{view_of}
 use Rattle.update_flow.specs.State.{imported}
 use Rattle.update_flow.specs.Updater.{handle_of}

@@ -1,0 +1,18 @@
+-- The rows of tables in the order of their numbers, as they stand in memory.
+use Rattle.std.specs.Prelude.{◌≡◌, map}
+use Rattle.osm_base.specs.map.Spots.{TableMap}
+use Rattle.osm_base.specs.values.Key.{KeyOf}
+use Rattle.osm_base.specs.declared.values.row.Row.{Row}
+use Rattle.row_text.specs.Numbered.{rows_by_number}
+use Rattle.row_text.specs.Table.{has_areas}
+use Rattle.style_read.specs.Style.{StyleOf}
+use Rattle.map_query.specs.declared.boxed.BoxedRow.{BoxedRow}
+use Rattle.map_query.specs.declared.ordered.TableRows.{TableRows}
+
+-- a row with its key
+abbrev pub seen : BoxedRow → KeyOf × Row
+seen own = (own.key, own.row.now)
+
+-- these are the rows of their table, all and in order
+abbrev pub IsTable : StyleOf → TableMap → TableRows → Type 0
+IsTable style tables own = map seen own.rows.items ≡ rows_by_number (has_areas style own.table) tables own.table

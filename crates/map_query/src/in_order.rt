@@ -1,0 +1,66 @@
+//! The answer to a query over rows that stand in order, each with its box beside it.
+ghost use Rattle.std.specs.Prelude.{◌≡◌, filter, map, IfOk, IfSome};
+ghost use Rattle.std.specs.List.{All};
+ghost use Rattle.map_query.specs.Answer.{answer, is_in, numbered};
+ghost use Rattle.map_query.specs.Ordered.{IsTable, seen};
+
+use crate::answering::{Found, answer, push};
+use crate::boxed::BoxedRow;
+use crate::ordered::TableRows;
+use crate::query::Query;
+use lanes_geo::is_met;
+use osm_base::{GeoBox, Items, OutOfMemory, RowList, Tables};
+use row_text::row_number;
+use std::alloc::Global;
+use style_read::Style;
+
+/// The answer to a query over these tables, whose rows stand in order.
+pub fn answer_in_order(
+    alloc: Global,
+    style: &Style,
+    tables: &Tables,
+    all: &[TableRows],
+    query: &Query,
+) -> Result<Found, OutOfMemory>
+    requires ordered { All (IsTable style.now tables.now) all.now }
+    ensures found { IfOk result (λ found. found ≡ answer style.now tables.now query.now) }
+{
+    if let Query::Box { table, asked } = *query {
+        for own in all {
+            if own.table == table {
+                let rows = rows_met(alloc, style, table, asked, &own.rows)?;
+                return Ok(Found::Rows(rows));
+            }
+        }
+    }
+    answer(alloc, style, tables, query)
+}
+
+/// Those of the rows of a table whose boxes have a place in common with the asked one.
+fn rows_met(
+    alloc: Global,
+    style: &Style,
+    table: u32,
+    asked: GeoBox,
+    ordered: &[BoxedRow],
+) -> Result<RowList, OutOfMemory>
+    ensures rows { IfOk result (λ rows. rows ≡ numbered style.now table (filter (λ (key, row). is_in asked row) (map seen ordered.now))) }
+{
+    let mut rows = Items::new(alloc);
+    for own in ordered {
+        if is_in(asked, own) {
+            push(alloc, &mut rows, row_number(style, table, own.key), own.row)?;
+        }
+    }
+    Ok(rows)
+}
+
+/// Whether the box of a row has a place in common with the asked one.
+fn is_in(asked: GeoBox, own: &BoxedRow) -> bool
+    ensures met { result ≡ is_in asked own.now.row.now }
+{
+    match own.around {
+        Some(around) => is_met(asked, around),
+        None => false,
+    }
+}

@@ -1,2 +1,0 @@
-pub mod KeptBoxes
-pub mod NearRows
