@@ -6,11 +6,12 @@ use crate::turn::{Plan, Put, Turn};
 use crate::wanted::{Piece, Wanted};
 use osm_base::{Bytes, FileList, Ids};
 use outside::{Fails, MemDisk, MemInputs, MemSink};
+use run_promise::{Outcome, fault_line};
 use std::alloc::{AllocError, Global};
 use std::str;
 use std::sync::Wait;
 use std::thread::Threads;
-use updater::{Outcome, fault_line, run, store_of};
+use updater::{run, store_of};
 
 /// The most bytes that the disk of an example holds at first.
 const MAX_HELD: usize = 1 << 20;

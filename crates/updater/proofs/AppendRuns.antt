@@ -5,13 +5,13 @@ use Rattle.outside.specs.Sink.{SinkView}
 use Rattle.tile_cover.specs.Table.{BoundsOf}
 use Rattle.update_flow.specs.State.{Holding, imported}
 use Rattle.update_flow.specs.Handle.{Handle, view_of}
-use Rattle.updater.specs.declared.fault.Fault.{Fault}
-use Rattle.updater.specs.Comes.{Comes}
-use Rattle.updater.specs.Course.{Course}
-use Rattle.updater.specs.Courses.{Onward, appending, appends, appends_one, onward}
+use Rattle.run_promise.specs.declared.fault.Fault.{Fault}
+use Rattle.run_promise.specs.Comes.{Comes}
+use Rattle.run_promise.specs.Course.{Course}
+use Rattle.run_promise.specs.Courses.{Onward, appending, appends, appends_one, onward}
 use Rattle.updater.specs.Heads.{IsHead, IsVersion, Leads}
-use Rattle.updater.specs.Progress.{Progress, Ending}
-use Rattle.updater.specs.World.{Before, world}
+use Rattle.run_promise.specs.Progress.{Progress, Ending}
+use Rattle.run_promise.specs.World.{Before, world}
 use Rattle.updater.proofs.VersionRuns.{goes_back}
 
 appends-step : (bounds : BoundsOf) (held : Holding) (file left count : ℕ) (rest : Holding → Course) → left ≡ suc count → appends bounds held file left rest ≡ appends_one bounds held file (λ next. appends bounds next (file + 1) count rest)

@@ -1,7 +1,7 @@
 -- Which files the inputs were asked for.
 use Rattle.std.proofs.Common.{ℕ, zero, suc, List, [], ◌∷◌, ◌++◌, replicate}
 use Rattle.std.specs.List.{AllByRecursion}
-use Rattle.updater.specs.Runs.{AsksOnly}
+use Rattle.run_promise.specs.Runs.{AsksOnly}
 
 module _ (named : ℕ → Type 0) where
   all_append : (one other : List ℕ) → AllByRecursion named one → AllByRecursion named other → AllByRecursion named (one ++ other)

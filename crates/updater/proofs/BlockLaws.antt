@@ -13,8 +13,9 @@ use Rattle.table_versions.specs.Versions.{after}
 use Rattle.table_versions.specs.declared.answers.Answer.{Answer}
 use Rattle.reader_rounds.specs.Rounds.{AreServed, Climbs, answer_of, answers_of}
 use Rattle.update_flow.specs.State.{Holding}
-use Rattle.updater.specs.Answers.{found_text}
-use Rattle.updater.specs.Blocks.{AreBlocks, BlocksFrom, IsBlock, answer_text, given_blocks, given_text, round_text, rounds_text, version_at}
+use Rattle.run_promise.specs.Answers.{found_text}
+use Rattle.run_promise.specs.Blocks.{AreBlocks, BlocksFrom, IsBlock, answer_text, round_text, rounds_text, version_at}
+use Rattle.updater.specs.Blocks.{given_blocks, given_text}
 use Rattle.updater.specs.Serving.{AreShown, IsServed, IsShownAs}
 use Rattle.updater.proofs.ShownVersions.{get_added}
 

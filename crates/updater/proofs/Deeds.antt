@@ -4,9 +4,9 @@ use Rattle.std.specs.Result.{IsErr, IsErrAnd, result_err}
 use Rattle.std.specs.Io.KnownBytes.{Appends}
 use Rattle.outside.specs.Bytes.{AppendsPrefix, BothKnown}
 use Rattle.std.proofs.lemmas.List.{append-nil, append_assoc}
-use Rattle.updater.specs.declared.fault.Fault.{Fault}
-use Rattle.updater.specs.declared.fault.Fault.TheVariants.{OutOfMemory}
-use Rattle.updater.specs.World.{GrewBy}
+use Rattle.run_promise.specs.declared.fault.Fault.{Fault}
+use Rattle.run_promise.specs.declared.fault.Fault.TheVariants.{OutOfMemory}
+use Rattle.run_promise.specs.World.{GrewBy}
 
 -- an error that is want of memory
 pub no_memory : (result : Result (Unit {0}) Fault) → IsErr result × IsErrAnd result (λ fault. fault ≡ OutOfMemory) → result_err result ≡ Some OutOfMemory

@@ -30,10 +30,10 @@ use Rattle.tile_cover.specs.Boundaries.{HasItsLine, IsTableOf, lats_of}
 use Rattle.tile_cover.specs.Table.{BoundsOf}
 use Rattle.tile_cover.specs.declared.fault.BoundsFault.{BoundsFault}
 use Rattle.tile_cover.specs.declared.fault.BoundsFault.TheVariants as bounds
-use Rattle.updater.specs.declared.fault.Fault.TheVariants as faults
-use Rattle.updater.specs.declared.file_reads.TheConstants.{MAX_WHOLE}
+use Rattle.run_promise.specs.declared.fault.Fault.TheVariants as faults
+use Rattle.run_promise.specs.declared.files.TheConstants.{MAX_WHOLE}
 use Rattle.updater.specs.FileReads.{IsRead, IsReadAlone, IsUnread}
-use Rattle.updater.specs.Files.{IsBounds, IsChange, IsQueries, IsStyle, bounds_fault, change_in, fault_in, of_file, query_fault, style_fault, whole_fault}
+use Rattle.run_promise.specs.Files.{IsBounds, IsChange, IsQueries, IsStyle, bounds_fault, change_in, fault_in, of_file, query_fault, style_fault, whole_fault}
 
 -- a fault of the bytes of a file, as that of a run
 of_told : (file : ℕ) (fault : FileFault) (told : Option (List ℕ)) → IsFaultOf standard told fault → IfTold told (λ bytes. change_in file bytes ≡ Err (fault_in file fault))

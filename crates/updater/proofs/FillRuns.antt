@@ -10,14 +10,14 @@ use Rattle.update_flow.specs.Refusals.{IsOpenFault}
 use Rattle.update_flow.specs.State.{Holding, imported}
 use Rattle.update_flow.specs.declared.fault.FlowFault.{FlowFault}
 use Rattle.update_flow.specs.declared.fault.FlowFault.TheVariants as flow
-use Rattle.updater.specs.declared.fault.Fault.{Fault}
-use Rattle.updater.specs.declared.fault.Fault.TheVariants as faults
-use Rattle.updater.specs.Courses.{Onward, appending, appends, fills, imports, onward, telling}
-use Rattle.updater.specs.Faults.{flow_fault}
+use Rattle.run_promise.specs.declared.fault.Fault.{Fault}
+use Rattle.run_promise.specs.declared.fault.Fault.TheVariants as faults
+use Rattle.run_promise.specs.Courses.{Onward, appending, appends, fills, imports, onward, telling}
+use Rattle.run_promise.specs.Faults.{flow_fault}
 use Rattle.updater.specs.Heads.{GoesOn, IsHead, Leads}
-use Rattle.updater.specs.Making.{of_made}
-use Rattle.updater.specs.Progress.{Progress}
-use Rattle.updater.specs.World.{Before, World, world}
+use Rattle.run_promise.specs.Making.{of_made}
+use Rattle.run_promise.specs.Progress.{Progress}
+use Rattle.run_promise.specs.World.{Before, World, world}
 use Rattle.updater.proofs.StoreDeeds.{shows_here}
 use Rattle.updater.proofs.VersionRuns.{goes_back}
 

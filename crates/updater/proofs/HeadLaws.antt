@@ -7,15 +7,15 @@ use Rattle.outside.specs.Inputs.{FilesView}
 use Rattle.outside.specs.Sink.{SinkView}
 use Rattle.update_flow.specs.State.{State}
 use Rattle.update_flow.specs.Handle.{Handle, view_of}
-use Rattle.updater.specs.declared.fault.Fault.{Fault}
-use Rattle.updater.specs.declared.fault.Fault.TheVariants as faults
-use Rattle.updater.specs.Comes.{AreTold, Comes, IsCertain}
-use Rattle.updater.specs.Course.{Course, ends, refuses, reads, tells, writes}
+use Rattle.run_promise.specs.declared.fault.Fault.{Fault}
+use Rattle.run_promise.specs.declared.fault.Fault.TheVariants as faults
+use Rattle.run_promise.specs.Comes.{AreTold, Comes, IsCertain}
+use Rattle.run_promise.specs.Course.{Course, ends, refuses, reads, tells, writes}
 use Rattle.updater.specs.FileReads.{IsRead, IsUnread}
 use Rattle.updater.specs.Heads.{GoesOn, IsHead, IsSoFar}
-use Rattle.updater.specs.Leaves.{HasCause}
-use Rattle.updater.specs.Progress.{Progress, Ending, past, plus}
-use Rattle.updater.specs.World.{Before, world}
+use Rattle.run_promise.specs.Leaves.{HasCause}
+use Rattle.run_promise.specs.Progress.{Progress, Ending, past, plus}
+use Rattle.run_promise.specs.World.{Before, world}
 use Rattle.updater.proofs.SoFarLaws as parts
 
 module _ (start done : Progress) (state : State) (next : ℕ) (old : Before) (files : FilesView) (updater : Handle) (output : SinkView)

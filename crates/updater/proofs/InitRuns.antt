@@ -13,16 +13,16 @@ use Rattle.page_journal.specs.Crash.{IsSettled}
 use Rattle.page_journal.specs.Home.{IsFresh}
 use Rattle.page_journal.specs.declared.fault.StoreFault.{StoreFault}
 use Rattle.page_journal.specs.declared.fault.StoreFault.TheVariants as stores
-use Rattle.updater.specs.declared.fault.Fault.{Fault}
-use Rattle.updater.specs.declared.fault.Fault.TheVariants as faults
-use Rattle.updater.specs.Courses.{init_course}
-use Rattle.updater.specs.Faults.{fault_of}
-use Rattle.updater.specs.Keeps.{IsOneOf, blank, whole}
+use Rattle.run_promise.specs.declared.fault.Fault.{Fault}
+use Rattle.run_promise.specs.declared.fault.Fault.TheVariants as faults
+use Rattle.run_promise.specs.Courses.{init_course}
+use Rattle.run_promise.specs.Faults.{fault_of}
+use Rattle.run_promise.specs.Keeps.{IsOneOf, blank, whole}
 use Rattle.update_flow.proofs.Blank.{blank_stands}
-use Rattle.updater.specs.Leaves.{HasCause, Leaves, StandsOn}
-use Rattle.updater.specs.Progress.{Standing, unused, half_made, begun, at, at_text, made, plus, with_store}
-use Rattle.updater.specs.Runs.{GoesBy}
-use Rattle.updater.specs.World.{Before, world, remembered, Took}
+use Rattle.run_promise.specs.Leaves.{HasCause, Leaves, StandsOn}
+use Rattle.run_promise.specs.Progress.{Standing, unused, half_made, begun, at, at_text, made, plus, with_store}
+use Rattle.run_promise.specs.Runs.{GoesBy}
+use Rattle.run_promise.specs.World.{Before, world, remembered, Took}
 use Rattle.updater.proofs.Deeds.{took_nothing, took_all, took_front}
 
 abbrev line : List ℕ

@@ -24,11 +24,12 @@ use Rattle.update_flow.specs.Stands.{StandsFor}
 use Rattle.update_flow.specs.State.{Holding, State, imported, changed}
 use Rattle.update_flow.specs.Updater.{disk_of, handle_of}
 use Rattle.update_flow.specs.declared.updater.Updater.{Updater}
-use Rattle.updater.specs.declared.files.Files.{Files}
-use Rattle.updater.specs.Files.{IsBounds, IsChange}
+use Rattle.run_promise.specs.declared.files.Files.{Files}
+use Rattle.run_promise.specs.Files.{IsBounds, IsChange}
 use Rattle.updater.specs.FileReads.{IsRead}
-use Rattle.updater.specs.Locality.{AppendsAll, AppendsHere, AppendsSoFar, AppendsThere, HoldChanges, IsLocal, IsNextStore, IsStore, MoreReads, ReadsEach, ReadsOne}
-use Rattle.updater.specs.World.{World, world}
+use Rattle.run_promise.specs.Locality.{AppendsAll, AppendsThere, HoldChanges, IsLocal, IsNextStore, IsStore, MoreReads, ReadsEach}
+use Rattle.updater.specs.Versions.{AppendsHere, AppendsSoFar, ReadsOne}
+use Rattle.run_promise.specs.World.{World, world}
 
 pub on_ok_so : {T E : Type 0} (result : Result T E) (P Q : Type 0) → (P → Q) → OnOk result P → OnOk result Q
 on_ok_so (Ok value) P Q f own = f own

@@ -28,18 +28,18 @@ use Rattle.update_flow.specs.declared.fault.FlowFault.{FlowFault}
 use Rattle.update_flow.specs.declared.fault.FlowFault.TheVariants as flow
 use Rattle.update_flow.specs.declared.updater.Updater.{Updater}
 use Rattle.update_flow.proofs.Blank.{blank_stands}
-use Rattle.updater.specs.declared.fault.Fault.{Fault}
-use Rattle.updater.specs.declared.fault.Fault.TheVariants as faults
-use Rattle.updater.specs.Comes.{Comes, IsCertain}
-use Rattle.updater.specs.Course.{Course, wants_empty, formats, looks}
-use Rattle.updater.specs.Courses.{if_blank}
-use Rattle.updater.specs.Faults.{fault_of, flow_fault}
+use Rattle.run_promise.specs.declared.fault.Fault.{Fault}
+use Rattle.run_promise.specs.declared.fault.Fault.TheVariants as faults
+use Rattle.run_promise.specs.Comes.{Comes, IsCertain}
+use Rattle.run_promise.specs.Course.{Course, wants_empty, formats, looks}
+use Rattle.run_promise.specs.Courses.{if_blank}
+use Rattle.run_promise.specs.Faults.{fault_of, flow_fault}
 use Rattle.updater.specs.Heads.{GoesOn, IsHead, IsHere, IsSoFar}
-use Rattle.updater.specs.Keeps.{IsOneOf, blank, whole}
-use Rattle.updater.specs.Leaves.{HasCause, Leaves, StandsOn}
-use Rattle.updater.specs.Making.{IsNotEmpty, of_made, reading_alone}
-use Rattle.updater.specs.Progress.{Standing, unused, unknown, keeps, half_made, Progress, Ending, at, begun, made, with_store}
-use Rattle.updater.specs.World.{Before, World, remembered, world}
+use Rattle.run_promise.specs.Keeps.{IsOneOf, blank, whole}
+use Rattle.run_promise.specs.Leaves.{HasCause, Leaves, StandsOn}
+use Rattle.run_promise.specs.Making.{IsNotEmpty, of_made, reading_alone}
+use Rattle.run_promise.specs.Progress.{Standing, unused, unknown, keeps, half_made, Progress, Ending, at, begun, made, with_store}
+use Rattle.run_promise.specs.World.{Before, World, remembered, world}
 use Rattle.updater.proofs.Deeds.{took_nothing}
 use Rattle.updater.proofs.OpenDeeds.{TellsNone, shows_state, state_shown}
 

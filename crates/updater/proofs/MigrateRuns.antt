@@ -13,14 +13,14 @@ use Rattle.update_flow.specs.State.{Holding, State, formatted, imported, outdate
 use Rattle.update_flow.specs.Handle.{Handle, IsOpen, Shows, Takes, is_imported, is_old, is_whole, limits_of, view_of}
 use Rattle.update_flow.specs.declared.fault.FlowFault.{FlowFault}
 use Rattle.update_flow.specs.declared.fault.FlowFault.TheVariants as flow
-use Rattle.updater.specs.declared.fault.Fault.{Fault}
-use Rattle.updater.specs.declared.fault.Fault.TheVariants as faults
-use Rattle.updater.specs.Course.{ends, commits, tells}
-use Rattle.updater.specs.Courses.{format_line, migrates}
-use Rattle.updater.specs.Faults.{flow_fault}
+use Rattle.run_promise.specs.declared.fault.Fault.{Fault}
+use Rattle.run_promise.specs.declared.fault.Fault.TheVariants as faults
+use Rattle.run_promise.specs.Course.{ends, commits, tells}
+use Rattle.run_promise.specs.Courses.{format_line, migrates}
+use Rattle.run_promise.specs.Faults.{flow_fault}
 use Rattle.updater.specs.Heads.{GoesOn, IsHead}
-use Rattle.updater.specs.Progress.{Progress, plus}
-use Rattle.updater.specs.World.{Before, World, world}
+use Rattle.run_promise.specs.Progress.{Progress, plus}
+use Rattle.run_promise.specs.World.{Before, World, world}
 use Rattle.updater.proofs.HeadLaws.{ends_here, past_text, refuses_here, stops_in_line}
 use Rattle.updater.proofs.StoreDeeds.{refused_step, shows_here, taken}
 use Rattle.updater.proofs.StoreRuns.{true_not}

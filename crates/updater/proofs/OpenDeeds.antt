@@ -25,19 +25,19 @@ use Rattle.update_flow.proofs.Needs.{stood_opened}
 use Rattle.update_flow.specs.Handle.{Handle, IsOpen, Shows, changes_of, is_imported, is_old, is_whole, limits_of, style_of, view_of}
 use Rattle.update_flow.specs.declared.fault.FlowFault.{FlowFault}
 use Rattle.update_flow.specs.declared.fault.FlowFault.TheVariants as flow
-use Rattle.updater.specs.declared.fault.Fault.{Fault}
-use Rattle.updater.specs.declared.fault.Fault.TheVariants as faults
-use Rattle.updater.specs.Comes.{Comes}
-use Rattle.updater.specs.Course.{Course, opens}
-use Rattle.updater.specs.Faults.{flow_fault}
+use Rattle.run_promise.specs.declared.fault.Fault.{Fault}
+use Rattle.run_promise.specs.declared.fault.Fault.TheVariants as faults
+use Rattle.run_promise.specs.Comes.{Comes}
+use Rattle.run_promise.specs.Course.{Course, opens}
+use Rattle.run_promise.specs.Faults.{flow_fault}
 use Rattle.updater.specs.Heads.{IsHead}
-use Rattle.updater.specs.Keeps.{IsFit, IsKept, IsOneOf, Kept, first, whole}
-use Rattle.updater.specs.Leaves.{HasCause, Leaves, StandsOn, SurvivesFrom}
-use Rattle.updater.specs.Progress.{Standing, unknown, keeps, Progress, Ending, at, begun, opened}
-use Rattle.updater.specs.Runs.{GoesBy}
-use Rattle.updater.specs.World.{Before, remembered, world}
+use Rattle.run_promise.specs.Keeps.{IsFit, IsKept, IsOneOf, Kept, first, whole}
+use Rattle.run_promise.specs.Leaves.{HasCause, Leaves, StandsOn, SurvivesFrom}
+use Rattle.run_promise.specs.Progress.{Standing, unknown, keeps, Progress, Ending, at, begun, opened}
+use Rattle.run_promise.specs.Runs.{GoesBy}
+use Rattle.run_promise.specs.World.{Before, remembered, world}
 use Rattle.updater.proofs.Deeds.{took_nothing}
-use Rattle.updater.proofs.HistoryLaws.{one_of_all}
+use Rattle.run_promise.proofs.HistoryLaws.{one_of_all}
 
 -- a state that tells so of itself
 abbrev pub shown_as : StyleOf → ℕ → Holding

@@ -21,14 +21,14 @@ use Rattle.update_flow.specs.declared.opened.Opened.{Opened}
 use Rattle.update_flow.specs.declared.updater.Updater.{Updater}
 use Rattle.update_flow.specs.declared.fault.FlowFault.{FlowFault}
 use Rattle.update_flow.specs.declared.fault.FlowFault.TheVariants as flow
-use Rattle.updater.specs.declared.fault.Fault.{Fault}
-use Rattle.updater.specs.Command.{old_store}
-use Rattle.updater.specs.Course.{Course, opens}
-use Rattle.updater.specs.Faults.{flow_fault}
+use Rattle.run_promise.specs.declared.fault.Fault.{Fault}
+use Rattle.run_promise.specs.CommandOf.{old_store}
+use Rattle.run_promise.specs.Course.{Course, opens}
+use Rattle.run_promise.specs.Faults.{flow_fault}
 use Rattle.updater.specs.Heads.{GoesOn, IsHead}
-use Rattle.updater.specs.Progress.{Progress}
-use Rattle.updater.specs.Runs.{Begins, GoesBy}
-use Rattle.updater.specs.World.{Before, World, remembered, world}
+use Rattle.run_promise.specs.Progress.{Progress}
+use Rattle.run_promise.specs.Runs.{Begins, GoesBy}
+use Rattle.run_promise.specs.World.{Before, World, remembered, world}
 use Rattle.updater.proofs.OpenDeeds.{IsBegun, IsFound, TellsNone, at_either, begun_kept, begun_vague, refused_kept, refused_vague}
 use Rattle.updater.proofs.VersionRuns.{goes_back}
 

@@ -9,8 +9,9 @@ use Rattle.std.specs.Prelude.{IfSome}
 use Rattle.std.proofs.lemmas.List.{drop_more}
 use Rattle.updater.specs.declared.options.Allowed.{Allowed}
 use Rattle.updater.specs.declared.options.Options.{Options}
-use Rattle.updater.specs.declared.options.TheConstants.{BUCKETS, MAX_BUCKETS, MAX_READERS, MAX_WORKERS, READERS, WORKERS}
-use Rattle.updater.specs.CommandOf.{AreBuckets, AreReaders, AreWorkers}
+use Rattle.updater.specs.declared.options.TheConstants.{BUCKETS, READERS, WORKERS}
+use Rattle.run_promise.specs.declared.ranges.TheConstants.{MAX_BUCKETS, MAX_READERS, MAX_WORKERS}
+use Rattle.run_promise.specs.CommandOf.{AreBuckets, AreReaders, AreWorkers}
 use Rattle.updater.specs.Options.{AreInRange, with_option, with_options}
 
 -- the word that comes next is read, and then those behind it

@@ -12,16 +12,16 @@ use Rattle.tile_cover.specs.Table.{BoundsOf}
 use Rattle.table_versions.specs.Fronts.{FrontOf}
 use Rattle.update_flow.specs.State.{Holding, imported}
 use Rattle.update_flow.specs.Handle.{Handle, view_of}
-use Rattle.updater.specs.declared.fault.Fault.{Fault}
-use Rattle.updater.specs.declared.fault.Fault.TheVariants as faults
-use Rattle.updater.specs.Blocks.{AreBlocks}
-use Rattle.updater.specs.Comes.{Comes, IsCertain}
-use Rattle.updater.specs.Course.{Course, ends, writes}
-use Rattle.updater.specs.Courses.{serves}
+use Rattle.run_promise.specs.declared.fault.Fault.{Fault}
+use Rattle.run_promise.specs.declared.fault.Fault.TheVariants as faults
+use Rattle.run_promise.specs.Blocks.{AreBlocks}
+use Rattle.run_promise.specs.Comes.{Comes, IsCertain}
+use Rattle.run_promise.specs.Course.{Course, ends, writes}
+use Rattle.run_promise.specs.Courses.{serves}
 use Rattle.updater.specs.Heads.{GoesOn}
-use Rattle.updater.specs.Progress.{Progress, plus}
+use Rattle.run_promise.specs.Progress.{Progress, plus}
 use Rattle.updater.specs.Serving.{AreShown, IsServed, IsServing}
-use Rattle.updater.specs.World.{Before, World, world}
+use Rattle.run_promise.specs.World.{Before, World, world}
 use Rattle.updater.proofs.BlockLaws.{blocks_are}
 use Rattle.updater.proofs.HeadLaws.{ends_here}
 use Rattle.updater.proofs.ServeRuns.{serves-none, short_serving}

@@ -12,17 +12,17 @@ use Rattle.table_versions.specs.Fronts.{FrontOf}
 use Rattle.update_flow.specs.Changes.{IsDeltaOf}
 use Rattle.update_flow.specs.State.{Append, Holding, changed, imported}
 use Rattle.update_flow.specs.Handle.{Handle, view_of}
-use Rattle.updater.specs.declared.fault.Fault.{Fault}
-use Rattle.updater.specs.declared.fault.Fault.TheVariants as faults
-use Rattle.updater.specs.Blocks.{AreBlocks}
-use Rattle.updater.specs.Comes.{Comes}
-use Rattle.updater.specs.Course.{Course, commits, ends, tells, writes}
-use Rattle.updater.specs.Courses.{Onward, appends_one, onward, serves, serving, version_line}
-use Rattle.updater.specs.Files.{IsChange}
+use Rattle.run_promise.specs.declared.fault.Fault.{Fault}
+use Rattle.run_promise.specs.declared.fault.Fault.TheVariants as faults
+use Rattle.run_promise.specs.Blocks.{AreBlocks}
+use Rattle.run_promise.specs.Comes.{Comes}
+use Rattle.run_promise.specs.Course.{Course, commits, ends, tells, writes}
+use Rattle.run_promise.specs.Courses.{Onward, appends_one, onward, serves, serving, version_line}
+use Rattle.run_promise.specs.Files.{IsChange}
 use Rattle.updater.specs.Heads.{GoesOn, IsHead, Leads}
-use Rattle.updater.specs.Progress.{Progress, Ending}
+use Rattle.run_promise.specs.Progress.{Progress, Ending}
 use Rattle.updater.specs.Serving.{AreShown, IsNext, IsServing, LeadsBy, Publishes}
-use Rattle.updater.specs.World.{Before, world}
+use Rattle.run_promise.specs.World.{Before, world}
 use Rattle.updater.proofs.HeadLaws.{stops_in_file, stops_short}
 use Rattle.updater.proofs.ShownVersions.{shown_more}
 use Rattle.updater.proofs.VersionRuns.{goes_back}

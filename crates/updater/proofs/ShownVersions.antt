@@ -9,7 +9,7 @@ use Rattle.style_read.specs.Style.{StyleOf}
 use Rattle.table_versions.specs.Fronts.{FrontOf}
 use Rattle.table_versions.specs.Versions.{after, applied, tables_of, version_of}
 use Rattle.update_flow.specs.State.{Holding}
-use Rattle.updater.specs.Blocks.{version_at}
+use Rattle.run_promise.specs.Blocks.{version_at}
 use Rattle.updater.specs.Serving.{AreShown, IsNext, IsShownAs, with_delta}
 
 -- a place in front of what was added

@@ -7,16 +7,16 @@ use Rattle.outside.specs.Causes.{Rose}
 use Rattle.outside.specs.Disk.{DiskView}
 use Rattle.outside.specs.Inputs.{FilesView}
 use Rattle.outside.specs.Sink.{SinkView}
-use Rattle.updater.specs.declared.fault.Fault.{Fault}
-use Rattle.updater.specs.declared.fault.Fault.TheVariants as faults
-use Rattle.updater.specs.Comes.{AreTold, Comes, IsCertain, BreaksIn, unread, short, refused}
-use Rattle.updater.specs.Course.{Course, ends, refuses, reads, tells, writes}
+use Rattle.run_promise.specs.declared.fault.Fault.{Fault}
+use Rattle.run_promise.specs.declared.fault.Fault.TheVariants as faults
+use Rattle.run_promise.specs.Comes.{AreTold, Comes, IsCertain, BreaksIn, unread, short, refused}
+use Rattle.run_promise.specs.Course.{Course, ends, refuses, reads, tells, writes}
 use Rattle.updater.specs.FileReads.{IsRead, IsReadAlone, IsUnread, StopsFor}
 use Rattle.updater.specs.Heads.{GoesOn, IsSoFar}
-use Rattle.updater.specs.Leaves.{HasCause, Leaves, StandsOn}
-use Rattle.updater.specs.Progress.{Standing, unused, unknown, keeps, half_made, Progress, Ending, at, at_file, at_text, past, plus, IsIn}
-use Rattle.updater.specs.World.{Before, GrewBy, world}
-use Rattle.updater.proofs.HistoryLaws.{append_more}
+use Rattle.run_promise.specs.Leaves.{HasCause, Leaves, StandsOn}
+use Rattle.run_promise.specs.Progress.{Standing, unused, unknown, keeps, half_made, Progress, Ending, at, at_file, at_text, past, plus, IsIn}
+use Rattle.run_promise.specs.World.{Before, GrewBy, world}
+use Rattle.run_promise.proofs.HistoryLaws.{append_more}
 
 rose_later : (before between now : ℕ) → before ≤ between → Rose between now → Rose before now
 rose_later before between now p q = omega (arith, p, q)

@@ -17,17 +17,17 @@ use Rattle.update_flow.specs.State.{Holding, State, imported, Step, after, was_o
 use Rattle.update_flow.specs.Handle.{Handle, IsOpen, Looks, Shows, Takes, is_old, is_whole, limits_of, view_of}
 use Rattle.update_flow.specs.declared.fault.FlowFault.{FlowFault}
 use Rattle.update_flow.specs.declared.fault.FlowFault.TheVariants as flow
-use Rattle.updater.specs.declared.fault.Fault.{Fault}
-use Rattle.updater.specs.declared.fault.Fault.TheVariants as faults
-use Rattle.updater.specs.Comes.{ByStore, Comes, IfUnknown, IsCertain, IsOfNeed, IsRefusal, IsRefusedFor, IsStepFault, MayTake}
-use Rattle.updater.specs.Course.{Course, looks, commits}
-use Rattle.updater.specs.Faults.{flow_fault}
+use Rattle.run_promise.specs.declared.fault.Fault.{Fault}
+use Rattle.run_promise.specs.declared.fault.Fault.TheVariants as faults
+use Rattle.run_promise.specs.Comes.{ByStore, Comes, IfUnknown, IsCertain, IsOfNeed, IsRefusal, IsRefusedFor, IsStepFault, MayTake}
+use Rattle.run_promise.specs.Course.{Course, looks, commits}
+use Rattle.run_promise.specs.Faults.{flow_fault}
 use Rattle.updater.specs.Heads.{GoesOn, IsHead, IsHere, IsRested, IsShown, KeptNone}
-use Rattle.updater.specs.Keeps.{Is, IsOneOf, Kept, perhaps, whole, with_step, with_steps}
-use Rattle.updater.specs.Leaves.{HasCause, IsPast, Leaves, StandsOn, SurvivesFrom}
-use Rattle.updater.specs.Progress.{Standing, unused, unknown, keeps, half_made, Progress, Ending, at, committed, in_doubt}
-use Rattle.updater.specs.World.{Before, World, world}
-use Rattle.updater.proofs.HistoryLaws.{is_all, is_more, is_next, length_more, one_of_all, state-more}
+use Rattle.run_promise.specs.Keeps.{Is, IsOneOf, Kept, perhaps, whole, with_step, with_steps}
+use Rattle.run_promise.specs.Leaves.{HasCause, IsPast, Leaves, StandsOn, SurvivesFrom}
+use Rattle.run_promise.specs.Progress.{Standing, unused, unknown, keeps, half_made, Progress, Ending, at, committed, in_doubt}
+use Rattle.run_promise.specs.World.{Before, World, world}
+use Rattle.run_promise.proofs.HistoryLaws.{is_all, is_more, is_next, length_more, one_of_all, state-more}
 
 -- a fault that is neither the disk's nor want of memory
 record IsPlain (fault : FlowFault) : Type 1 where

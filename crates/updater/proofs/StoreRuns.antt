@@ -14,16 +14,16 @@ use Rattle.update_flow.specs.State.{Holding, State, formatted, imported, outdate
 use Rattle.update_flow.specs.Handle.{Handle, IsOpen, Looks, Shows, Takes, TellsAs, is_imported, is_old, is_whole, limits_of, style_of, view_of}
 use Rattle.update_flow.specs.declared.fault.FlowFault.{FlowFault}
 use Rattle.update_flow.specs.declared.fault.FlowFault.TheVariants as flow
-use Rattle.updater.specs.declared.fault.Fault.{Fault}
-use Rattle.updater.specs.declared.fault.Fault.TheVariants as faults
-use Rattle.updater.specs.Comes.{AreTold, IsCertain}
-use Rattle.updater.specs.Course.{Course, ends, reads, looks, writes}
-use Rattle.updater.specs.Courses.{Onward, clears, exports, finished, if_blank, if_formatted, if_imported}
+use Rattle.run_promise.specs.declared.fault.Fault.{Fault}
+use Rattle.run_promise.specs.declared.fault.Fault.TheVariants as faults
+use Rattle.run_promise.specs.Comes.{AreTold, IsCertain}
+use Rattle.run_promise.specs.Course.{Course, ends, reads, looks, writes}
+use Rattle.run_promise.specs.Courses.{Onward, clears, exports, finished, if_blank, if_formatted, if_imported}
 use Rattle.updater.specs.FileReads.{IsRead, IsUnread}
-use Rattle.updater.specs.Faults.{flow_fault}
+use Rattle.run_promise.specs.Faults.{flow_fault}
 use Rattle.updater.specs.Heads.{GoesOn, IsHead, IsHere, Leads}
-use Rattle.updater.specs.Progress.{Standing, unused, unknown, keeps, half_made, Progress, past, plus}
-use Rattle.updater.specs.World.{Before, World, world}
+use Rattle.run_promise.specs.Progress.{Standing, unused, unknown, keeps, half_made, Progress, past, plus}
+use Rattle.run_promise.specs.World.{Before, World, world}
 use Rattle.updater.proofs.HeadLaws.{ends_here, leads_file, past_file, past_text, refuses_here, stops_in_file, stops_in_text, stops_short}
 use Rattle.updater.proofs.StoreDeeds.{looked_at, not_outdated, refused_step, shows_here, taken, unlooked}
 use Rattle.updater.proofs.VersionRuns.{goes_back}

@@ -17,17 +17,17 @@ use Rattle.object_fold.specs.Entries.{entries_of}
 use Rattle.object_fold.specs.Keeps.{kept_all}
 use Rattle.object_fold.specs.Reading.{ReadsAll, IsFaultOf}
 use Rattle.object_fold.specs.Stops.{Stops}
-use Rattle.updater.specs.declared.fault.Fault.{Fault}
-use Rattle.updater.specs.declared.fault.Fault.TheVariants as faults
-use Rattle.updater.specs.Comes.{Comes, BreaksIn, unread, short, refused}
-use Rattle.updater.specs.Course.{Course, ends, reads, writes_text}
-use Rattle.updater.specs.Courses.{gathers}
-use Rattle.updater.specs.Files.{IsChange, fault_in, of_file, change_in}
-use Rattle.updater.specs.Leaves.{Leaves, StandsOn, HasCause}
-use Rattle.updater.specs.Progress.{Standing, unused, Ending, begun, at, at_file, at_text, past, plus, IsIn}
-use Rattle.updater.specs.Runs.{GoesBy}
+use Rattle.run_promise.specs.declared.fault.Fault.{Fault}
+use Rattle.run_promise.specs.declared.fault.Fault.TheVariants as faults
+use Rattle.run_promise.specs.Comes.{Comes, BreaksIn, unread, short, refused}
+use Rattle.run_promise.specs.Course.{Course, ends, reads, writes_text}
+use Rattle.run_promise.specs.Courses.{gathers}
+use Rattle.run_promise.specs.Files.{IsChange, fault_in, of_file, change_in}
+use Rattle.run_promise.specs.Leaves.{Leaves, StandsOn, HasCause}
+use Rattle.run_promise.specs.Progress.{Standing, unused, Ending, begun, at, at_file, at_text, past, plus, IsIn}
+use Rattle.run_promise.specs.Runs.{GoesBy}
 use Rattle.updater.specs.Turns.{IsTurn}
-use Rattle.updater.specs.World.{World, world, Before, remembered, Took, GrewBy}
+use Rattle.run_promise.specs.World.{World, world, Before, remembered, Took, GrewBy}
 use Rattle.updater.proofs.Deeds.{took_nothing, took_all, took_front}
 
 gathers-step : (file left count : ℕ) (entries : List Entry) (rest : List Entry → Course) → left ≡ suc count

@@ -15,17 +15,17 @@ use Rattle.update_flow.specs.Handle.{Handle, IsOpen, Shows, Takes, is_old, is_wh
 use Rattle.update_flow.specs.Needed.{Writes}
 use Rattle.update_flow.specs.declared.fault.FlowFault.{FlowFault}
 use Rattle.update_flow.specs.declared.fault.FlowFault.TheVariants as flow
-use Rattle.updater.specs.declared.fault.Fault.{Fault}
-use Rattle.updater.specs.declared.fault.Fault.TheVariants as faults
-use Rattle.updater.specs.Comes.{Comes, IsCertain}
-use Rattle.updater.specs.Course.{Course, reads, commits, tells}
-use Rattle.updater.specs.Courses.{Onward, onward}
+use Rattle.run_promise.specs.declared.fault.Fault.{Fault}
+use Rattle.run_promise.specs.declared.fault.Fault.TheVariants as faults
+use Rattle.run_promise.specs.Comes.{Comes, IsCertain}
+use Rattle.run_promise.specs.Course.{Course, reads, commits, tells}
+use Rattle.run_promise.specs.Courses.{Onward, onward}
 use Rattle.updater.specs.FileReads.{IsRead, IsUnread}
-use Rattle.updater.specs.Faults.{flow_fault}
-use Rattle.updater.specs.Files.{IsChange}
+use Rattle.run_promise.specs.Faults.{flow_fault}
+use Rattle.run_promise.specs.Files.{IsChange}
 use Rattle.updater.specs.Heads.{GoesOn, IsHead, Leads}
-use Rattle.updater.specs.Progress.{Progress, Ending, past, plus}
-use Rattle.updater.specs.World.{Before, World, world}
+use Rattle.run_promise.specs.Progress.{Progress, Ending, past, plus}
+use Rattle.run_promise.specs.World.{Before, World, world}
 use Rattle.updater.proofs.HeadLaws.{leads_file, past_file, past_text, stops_in_file, stops_in_line}
 use Rattle.updater.proofs.StoreDeeds.{IsStepped, not_outdated, refused_step, taken}
 

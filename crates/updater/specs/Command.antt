@@ -17,8 +17,24 @@ use Rattle.updater.specs.commands.Query as query
 use Rattle.updater.specs.commands.Replay as replay
 use Rattle.updater.specs.commands.Serve as serve
 use Rattle.updater.specs.commands.Tiles as tiles
+use Rattle.updater.specs.declared.words.Command.{Command}
+use Rattle.updater.specs.declared.words.Command.TheVariants.{Points, Lines, Init, Import, Append, Export, Tiles, Query, Serve, Replay, Migrate}
 use Rattle.updater.specs.declared.words.TheConstants.{MAX_WORDS}
-pub use Rattle.updater.specs.CommandOf.{CommandOf, points_of, lines_of, init_of, import_of, append_of, export_of, tiles_of, query_of, serve_of, replay_of, migrate_of, seen, store_of, makes_store, only_looks, Use, no_store, new_store, old_store, use_of, files_of, Names, Fit, FitFrom, AreBuckets, AreReaders, AreWorkers, FilesFit}
+use Rattle.run_promise.specs.CommandOf.{CommandOf, points_of, lines_of, init_of, import_of, append_of, export_of, tiles_of, query_of, serve_of, replay_of, migrate_of}
+
+-- a command of the program, as contracts see it
+abbrev pub seen : Command → CommandOf
+seen (Points key files) = points_of key.now files
+seen (Lines key files) = lines_of key.now files
+seen (Init store) = init_of store.now
+seen (Import store files buckets workers) = import_of store.now files buckets workers
+seen (Append store files workers) = append_of store.now files workers
+seen (Export store table) = export_of store.now table.now
+seen (Tiles store least clear) = tiles_of store.now least clear
+seen (Query store files) = query_of store.now files
+seen (Serve store files workers readers) = serve_of store.now files workers readers
+seen (Replay store files workers) = replay_of store.now files workers
+seen (Migrate store) = migrate_of store.now
 
 -- what remains from the first on that fails a test
 abbrev pub behind : {A : Type 0} → (A → Bool) → List A → List A

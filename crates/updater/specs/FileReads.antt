@@ -1,11 +1,15 @@
 -- What reading a file of a command comes to.
-use Rattle.std.specs.Prelude.{◌≡◌, ◌≢◌, ◌≤◌, ℕ, List, [], Some, Result, Ok, Err}
+use Rattle.std.specs.Prelude.{◌≡◌, ◌≢◌, ◌≤◌, ◌<◌, ◌+◌, ℕ, List, [], Some, Result, Ok, Err}
 use Rattle.outside.specs.Bytes.{IfTold}
 use Rattle.outside.specs.Causes.{Rose}
 use Rattle.outside.specs.Inputs.{FilesView}
-use Rattle.updater.specs.declared.fault.Fault.{Fault}
-use Rattle.updater.specs.declared.fault.Fault.TheVariants.{ReadFault, OutOfMemory}
-use Rattle.updater.specs.Comes.{IsOfFile}
+use Rattle.run_promise.specs.declared.fault.Fault.{Fault}
+use Rattle.run_promise.specs.declared.fault.Fault.TheVariants.{ReadFault, OutOfMemory}
+use Rattle.run_promise.specs.Comes.{IsOfFile}
+
+-- so many files from this one on
+abbrev pub Among : (first count : ℕ) → ℕ → Type 0
+Among first count file = (first ≤ file) × (file < first + count)
 
 -- no other file was touched, and the count of faults did not fall
 pub record IsReadAlone (file : ℕ) (old new : FilesView) : Type 0 where

@@ -1,7 +1,7 @@
 -- Forms of words that commands share.
 use Rattle.std.specs.Prelude.{ℕ, ◌+◌, nat_le, nat_lt, ◌&&◌, if◌then◌else◌, Option, Some, None, List, [], ◌∷◌, length}
-use Rattle.updater.specs.CommandOf.{CommandOf}
-use Rattle.updater.specs.declared.files.Files.{Files}
+use Rattle.run_promise.specs.CommandOf.{CommandOf}
+use Rattle.run_promise.specs.declared.files.Files.{Files}
 use Rattle.updater.specs.declared.forms.TheConstants.{MAX_KEY}
 
 -- `KEY INPUT CHANGE*`: no option, and a KEY of 1 to MAX_KEY bytes; place is that of the first word of the form

@@ -8,15 +8,15 @@ use Rattle.update_flow.specs.History.{state_after}
 use Rattle.update_flow.specs.State.{Holding, State, imported}
 use Rattle.update_flow.specs.Handle.{Handle, IsOpen, Shows, is_whole, limits_of, view_of}
 use Rattle.update_flow.specs.Needed.{HasStood}
-use Rattle.updater.specs.declared.fault.Fault.{Fault}
-use Rattle.updater.specs.Comes.{Comes, IsCertain}
-use Rattle.updater.specs.Course.{Course}
+use Rattle.run_promise.specs.declared.fault.Fault.{Fault}
+use Rattle.run_promise.specs.Comes.{Comes, IsCertain}
+use Rattle.run_promise.specs.Course.{Course}
 use Rattle.tile_cover.specs.Table.{BoundsOf}
-use Rattle.updater.specs.Courses.{Onward, appends, onward}
-use Rattle.updater.specs.Keeps.{Kept, whole}
-use Rattle.updater.specs.Leaves.{Leaves}
-use Rattle.updater.specs.Progress.{Standing, unused, unknown, keeps, half_made, Progress, Ending, at, IsIn}
-use Rattle.updater.specs.World.{Before, World, world}
+use Rattle.run_promise.specs.Courses.{Onward, appends, onward}
+use Rattle.run_promise.specs.Keeps.{Kept, whole}
+use Rattle.run_promise.specs.Leaves.{Leaves}
+use Rattle.run_promise.specs.Progress.{Standing, unused, unknown, keeps, half_made, Progress, Ending, at, IsIn}
+use Rattle.run_promise.specs.World.{Before, World, world}
 
 -- the store is at rest at this state, which is that after all of the history that its disk keeps
 pub record IsRested (kept : Kept) (cut : ℕ) (state : State) (updater : Handle) : Type 0 where

@@ -9,7 +9,7 @@ use Rattle.std.specs.Str.{bytes_eq}
 use Rattle.updater.specs.Number.{number}
 use Rattle.updater.specs.declared.options.Options.{Options}
 use Rattle.updater.specs.declared.options.Allowed.{Allowed}
-use Rattle.updater.specs.declared.options.TheConstants.{MAX_BUCKETS, MAX_READERS, MAX_WORKERS}
+use Rattle.run_promise.specs.declared.ranges.TheConstants.{MAX_BUCKETS, MAX_READERS, MAX_WORKERS}
 
 -- what stands behind a name at the front of a word
 abbrev pub behind_name : (name : List ℕ) → List ℕ → Option (List ℕ)

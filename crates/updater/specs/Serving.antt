@@ -17,13 +17,14 @@ use Rattle.update_flow.specs.State.{Holding, imported}
 use Rattle.update_flow.specs.Handle.{Handle, view_of}
 use Rattle.update_flow.specs.Updater.{handle_of}
 use Rattle.update_flow.specs.declared.updater.Updater.{Updater}
-use Rattle.updater.specs.declared.fault.Fault.{Fault}
-use Rattle.updater.specs.Blocks.{given_blocks, version_at}
-use Rattle.updater.specs.Comes.{Comes, IsCertain}
-use Rattle.updater.specs.Courses.{Onward, appends_one, onward, serves, serving}
+use Rattle.run_promise.specs.declared.fault.Fault.{Fault}
+use Rattle.updater.specs.Blocks.{given_blocks}
+use Rattle.run_promise.specs.Blocks.{version_at}
+use Rattle.run_promise.specs.Comes.{Comes, IsCertain}
+use Rattle.run_promise.specs.Courses.{Onward, appends_one, onward, serves, serving}
 use Rattle.updater.specs.Heads.{GoesOn, IsHead}
-use Rattle.updater.specs.Progress.{Progress, Ending}
-use Rattle.updater.specs.World.{Before, world}
+use Rattle.run_promise.specs.Progress.{Progress, Ending}
+use Rattle.run_promise.specs.World.{Before, world}
 
 -- a delta makes of the tables of one state those of the next
 pub record IsNext (held next : Holding) (delta : Delta) : Type 0 where

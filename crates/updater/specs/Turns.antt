@@ -3,11 +3,11 @@ use Rattle.std.specs.Prelude.{◌≡◌, ◌≤◌, ℕ, List, [], fold, Some}
 use Rattle.osm_base.specs.declared.values.object.Entry.{Entry}
 use Rattle.outside.specs.Bytes.{IfTold}
 use Rattle.outside.specs.Inputs.{FilesView}
-use Rattle.updater.specs.Comes.{Comes, AreTold}
-use Rattle.updater.specs.Course.{Course}
-use Rattle.updater.specs.Courses.{gathers}
-use Rattle.updater.specs.Progress.{unused, Progress, Ending, begun, IsIn}
-use Rattle.updater.specs.World.{Before}
+use Rattle.run_promise.specs.Comes.{Comes, AreTold}
+use Rattle.run_promise.specs.Course.{Course}
+use Rattle.run_promise.specs.Courses.{gathers}
+use Rattle.run_promise.specs.Progress.{unused, Progress, Ending, begun, IsIn}
+use Rattle.run_promise.specs.World.{Before}
 
 -- So many files are left, from this one on, and none of them was touched; those before it are read to their ends. `now` is what
 -- was made of their entries. Whatever ending the rest of the course has from here, the whole course has from its beginning.

@@ -1,7 +1,7 @@
 //! Answers to queries as text.
 ghost use Rattle.std.specs.Prelude.{◌≡◌, ◌++◌, List, ℕ, codes, IfOk, OnOk};
 ghost use Rattle.std.specs.String.{string_bytes};
-ghost use Rattle.updater.specs.Answers.{answers_text, counted, found_text, rows_text};
+ghost use Rattle.run_promise.specs.Answers.{answers_text, counted, found_text, rows_text};
 
 use map_query::{Found, Query, answer_in_order, boxed_tables};
 use osm_base::{NumberedRow, OutOfMemory, Tables};

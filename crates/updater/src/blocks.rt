@@ -1,7 +1,8 @@
 //! What readers answered, as text.
 ghost use Rattle.std.specs.Prelude.{◌≡◌, ◌++◌, map, IfOk, OnOk};
 ghost use Rattle.std.specs.String.{string_bytes};
-ghost use Rattle.updater.specs.Blocks.{given_blocks, given_text, head_line, rounds_text};
+ghost use Rattle.updater.specs.Blocks.{given_blocks, given_text};
+ghost use Rattle.run_promise.specs.Blocks.{head_line, rounds_text};
 
 use crate::answers::push_found;
 use osm_base::OutOfMemory;

@@ -2,19 +2,16 @@
 ghost use Rattle.std.specs.Prelude.{◌≡◌, ◌≤◌, ℕ, Ok, replicate, length, IfOk, IfErr};
 ghost use Rattle.style_read.specs.Reading.{reading};
 ghost use Rattle.updater.specs.FileReads.{IsRead, IsUnread};
-ghost use Rattle.updater.specs.Files.{IsBounds, IsChange, IsQueries, IsStyle};
+ghost use Rattle.run_promise.specs.Files.{IsBounds, IsChange, IsQueries, IsStyle};
 
-use crate::fault::Fault;
 use map_query::{Queries, read_queries};
 use object_fold::{Change, read_all, read_file};
 use osm_base::{Bytes, LimitKind, Limits, MAX_ENTRIES};
 use outside::Inputs;
+use run_promise::{Fault, MAX_WHOLE};
 use std::alloc::Global;
 use style_read::{Style, read_style};
 use tile_cover::{Bounds, read_bounds};
-
-/// The most bytes of a STYLE, of BOUNDS or of QUERIES.
-pub const MAX_WHOLE: u64 = 1_048_576;
 
 /// A style, and the bytes that write it.
 #[derive(Drop)]

@@ -2,12 +2,12 @@
 ghost use Rattle.std.specs.Prelude.{◌≡◌, ◌≤◌, ℕ, List, map, length, IfSome};
 ghost use Rattle.std.specs.Option.{option_map};
 ghost use Rattle.std.specs.String.{string_bytes};
-ghost use Rattle.updater.specs.CommandOf.{CommandOf, Fit, FitFrom};
+ghost use Rattle.run_promise.specs.CommandOf.{CommandOf, Fit, FitFrom};
 ghost use Rattle.updater.specs.Forms as spec;
-ghost use Rattle.updater.specs.declared.files.Files.{Files as FilesOf};
+ghost use Rattle.run_promise.specs.declared.files.Files.{Files as FilesOf};
 
-use crate::files::Files;
 use crate::words::MAX_WORDS;
+use run_promise::Files;
 
 /// The most bytes that a KEY may have.
 pub const MAX_KEY: usize = 255;

@@ -5,15 +5,7 @@ ghost use Rattle.std.specs.String.{string_bytes};
 ghost use Rattle.updater.specs.Options as spec;
 
 use crate::number::number_of;
-
-/// The most workers that a command may have.
-pub const MAX_WORKERS: u32 = 64;
-
-/// The most readers that a command may have.
-pub const MAX_READERS: u32 = 64;
-
-/// The most buckets that a map of a store may have.
-pub const MAX_BUCKETS: u32 = 65_536;
+use run_promise::{MAX_BUCKETS, MAX_READERS, MAX_WORKERS};
 
 /// The workers of a command whose options say nothing of them.
 pub const WORKERS: u32 = 4;

@@ -2,12 +2,12 @@
 ghost use Rattle.std.specs.Prelude.{◌≡◌, List, ℕ, Some, None, map};
 ghost use Rattle.std.specs.Result.{result_err};
 ghost use Rattle.std.specs.String.{string_bytes};
-ghost use Rattle.updater.specs.Command.{CommandOf, FilesFit, command, seen};
-ghost use Rattle.updater.specs.Faults.{status_of};
-ghost use Rattle.updater.specs.Locality.{IsLocalRun};
-ghost use Rattle.updater.specs.Runs.{IsWrongUse, Runs};
-ghost use Rattle.updater.specs.Safety.{IsSafe};
-ghost use Rattle.updater.specs.World.{world};
+ghost use Rattle.run_promise.specs.CommandOf.{CommandOf, FilesFit};
+ghost use Rattle.updater.specs.Command.{command, seen};
+ghost use Rattle.run_promise.specs.Faults.{status_of};
+ghost use Rattle.run_promise.specs.Runs.{IsWrongUse, Runs};
+ghost use Rattle.run_promise.specs.Safety.{IsSafe};
+ghost use Rattle.run_promise.specs.World.{world};
 
 use crate::commands::append::append;
 use crate::commands::export::export;
@@ -20,9 +20,9 @@ use crate::commands::query::query;
 use crate::commands::replay::replay;
 use crate::commands::serve::serve;
 use crate::commands::tiles::tiles;
-use crate::fault::{Fault, Outcome};
 use crate::words::{Command, command_of};
 use outside::{Disk, Gate, Inputs, Sink};
+use run_promise::{Fault, Outcome};
 use std::alloc::Global;
 use std::sync::Wait;
 use std::thread::Threads;
@@ -55,11 +55,6 @@ pub fn run<R: Threads + Wait + Sync, I: Inputs, D: Disk, S: Sink, G: Gate>(
     ensures safe { (own : CommandOf) → command (map string_bytes words.now) ≡ Some own → IsSafe own
         (world (I.view inputs.old) (D.view disk.old) (S.view out.old))
         (world (I.view inputs.new) (D.view disk.new) (S.view out.new)) result.fault }
-
-    // An append reads no more of its store than the opening does and its changes touch.
-    ensures local { (own : CommandOf) → command (map string_bytes words.now) ≡ Some own → IsLocalRun own
-        (world (I.view inputs.old) (D.view disk.old) (S.view out.old))
-        (world (I.view inputs.new) (D.view disk.new) (S.view out.new)) result.fault }
 {
     let Some(command) = command_of(words) else {
         return Outcome::of(Some(Fault::Usage));
@@ -82,9 +77,6 @@ fn run_command<R: Threads + Wait + Sync, I: Inputs, D: Disk, S: Sink, G: Gate>(
         (world (I.view inputs.old) (D.view disk.old) (S.view out.old))
         (world (I.view inputs.new) (D.view disk.new) (S.view out.new)) (result_err result) }
     ensures safe { IsSafe (seen command.entry)
-        (world (I.view inputs.old) (D.view disk.old) (S.view out.old))
-        (world (I.view inputs.new) (D.view disk.new) (S.view out.new)) (result_err result) }
-    ensures local { IsLocalRun (seen command.entry)
         (world (I.view inputs.old) (D.view disk.old) (S.view out.old))
         (world (I.view inputs.new) (D.view disk.new) (S.view out.new)) (result_err result) }
 {

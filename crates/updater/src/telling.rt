@@ -4,8 +4,8 @@ ghost use Rattle.std.specs.Io.KnownBytes.{Appends};
 ghost use Rattle.outside.specs.Bytes.{AppendsPrefix};
 ghost use Rattle.outside.specs.Causes.{HasCause};
 
-use crate::fault::Fault;
 use outside::{Sink, put_all};
+use run_promise::Fault;
 
 /// Writes a text. After `Err` the output has taken some front of it.
 pub fn tell<S: Sink>(out: &mut S, text: &[u8]) -> Result<(), Fault>

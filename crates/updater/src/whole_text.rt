@@ -1,7 +1,7 @@
 //! The text of all that a store holds.
 ghost use Rattle.std.specs.Prelude.{◌≡◌, ◌<◌, ◌++◌, codes, encode_utf8_all, length, IfOk, OnOk};
 ghost use Rattle.due_tiles.specs.TileText.{tile_text};
-ghost use Rattle.updater.specs.Courses.{named_text, tables_text};
+ghost use Rattle.run_promise.specs.Courses.{named_text, tables_text};
 
 use due_tiles::tiles_text;
 use osm_base::{OutOfMemory, Tables, Text};

@@ -3,12 +3,13 @@ ghost use Rattle.std.specs.Prelude.{◌≡◌, ◌≤◌, map, length, IfSome};
 ghost use Rattle.std.specs.List.{prefix_len};
 ghost use Rattle.std.specs.Option.{option_map};
 ghost use Rattle.std.specs.String.{string_bytes};
+ghost use Rattle.run_promise.specs.CommandOf as promise;
 ghost use Rattle.updater.specs.Command as spec;
 
 use crate::commands::{
     append, export, import, init, lines, migrate, points, query, replay, serve, tiles,
 };
-use crate::files::Files;
+use run_promise::Files;
 
 /// The most words that a command line may have, the command word counted.
 pub const MAX_WORDS: usize = 4_096;
@@ -80,7 +81,7 @@ pub enum Command<'a> {
 
 /// The path of the store that the words of a command name.
 pub fn store_of(words: &[String]) -> Option<&str>
-    ensures store { option_map (λ store. store.now) result ≡ spec.store_of (spec.command (map string_bytes words.now)) }
+    ensures store { option_map (λ store. store.now) result ≡ promise.store_of (spec.command (map string_bytes words.now)) }
 {
     match command_of(words)? {
         Command::Init { store }
@@ -98,7 +99,7 @@ pub fn store_of(words: &[String]) -> Option<&str>
 
 /// Whether the words name a store that is to be made where there is none.
 pub fn makes_store(words: &[String]) -> bool
-    ensures makes { result ≡ spec.makes_store (spec.command (map string_bytes words.now)) }
+    ensures makes { result ≡ promise.makes_store (spec.command (map string_bytes words.now)) }
 {
     matches!(
         command_of(words),
@@ -108,7 +109,7 @@ pub fn makes_store(words: &[String]) -> bool
 
 /// Whether the words name a store that is only looked at: the command writes nothing to one that is at rest.
 pub fn only_looks(words: &[String]) -> bool
-    ensures looks { result ≡ spec.only_looks (spec.command (map string_bytes words.now)) }
+    ensures looks { result ≡ promise.only_looks (spec.command (map string_bytes words.now)) }
 {
     matches!(
         command_of(words),
@@ -125,7 +126,7 @@ pub fn only_looks(words: &[String]) -> bool
 #[tactic(auto, unfolding(crate::specs::Command::command))]
 pub fn command_of(words: &[String]) -> Option<Command<'_>>
     ensures command { option_map spec.seen result ≡ spec.command (map string_bytes words.now) }
-    ensures fits { IfSome result (λ command. spec.FilesFit (spec.seen command)) }
+    ensures fits { IfSome result (λ command. promise.FilesFit (spec.seen command)) }
 {
     let (name, later) = words.split_first()?;
     if words.len() > MAX_WORDS {
@@ -143,7 +144,7 @@ fn named<'a>(name: &str, options: &[String], form: &'a [String], place: u32) -> 
     requires form { length form.now ≤ MAX_WORDS }
     ensures named { option_map spec.seen result
         ≡ spec.named name.now (map string_bytes options.now) (map string_bytes form.now) place }
-    ensures fits { IfSome result (λ command. spec.FilesFit (spec.seen command)) }
+    ensures fits { IfSome result (λ command. promise.FilesFit (spec.seen command)) }
 {
     match name {
         "points" => points::form(options, form, place),

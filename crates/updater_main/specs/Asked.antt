@@ -2,7 +2,8 @@
 -- GNU Coding Standards, "Command-Line Interfaces": each program answers --help and --version on standard output.
 use Rattle.std.specs.Prelude.{ℕ, Bool, List, [], ◌∷◌, Option, Some, None, codes, if◌then◌else◌}
 use Rattle.std.specs.Str.{bytes_eq}
-use Rattle.updater.specs.Command.{CommandOf, command, makes_store, only_looks, store_of}
+use Rattle.run_promise.specs.CommandOf.{CommandOf, makes_store, only_looks, store_of}
+use Rattle.updater.specs.Command.{command}
 use Rattle.updater_main.specs.declared.Asked.{Asked}
 use Rattle.updater_main.specs.declared.Asked.TheVariants.{Help, Version, Store, Run}
 

@@ -14,13 +14,14 @@ use outside::{
     TellingFiles, TellingGate, TellingSink, put_all,
 };
 use page_journal::{GATE_AT, OPEN};
+use run_promise::{Fault, Outcome, fault_line};
 use std::alloc::Global;
 use std::process::ExitCode;
 use std::rt::{Env, Files};
 use std::sync::Wait;
 use std::thread::Threads;
 use std::{env, fs, io};
-use updater::{Fault, Outcome, fault_line, makes_store, only_looks, run, store_of};
+use updater::{makes_store, only_looks, run, store_of};
 
 const HELP: &str = "\
 usage: yilgartzu points KEY INPUT [CHANGE..]

@@ -1,6 +1,6 @@
 -- `export STORE TABLE`.
 use Rattle.std.specs.Prelude.{ℕ, Option, Some, None, List, [], ◌∷◌}
-use Rattle.updater.specs.CommandOf.{CommandOf, export_of}
+use Rattle.run_promise.specs.CommandOf.{CommandOf, export_of}
 
 -- the form of its words
 abbrev pub form : (options words : List (List ℕ)) → Option CommandOf

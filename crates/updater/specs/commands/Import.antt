@@ -1,7 +1,7 @@
 -- `import STORE STYLE INPUT`, with `workers=` and `buckets=`.
 use Rattle.std.specs.Prelude.{ℕ, ◌==◌, if◌then◌else◌, true, false, Option, Some, None, List}
 use Rattle.std.specs.Option.{option_and_then, unwrap_or}
-use Rattle.updater.specs.CommandOf.{CommandOf, import_of}
+use Rattle.run_promise.specs.CommandOf.{CommandOf, import_of}
 use Rattle.updater.specs.Forms.{stored_files}
 use Rattle.updater.specs.Options.{options_read}
 use Rattle.updater.specs.declared.options.TheConstants.{BUCKETS, WORKERS}

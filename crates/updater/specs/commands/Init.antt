@@ -1,6 +1,6 @@
 -- `init STORE`.
 use Rattle.std.specs.Prelude.{ℕ, List, Option}
-use Rattle.updater.specs.CommandOf.{CommandOf, init_of}
+use Rattle.run_promise.specs.CommandOf.{CommandOf, init_of}
 use Rattle.updater.specs.Forms.{stored}
 
 -- the form of its words

@@ -1,6 +1,6 @@
 -- `migrate STORE`.
 use Rattle.std.specs.Prelude.{ℕ, List, Option}
-use Rattle.updater.specs.CommandOf.{CommandOf, migrate_of}
+use Rattle.run_promise.specs.CommandOf.{CommandOf, migrate_of}
 use Rattle.updater.specs.Forms.{stored}
 
 -- the form of its words

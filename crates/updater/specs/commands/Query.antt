@@ -1,6 +1,6 @@
 -- `query STORE QUERIES`.
 use Rattle.std.specs.Prelude.{ℕ, ◌+◌, Option, Some, None, List, [], ◌∷◌}
-use Rattle.updater.specs.CommandOf.{CommandOf, query_of}
+use Rattle.run_promise.specs.CommandOf.{CommandOf, query_of}
 
 -- the form of its words; place is that of the first of them
 abbrev pub form : (options words : List (List ℕ)) → (place : ℕ) → Option CommandOf

@@ -1,7 +1,7 @@
 -- `replay STORE STYLE BOUNDS INPUT CHANGE*`, with `workers=`.
 use Rattle.std.specs.Prelude.{ℕ, true, false, Option, Some, List}
 use Rattle.std.specs.Option.{option_and_then, unwrap_or}
-use Rattle.updater.specs.CommandOf.{CommandOf, replay_of}
+use Rattle.run_promise.specs.CommandOf.{CommandOf, replay_of}
 use Rattle.updater.specs.Forms.{stored_files}
 use Rattle.updater.specs.Options.{options_read}
 use Rattle.updater.specs.declared.options.TheConstants.{WORKERS}

@@ -2,7 +2,7 @@
 use Rattle.std.specs.Prelude.{ℕ, nat_lt, if◌then◌else◌, true, false, Option, Some, None, List, [], ◌∷◌}
 use Rattle.std.specs.Option.{option_and_then}
 use Rattle.tile_cover.specs.declared.runs.TheConstants.{MAX_ZOOM}
-use Rattle.updater.specs.CommandOf.{CommandOf, tiles_of}
+use Rattle.run_promise.specs.CommandOf.{CommandOf, tiles_of}
 use Rattle.updater.specs.Number.{number}
 use Rattle.updater.specs.Options.{options_read}
 use Rattle.updater.specs.declared.options.Allowed.{Allowed}

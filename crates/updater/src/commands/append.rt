@@ -2,7 +2,8 @@
 ghost use Rattle.std.specs.Prelude.{◌≡◌, ◌≢◌, ◌≤◌, List, ℕ, Some, map, length, IfSome, OnOk};
 ghost use Rattle.std.specs.Option.{option_map};
 ghost use Rattle.std.specs.String.{string_bytes};
-ghost use Rattle.updater.specs.CommandOf.{FilesFit, seen};
+ghost use Rattle.run_promise.specs.CommandOf.{FilesFit, old_store, append_of};
+ghost use Rattle.updater.specs.Command.{seen};
 ghost use Rattle.updater.specs.commands.Append as spec;
 ghost use Rattle.std.specs.Result.{result_err};
 ghost use Rattle.outside.specs.Disk.{Stays};
@@ -10,27 +11,24 @@ ghost use Rattle.page_journal.specs.Crash.{IsAtRest};
 ghost use Rattle.update_flow.specs.State.{Holding, State, imported};
 ghost use Rattle.update_flow.specs.Handle.{IsOpen, view_of};
 ghost use Rattle.update_flow.specs.Updater.{StaysOver, handle_of};
-ghost use Rattle.updater.specs.Command.{old_store};
-ghost use Rattle.updater.specs.Course.{opens};
+ghost use Rattle.run_promise.specs.Course.{opens};
 ghost use Rattle.updater.specs.Heads.{GoesOn, IsHead};
-ghost use Rattle.updater.specs.Locality.{AppendsAll, IsLocal};
-ghost use Rattle.updater.specs.Progress.{Progress};
-ghost use Rattle.updater.specs.World.{Before, world};
-ghost use Rattle.updater.specs.CommandOf.{append_of};
-ghost use Rattle.updater.specs.Courses.{append_to};
-ghost use Rattle.updater.specs.Runs.{Among, AsksOnly, Begins, GoesBy};
+ghost use Rattle.run_promise.specs.Locality.{AppendsAll, IsLocal};
+ghost use Rattle.run_promise.specs.Progress.{Progress};
+ghost use Rattle.run_promise.specs.World.{Before, world};
+ghost use Rattle.run_promise.specs.Courses.{append_to};
+ghost use Rattle.updater.specs.FileReads.{Among};
+ghost use Rattle.run_promise.specs.Runs.{AsksOnly, Begins, GoesBy};
 
-use crate::fault::Fault;
 use crate::file_reads::read_bounds_file;
-use crate::files::Files;
 use crate::forms::stored_files;
 use crate::options::{Allowed, WORKERS, options_of};
 use crate::versions::append_files;
 use crate::words::{Command, MAX_WORDS};
 use osm_base::Limits;
 use outside::{Disk, Gate, Inputs, Sink};
+use run_promise::{Fault, Files};
 use std::alloc::Global;
-use std::sync::Wait;
 use std::thread::Threads;
 use update_flow::{Updater, open};
 
@@ -59,7 +57,7 @@ pub fn form<'a>(options: &[String], form: &'a [String], place: u32) -> Option<Co
 }
 
 /// Opens the store, and appends the change files to it under BOUNDS.
-pub fn append<R: Threads + Wait + Sync, I: Inputs, D: Disk, S: Sink, G: Gate>(
+pub fn append<R: Threads + Sync, I: Inputs, D: Disk, S: Sink, G: Gate>(
     rt: &R,
     alloc: Global,
     files: Files,
@@ -92,7 +90,7 @@ pub fn append<R: Threads + Wait + Sync, I: Inputs, D: Disk, S: Sink, G: Gate>(
 }
 
 /// The same on an open store.
-fn append_store<R: Threads + Wait + Sync, I: Inputs, D: Disk, S: Sink, G: Gate>(
+fn append_store<R: Threads + Sync, I: Inputs, D: Disk, S: Sink, G: Gate>(
     rt: &R,
     alloc: Global,
     files: Files,

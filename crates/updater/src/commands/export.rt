@@ -2,27 +2,27 @@
 ghost use Rattle.std.specs.Prelude.{◌≡◌, ◌≢◌, Some, map, IfSome};
 ghost use Rattle.std.specs.Option.{option_map};
 ghost use Rattle.std.specs.String.{string_bytes};
-ghost use Rattle.updater.specs.CommandOf.{FilesFit, seen};
+ghost use Rattle.run_promise.specs.CommandOf.{FilesFit, old_store};
+ghost use Rattle.updater.specs.Command.{seen};
 ghost use Rattle.updater.specs.commands.Export as spec;
 ghost use Rattle.std.specs.Result.{result_err};
 ghost use Rattle.outside.specs.Disk.{Stays};
 ghost use Rattle.update_flow.specs.State.{State};
 ghost use Rattle.update_flow.specs.Handle.{view_of};
 ghost use Rattle.update_flow.specs.Updater.{StaysOver, handle_of};
-ghost use Rattle.updater.specs.Command.{old_store};
-ghost use Rattle.updater.specs.Course.{opens};
+ghost use Rattle.run_promise.specs.Course.{opens};
 ghost use Rattle.updater.specs.Heads.{GoesOn, IsHead};
-ghost use Rattle.updater.specs.Progress.{Progress};
-ghost use Rattle.updater.specs.World.{Before, world};
-ghost use Rattle.updater.specs.Courses.{export_from};
-ghost use Rattle.updater.specs.Runs.{Begins, GoesBy};
+ghost use Rattle.run_promise.specs.Progress.{Progress};
+ghost use Rattle.run_promise.specs.World.{Before, world};
+ghost use Rattle.run_promise.specs.Courses.{export_from};
+ghost use Rattle.run_promise.specs.Runs.{Begins, GoesBy};
 
-use crate::fault::Fault;
 use crate::telling::tell;
 use crate::words::Command;
 use osm_base::Limits;
 use outside::{Disk, Inputs, Sink};
 use row_text::table_text;
+use run_promise::Fault;
 use std::alloc::Global;
 use update_flow::{Updater, open};
 

@@ -2,33 +2,31 @@
 ghost use Rattle.std.specs.Prelude.{◌≡◌, ◌≢◌, ◌≤◌, List, ℕ, Some, map, length, IfSome};
 ghost use Rattle.std.specs.Option.{option_map};
 ghost use Rattle.std.specs.String.{string_bytes};
-ghost use Rattle.updater.specs.CommandOf.{FilesFit, seen};
+ghost use Rattle.run_promise.specs.CommandOf.{FilesFit, old_store, import_of};
+ghost use Rattle.updater.specs.Command.{seen};
 ghost use Rattle.updater.specs.commands.Import as spec;
 ghost use Rattle.std.specs.Result.{result_err};
 ghost use Rattle.outside.specs.Disk.{Stays};
 ghost use Rattle.update_flow.specs.State.{State};
 ghost use Rattle.update_flow.specs.Handle.{view_of};
 ghost use Rattle.update_flow.specs.Updater.{StaysOver, handle_of};
-ghost use Rattle.updater.specs.Command.{old_store};
-ghost use Rattle.updater.specs.Course.{opens};
+ghost use Rattle.run_promise.specs.Course.{opens};
 ghost use Rattle.updater.specs.Heads.{GoesOn, IsHead};
-ghost use Rattle.updater.specs.Progress.{Progress};
-ghost use Rattle.updater.specs.World.{Before, world};
-ghost use Rattle.updater.specs.CommandOf.{import_of};
-ghost use Rattle.updater.specs.Courses.{import_into};
-ghost use Rattle.updater.specs.Runs.{Among, AsksOnly, Begins, GoesBy};
+ghost use Rattle.run_promise.specs.Progress.{Progress};
+ghost use Rattle.run_promise.specs.World.{Before, world};
+ghost use Rattle.run_promise.specs.Courses.{import_into};
+ghost use Rattle.updater.specs.FileReads.{Among};
+ghost use Rattle.run_promise.specs.Runs.{AsksOnly, Begins, GoesBy};
 
-use crate::fault::Fault;
 use crate::file_reads::read_style_file;
-use crate::files::Files;
 use crate::forms::stored_files;
 use crate::options::{Allowed, BUCKETS, WORKERS, options_of};
 use crate::versions::import_file;
 use crate::words::{Command, MAX_WORDS};
 use osm_base::Limits;
 use outside::{Disk, Gate, Inputs, Sink};
+use run_promise::{Fault, Files};
 use std::alloc::Global;
-use std::sync::Wait;
 use std::thread::Threads;
 use update_flow::{Updater, open};
 
@@ -61,7 +59,7 @@ pub fn form<'a>(options: &[String], form: &'a [String], place: u32) -> Option<Co
 }
 
 /// Opens the store, and imports INPUT into it under STYLE.
-pub fn import<R: Threads + Wait + Sync, I: Inputs, D: Disk, S: Sink, G: Gate>(
+pub fn import<R: Threads + Sync, I: Inputs, D: Disk, S: Sink, G: Gate>(
     rt: &R,
     alloc: Global,
     files: Files,
@@ -94,7 +92,7 @@ pub fn import<R: Threads + Wait + Sync, I: Inputs, D: Disk, S: Sink, G: Gate>(
 }
 
 /// The same on an open store.
-fn import_store<R: Threads + Wait + Sync, I: Inputs, D: Disk, S: Sink, G: Gate>(
+fn import_store<R: Threads + Sync, I: Inputs, D: Disk, S: Sink, G: Gate>(
     rt: &R,
     alloc: Global,
     files: Files,

@@ -2,22 +2,23 @@
 ghost use Rattle.std.specs.Prelude.{◌≡◌, ◌≢◌, length, map, Some, IfSome};
 ghost use Rattle.std.specs.Option.{option_map};
 ghost use Rattle.std.specs.String.{string_bytes};
-ghost use Rattle.updater.specs.CommandOf.{FilesFit, seen};
+ghost use Rattle.run_promise.specs.CommandOf.{FilesFit};
+ghost use Rattle.updater.specs.Command.{seen};
 ghost use Rattle.updater.specs.commands.Init as spec;
 ghost use Rattle.std.specs.Result.{result_err};
 ghost use Rattle.outside.specs.Bytes.{IfTold};
 ghost use Rattle.outside.specs.Disk.{Stays};
-ghost use Rattle.updater.specs.Courses.{init_course};
-ghost use Rattle.updater.specs.Progress.{begun, unused};
-ghost use Rattle.updater.specs.Runs.{GoesBy};
-ghost use Rattle.updater.specs.World.{world};
+ghost use Rattle.run_promise.specs.Courses.{init_course};
+ghost use Rattle.run_promise.specs.Progress.{begun, unused};
+ghost use Rattle.run_promise.specs.Runs.{GoesBy};
+ghost use Rattle.run_promise.specs.World.{world};
 
-use crate::fault::Fault;
 use crate::forms::stored;
 use crate::telling::tell;
 use crate::words::Command;
 use outside::{Disk, Inputs, Sink};
 use page_journal::format;
+use run_promise::Fault;
 
 /// The line that tells of a new store.
 const FORMATTED: &str = "formatted\n";

@@ -7,24 +7,24 @@ ghost use Rattle.std.specs.String.{string_bytes};
 ghost use Rattle.outside.specs.Causes.{Rose};
 ghost use Rattle.object_fold.specs.Reading.{IsFaultOf, ReadsAll};
 ghost use Rattle.object_fold.specs.Stops.{Stops};
-ghost use Rattle.updater.specs.CommandOf.{FilesFit, Fit, Names, lines_of, seen};
-ghost use Rattle.updater.specs.Courses.{course_of};
-ghost use Rattle.updater.specs.Progress.{begun, unused};
-ghost use Rattle.updater.specs.Runs.{AsksOnly, GoesBy};
-ghost use Rattle.updater.specs.WayRows.{after_way, no_ways};
-ghost use Rattle.updater.specs.World.{world};
+ghost use Rattle.run_promise.specs.CommandOf.{FilesFit, Fit, Names, lines_of};
+ghost use Rattle.updater.specs.Command.{seen};
+ghost use Rattle.run_promise.specs.Courses.{course_of};
+ghost use Rattle.run_promise.specs.Progress.{begun, unused};
+ghost use Rattle.run_promise.specs.Runs.{AsksOnly, GoesBy};
+ghost use Rattle.tag_rows.specs.WayRows.{after_way, no_ways};
+ghost use Rattle.run_promise.specs.World.{world};
 ghost use Rattle.updater.specs.commands.Lines as spec;
 
-use crate::fault::Fault;
-use crate::files::Files;
 use crate::forms::keyed;
 use crate::telling::tell;
-use crate::way_rows::{WayImport, WayRows};
 use crate::words::{Command, MAX_WORDS};
 use object_fold::{FileFault, scan_file};
 use osm_base::Limits;
 use outside::{Disk, Inputs, Sink};
+use run_promise::{Fault, Files};
 use std::alloc::Global;
+use tag_rows::{WayImport, WayRows};
 
 /// The form of its words.
 pub fn form<'a>(options: &[String], form: &'a [String], place: u32) -> Option<Command<'a>>

@@ -3,23 +3,23 @@ ghost use Rattle.std.specs.Prelude.{◌≡◌, ◌≤◌, List, ℕ, map, length
 ghost use Rattle.std.specs.Option.{option_map};
 ghost use Rattle.std.specs.String.{string_bytes};
 ghost use Rattle.std.specs.Result.{result_err};
-ghost use Rattle.updater.specs.CommandOf.{FilesFit, Fit, Names, points_of, seen};
-ghost use Rattle.updater.specs.Courses.{course_of};
-ghost use Rattle.updater.specs.Progress.{begun, unused};
-ghost use Rattle.updater.specs.Runs.{AsksOnly, GoesBy};
-ghost use Rattle.updater.specs.World.{world};
+ghost use Rattle.run_promise.specs.CommandOf.{FilesFit, Fit, Names, points_of};
+ghost use Rattle.updater.specs.Command.{seen};
+ghost use Rattle.run_promise.specs.Courses.{course_of};
+ghost use Rattle.run_promise.specs.Progress.{begun, unused};
+ghost use Rattle.run_promise.specs.Runs.{AsksOnly, GoesBy};
+ghost use Rattle.run_promise.specs.World.{world};
 ghost use Rattle.updater.specs.commands.Points as spec;
 
-use crate::fault::Fault;
-use crate::files::Files;
 use crate::forms::keyed;
-use crate::point_rows::PointRows;
 use crate::telling::tell;
 use crate::words::{Command, MAX_WORDS};
 use object_fold::scan_file;
 use osm_base::Limits;
 use outside::{Disk, Inputs, Sink};
+use run_promise::{Fault, Files};
 use std::alloc::Global;
+use tag_rows::PointRows;
 
 /// The form of its words.
 pub fn form<'a>(options: &[String], form: &'a [String], place: u32) -> Option<Command<'a>>

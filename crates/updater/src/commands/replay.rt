@@ -10,19 +10,19 @@ ghost use Rattle.style_read.specs.Reading.{reading};
 ghost use Rattle.update_flow.specs.Handle.{view_of};
 ghost use Rattle.update_flow.specs.State.{Holding, State, imported};
 ghost use Rattle.update_flow.specs.Updater.{StaysOver, handle_of};
-ghost use Rattle.updater.specs.CommandOf.{AreWorkers, FilesFit, replay_of, seen};
-ghost use Rattle.updater.specs.Course.{formats, looks};
-ghost use Rattle.updater.specs.Courses.{fills, if_blank, onward, replay_course, telling};
+ghost use Rattle.run_promise.specs.CommandOf.{AreWorkers, FilesFit, replay_of};
+ghost use Rattle.updater.specs.Command.{seen};
+ghost use Rattle.run_promise.specs.Course.{formats, looks};
+ghost use Rattle.run_promise.specs.Courses.{fills, if_blank, onward, replay_course, telling};
 ghost use Rattle.updater.specs.Heads.{GoesOn, IsHead, IsSoFar};
-ghost use Rattle.updater.specs.Making.{IsNotEmpty, reading_alone};
-ghost use Rattle.updater.specs.Progress.{Progress, begun, unused};
-ghost use Rattle.updater.specs.Runs.{Among, AsksOnly, GoesBy};
-ghost use Rattle.updater.specs.World.{Before, world};
+ghost use Rattle.run_promise.specs.Making.{IsNotEmpty, reading_alone};
+ghost use Rattle.run_promise.specs.Progress.{Progress, begun, unused};
+ghost use Rattle.updater.specs.FileReads.{Among};
+ghost use Rattle.run_promise.specs.Runs.{AsksOnly, GoesBy};
+ghost use Rattle.run_promise.specs.World.{Before, world};
 ghost use Rattle.updater.specs.commands.Replay as spec;
 
-use crate::fault::Fault;
 use crate::file_reads::{StyleFile, read_bounds_file, read_style_file};
-use crate::files::Files;
 use crate::forms::stored_files;
 use crate::options::{Allowed, WORKERS, options_of};
 use crate::telling::tell;
@@ -32,8 +32,8 @@ use crate::words::{Command, MAX_WORDS};
 use osm_base::Limits;
 use outside::{Disk, Gate, Inputs, Sink};
 use page_journal::format;
+use run_promise::{Fault, Files};
 use std::alloc::Global;
-use std::sync::Wait;
 use std::thread::Threads;
 use tile_cover::Bounds;
 use update_flow::{Updater, open};
@@ -67,7 +67,7 @@ pub fn form<'a>(options: &[String], form: &'a [String], place: u32) -> Option<Co
 
 /// Makes a store on an empty disk, imports INPUT into it under STYLE, appends the change files under BOUNDS, and writes all that it
 /// holds then.
-pub fn replay<R: Threads + Wait + Sync, I: Inputs, D: Disk, S: Sink, G: Gate>(
+pub fn replay<R: Threads + Sync, I: Inputs, D: Disk, S: Sink, G: Gate>(
     rt: &R,
     alloc: Global,
     files: Files,
@@ -127,7 +127,7 @@ fn wants_empty<D: Disk>(disk: &mut D) -> Result<(), Fault>
 }
 
 /// Makes a store on an empty disk, and fills it.
-fn make_store<R: Threads + Wait + Sync, I: Inputs, D: Disk, S: Sink, G: Gate>(
+fn make_store<R: Threads + Sync, I: Inputs, D: Disk, S: Sink, G: Gate>(
     rt: &R,
     alloc: Global,
     style: StyleFile,
@@ -167,7 +167,7 @@ fn make_store<R: Threads + Wait + Sync, I: Inputs, D: Disk, S: Sink, G: Gate>(
 }
 
 /// Imports a file into a store that was only made, appends so many behind it, and writes all that the store holds then.
-fn fill_store<R: Threads + Wait + Sync, I: Inputs, D: Disk, S: Sink, G: Gate>(
+fn fill_store<R: Threads + Sync, I: Inputs, D: Disk, S: Sink, G: Gate>(
     rt: &R,
     alloc: Global,
     style: StyleFile,

@@ -1,6 +1,6 @@
 use Rattle.std.proofs.Common.{◌≡◌, ◌++◌, drop}
 use Rattle.std.specs.String.{string_bytes}
-use Rattle.updater.specs.Answers.{answers_text}
+use Rattle.run_promise.specs.Answers.{answers_text}
 use Rattle.updater.proofs.answers.answers_text.Given as goal
 
 -- what is written, and then the answers to the queries that are left, are the answers to all

@@ -1,6 +1,6 @@
 use Rattle.std.proofs.Common.{◌≡◌, ◌++◌, drop}
 use Rattle.std.specs.String.{string_bytes}
-use Rattle.updater.specs.Answers.{rows_text}
+use Rattle.run_promise.specs.Answers.{rows_text}
 use Rattle.updater.proofs.answers.push_rows.Given as goal
 
 -- what is written, and then the lines of the rows that are left, are the lines of all

@@ -1,6 +1,7 @@
 use Rattle.std.proofs.Common.{◌≡◌, ◌+◌, ◌++◌, drop, map}
 use Rattle.std.specs.String.{string_bytes}
-use Rattle.updater.specs.Blocks.{given_text, rounds_text}
+use Rattle.updater.specs.Blocks.{given_text}
+use Rattle.run_promise.specs.Blocks.{rounds_text}
 use Rattle.updater.proofs.blocks.push_rounds.Given as goal
 
 -- what is written, and then the rounds that are left, are all

@@ -2,7 +2,7 @@ use Rattle.std.proofs.Common.{◌+◌, ◌∙◌, ap, sym}
 use Rattle.table_versions.specs.Fronts.{FrontOf}
 use Rattle.table_versions.specs.Versions.{version_of}
 use Rattle.update_flow.specs.Updater.{handle_of}
-use Rattle.updater.specs.Courses.{serving}
+use Rattle.run_promise.specs.Courses.{serving}
 use Rattle.updater.proofs.ServeRuns.{unshown}
 use Rattle.updater.proofs.ShownVersions.{shown_version}
 use Rattle.updater.proofs.serving.publish_file.Goals as goal

@@ -1,6 +1,6 @@
 use Rattle.std.proofs.Common.{◌-◌, ◌+◌, ◌∙◌, arith, refl}
 use Rattle.update_flow.specs.Updater.{handle_of}
-use Rattle.updater.specs.Runs.{Among}
+use Rattle.updater.specs.FileReads.{Among}
 use Rattle.updater.proofs.Asked.{asked_more, asked_none}
 use Rattle.updater.proofs.ServeRuns.{ends_in_serving, first_serving, last_serving, next_serving}
 use Rattle.updater.proofs.serving.publish_files.Goals as goal

@@ -6,10 +6,11 @@ use Rattle.update_flow.specs.Handle.{changes_of}
 use Rattle.update_flow.specs.State.{Holding, imported}
 use Rattle.update_flow.specs.Updater.{StaysOver, handle_of}
 use Rattle.updater.specs.Heads.{IsHead}
-use Rattle.updater.specs.Progress.{Progress}
-use Rattle.updater.specs.Runs.{Among, AsksOnly}
+use Rattle.run_promise.specs.Progress.{Progress}
+use Rattle.updater.specs.FileReads.{Among}
+use Rattle.run_promise.specs.Runs.{AsksOnly}
 use Rattle.updater.specs.Serving.{IsServing}
-use Rattle.updater.specs.World.{Before}
+use Rattle.run_promise.specs.World.{Before}
 use Rattle.updater.proofs.serving.publish_files.Given as goal
 
 -- the files so far are appended, told and shown, and the rest of the course leads on

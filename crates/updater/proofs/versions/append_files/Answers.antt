@@ -1,6 +1,6 @@
 use Rattle.std.proofs.Common.{◌-◌, ◌+◌, ◌∙◌, arith, refl}
 use Rattle.update_flow.specs.Updater.{handle_of}
-use Rattle.updater.specs.Runs.{Among}
+use Rattle.updater.specs.FileReads.{Among}
 use Rattle.updater.proofs.AppendRuns.{first_version, next_version, ends_in_version, last_version}
 use Rattle.updater.proofs.LocalLaws.{appends_begin, appends_end, appends_next}
 use Rattle.updater.proofs.Asked.{asked_more, asked_none}

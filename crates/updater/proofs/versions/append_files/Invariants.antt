@@ -4,10 +4,11 @@ use Rattle.update_flow.specs.Handle.{IsOpen, view_of}
 use Rattle.update_flow.specs.State.{Holding, imported}
 use Rattle.update_flow.specs.Updater.{StaysOver, handle_of}
 use Rattle.updater.specs.Heads.{IsHead, IsVersion}
-use Rattle.updater.specs.Locality.{AppendsSoFar}
-use Rattle.updater.specs.Progress.{Progress}
-use Rattle.updater.specs.Runs.{Among, AsksOnly}
-use Rattle.updater.specs.World.{Before}
+use Rattle.updater.specs.Versions.{AppendsSoFar}
+use Rattle.run_promise.specs.Progress.{Progress}
+use Rattle.updater.specs.FileReads.{Among}
+use Rattle.run_promise.specs.Runs.{AsksOnly}
+use Rattle.run_promise.specs.World.{Before}
 use Rattle.updater.proofs.versions.append_files.Given as goal
 
 -- the files so far are appended and told, and the rest of the course leads on

@@ -2,7 +2,7 @@ use Rattle.std.proofs.Common.{◌+◌, ◌∙◌, ap, refl, Err}
 use Rattle.update_flow.specs.Handle.{view_of}
 use Rattle.update_flow.specs.State.{Append, Holding, imported, changed}
 use Rattle.update_flow.specs.Updater.{handle_of}
-use Rattle.updater.specs.Courses.{version_line}
+use Rattle.run_promise.specs.Courses.{version_line}
 use Rattle.updater.specs.Serving.{IsNext}
 use Rattle.updater.proofs.LocalLaws.{reads_one}
 use Rattle.updater.proofs.ServeRuns.{next_by}

@@ -2,7 +2,7 @@ use Rattle.std.proofs.Common.{List, ℕ, None, Some, refl, Err, ap, subst}
 use Rattle.update_flow.specs.State.{Import, State, formatted, fresh}
 use Rattle.update_flow.specs.Handle.{IsOpen, Takes}
 use Rattle.update_flow.specs.Updater.{handle_of}
-use Rattle.updater.specs.Courses.{version_line}
+use Rattle.run_promise.specs.Courses.{version_line}
 use Rattle.updater.proofs.VersionRuns.{file_unread, step_refused, version_told}
 use Rattle.updater.proofs.versions.import_file.Goals as goal
 

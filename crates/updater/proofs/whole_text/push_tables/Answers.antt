@@ -1,5 +1,5 @@
 use Rattle.std.proofs.Common.{◌∙◌, ◌++◌, List, ℕ, ap}
-use Rattle.updater.specs.Courses.{named_text}
+use Rattle.run_promise.specs.Courses.{named_text}
 use Rattle.updater.proofs.TableTexts.{text_more}
 use Rattle.updater.proofs.whole_text.push_tables.Goals as goal
 

@@ -1,7 +1,7 @@
 use Rattle.std.proofs.Common.{◌≡◌, ◌++◌}
 use Rattle.std.specs.Prelude.{flat_map}
 use Rattle.std.specs.List.{range_with_len}
-use Rattle.updater.specs.Courses.{named_text}
+use Rattle.run_promise.specs.Courses.{named_text}
 use Rattle.updater.proofs.whole_text.push_tables.Given as goal
 
 -- the texts of the tables so far

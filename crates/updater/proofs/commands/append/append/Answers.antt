@@ -1,7 +1,7 @@
 use Rattle.std.proofs.Common.{◌∙◌, Err, ap, sym}
 use Rattle.updater.proofs.LocalLaws.{local_over, on_ok_so}
 use Rattle.std.specs.Result.{result_err}
-use Rattle.updater.specs.Courses.{append_to}
+use Rattle.run_promise.specs.Courses.{append_to}
 use Rattle.updater.proofs.OpenRuns.{found_here, goes_over, unopened}
 use Rattle.updater.proofs.commands.append.append.Goals as goal
 

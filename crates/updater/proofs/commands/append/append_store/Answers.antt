@@ -3,11 +3,11 @@ use Rattle.std.specs.Result.{result_err}
 use Rattle.update_flow.specs.State.{imported}
 use Rattle.update_flow.specs.Handle.{view_of}
 use Rattle.update_flow.specs.Updater.{handle_of}
-use Rattle.updater.specs.Courses.{appends, finished, onward}
-use Rattle.updater.specs.Files.{IsBounds}
-use Rattle.updater.specs.Progress.{past}
-use Rattle.updater.specs.Runs.{Among}
-use Rattle.updater.specs.World.{world}
+use Rattle.run_promise.specs.Courses.{appends, finished, onward}
+use Rattle.run_promise.specs.Files.{IsBounds}
+use Rattle.run_promise.specs.Progress.{past}
+use Rattle.updater.specs.FileReads.{Among}
+use Rattle.run_promise.specs.World.{world}
 use Rattle.updater.proofs.Asked.{asked_among, asked_more, asked_none, asked_then}
 use Rattle.updater.proofs.LocalLaws.{appends_all, on_ok_so}
 use Rattle.updater.proofs.StoreRuns.{first_read, first_unread, if_there, leads_ends, not_yet, outdated_there}

@@ -1,6 +1,6 @@
 use Rattle.std.proofs.Common.{◌∙◌, Err, ap, sym}
 use Rattle.std.specs.Result.{result_err}
-use Rattle.updater.specs.Courses.{export_from}
+use Rattle.run_promise.specs.Courses.{export_from}
 use Rattle.updater.proofs.OpenRuns.{found_here, goes_over, unopened}
 use Rattle.updater.proofs.commands.export.export.Goals as goal
 

@@ -8,8 +8,8 @@ use Rattle.row_text.specs.Table.{table_text}
 use Rattle.style_read.specs.Style.{StyleOf}
 use Rattle.update_flow.specs.Handle.{view_of}
 use Rattle.update_flow.specs.Updater.{handle_of}
-use Rattle.updater.specs.Course.{ends, writes_text}
-use Rattle.updater.specs.World.{world}
+use Rattle.run_promise.specs.Course.{ends, writes_text}
+use Rattle.run_promise.specs.World.{world}
 use Rattle.updater.proofs.StoreRuns.{exports_found, found_table, held_certain, if_there, look_done, look_ends, look_refused, look_short, not_yet, outdated_there, same_style, unknown_table}
 use Rattle.updater.proofs.TableLaws.{only_text}
 use Rattle.updater.proofs.commands.export.export_store.Goals as goal

@@ -1,6 +1,6 @@
 use Rattle.std.proofs.Common.{◌∙◌, Err, ap, sym}
 use Rattle.std.specs.Result.{result_err}
-use Rattle.updater.specs.Courses.{import_into}
+use Rattle.run_promise.specs.Courses.{import_into}
 use Rattle.updater.proofs.OpenRuns.{found_here, goes_over, unopened}
 use Rattle.updater.proofs.commands.import.import.Goals as goal
 

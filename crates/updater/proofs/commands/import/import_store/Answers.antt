@@ -4,11 +4,11 @@ use Rattle.style_read.specs.Style.{StyleOf}
 use Rattle.update_flow.specs.State.{formatted}
 use Rattle.update_flow.specs.Handle.{view_of}
 use Rattle.update_flow.specs.Updater.{handle_of}
-use Rattle.updater.specs.Courses.{finished, imports, onward}
-use Rattle.updater.specs.Files.{IsStyle}
-use Rattle.updater.specs.Progress.{past}
-use Rattle.updater.specs.Runs.{Among}
-use Rattle.updater.specs.World.{world}
+use Rattle.run_promise.specs.Courses.{finished, imports, onward}
+use Rattle.run_promise.specs.Files.{IsStyle}
+use Rattle.run_promise.specs.Progress.{past}
+use Rattle.updater.specs.FileReads.{Among}
+use Rattle.run_promise.specs.World.{world}
 use Rattle.updater.proofs.Asked.{asked_more, asked_none}
 use Rattle.updater.proofs.StoreRuns.{already, first_read, first_unread, if_new, leads_ends, outdated_new}
 use Rattle.updater.proofs.commands.import.import_store.Goals as goal

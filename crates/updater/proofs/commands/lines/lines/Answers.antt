@@ -5,12 +5,12 @@ use Rattle.osm_base.specs.declared.bounds.limits.LimitNumbers.{LimitNumbers}
 use Rattle.object_fold.specs.Reading.{IsFaultOf, ReadsAll}
 use Rattle.object_fold.specs.Stops.{Stops}
 use Rattle.outside.specs.Causes.{Rose}
-use Rattle.updater.specs.Command.{Names, lines_of}
-use Rattle.updater.specs.Course.{ends, writes_text}
-use Rattle.updater.specs.Courses.{course_of}
-use Rattle.updater.specs.WayRows.{WaysRead, after_way, no_ways}
-use Rattle.updater.specs.commands.Lines.{lines_text, lines_text_of}
-use Rattle.updater.proofs.TrimmedLaws.{ways-are}
+use Rattle.run_promise.specs.CommandOf.{Names, lines_of}
+use Rattle.run_promise.specs.Course.{ends, writes_text}
+use Rattle.run_promise.specs.Courses.{course_of}
+use Rattle.tag_rows.specs.WayRows.{WaysRead, after_way, no_ways}
+use Rattle.tag_rows.specs.Lines.{lines_text, lines_text_of}
+use Rattle.tag_rows.proofs.TrimmedLaws.{ways-are}
 use Rattle.updater.proofs.Asked.{asked_more, asked_none}
 use Rattle.updater.proofs.Deeds.{no_memory}
 use Rattle.updater.proofs.Turns.{first_turn, next_turn, ends_in_file, ends_short, ends_told}

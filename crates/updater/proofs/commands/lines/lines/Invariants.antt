@@ -1,13 +1,13 @@
 use Rattle.std.proofs.Common.{◌≤◌, ◌-◌}
 use Rattle.std.specs.Str.{chars}
-use Rattle.updater.specs.Command.{Names, lines_of}
-use Rattle.updater.specs.Course.{ends, writes_text}
-use Rattle.updater.specs.Courses.{course_of}
-use Rattle.updater.specs.WayRows.{after_way, no_ways}
-use Rattle.updater.specs.commands.Lines.{lines_text_of}
-use Rattle.updater.specs.Runs.{AsksOnly}
+use Rattle.run_promise.specs.CommandOf.{Names, lines_of}
+use Rattle.run_promise.specs.Course.{ends, writes_text}
+use Rattle.run_promise.specs.Courses.{course_of}
+use Rattle.tag_rows.specs.WayRows.{after_way, no_ways}
+use Rattle.tag_rows.specs.Lines.{lines_text_of}
+use Rattle.run_promise.specs.Runs.{AsksOnly}
 use Rattle.updater.specs.Turns.{IsTurn}
-use Rattle.updater.specs.World.{remembered, world}
+use Rattle.run_promise.specs.World.{remembered, world}
 use Rattle.updater.proofs.commands.lines.lines.Given as goal
 
 -- the files so far are read, and the rest of the course leads on

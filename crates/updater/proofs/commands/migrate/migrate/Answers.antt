@@ -1,6 +1,6 @@
 use Rattle.std.proofs.Common.{◌∙◌, Err, ap, sym}
 use Rattle.std.specs.Result.{result_err}
-use Rattle.updater.specs.Courses.{migrates}
+use Rattle.run_promise.specs.Courses.{migrates}
 use Rattle.updater.proofs.OpenRuns.{found_here, goes_over, unopened}
 use Rattle.updater.proofs.commands.migrate.migrate.Goals as goal
 

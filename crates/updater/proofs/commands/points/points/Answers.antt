@@ -5,12 +5,12 @@ use Rattle.osm_base.specs.declared.bounds.limits.LimitNumbers.{LimitNumbers}
 use Rattle.object_fold.specs.Reading.{IsFaultOf, ReadsAll}
 use Rattle.object_fold.specs.Stops.{Stops}
 use Rattle.outside.specs.Causes.{Rose}
-use Rattle.updater.specs.Command.{Names, points_of}
-use Rattle.updater.specs.Course.{ends, writes_text}
-use Rattle.updater.specs.Courses.{course_of, gathers}
-use Rattle.updater.specs.PointRows.{after_entry, no_rows, rows_text}
-use Rattle.updater.specs.commands.Points.{points_text_of}
-use Rattle.updater.proofs.PointLaw.{rows_are_points}
+use Rattle.run_promise.specs.CommandOf.{Names, points_of}
+use Rattle.run_promise.specs.Course.{ends, writes_text}
+use Rattle.run_promise.specs.Courses.{course_of, gathers}
+use Rattle.tag_rows.specs.PointRows.{after_entry, no_rows, rows_text}
+use Rattle.tag_rows.specs.Points.{points_text_of}
+use Rattle.tag_rows.proofs.PointLaw.{rows_are_points}
 use Rattle.updater.proofs.Asked.{asked_more, asked_none}
 use Rattle.updater.proofs.Deeds.{no_memory}
 use Rattle.updater.proofs.Turns.{first_turn, next_turn, ends_in_file, ends_short, ends_told}

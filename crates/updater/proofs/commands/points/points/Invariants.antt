@@ -1,13 +1,13 @@
 use Rattle.std.proofs.Common.{◌≤◌, ◌-◌}
 use Rattle.std.specs.Str.{chars}
-use Rattle.updater.specs.Command.{Names, points_of}
-use Rattle.updater.specs.Course.{ends, writes_text}
-use Rattle.updater.specs.Courses.{course_of}
-use Rattle.updater.specs.PointRows.{after_entry, no_rows}
-use Rattle.updater.specs.commands.Points.{points_text_of}
-use Rattle.updater.specs.Runs.{AsksOnly}
+use Rattle.run_promise.specs.CommandOf.{Names, points_of}
+use Rattle.run_promise.specs.Course.{ends, writes_text}
+use Rattle.run_promise.specs.Courses.{course_of}
+use Rattle.tag_rows.specs.PointRows.{after_entry, no_rows}
+use Rattle.tag_rows.specs.Points.{points_text_of}
+use Rattle.run_promise.specs.Runs.{AsksOnly}
 use Rattle.updater.specs.Turns.{IsTurn}
-use Rattle.updater.specs.World.{remembered, world}
+use Rattle.run_promise.specs.World.{remembered, world}
 use Rattle.updater.proofs.commands.points.points.Given as goal
 
 -- the files so far are read, and the rest of the course leads on

@@ -8,13 +8,12 @@ use Rattle.style_read.specs.Style.{StyleOf}
 use Rattle.update_flow.specs.Handle.{view_of}
 use Rattle.update_flow.specs.State.{imported}
 use Rattle.update_flow.specs.Updater.{handle_of}
-use Rattle.updater.specs.Answers.{answers_text}
-use Rattle.updater.specs.Course.{ends, looks, writes_text}
-use Rattle.updater.specs.FileReads.{IsRead, IsUnread}
-use Rattle.updater.specs.Files.{IsQueries}
-use Rattle.updater.specs.Progress.{past}
-use Rattle.updater.specs.Runs.{Among}
-use Rattle.updater.specs.World.{world}
+use Rattle.run_promise.specs.Answers.{answers_text}
+use Rattle.run_promise.specs.Course.{ends, looks, writes_text}
+use Rattle.updater.specs.FileReads.{IsRead, IsUnread, Among}
+use Rattle.run_promise.specs.Files.{IsQueries}
+use Rattle.run_promise.specs.Progress.{past}
+use Rattle.run_promise.specs.World.{world}
 use Rattle.updater.proofs.Asked.{asked_more, asked_none}
 use Rattle.updater.proofs.StoreRuns.{first_read, first_unread, held_certain, if_there, look_done, look_ends, look_refused, look_short, not_yet, outdated_there, same_style}
 use Rattle.updater.proofs.StoreDeeds.{shows_here}

@@ -2,9 +2,9 @@ use Rattle.std.proofs.Common.{◌+◌, ◌∙◌, arith, sym}
 use Rattle.std.specs.Result.{result_err}
 use Rattle.update_flow.specs.Handle.{view_of}
 use Rattle.update_flow.specs.Updater.{handle_of}
-use Rattle.updater.specs.Courses.{appending, fills, telling}
-use Rattle.updater.specs.Runs.{Among}
-use Rattle.updater.specs.World.{world}
+use Rattle.run_promise.specs.Courses.{appending, fills, telling}
+use Rattle.updater.specs.FileReads.{Among}
+use Rattle.run_promise.specs.World.{world}
 use Rattle.updater.proofs.Asked.{asked_among, asked_more, asked_none, asked_then}
 use Rattle.updater.proofs.FillRuns.{stops_appending, tells_whole}
 use Rattle.updater.proofs.OptionLaws.{default_power}

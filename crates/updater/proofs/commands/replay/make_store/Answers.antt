@@ -1,8 +1,8 @@
 use Rattle.std.proofs.Common.{ℕ, List, [], ◌∷◌, ◌∙◌, refl, sym}
 use Rattle.std.specs.Result.{result_err}
 use Rattle.page_journal.specs.Pages.{page_from}
-use Rattle.updater.specs.Course.{looks}
-use Rattle.updater.specs.Courses.{fills}
+use Rattle.run_promise.specs.Course.{looks}
+use Rattle.run_promise.specs.Courses.{fills}
 use Rattle.updater.proofs.FillRuns.{made_never}
 use Rattle.updater.proofs.InitRuns.{never_unformatted}
 use Rattle.updater.proofs.MakeRuns.{goes_over_made, unmade, unopened}

@@ -1,14 +1,14 @@
 use Rattle.std.proofs.Common.{◌≡◌, List, ℕ, Some, [], ◌∷◌, ◌+◌, ◌-◌, arith, subst}
 use Rattle.std.specs.Result.{result_err}
 use Rattle.style_read.specs.Style.{StyleOf}
-use Rattle.updater.specs.Course.{formats, looks, reads}
-use Rattle.updater.specs.Courses.{fills}
-use Rattle.updater.specs.Files.{IsBounds, IsStyle}
+use Rattle.run_promise.specs.Course.{formats, looks, reads}
+use Rattle.run_promise.specs.Courses.{fills}
+use Rattle.run_promise.specs.Files.{IsBounds, IsStyle}
 use Rattle.updater.specs.Heads.{IsSoFar}
-use Rattle.updater.specs.Making.{reading_alone}
-use Rattle.updater.specs.Progress.{begun, unused}
-use Rattle.updater.specs.Runs.{Among}
-use Rattle.updater.specs.World.{remembered, world}
+use Rattle.run_promise.specs.Making.{reading_alone}
+use Rattle.run_promise.specs.Progress.{begun, unused}
+use Rattle.updater.specs.FileReads.{Among}
+use Rattle.run_promise.specs.World.{remembered, world}
 use Rattle.updater.proofs.Asked.{asked_among, asked_more, asked_none, asked_then}
 use Rattle.updater.proofs.MakeRuns.{found_empty, goes_empty, not_empty}
 use Rattle.updater.proofs.SoFarLaws.{leads_file, past_file, stops_in_file}

@@ -4,8 +4,8 @@ use Rattle.due_tiles.specs.TileText.{tile_text}
 use Rattle.osm_base.specs.map.Spots.{TableMap}
 use Rattle.style_read.specs.Style.{StyleOf}
 use Rattle.update_flow.specs.Updater.{handle_of}
-use Rattle.updater.specs.Course.{ends, writes}
-use Rattle.updater.specs.Courses.{IsWholeText, tables_text}
+use Rattle.run_promise.specs.Course.{ends, writes}
+use Rattle.run_promise.specs.Courses.{IsWholeText, tables_text}
 use Rattle.updater.proofs.FillRuns.{has_style}
 use Rattle.updater.proofs.StoreRuns.{held_certain, look_done, look_ends, look_refused, look_short, same_style}
 use Rattle.updater.proofs.commands.replay.tell_whole.Goals as goal

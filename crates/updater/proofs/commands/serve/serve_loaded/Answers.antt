@@ -4,10 +4,10 @@ use Rattle.table_versions.specs.Fronts.{FrontOf}
 use Rattle.update_flow.specs.Handle.{view_of}
 use Rattle.update_flow.specs.State.{imported}
 use Rattle.update_flow.specs.Updater.{handle_of}
-use Rattle.updater.specs.Comes.{IsCertain}
-use Rattle.updater.specs.Courses.{serves}
+use Rattle.run_promise.specs.Comes.{IsCertain}
+use Rattle.run_promise.specs.Courses.{serves}
 use Rattle.updater.specs.Heads.{GoesOn}
-use Rattle.updater.specs.World.{world}
+use Rattle.run_promise.specs.World.{world}
 use Rattle.updater.proofs.ServeRuns.{short_serving}
 use Rattle.updater.proofs.ShownVersions.{shown_first}
 use Rattle.updater.proofs.StoreRuns.{same_style}

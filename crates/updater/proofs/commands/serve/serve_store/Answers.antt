@@ -5,14 +5,13 @@ use Rattle.style_read.specs.Style.{StyleOf}
 use Rattle.update_flow.specs.Handle.{view_of}
 use Rattle.update_flow.specs.State.{imported}
 use Rattle.update_flow.specs.Updater.{handle_of}
-use Rattle.updater.specs.Course.{looks, reads}
-use Rattle.updater.specs.Courses.{serves}
-use Rattle.updater.specs.FileReads.{IsRead, IsUnread}
-use Rattle.updater.specs.Files.{IsBounds, IsQueries}
+use Rattle.run_promise.specs.Course.{looks, reads}
+use Rattle.run_promise.specs.Courses.{serves}
+use Rattle.updater.specs.FileReads.{IsRead, IsUnread, Among}
+use Rattle.run_promise.specs.Files.{IsBounds, IsQueries}
 use Rattle.updater.specs.Heads.{IsHead}
-use Rattle.updater.specs.Progress.{past}
-use Rattle.updater.specs.Runs.{Among}
-use Rattle.updater.specs.World.{world}
+use Rattle.run_promise.specs.Progress.{past}
+use Rattle.run_promise.specs.World.{world}
 use Rattle.updater.proofs.Asked.{asked_among, asked_more, asked_none, asked_then}
 use Rattle.updater.proofs.StoreRuns.{first_read, first_unread, held_certain, if_there, look_done, look_refused, not_yet, outdated_there, same_style}
 use Rattle.updater.proofs.VersionRuns.{goes_back}

@@ -1,6 +1,6 @@
 use Rattle.std.proofs.Common.{◌∙◌, Err, ap, sym}
 use Rattle.std.specs.Result.{result_err}
-use Rattle.updater.specs.Courses.{tiles_of_store}
+use Rattle.run_promise.specs.Courses.{tiles_of_store}
 use Rattle.updater.proofs.OpenRuns.{found_here, goes_over, unopened}
 use Rattle.updater.proofs.commands.tiles.tiles.Goals as goal
 

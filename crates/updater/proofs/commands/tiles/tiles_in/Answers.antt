@@ -1,10 +1,10 @@
 use Rattle.std.proofs.Common.{true, false, None, ◌∙◌, sym, Err, ap}
 use Rattle.update_flow.specs.Handle.{view_of}
 use Rattle.update_flow.specs.Updater.{handle_of}
-use Rattle.updater.specs.Courses.{IsTileText, clears}
-use Rattle.updater.specs.Course.{writes}
-use Rattle.updater.specs.Progress.{plus}
-use Rattle.updater.specs.World.{world}
+use Rattle.run_promise.specs.Courses.{IsTileText, clears}
+use Rattle.run_promise.specs.Course.{writes}
+use Rattle.run_promise.specs.Progress.{plus}
+use Rattle.run_promise.specs.World.{world}
 use Rattle.updater.proofs.HeadLaws.{ends_here}
 use Rattle.updater.proofs.StoreRuns.{clear_done, clear_refused, held_certain, if_there, look_done, look_refused, look_short, look_told, look_untold, not_yet, outdated_there}
 use Rattle.updater.proofs.commands.tiles.tiles_in.Goals as goal

@@ -1,0 +1,11 @@
+pub mod AsciiTexts
+pub mod BlameLaws
+pub mod CommandRuns
+pub mod CourseKeeps
+pub mod CourseLaws
+pub mod EndLaws
+pub mod HistoryLaws
+pub mod LineCounts
+pub mod MigrationLaws
+pub mod SafeLaws
+pub mod TurnLaws

@@ -1,0 +1,163 @@
+-- To which endings a run on a course may come. Each deed of the course is done, or the run ends in it: for what the bytes that
+-- are told say, for a part of the outside that failed, or for want of memory.
+use Rattle.std.specs.Prelude.{◌≡◌, ◌≢◌, ◌⊎◌, ◌≤◌, ℕ, List, length, Option, Some, None, Result, Ok, Err}
+use Rattle.outside.specs.Bytes.{IfTold, IsTold}
+use Rattle.page_journal.specs.Home.{IsFormatted}
+use Rattle.run_promise.specs.declared.fault.Fault.{Fault}
+use Rattle.run_promise.specs.declared.fault.Fault.TheVariants.{Malformed, BadStyle, BadBounds, BadQuery, Limit, ReadFault, NotFormatted, NotEmpty, WriteFault, DiskFault, OutOfMemory}
+use Rattle.osm_base.specs.bounds.Limits.{standard}
+use Rattle.page_journal.specs.declared.fault.StoreFault.TheVariants as stores
+use Rattle.update_flow.specs.AtRest.{IsDamaged}
+use Rattle.update_flow.specs.History.{state_after}
+use Rattle.update_flow.specs.Needed.{FitsLimit, NeedsFrom, Writes}
+use Rattle.update_flow.specs.Opening.{MayOpenAs}
+use Rattle.update_flow.specs.Refusals.{OrFull, Refuses}
+use Rattle.update_flow.specs.State.{State, Step, after}
+use Rattle.update_flow.specs.declared.fault.FlowFault.{FlowFault}
+use Rattle.update_flow.specs.declared.fault.FlowFault.TheVariants as flow
+use Rattle.run_promise.specs.Course.{Course, ends, refuses, reads, wants_empty, formats, opens, looks, commits, tells, writes}
+use Rattle.run_promise.specs.Faults.{flow_fault}
+use Rattle.run_promise.specs.Keeps.{Kept, first}
+use Rattle.run_promise.specs.Progress.{Standing, unused, unknown, keeps, half_made, Progress, Ending, at, at_file, at_text, past, plus, with_store, made, opened, committed, in_doubt, IsIn}
+use Rattle.run_promise.specs.World.{Before}
+
+-- the disk was at most looked at, and this is so
+abbrev pub IfUnused : Standing → Type 0 → Type 0
+IfUnused unused P = P
+IfUnused _ P = ⊥
+
+-- the disk keeps a history, of which this is so; or nothing is known of it, and that is so
+abbrev pub ByStore : Standing → (Kept → Type 0) → Type 0 → Type 0
+ByStore (keeps kept) P Q = P kept
+ByStore unknown P Q = Q
+ByStore _ P Q = ⊥
+
+-- a fault that the bytes of this file may have
+abbrev pub IsOfFile : ℕ → Fault → Type 0
+IsOfFile file (Malformed own line why) = own ≡ file
+IsOfFile file (BadStyle own why part) = own ≡ file
+IsOfFile file (BadBounds own line) = own ≡ file
+IsOfFile file (BadQuery own line why) = own ≡ file
+IsOfFile file (Limit which value) = Unit {0}
+IsOfFile file _ = ⊥
+
+-- the files that were read are told
+abbrev pub AreTold : Before → List ℕ → Type 0
+AreTold old read = (file : ℕ) → IsIn read file → IsTold (old.left file)
+
+-- what the store holds is not unknown
+abbrev pub IsCertain : Standing → Type 0
+IsCertain unknown = ⊥
+IsCertain _ = Unit {0}
+
+-- a run ends in the middle of this file: a read failed, memory ran out, or its bytes have a fault
+pub data BreaksIn (A : Type 0) (file : ℕ) (told : Option (List ℕ)) (Reads : List ℕ → Result A Fault → Type 0) (done : Progress) (ending : Ending) : Type 0 where
+  unread : ending ≡ at_file file done (ReadFault file) → BreaksIn A file told Reads done ending
+  short : ending ≡ at_file file done OutOfMemory → BreaksIn A file told Reads done ending
+  refused : (fault : Fault) → IsOfFile file fault → IfTold told (λ bytes. Reads bytes (Err fault)) → ending ≡ at_file file done fault → BreaksIn A file told Reads done ending
+
+-- the disk failed, or memory ran out
+abbrev pub Breaks : Progress → Ending → Type 0
+Breaks done ending = (ending ≡ at done (Some DiskFault)) ⊎ (ending ≡ at done (Some OutOfMemory))
+
+-- nothing is known of the store, and this is so
+abbrev pub IfUnknown : Standing → Type 0 → Type 0
+IfUnknown unknown P = P
+IfUnknown _ P = ⊥
+
+-- the disk holds bytes, where it tells what it holds
+abbrev pub HoldsBytes : Before → Progress → Ending → Type 0
+HoldsBytes old done ending = IfTold old.content (λ bytes. length bytes ≢ 0) × (ending ≡ at done (Some NotEmpty))
+
+-- a disk of which nothing is known holds no store
+abbrev pub IsNoStore : Before → Progress → Ending → Type 0
+IsNoStore old done ending = IfTold old.content (λ bytes. ¬ IsFormatted bytes) × (ending ≡ at done (Some NotFormatted))
+
+-- a fault that tells of a damaged page
+abbrev pub IsBadStore : FlowFault → Type 0
+IsBadStore (flow.Store (stores.BadStore page)) = Unit {0}
+IsBadStore _ = ⊥
+
+-- a fault for which an open store of this format may refuse a step, whatever it holds
+abbrev pub IsStepFault : FlowFault → Type 0
+IsStepFault (flow.Store (stores.BadStore page)) = Unit {0}
+IsStepFault (flow.Store (stores.StoreFull pages)) = Unit {0}
+IsStepFault (flow.Store _) = ⊥
+IsStepFault flow.OutOfMemory = ⊥
+IsStepFault flow.OldFormat = ⊥
+IsStepFault _ = Unit {0}
+
+-- a step that writes is done where the pages that a store of this state needs after it are within the limit; a refusal for its
+-- pages tells just those. The pages that it had are those of the bytes as the run began, or no more than the limit.
+abbrev pub IsOfNeed : Before → State → Step → Option FlowFault → Type 0
+IsOfNeed old state step fault = Writes state step → FitsLimit standard (NeedsFrom standard old.content state (after state step)) fault
+
+-- and for which one of this state refuses it
+abbrev pub IsRefusal : Before → State → Step → FlowFault → Type 0
+IsRefusal old state step fault = IsStepFault fault × OrFull standard (Some fault) (Refuses standard state step (Some fault)) × IsOfNeed old state step (Some fault)
+
+-- or it is taken
+abbrev pub MayTake : Before → State → Step → Type 0
+MayTake old state step = Refuses standard state step None × IsOfNeed old state step None
+
+-- the run ends in a step that is refused for such a fault
+abbrev pub IsRefusedFor : (FlowFault → Type 0) → Progress → Ending → Type 0
+IsRefusedFor IsWhy done ending = (fault : FlowFault) × IsWhy fault × (ending ≡ at done (Some (flow_fault fault)))
+
+-- a disk of which nothing is known holds a damaged store
+abbrev pub IsBroken : Before → Progress → Ending → Type 0
+IsBroken old done ending = IfTold old.content IsDamaged × IsRefusedFor IsBadStore done ending
+
+abbrev pub Comes : Before → Course → Progress → Ending → Type 0
+Comes old ends done ending = ending ≡ at done None
+Comes old (refuses fault) done ending = ending ≡ at done (Some fault)
+Comes old (reads {A} file Reads rest) done ending = BreaksIn A file (old.left file) Reads done ending
+    ⊎ ((found : A) × IfTold (old.left file) (λ bytes. Reads bytes (Ok found)) × Comes old (rest found) (past file done) ending)
+Comes old (wants_empty rest) done ending = (ending ≡ at done (Some DiskFault))
+    ⊎ HoldsBytes old done ending
+    ⊎ (IfTold old.content (λ bytes. length bytes ≡ 0) × Comes old rest done ending)
+Comes old (formats rest) done ending = IfUnused done.store (HoldsBytes old done ending
+    ⊎ (ending ≡ at (with_store half_made done) (Some DiskFault)) ⊎ Comes old rest (with_store (made old.content) done) ending)
+Comes old (opens rest) done ending = Breaks done ending ⊎ ByStore done.store
+    (λ kept. (cut : ℕ) × (kept.least ≤ cut) × (cut ≤ kept.most) × Comes old (rest (state_after (first cut kept.history))) (opened kept cut done) ending)
+    (IsNoStore old done ending ⊎ IsBroken old done ending ⊎ ((state : State) × IfTold old.content (MayOpenAs state) × Comes old (rest state) done ending))
+Comes old (looks rest) done ending = Breaks done ending ⊎ IfUnknown done.store (IsRefusedFor IsStepFault done ending) ⊎ Comes old rest done ending
+Comes old (commits step rest) done ending = Breaks done ending ⊎ ByStore done.store
+    (λ kept. (ending ≡ at (in_doubt step kept done) (Some DiskFault)) ⊎ IsRefusedFor (IsRefusal old (state_after kept.history) step) done ending
+    ⊎ (MayTake old (state_after kept.history) step × Comes old rest (committed step kept done) ending))
+    (IsRefusedFor IsStepFault done ending ⊎ Comes old rest done ending)
+Comes old (tells text rest) done ending = (ending ≡ at_text text done WriteFault) ⊎ Comes old rest (plus text done) ending
+-- what files that are not told hold is not known, nor what an unknown store holds, and neither is their text
+Comes old (writes Fits rest) done ending = (ending ≡ at done (Some OutOfMemory))
+    ⊎ ((own : List ℕ) × (AreTold old done.read → IsCertain done.store → Fits own)
+    × ((ending ≡ at_text own done WriteFault) ⊎ Comes old rest (plus own done) ending))
+
+-- the fault blames the outside, or the want of memory
+abbrev pub IsOutside : Option Fault → Type 0
+IsOutside (Some (ReadFault file)) = Unit {0}
+IsOutside (Some WriteFault) = Unit {0}
+IsOutside (Some DiskFault) = Unit {0}
+IsOutside (Some OutOfMemory) = Unit {0}
+IsOutside _ = ⊥
+
+-- the end that is due: that to which a run comes if nothing outside fails and there is memory
+abbrev pub IsDue : Before → Course → Progress → Ending → Type 0
+IsDue old ends done ending = ending ≡ at done None
+IsDue old (refuses fault) done ending = ending ≡ at done (Some fault)
+IsDue old (reads {A} file Reads rest) done ending =
+    ((fault : Fault) × IsOfFile file fault × IfTold (old.left file) (λ bytes. Reads bytes (Err fault)) × (ending ≡ at_file file done fault))
+    ⊎ ((found : A) × IfTold (old.left file) (λ bytes. Reads bytes (Ok found)) × IsDue old (rest found) (past file done) ending)
+IsDue old (wants_empty rest) done ending = HoldsBytes old done ending
+    ⊎ (IfTold old.content (λ bytes. length bytes ≡ 0) × IsDue old rest done ending)
+IsDue old (formats rest) done ending = IfUnused done.store (HoldsBytes old done ending
+    ⊎ IsDue old rest (with_store (made old.content) done) ending)
+IsDue old (opens rest) done ending = ByStore done.store
+    (λ kept. (cut : ℕ) × (kept.least ≤ cut) × (cut ≤ kept.most) × IsDue old (rest (state_after (first cut kept.history))) (opened kept cut done) ending)
+    (IsNoStore old done ending ⊎ IsBroken old done ending ⊎ ((state : State) × IfTold old.content (MayOpenAs state) × IsDue old (rest state) done ending))
+IsDue old (looks rest) done ending = IfUnknown done.store (IsRefusedFor IsStepFault done ending) ⊎ IsDue old rest done ending
+IsDue old (commits step rest) done ending = ByStore done.store
+    (λ kept. IsRefusedFor (IsRefusal old (state_after kept.history) step) done ending ⊎ (MayTake old (state_after kept.history) step × IsDue old rest (committed step kept done) ending))
+    (IsRefusedFor IsStepFault done ending ⊎ IsDue old rest done ending)
+IsDue old (tells text rest) done ending = IsDue old rest (plus text done) ending
+IsDue old (writes Fits rest) done ending =
+    (own : List ℕ) × (AreTold old done.read → IsCertain done.store → Fits own) × IsDue old rest (plus own done) ending

@@ -1,0 +1,185 @@
+-- The commands: what each does, in order.
+use Rattle.std.specs.Prelude.{◌≡◌, ℕ, zero, suc, ◌+◌, ◌-◌, Bool, true, false, List, [], ◌∷◌, ◌++◌, Option, Some, None, codes, encode_utf8_all, flat_map, length, slice_get}
+use Rattle.std.specs.Fmt.{decimal}
+use Rattle.std.specs.List.{range_with_len}
+use Rattle.std.specs.Option.{option_map_or}
+use Rattle.osm_base.specs.declared.values.object.Entry.{Entry}
+use Rattle.osm_base.specs.map.Spots.{TableMap}
+use Rattle.due_tiles.specs.TileText.{tile_text}
+use Rattle.row_map.specs.Row.{tables}
+use Rattle.row_text.specs.Table.{table_text}
+use Rattle.style_read.specs.Style.{StyleOf, table_of}
+use Rattle.tile_cover.specs.Runs.{has}
+use Rattle.tile_cover.specs.Table.{BoundsOf}
+use Rattle.tile_cover.specs.declared.runs.Run.{Run}
+use Rattle.update_flow.specs.Due.{Tiles}
+use Rattle.update_flow.specs.State.{Holding, State, formatted, imported, outdated, Import, Append, Clear, Migrate, fresh, changed}
+use Rattle.run_promise.specs.declared.fault.Fault.TheVariants.{AlreadyImported, NotImported, OldFormat, UnknownTable}
+use Rattle.run_promise.specs.declared.files.Files.{Files}
+use Rattle.run_promise.specs.CommandOf.{CommandOf, points_of, lines_of, init_of, import_of, append_of, export_of, tiles_of, query_of, serve_of, replay_of, migrate_of}
+use Rattle.run_promise.specs.Course.{Course, ends, refuses, reads, wants_empty, formats, opens, looks, commits, tells, writes, writes_text}
+use Rattle.run_promise.specs.Answers.{answers_text}
+use Rattle.run_promise.specs.Blocks.{AreBlocks}
+use Rattle.map_query.specs.declared.query.Query.{Query}
+use Rattle.run_promise.specs.Files.{IsBounds, IsChange, IsQueries, IsStyle}
+use Rattle.tag_rows.specs.Lines.{lines_text_of}
+use Rattle.tag_rows.specs.Points.{points_text_of}
+
+-- the entries of so many files from this one on, one after another
+unfoldable pub gathers : (file count : ℕ) → List Entry → (List Entry → Course) → Course
+gathers file zero entries rest = rest entries
+gathers file (suc count) entries rest = reads file (IsChange file) (λ more. gathers (file + 1) count (entries ++ more) rest)
+
+abbrev pub init_course : Course
+init_course = wants_empty (formats (tells (codes "formatted\n") ends))
+
+-- Nothing may have been imported into the store before, or something must have been. A store of the old format is refused as such.
+abbrev pub if_formatted : Course → State → Course
+if_formatted rest formatted = rest
+if_formatted rest (imported held) = refuses AlreadyImported
+if_formatted rest (outdated held) = refuses OldFormat
+
+abbrev pub if_imported : (Holding → Course) → State → Course
+if_imported rest formatted = refuses NotImported
+if_imported rest (imported held) = rest held
+if_imported rest (outdated held) = refuses OldFormat
+
+-- into a store that was just made nothing was imported, whatever its format
+abbrev pub if_blank : Course → State → Course
+if_blank rest formatted = rest
+if_blank rest (imported held) = refuses AlreadyImported
+if_blank rest (outdated held) = refuses AlreadyImported
+
+-- the line that tells of so many changes
+abbrev pub version_line : ℕ → List ℕ
+version_line changes = codes "version " ++ decimal changes ++ codes "\n"
+
+-- a file is imported under a style, in one commit, and that is told
+abbrev pub imports : (style : StyleOf × List ℕ) → (buckets : ℕ) → (file : ℕ) → (Holding → Course) → Course
+imports style buckets file rest = reads file (IsChange file) (λ entries.
+    commits (Import style.0 style.1 buckets entries)
+    (tells (version_line 0)
+    (rest (fresh style.0 style.1 buckets entries))))
+
+-- a change file is read whole, appended in one commit, and told
+abbrev pub appends_one : BoundsOf → Holding → (file : ℕ) → (Holding → Course) → Course
+appends_one bounds held file rest = reads file (IsChange file) (λ change.
+    commits (Append bounds change)
+    (tells (version_line (held.changes + 1))
+    (rest (changed bounds change held))))
+
+-- so many change files from this one on, one after another
+unfoldable pub appends : BoundsOf → Holding → (file count : ℕ) → (Holding → Course) → Course
+appends bounds held file zero rest = rest held
+appends bounds held file (suc count) rest = appends_one bounds held file (λ next. appends bounds next (file + 1) count rest)
+
+-- the text of due tiles, from a least zoom on
+abbrev pub IsTileText : Tiles → (least : ℕ) → List ℕ → Type 0
+IsTileText due least text = (runs : List Run) × ((zoom x y : ℕ) → has runs zoom x y ≡ due zoom x y) × (text ≡ tile_text runs least)
+
+-- versions of a store are shown to readers: these, then the one that is told last, and then one more for each change file, which is
+-- appended and told. When all are, what the readers answered is written
+unfoldable pub serves : BoundsOf → (queries : List Query) → (readers : ℕ) → (shown : List Holding) → Holding → (file count : ℕ) → Course
+serves bounds queries readers shown held file zero = writes (AreBlocks readers queries shown held) ends
+serves bounds queries readers shown held file (suc count) =
+    appends_one bounds held file (λ next. serves bounds queries readers (shown ++ held ∷ []) next (file + 1) count)
+
+-- the text of all tables, each behind a line with its name
+abbrev pub named_text : StyleOf → TableMap → (table : ℕ) → List ℕ
+named_text style all table =
+    option_map_or (λ definition. codes "table " ++ encode_utf8_all definition.name ++ codes "\n" ++ table_text style all table) (slice_get style.tables table) []
+
+abbrev pub tables_text : StyleOf → TableMap → List ℕ
+tables_text style all = flat_map (named_text style all) (range_with_len 0 (length style.tables))
+
+-- and that of the due tiles behind it
+abbrev pub IsWholeText : (least : ℕ) → Holding → List ℕ → Type 0
+IsWholeText least held text =
+    (tiles : List ℕ) × IsTileText held.due least tiles × (text ≡ tables_text held.style (tables held.style held.objects) ++ codes "tiles\n" ++ tiles)
+
+-- what comes when a version of the store was told: nothing, change files, the whole text, or change files while readers are answered
+pub data Onward : Type 0 where
+  finished : Onward
+  appending : (bounds : BoundsOf) → (file count : ℕ) → Onward → Onward
+  telling : (least : ℕ) → Onward
+  serving : (bounds : BoundsOf) → (queries : List Query) → (readers : ℕ) → (shown : List Holding) → (file count : ℕ) → Onward
+
+abbrev pub onward : Onward → Holding → Course
+onward finished held = ends
+onward (appending bounds file count last) held = appends bounds held file count (onward last)
+onward (telling least) held = looks (writes (IsWholeText least held) ends)
+onward (serving bounds queries readers shown file count) held = serves bounds queries readers shown held file count
+
+-- the text of a table, where there is one of the name
+abbrev pub exports : Holding → Option ℕ → Course
+exports held None = refuses UnknownTable
+exports held (Some table) = looks (writes_text (table_text held.style (tables held.style held.objects) table) ends)
+
+-- no tile is due any more, where this is asked for
+abbrev pub clears : Bool → Course
+clears false = ends
+clears true = commits Clear ends
+
+-- the courses of the commands over a store that is there, once it is open
+abbrev pub import_into : Files → (buckets : ℕ) → State → Course
+import_into files buckets state = if_formatted
+    (reads files.first (IsStyle files.first) (λ style.
+    imports style buckets (files.first + 1) (onward finished))) state
+
+abbrev pub append_to : Files → State → Course
+append_to files state = if_imported (λ held.
+    reads files.first (IsBounds files.first) (λ bounds.
+    appends bounds held (files.first + 1) (files.count - 1) (onward finished))) state
+
+abbrev pub export_from : (table : List ℕ) → State → Course
+export_from table state = if_imported (λ held. exports held (table_of held.style.tables table)) state
+
+abbrev pub tiles_of_store : (least : ℕ) → (clear : Bool) → State → Course
+tiles_of_store least clear state = if_imported (λ held. looks (writes (IsTileText held.due least) (clears clear))) state
+
+abbrev pub query_from : Files → State → Course
+query_from files state = if_imported (λ held.
+    reads files.first (IsQueries held.style files.first) (λ queries.
+    looks (writes_text (answers_text held.style (tables held.style held.objects) held.changes queries) ends))) state
+
+abbrev pub serve_to : Files → (readers : ℕ) → State → Course
+serve_to files readers state = if_imported (λ held.
+    reads files.first (IsBounds files.first) (λ bounds.
+    reads (files.first + 1) (IsQueries held.style (files.first + 1)) (λ queries.
+    looks (serves bounds queries readers [] held (files.first + 2) (files.count - 2))))) state
+
+-- a store of the old format is written anew in one commit, and that it has this format is told
+abbrev pub format_line : List ℕ
+format_line = codes "format 2\n"
+
+abbrev pub migrates : State → Course
+migrates formatted = refuses NotImported
+migrates (imported held) = tells format_line ends
+migrates (outdated held) = commits Migrate (tells format_line ends)
+
+-- a file is imported, so many behind it are appended, and all that the store holds then is told
+abbrev pub fills : (style : StyleOf × List ℕ) → BoundsOf → (file changes : ℕ) → Course
+fills style bounds file changes = imports style 1024 file (onward (appending bounds (file + 1) changes (telling bounds.zoom)))
+
+-- an empty store is made and filled
+abbrev pub replay_course : Files → Course
+replay_course files =
+    wants_empty
+    (reads files.first (IsStyle files.first) (λ style.
+    reads (files.first + 1) (IsBounds (files.first + 1)) (λ bounds.
+    formats
+    (looks
+    (fills style bounds (files.first + 2) (files.count - 3))))))
+
+abbrev pub course_of : CommandOf → Course
+course_of (points_of key files) = gathers files.first files.count [] (λ entries. writes_text (points_text_of key entries) ends)
+course_of (lines_of key files) = gathers files.first files.count [] (λ entries. writes_text (lines_text_of key entries) ends)
+course_of (init_of store) = init_course
+course_of (import_of store files buckets workers) = opens (import_into files buckets)
+course_of (append_of store files workers) = opens (append_to files)
+course_of (export_of store table) = opens (export_from table)
+course_of (tiles_of store least clear) = opens (tiles_of_store least clear)
+course_of (query_of store files) = opens (query_from files)
+course_of (serve_of store files workers readers) = opens (serve_to files readers)
+course_of (replay_of store files workers) = replay_course files
+course_of (migrate_of store) = opens migrates

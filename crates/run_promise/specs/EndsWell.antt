@@ -1,0 +1,67 @@
+-- What an import, an append and a clearing that end well have made of the history that the disk kept, and what they have told.
+use Rattle.std.specs.Prelude.{◌≡◌, ◌≤◌, ℕ, zero, suc, ◌+◌, ◌-◌, List, [], ◌∷◌, ◌++◌, length, map, Ok}
+use Rattle.osm_base.specs.declared.values.object.Entry.{Entry}
+use Rattle.outside.specs.Bytes.{IfTold}
+use Rattle.style_read.specs.Style.{StyleOf}
+use Rattle.tile_cover.specs.Table.{BoundsOf}
+use Rattle.update_flow.specs.History.{state_after}
+use Rattle.update_flow.specs.State.{Holding, formatted, imported, Import, Append, Clear}
+use Rattle.run_promise.specs.Courses.{IsTileText, version_line}
+use Rattle.run_promise.specs.Files.{IsBounds, IsChange, IsStyle}
+use Rattle.run_promise.specs.Keeps.{Kept, first, whole, with_steps}
+use Rattle.run_promise.specs.Progress.{Ending, IsIn, keeps}
+use Rattle.run_promise.specs.World.{Before}
+use Rattle.run_promise.specs.declared.files.Files.{Files}
+
+-- so many steps of the history that the disk kept stood as the store was opened
+pub record StoodAt (before : Kept) (cut : ℕ) : Type 0 where
+  pub from : before.least ≤ cut
+  pub to : cut ≤ before.most
+
+-- files from this one on were read, and hold these changes where they are told
+abbrev pub AreAccepted : Before → (file : ℕ) → List (List Entry) → List ℕ → Type 0
+AreAccepted old file [] read = Unit {0}
+AreAccepted old file (change ∷ changes) read =
+    IsIn read file × IfTold (old.left file) (λ bytes. IsChange file bytes (Ok change)) × AreAccepted old (file + 1) changes read
+
+-- the lines that tell of so many changes, each by its number, behind this one
+abbrev pub version_lines : (changes count : ℕ) → List ℕ
+version_lines changes zero = []
+version_lines changes (suc count) = version_line (changes + 1) ++ version_lines (changes + 1) count
+
+-- the steps behind those that stood are the changes of the files, each file was read whole, and each change was told
+pub record IsAppended (old : Before) (files : Files) (before : Kept) (ending : Ending) : Type 0 where
+  pub cut : ℕ
+  pub stood : StoodAt before cut
+  pub held : Holding
+  pub held_is : state_after (first cut before.history) ≡ imported held
+  pub bounds : BoundsOf
+  pub bounds_read : IsIn ending.done.read files.first
+  pub bounds_are : IfTold (old.left files.first) (λ bytes. IsBounds files.first bytes (Ok bounds))
+  pub changes : List (List Entry)
+  pub many : length changes ≡ files.count - 1
+  pub accepted : AreAccepted old (files.first + 1) changes ending.done.read
+  pub kept : ending.done.store ≡ keeps (whole (with_steps (map (λ change. Append bounds change) changes) (first cut before.history)))
+  pub told : ending.done.written ≡ version_lines held.changes (length changes)
+
+-- nothing was imported before, the one step behind is the import of the file, both files were read whole, and that was told
+pub record IsFirstImport (old : Before) (files : Files) (buckets : ℕ) (before : Kept) (ending : Ending) : Type 0 where
+  pub cut : ℕ
+  pub stood : StoodAt before cut
+  pub blank : state_after (first cut before.history) ≡ formatted
+  pub style : StyleOf × List ℕ
+  pub style_read : IsIn ending.done.read files.first
+  pub style_is : IfTold (old.left files.first) (λ bytes. IsStyle files.first bytes (Ok style))
+  pub entries : List Entry
+  pub accepted : AreAccepted old (files.first + 1) (entries ∷ []) ending.done.read
+  pub kept : ending.done.store ≡ keeps (whole (with_steps (Import style.0 style.1 buckets entries ∷ []) (first cut before.history)))
+  pub told : ending.done.written ≡ version_line 0
+
+-- the tiles that were due were written, and the one step behind is their clearing
+pub record IsCleared (least : ℕ) (before : Kept) (ending : Ending) : Type 0 where
+  pub cut : ℕ
+  pub stood : StoodAt before cut
+  pub held : Holding
+  pub held_is : state_after (first cut before.history) ≡ imported held
+  pub kept : ending.done.store ≡ keeps (whole (with_steps (Clear ∷ []) (first cut before.history)))
+  pub told : IsTileText held.due least ending.done.written

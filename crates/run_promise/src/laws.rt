@@ -1,0 +1,61 @@
+//! What holds of the runs of every command, by their courses.
+ghost use Rattle.std.specs.Prelude.{◌≡◌, List, None, true, ℕ};
+ghost use Rattle.run_promise.specs.Causes.{WantsNewFormat};
+ghost use Rattle.run_promise.specs.Comes.{Comes, IsDue, IsOutside};
+ghost use Rattle.run_promise.specs.CommandOf.{CommandOf, append_of, import_of, migrate_of, tiles_of, use_of};
+ghost use Rattle.run_promise.specs.Courses.{course_of};
+ghost use Rattle.run_promise.specs.EndsWell.{IsAppended, IsCleared, IsFirstImport};
+ghost use Rattle.run_promise.specs.InTurn.{FaultNames, IsInTurn};
+ghost use Rattle.run_promise.specs.Keeps.{Kept};
+ghost use Rattle.run_promise.specs.Migrating.{IsMigrated, LeavesOld};
+ghost use Rattle.run_promise.specs.Progress.{Ending, Progress, begun, keeps};
+ghost use Rattle.run_promise.specs.Reading.{HasItsFiles};
+ghost use Rattle.run_promise.specs.Runs.{MayBegin};
+ghost use Rattle.run_promise.specs.World.{Before};
+ghost use Rattle.run_promise.specs.declared.files.Files.{Files};
+
+/// A run whose fault blames nothing outside, nor the want of memory, came to the end that is due.
+pub fn ends_are_due()
+    ensures due { (command : CommandOf) (old : Before) (start : Progress) (ending : Ending) → Comes old (course_of command) start ending
+        → ¬ IsOutside ending.fault → IsDue old (course_of command) start ending }
+{}
+
+/// A fault that names a file names the one whose turn it was. Each command that words mean has its files.
+pub fn faults_come_in_turn()
+    ensures turn { (command : CommandOf) (old : Before) (start : Progress) (ending : Ending) (file : ℕ)
+        → HasItsFiles command → MayBegin (use_of command) start
+        → Comes old (course_of command) start ending → FaultNames ending.fault file → IsInTurn command old ending file }
+{}
+
+/// Each command that opens its store leaves one of the old format as it is, but for `migrate`.
+pub fn old_stores_are_left()
+    ensures left { (command : CommandOf) (old : Before) (kept : Kept) (ending : Ending) → WantsNewFormat command
+        → Comes old (course_of command) (begun (keeps kept) kept.least) ending → LeavesOld kept ending }
+{}
+
+/// A migration that ends well leaves a store of this format that holds what it held, and has told so.
+pub fn migrations_end_well()
+    ensures migrated { (old : Before) (store : List ℕ) (kept : Kept) (ending : Ending)
+        → Comes old (course_of (migrate_of store)) (begun (keeps kept) kept.least) ending → ending.fault ≡ None → IsMigrated kept ending }
+{}
+
+/// An append that ends well has appended each of its change files, one after another, and told each.
+pub fn appends_end_well()
+    ensures appended { (old : Before) (store : List ℕ) (files : Files) (workers : ℕ) (kept : Kept) (ending : Ending)
+        → Comes old (course_of (append_of store files workers)) (begun (keeps kept) kept.least) ending → ending.fault ≡ None
+        → IsAppended old files kept ending }
+{}
+
+/// An import that ends well was the first one, and has told so.
+pub fn imports_end_well()
+    ensures imported { (old : Before) (store : List ℕ) (files : Files) (buckets workers : ℕ) (kept : Kept) (ending : Ending)
+        → Comes old (course_of (import_of store files buckets workers)) (begun (keeps kept) kept.least) ending → ending.fault ≡ None
+        → IsFirstImport old files buckets kept ending }
+{}
+
+/// A clearing that ends well has written the tiles that were due, and none is due any more.
+pub fn clearings_end_well()
+    ensures cleared { (old : Before) (store : List ℕ) (least : ℕ) (kept : Kept) (ending : Ending)
+        → Comes old (course_of (tiles_of store least true)) (begun (keeps kept) kept.least) ending → ending.fault ≡ None
+        → IsCleared least kept ending }
+{}

@@ -1,0 +1,7 @@
+pub mod KindRows
+pub mod Manual
+pub mod PointLaw
+pub mod PointRowLaws
+pub mod RowMapLaws
+pub mod TrimmedLaws
+pub mod WayLaws

@@ -1,0 +1,80 @@
+//! Rows by ids.
+ghost use Rattle.std.specs.Prelude.{◌≡◌, None, IfOk, IsTrue, OnOk};
+ghost use Rattle.std.specs.BTreeMap.{get};
+ghost use Rattle.std.specs.FinMap as map;
+ghost use Rattle.std.specs.Ordering.{nat_cmp};
+ghost use Rattle.tag_rows.specs.RowsById.{set_row, text_of};
+
+use osm_base::{Bytes, OutOfMemory};
+use std::alloc::Global;
+use std::collections::BTreeMap;
+use std::marker::Model;
+
+/// The row of each id that has one.
+#[derive(Drop)]
+pub struct RowsById {
+    alloc: Global,
+    rows: BTreeMap<u64, Bytes>,
+}
+
+impl Model for RowsById {
+    ghost use Rattle.std.specs.Prelude.{ℕ, List};
+    ghost use Rattle.std.specs.Coded.{coded_list, coded_ℕ};
+    ghost use Rattle.std.specs.Ordering.{nat_cmp};
+    ghost use Rattle.std.specs.FinMap as map;
+
+    ghost Value = { map.FinMap nat_cmp (List ℕ) };
+
+    ghost coded = { map.code coded_ℕ (coded_list coded_ℕ) };
+
+    ghost view = { λ own. map.from_entries own.rows.entries };
+}
+
+impl RowsById {
+    /// No row.
+    pub fn new(alloc: Global) -> Self
+        ensures empty { result ≡ map.empty }
+    {
+        Self {
+            alloc,
+            rows: BTreeMap::new(alloc),
+        }
+    }
+
+    /// Gives an id this row, or none where it is empty.
+    pub fn set(&mut self, id: u64, row: &[u8]) -> Result<(), OutOfMemory>
+        ensures ok { OnOk result (self.new ≡ set_row self.old id row.now) }
+    {
+        if row.is_empty() {
+            if is_behind(&self.rows, id) {
+                return Ok(());
+            }
+            self.rows.remove(&id);
+            return Ok(());
+        }
+        let row = Vec::from_slice(self.alloc, row)?;
+        self.rows.insert(id, Bytes::from_vec(row))?;
+        Ok(())
+    }
+
+    /// All rows, by rising id.
+    pub fn text(&self) -> Result<Vec<u8>, OutOfMemory>
+        ensures text { IfOk result (λ text. text.items ≡ text_of self.now) }
+    {
+        let mut text = Vec::new(self.alloc);
+        for row in self.rows.values() {
+            text.extend_from_slice(row.as_slice())?;
+        }
+        Ok(text)
+    }
+}
+
+/// Whether an id comes behind all that have a row: so do most, since files have their ids in order.
+fn is_behind(rows: &BTreeMap<u64, Bytes>, id: u64) -> bool
+    ensures none { IsTrue result → get nat_cmp rows.now id ≡ None }
+{
+    match rows.last_key_value() {
+        Some((last, _)) => *last < id,
+        None => true,
+    }
+}

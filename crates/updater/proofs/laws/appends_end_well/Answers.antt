@@ -1,5 +1,0 @@
-use Rattle.updater.proofs.EndLaws.{appended_well}
-use Rattle.updater.proofs.laws.appends_end_well.Goals as goal
-
-pub returns : goal.returns
-returns c = record { appended = λ old store files workers kept ending comes well. appended_well old ending well store files workers kept comes }

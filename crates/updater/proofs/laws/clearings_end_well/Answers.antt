@@ -1,5 +1,0 @@
-use Rattle.updater.proofs.EndLaws.{cleared_well}
-use Rattle.updater.proofs.laws.clearings_end_well.Goals as goal
-
-pub returns : goal.returns
-returns c = record { cleared = λ old store least kept ending comes well. cleared_well old ending well store least kept comes }

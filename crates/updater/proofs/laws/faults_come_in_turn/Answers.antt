@@ -1,5 +1,0 @@
-use Rattle.updater.proofs.TurnLaws.{in_turn_from}
-use Rattle.updater.proofs.laws.faults_come_in_turn.Goals as goal
-
-pub returns : goal.returns
-returns c = record { turn = in_turn_from }
