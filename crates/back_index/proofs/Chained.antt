@@ -17,11 +17,12 @@ use Rattle.bucket_store.specs.Buckets.{Stored, bucket_count, chain_at}
 use Rattle.bucket_store.specs.Cache.{CacheMap}
 use Rattle.bucket_store.specs.Image.{Has, Image, IsSoundAnswer}
 use Rattle.bucket_store.specs.Transaction.{Content, IsOpenStore, IsOpenWith, cached_of, chains_of, has_refused}
+use Rattle.bucket_store.specs.Typed.{refusal_of}
 use Rattle.bucket_store.proofs.Holding.{has_later}
 use Rattle.bucket_store.specs.declared.buckets.Buckets.{Buckets}
 use Rattle.value_bytes.specs.declared.fault.ValueFault.{ValueFault}
 use Rattle.value_bytes.specs.declared.fault.ValueFault.TheVariants as faults
-use Rattle.back_index.specs.Calls.{Answers, Marks, page_in, refusal_of}
+use Rattle.back_index.specs.Calls.{Answers, Marks, page_in}
 use Rattle.back_index.specs.Asking.{read_same, read_then, rose_later}
 use Rattle.back_index.specs.Visits.{Refuses}
 

@@ -8,7 +8,7 @@ use Rattle.value_bytes.specs.Lists.{list_bytes, IsList}
 use Rattle.value_bytes.specs.Numbers.{number_bytes, IsNumber}
 use Rattle.value_bytes.specs.declared.fault.ValueFault.{ValueFault}
 use Rattle.value_bytes.specs.declared.fault.ValueFault.TheVariants as values
-use Rattle.back_index.specs.Calls.{refusal_of}
+use Rattle.bucket_store.specs.Typed.{refusal_of}
 use Rattle.back_index.specs.Ids.{ids_bytes, AreListed}
 use Rattle.back_index.specs.Index.{HasNodes, IsNodeless}
 use Rattle.back_index.specs.Relisting.{IsUnread, ReadsIds}

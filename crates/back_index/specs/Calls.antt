@@ -1,19 +1,18 @@
 -- What calls on the index leave of a store, whatever they answer.
-use Rattle.std.specs.Prelude.{◌≡◌, ℕ, ◌||◌, true, is_err, Result}
+use Rattle.std.specs.Prelude.{◌≡◌, ℕ, ◌||◌, true, is_err, Result, IfErr, OnOk}
 use Rattle.outside.specs.declared.disk.Disk.{Ghosts}
 use Rattle.page_journal.specs.Answers.{HasDiskCause, answers_disk_fault}
 use Rattle.page_journal.specs.Journal.{is_broken}
 use Rattle.page_journal.specs.declared.fault.StoreFault.{StoreFault}
-use Rattle.page_journal.specs.declared.fault.StoreFault.TheVariants.{BadStore, OutOfMemory}
 use Rattle.chain_store.specs.Answers.{IsReadAnswer}
 use Rattle.chain_store.specs.Chains.{OnlyRead, disk_of, first_of, journal_of}
 use Rattle.bucket_store.specs.Buckets.{bucket_count, chain_at}
 use Rattle.bucket_store.specs.Image.{Image, Has}
 use Rattle.bucket_store.specs.Transaction.{chains_of, has_refused}
 use Rattle.bucket_store.specs.declared.buckets.Buckets.{Buckets}
+use Rattle.back_index.specs.Reads.{ReadsBuckets}
+use Rattle.back_index.specs.Visits.{Refuses}
 use Rattle.back_index.specs.declared.visit.Visit.{Visit}
-use Rattle.value_bytes.specs.declared.fault.ValueFault.{ValueFault}
-use Rattle.value_bytes.specs.declared.fault.ValueFault.TheVariants as faults
 
 -- the first page that the bucket of a key has in the store, or 0 where it is empty there
 abbrev pub page_in : {D : Type 0} {g : Ghosts D} → Buckets D g → ℕ → ℕ → ℕ
@@ -21,11 +20,6 @@ page_in buckets which key = first_of (chains_of buckets) (chain_at (bucket_count
 
 abbrev pub page_at : {D : Type 0} {g : Ghosts D} → Buckets D g → Visit → ℕ
 page_at buckets visit = page_in buckets visit.which visit.id
-
--- the answer where a value is not read
-abbrev pub refusal_of : ValueFault → ℕ → StoreFault
-refusal_of faults.NotSpelled page = BadStore page
-refusal_of faults.OutOfMemory page = OutOfMemory
 
 -- the store at rest was only looked at; the answer is one of a call that reads, each refusal with its cause, and the
 -- transaction has refused a call where it is one
@@ -35,6 +29,17 @@ pub record Answers {D T : Type 0} {g : Ghosts D} (old new : Buckets D g) (result
   pub broken : is_broken (journal_of (chains_of new)) ≡ (is_broken (journal_of (chains_of old)) || answers_disk_fault result)
   pub refused : has_refused new ≡ is_err result
   pub cause : HasDiskCause (disk_of (chains_of old)).faults (disk_of (chains_of new)).faults result
+
+-- what each call on the lists leaves of the store. Of buckets it read no more than those of chains, each once; on a store that means
+-- something it is refused for the disk, for want of memory, or for a page where there is such damage.
+pub record TouchesLists {D T : Type 0} {g : Ghosts D} (Damage : Image → ℕ → Type 0) (old new : Buckets D g) (result : Result T StoreFault) : Type 0 where
+  pub answers : Answers old new result
+  pub reads : OnOk result (ReadsBuckets old new)
+  pub stops : (rest now : Image) → Has rest now old → IfErr result (Refuses (Damage now))
+
+-- there is none that such a call meets
+abbrev pub NoDamage : Image → ℕ → Type 0
+NoDamage now at = ⊥
 
 -- the transaction has refused a call, and has all that it had
 pub record Marks {D : Type 0} {g : Ghosts D} (old new : Buckets D g) : Type 0 where

@@ -13,10 +13,10 @@ ghost use Rattle.store_maps.specs.Asked.{May, MayAnswer, MayEach};
 ghost use Rattle.store_maps.specs.Maps.{Maps};
 ghost use Rattle.store_maps.specs.Named.{index_on, list_it};
 ghost use Rattle.value_bytes.specs.Forms.{NeedsFor};
-ghost use Rattle.back_index.specs.Calls.{Answers};
+ghost use Rattle.back_index.specs.Calls.{TouchesLists};
 ghost use Rattle.back_index.specs.Index.{HasNodeless, HasNodes, HasUnread, HoldsIndex, HoldsWays, IsNodeless};
-ghost use Rattle.back_index.specs.Reads.{HasReadOnly, ReadsBuckets};
-ghost use Rattle.back_index.specs.Visits.{Refuses, StopsAt};
+ghost use Rattle.back_index.specs.Reads.{HasReadOnly};
+ghost use Rattle.back_index.specs.Visits.{StopsAt};
 
 use crate::lists::{listers, refused};
 use crate::visit::{WAYS, WAYS_OF_BLOCKS};
@@ -43,12 +43,10 @@ pub fn ways_of_node<D: Disk>(
         → ids ≡ (index_on maps).ways_of_node id) }
     ensures rising { IfOk result AreRisingIds }
     ensures has { answers_disk_fault result ≡ false → (rest now : Image) → Has rest now buckets.old → Has rest now buckets.new }
-    ensures stops { (rest now : Image) → Has rest now buckets.old
-        → IfErr result (Refuses (λ at. HasUnread buckets.old now at ⊎ HasNodeless buckets.old now at)) }
     ensures within { (rest now : Image) → Has rest now buckets.old → (maps : Maps) → HoldsIndex now maps
         → (may : May) → MayAnswer may maps (WaysOfNode id) → HasReadOnly may buckets.old → HasReadOnly may buckets.new }
-    ensures reads { OnOk result (ReadsBuckets buckets.old buckets.new) }
-    ensures answers { Answers buckets.old buckets.new result }
+    ensures touches { TouchesLists (λ now at. HasUnread buckets.old now at ⊎ HasNodeless buckets.old now at)
+        buckets.old buckets.new result }
 {
     let block = id / BLOCK;
     let ways = match listers(alloc, buckets, WAYS_OF_BLOCKS, block) {
@@ -75,11 +73,9 @@ fn ways_with<D: Disk>(
         → ids ≡ filter (list_it maps node) ways.now) }
     ensures rising { IfOk result AreRisingIds }
     ensures has { answers_disk_fault result ≡ false → (rest now : Image) → Has rest now buckets.old → Has rest now buckets.new }
-    ensures stops { (rest now : Image) → Has rest now buckets.old
-        → IfErr result (Refuses (StopsAt (λ way. (nodes : List ℕ) × HasNodes (finite.get (now.maps WAYS) way) nodes) (λ _. page) ways.now)) }
     ensures within { (may : May) → MayEach may WAYS ways.now → HasReadOnly may buckets.old → HasReadOnly may buckets.new }
-    ensures reads { OnOk result (ReadsBuckets buckets.old buckets.new) }
-    ensures answers { Answers buckets.old buckets.new result }
+    ensures touches { TouchesLists (λ now. StopsAt (λ way. (nodes : List ℕ) × HasNodes (finite.get (now.maps WAYS) way) nodes) (λ _. page) ways.now)
+        buckets.old buckets.new result }
 {
     let mut found = Vec::new(alloc);
     for &way in ways {
@@ -106,11 +102,9 @@ fn add_way<D: Disk>(
         × (found.new.items ≡ found.old.items ++ (if has nodes node then way ∷ [] else []))) }
     ensures ids { OnOk result (IsId way → AllByRecursion IsId found.old.items → AllByRecursion IsId found.new.items) }
     ensures has { answers_disk_fault result ≡ false → (rest now : Image) → Has rest now buckets.old → Has rest now buckets.new }
-    ensures stops { (rest now : Image) → Has rest now buckets.old
-        → IfErr result (Refuses (λ at. (¬ ((nodes : List ℕ) × HasNodes (finite.get (now.maps WAYS) way) nodes)) × (at ≡ page))) }
     ensures within { (may : May) → may WAYS way ≡ true → HasReadOnly may buckets.old → HasReadOnly may buckets.new }
-    ensures reads { OnOk result (ReadsBuckets buckets.old buckets.new) }
-    ensures answers { Answers buckets.old buckets.new result }
+    ensures touches { TouchesLists (λ now at. (¬ ((nodes : List ℕ) × HasNodes (finite.get (now.maps WAYS) way) nodes)) × (at ≡ page))
+        buckets.old buckets.new result }
 {
     let nodes = match nodes_of(alloc, buckets, way, page) {
         Ok(nodes) => nodes,
@@ -136,11 +130,9 @@ fn nodes_of<D: Disk>(
     requires going { has_refused buckets.old ≡ false }
     ensures nodes { IfOk result (λ nodes. (rest now : Image) → Has rest now buckets.old → HasNodes (finite.get (now.maps WAYS) way) nodes) }
     ensures has { answers_disk_fault result ≡ false → (rest now : Image) → Has rest now buckets.old → Has rest now buckets.new }
-    ensures stops { (rest now : Image) → Has rest now buckets.old
-        → IfErr result (Refuses (λ at. (¬ ((nodes : List ℕ) × HasNodes (finite.get (now.maps WAYS) way) nodes)) × (at ≡ page))) }
     ensures within { (may : May) → may WAYS way ≡ true → HasReadOnly may buckets.old → HasReadOnly may buckets.new }
-    ensures reads { OnOk result (ReadsBuckets buckets.old buckets.new) }
-    ensures answers { Answers buckets.old buckets.new result }
+    ensures touches { TouchesLists (λ now at. (¬ ((nodes : List ℕ) × HasNodes (finite.get (now.maps WAYS) way) nodes)) × (at ≡ page))
+        buckets.old buckets.new result }
 {
     if let Err(fault) = buckets.bring(WAYS, way) {
         return Err(fault);

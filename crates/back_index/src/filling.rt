@@ -11,11 +11,11 @@ ghost use Rattle.bucket_store.specs.Transaction.{chains_of, has_refused};
 ghost use Rattle.store_maps.specs.Asked.{May};
 ghost use Rattle.store_maps.specs.Filling.{MayListAll, entries_tell};
 ghost use Rattle.store_maps.specs.Turns.{blocks_in};
-ghost use Rattle.back_index.specs.Calls.{Answers};
+ghost use Rattle.back_index.specs.Calls.{NoDamage, TouchesLists};
 ghost use Rattle.back_index.specs.Filling.{AreIds, AreKept, ByIds, Fills, HasNoIndex, IsVoid, MayTold, Runs, id_of, mentions_tell};
-ghost use Rattle.back_index.specs.Reads.{HasReadOnly, ReadsBuckets};
+ghost use Rattle.back_index.specs.Reads.{HasReadOnly};
 ghost use Rattle.back_index.specs.Relisting.{kept_list};
-ghost use Rattle.back_index.specs.Visits.{OnlyMap, Refuses};
+ghost use Rattle.back_index.specs.Visits.{OnlyMap};
 ghost use Rattle.back_index.specs.declared.mentions.Mention.{Mention as MentionOf};
 
 use crate::lists::{keep_list, refused};
@@ -40,10 +40,8 @@ pub fn fill<D: Disk>(
     requires going { has_refused buckets.old ≡ false }
     ensures fills { OnOk result ((rest now : Image) → Has rest now buckets.old → HasNoIndex now
         → (after : Image) × Has rest after buckets.new × Fills entries.now now after) }
-    ensures stops { (rest now : Image) → Has rest now buckets.old → IfErr result (Refuses (λ _. ⊥)) }
     ensures within { (may : May) → MayListAll may entries.now → HasReadOnly may buckets.old → HasReadOnly may buckets.new }
-    ensures reads { OnOk result (ReadsBuckets buckets.old buckets.new) }
-    ensures answers { Answers buckets.old buckets.new result }
+    ensures touches { TouchesLists NoDamage buckets.old buckets.new result }
 {
     if let Err(fault) = fill_blocks(alloc, buckets, entries) {
         return Err(fault);
@@ -64,10 +62,8 @@ fn fill_blocks<D: Disk>(
     requires going { has_refused buckets.old ≡ false }
     ensures fills { OnOk result ((rest now : Image) → Has rest now buckets.old → (after : Image) × Has rest after buckets.new × OnlyMap WAYS_OF_BLOCKS now after
         × (IsVoid (now.maps WAYS_OF_BLOCKS) → AreKept (entries_tell kinds.Way blocks_in entries.now) (after.maps WAYS_OF_BLOCKS))) }
-    ensures stops { (rest now : Image) → Has rest now buckets.old → IfErr result (Refuses (λ _. ⊥)) }
     ensures within { (may : May) → MayTold may WAYS_OF_BLOCKS (entries_tell kinds.Way blocks_in entries.now) → HasReadOnly may buckets.old → HasReadOnly may buckets.new }
-    ensures reads { OnOk result (ReadsBuckets buckets.old buckets.new) }
-    ensures answers { Answers buckets.old buckets.new result }
+    ensures touches { TouchesLists NoDamage buckets.old buckets.new result }
 {
     match blocks_told(alloc, entries) {
         Ok(mentions) => fill_map(alloc, buckets, WAYS_OF_BLOCKS, mentions),
@@ -88,10 +84,8 @@ fn fill_members<D: Disk>(
     requires going { has_refused buckets.old ≡ false }
     ensures fills { OnOk result ((rest now : Image) → Has rest now buckets.old → (after : Image) × Has rest after buckets.new × OnlyMap which now after
         × (IsVoid (now.maps which) → AreKept (entries_tell kinds.Relation (listed kind) entries.now) (after.maps which))) }
-    ensures stops { (rest now : Image) → Has rest now buckets.old → IfErr result (Refuses (λ _. ⊥)) }
     ensures within { (may : May) → MayTold may which (entries_tell kinds.Relation (listed kind) entries.now) → HasReadOnly may buckets.old → HasReadOnly may buckets.new }
-    ensures reads { OnOk result (ReadsBuckets buckets.old buckets.new) }
-    ensures answers { Answers buckets.old buckets.new result }
+    ensures touches { TouchesLists NoDamage buckets.old buckets.new result }
 {
     match members_told(alloc, entries, kind) {
         Ok(mentions) => fill_map(alloc, buckets, which, mentions),
@@ -112,10 +106,8 @@ fn fill_map<D: Disk>(
     requires ids { ByIds (mentions_tell mentions.items) }
     ensures fills { OnOk result ((rest now : Image) → Has rest now buckets.old → (after : Image) × Has rest after buckets.new × OnlyMap which now after
         × (IsVoid (now.maps which) → AreKept (mentions_tell mentions.items) (after.maps which))) }
-    ensures stops { (rest now : Image) → Has rest now buckets.old → IfErr result (Refuses (λ _. ⊥)) }
     ensures within { (may : May) → MayTold may which (mentions_tell mentions.items) → HasReadOnly may buckets.old → HasReadOnly may buckets.new }
-    ensures reads { OnOk result (ReadsBuckets buckets.old buckets.new) }
-    ensures answers { Answers buckets.old buckets.new result }
+    ensures touches { TouchesLists NoDamage buckets.old buckets.new result }
 {
     if mentions.is_empty() {
         return Ok(());
@@ -149,10 +141,8 @@ fn keep_lists<D: Disk>(
     requires ids { ByIds (mentions_tell mentions.now) }
     ensures keeps { OnOk result ((rest now : Image) → Has rest now buckets.old → (after : Image) × Has rest after buckets.new × OnlyMap which now after
         × (IsVoid (now.maps which) → AreKept (mentions_tell mentions.now) (after.maps which))) }
-    ensures stops { (rest now : Image) → Has rest now buckets.old → IfErr result (Refuses (λ _. ⊥)) }
     ensures within { (may : May) → MayTold may which (mentions_tell mentions.now) → HasReadOnly may buckets.old → HasReadOnly may buckets.new }
-    ensures reads { OnOk result (ReadsBuckets buckets.old buckets.new) }
-    ensures answers { Answers buckets.old buckets.new result }
+    ensures touches { TouchesLists NoDamage buckets.old buckets.new result }
 {
     let mut run = Run {
         id: mentions[0].id,
@@ -186,10 +176,8 @@ fn add_mention<D: Disk>(
         → Runs (done ++ mention ∷ []) run.new.id run.new.ids.items (after.maps which))) }
     ensures at { OnOk result (run.new.id ≡ mention.id) }
     ensures ids { OnOk result (AreIds run.new.ids.items) }
-    ensures stops { (rest now : Image) → Has rest now buckets.old → IfErr result (Refuses (λ _. ⊥)) }
     ensures within { (may : May) → may which run.old.id ≡ true → HasReadOnly may buckets.old → HasReadOnly may buckets.new }
-    ensures reads { OnOk result (ReadsBuckets buckets.old buckets.new) }
-    ensures answers { Answers buckets.old buckets.new result }
+    ensures touches { TouchesLists NoDamage buckets.old buckets.new result }
 {
     if mention.id == run.id {
         return push(buckets, run, mention.own);
@@ -208,10 +196,8 @@ fn push<D: Disk>(buckets: &mut Buckets<'_, D>, run: &mut Run, own: u64) -> Resul
     ensures at { run.new.id ≡ run.old.id }
     ensures ids { OnOk result (run.new.ids.items ≡ run.old.ids.items ++ own ∷ []) }
     ensures has { (rest now : Image) → Has rest now buckets.old → Has rest now buckets.new }
-    ensures stops { IfErr result (Refuses (λ _. ⊥)) }
     ensures within { (may : May) → HasReadOnly may buckets.old → HasReadOnly may buckets.new }
-    ensures reads { OnOk result (ReadsBuckets buckets.old buckets.new) }
-    ensures answers { Answers buckets.old buckets.new result }
+    ensures touches { TouchesLists NoDamage buckets.old buckets.new result }
 {
     match run.ids.push(own) {
         Ok(()) => Ok(()),
@@ -233,10 +219,8 @@ fn keep_run<D: Disk>(
     requires ids { AreIds ids.items }
     ensures keeps { OnOk result ((rest now : Image) → Has rest now buckets.old → (list : List ℕ) × AreRisingIds list × ((own : ℕ) → has list own ≡ has ids.items own)
         × Has rest (with_value which id (kept_list list) now) buckets.new) }
-    ensures stops { (rest now : Image) → Has rest now buckets.old → IfErr result (Refuses (λ _. ⊥)) }
     ensures within { (may : May) → may which id ≡ true → HasReadOnly may buckets.old → HasReadOnly may buckets.new }
-    ensures reads { OnOk result (ReadsBuckets buckets.old buckets.new) }
-    ensures answers { Answers buckets.old buckets.new result }
+    ensures touches { TouchesLists NoDamage buckets.old buckets.new result }
 {
     let ids = RisingIds::from_vec(ids);
     keep_list(alloc, buckets, which, id, ids.as_slice())

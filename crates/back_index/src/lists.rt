@@ -7,12 +7,12 @@ ghost use Rattle.chain_store.specs.Chains.{first_of};
 ghost use Rattle.bucket_store.specs.Buckets.{bucket_count, chain_at};
 ghost use Rattle.bucket_store.specs.Image.{Has, Image, with_value};
 ghost use Rattle.bucket_store.specs.Transaction.{cached_of, chains_of, has_refused};
+ghost use Rattle.bucket_store.specs.Typed.{refusal_of};
 ghost use Rattle.store_maps.specs.Asked.{May};
 ghost use Rattle.value_bytes.specs.Forms.{NeedsFor};
-ghost use Rattle.back_index.specs.Calls.{Answers, Marks, page_in, refusal_of};
-ghost use Rattle.back_index.specs.Reads.{HasReadOnly, ReadsBuckets};
+ghost use Rattle.back_index.specs.Calls.{Marks, NoDamage, TouchesLists, page_in};
+ghost use Rattle.back_index.specs.Reads.{HasReadOnly};
 ghost use Rattle.back_index.specs.Relisting.{IsUnread, ReadsIds, kept_list};
-ghost use Rattle.back_index.specs.Visits.{Refuses};
 
 use crate::{ids_bytes, read_ids};
 use bucket_store::Buckets;
@@ -35,11 +35,9 @@ pub fn listers<D: Disk>(
     ensures ids { IfOk result (λ ids. (rest now : Image) → Has rest now buckets.old → ReadsIds (map.get (now.maps which) id) ids) }
     ensures rising { IfOk result AreRisingIds }
     ensures has { answers_disk_fault result ≡ false → (rest now : Image) → Has rest now buckets.old → Has rest now buckets.new }
-    ensures stops { (rest now : Image) → Has rest now buckets.old
-        → IfErr result (Refuses (λ at. IsUnread (map.get (now.maps which) id) × (at ≡ page_in buckets.old which id))) }
     ensures within { (may : May) → may which id ≡ true → HasReadOnly may buckets.old → HasReadOnly may buckets.new }
-    ensures reads { OnOk result (ReadsBuckets buckets.old buckets.new) }
-    ensures answers { Answers buckets.old buckets.new result }
+    ensures touches { TouchesLists (λ now at. IsUnread (map.get (now.maps which) id) × (at ≡ page_in buckets.old which id))
+        buckets.old buckets.new result }
 {
     if let Err(fault) = buckets.bring(which, id) {
         return Err(fault);
@@ -85,10 +83,8 @@ pub fn keep_list<D: Disk>(
     requires some { 1 ≤ bucket_count (chains_of buckets.old) }
     requires going { has_refused buckets.old ≡ false }
     ensures keeps { OnOk result ((rest now : Image) → Has rest now buckets.old → Has rest (with_value which id (kept_list ids.now) now) buckets.new) }
-    ensures stops { (rest now : Image) → Has rest now buckets.old → IfErr result (Refuses (λ _. ⊥)) }
     ensures within { (may : May) → may which id ≡ true → HasReadOnly may buckets.old → HasReadOnly may buckets.new }
-    ensures reads { OnOk result (ReadsBuckets buckets.old buckets.new) }
-    ensures answers { Answers buckets.old buckets.new result }
+    ensures touches { TouchesLists NoDamage buckets.old buckets.new result }
 {
     if ids.is_empty() {
         return match buckets.remove(which, id) {

@@ -6,15 +6,15 @@ ghost use Rattle.osm_base.specs.values.Key.{IsId};
 ghost use Rattle.bucket_store.specs.Buckets.{bucket_count};
 ghost use Rattle.bucket_store.specs.Image.{Has, Image};
 ghost use Rattle.bucket_store.specs.Transaction.{chains_of, has_refused};
-ghost use Rattle.back_index.specs.Calls.{Answers, page_at};
+ghost use Rattle.back_index.specs.Calls.{TouchesLists, page_at};
 ghost use Rattle.back_index.specs.Index.{Relists, all_visits};
 ghost use Rattle.osm_base.specs.map.Listers.{listed};
 ghost use Rattle.store_maps.specs.Asked.{May, MayEach, MayList};
 ghost use Rattle.store_maps.specs.Step.{with_id, without_id};
 ghost use Rattle.store_maps.specs.Turns.{blocks_in, listed_by};
-ghost use Rattle.back_index.specs.Reads.{HasReadOnly, ReadsBuckets};
+ghost use Rattle.back_index.specs.Reads.{HasReadOnly};
 ghost use Rattle.back_index.specs.Relisting.{CanTurn, Turns, TurnsAt, in_order, kept_list, turned};
-ghost use Rattle.back_index.specs.Visits.{IsFine, OnlyMap, Refuses, Sets, StopsAt, visit_of, visits};
+ghost use Rattle.back_index.specs.Visits.{IsFine, OnlyMap, Sets, StopsAt, visit_of, visits};
 
 use crate::listed_ids::{rising_blocks, rising_listed};
 use crate::lists::{keep_list, listers, refused};
@@ -41,11 +41,9 @@ pub fn relist<D: Disk>(
     requires going { has_refused buckets.old ≡ false }
     ensures relists { OnOk result ((rest now : Image) → Has rest now buckets.old
         → (after : Image) × Has rest after buckets.new × Relists key old.now new.now now after) }
-    ensures stops { (rest now : Image) → Has rest now buckets.old
-        → IfErr result (Refuses (StopsAt (IsFine now key.id) (page_at buckets.old) (all_visits key old.now new.now))) }
     ensures within { (may : May) → MayList may key old.now → MayList may key new.now → HasReadOnly may buckets.old → HasReadOnly may buckets.new }
-    ensures reads { OnOk result (ReadsBuckets buckets.old buckets.new) }
-    ensures answers { Answers buckets.old buckets.new result }
+    ensures touches { TouchesLists (λ now. StopsAt (IsFine now key.id) (page_at buckets.old) (all_visits key old.now new.now))
+        buckets.old buckets.new result }
 {
     match key.kind {
         Kind::Node => Ok(()),
@@ -90,12 +88,10 @@ fn relist_blocks<D: Disk>(
     ensures turns { OnOk result ((rest now : Image) → Has rest now buckets.old → (after : Image) × Has rest after buckets.new
         × OnlyMap WAYS_OF_BLOCKS now after
         × Turns own (listed_by blocks_in old.now) (listed_by blocks_in new.now) (now.maps WAYS_OF_BLOCKS) (after.maps WAYS_OF_BLOCKS)) }
-    ensures stops { (rest now : Image) → Has rest now buckets.old → IfErr result (Refuses (StopsAt (IsFine now own) (page_at buckets.old)
-        (visits WAYS_OF_BLOCKS (listed_by blocks_in old.now) (listed_by blocks_in new.now)))) }
     ensures within { (may : May) → MayEach may WAYS_OF_BLOCKS (listed_by blocks_in old.now) → MayEach may WAYS_OF_BLOCKS (listed_by blocks_in new.now)
         → HasReadOnly may buckets.old → HasReadOnly may buckets.new }
-    ensures reads { OnOk result (ReadsBuckets buckets.old buckets.new) }
-    ensures answers { Answers buckets.old buckets.new result }
+    ensures touches { TouchesLists (λ now. StopsAt (IsFine now own) (page_at buckets.old) (visits WAYS_OF_BLOCKS (listed_by blocks_in old.now) (listed_by blocks_in new.now)))
+        buckets.old buckets.new result }
 {
     let olds = match rising_blocks(alloc, old) {
         Ok(ids) => ids,
@@ -125,12 +121,10 @@ fn relist_members<D: Disk>(
     ensures turns { OnOk result ((rest now : Image) → Has rest now buckets.old → (after : Image) × Has rest after buckets.new
         × OnlyMap which now after
         × Turns own (listed_by (listed kind) old.now) (listed_by (listed kind) new.now) (now.maps which) (after.maps which)) }
-    ensures stops { (rest now : Image) → Has rest now buckets.old → IfErr result (Refuses (StopsAt (IsFine now own) (page_at buckets.old)
-        (visits which (listed_by (listed kind) old.now) (listed_by (listed kind) new.now)))) }
     ensures within { (may : May) → MayEach may which (listed_by (listed kind) old.now) → MayEach may which (listed_by (listed kind) new.now)
         → HasReadOnly may buckets.old → HasReadOnly may buckets.new }
-    ensures reads { OnOk result (ReadsBuckets buckets.old buckets.new) }
-    ensures answers { Answers buckets.old buckets.new result }
+    ensures touches { TouchesLists (λ now. StopsAt (IsFine now own) (page_at buckets.old) (visits which (listed_by (listed kind) old.now) (listed_by (listed kind) new.now)))
+        buckets.old buckets.new result }
 {
     let olds = match rising_listed(alloc, old, kind) {
         Ok(ids) => ids,
@@ -158,11 +152,9 @@ fn relist_map<D: Disk>(
     requires own { IsId own }
     ensures turns { OnOk result ((rest now : Image) → Has rest now buckets.old → (after : Image) × Has rest after buckets.new
         × OnlyMap which now after × Turns own old.now new.now (now.maps which) (after.maps which)) }
-    ensures stops { (rest now : Image) → Has rest now buckets.old
-        → IfErr result (Refuses (StopsAt (IsFine now own) (page_at buckets.old) (visits which old.now new.now))) }
     ensures within { (may : May) → MayEach may which old.now → MayEach may which new.now → HasReadOnly may buckets.old → HasReadOnly may buckets.new }
-    ensures reads { OnOk result (ReadsBuckets buckets.old buckets.new) }
-    ensures answers { Answers buckets.old buckets.new result }
+    ensures touches { TouchesLists (λ now. StopsAt (IsFine now own) (page_at buckets.old) (visits which old.now new.now))
+        buckets.old buckets.new result }
 {
     match both(alloc, old, new) {
         Ok(ids) => turn_all(alloc, buckets, which, own, ids.as_slice(), old, new),
@@ -197,11 +189,9 @@ fn turn_all<D: Disk>(
     requires rise { IsRising ids.now }
     ensures turns { OnOk result ((rest now : Image) → Has rest now buckets.old → (after : Image) × Has rest after buckets.new
         × OnlyMap which now after × TurnsAt own old.now new.now ids.now (now.maps which) (after.maps which)) }
-    ensures stops { (rest now : Image) → Has rest now buckets.old
-        → IfErr result (Refuses (StopsAt (IsFine now own) (page_at buckets.old) (map (visit_of which old.now new.now) ids.now))) }
     ensures within { (may : May) → MayEach may which ids.now → HasReadOnly may buckets.old → HasReadOnly may buckets.new }
-    ensures reads { OnOk result (ReadsBuckets buckets.old buckets.new) }
-    ensures answers { Answers buckets.old buckets.new result }
+    ensures touches { TouchesLists (λ now. StopsAt (IsFine now own) (page_at buckets.old) (map (visit_of which old.now new.now) ids.now))
+        buckets.old buckets.new result }
 {
     for &id in ids {
         let visit = Visit {
@@ -231,11 +221,9 @@ fn turn_list<D: Disk>(
     ensures turns { OnOk result ((rest now : Image) → Has rest now buckets.old → (after : Image) × Has rest after buckets.new
         × (ids : List ℕ) × CanTurn visit.was own (finite.get (now.maps visit.which) visit.id) ids
         × Sets visit.which visit.id (kept_list (turned visit.was visit.is own ids)) now after) }
-    ensures stops { (rest now : Image) → Has rest now buckets.old
-        → IfErr result (Refuses (λ at. (¬ IsFine now own visit) × (at ≡ page_at buckets.old visit))) }
     ensures within { (may : May) → may visit.which visit.id ≡ true → HasReadOnly may buckets.old → HasReadOnly may buckets.new }
-    ensures reads { OnOk result (ReadsBuckets buckets.old buckets.new) }
-    ensures answers { Answers buckets.old buckets.new result }
+    ensures touches { TouchesLists (λ now at. (¬ IsFine now own visit) × (at ≡ page_at buckets.old visit))
+        buckets.old buckets.new result }
 {
     let ids = match listers(alloc, buckets, visit.which, visit.id) {
         Ok(ids) => ids,

@@ -1,5 +1,5 @@
 -- What a commit of buckets makes of the store.
-use Rattle.std.proofs.Common.{◌≡◌, ◌⊎◌, ℕ, ◌+◌, List, length, Result, Ok, Err, subst, inl, inr, arith}
+use Rattle.std.proofs.Common.{◌≡◌, ◌⊎◌, ℕ, Bool, ◌+◌, List, length, Result, Ok, Err, subst, inl, inr, arith}
 use Rattle.std.specs.FinMap as map
 use Rattle.outside.specs.Disk.{DiskView, Goes, Stays}
 use Rattle.outside.specs.declared.disk.Disk.{Ghosts}
@@ -13,7 +13,7 @@ use Rattle.chain_store.specs.declared.root.Root.{Root}
 use Rattle.chain_store.specs.Answers.{IsReadAnswer}
 use Rattle.chain_store.specs.Chain.{HasPages}
 use Rattle.chain_store.specs.Chains.{IsOpen, before_of, journal_of, kept_of, read_of, root_of, written_of}
-use Rattle.chain_store.specs.Ends.{Ends, Leaves}
+use Rattle.chain_store.specs.Ends.{Ends, IsCommitAnswer, Leaves}
 use Rattle.chain_store.specs.Links.{page_in}
 use Rattle.chain_store.specs.Store.{IsRefused, kept_first}
 use Rattle.chain_store.specs.declared.kept.Kept.{Kept}
@@ -23,6 +23,7 @@ use Rattle.chain_store.specs.State.{HasState, IsState}
 use Rattle.chain_store.proofs.Commits.{idle}
 use Rattle.bucket_store.specs.Cache.{CacheMap}
 use Rattle.bucket_store.specs.Committing.{CommitsBuckets, Fills, WritesBuckets, after, given}
+use Rattle.bucket_store.specs.Image.{HasImage, Image, Spells}
 use Rattle.bucket_store.specs.Transaction.{IsOpenWith}
 use Rattle.bucket_store.proofs.Caches.{nothing}
 
@@ -51,6 +52,31 @@ moment_given pages old mid new root was next strings one two rests stays state r
       | inl before ↦ inl before
       | inr later ↦ inr (state_given was next one two left root-is strings-are later)
     ]))
+
+-- before the commit itself a crash leaves what it left
+pub moment_idle : (pages : List (List ℕ)) (old mid : DiskView) (root next : Root) (strings two : ℕ → List ℕ) → IsAtRest pages old → Stays old mid
+    → IsState root strings pages → Goes (λ left. HasState root strings left ⊎ HasState next two left) old.crashes mid.crashes
+moment_idle pages old mid root next strings two rests stays state = idle pages rests.0 old mid root strings (HasState next two) rests.1 stays state
+
+pub images_idle : (rest now : Image) (pages : List (List ℕ)) (old mid : DiskView) (strings : ℕ → List ℕ) → IsAtRest pages old → Stays old mid
+    → IsState rest.root strings pages → Spells rest strings → Goes (λ left. HasImage rest left ⊎ HasImage now left) old.crashes mid.crashes
+images_idle rest now pages old mid strings rests stays state spells =
+    goes_weaker (λ left. HasState rest.root strings left ⊎ HasImage now left) (λ left. HasImage rest left ⊎ HasImage now left) old.crashes mid.crashes
+    (idle pages rests.0 old mid rest.root strings (HasImage now) rests.1 stays state) (λ left has. elim has [
+      | inl was ↦ inl (record { strings = strings; state = was; spells = spells })
+      | inr later ↦ inr later
+    ])
+
+-- a call that reads chains ends as a commit may
+pub alone_commits : (fault : StoreFault) (broken : Bool) (limit : ℕ) → IsReadAnswer {T = Unit {0}} broken (Err fault)
+    → IsCommitAnswer {T = Unit {0}} broken limit (Err fault)
+alone_commits NotFormatted broken limit is = is
+alone_commits NotEmpty broken limit is = is
+alone_commits (BadStore at) broken limit is = is
+alone_commits DiskFault broken limit is = is
+alone_commits (StoreFull pages) broken limit is = absurd is
+alone_commits Broken broken limit is = is
+alone_commits OutOfMemory broken limit is = is
 
 -- with no bucket the store is open where its chains are
 pub open_none : {D : Type 0} {g : Ghosts D} (pages : List (List ℕ)) (chains : Chains D g) (cache : CacheMap) → cache ≡ map.empty → IsOpen pages chains

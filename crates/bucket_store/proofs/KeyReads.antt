@@ -8,8 +8,7 @@ use Rattle.chain_store.specs.declared.chains.Chains.{Chains}
 use Rattle.chain_store.proofs.Counted.{reads_call, reads_nothing, reads_on, reads_wider}
 use Rattle.bucket_store.specs.Buckets.{chain_at}
 use Rattle.bucket_store.specs.Reads.{IsAskedChain, IsKey, ReadsKeys}
-use Rattle.bucket_store.specs.Transaction.{chains_of}
-use Rattle.bucket_store.specs.Typed.{bucket_at}
+use Rattle.bucket_store.specs.Transaction.{bucket_at, chains_of}
 use Rattle.bucket_store.specs.declared.buckets.Buckets.{Buckets}
 
 module _ {D : Type 0} {g : Ghosts D} where

@@ -5,6 +5,7 @@ pub mod Origins
 pub mod Writings
 pub mod Installs
 pub mod Fresh
+pub mod Frames
 pub mod Holding
 pub mod Images
 pub mod KeyReads

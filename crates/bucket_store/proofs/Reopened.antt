@@ -1,6 +1,7 @@
 -- A store that is opened means what its bytes mean.
 use Rattle.std.proofs.Common.{◌≡◌, ◌⊎◌, inl, inr, ℕ, ◌+◌, ◌-◌, ◌*◌, ◌<◌, true, false, List, [], length, slice_index_or, Option, Some, Err, refl, sym, ap, subst, ◌∙◌, arith}
 use Rattle.std.proofs.lemmas.Option.{same_Some}
+use Rattle.std.specs.Result.{IsErrOf}
 use Rattle.outside.specs.Disk.{Crashes, DiskView, Goes, Stays, Within}
 use Rattle.page_journal.specs.Answers.{HomeRefused, JournalRefused, Opens}
 use Rattle.page_journal.specs.Crash.{AllHome, IsAtRest, IsLikeOne}
@@ -29,6 +30,7 @@ use Rattle.bucket_store.specs.Transaction.{chains_of}
 use Rattle.bucket_store.specs.declared.buckets.Buckets.{Buckets}
 use Rattle.bucket_store.specs.Opening.{Fits, IsMeant, MeansOne, opened_root}
 use Rattle.bucket_store.specs.declared.opened.Opened.{Opened}
+use Rattle.bucket_store.proofs.Frames.{fault_is}
 
 -- a disk tells one content
 told_one : (content : Option (List ℕ)) (one two : List ℕ) → content ≡ Some one → content ≡ Some two → one ≡ two
@@ -95,6 +97,10 @@ home_sound bytes pages page home (inr refused) =
       | inl few ↦ absurd (omega (arith, few, many, home.some))
       | inr short ↦ absurd (omega (arith, short, many, home.holds))
     ]
+
+-- what is read of a store that is formatted does not say that it is not
+pub kept_formatted : (fault : StoreFault) → IsReadAnswer {T = Kept} false (Err fault) → IsErrOf {T = Opened} (Err fault) NotFormatted → ⊥
+kept_formatted fault alone is = subst (λ (f : StoreFault). IsReadAnswer {T = Kept} false (Err f)) (fault_is Opened fault NotFormatted is) alone
 
 -- a journal that has home pages is opened
 pub sound_open : (T : Type 0) (fault : StoreFault) (bytes : List ℕ) (pages : List (List ℕ)) → Home pages bytes → Opens bytes (Err fault)

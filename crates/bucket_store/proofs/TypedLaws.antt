@@ -19,9 +19,10 @@ use Rattle.chain_store.proofs.Looks.{looked_same}
 use Rattle.bucket_records.specs.Records.{BucketMap}
 use Rattle.bucket_store.specs.Buckets.{Stored, chain_at}
 use Rattle.bucket_store.specs.Cache.{CacheMap}
+use Rattle.bucket_store.specs.Calls.{BringsThere}
 use Rattle.bucket_store.specs.Image.{Has, Image, IsSoundAnswer, with_value}
-use Rattle.bucket_store.specs.Transaction.{Content, IsOpenStore, IsOpenWith, cached_of, chains_of}
-use Rattle.bucket_store.specs.Typed.{Gets, GetsValue, ReadsAs, bucket_at, refusal_of}
+use Rattle.bucket_store.specs.Transaction.{Content, IsOpenStore, IsOpenWith, bucket_at, cached_of, chains_of}
+use Rattle.bucket_store.specs.Typed.{Gets, GetsValue, ReadsAs, refusal_of}
 use Rattle.bucket_store.specs.declared.buckets.Buckets.{Buckets}
 use Rattle.bucket_store.proofs.Holding.{has_later}
 use Rattle.bucket_store.proofs.Images.{maps_here, maps_beside}
@@ -95,76 +96,60 @@ module _ {D : Type 0} {g : Ghosts D} where
 
   -- a bucket was not brought
   pub value_unbrought : {V : Type 0} (spell : V → List ℕ) (Is : V → Type 0) (which key : ℕ) (old new : Buckets D g) (fault : StoreFault)
-      → OnlyRead (chains_of old) (chains_of new)
-      → is_broken (journal_of (chains_of new)) ≡ (is_broken (journal_of (chains_of old)) || answers_disk_fault {T = Unit {0}} (Err fault))
-      → ((pages : List (List ℕ)) → IsOpenStore pages old → IsOpenStore pages new)
-      → ((pages : List (List ℕ)) → IsOpenStore pages old → (other : ℕ) (values : BucketMap) → Content pages old other values → Content pages new other values)
-      → ((rest now : Image) → Has rest now old → IsSoundAnswer {T = Unit {0}} (Err fault)) → GetsValue spell Is which key old new (Err fault)
-  value_unbrought {V} spell Is which key old new fault stays broken opens content sound = record {
+      → BringsThere which key old new (Err fault) → GetsValue spell Is which key old new (Err fault)
+  value_unbrought {V} spell Is which key old new fault brings = record {
     bytes = tt;
     value = tt;
-    sound = λ rest now values has held. sound_of (Unit {0}) (Option V) fault (sound rest now has);
-    has = has_read {T = Unit {0}} old new (Err fault) stays broken opens content;
-    content = content;
+    sound = λ rest now values has held. sound_of (Unit {0}) (Option V) fault (brings.sound rest now has);
+    keeps = record { content = brings.keeps.content; has = brings.keeps.has };
   }
 
   -- values are read out of a bucket that was brought
-  module _ {V A : Type 0} (spell : V → List ℕ) (Is : V → Type 0) (look : A → List ℕ) (which key : ℕ) (old mid : Buckets D g) (bytes : Option A) where
-    pub gets_found : OnlyRead (chains_of old) (chains_of mid)
-        → ((pages : List (List ℕ)) → IsOpenStore pages old → (other : ℕ) (values : BucketMap) → Content pages old other values → Content pages mid other values)
-        → ((pages : List (List ℕ)) (values : BucketMap) → Content pages mid (bucket_at mid which key) values
-        → MatchOption bytes (map.get values key ≡ None) (λ value. map.get values key ≡ Some (look value)))
-        → (found : Option V) → ReadAs spell Is (option_map look bytes) found → (pages : List (List ℕ)) → IsOpenStore pages old
-        → Gets spell Is pages old which key (Ok found)
-    gets_found stays content value found read pages opens values has =
-        let there = subst (λ (n : ℕ). Content pages mid n values) (sym (at_same old mid which key stays)) (content pages opens (bucket_at old which key) values has) in
-        subst (λ (o : Option (List ℕ)). ReadAs spell Is o found) (sym (seen look bytes (map.get values key) (value pages values there))) read
+  module _ {V A : Type 0} (spell : V → List ℕ) (Is : V → Type 0) (look : A → List ℕ) (which key : ℕ) (old mid : Buckets D g) (bytes : Option A)
+      {done : Unit {0}} (brings : BringsThere which key old mid (Ok done)) where
+    there : OnlyRead (chains_of old) (chains_of mid) → (pages : List (List ℕ)) → IsOpenStore pages old → (values : BucketMap)
+        → Content pages old (bucket_at old which key) values → Content pages mid (bucket_at mid which key) values
+    there stays pages opens values has =
+        subst (λ (n : ℕ). Content pages mid n values) (sym (at_same old mid which key stays)) (brings.keeps.content pages opens (bucket_at old which key) values has)
 
     unread : OnlyRead (chains_of old) (chains_of mid)
-        → ((pages : List (List ℕ)) → IsOpenStore pages old → (values : BucketMap) × Content pages old (bucket_at old which key) values)
-        → ((pages : List (List ℕ)) → IsOpenStore pages old → (other : ℕ) (values : BucketMap) → Content pages old other values → Content pages mid other values)
         → ((pages : List (List ℕ)) (values : BucketMap) → Content pages mid (bucket_at mid which key) values
         → MatchOption bytes (map.get values key ≡ None) (λ value. map.get values key ≡ Some (look value)))
         → (fault : ValueFault) → ReadsAs {V = V} spell Is (option_map look bytes) (Err fault) → (pages : List (List ℕ)) → IsOpenStore pages old
         → Gets spell Is pages old which key (Err (refusal_of fault (first_of (chains_of mid) (bucket_at mid which key))))
-    unread stays had content value NotSpelled read pages opens =
-        let here = had pages opens in
-        let there = subst (λ (n : ℕ). Content pages mid n here.0) (sym (at_same old mid which key stays)) (content pages opens (bucket_at old which key) here.0 here.1) in
+    unread stays value NotSpelled read pages opens =
+        let here = brings.had pages opens in
         inr (record {
           values = here.0;
           content = here.1;
           bytes = read.0;
-          there = seen look bytes (map.get here.0 key) (value pages here.0 there) ∙ read.1;
+          there = seen look bytes (map.get here.0 key) (value pages here.0 (there stays pages opens here.0 here.1)) ∙ read.1;
           none = read.2;
           begins = first_same old mid which key stays;
         })
-    unread stays had content value OutOfMemory read pages opens = tt
+    unread stays value OutOfMemory read pages opens = tt
 
     pub gets_refused : OnlyRead (chains_of old) (chains_of mid)
-        → ((pages : List (List ℕ)) → IsOpenStore pages old → (values : BucketMap) × Content pages old (bucket_at old which key) values)
-        → ((pages : List (List ℕ)) → IsOpenStore pages old → (other : ℕ) (values : BucketMap) → Content pages old other values → Content pages mid other values)
         → ((pages : List (List ℕ)) (values : BucketMap) → Content pages mid (bucket_at mid which key) values
         → MatchOption bytes (map.get values key ≡ None) (λ value. map.get values key ≡ Some (look value)))
         → (fault : ValueFault) → ReadsAs {V = V} spell Is (option_map look bytes) (Err fault)
         → (refusal : StoreFault) → refusal ≡ refusal_of fault (first_of (chains_of mid) (bucket_at mid which key))
         → (pages : List (List ℕ)) → IsOpenStore pages old → Gets spell Is pages old which key (Err refusal)
-    gets_refused stays had content value fault read refusal is pages opens =
-        subst (λ (r : StoreFault). Gets spell Is pages old which key (Err r)) (sym is) (unread stays had content value fault read pages opens)
+    gets_refused stays value fault read refusal is pages opens =
+        subst (λ (r : StoreFault). Gets spell Is pages old which key (Err r)) (sym is) (unread stays value fault read pages opens)
 
-    pub value_found : ((rest now : Image) → Has rest now old → Has rest now mid)
-        → ((rest now : Image) → Has rest now mid
+    pub value_found : ((rest now : Image) → Has rest now mid
         → MatchOption bytes (map.get (now.maps which) key ≡ None) (λ value. map.get (now.maps which) key ≡ Some (look value)))
-        → ((pages : List (List ℕ)) → IsOpenStore pages old → (other : ℕ) (values : BucketMap) → Content pages old other values → Content pages mid other values)
         → (found : Option V) → ReadAs spell Is (option_map look bytes) found → GetsValue spell Is which key old mid (Ok found)
-    value_found has value content found read =
+    value_found value found read =
         let same : (rest now : Image) → Has rest now old → ReadAs spell Is (map.get (now.maps which) key) found =
-        λ rest now had. subst (λ (o : Option (List ℕ)). ReadAs spell Is o found) (sym (seen look bytes (map.get (now.maps which) key) (value rest now (has rest now had)))) read in
+        λ rest now had. subst (λ (o : Option (List ℕ)). ReadAs spell Is o found)
+        (sym (seen look bytes (map.get (now.maps which) key) (value rest now (brings.keeps.has refl rest now had)))) read in
         record {
           bytes = same;
           value = λ rest now values had held. read_one spell Is (map.get (now.maps which) key) found (map.get values key) (same rest now had) (held key);
           sound = λ rest now values had held. tt;
-          has = λ none. has;
-          content = content;
+          keeps = record { content = brings.keeps.content; has = λ none. brings.keeps.has refl };
         }
 
     sound_refusal : (own : Option (List ℕ)) (value : Option V) (fault : ValueFault) (page : ℕ) → ReadsAs {V = V} spell Is own (Err fault)
@@ -174,22 +159,23 @@ module _ {D : Type 0} {g : Ghosts D} where
     sound_refusal own value OutOfMemory page read is = tt
 
     pub value_refused : (new : Buckets D g) → chains_of new ≡ chains_of mid → cached_of new ≡ cached_of mid
-        → ((rest now : Image) → Has rest now old → Has rest now mid)
         → ((rest now : Image) → Has rest now mid
         → MatchOption bytes (map.get (now.maps which) key ≡ None) (λ value. map.get (now.maps which) key ≡ Some (look value)))
-        → ((pages : List (List ℕ)) → IsOpenStore pages old → (other : ℕ) (values : BucketMap) → Content pages old other values → Content pages mid other values)
         → (fault : ValueFault) → ReadsAs {V = V} spell Is (option_map look bytes) (Err fault)
         → (refusal : StoreFault) (page : ℕ) → refusal ≡ refusal_of fault page → GetsValue spell Is which key old new (Err refusal)
-    value_refused new chains cached has value content fault read refusal page is = record {
+    value_refused new chains cached value fault read refusal page is = record {
       bytes = tt;
       value = tt;
       sound = λ rest now values had held.
           subst (λ (r : StoreFault). IsSoundAnswer {T = Option V} (Err r)) (sym is)
           (sound_refusal (map.get (now.maps which) key) (map.get values key) fault page
-          (subst (λ (o : Option (List ℕ)). ReadsAs {V = V} spell Is o (Err fault)) (sym (seen look bytes (map.get (now.maps which) key) (value rest now (has rest now had)))) read)
+          (subst (λ (o : Option (List ℕ)). ReadsAs {V = V} spell Is o (Err fault))
+          (sym (seen look bytes (map.get (now.maps which) key) (value rest now (brings.keeps.has refl rest now had)))) read)
           (held key));
-      has = λ none rest now had. has_same mid new chains cached rest now (has rest now had);
-      content = λ pages opens other values had. content_kept mid new chains cached pages other values (content pages opens other values had);
+      keeps = record {
+        content = λ pages opens other values had. content_kept mid new chains cached pages other values (brings.keeps.content pages opens other values had);
+        has = λ none rest now had. has_same mid new chains cached rest now (brings.keeps.has refl rest now had);
+      };
     }
 
 -- a store with one value more or fewer holds so many values more or fewer

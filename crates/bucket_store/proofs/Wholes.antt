@@ -26,8 +26,7 @@ use Rattle.bucket_store.specs.Buckets.{HasKeysOf, IsBadChain, Stored, bucket_cou
 use Rattle.bucket_store.specs.Cache.{CacheMap}
 use Rattle.bucket_store.specs.Image.{IsSoundAnswer, bucket_chain}
 use Rattle.bucket_store.specs.Reads.{IsAskedChain, ReadsKeys}
-use Rattle.bucket_store.specs.Transaction.{BringsBucket, Content, IsBad, IsOpenStore, chains_of}
-use Rattle.bucket_store.specs.Typed.{bucket_at}
+use Rattle.bucket_store.specs.Transaction.{BringsBucket, Content, IsBad, IsOpenStore, bucket_at, chains_of}
 use Rattle.bucket_store.specs.Whole.{BringsMap, HasBucketsBefore, SameContents, with_records}
 use Rattle.bucket_store.specs.declared.buckets.Buckets.{Buckets}
 use Rattle.bucket_store.specs.declared.cache.Cached.{Cached}

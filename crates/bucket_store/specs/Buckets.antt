@@ -1,13 +1,17 @@
 -- The buckets of an open store, as a transaction has them. Bucket `b` of map `m` is the chain `16 + 65536 m + b`, and a
 -- key stands in the bucket that it is modulo the number of buckets.
-use Rattle.std.specs.Prelude.{◌≡◌, ◌⊎◌, ℕ, ◌+◌, ◌-◌, ◌*◌, ◌%◌, ◌<◌, ◌≤◌, List, None, Some, Result, Ok, Err, IsSome}
+use Rattle.std.specs.Prelude.{◌≡◌, ◌⊎◌, ℕ, ◌+◌, ◌-◌, ◌*◌, ◌%◌, ◌<◌, ◌≤◌, ◌||◌, false, List, None, Some, Result, Ok, Err, IsSome, OnOk}
 use Rattle.std.specs.FinMap as map
 use Rattle.outside.specs.declared.disk.Disk.{Ghosts}
+use Rattle.page_journal.specs.Answers.{HasDiskCause, answers_disk_fault}
+use Rattle.page_journal.specs.Journal.{home_count, is_broken}
 use Rattle.page_journal.specs.declared.fault.StoreFault.{StoreFault}
 use Rattle.page_journal.specs.declared.fault.StoreFault.TheVariants.{BadStore}
+use Rattle.page_journal.specs.declared.layout.TheConstants.{PAGE_LEN}
 use Rattle.chain_store.specs.declared.chains.Chains.{Chains}
-use Rattle.chain_store.specs.Chains.{LoadedIs, first_of, root_of, written_of}
-use Rattle.chain_store.specs.Known.{Lists}
+use Rattle.chain_store.specs.Answers.{IsReadAnswer}
+use Rattle.chain_store.specs.Chains.{IsOpen, LoadedIs, OnlyRead, disk_of, first_of, is_refused, journal_of, read_of, root_of, written_of}
+use Rattle.chain_store.specs.Known.{Lists, MayRead}
 use Rattle.chain_store.specs.Store.{IsRefused}
 use Rattle.bucket_records.specs.Held.{HeldBucket}
 use Rattle.bucket_records.specs.Records.{BucketMap, IsBucket, IsNoBucket}
@@ -46,6 +50,18 @@ abbrev pub ReadsBucket : {D : Type 0} {g : Ghosts D} → List (List ℕ) → Cha
 ReadsBucket pages chains n (Ok held) = Stored pages chains n held.values × HasOrigin pages chains n held
 ReadsBucket pages chains n (Err (BadStore at)) = IsBadChain pages chains n at
 ReadsBucket pages chains n (Err _) = Unit {0}
+
+-- what reading the bucket of a chain leaves of the store under it, whatever it answers; and what it has read once it succeeds
+pub record LeavesRead {D T : Type 0} {g : Ghosts D} (n : ℕ) (old new : Chains D g) (result : Result T StoreFault) : Type 0 where
+  pub opens : (pages : List (List ℕ)) → IsOpen pages old → IsOpen pages new
+  pub alone : IsReadAnswer (is_broken (journal_of old)) result
+  pub stays : OnlyRead old new
+  pub broken : is_broken (journal_of new) ≡ (is_broken (journal_of old) || answers_disk_fault result)
+  pub reads : OnOk result (map.get (read_of old) n ≡ None
+      → MayRead (PAGE_LEN * home_count (journal_of old)) n (read_of old) (read_of new) (disk_of old) (disk_of new))
+  pub known : OnOk result (IsSome (map.get (read_of new) n))
+  pub going : OnOk result (is_refused new ≡ false)
+  pub cause : HasDiskCause (disk_of old).faults (disk_of new).faults result
 
 -- the keys of these values are those of one bucket of so many
 abbrev pub HasKeysOf : ℕ → ℕ → BucketMap → Type 0

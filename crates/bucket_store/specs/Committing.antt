@@ -1,16 +1,19 @@
 -- What a commit of buckets gives their chains.
-use Rattle.std.specs.Prelude.{◌≡◌, ℕ, ◌+◌, ◌<◌, ◌≤◌, List, length, Option, Some, None, Result, Ok, Err, if◌then◌else◌}
+use Rattle.std.specs.Prelude.{◌≡◌, ℕ, ◌+◌, ◌<◌, ◌≤◌, ◌||◌, false, List, length, Option, Some, None, Result, Ok, Err, OnOk, if◌then◌else◌}
 use Rattle.std.specs.FinMap as map
 use Rattle.bucket_records.specs.Records.{records_bytes}
 use Rattle.chain_store.specs.Known.{Lists, own_or}
 use Rattle.outside.specs.declared.disk.Disk.{Ghosts}
 use Rattle.chain_store.specs.Chain.{HasPages}
-use Rattle.chain_store.specs.Chains.{first_of, kept_of, root_of, written_of}
+use Rattle.chain_store.specs.Answers.{IsReadAnswer, Looked}
+use Rattle.chain_store.specs.Chains.{disk_of, first_of, is_refused, journal_of, kept_of, root_of, written_of}
 use Rattle.chain_store.specs.Ends.{Leaves}
 use Rattle.chain_store.specs.Links.{page_in}
 use Rattle.chain_store.specs.Store.{IsRefused, kept_first}
 use Rattle.chain_store.specs.declared.chains.Chains.{Chains}
 use Rattle.chain_store.specs.declared.kept.Kept.{Kept}
+use Rattle.page_journal.specs.Answers.{HasDiskCause, answers_disk_fault}
+use Rattle.page_journal.specs.Journal.{is_broken}
 use Rattle.page_journal.specs.declared.fault.StoreFault.{StoreFault}
 use Rattle.page_journal.specs.declared.fault.StoreFault.TheVariants.{BadStore, StoreFull}
 use Rattle.bucket_store.specs.Buckets.{IsBucketChain}
@@ -47,3 +50,13 @@ CommitsBuckets pages chains cache limit home (Ok done) = Fills pages chains cach
 CommitsBuckets pages chains cache limit home (Err (StoreFull many)) = Fills pages chains cache many × (limit < many)
 CommitsBuckets pages chains cache limit home (Err (BadStore at)) = (n : ℕ) × IsRefused pages n (first_of chains n) at
 CommitsBuckets pages chains cache limit home (Err _) = Unit {0}
+
+-- what a call that gives chains their bytes leaves of the store under them, whatever it answers
+pub record LeavesChains {D T : Type 0} {g : Ghosts D} (old new : Chains D g) (result : Result T StoreFault) : Type 0 where
+  pub kept : kept_of new ≡ kept_of old
+  pub root : root_of new ≡ root_of old
+  pub going : OnOk result (is_refused new ≡ false)
+  pub alone : IsReadAnswer (is_broken (journal_of old)) result
+  pub looked : Looked (journal_of old) (journal_of new)
+  pub broken : is_broken (journal_of new) ≡ (is_broken (journal_of old) || answers_disk_fault result)
+  pub cause : HasDiskCause (disk_of old).faults (disk_of new).faults result

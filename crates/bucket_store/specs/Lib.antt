@@ -3,6 +3,8 @@ pub mod Cache
 pub mod Transaction
 pub mod Committing
 pub mod Image
+pub mod Calls
+pub mod Installing
 pub mod Typed
 pub mod Opening
 pub mod Reads

@@ -1,9 +1,10 @@
 -- A store is opened: what is kept of it, and which answers that may give.
-use Rattle.std.specs.Prelude.{◌≡◌, ◌⊎◌, ℕ, ◌+◌, List, length, Result, Ok, Err}
-use Rattle.outside.specs.Disk.{Crashes, DiskView}
-use Rattle.page_journal.specs.Answers.{HomeRefused, JournalRefused}
+use Rattle.std.specs.Prelude.{◌≡◌, ◌⊎◌, ℕ, ◌+◌, false, List, length, Result, Ok, Err, IsErrOf, OnOk}
+use Rattle.outside.specs.Bytes.{IfTold, IsTold}
+use Rattle.outside.specs.Disk.{Crashes, DiskView, Goes, Stays, Tells, Within}
+use Rattle.page_journal.specs.Answers.{HasDiskCause, HomeRefused, JournalRefused, answers_disk_fault}
 use Rattle.page_journal.specs.Crash.{IsAtRest}
-use Rattle.page_journal.specs.Home.{Home, IsFormatted}
+use Rattle.page_journal.specs.Home.{HasOpenJournal, Home, IsFormatted}
 use Rattle.page_journal.specs.declared.fault.StoreFault.{StoreFault}
 use Rattle.page_journal.specs.declared.fault.StoreFault.TheVariants.{NotFormatted, BadStore, DiskFault, OutOfMemory}
 use Rattle.chain_store.specs.Answers.{ReadsKept}
@@ -11,7 +12,7 @@ use Rattle.chain_store.specs.Directories.{root_in}
 use Rattle.chain_store.specs.Kept.{page_total}
 use Rattle.chain_store.specs.Store.{Keeps}
 use Rattle.chain_store.specs.declared.root.Root.{Root}
-use Rattle.bucket_store.specs.Image.{HasImage, Image}
+use Rattle.bucket_store.specs.Image.{HasImage, HoldsImage, Image, IsSoundAnswer}
 use Rattle.bucket_store.specs.declared.opened.Opened.{Opened}
 
 -- what was read of a store is so on this disk, which is at rest
@@ -57,3 +58,17 @@ IsOpeningAnswer (Err (BadStore page)) = Unit {0}
 IsOpeningAnswer (Err DiskFault) = Unit {0}
 IsOpeningAnswer (Err OutOfMemory) = Unit {0}
 IsOpeningAnswer (Err _) = ⊥
+
+-- what an opening finds: a store that means something is found so, refused by nothing but the disk and memory, and each outcome of
+-- a crash during the call means what one at its entry means
+pub record FindsImage {T : Type 0} (old new : DiskView) (result : Result T StoreFault) : Type 0 where
+  pub found : OnOk result ((bytes : List ℕ) → Tells old bytes → (image : Image) → HasImage image bytes → HoldsImage image new)
+  pub sound : (bytes : List ℕ) → Tells old bytes → (image : Image) → HasImage image bytes → IsSoundAnswer result
+  pub any_moment : (bytes : List ℕ) → Tells old bytes → Within IsMeant old.crashes → Goes (MeansOne old.crashes) old.crashes new.crashes
+
+-- what it leaves of the disk: only a well-formed journal that is open lets it write
+pub record LeavesDisk {T : Type 0} (old new : DiskView) (result : Result T StoreFault) : Type 0 where
+  pub looked : IfTold old.content (λ bytes. ¬ HasOpenJournal bytes → Stays old new)
+  pub refused : IsErrOf result NotFormatted → Stays old new
+  pub told : (bytes : List ℕ) → Tells old bytes → answers_disk_fault result ≡ false → IsTold new.content
+  pub cause : HasDiskCause old.faults new.faults result

@@ -8,7 +8,7 @@ use Rattle.chain_store.specs.declared.chains.Chains.{Chains}
 use Rattle.chain_store.specs.Chains.{IsOpen}
 use Rattle.bucket_records.specs.Records.{BucketMap}
 use Rattle.bucket_store.specs.Cache.{CacheMap}
-use Rattle.bucket_store.specs.Buckets.{HaveOrigins, Stored, IsBadChain}
+use Rattle.bucket_store.specs.Buckets.{HaveOrigins, Stored, IsBadChain, bucket_count, chain_at}
 use Rattle.bucket_store.specs.declared.cache.Cached.{Cached}
 use Rattle.bucket_store.specs.declared.buckets.Buckets.{Buckets}
 
@@ -21,6 +21,10 @@ cached_of buckets = buckets.cache
 
 abbrev pub has_refused : {D : Type 0} {g : Ghosts D} → Buckets D g → Bool
 has_refused buckets = buckets.refused
+
+-- the chain of the bucket of a key
+abbrev pub bucket_at : {D : Type 0} {g : Ghosts D} → Buckets D g → ℕ → ℕ → ℕ
+bucket_at buckets which key = chain_at (bucket_count (chains_of buckets)) which key
 
 -- the store is at rest with these home pages, each bucket that was not changed is so there, and each was read from what
 -- its chain has

@@ -1,19 +1,12 @@
 //! The buckets of an open store, and one transaction over them.
-ghost use Rattle.std.specs.Prelude.{◌≡◌, ◌≢◌, ◌⊎◌, ◌*◌, ◌+◌, ◌≤◌, ◌<◌, ◌||◌, List, ℕ, None, Some, false, true, not, is_err, is_some, IfOk, IfSome, IsErr, IsSome, OnOk, MatchOption};
+ghost use Rattle.std.specs.Prelude.{◌≡◌, ◌*◌, ◌≤◌, ◌<◌, List, ℕ, None, Some, false, true, not, is_some, IfSome};
 ghost use Rattle.std.specs.FinMap as map;
-ghost use Rattle.page_journal.specs.Answers.{HasDiskCause, answers_disk_fault};
-ghost use Rattle.page_journal.specs.Journal.{home_count, is_broken, loan_of, page_limit};
+ghost use Rattle.page_journal.specs.Journal.{is_broken, loan_of, page_limit};
 ghost use Rattle.page_journal.specs.Journal.{disk_of as disk_under};
-ghost use Rattle.chain_store.specs.Answers.{IsReadAnswer};
-ghost use Rattle.chain_store.specs.Chains.{IsOpen, Loads, OnlyRead, disk_of, first_of, is_refused, journal_of, kept_of, read_of, root_of, written_of};
-ghost use Rattle.chain_store.specs.Directories.{IsString, root_in};
-ghost use Rattle.outside.specs.Disk.{Goes};
-ghost use Rattle.chain_store.specs.State.{HasState, IsState};
+ghost use Rattle.chain_store.specs.Chains.{IsOpen, disk_of, first_of, is_refused, journal_of, kept_of, read_of, root_of};
+ghost use Rattle.chain_store.specs.Directories.{IsString};
 ghost use Rattle.chain_store.specs.declared.root.Root.{Root};
-ghost use Rattle.bucket_store.specs.Committing.{given};
-ghost use Rattle.chain_store.specs.Known.{MayRead};
-ghost use Rattle.bucket_store.specs.Buckets.{AreBuckets, AreRead, IsBucketChain, bucket_count, chain_at};
-ghost use Rattle.bucket_records.specs.Records.{BucketMap};
+ghost use Rattle.bucket_store.specs.Buckets.{AreBuckets, AreRead, IsBucketChain, bucket_count};
 
 mod changing;
 mod gathering;
@@ -43,9 +36,10 @@ pub struct Buckets<'d, D: Disk> {
 }
 
 impl<'d, D: Disk> Buckets<'d, D> {
-    ghost use Rattle.bucket_store.specs.Image.{Has, HoldsImage, Image, OnlyLooks, RestsAt, with_buckets, with_root, with_text, with_value};
+    ghost use Rattle.bucket_store.specs.Calls.{IsBegun};
+    ghost use Rattle.bucket_store.specs.Image.{Has, HoldsImage, Image, OnlyLooks, RestsAt};
     ghost use Rattle.bucket_store.specs.Opening.{Fits};
-    ghost use Rattle.bucket_store.specs.Transaction.{BringsBucket, Content, IsOpenStore, cached_of, chains_of, has_refused};
+    ghost use Rattle.bucket_store.specs.Transaction.{IsOpenStore, bucket_at, cached_of, chains_of, has_refused};
 
     /// The buckets over these chains, of which none was read yet. Reads nothing.
     pub fn over(alloc: Global, chains: Chains<'d, D>) -> Self
@@ -113,13 +107,10 @@ impl<'d, D: Disk> Buckets<'d, D> {
 
     /// Begins a transaction anew. What another has changed and not committed is forgotten.
     pub fn begin(&mut self)
+        ensures begun { IsBegun self.new }
         ensures open { (pages : List (List ℕ)) → IsOpenStore pages self.old → IsOpenStore pages self.new }
-        ensures none { cached_of self.new ≡ map.empty }
         ensures journal { journal_of (chains_of self.new) ≡ journal_of (chains_of self.old) }
         ensures kept { kept_of (chains_of self.new) ≡ kept_of (chains_of self.old) }
-        ensures read { read_of (chains_of self.new) ≡ map.empty }
-        ensures written { written_of (chains_of self.new) ≡ map.empty }
-        ensures root { root_of (chains_of self.new) ≡ root_in (kept_of (chains_of self.old)).front.items }
         ensures going { has_refused self.new ≡ false }
         ensures same { OnlyLooks self.old self.new }
         ensures has { is_broken (journal_of (chains_of self.old)) ≡ false → (rest : Image) → RestsAt rest self.old → Has rest rest self.new }
@@ -157,7 +148,7 @@ impl<'d, D: Disk> Buckets<'d, D> {
     pub fn page_of(&self, which: u8, key: u64) -> u64
         requires which { which < 8 }
         requires some { 1 ≤ bucket_count (chains_of self.now) }
-        ensures { result ≡ first_of (chains_of self.now) (chain_at (bucket_count (chains_of self.now)) which key) }
+        ensures { result ≡ first_of (chains_of self.now) (bucket_at self.now which key) }
     {
         self.chains.first_page(self.chain_of(which, key))
     }
@@ -166,7 +157,7 @@ impl<'d, D: Disk> Buckets<'d, D> {
     fn chain_of(&self, which: u8, key: u64) -> u32
         requires which { which < 8 }
         requires some { 1 ≤ bucket_count (chains_of self.now) }
-        ensures chain { result ≡ chain_at (bucket_count (chains_of self.now)) which key }
+        ensures chain { result ≡ bucket_at self.now which key }
         ensures string { IsString (bucket_count (chains_of self.now)) result }
         ensures is { IsBucketChain (bucket_count (chains_of self.now)) result }
     {

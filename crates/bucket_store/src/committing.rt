@@ -1,14 +1,13 @@
 //! What a transaction has changed is made to stand.
-ghost use Rattle.std.specs.Prelude.{◌≡◌, ◌+◌, ◌*◌, ◌≤◌, ◌<◌, ◌||◌, List, ℕ, None, Some, false, ◌==◌, if◌then◌else◌, is_err, IsSome, IsTrue, OnOk};
+ghost use Rattle.std.specs.Prelude.{◌≡◌, ◌*◌, ◌<◌, List, ℕ, None, Some, false, ◌==◌, if◌then◌else◌, IsSome, IsTrue, OnOk};
 ghost use Rattle.std.specs.FinMap as map;
 ghost use Rattle.outside.specs.Disk.{ReadsAtMost};
-ghost use Rattle.page_journal.specs.Answers.{HasDiskCause, answers_disk_fault};
-ghost use Rattle.page_journal.specs.Journal.{home_count, is_broken};
-ghost use Rattle.chain_store.specs.Answers.{IsReadAnswer, Looked};
-ghost use Rattle.chain_store.specs.Chains.{IsOpen, disk_of, is_refused, journal_of, kept_of, read_of, root_of, written_of};
+ghost use Rattle.page_journal.specs.Journal.{home_count};
+ghost use Rattle.chain_store.specs.Chains.{IsOpen, disk_of, is_refused, journal_of, kept_of, read_of, written_of};
 ghost use Rattle.chain_store.specs.Directories.{IsString};
 ghost use Rattle.bucket_store.specs.Buckets.{AreAllRead, AreBuckets, HasOrigin, HaveOrigins, IsBucketChain, bucket_count};
-ghost use Rattle.bucket_store.specs.Committing.{WritesBuckets, after};
+ghost use Rattle.bucket_store.specs.Committing.{LeavesChains, WritesBuckets, after};
+ghost use Rattle.page_journal.specs.declared.layout.TheConstants.{PAGE_LEN};
 ghost use Rattle.bucket_records.specs.Records.{AreRecords};
 ghost use Rattle.bucket_store.specs.declared.cache.Cached.{Cached};
 
@@ -27,18 +26,12 @@ pub fn store_changed<D: Disk>(
     requires going { is_refused chains.old ≡ false }
     ensures written { OnOk result ((n : ℕ) → map.get (written_of chains.new) n ≡ after (map.get cache.old n) (map.get (written_of chains.old) n)) }
     ensures open { (pages : List (List ℕ)) → IsOpen pages chains.old → HaveOrigins pages chains.old cache.old → IsOpen pages chains.new }
-    ensures kept { kept_of chains.new ≡ kept_of chains.old }
-    ensures root { root_of chains.new ≡ root_of chains.old }
-    ensures going { OnOk result (is_refused chains.new ≡ false) }
     ensures reads { OnOk result (AreAllRead (read_of chains.old) cache.old → (read_of chains.new ≡ read_of chains.old)
-        × ReadsAtMost 0 (4096 * home_count (journal_of chains.old)) (disk_of chains.old) (disk_of chains.new)) }
+        × ReadsAtMost 0 (PAGE_LEN * home_count (journal_of chains.old)) (disk_of chains.old) (disk_of chains.new)) }
     ensures rise { OnOk result ((n : ℕ) (own : Cached) → map.get cache.old n ≡ Some own → IsTrue own.changed → AreRecords 0 (map.entries own.bucket.values)) }
     ensures answers { (pages : List (List ℕ)) → IsOpen pages chains.old → HaveOrigins pages chains.old cache.old
         → WritesBuckets pages (kept_of chains.old) (bucket_count chains.old) result }
-    ensures alone { IsReadAnswer (is_broken (journal_of chains.old)) result }
-    ensures looked { Looked (journal_of chains.old) (journal_of chains.new) }
-    ensures broken { is_broken (journal_of chains.new) ≡ (is_broken (journal_of chains.old) || answers_disk_fault result) }
-    ensures cause { HasDiskCause (disk_of chains.old).faults (disk_of chains.new).faults result }
+    ensures leaves { LeavesChains chains.old chains.new result }
 {
     while let Some((n, cached)) = cache.pop() {
         known_string(n, chains.root().buckets);
@@ -66,17 +59,11 @@ fn store_bucket<D: Disk>(
     requires going { is_refused chains.old ≡ false }
     ensures written { OnOk result ((k : ℕ) → map.get (written_of chains.new) k ≡ after (if k == n then Some cached else None) (map.get (written_of chains.old) k)) }
     ensures open { (pages : List (List ℕ)) → IsOpen pages chains.old → HasOrigin pages chains.old n cached.bucket → IsOpen pages chains.new }
-    ensures kept { kept_of chains.new ≡ kept_of chains.old }
-    ensures root { root_of chains.new ≡ root_of chains.old }
-    ensures going { OnOk result (is_refused chains.new ≡ false) }
     ensures reads { OnOk result (IsSome (map.get (read_of chains.old) n) → (read_of chains.new ≡ read_of chains.old)
-        × ReadsAtMost 0 (4096 * home_count (journal_of chains.old)) (disk_of chains.old) (disk_of chains.new)) }
+        × ReadsAtMost 0 (PAGE_LEN * home_count (journal_of chains.old)) (disk_of chains.old) (disk_of chains.new)) }
     ensures rise { OnOk result (IsTrue cached.changed → AreRecords 0 (map.entries cached.bucket.values)) }
     ensures answers { (pages : List (List ℕ)) → IsOpen pages chains.old → WritesBuckets pages (kept_of chains.old) (bucket_count chains.old) result }
-    ensures alone { IsReadAnswer (is_broken (journal_of chains.old)) result }
-    ensures looked { Looked (journal_of chains.old) (journal_of chains.new) }
-    ensures broken { is_broken (journal_of chains.new) ≡ (is_broken (journal_of chains.old) || answers_disk_fault result) }
-    ensures cause { HasDiskCause (disk_of chains.old).faults (disk_of chains.new).faults result }
+    ensures leaves { LeavesChains chains.old chains.new result }
 {
     if !cached.changed {
         return Ok(());

@@ -1,17 +1,14 @@
 //! A store is opened on a disk that stays with its owner.
-ghost use Rattle.std.specs.Prelude.{◌≡◌, ◌≢◌, ◌+◌, ◌*◌, ◌^◌, ◌≤◌, List, ℕ, false, length, IfOk, IsErrOf, OnOk};
-ghost use Rattle.outside.specs.Bytes.{IfTold, IsTold};
-ghost use Rattle.outside.specs.Disk.{DiskView, Goes, ReadsAtMost, Stays, Tells, Within};
-ghost use Rattle.page_journal.specs.Answers.{HasDiskCause, answers_disk_fault};
+ghost use Rattle.std.specs.Prelude.{◌≡◌, ◌≢◌, ◌+◌, ◌*◌, ◌^◌, ◌≤◌, List, ℕ, false, length, IfOk, OnOk};
+ghost use Rattle.outside.specs.Disk.{ReadsAtMost, Stays, Tells};
+ghost use Rattle.page_journal.specs.Answers.{HasDiskCause};
 ghost use Rattle.page_journal.specs.Crash.{IsAtRest};
-ghost use Rattle.page_journal.specs.Home.{HasOpenJournal, Home};
+ghost use Rattle.page_journal.specs.Home.{Home};
 ghost use Rattle.page_journal.specs.Pages.{gate};
 ghost use Rattle.page_journal.specs.declared.layout.TheConstants.{OPEN};
-ghost use Rattle.page_journal.specs.declared.fault.StoreFault.TheVariants.{NotFormatted};
 ghost use Rattle.chain_store.specs.Answers.{IsReadAnswer, ReadsKept};
 ghost use Rattle.chain_store.specs.Kept.{AreAllBehindRoot, page_total};
-ghost use Rattle.bucket_store.specs.Image.{HasImage, HoldsImage, Image, IsSoundAnswer};
-ghost use Rattle.bucket_store.specs.Opening.{Fits, directory_pages, IsMeant, IsOpeningAnswer, MeansOne, OpensStore};
+ghost use Rattle.bucket_store.specs.Opening.{FindsImage, Fits, LeavesDisk, directory_pages, IsOpeningAnswer, OpensStore};
 
 use crate::opened::Opened;
 use chain_store::{Kept, read_kept};
@@ -31,24 +28,12 @@ pub fn open<D: Disk>(alloc: Global, disk: &mut D, limits: &Limits) -> Result<Ope
     ensures home { OnOk result ((bytes : List ℕ) → Tells (D.view disk.old) bytes
         → (pages : List (List ℕ)) × Home pages bytes × IsAtRest pages (D.view disk.new)) }
 
-    // A store that means something is found so, and refused by nothing but the disk and memory.
-    ensures found { OnOk result ((bytes : List ℕ) → Tells (D.view disk.old) bytes
-        → (image : Image) → HasImage image bytes → HoldsImage image (D.view disk.new)) }
-    ensures sound { (bytes : List ℕ) → Tells (D.view disk.old) bytes → (image : Image) → HasImage image bytes → IsSoundAnswer result }
-
-    // Each outcome of a crash during the call means what one at its entry means.
-    ensures any_moment { (bytes : List ℕ) → Tells (D.view disk.old) bytes → Within IsMeant (D.view disk.old).crashes
-        → Goes (MeansOne (D.view disk.old).crashes) (D.view disk.old).crashes (D.view disk.new).crashes }
-
-    // Only a well-formed journal that is open lets it write.
-    ensures looked { IfTold (D.view disk.old).content (λ bytes. ¬ HasOpenJournal bytes → Stays (D.view disk.old) (D.view disk.new)) }
-    ensures refused { IsErrOf result NotFormatted → Stays (D.view disk.old) (D.view disk.new) }
-    ensures told { (bytes : List ℕ) → Tells (D.view disk.old) bytes → answers_disk_fault result ≡ false → IsTold (D.view disk.new).content }
+    ensures image { FindsImage (D.view disk.old) (D.view disk.new) result }
+    ensures leaves { LeavesDisk (D.view disk.old) (D.view disk.new) result }
 
     // Where no journal is open, each page is read once: the first two in one read, the root, and those of the directories.
     ensures reads { IfOk result (λ opened. (bytes : List ℕ) → Tells (D.view disk.old) bytes → gate bytes ≢ OPEN
         → ReadsAtMost (2 + directory_pages opened) (length bytes) (D.view disk.old) (D.view disk.new)) }
-    ensures cause { HasDiskCause (D.view disk.old).faults (D.view disk.new).faults result }
 {
     let pages = match page_journal::open(disk) {
         Ok(pages) => pages,

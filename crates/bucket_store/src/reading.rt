@@ -1,13 +1,8 @@
 //! A bucket is read from its chain.
-ghost use Rattle.std.specs.Prelude.{◌≡◌, ◌*◌, ◌+◌, ◌-◌, ◌%◌, ◌<◌, ◌≤◌, ◌||◌, List, ℕ, None, false, IfOk, IsSome, OnOk};
-ghost use Rattle.std.specs.FinMap as map;
-ghost use Rattle.page_journal.specs.Answers.{HasDiskCause, answers_disk_fault};
-ghost use Rattle.page_journal.specs.Journal.{home_count, is_broken};
-ghost use Rattle.chain_store.specs.Answers.{IsReadAnswer};
-ghost use Rattle.chain_store.specs.Chains.{IsOpen, OnlyRead, disk_of, is_refused, journal_of, read_of};
+ghost use Rattle.std.specs.Prelude.{◌≡◌, ◌*◌, ◌+◌, ◌-◌, ◌%◌, ◌<◌, ◌≤◌, List, ℕ, false, IfOk};
+ghost use Rattle.chain_store.specs.Chains.{IsOpen, is_refused};
 ghost use Rattle.chain_store.specs.Directories.{IsString};
-ghost use Rattle.chain_store.specs.Known.{MayRead};
-ghost use Rattle.bucket_store.specs.Buckets.{HasKeysOf, IsBucketChain, ReadsBucket, bucket_count, bucket_in, chain_at};
+ghost use Rattle.bucket_store.specs.Buckets.{HasKeysOf, IsBucketChain, LeavesRead, ReadsBucket, bucket_count, bucket_in, chain_at};
 
 use bucket_records::Bucket;
 use chain_store::Chains;
@@ -28,15 +23,7 @@ pub fn read_bucket<D: Disk>(
     requires going { is_refused chains.old ≡ false }
     ensures answers { (pages : List (List ℕ)) → IsOpen pages chains.old → ReadsBucket pages chains.old n result }
     ensures own { IfOk result (λ held. HasKeysOf (bucket_count chains.old) (bucket_in n) held.values) }
-    ensures open { (pages : List (List ℕ)) → IsOpen pages chains.old → IsOpen pages chains.new }
-    ensures alone { IsReadAnswer (is_broken (journal_of chains.old)) result }
-    ensures stays { OnlyRead chains.old chains.new }
-    ensures broken { is_broken (journal_of chains.new) ≡ (is_broken (journal_of chains.old) || answers_disk_fault result) }
-    ensures reads { OnOk result (map.get (read_of chains.old) n ≡ None → MayRead (4096 * home_count (journal_of chains.old)) n
-        (read_of chains.old) (read_of chains.new) (disk_of chains.old) (disk_of chains.new)) }
-    ensures known { OnOk result (IsSome (map.get (read_of chains.new) n)) }
-    ensures going { OnOk result (is_refused chains.new ≡ false) }
-    ensures cause { HasDiskCause (disk_of chains.old).faults (disk_of chains.new).faults result }
+    ensures leaves { LeavesRead n chains.old chains.new result }
 {
     let buckets = chains.root().buckets;
     let first = chains.first_page(n);

@@ -1,12 +1,13 @@
 -- When each answer comes, and what a call leaves of the disk.
-use Rattle.std.specs.Prelude.{◌≡◌, ◌≢◌, ◌⊎◌, ℕ, ◌+◌, ◌*◌, ◌==◌, ◌<◌, Bool, true, false, List, length, Result, Vec, Ok, Err, if◌then◌else◌}
-use Rattle.outside.specs.Disk.{Stays}
+use Rattle.std.specs.Prelude.{◌≡◌, ◌≢◌, ◌⊎◌, ℕ, ◌+◌, ◌*◌, ◌==◌, ◌<◌, List, length, Result, Vec, Ok, Err, if◌then◌else◌}
 use Rattle.outside.specs.declared.disk.Disk.{Ghosts}
+pub use Rattle.page_journal.specs.Answers.{IsReadAnswer}
+pub use Rattle.page_journal.specs.JournalCalls.{Looked}
 use Rattle.page_journal.specs.Crash.{IsAtRest}
-use Rattle.page_journal.specs.Journal.{home_count, page_limit, loan_of, view_of}
+use Rattle.page_journal.specs.Journal.{home_count, view_of}
 use Rattle.page_journal.specs.declared.journal.Journal.{Journal}
 use Rattle.page_journal.specs.declared.fault.StoreFault.{StoreFault}
-use Rattle.page_journal.specs.declared.fault.StoreFault.TheVariants.{BadStore, DiskFault, Broken, OutOfMemory}
+use Rattle.page_journal.specs.declared.fault.StoreFault.TheVariants.{BadStore}
 use Rattle.chain_store.specs.declared.kept.Kept.{Kept}
 use Rattle.chain_store.specs.declared.walking.Walked.{Walked}
 use Rattle.chain_store.specs.Chain.{HasPages, Holds, Refused, data_in}
@@ -19,23 +20,6 @@ use Rattle.std.specs.declared.alloc.Global.{Global}
 -- the store of the journal is at rest with these home pages
 abbrev pub RestsWith : {D : Type 0} {g : Ghosts D} → List (List ℕ) → Journal D g → Type 0
 RestsWith pages journal = IsAtRest pages (view_of journal) × (length pages + 1 ≡ home_count journal)
-
--- the journal was only looked at: its pages and all that a crash may leave are as before
-pub record Looked {D : Type 0} {g : Ghosts D} (old new : Journal D g) : Type 0 where
-  pub stays : Stays (view_of old) (view_of new)
-  pub pages : home_count new ≡ home_count old
-  pub limit : page_limit new ≡ page_limit old
-  pub same_disk : loan_of new ≡ loan_of old
-
--- a call that reads chains gives no answer but these. That an earlier call met a disk fault is answered only where one
--- did, and that the disk failed only where none had.
-abbrev pub IsReadAnswer : {T : Type 0} → Bool → Result T StoreFault → Type 0
-IsReadAnswer broken (Ok value) = Unit {0}
-IsReadAnswer broken (Err (BadStore page)) = Unit {0}
-IsReadAnswer broken (Err DiskFault) = broken ≡ false
-IsReadAnswer broken (Err Broken) = broken ≡ true
-IsReadAnswer broken (Err OutOfMemory) = Unit {0}
-IsReadAnswer broken (Err _) = ⊥
 
 -- walking over a chain may give this answer
 abbrev pub Walks : (ℕ → List ℕ) → ℕ → ℕ → ℕ → Result Walked StoreFault → Type 0

@@ -6,6 +6,7 @@ use Rattle.page_journal.specs.Journal.{home_count, view_of}
 use Rattle.page_journal.specs.declared.journal.Journal.{Journal}
 use Rattle.page_journal.specs.declared.fault.StoreFault.{StoreFault}
 use Rattle.page_journal.specs.declared.fault.StoreFault.TheVariants.{BadStore, DiskFault, StoreFull, Broken, OutOfMemory}
+use Rattle.page_journal.specs.declared.layout.TheConstants.{PAGE_LEN}
 use Rattle.chain_store.specs.Answers.{RestsWith}
 use Rattle.chain_store.specs.Chain.{HasPages, Refused}
 use Rattle.chain_store.specs.Gathered.{AreGathered, base_parts}
@@ -40,7 +41,7 @@ Ends pages kept root written read before limit home (Err _) = Unit {0}
 abbrev pub ReadsFree : {D : Type 0} {g : Ghosts D} → Journal D g → Kept → Journal D g → Type 0
 ReadsFree old kept new = (ns : List ℕ)
     × ((pages : List (List ℕ)) → RestsWith pages old → HasPages (page_in pages) (length pages + 1) FREE (kept_first kept FREE) ns)
-    × ReadsAtMost (length ns) (4096 * home_count old) (view_of old) (view_of new)
+    × ReadsAtMost (length ns) (PAGE_LEN * home_count old) (view_of old) (view_of new)
 
 -- and whatever the disk tells, it gives no other answer than these
 abbrev pub IsCommitAnswer : {T : Type 0} → Bool → ℕ → Result T StoreFault → Type 0

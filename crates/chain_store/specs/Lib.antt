@@ -18,3 +18,4 @@ pub mod Chains
 pub mod Ends
 pub mod Reads
 pub mod Needed
+pub mod StoreCalls

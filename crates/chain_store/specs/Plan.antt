@@ -7,7 +7,7 @@ use Rattle.page_journal.specs.PageSet.{PageMap}
 use Rattle.chain_store.specs.Firsts.{filled, firsts_put}
 use Rattle.chain_store.specs.Pairs.{chain_pairs, laid_pairs, puts}
 use Rattle.chain_store.specs.Parts.{given, growth, head_or, laid_all, up_from}
-use Rattle.chain_store.specs.declared.layout.TheConstants.{BUCKETS_AT, CHANGES_AT, FIRSTS_AT, FORMAT_AT, FREE, FREE_AT, HOME_AT, STATE_AT}
+use Rattle.chain_store.specs.declared.layout.TheConstants.{BUCKETS_AT, CHANGES_AT, FIRSTS_AT, FORMAT_AT, FREE, FREE_AT, HOME_AT, PAGE, STATE_AT}
 use Rattle.chain_store.specs.declared.parts.Laid.{Laid}
 use Rattle.chain_store.specs.declared.parts.Part.{Part}
 use Rattle.chain_store.specs.declared.planning.Dealt.{Dealt}
@@ -92,6 +92,6 @@ pub record IsPlan (kept : Kept) (root : Root) (parts : List Part) (free : List �
   pub end_is : plan.home ≡ dealt.«end»
   pub end_small : plan.home < 2 ^ 64
   pub small : IsSmall root
-  pub long : length plan.kept.front.items ≡ 4096
+  pub long : length plan.kept.front.items ≡ PAGE
   pub pages_are : map (λ one. one.pages.items) plan.kept.directories.items ≡ map (λ one. one.pages) dealt.directories.items
   pub bytes_are : map (λ one. one.bytes.items) plan.kept.directories.items ≡ map (λ one. one.bytes) dealt.directories.items

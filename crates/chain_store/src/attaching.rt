@@ -1,11 +1,11 @@
 //! What is kept of a store is read.
-ghost use Rattle.std.specs.Prelude.{◌≡◌, ◌+◌, ◌*◌, ◌<◌, ◌≤◌, ◌||◌, ◌↔◌, List, ℕ, length, IfOk, IsTrue};
+ghost use Rattle.std.specs.Prelude.{◌≡◌, ◌+◌, ◌*◌, ◌<◌, ◌≤◌, ◌↔◌, List, ℕ, length, IfOk, IsTrue};
 ghost use Rattle.outside.specs.Disk.{ReadsAtMost};
-ghost use Rattle.page_journal.specs.Answers.{HasDiskCause, answers_disk_fault};
-ghost use Rattle.page_journal.specs.Journal.{home_count, is_broken, view_of};
-ghost use Rattle.chain_store.specs.Answers.{IsReadAnswer, Looked, ReadsDirectories, ReadsDirectory, ReadsKept, RestsWith, first_or_root};
+ghost use Rattle.page_journal.specs.Journal.{home_count, view_of};
+ghost use Rattle.page_journal.specs.JournalCalls.{LooksAtJournal};
+ghost use Rattle.chain_store.specs.Answers.{ReadsDirectories, ReadsDirectory, ReadsKept, RestsWith, first_or_root};
 ghost use Rattle.chain_store.specs.Chain.{AreBehindRoot};
-ghost use Rattle.chain_store.specs.Directories.{IsCount, root_in};
+ghost use Rattle.chain_store.specs.Directories.{IsCount};
 ghost use Rattle.chain_store.specs.Kept.{AreAllBehindRoot, AreLong, buckets_in, page_total};
 ghost use Rattle.chain_store.specs.Links.{page_in};
 
@@ -20,13 +20,10 @@ use std::alloc::Global;
 /// Reads the root page and the directories of a store, each of their pages once.
 pub fn read_kept<D: Disk>(alloc: Global, journal: &mut Journal<'_, D>) -> Result<Kept, StoreFault>
     ensures answers { (pages : List (List ℕ)) → RestsWith pages journal.old → ReadsKept pages result }
-    ensures alone { IsReadAnswer (is_broken journal.old) result }
     ensures inside { IfOk result (λ kept. AreAllBehindRoot (home_count journal.old) kept.directories.items) }
-    ensures looked { Looked journal.old journal.new }
-    ensures broken { is_broken journal.new ≡ (is_broken journal.old || answers_disk_fault result) }
     ensures reads { IfOk result (λ kept. ReadsAtMost (1 + page_total kept.directories.items) (4096 * home_count journal.old)
         (view_of journal.old) (view_of journal.new)) }
-    ensures cause { HasDiskCause (view_of journal.old).faults (view_of journal.new).faults result }
+    ensures looks { LooksAtJournal journal.old journal.new result }
 {
     let mut front = [0; PAGE];
     if let Err(fault) = journal.read_page(1, &mut front) {
@@ -55,15 +52,12 @@ fn read_directories<D: Disk>(
     requires few { buckets ≤ 65536 }
     ensures answers { (pages : List (List ℕ)) → RestsWith pages journal.old → front.now ≡ page_in pages 1
         → ReadsDirectories pages result }
-    ensures alone { IsReadAnswer (is_broken journal.old) result }
     ensures eight { IfOk result (λ directories. length directories.items ≡ 8) }
     ensures long { IfOk result (λ directories. AreLong directories.items buckets) }
     ensures inside { IfOk result (λ directories. AreAllBehindRoot (home_count journal.old) directories.items) }
-    ensures looked { Looked journal.old journal.new }
-    ensures broken { is_broken journal.new ≡ (is_broken journal.old || answers_disk_fault result) }
     ensures reads { IfOk result (λ directories. ReadsAtMost (page_total directories.items) (4096 * home_count journal.old)
         (view_of journal.old) (view_of journal.new)) }
-    ensures cause { HasDiskCause (view_of journal.old).faults (view_of journal.new).faults result }
+    ensures looks { LooksAtJournal journal.old journal.new result }
 {
     let mut directories = Vec::new(alloc);
     for m in 0..MAPS {
@@ -89,14 +83,11 @@ fn read_directory<D: Disk>(
     requires few { buckets ≤ 65536 }
     ensures answers { (pages : List (List ℕ)) → RestsWith pages journal.old → front.now ≡ page_in pages 1
         → ReadsDirectory pages m result }
-    ensures alone { IsReadAnswer (is_broken journal.old) result }
     ensures long { IfOk result (λ walked. length walked.bytes.items ≡ 8 * buckets) }
     ensures inside { IfOk result (λ walked. AreBehindRoot (home_count journal.old) walked.pages.items) }
-    ensures looked { Looked journal.old journal.new }
-    ensures broken { is_broken journal.new ≡ (is_broken journal.old || answers_disk_fault result) }
     ensures reads { IfOk result (λ walked. ReadsAtMost (length walked.pages.items) (4096 * home_count journal.old)
         (view_of journal.old) (view_of journal.new)) }
-    ensures cause { HasDiskCause (view_of journal.old).faults (view_of journal.new).faults result }
+    ensures looks { LooksAtJournal journal.old journal.new result }
 {
     let first = number_at(front, FIRSTS_AT + 8 * (DIRECTORY + m) as usize);
     let walked = match walk(alloc, journal, first, DIRECTORY + m) {

@@ -1,14 +1,13 @@
 //! The chains of an open store, and one transaction over them.
-ghost use Rattle.std.specs.Prelude.{◌≡◌, ◌≢◌, ◌+◌, ◌*◌, ◌≤◌, ◌||◌, List, ℕ, Some, false, is_err, length, IsSome, IsTrue, OnOk};
+ghost use Rattle.std.specs.Prelude.{◌≡◌, ◌≢◌, ◌≤◌, List, ℕ, false, IsTrue};
 ghost use Rattle.std.specs.FinMap as map;
 ghost use Rattle.std.specs.Int.{is_power_of_two};
-ghost use Rattle.page_journal.specs.Answers.{HasDiskCause, answers_disk_fault};
 ghost use Rattle.page_journal.specs.Journal.{home_count, is_broken, loan_of};
 ghost use Rattle.page_journal.specs.Journal.{disk_of as disk_under};
-ghost use Rattle.chain_store.specs.Answers.{IsReadAnswer, RestsWith};
+ghost use Rattle.chain_store.specs.Answers.{RestsWith};
 ghost use Rattle.chain_store.specs.Directories.{IsString};
 ghost use Rattle.chain_store.specs.Kept.{AreAllBehindRoot, buckets_in};
-ghost use Rattle.chain_store.specs.Known.{AreGone, AreHeld, AreKnown, AreStored, MayRead};
+ghost use Rattle.chain_store.specs.Known.{AreGone, AreHeld, AreKnown, AreStored};
 ghost use Rattle.chain_store.specs.Store.{Keeps, kept_first};
 ghost use Rattle.chain_store.specs.Directories.{root_in};
 
@@ -47,7 +46,7 @@ pub struct Chains<'d, D: Disk> {
 }
 
 impl<'d, D: Disk> Chains<'d, D> {
-    ghost use Rattle.chain_store.specs.Chains.{Brings, IsOpen, Loads, MaySet, OnlyRead, disk_of, first_of, is_refused, journal_of, kept_of, read_of, root_of, written_of};
+    ghost use Rattle.chain_store.specs.Chains.{IsOpen, MaySet, first_of, is_refused, journal_of, kept_of, read_of, root_of, written_of};
 
     /// The chains of an open store of which this was read, with a transaction begun.
     pub fn over(alloc: Global, journal: Journal<'d, D>, kept: Kept) -> Self

@@ -1,12 +1,11 @@
 //! A chain is read page by page.
-ghost use Rattle.std.specs.Prelude.{◌≡◌, ◌≢◌, ◌+◌, ◌*◌, ◌<◌, ◌≤◌, ◌||◌, ◌↔◌, List, ℕ, false, length, IfOk, IsTrue, OnOk};
+ghost use Rattle.std.specs.Prelude.{◌≡◌, ◌≢◌, ◌+◌, ◌*◌, ◌<◌, ◌≤◌, ◌↔◌, List, ℕ, false, length, IfOk, IsTrue, OnOk};
 ghost use Rattle.outside.specs.Disk.{ReadsAtMost};
-ghost use Rattle.page_journal.specs.Answers.{HasDiskCause, answers_disk_fault};
 ghost use Rattle.page_journal.specs.Journal.{home_count, is_broken, view_of};
-ghost use Rattle.page_journal.specs.Pages.{number};
-ghost use Rattle.chain_store.specs.Answers.{IsReadAnswer, Looked, LooksAt, RestsWith, Walks};
+ghost use Rattle.page_journal.specs.JournalCalls.{LooksAtJournal};
+ghost use Rattle.chain_store.specs.Answers.{LooksAt, RestsWith, Walks};
 ghost use Rattle.chain_store.specs.Chain.{AreBehindRoot};
-ghost use Rattle.chain_store.specs.Links.{IsLink, data_of, many_of, next_of, owner_of, page_in};
+ghost use Rattle.chain_store.specs.Links.{IsLink, data_of, many_of, owner_of, page_in};
 
 use crate::layout::{FREE, HELD, LINK, PAGE};
 use crate::numbers::{half_at, number_at};
@@ -30,13 +29,10 @@ pub fn walk<D: Disk>(
 ) -> Result<Walked, StoreFault>
     ensures answers { (pages : List (List ℕ)) → RestsWith pages journal.old
         → Walks (page_in pages) (length pages + 1) chain first result }
-    ensures alone { IsReadAnswer (is_broken journal.old) result }
     ensures inside { IfOk result (λ walked. AreBehindRoot (home_count journal.old) walked.pages.items) }
-    ensures looked { Looked journal.old journal.new }
-    ensures broken { is_broken journal.new ≡ (is_broken journal.old || answers_disk_fault result) }
     ensures reads { IfOk result (λ walked. ReadsAtMost (length walked.pages.items) (4096 * home_count journal.old)
         (view_of journal.old) (view_of journal.new)) }
-    ensures cause { HasDiskCause (view_of journal.old).faults (view_of journal.new).faults result }
+    ensures looks { LooksAtJournal journal.old journal.new result }
 {
     let home = journal.pages();
     let mut pages = Vec::new(alloc);
@@ -86,13 +82,10 @@ fn look_at<D: Disk>(
 ) -> Result<(), StoreFault>
     requires { at < home_count journal.old }
     ensures answers { (pages : List (List ℕ)) → RestsWith pages journal.old → 1 ≤ at → LooksAt (page_in pages at) chain at page.new result }
-    ensures alone { IsReadAnswer (is_broken journal.old) result }
     ensures link { OnOk result (IsLink chain page.new) }
     ensures whole { OnOk result (is_broken journal.old ≡ false) }
-    ensures looked { Looked journal.old journal.new }
-    ensures broken { is_broken journal.new ≡ (is_broken journal.old || answers_disk_fault result) }
     ensures reads { OnOk result (ReadsAtMost 1 (4096 * home_count journal.old) (view_of journal.old) (view_of journal.new)) }
-    ensures cause { HasDiskCause (view_of journal.old).faults (view_of journal.new).faults result }
+    ensures looks { LooksAtJournal journal.old journal.new result }
 {
     if let Err(fault) = journal.read_page(at, page) {
         return Err(fault);

@@ -1,3 +1,5 @@
+pub mod Adds
+pub mod Asks
 pub mod Gathered
 pub mod PendingSet
 pub mod Questions

@@ -94,6 +94,10 @@ HasOldForms old objects change = AllByRecursion (λ (entry : Entry). is_kind kin
 abbrev pub OfKnown : (Index → Type 0) → ObjectSet → List Entry → (ObjectSet → Type 0) → Type 0
 OfKnown knows old change holds = (objects : ObjectSet) → HasOldForms old objects change → knows (index_of (folded_all objects change)) → holds objects
 
+-- a set is what is pending, of all such objects
+abbrev pub ArePending : (Index → Type 0) → StyleOf → ObjectSet → List Entry → PendingOf → Type 0
+ArePending knows style old change set = OfKnown knows old change (λ objects. IsPendingOf style objects change set)
+
 -- more objects are pending than a limit, and this is how many
 pub record AreTooMany (limit : ℕ) (are_pending : PendingOf → Type 0) (value : ℕ) : Type 0 where
   pub set : PendingOf

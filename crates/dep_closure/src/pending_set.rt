@@ -1,20 +1,16 @@
 //! The objects whose rows a change may change.
-ghost use Rattle.std.specs.Prelude.{◌≡◌, ◌≤◌, ◌<◌, ◌||◌, ◌&&◌, ℕ, false, IfOk, IfErr, OnOk, OnErr};
+ghost use Rattle.std.specs.Prelude.{◌≡◌, ◌≤◌, ◌<◌, ◌||◌, ◌&&◌, ℕ, false, IfOk, IfErr, OnErr};
 ghost use Rattle.std.specs.List.{AllByRecursion, list_any};
-ghost use Rattle.osm_base.specs.values.Ids.{AreRisingIds};
+ghost use Rattle.osm_base.specs.values.Ids.{AreRisingIds, has};
 ghost use Rattle.osm_base.specs.values.Key.{IsId, node_key};
 ghost use Rattle.osm_base.specs.map.Known.{Index};
-ghost use Rattle.osm_base.specs.map.Pending.{PendingOf};
 ghost use Rattle.osm_base.specs.declared.values.key.Kind.TheVariants as kinds;
-ghost use Rattle.osm_base.specs.map.Objects.{ObjectSet, folded_all};
-ghost use Rattle.osm_base.specs.map.Listers.{index_of};
-ghost use Rattle.osm_base.specs.values.Ids.{has};
+ghost use Rattle.dep_closure.specs.Asks.{AsksOf};
 ghost use Rattle.dep_closure.specs.Gathered.{IsGathered};
-ghost use Rattle.dep_closure.specs.PendingSet.{AreTooMany, IsPendingOf, LeavesRows, OfKnown, is_named, size};
-ghost use Rattle.dep_closure.specs.Questions.{AsksAll, AsksSomeOf};
+ghost use Rattle.dep_closure.specs.PendingSet.{ArePending, AreTooMany, LeavesRows, OfKnown, is_named, size};
+ghost use Rattle.dep_closure.specs.Questions.{AsksSomeOf};
 ghost use Rattle.row_map.specs.Condition.{reaches_nodes};
 ghost use Rattle.dep_closure.specs.Selecting.{selects_again};
-ghost use Rattle.dep_closure.specs.Stops.{Stops, UnlessRefused};
 ghost use Rattle.dep_closure.specs.declared.fault.PendingFault.TheVariants.{TooMany as Many};
 
 use crate::PendingFault;
@@ -40,19 +36,16 @@ pub fn pending<B: Back>(
     requires { B.spent back.old ≡ false }
 
     // Of all objects whose relations of the change were so, and whose index after it is this one.
-    ensures pending { IfOk result (λ set. OfKnown (B.knows back.old) old.now change.now (λ objects. IsPendingOf style.now objects change.now set)) }
+    ensures pending { IfOk result (ArePending (B.knows back.old) style.now old.now change.now) }
     ensures few { IfOk result (λ set. size set ≤ limits.now.pending) }
-    ensures stopped { IfErr result (Stops (B.bears back.new (B.faults back.old))
-        (AreTooMany limits.now.pending (λ set. OfKnown (B.knows back.old) old.now change.now (λ objects. IsPendingOf style.now objects change.now set)))) }
 
     // What is not among them has the same rows before and after.
-    ensures others { IfOk result (λ set. OfKnown (B.knows back.old) old.now change.now (λ objects. LeavesRows style.now objects change.now set)) }
-    ensures asked { OnOk result (AsksAll B.asks B.knows back.old change.now back.new) }
+    ensures others { IfOk result (λ set. OfKnown (B.knows back.old) old.now change.now
+        (λ objects. LeavesRows style.now objects change.now set)) }
+    ensures asks { AsksOf B.Back change.now
+        (AreTooMany limits.now.pending (ArePending (B.knows back.old) style.now old.now change.now))
+        back.old back.new result }
     ensures asked_some { OnErr result (AsksSomeOf B.asks B.knows back.old change.now back.new) }
-    ensures index { B.spent back.new ≡ false → (index : Index) → B.knows back.old index → B.knows back.new index }
-    ensures spent { OnOk result (B.spent back.new ≡ false) }
-    ensures unspent { IfErr result (UnlessRefused (B.spent back.new ≡ false)) }
-    ensures faults { B.faults back.old ≤ B.faults back.new }
 {
     let _entries = change.entries();
     let set = gathered(alloc, style, change, back, old)?;
@@ -70,13 +63,8 @@ fn gathered<B: Back>(
     requires { B.spent back.old ≡ false }
     ensures gathered { IfOk result (λ set. (index : Index) → B.knows back.old index
         → IsGathered style.now old.now index change.now set) }
-    ensures asked { OnOk result (AsksAll B.asks B.knows back.old change.now back.new) }
+    ensures asks { AsksOf B.Back change.now (λ _. ⊥) back.old back.new result }
     ensures asked_some { OnErr result (AsksSomeOf B.asks B.knows back.old change.now back.new) }
-    ensures index { B.spent back.new ≡ false → (index : Index) → B.knows back.old index → B.knows back.new index }
-    ensures spent { OnOk result (B.spent back.new ≡ false) }
-    ensures unspent { IfErr result (UnlessRefused (B.spent back.new ≡ false)) }
-    ensures faults { B.faults back.old ≤ B.faults back.new }
-    ensures stopped { IfErr result (Stops (B.bears back.new (B.faults back.old)) (λ _. ⊥)) }
 {
     let moved = ways_due(alloc, change, back)?;
     let relations = relations_due(alloc, change, moved.as_slice(), back)?;

@@ -1,13 +1,12 @@
 //! The relations that a change makes due.
-ghost use Rattle.std.specs.Prelude.{◌≡◌, ◌≤◌, ◌||◌, ◌++◌, ◌∷◌, [], ℕ, false, IfErr, IfOk, OnOk, OnErr};
-ghost use Rattle.std.specs.List.{AllByRecursion, list_any};
-ghost use Rattle.osm_base.specs.values.Ids.{AreRisingIds};
-ghost use Rattle.osm_base.specs.values.Key.{IsId};
+ghost use Rattle.std.specs.Prelude.{◌≡◌, ◌++◌, ◌∷◌, [], ℕ, false, IfOk, OnOk, OnErr};
+ghost use Rattle.std.specs.List.{list_any};
+ghost use Rattle.osm_base.specs.values.Ids.{AreRisingIds, has};
 ghost use Rattle.osm_base.specs.map.Known.{Index, RelationsOfWay};
-ghost use Rattle.osm_base.specs.values.Ids.{has};
+ghost use Rattle.dep_closure.specs.Adds.{AddsDue};
+ghost use Rattle.dep_closure.specs.Asks.{Asks, OnlyAsks};
 ghost use Rattle.dep_closure.specs.Questions.{AsksSome, of_member, of_members, of_ways};
 ghost use Rattle.dep_closure.specs.Relations.{makes_relation, is_along, is_due_relation};
-ghost use Rattle.dep_closure.specs.Stops.{Stops, UnlessRefused};
 
 use crate::PendingFault;
 use object_fold::{Change, RisingIds};
@@ -26,13 +25,8 @@ pub(crate) fn relations_due<B: Back>(
     ensures due { IfOk result (λ ids. (index : Index) → B.knows back.old index
         → (id : ℕ) → has ids id ≡ is_due_relation index change.now ways.now id) }
     ensures rising { IfOk result AreRisingIds }
-    ensures asked { OnOk result (B.asks back.old (of_members change.now ++ of_ways ways.now) back.new) }
+    ensures asks { Asks B.Back (of_members change.now ++ of_ways ways.now) back.old back.new result }
     ensures asked_some { OnErr result (AsksSome B.asks back.old (of_members change.now ++ of_ways ways.now) back.new) }
-    ensures index { B.spent back.new ≡ false → (index : Index) → B.knows back.old index → B.knows back.new index }
-    ensures spent { OnOk result (B.spent back.new ≡ false) }
-    ensures unspent { IfErr result (UnlessRefused (B.spent back.new ≡ false)) }
-    ensures faults { B.faults back.old ≤ B.faults back.new }
-    ensures stopped { IfErr result (Stops (B.bears back.new (B.faults back.old)) (λ _. ⊥)) }
 {
     let mut relations = Vec::new(alloc);
     add_named(change, back, &mut relations)?;
@@ -47,16 +41,10 @@ fn add_named<B: Back>(
     relations: &mut Vec<u64>,
 ) -> Result<(), PendingFault<B::Refusal>>
     requires { B.spent back.old ≡ false }
-    ensures due { OnOk result ((index : Index) → B.knows back.old index
-        → (id : ℕ) → has relations.new.items id ≡ (list_any (makes_relation index id) change.now || has relations.old.items id)) }
-    ensures ids { OnOk result (AllByRecursion IsId relations.old.items → AllByRecursion IsId relations.new.items) }
-    ensures asked { OnOk result (B.asks back.old (of_members change.now) back.new) }
+    ensures due { OnOk result (AddsDue (B.knows back.old) (λ index id. list_any (makes_relation index id) change.now)
+        relations.old.items relations.new.items) }
+    ensures asks { Asks B.Back (of_members change.now) back.old back.new result }
     ensures asked_some { OnErr result (AsksSome B.asks back.old (of_members change.now) back.new) }
-    ensures index { B.spent back.new ≡ false → (index : Index) → B.knows back.old index → B.knows back.new index }
-    ensures spent { OnOk result (B.spent back.new ≡ false) }
-    ensures unspent { IfErr result (UnlessRefused (B.spent back.new ≡ false)) }
-    ensures faults { B.faults back.old ≤ B.faults back.new }
-    ensures stopped { IfErr result (Stops (B.bears back.new (B.faults back.old)) (λ _. ⊥)) }
 {
     let entries = change.entries();
     for entry in entries {
@@ -72,15 +60,10 @@ fn add_entry<B: Back>(
     relations: &mut Vec<u64>,
 ) -> Result<(), PendingFault<B::Refusal>>
     requires { B.spent back.old ≡ false }
-    ensures due { OnOk result ((index : Index) → B.knows back.old index
-        → (id : ℕ) → has relations.new.items id ≡ (makes_relation index id entry.now || has relations.old.items id)) }
-    ensures ids { OnOk result (AllByRecursion IsId relations.old.items → AllByRecursion IsId relations.new.items) }
+    ensures due { OnOk result (AddsDue (B.knows back.old) (λ index id. makes_relation index id entry.now)
+        relations.old.items relations.new.items) }
     ensures asked { B.asks back.old (of_member entry.now) back.new }
-    ensures index { B.spent back.new ≡ false → (index : Index) → B.knows back.old index → B.knows back.new index }
-    ensures spent { OnOk result (B.spent back.new ≡ false) }
-    ensures unspent { IfErr result (UnlessRefused (B.spent back.new ≡ false)) }
-    ensures faults { B.faults back.old ≤ B.faults back.new }
-    ensures stopped { IfErr result (Stops (B.bears back.new (B.faults back.old)) (λ _. ⊥)) }
+    ensures only { OnlyAsks B.Back (λ _. ⊥) back.old back.new result }
 {
     let key = entry.key;
     match key.kind {
@@ -101,16 +84,10 @@ fn add_along<B: Back>(
     relations: &mut Vec<u64>,
 ) -> Result<(), PendingFault<B::Refusal>>
     requires { B.spent back.old ≡ false }
-    ensures due { OnOk result ((index : Index) → B.knows back.old index
-        → (id : ℕ) → has relations.new.items id ≡ (is_along index ways.now id || has relations.old.items id)) }
-    ensures ids { OnOk result (AllByRecursion IsId relations.old.items → AllByRecursion IsId relations.new.items) }
-    ensures asked { OnOk result (B.asks back.old (of_ways ways.now) back.new) }
+    ensures due { OnOk result (AddsDue (B.knows back.old) (λ index. is_along index ways.now)
+        relations.old.items relations.new.items) }
+    ensures asks { Asks B.Back (of_ways ways.now) back.old back.new result }
     ensures asked_some { OnErr result (AsksSome B.asks back.old (of_ways ways.now) back.new) }
-    ensures index { B.spent back.new ≡ false → (index : Index) → B.knows back.old index → B.knows back.new index }
-    ensures spent { OnOk result (B.spent back.new ≡ false) }
-    ensures unspent { IfErr result (UnlessRefused (B.spent back.new ≡ false)) }
-    ensures faults { B.faults back.old ≤ B.faults back.new }
-    ensures stopped { IfErr result (Stops (B.bears back.new (B.faults back.old)) (λ _. ⊥)) }
 {
     for &way in ways {
         add_way(way, back, relations)?;
@@ -125,15 +102,10 @@ fn add_way<B: Back>(
     relations: &mut Vec<u64>,
 ) -> Result<(), PendingFault<B::Refusal>>
     requires { B.spent back.old ≡ false }
-    ensures due { OnOk result ((index : Index) → B.knows back.old index
-        → (id : ℕ) → has relations.new.items id ≡ (has (index.relations_of_way way) id || has relations.old.items id)) }
-    ensures ids { OnOk result (AllByRecursion IsId relations.old.items → AllByRecursion IsId relations.new.items) }
+    ensures due { OnOk result (AddsDue (B.knows back.old) (λ index. has (index.relations_of_way way))
+        relations.old.items relations.new.items) }
     ensures asked { B.asks back.old (RelationsOfWay way ∷ []) back.new }
-    ensures index { B.spent back.new ≡ false → (index : Index) → B.knows back.old index → B.knows back.new index }
-    ensures spent { OnOk result (B.spent back.new ≡ false) }
-    ensures unspent { IfErr result (UnlessRefused (B.spent back.new ≡ false)) }
-    ensures faults { B.faults back.old ≤ B.faults back.new }
-    ensures stopped { IfErr result (Stops (B.bears back.new (B.faults back.old)) (λ _. ⊥)) }
+    ensures only { OnlyAsks B.Back (λ _. ⊥) back.old back.new result }
 {
     let listing = back.relations_of_way(way).map_err(PendingFault::Back)?;
     relations.extend_from_slice(listing.as_slice())?;

@@ -1,12 +1,11 @@
 //! The members of the relations of a change that select.
-ghost use Rattle.std.specs.Prelude.{◌≡◌, ◌&&◌, ◌||◌, ◌++◌, ℕ, OnOk};
+ghost use Rattle.std.specs.Prelude.{◌≡◌, ◌++◌, OnOk};
 ghost use Rattle.std.specs.List.{AllByRecursion, list_any};
 ghost use Rattle.std.specs.Option.{option_copied};
-ghost use Rattle.std.specs.FinMap as map;
 ghost use Rattle.osm_base.specs.values.Key.{IsId};
 ghost use Rattle.osm_base.specs.map.Listers.{member_ids};
-ghost use Rattle.osm_base.specs.values.Ids.{has};
 ghost use Rattle.row_map.specs.Condition.{meets};
+ghost use Rattle.dep_closure.specs.Adds.{Adds};
 ghost use Rattle.dep_closure.specs.Selecting.{selects, has_member, reselects, selects_again};
 
 use object_fold::{Change, Objects};
@@ -23,9 +22,8 @@ pub(crate) fn add_selected(
     old: &Objects,
     ids: &mut Vec<u64>,
 ) -> Result<(), OutOfMemory>
-    ensures selected { OnOk result ((id : ℕ) → has ids.new.items id
-        ≡ (list_any (selects_again style.now old.now kind id) change.now || has ids.old.items id)) }
-    ensures ids { AllByRecursion IsId ids.old.items → AllByRecursion IsId ids.new.items }
+    ensures selected { OnOk result (Adds (λ id. list_any (selects_again style.now old.now kind id) change.now)
+        ids.old.items ids.new.items) }
 {
     let entries = change.entries();
     for entry in entries {
@@ -42,9 +40,8 @@ fn add_entry(
     old: &Objects,
     ids: &mut Vec<u64>,
 ) -> Result<(), OutOfMemory>
-    ensures selected { OnOk result ((id : ℕ) → has ids.new.items id
-        ≡ (selects_again style.now old.now kind id entry.now || has ids.old.items id)) }
-    ensures ids { AllByRecursion IsId ids.old.items → AllByRecursion IsId ids.new.items }
+    ensures selected { OnOk result (Adds (λ id. selects_again style.now old.now kind id entry.now)
+        ids.old.items ids.new.items) }
 {
     if entry.key.kind != Kind::Relation {
         return Ok(());
@@ -66,9 +63,8 @@ fn add_forms(
     after: Option<&Object>,
     ids: &mut Vec<u64>,
 ) -> Result<(), OutOfMemory>
-    ensures selected { OnOk result ((id : ℕ) → has ids.new.items id
-        ≡ (reselects style.now kind id (option_copied before.entry) (option_copied after.entry) || has ids.old.items id)) }
-    ensures ids { AllByRecursion IsId ids.old.items → AllByRecursion IsId ids.new.items }
+    ensures selected { OnOk result (Adds (λ id. reselects style.now kind id (option_copied before.entry) (option_copied after.entry))
+        ids.old.items ids.new.items) }
 {
     if !selects(style, before) && !selects(style, after) {
         return Ok(());
@@ -97,9 +93,8 @@ fn some_met(selections: &[Selection], tags: &Tags) -> bool
 
 /// Adds the ids of the members of one kind of a form of a relation.
 fn add_members(kind: Kind, object: Option<&Object>, ids: &mut Vec<u64>) -> Result<(), OutOfMemory>
-    ensures members { OnOk result ((id : ℕ) → has ids.new.items id
-        ≡ (has_member kind id (option_copied object.entry) || has ids.old.items id)) }
-    ensures ids { AllByRecursion IsId ids.old.items → AllByRecursion IsId ids.new.items }
+    ensures members { OnOk result (Adds (λ id. has_member kind id (option_copied object.entry))
+        ids.old.items ids.new.items) }
 {
     match object {
         Some(Object::Relation { members, .. }) => push_members(kind, members.as_slice(), ids),

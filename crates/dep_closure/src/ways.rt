@@ -1,15 +1,12 @@
 //! The ways that a change makes due.
-ghost use Rattle.std.specs.Prelude.{◌≡◌, ◌≤◌, ◌||◌, ℕ, false, IfOk, IfErr, IsErrOf, OnOk, OnErr};
-ghost use Rattle.std.specs.List.{AllByRecursion};
-ghost use Rattle.osm_base.specs.values.Ids.{AreRisingIds};
-ghost use Rattle.osm_base.specs.values.Key.{IsId};
-ghost use Rattle.osm_base.specs.map.Known.{Index};
+ghost use Rattle.std.specs.Prelude.{◌≡◌, ℕ, false, IfOk, OnOk, OnErr};
 ghost use Rattle.osm_base.specs.map.Objects.{ObjectSet, folded_all};
 ghost use Rattle.osm_base.specs.map.Listers.{index_of};
 ghost use Rattle.osm_base.specs.values.Ids.{has};
-ghost use Rattle.dep_closure.specs.Questions.{AsksSome, of_entry, of_nodes};
-ghost use Rattle.dep_closure.specs.Stops.{Stops};
-ghost use Rattle.dep_closure.specs.Ways.{is_due, makes_due, Leaves};
+ghost use Rattle.dep_closure.specs.Adds.{AddsDue};
+ghost use Rattle.dep_closure.specs.Asks.{Asks, OnlyAsks};
+ghost use Rattle.dep_closure.specs.Questions.{AreDueWays, AsksSome, of_entry, of_nodes};
+ghost use Rattle.dep_closure.specs.Ways.{makes_due, Leaves};
 
 use crate::PendingFault;
 use object_fold::{Change, RisingIds};
@@ -24,22 +21,15 @@ pub fn ways_due<B: Back>(
     back: &mut B,
 ) -> Result<Ids, PendingFault<B::Refusal>>
     requires { B.spent back.old ≡ false }
-    ensures due { IfOk result (λ ids. (index : Index) → B.knows back.old index
-        → (way : ℕ) → has ids way ≡ is_due index change.now way) }
-    ensures rising { IfOk result AreRisingIds }
+    ensures due { IfOk result (AreDueWays (B.knows back.old) change.now) }
 
     // A way that is not among them has the same object and the same line before and after.
     ensures others { IfOk result (λ ids. (objects : ObjectSet) → B.knows back.old (index_of (folded_all objects change.now))
         → (way : ℕ) → has ids way ≡ false → Leaves change.now objects way) }
 
     // The index is asked of each node of the change, in order, and of nothing else.
-    ensures asked { OnOk result (B.asks back.old (of_nodes change.now) back.new) }
+    ensures asks { Asks B.Back (of_nodes change.now) back.old back.new result }
     ensures asked_some { OnErr result (AsksSome B.asks back.old (of_nodes change.now) back.new) }
-    ensures index { B.spent back.new ≡ false → (index : Index) → B.knows back.old index → B.knows back.new index }
-    ensures spent { OnOk result (B.spent back.new ≡ false) }
-    ensures memory { IsErrOf result PendingFault.OutOfMemory → B.spent back.new ≡ false }
-    ensures faults { B.faults back.old ≤ B.faults back.new }
-    ensures stopped { IfErr result (Stops (B.bears back.new (B.faults back.old)) (λ _. ⊥)) }
 {
     let entries = change.entries();
     let mut ways = Vec::new(alloc);
@@ -56,15 +46,10 @@ fn add_due<B: Back>(
     ways: &mut Vec<u64>,
 ) -> Result<(), PendingFault<B::Refusal>>
     requires { B.spent back.old ≡ false }
-    ensures due { OnOk result ((index : Index) → B.knows back.old index
-        → (way : ℕ) → has ways.new.items way ≡ (makes_due index way entry.now || has ways.old.items way)) }
-    ensures ids { OnOk result (AllByRecursion IsId ways.old.items → AllByRecursion IsId ways.new.items) }
+    ensures due { OnOk result (AddsDue (B.knows back.old) (λ index way. makes_due index way entry.now)
+        ways.old.items ways.new.items) }
     ensures asked { B.asks back.old (of_entry entry.now) back.new }
-    ensures index { B.spent back.new ≡ false → (index : Index) → B.knows back.old index → B.knows back.new index }
-    ensures spent { OnOk result (B.spent back.new ≡ false) }
-    ensures memory { IsErrOf result PendingFault.OutOfMemory → B.spent back.new ≡ false }
-    ensures faults { B.faults back.old ≤ B.faults back.new }
-    ensures stopped { IfErr result (Stops (B.bears back.new (B.faults back.old)) (λ _. ⊥)) }
+    ensures only { OnlyAsks B.Back (λ _. ⊥) back.old back.new result }
 {
     let key = entry.key;
     match key.kind {

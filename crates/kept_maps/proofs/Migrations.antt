@@ -42,15 +42,17 @@ use Rattle.value_bytes.specs.Options.{IsOption, option_bytes}
 use Rattle.value_bytes.specs.Tags.{AreTags, tags_bytes}
 use Rattle.value_bytes.specs.declared.fault.ValueFault.{ValueFault}
 use Rattle.value_bytes.specs.declared.fault.ValueFault.TheVariants.{NotSpelled, OutOfMemory}
+use Rattle.back_index.specs.Asking.{reads_none}
 use Rattle.back_index.specs.Ids.{ids_bytes, AreListed}
 use Rattle.back_index.specs.Visits.{Refuses}
 use Rattle.back_index.proofs.Chained.{page_same}
+use Rattle.back_index.proofs.ReadKeys.{reads_result, reads_then}
 use Rattle.back_index.proofs.Reading.{refuses_more, refuses_result}
 use Rattle.back_index.proofs.Turning.{only_none, only_then, sets_put}
 use Rattle.store_maps.specs.Maps.{Maps}
 use Rattle.kept_maps.specs.Held.{Beside, HasOldMaps}
 use Rattle.kept_maps.specs.Kept.{HoldsMaps, HoldsOldMaps}
-use Rattle.kept_maps.specs.Migrating.{Any, AreThere, HasOldUnread, IsIn, IsRenewed, Renews}
+use Rattle.kept_maps.specs.Migrating.{Any, AreThere, HasOldUnread, IsIn, IsRenewed, LooksOnce, Renews}
 use Rattle.kept_maps.proofs.Settings.{sound_none}
 
 or_none : (b : Bool) → (b || false) ≡ b
@@ -315,7 +317,7 @@ module _ {D : Type 0} {g : Ghosts D} where
       }) refuses
 
   -- looks, one after another
-  pub looks_none : (buckets : Buckets D g) → has_refused buckets ≡ false → Looks {T = Unit {0}} buckets buckets (Ok tt)
+  looks_none : (buckets : Buckets D g) → has_refused buckets ≡ false → Looks {T = Unit {0}} buckets buckets (Ok tt)
   looks_none buckets going = record {
     same = looks_same buckets;
     stays = read_same buckets buckets refl;
@@ -325,11 +327,11 @@ module _ {D : Type 0} {g : Ghosts D} where
     cause = record { later = omega arith; failed = λ is. absurd (cc) };
   }
 
-  pub looks_then : {T : Type 0} (old mid new : Buckets D g) (result : Result T StoreFault) → Looks {T = Unit {0}} old mid (Ok tt) → Looks mid new result
+  looks_then : {T : Type 0} (old mid new : Buckets D g) (result : Result T StoreFault) → Looks {T = Unit {0}} old mid (Ok tt) → Looks mid new result
       → Looks old new result
   looks_then old mid new result first second = looks_on old mid new result first.same first.stays (still_whole old mid tt first) second
 
-  pub touched_looks : {T : Type 0} (which key : ℕ) (old new : Buckets D g) (result : Result T StoreFault) → Touches which key old new result → Looks old new result
+  touched_looks : {T : Type 0} (which key : ℕ) (old new : Buckets D g) (result : Result T StoreFault) → Touches which key old new result → Looks old new result
   touched_looks which key old new result does = record {
     same = does.same;
     stays = does.stays;
@@ -337,6 +339,24 @@ module _ {D : Type 0} {g : Ghosts D} where
     broken = does.broken;
     refused = does.refused;
     cause = does.cause;
+  }
+
+  -- and each bucket once
+  pub once_none : (buckets : Buckets D g) → has_refused buckets ≡ false → LooksOnce {T = Unit {0}} buckets buckets (Ok tt)
+  once_none buckets going = record { looks = looks_none buckets going; reads = reads_none buckets }
+
+  pub once_then : {T : Type 0} (old mid new : Buckets D g) (result : Result T StoreFault) → LooksOnce {T = Unit {0}} old mid (Ok tt) → LooksOnce mid new result
+      → LooksOnce old new result
+  once_then old mid new result first second = record {
+    looks = looks_then old mid new result first.looks second.looks;
+    reads = reads_then old mid new result first.reads second.reads;
+  }
+
+  pub once_key : {T : Type 0} (which key : ℕ) (old new : Buckets D g) (result : Result T StoreFault) → Touches which key old new result
+      → LooksOnce old new result
+  once_key which key old new result does = record {
+    looks = touched_looks which key old new result does;
+    reads = reads_result old new which key result does.reads;
   }
 
   module _ (old new : Buckets D g) (page : ℕ) (chains : chains_of new ≡ chains_of old) (refused : has_refused new ≡ true) (same : OnlyLooks old new) where
@@ -361,8 +381,8 @@ module _ {D : Type 0} {g : Ghosts D} where
       cause = record { later = same.later; failed = λ is. absurd (cc) };
     }
 
-    pub value_looks : (fault : ValueFault) (refusal : StoreFault) → refusal ≡ refusal_of fault page → Looks {T = Unit {0}} old new (Err refusal)
-    value_looks fault refusal is = subst (λ (r : StoreFault). Looks {T = Unit {0}} old new (Err r)) (sym is) (refused_looks fault)
+    pub value_once : (fault : ValueFault) (refusal : StoreFault) → refusal ≡ refusal_of fault page → LooksOnce {T = Unit {0}} old new (Err refusal)
+    value_once fault refusal is = record { looks = subst (λ (r : StoreFault). Looks {T = Unit {0}} old new (Err r)) (sym is) (refused_looks fault); reads = tt }
 
 -- a value that does not read is refused so
 refuses_one : (Fact : Type 0) (page : ℕ) (fault : ValueFault) → NeedsFor Fact fault → Refuses (λ at. Fact × (at ≡ page)) (refusal_of fault page)

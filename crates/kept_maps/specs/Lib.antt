@@ -1,5 +1,6 @@
 pub mod Kept
 pub mod Held
+pub mod Touched
 pub mod Migrating
 pub mod Calls
 pub mod Laws

@@ -1,17 +1,20 @@
 -- The records of nodes of an old store are written anew.
 -- docs/FILES.md, "Buckets, and the eight maps": behind the place of each stands the mark of tags that nobody knows.
-use Rattle.std.specs.Prelude.{◌≡◌, ◌%◌, ℕ, List, Option, None, Some}
+use Rattle.std.specs.Prelude.{◌≡◌, ◌%◌, ℕ, List, Option, None, Some, Result, OnOk}
 use Rattle.std.specs.List.{AllByRecursion}
 use Rattle.std.specs.FinMap as finite
 use Rattle.osm_base.specs.values.Place.{PlaceOf}
 use Rattle.outside.specs.declared.disk.Disk.{Ghosts}
+use Rattle.page_journal.specs.declared.fault.StoreFault.{StoreFault}
 use Rattle.bucket_store.specs.Image.{Image}
 use Rattle.bucket_store.specs.declared.buckets.Buckets.{Buckets}
 use Rattle.value_bytes.specs.Forms.{IsNoValue}
 use Rattle.middle_nodes.specs.Record.{record_bytes}
 use Rattle.middle_nodes.specs.Old.{IsOldPlace, old_bytes, unknown}
 use Rattle.middle_nodes.specs.declared.calls.TheConstants.{NODES}
+use Rattle.row_store.specs.Loading.{Looks}
 use Rattle.back_index.specs.Calls.{page_in}
+use Rattle.back_index.specs.Reads.{ReadsBuckets}
 use Rattle.back_index.specs.Visits.{OnlyMap}
 
 -- the bytes of a record are those of a place alone, and then those of this place and unknown tags; without a record there is none then
@@ -45,3 +48,8 @@ pub record HasOldUnread {D : Type 0} {g : Ghosts D} (Part : ℕ → Type 0) (buc
   pub there : finite.get (now.maps NODES) id ≡ Some bytes
   pub none : IsNoValue old_bytes IsOldPlace bytes
   pub page_is : at ≡ page_in buckets NODES id
+
+-- the store at rest was only looked at, each of its buckets once
+pub record LooksOnce {D T : Type 0} {g : Ghosts D} (old new : Buckets D g) (result : Result T StoreFault) : Type 0 where
+  pub looks : Looks old new result
+  pub reads : OnOk result (ReadsBuckets old new)

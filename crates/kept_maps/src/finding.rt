@@ -1,17 +1,12 @@
 //! Values are read from the buckets of an open store, by the maps that it has.
-ghost use Rattle.std.specs.Prelude.{◌≡◌, ◌≤◌, List, true, false, IfOk, OnOk};
+ghost use Rattle.std.specs.Prelude.{◌≡◌, List, true};
 ghost use Rattle.std.specs.FinMap as finite;
 ghost use Rattle.osm_base.specs.declared.values.key.Kind.TheVariants as kinds;
 ghost use Rattle.style_read.specs.declared.style.TableDef.{TableDef};
-ghost use Rattle.bucket_store.specs.Buckets.{bucket_count};
-ghost use Rattle.bucket_store.specs.Image.{Has, Image, IsSoundAnswer};
-ghost use Rattle.bucket_store.specs.Transaction.{chains_of, has_refused};
-ghost use Rattle.back_index.specs.Calls.{Answers};
-ghost use Rattle.back_index.specs.Reads.{HasReadOnly, ReadsBuckets};
-ghost use Rattle.store_maps.specs.Asked.{May, MayObject, MayRows};
-ghost use Rattle.store_maps.specs.Maps.{Maps, form_in, node_in, object_in, rows_at};
+ghost use Rattle.store_maps.specs.Asked.{MayObject, MayRows};
+ghost use Rattle.store_maps.specs.Maps.{form_in, node_in, object_in, rows_at};
 ghost use Rattle.store_maps.specs.Named.{place_in};
-ghost use Rattle.kept_maps.specs.Held.{Beside, HasMaps};
+ghost use Rattle.kept_maps.specs.Touched.{Asks, Finds, IsLive};
 
 use bucket_store::Buckets;
 use middle_nodes::NodeRecord;
@@ -27,15 +22,9 @@ pub(crate) fn find_form<D: Disk>(
     buckets: &mut Buckets<'_, D>,
     key: Key,
 ) -> Result<Option<Object>, StoreFault>
-    requires some { 1 ≤ bucket_count (chains_of buckets.old) }
-    requires going { has_refused buckets.old ≡ false }
-    ensures found { IfOk result (λ found. (definitions : List TableDef) (under : Beside) (maps : Maps) → HasMaps definitions under maps buckets.old
-        → found ≡ form_in maps key.kind key.id) }
-    ensures has { OnOk result ((rest now : Image) → Has rest now buckets.old → Has rest now buckets.new) }
-    ensures sound { (definitions : List TableDef) (under : Beside) (maps : Maps) → HasMaps definitions under maps buckets.old → IsSoundAnswer result }
-    ensures within { (may : May) → MayObject may key → HasReadOnly may buckets.old → HasReadOnly may buckets.new }
-    ensures reads { OnOk result (ReadsBuckets buckets.old buckets.new) }
-    ensures answers { Answers buckets.old buckets.new result }
+    requires live { IsLive buckets.old }
+    ensures finds { (definitions : List TableDef) → Finds definitions (λ maps. form_in maps key.kind key.id) buckets.old result }
+    ensures asks { Asks (λ may. MayObject may key) buckets.old buckets.new result }
 {
     match key.kind {
         Kind::Node => Ok(None),
@@ -49,15 +38,9 @@ pub(crate) fn find_object<D: Disk>(
     buckets: &mut Buckets<'_, D>,
     key: Key,
 ) -> Result<Option<Object>, StoreFault>
-    requires some { 1 ≤ bucket_count (chains_of buckets.old) }
-    requires going { has_refused buckets.old ≡ false }
-    ensures found { IfOk result (λ found. (definitions : List TableDef) (under : Beside) (maps : Maps) → HasMaps definitions under maps buckets.old
-        → found ≡ object_in maps key.kind key.id) }
-    ensures has { OnOk result ((rest now : Image) → Has rest now buckets.old → Has rest now buckets.new) }
-    ensures sound { (definitions : List TableDef) (under : Beside) (maps : Maps) → HasMaps definitions under maps buckets.old → IsSoundAnswer result }
-    ensures within { (may : May) → MayObject may key → HasReadOnly may buckets.old → HasReadOnly may buckets.new }
-    ensures reads { OnOk result (ReadsBuckets buckets.old buckets.new) }
-    ensures answers { Answers buckets.old buckets.new result }
+    requires live { IsLive buckets.old }
+    ensures finds { (definitions : List TableDef) → Finds definitions (λ maps. object_in maps key.kind key.id) buckets.old result }
+    ensures asks { Asks (λ may. MayObject may key) buckets.old buckets.new result }
 {
     match key.kind {
         Kind::Node => find_node(alloc, buckets, key.id),
@@ -71,15 +54,9 @@ fn find_node<D: Disk>(
     buckets: &mut Buckets<'_, D>,
     id: u64,
 ) -> Result<Option<Object>, StoreFault>
-    requires some { 1 ≤ bucket_count (chains_of buckets.old) }
-    requires going { has_refused buckets.old ≡ false }
-    ensures found { IfOk result (λ found. (definitions : List TableDef) (under : Beside) (maps : Maps) → HasMaps definitions under maps buckets.old
-        → found ≡ object_in maps kinds.Node id) }
-    ensures has { OnOk result ((rest now : Image) → Has rest now buckets.old → Has rest now buckets.new) }
-    ensures sound { (definitions : List TableDef) (under : Beside) (maps : Maps) → HasMaps definitions under maps buckets.old → IsSoundAnswer result }
-    ensures within { (may : May) → may 0 id ≡ true → HasReadOnly may buckets.old → HasReadOnly may buckets.new }
-    ensures reads { OnOk result (ReadsBuckets buckets.old buckets.new) }
-    ensures answers { Answers buckets.old buckets.new result }
+    requires live { IsLive buckets.old }
+    ensures finds { (definitions : List TableDef) → Finds definitions (λ maps. object_in maps kinds.Node id) buckets.old result }
+    ensures asks { Asks (λ may. may 0 id ≡ true) buckets.old buckets.new result }
 {
     match middle_nodes::get(alloc, buckets, id) {
         Ok(found) => Ok(node_in(found)),
@@ -93,15 +70,9 @@ pub(crate) fn find_place<D: Disk>(
     buckets: &mut Buckets<'_, D>,
     id: u64,
 ) -> Result<Option<Place>, StoreFault>
-    requires some { 1 ≤ bucket_count (chains_of buckets.old) }
-    requires going { has_refused buckets.old ≡ false }
-    ensures found { IfOk result (λ found. (definitions : List TableDef) (under : Beside) (maps : Maps) → HasMaps definitions under maps buckets.old
-        → found ≡ place_in (finite.get maps.nodes id)) }
-    ensures has { OnOk result ((rest now : Image) → Has rest now buckets.old → Has rest now buckets.new) }
-    ensures sound { (definitions : List TableDef) (under : Beside) (maps : Maps) → HasMaps definitions under maps buckets.old → IsSoundAnswer result }
-    ensures within { (may : May) → may 0 id ≡ true → HasReadOnly may buckets.old → HasReadOnly may buckets.new }
-    ensures reads { OnOk result (ReadsBuckets buckets.old buckets.new) }
-    ensures answers { Answers buckets.old buckets.new result }
+    requires live { IsLive buckets.old }
+    ensures finds { (definitions : List TableDef) → Finds definitions (λ maps. place_in (finite.get maps.nodes id)) buckets.old result }
+    ensures asks { Asks (λ may. may 0 id ≡ true) buckets.old buckets.new result }
 {
     match middle_nodes::get(alloc, buckets, id) {
         Ok(found) => Ok(place_in(found)),
@@ -116,15 +87,9 @@ pub(crate) fn find_rows<D: Disk>(
     style: &Style,
     key: Key,
 ) -> Result<Option<TableRows>, StoreFault>
-    requires some { 1 ≤ bucket_count (chains_of buckets.old) }
-    requires going { has_refused buckets.old ≡ false }
-    ensures found { IfOk result (λ found. (under : Beside) (maps : Maps) → HasMaps style.now.tables under maps buckets.old
-        → found ≡ rows_at maps key.kind key.id) }
-    ensures has { OnOk result ((rest now : Image) → Has rest now buckets.old → Has rest now buckets.new) }
-    ensures sound { (under : Beside) (maps : Maps) → HasMaps style.now.tables under maps buckets.old → IsSoundAnswer result }
-    ensures within { (may : May) → MayRows may key → HasReadOnly may buckets.old → HasReadOnly may buckets.new }
-    ensures reads { OnOk result (ReadsBuckets buckets.old buckets.new) }
-    ensures answers { Answers buckets.old buckets.new result }
+    requires live { IsLive buckets.old }
+    ensures finds { Finds style.now.tables (λ maps. rows_at maps key.kind key.id) buckets.old result }
+    ensures asks { Asks (λ may. MayRows may key) buckets.old buckets.new result }
 {
     row_store::get(alloc, buckets, style, key)
 }

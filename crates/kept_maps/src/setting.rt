@@ -1,19 +1,17 @@
 //! Values are set in the buckets of an open store, by the maps that it has.
-ghost use Rattle.std.specs.Prelude.{◌≡◌, ◌≢◌, ◌≤◌, List, [], None, Some, true, false, OnOk, IfSome};
+ghost use Rattle.std.specs.Prelude.{◌≡◌, ◌≢◌, List, [], None, Some, true, OnOk, IfSome};
 ghost use Rattle.osm_base.specs.declared.values.key.Kind.TheVariants as kinds;
 ghost use Rattle.style_read.specs.declared.style.TableDef.{TableDef};
 ghost use Rattle.object_fold.specs.Change.{IsOfKind};
-ghost use Rattle.bucket_store.specs.Buckets.{bucket_count};
-ghost use Rattle.bucket_store.specs.Image.{Has, Image, IsSoundAnswer};
-ghost use Rattle.bucket_store.specs.Transaction.{chains_of, has_refused};
-ghost use Rattle.back_index.specs.Calls.{Answers};
-ghost use Rattle.back_index.specs.Reads.{HasReadOnly, ReadsBuckets};
+ghost use Rattle.bucket_store.specs.Image.{IsSoundAnswer};
+ghost use Rattle.back_index.specs.Reads.{HasReadOnly};
 ghost use Rattle.store_maps.specs.Append.{MayKeep};
 ghost use Rattle.store_maps.specs.Asked.{May, MayList, MayObject, MayRows};
 ghost use Rattle.store_maps.specs.Filling.{HasNoLists, MayListAll, all_listed_on};
 ghost use Rattle.store_maps.specs.Maps.{Maps, set, set_object, set_rows};
 ghost use Rattle.store_maps.specs.Step.{AreTold, relisted_to};
 ghost use Rattle.kept_maps.specs.Held.{Beside, HasMaps};
+ghost use Rattle.kept_maps.specs.Touched.{IsLive, Puts, Touched};
 
 use back_index::{fill, relist};
 use bucket_store::Buckets;
@@ -31,15 +29,11 @@ pub(crate) fn keep_object<D: Disk>(
     key: Key,
     object: &Option<Object>,
 ) -> Result<(), StoreFault>
-    requires some { 1 ≤ bucket_count (chains_of buckets.old) }
-    requires going { has_refused buckets.old ≡ false }
+    requires live { IsLive buckets.old }
     requires proper { IfSome object.now (IsOfKind key.kind) }
     ensures sets { OnOk result ((definitions : List TableDef) (under : Beside) (maps : Maps) → HasMaps definitions under maps buckets.old
         → HasMaps definitions under (set_object maps key.kind key.id object.now) buckets.new) }
-    ensures sound { (rest now : Image) → Has rest now buckets.old → IsSoundAnswer result }
-    ensures within { (may : May) → MayObject may key → HasReadOnly may buckets.old → HasReadOnly may buckets.new }
-    ensures reads { OnOk result (ReadsBuckets buckets.old buckets.new) }
-    ensures answers { Answers buckets.old buckets.new result }
+    ensures puts { Puts (λ may. MayObject may key) buckets.old buckets.new result }
 {
     match object {
         Some(object) => put_object(alloc, buckets, key, object),
@@ -54,15 +48,11 @@ fn put_object<D: Disk>(
     key: Key,
     object: &Object,
 ) -> Result<(), StoreFault>
-    requires some { 1 ≤ bucket_count (chains_of buckets.old) }
-    requires going { has_refused buckets.old ≡ false }
+    requires live { IsLive buckets.old }
     requires proper { IsOfKind key.kind object.now }
     ensures sets { OnOk result ((definitions : List TableDef) (under : Beside) (maps : Maps) → HasMaps definitions under maps buckets.old
         → HasMaps definitions under (set_object maps key.kind key.id (Some object.now)) buckets.new) }
-    ensures sound { (rest now : Image) → Has rest now buckets.old → IsSoundAnswer result }
-    ensures within { (may : May) → MayObject may key → HasReadOnly may buckets.old → HasReadOnly may buckets.new }
-    ensures reads { OnOk result (ReadsBuckets buckets.old buckets.new) }
-    ensures answers { Answers buckets.old buckets.new result }
+    ensures puts { Puts (λ may. MayObject may key) buckets.old buckets.new result }
 {
     match object {
         Object::Node { place, tags } => put_node(alloc, buckets, key.id, *place, tags),
@@ -78,14 +68,10 @@ fn put_node<D: Disk>(
     place: Option<Place>,
     tags: &Tags,
 ) -> Result<(), StoreFault>
-    requires some { 1 ≤ bucket_count (chains_of buckets.old) }
-    requires going { has_refused buckets.old ≡ false }
+    requires live { IsLive buckets.old }
     ensures sets { OnOk result ((definitions : List TableDef) (under : Beside) (maps : Maps) → HasMaps definitions under maps buckets.old
         → HasMaps definitions under (record maps { nodes = set maps.nodes id (Some (record { place = place; tags = Some tags.now })) }) buckets.new) }
-    ensures sound { (rest now : Image) → Has rest now buckets.old → IsSoundAnswer result }
-    ensures within { (may : May) → may 0 id ≡ true → HasReadOnly may buckets.old → HasReadOnly may buckets.new }
-    ensures reads { OnOk result (ReadsBuckets buckets.old buckets.new) }
-    ensures answers { Answers buckets.old buckets.new result }
+    ensures puts { Puts (λ may. may 0 id ≡ true) buckets.old buckets.new result }
 {
     match tags.copy(alloc) {
         Ok(tags) => {
@@ -104,14 +90,10 @@ fn put_node<D: Disk>(
 
 /// A key has no object.
 fn take_object<D: Disk>(buckets: &mut Buckets<'_, D>, key: Key) -> Result<(), StoreFault>
-    requires some { 1 ≤ bucket_count (chains_of buckets.old) }
-    requires going { has_refused buckets.old ≡ false }
+    requires live { IsLive buckets.old }
     ensures sets { OnOk result ((definitions : List TableDef) (under : Beside) (maps : Maps) → HasMaps definitions under maps buckets.old
         → HasMaps definitions under (set_object maps key.kind key.id None) buckets.new) }
-    ensures sound { (rest now : Image) → Has rest now buckets.old → IsSoundAnswer result }
-    ensures within { (may : May) → MayObject may key → HasReadOnly may buckets.old → HasReadOnly may buckets.new }
-    ensures reads { OnOk result (ReadsBuckets buckets.old buckets.new) }
-    ensures answers { Answers buckets.old buckets.new result }
+    ensures puts { Puts (λ may. MayObject may key) buckets.old buckets.new result }
 {
     match key.kind {
         Kind::Node => take_node(buckets, key.id),
@@ -121,14 +103,10 @@ fn take_object<D: Disk>(buckets: &mut Buckets<'_, D>, key: Key) -> Result<(), St
 
 /// There is no node with this id.
 fn take_node<D: Disk>(buckets: &mut Buckets<'_, D>, id: u64) -> Result<(), StoreFault>
-    requires some { 1 ≤ bucket_count (chains_of buckets.old) }
-    requires going { has_refused buckets.old ≡ false }
+    requires live { IsLive buckets.old }
     ensures sets { OnOk result ((definitions : List TableDef) (under : Beside) (maps : Maps) → HasMaps definitions under maps buckets.old
         → HasMaps definitions under (record maps { nodes = set maps.nodes id None }) buckets.new) }
-    ensures sound { (rest now : Image) → Has rest now buckets.old → IsSoundAnswer result }
-    ensures within { (may : May) → may 0 id ≡ true → HasReadOnly may buckets.old → HasReadOnly may buckets.new }
-    ensures reads { OnOk result (ReadsBuckets buckets.old buckets.new) }
-    ensures answers { Answers buckets.old buckets.new result }
+    ensures puts { Puts (λ may. may 0 id ≡ true) buckets.old buckets.new result }
 {
     match middle_nodes::remove(buckets, id) {
         Ok(_) => Ok(()),
@@ -139,14 +117,10 @@ fn take_node<D: Disk>(buckets: &mut Buckets<'_, D>, id: u64) -> Result<(), Store
 /// A key has no way and no relation.
 fn take_form<D: Disk>(buckets: &mut Buckets<'_, D>, key: Key) -> Result<(), StoreFault>
     requires kind { key.kind ≢ kinds.Node }
-    requires some { 1 ≤ bucket_count (chains_of buckets.old) }
-    requires going { has_refused buckets.old ≡ false }
+    requires live { IsLive buckets.old }
     ensures sets { OnOk result ((definitions : List TableDef) (under : Beside) (maps : Maps) → HasMaps definitions under maps buckets.old
         → HasMaps definitions under (set_object maps key.kind key.id None) buckets.new) }
-    ensures sound { (rest now : Image) → Has rest now buckets.old → IsSoundAnswer result }
-    ensures within { (may : May) → MayObject may key → HasReadOnly may buckets.old → HasReadOnly may buckets.new }
-    ensures reads { OnOk result (ReadsBuckets buckets.old buckets.new) }
-    ensures answers { Answers buckets.old buckets.new result }
+    ensures puts { Puts (λ may. MayObject may key) buckets.old buckets.new result }
 {
     match middle_objs::remove(buckets, key) {
         Ok(_) => Ok(()),
@@ -162,15 +136,11 @@ pub(crate) fn keep_rows<D: Disk>(
     key: Key,
     rows: &TableRows,
 ) -> Result<(), StoreFault>
-    requires some { 1 ≤ bucket_count (chains_of buckets.old) }
-    requires going { has_refused buckets.old ≡ false }
+    requires live { IsLive buckets.old }
     requires kept { MayKeep style.now.tables rows.now }
     ensures sets { OnOk result ((under : Beside) (maps : Maps) → HasMaps style.now.tables under maps buckets.old
         → HasMaps style.now.tables under (set_rows maps key.kind key.id rows.now) buckets.new) }
-    ensures sound { (rest now : Image) → Has rest now buckets.old → IsSoundAnswer result }
-    ensures within { (may : May) → MayRows may key → HasReadOnly may buckets.old → HasReadOnly may buckets.new }
-    ensures reads { OnOk result (ReadsBuckets buckets.old buckets.new) }
-    ensures answers { Answers buckets.old buckets.new result }
+    ensures puts { Puts (λ may. MayRows may key) buckets.old buckets.new result }
 {
     if rows.as_slice().is_empty() {
         take_rows(buckets, key)
@@ -181,14 +151,10 @@ pub(crate) fn keep_rows<D: Disk>(
 
 /// A key has no rows.
 fn take_rows<D: Disk>(buckets: &mut Buckets<'_, D>, key: Key) -> Result<(), StoreFault>
-    requires some { 1 ≤ bucket_count (chains_of buckets.old) }
-    requires going { has_refused buckets.old ≡ false }
+    requires live { IsLive buckets.old }
     ensures sets { OnOk result ((definitions : List TableDef) (under : Beside) (maps : Maps) → HasMaps definitions under maps buckets.old
         → HasMaps definitions under (set_rows maps key.kind key.id []) buckets.new) }
-    ensures sound { (rest now : Image) → Has rest now buckets.old → IsSoundAnswer result }
-    ensures within { (may : May) → MayRows may key → HasReadOnly may buckets.old → HasReadOnly may buckets.new }
-    ensures reads { OnOk result (ReadsBuckets buckets.old buckets.new) }
-    ensures answers { Answers buckets.old buckets.new result }
+    ensures puts { Puts (λ may. MayRows may key) buckets.old buckets.new result }
 {
     match row_store::remove(buckets, key) {
         Ok(_) => Ok(()),
@@ -204,15 +170,13 @@ pub(crate) fn turn_lists<D: Disk>(
     old: &Option<Object>,
     new: &Option<Object>,
 ) -> Result<(), StoreFault>
-    requires some { 1 ≤ bucket_count (chains_of buckets.old) }
-    requires going { has_refused buckets.old ≡ false }
+    requires live { IsLive buckets.old }
     ensures sets { OnOk result ((definitions : List TableDef) (under : Beside) (maps : Maps) → HasMaps definitions under maps buckets.old
         → HasMaps definitions under (relisted_to maps key old.now new.now) buckets.new) }
     ensures sound { (definitions : List TableDef) (under : Beside) (maps : Maps) → HasMaps definitions under maps buckets.old
         → AreTold maps key old.now → IsSoundAnswer result }
     ensures within { (may : May) → MayList may key old.now → MayList may key new.now → HasReadOnly may buckets.old → HasReadOnly may buckets.new }
-    ensures reads { OnOk result (ReadsBuckets buckets.old buckets.new) }
-    ensures answers { Answers buckets.old buckets.new result }
+    ensures touched { Touched buckets.old buckets.new result }
 {
     let _id = key.id;
     relist(alloc, buckets, key, old, new)
@@ -224,14 +188,10 @@ pub(crate) fn fill_lists<D: Disk>(
     buckets: &mut Buckets<'_, D>,
     entries: &[Entry],
 ) -> Result<(), StoreFault>
-    requires some { 1 ≤ bucket_count (chains_of buckets.old) }
-    requires going { has_refused buckets.old ≡ false }
+    requires live { IsLive buckets.old }
     ensures sets { OnOk result ((definitions : List TableDef) (under : Beside) (maps : Maps) → HasMaps definitions under maps buckets.old → HasNoLists maps
         → HasMaps definitions under (all_listed_on maps entries.now) buckets.new) }
-    ensures sound { (rest now : Image) → Has rest now buckets.old → IsSoundAnswer result }
-    ensures within { (may : May) → MayListAll may entries.now → HasReadOnly may buckets.old → HasReadOnly may buckets.new }
-    ensures reads { OnOk result (ReadsBuckets buckets.old buckets.new) }
-    ensures answers { Answers buckets.old buckets.new result }
+    ensures puts { Puts (λ may. MayListAll may entries.now) buckets.old buckets.new result }
 {
     fill(alloc, buckets, entries)
 }

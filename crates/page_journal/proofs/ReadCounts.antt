@@ -1,7 +1,7 @@
 -- The reads of a run of calls.
-use Rattle.std.proofs.Common.{◌≡◌, ℕ, ◌+◌, ◌*◌, ◌≤◌, List, length, max, Option, Some, option_map, ap, ◌∙◌, subst, arith}
+use Rattle.std.proofs.Common.{◌≡◌, ℕ, ◌+◌, ◌*◌, ◌≤◌, List, length, max, Option, Some, ◌∙◌, subst, arith}
 use Rattle.std.specs.Prelude.{IfSome}
-use Rattle.outside.specs.Disk.{ReadLog, one_read}
+use Rattle.outside.specs.Disk.{ReadLog}
 use Rattle.page_journal.specs.Pages.{first_page, number_pages, page_count}
 
 -- what is said of two disks by their reads alone
@@ -12,19 +12,13 @@ Counted count end old new = (before : ReadLog) → old ≡ Some before → (now 
 pub reads_none : (count end : ℕ) (old new : Option ReadLog) → new ≡ old → Counted count end old new
 reads_none count end old new same = λ before told. (before, same ∙ told, omega arith, omega arith)
 
-pub reads_one : (at len end : ℕ) (old new : Option ReadLog) → at + len ≤ end → new ≡ option_map (one_read at len) old
-    → Counted 1 end old new
-reads_one at len end old new fits is = λ before told. (
-  one_read at len before,
-  is ∙ ap (λ (log : Option ReadLog). option_map (one_read at len) log) told,
-  omega arith,
-  omega (arith, fits),
-)
-
 pub reads_quiet : (count end : ℕ) (old mid new : Option ReadLog) → Counted count end old mid → new ≡ mid → Counted count end old new
 reads_quiet count end old mid new first same = λ before told.
     let between = first before told in
     (between.0, same ∙ between.1, between.2, between.3)
+
+pub quiet_reads : (count end : ℕ) (old mid new : Option ReadLog) → mid ≡ old → Counted count end mid new → Counted count end old new
+quiet_reads count end old mid new same reads = λ before told. reads before (same ∙ told)
 
 pub reads_then : (one two end : ℕ) (old mid new : Option ReadLog) → Counted one end old mid → Counted two end mid new
     → Counted (one + two) end old new

@@ -5,8 +5,8 @@ use Rattle.outside.specs.Causes.{Rose}
 use Rattle.page_journal.specs.Home.{IsFormatted, IsWellFormed, IsHomePage}
 use Rattle.page_journal.specs.Pages.{number, gate, first_page, page_count}
 use Rattle.page_journal.specs.declared.fault.StoreFault.{StoreFault}
-use Rattle.page_journal.specs.declared.fault.StoreFault.TheVariants.{NotFormatted, NotEmpty, BadStore, DiskFault, StoreFull, Broken}
-use Rattle.page_journal.specs.declared.layout.TheConstants.{OPEN, ROOT_AT}
+use Rattle.page_journal.specs.declared.fault.StoreFault.TheVariants.{NotFormatted, NotEmpty, BadStore, DiskFault, StoreFull, Broken, OutOfMemory}
+use Rattle.page_journal.specs.declared.layout.TheConstants.{OPEN, ROOT_AT, PAGE_LEN}
 
 abbrev pub is_disk_fault : StoreFault → Bool
 is_disk_fault DiskFault = true
@@ -40,11 +40,11 @@ pub record HomeRefused (bytes : List ℕ) (page : ℕ) : Type 0 where
   pub finish : CanFinish bytes
   pub home : ℕ
   pub says : SaysHome bytes home
-  pub bad : (home < 2) ⊎ (length bytes < 4096 * home)
+  pub bad : (home < 2) ⊎ (length bytes < PAGE_LEN * home)
 
 -- opening a store of these bytes may give this answer
 abbrev pub Opens : List ℕ → Result ℕ StoreFault → Type 0
-Opens bytes (Ok home) = CanFinish bytes × SaysHome bytes home × (2 ≤ home) × (4096 * home ≤ length bytes)
+Opens bytes (Ok home) = CanFinish bytes × SaysHome bytes home × (2 ≤ home) × (PAGE_LEN * home ≤ length bytes)
 Opens bytes (Err NotFormatted) = ¬ IsFormatted bytes
 Opens bytes (Err (BadStore page)) = JournalRefused bytes page ⊎ HomeRefused bytes page
 Opens bytes (Err DiskFault) = Unit {0}
@@ -80,8 +80,8 @@ Looks bytes (Err DiskFault) = Unit {0}
 Looks bytes (Err _) = ⊥
 
 abbrev pub Counts : List ℕ → ℕ → Result ℕ StoreFault → Type 0
-Counts bytes len (Ok home) = (home ≡ number bytes ROOT_AT) × (2 ≤ home) × (4096 * home ≤ len)
-Counts bytes len (Err (BadStore page)) = (page ≡ 1) × ((number bytes ROOT_AT < 2) ⊎ (len < 4096 * number bytes ROOT_AT))
+Counts bytes len (Ok home) = (home ≡ number bytes ROOT_AT) × (2 ≤ home) × (PAGE_LEN * home ≤ len)
+Counts bytes len (Err (BadStore page)) = (page ≡ 1) × ((number bytes ROOT_AT < 2) ⊎ (len < PAGE_LEN * number bytes ROOT_AT))
 Counts bytes len (Err DiskFault) = Unit {0}
 Counts bytes len (Err _) = ⊥
 
@@ -122,6 +122,16 @@ Reads broken page (Err _) = ⊥
 
 -- and where the disk tells these bytes, the page is there, or they end inside it
 abbrev pub ReadsFrom : List ℕ → ℕ → Result (Unit {0}) StoreFault → Type 0
-ReadsFrom bytes page (Ok done) = 4096 * page + 4096 ≤ length bytes
-ReadsFrom bytes page (Err (BadStore at)) = length bytes < 4096 * page + 4096
+ReadsFrom bytes page (Ok done) = PAGE_LEN * page + PAGE_LEN ≤ length bytes
+ReadsFrom bytes page (Err (BadStore at)) = length bytes < PAGE_LEN * page + PAGE_LEN
 ReadsFrom bytes page (Err _) = Unit {0}
+
+-- a call that reads pages gives no answer but these. That an earlier call met a disk fault is answered only where one
+-- did, and that the disk failed only where none had.
+abbrev pub IsReadAnswer : {T : Type 0} → Bool → Result T StoreFault → Type 0
+IsReadAnswer broken (Ok value) = Unit {0}
+IsReadAnswer broken (Err (BadStore page)) = Unit {0}
+IsReadAnswer broken (Err DiskFault) = broken ≡ false
+IsReadAnswer broken (Err Broken) = broken ≡ true
+IsReadAnswer broken (Err OutOfMemory) = Unit {0}
+IsReadAnswer broken (Err _) = ⊥

@@ -3,7 +3,7 @@ use Rattle.std.specs.Prelude.{◌≡◌, ◌≢◌, ◌⊎◌, ℕ, ◌+◌, ◌
 use Rattle.outside.specs.Disk.{Crashes, DiskView, Goes, Only, Tells}
 use Rattle.page_journal.specs.Home.{Home}
 use Rattle.page_journal.specs.Pages.{gate}
-use Rattle.page_journal.specs.declared.layout.TheConstants.{OPEN, FIRST_AT, FIELDS_END, GATE_AT}
+use Rattle.page_journal.specs.declared.layout.TheConstants.{OPEN, FIRST_AT, FIELDS_END, GATE_AT, PAGE_LEN}
 
 -- the new content has the old one's bytes at these places
 pub record Spares (K : ℕ → Type 0) (old new : List ℕ) : Type 0 where
@@ -37,7 +37,7 @@ BesideGate i = i ≢ GATE_AT
 
 -- the places outside of these pages
 abbrev pub BesidePages : ℕ → (ℕ → ℕ) → ℕ → Type 0
-BesidePages count numbers i = (place : ℕ) → place < count → (i < 4096 * numbers place) ⊎ (4096 * numbers place + 4096 ≤ i)
+BesidePages count numbers i = (place : ℕ) → place < count → (i < PAGE_LEN * numbers place) ⊎ (PAGE_LEN * numbers place + PAGE_LEN ≤ i)
 
 -- each outcome of a crash has home pages
 abbrev pub AllHome : Crashes → Type 0

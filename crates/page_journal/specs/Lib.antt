@@ -6,3 +6,5 @@ pub mod PageSet
 pub mod PageRun
 pub mod Answers
 pub mod Written
+pub mod DiskCalls
+pub mod JournalCalls

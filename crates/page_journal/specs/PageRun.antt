@@ -1,6 +1,7 @@
 -- Pages that lie one behind the other and are held back, so that they go to the disk in one call.
 use Rattle.std.specs.Prelude.{◌≡◌, ◌⊎◌, ℕ, ◌+◌, ◌^◌, ◌≤◌, List, [], ◌∷◌, length, take}
 use Rattle.outside.specs.Disk.{DiskView, Tells, overlaid}
+use Rattle.page_journal.specs.declared.layout.TheConstants.{PAGE_LEN}
 
 -- a content with what is held back over it
 abbrev pub shown : ℕ → List ℕ → List ℕ → List ℕ
@@ -21,5 +22,5 @@ pub record Shows (at filled : ℕ) (buffer : List ℕ) (view : DiskView) (conten
 
 -- with a page more, what is held ends behind it, and begins with it or, where it lay behind what was held, as before
 pub record Grows (at filled place new_at new_filled : ℕ) : Type 0 where
-  pub end : new_at + new_filled ≡ place + 4096
+  pub end : new_at + new_filled ≡ place + PAGE_LEN
   pub start : (new_at ≡ place) ⊎ ((new_at ≡ at) × (place ≡ at + filled))

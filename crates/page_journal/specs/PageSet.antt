@@ -1,9 +1,10 @@
 -- Pages by their numbers, and what a commit of them makes of the home pages.
-use Rattle.std.specs.Prelude.{◌≡◌, ℕ, zero, suc, ◌-◌, ◌<◌, ◌≤◌, List, [], ◌∷◌, ◌++◌, map, length, slice_index_or, Option, Some, None, IsSome, Vec, T}
+use Rattle.std.specs.Prelude.{◌≡◌, ℕ, zero, suc, ◌-◌, ◌^◌, ◌<◌, ◌≤◌, List, [], ◌∷◌, ◌++◌, map, length, slice_index_or, Option, Some, None, IsSome, Vec, T}
 use Rattle.std.specs.Ordering.{nat_cmp}
 use Rattle.std.specs.FinMap as map
 use Rattle.std.specs.declared.alloc.Global.{Global}
 use Rattle.page_journal.specs.Pages.{number}
+use Rattle.page_journal.specs.declared.layout.TheConstants.{PAGE_LEN}
 
 -- a finite map from numbers to pages
 abbrev pub PageMap : Type 0
@@ -54,7 +55,17 @@ pub record CanCommit (set : PageMap) (count home : ℕ) : Type 0 where
   pub root : TellsHome set home
   pub new : HasAll set count home
 
+-- each page has its length
+abbrev pub AreSized : List (ℕ × Vec ℕ Global) → Type 0
+AreSized entries = (place : ℕ) → place < length entries → length (page_at (plain entries) place) ≡ PAGE_LEN
+
+-- the journal of so many pages fits behind so many home pages
+pub record FitsJournal (count home : ℕ) : Type 0 where
+  pub some : 1 ≤ count
+  pub few : count ≤ home
+  pub room : home ≤ 2 ^ 28
+
 -- the entries of a tree rise by their numbers, and each page has its length
 pub record IsPageTree (entries : List (ℕ × Vec ℕ Global)) : Type 0 where
   pub sorted : T (map.is_sorted nat_cmp (plain entries))
-  pub sized : (place : ℕ) → place < length entries → length (page_at (plain entries) place) ≡ 4096
+  pub sized : AreSized entries

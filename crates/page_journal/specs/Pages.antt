@@ -1,7 +1,7 @@
 -- Numbers, pages and the fields of page 0 in the bytes of a store. Numbers have eight bytes, the least first.
 use Rattle.std.specs.Prelude.{ℕ, ◌+◌, ◌*◌, ◌/◌, List, take, drop, slice_index}
 use Rattle.std.specs.Int.{w64, from_le_bytes}
-use Rattle.page_journal.specs.declared.layout.TheConstants.{FIRST_AT, COUNT_AT, GATE_AT}
+use Rattle.page_journal.specs.declared.layout.TheConstants.{FIRST_AT, COUNT_AT, GATE_AT, PAGE_LEN}
 
 -- the number that stands at this byte
 unfoldable pub number : List ℕ → ℕ → ℕ
@@ -9,7 +9,7 @@ number bytes at = from_le_bytes w64 (take 8 (drop at bytes))
 
 -- the page that begins at this byte
 unfoldable pub page_from : List ℕ → ℕ → List ℕ
-page_from bytes at = take 4096 (drop at bytes)
+page_from bytes at = take PAGE_LEN (drop at bytes)
 
 -- the first two pages
 abbrev pub head_of : List ℕ → List ℕ
@@ -31,8 +31,8 @@ number_pages count = (count + 511) / 512
 
 -- the number of the page that stands in the journal at this place
 abbrev pub entry : List ℕ → ℕ → ℕ
-entry bytes place = number bytes (4096 * first_page bytes + 8 * place)
+entry bytes place = number bytes (PAGE_LEN * first_page bytes + 8 * place)
 
 -- where that page stands
 abbrev pub body_at : List ℕ → ℕ → ℕ
-body_at bytes place = 4096 * (first_page bytes + number_pages (page_count bytes) + place)
+body_at bytes place = PAGE_LEN * (first_page bytes + number_pages (page_count bytes) + place)

@@ -2,7 +2,7 @@
 use Rattle.std.specs.Prelude.{◌≡◌, ◌≢◌, ◌⊎◌, ℕ, ◌+◌, ◌-◌, ◌*◌, ◌<◌, ◌≤◌, List, [], length, slice_index, slice_index_or}
 use Rattle.page_journal.specs.Crash.{Spares, BesideGate, BesideJournal, BesidePages}
 use Rattle.page_journal.specs.Home.{IsFormatted, IsHomePage}
-use Rattle.page_journal.specs.declared.layout.TheConstants.{OPEN, FIRST_AT, COUNT_AT}
+use Rattle.page_journal.specs.declared.layout.TheConstants.{OPEN, FIRST_AT, COUNT_AT, PAGE_LEN}
 use Rattle.page_journal.specs.Pages.{number, page_from, gate, number_pages}
 use Rattle.page_journal.specs.PageSet.{number_at, page_at}
 
@@ -16,13 +16,13 @@ pub record NumbersPut (entries : List (ℕ × List ℕ)) (count at : ℕ) (old n
   pub numbers : (place : ℕ) → place < count → number new (at + 8 * place) ≡ number_at entries place
   pub long : 0 < count → at + 8 * count ≤ length new
   -- and zeros up to the end of the last page
-  pub padded : (i : ℕ) → at + 8 * count ≤ i → i < at + 4096 * number_pages count → slice_index new i ≡ 0
+  pub padded : (i : ℕ) → at + 8 * count ≤ i → i < at + PAGE_LEN * number_pages count → slice_index new i ≡ 0
 
 -- the first `count` pages of the entries stand from this byte on
 pub record PagesPut (entries : List (ℕ × List ℕ)) (count at : ℕ) (old new : List ℕ) : Type 0 where
   pub spares : Spares (Below at) old new
-  pub pages : (place : ℕ) → place < count → page_from new (at + 4096 * place) ≡ page_at entries place
-  pub long : 0 < count → at + 4096 * count ≤ length new
+  pub pages : (place : ℕ) → place < count → page_from new (at + PAGE_LEN * place) ≡ page_at entries place
+  pub long : 0 < count → at + PAGE_LEN * count ≤ length new
 
 -- a number stands at this byte
 pub record NumberPut (at value : ℕ) (old new : List ℕ) : Type 0 where
@@ -44,8 +44,8 @@ pub record GatePut (value : ℕ) (old new : List ℕ) : Type 0 where
 -- the first `count` of these pages stand at the places that their numbers say
 pub record HomePut (numbers : ℕ → ℕ) (pages : ℕ → List ℕ) (count : ℕ) (old new : List ℕ) : Type 0 where
   pub spares : Spares (BesidePages count numbers) old new
-  pub stand : (place : ℕ) → place < count → page_from new (4096 * numbers place) ≡ pages place
-  pub long : (place : ℕ) → place < count → 4096 * numbers place + 4096 ≤ length new
+  pub stand : (place : ℕ) → place < count → page_from new (PAGE_LEN * numbers place) ≡ pages place
+  pub long : (place : ℕ) → place < count → PAGE_LEN * numbers place + PAGE_LEN ≤ length new
 
 -- numbers that are written a page at a time: of the first `count`, the last `filled` stand in the buffer, and the
 -- others on the disk from `start` on; `at` is where the buffer goes
@@ -56,18 +56,18 @@ pub record NumbersHeld (entries : List (ℕ × List ℕ)) (count start at filled
   pub written : (place : ℕ) → place + filled < count → number new (start + 8 * place) ≡ number_at entries place
   pub held : (place : ℕ) → place < filled → number buffer (8 * place) ≡ number_at entries (count - filled + place)
   pub long : start < at → at ≤ length new
-  pub size : length buffer ≡ 4096
-  pub whole : (pages : ℕ) × (at ≡ start + 4096 * pages)
+  pub size : length buffer ≡ PAGE_LEN
+  pub whole : (pages : ℕ) × (at ≡ start + PAGE_LEN * pages)
   pub rest : (i : ℕ) → 8 * filled ≤ i → slice_index buffer i ≡ 0
 
 -- the journal of these entries stands behind the home pages
 pub record JournalPut (entries : List (ℕ × List ℕ)) (count home : ℕ) (old new : List ℕ) : Type 0 where
-  pub spares : Spares (BesideJournal (4096 * home)) old new
+  pub spares : Spares (BesideJournal (PAGE_LEN * home)) old new
   pub first : number new FIRST_AT ≡ home
   pub pages_are : number new COUNT_AT ≡ count
-  pub numbers : (place : ℕ) → place < count → number new (4096 * home + 8 * place) ≡ number_at entries place
-  pub bodies : (place : ℕ) → place < count → page_from new (4096 * (home + number_pages count + place)) ≡ page_at entries place
-  pub long : 0 < count → 4096 * (home + number_pages count + count) ≤ length new
+  pub numbers : (place : ℕ) → place < count → number new (PAGE_LEN * home + 8 * place) ≡ number_at entries place
+  pub bodies : (place : ℕ) → place < count → page_from new (PAGE_LEN * (home + number_pages count + place)) ≡ page_at entries place
+  pub long : 0 < count → PAGE_LEN * (home + number_pages count + count) ≤ length new
 
 -- entries, written over home pages, make other home pages of them
 pub record Makes (entries : List (ℕ × List ℕ)) (count home : ℕ) (old new : List (List ℕ)) : Type 0 where
@@ -88,4 +88,4 @@ pub record Finished (old new : List ℕ) : Type 0 where
   pub formatted : IsFormatted new
   pub shut : gate new ≢ OPEN
   pub long : length old ≤ length new
-  pub home : (n : ℕ) (page : List ℕ) → 1 ≤ n → 4096 * n + 4096 ≤ length old → IsHomePage old n page → page_from new (4096 * n) ≡ page
+  pub home : (n : ℕ) (page : List ℕ) → 1 ≤ n → PAGE_LEN * n + PAGE_LEN ≤ length old → IsHomePage old n page → page_from new (PAGE_LEN * n) ≡ page

@@ -1,10 +1,11 @@
 //! The writes of a commit.
 ghost use Rattle.std.specs.Prelude.{◌≡◌, ◌⊎◌, ◌+◌, ◌*◌, ◌^◌, ◌<◌, ◌≤◌, List, ℕ, length, OnOk};
 ghost use Rattle.outside.specs.Causes.{HasCause};
-ghost use Rattle.outside.specs.Disk.{Only, Tells, Goes, Within};
-ghost use Rattle.page_journal.specs.Crash.{BesideJournal, IsSettled, Spares};
+ghost use Rattle.outside.specs.Disk.{Only, Tells, Goes};
+ghost use Rattle.page_journal.specs.Crash.{BesideJournal, IsSettled};
+ghost use Rattle.page_journal.specs.DiskCalls.{WritesDisk};
 ghost use Rattle.page_journal.specs.Home.{Home};
-ghost use Rattle.page_journal.specs.PageSet.{number_at, page_at, plain};
+ghost use Rattle.page_journal.specs.PageSet.{AreSized, FitsJournal, number_at, plain};
 ghost use Rattle.page_journal.specs.Pages.{number_pages};
 ghost use Rattle.page_journal.specs.Written.{JournalPut, Makes};
 
@@ -21,13 +22,11 @@ pub fn write_through<D: Disk>(
     pages: &BTreeMap<u64, Vec<u8>>,
     home: u64,
 ) -> Result<(), Failed>
-    requires sized { (place : ℕ) → place < length pages.now.entries → length (page_at (plain pages.now.entries) place) ≡ 4096 }
+    requires sized { AreSized pages.now.entries }
     requires rises { (one two : ℕ) → one < two → two < length pages.now.entries
         → number_at (plain pages.now.entries) one < number_at (plain pages.now.entries) two }
     requires below { (place : ℕ) → place < length pages.now.entries → number_at (plain pages.now.entries) place < home }
-    requires some { 1 ≤ length pages.now.entries }
-    requires few { length pages.now.entries ≤ home }
-    requires room { home ≤ 2 ^ 28 }
+    requires fits { FitsJournal (length pages.now.entries) home }
     ensures any_moment { (old new : List (List ℕ)) (bytes : List ℕ) → IsSettled old bytes (D.view disk.old)
         → Makes (plain pages.now.entries) (length pages.now.entries) home old new
         → Goes (λ left. Home old left ⊎ Home new left) (D.view disk.old).crashes (D.view disk.new).crashes }
@@ -49,16 +48,11 @@ fn write_journal<D: Disk>(
     pages: &BTreeMap<u64, Vec<u8>>,
     home: u64,
 ) -> Result<(), Failed>
-    requires sized { (place : ℕ) → place < length pages.now.entries → length (page_at (plain pages.now.entries) place) ≡ 4096 }
-    requires some { 1 ≤ length pages.now.entries }
-    requires few { length pages.now.entries ≤ home }
-    requires room { home ≤ 2 ^ 28 }
+    requires sized { AreSized pages.now.entries }
+    requires fits { FitsJournal (length pages.now.entries) home }
     ensures put { OnOk result ((bytes : List ℕ) → Tells (D.view disk.old) bytes → (now : List ℕ) × Tells (D.view disk.new) now
         × Only now (D.view disk.new).crashes × JournalPut (plain pages.now.entries) (length pages.now.entries) home bytes now) }
-    ensures crash { (base : List ℕ) → Within (Spares (BesideJournal (4096 * home)) base) (D.view disk.old).crashes
-        → Goes (Spares (BesideJournal (4096 * home)) base) (D.view disk.old).crashes (D.view disk.new).crashes }
-    ensures reads { (D.view disk.new).reads ≡ (D.view disk.old).reads }
-    ensures cause { HasCause (D.view disk.old).faults (D.view disk.new).faults result }
+    ensures writes { WritesDisk (BesideJournal (4096 * home)) (D.view disk.old) (D.view disk.new) result }
 {
     let count = pages.len() as u64;
     let bodies = bodies_at(home, count);

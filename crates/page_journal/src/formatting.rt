@@ -1,5 +1,5 @@
 //! The first bytes of a store.
-ghost use Rattle.std.specs.Prelude.{◌≡◌, ◌≢◌, ◌+◌, ◌<◌, ◌≤◌, ◌⊎◌, ◌^◌, List, [], ◌∷◌, ℕ, length, OnOk, IsErrOf, EachIndex, slice_index};
+ghost use Rattle.std.specs.Prelude.{◌≡◌, ◌≢◌, ◌+◌, ◌<◌, ◌≤◌, ◌⊎◌, List, [], ◌∷◌, ℕ, length, OnOk, IsErrOf, slice_index};
 ghost use Rattle.outside.specs.Bytes.{IfTold};
 ghost use Rattle.outside.specs.Disk.{Stays, Tells};
 ghost use Rattle.page_journal.specs.Answers.{Formats, HasDiskCause, IsFormatAnswer};

@@ -1,7 +1,7 @@
 //! The home pages of an open store.
-ghost use Rattle.std.specs.Prelude.{◌≡◌, ◌⊎◌, ◌+◌, ◌*◌, ◌^◌, ◌<◌, ◌≤◌, ◌||◌, ◌↔◌, IsTrue, List, ℕ, false, length, option_map, is_ok, MatchResult, Ok, Err, IfOk, OnOk, IsErr, if◌then◌else◌};
-ghost use Rattle.outside.specs.Disk.{one_read, Tells, Goes, Stays};
-ghost use Rattle.page_journal.specs.Answers.{Commits, HasDiskCause, IsOpenAnswer, Opens, Reads, ReadsFrom, answers_disk_fault};
+ghost use Rattle.std.specs.Prelude.{◌≡◌, ◌+◌, ◌*◌, ◌^◌, ◌<◌, ◌≤◌, ◌↔◌, IsTrue, List, ℕ, false, length, option_map, is_ok, MatchResult, Ok, Err, IfOk, OnOk, IsErr, if◌then◌else◌};
+ghost use Rattle.outside.specs.Disk.{one_read, Tells, Goes};
+ghost use Rattle.page_journal.specs.Answers.{Commits, IsOpenAnswer, Opens, Reads, ReadsFrom, answers_disk_fault};
 ghost use Rattle.page_journal.specs.Crash.{AllHome, IsAtRest, IsLikeOne, LeavesEither};
 ghost use Rattle.page_journal.specs.Home.{Home};
 ghost use Rattle.page_journal.specs.PageSet.{CanCommit, overwritten};
@@ -28,6 +28,7 @@ pub struct Journal<'d, D: Disk> {
 
 impl<'d, D: Disk> Journal<'d, D> {
     ghost use Rattle.page_journal.specs.Journal.{disk_of, home_count, is_broken, loan_of, page_limit, view_of};
+    ghost use Rattle.page_journal.specs.JournalCalls.{KeepsJournal, LooksAtJournal};
 
     /// Opens the store on this disk. It is the call of `open`, which says what a refusal leaves on the
     /// disk, and then `over`.
@@ -112,14 +113,9 @@ impl<'d, D: Disk> Journal<'d, D> {
         ensures page { OnOk result ((bytes : List ℕ) → Tells (view_of self.old) bytes → buf.new ≡ page_from bytes (4096 * page)) }
         ensures answers { Reads (is_broken self.old) page result }
         ensures bounds { (bytes : List ℕ) → Tells (view_of self.old) bytes → ReadsFrom bytes page result }
-        ensures stays { Stays (view_of self.old) (view_of self.new) }
         ensures reads { (view_of self.new).reads ≡ (if is_broken self.old then (view_of self.old).reads
             else option_map (one_read (4096 * page) 4096) (view_of self.old).reads) }
-        ensures pages { home_count self.new ≡ home_count self.old }
-        ensures limit { page_limit self.new ≡ page_limit self.old }
-        ensures broken { is_broken self.new ≡ (is_broken self.old || answers_disk_fault result) }
-        ensures same_disk { loan_of self.new ≡ loan_of self.old }
-        ensures cause { HasDiskCause (view_of self.old).faults (view_of self.new).faults result }
+        ensures looks { LooksAtJournal self.old self.new result }
     {
         if self.broken {
             return Err(StoreFault::Broken);
@@ -150,10 +146,7 @@ impl<'d, D: Disk> Journal<'d, D> {
         ensures untouched { IsErr result → answers_disk_fault result ≡ false → disk_of self.new ≡ disk_of self.old }
         ensures reads { (view_of self.new).reads ≡ (view_of self.old).reads }
         ensures pages { home_count self.new ≡ (if is_ok result then home else home_count self.old) }
-        ensures limit { page_limit self.new ≡ page_limit self.old }
-        ensures broken { is_broken self.new ≡ (is_broken self.old || answers_disk_fault result) }
-        ensures same_disk { loan_of self.new ≡ loan_of self.old }
-        ensures cause { HasDiskCause (view_of self.old).faults (view_of self.new).faults result }
+        ensures keeps { KeepsJournal self.old self.new result }
     {
         if self.broken {
             return Err(StoreFault::Broken);

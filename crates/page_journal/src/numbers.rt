@@ -1,8 +1,7 @@
 //! The numbers of the pages in a journal, which are written a page at a time.
-ghost use Rattle.std.specs.Prelude.{◌≡◌, ◌≢◌, ◌+◌, ◌*◌, ◌^◌, ◌<◌, ◌≤◌, List, ℕ, length, option_map, OnOk, EachIndex, slice_index};
-ghost use Rattle.outside.specs.Causes.{HasCause};
-ghost use Rattle.outside.specs.Disk.{Tells, overlaid, Goes, Within};
-ghost use Rattle.page_journal.specs.Crash.{BesideJournal, Spares};
+ghost use Rattle.std.specs.Prelude.{◌≡◌, ◌+◌, ◌*◌, ◌^◌, ◌<◌, ◌≤◌, List, ℕ, length, option_map, OnOk, slice_index};
+ghost use Rattle.outside.specs.Disk.{Tells, overlaid};
+ghost use Rattle.page_journal.specs.DiskCalls.{WritesDiskFrom};
 ghost use Rattle.page_journal.specs.PageSet.{number_at, plain};
 ghost use Rattle.page_journal.specs.Pages.{number};
 ghost use Rattle.page_journal.specs.Written.{NumbersHeld, NumbersPut};
@@ -44,10 +43,7 @@ pub fn write_numbers<D: Disk>(
     requires { at + 8 * length pages.now.entries + 4096 ≤ 2 ^ 62 }
     ensures put { OnOk result ((bytes : List ℕ) → Tells (D.view disk.old) bytes → (now : List ℕ) × Tells (D.view disk.new) now
         × NumbersPut (plain pages.now.entries) (length pages.now.entries) at bytes now) }
-    ensures crash { (low : ℕ) (base : List ℕ) → low ≤ at → Within (Spares (BesideJournal low) base) (D.view disk.old).crashes
-        → Goes (Spares (BesideJournal low) base) (D.view disk.old).crashes (D.view disk.new).crashes }
-    ensures reads { (D.view disk.new).reads ≡ (D.view disk.old).reads }
-    ensures cause { HasCause (D.view disk.old).faults (D.view disk.new).faults result }
+    ensures writes { WritesDiskFrom at (D.view disk.old) (D.view disk.new) result }
 {
     let mut page = NumberPage::new(at);
     for (number, _) in pages {
@@ -69,12 +65,9 @@ fn add_number<D: Disk>(disk: &mut D, page: &mut NumberPage, value: u64) -> Resul
         → NumbersHeld entries count start page.old.at page.old.filled page.old.bytes base bytes
         → value ≡ number_at entries count
         → NumbersHeld entries (count + 1) start page.new.at page.new.filled page.new.bytes base now)) }
-    ensures crash { (low : ℕ) (base : List ℕ) → low ≤ page.old.at → Within (Spares (BesideJournal low) base) (D.view disk.old).crashes
-        → Goes (Spares (BesideJournal low) base) (D.view disk.old).crashes (D.view disk.new).crashes }
     ensures further { OnOk result (page.old.at ≤ page.new.at) }
     ensures place { OnOk result (page.new.at + 8 * page.new.filled ≡ page.old.at + 8 * page.old.filled + 8) }
-    ensures reads { (D.view disk.new).reads ≡ (D.view disk.old).reads }
-    ensures cause { HasCause (D.view disk.old).faults (D.view disk.new).faults result }
+    ensures writes { WritesDiskFrom page.old.at (D.view disk.old) (D.view disk.new) result }
 {
     put_number(&mut page.bytes, page.filled, value);
     page.filled += 1;
@@ -92,10 +85,7 @@ fn flush<D: Disk>(disk: &mut D, page: &mut NumberPage) -> Result<(), Failed>
     ensures none { OnOk result (page.new.filled ≡ 0) }
     ensures long { OnOk result (length page.new.bytes ≡ 4096) }
     ensures zero { OnOk result ((i : ℕ) → slice_index page.new.bytes i ≡ 0) }
-    ensures crash { (low : ℕ) (base : List ℕ) → low ≤ page.old.at → Within (Spares (BesideJournal low) base) (D.view disk.old).crashes
-        → Goes (Spares (BesideJournal low) base) (D.view disk.old).crashes (D.view disk.new).crashes }
-    ensures reads { (D.view disk.new).reads ≡ (D.view disk.old).reads }
-    ensures cause { HasCause (D.view disk.old).faults (D.view disk.new).faults result }
+    ensures writes { WritesDiskFrom page.old.at (D.view disk.old) (D.view disk.new) result }
 {
     disk.write_at(page.at, &page.bytes)?;
     *page = NumberPage::new(page.at + PAGE as u64);

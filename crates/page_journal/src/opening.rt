@@ -1,10 +1,10 @@
 //! A store is opened: a journal that a crash has left open is finished.
-ghost use Rattle.std.specs.Prelude.{◌≡◌, ◌≢◌, ◌⊎◌, ◌↔◌, ◌+◌, ◌*◌, ◌^◌, ◌<◌, ◌≤◌, List, ℕ, None, false, length, IfErr, IfOk, IfSome, OnOk, IsErrOf, IsTrue};
-ghost use Rattle.outside.specs.Causes.{HasCause};
-ghost use Rattle.outside.specs.Bytes.{IfTold, IsTold};
+ghost use Rattle.std.specs.Prelude.{◌≡◌, ◌≢◌, ◌↔◌, ◌+◌, ◌*◌, ◌^◌, ◌<◌, ◌≤◌, List, ℕ, None, false, length, IfOk, IfSome, OnOk, IsErrOf, IsTrue};
+ghost use Rattle.outside.specs.Bytes.{IfTold};
 ghost use Rattle.outside.specs.Disk.{Elapses, Follows, Only, Tells, Torn, overlaid, Goes, Stays, Within, ReadsAtMost};
-ghost use Rattle.page_journal.specs.Answers.{Counts, Finishes, HasDiskCause, IsOpenAnswer, Looks, Opens, Prepares, answers_disk_fault, is_disk_fault};
+ghost use Rattle.page_journal.specs.Answers.{Counts, Finishes, Looks, Opens, Prepares};
 ghost use Rattle.page_journal.specs.Crash.{AllHome, BesidePages, IsAtRest, IsLikeOne, Spares};
+ghost use Rattle.page_journal.specs.DiskCalls.{CopiesOnDisk, LooksAtDisk, MovesHome, OpensDisk, ReadsDisk};
 ghost use Rattle.page_journal.specs.Home.{AreRising, HasOpenJournal, Home, IsFormatted, IsWellFormed};
 ghost use Rattle.page_journal.specs.Pages.{body_at, entry, first_page, gate, head_of, number, number_pages, page_count, page_from};
 ghost use Rattle.page_journal.specs.Written.{Finished, HomePut};
@@ -24,7 +24,6 @@ use outside::{Disk, Failed};
 /// open is finished. It begins with a sync, so that nothing older is pending from then on.
 pub fn open<D: Disk>(disk: &mut D) -> Result<u64, StoreFault>
     ensures answers { (bytes : List ℕ) → Tells (D.view disk.old) bytes → Opens bytes result }
-    ensures alone { IsOpenAnswer result }
     ensures done { IfOk result (λ home. (bytes : List ℕ) → Tells (D.view disk.old) bytes
         → (pages : List (List ℕ)) × Home pages bytes × (length pages + 1 ≡ home)
         × IsAtRest pages (D.view disk.new)) }
@@ -33,16 +32,12 @@ pub fn open<D: Disk>(disk: &mut D) -> Result<u64, StoreFault>
     ensures any_moment { (bytes : List ℕ) → Tells (D.view disk.old) bytes → AllHome (D.view disk.old).crashes
         → Goes (IsLikeOne (D.view disk.old).crashes) (D.view disk.old).crashes (D.view disk.new).crashes }
 
-    // Whatever the answer, only a well-formed journal that is open lets it write.
-    ensures looked { IfTold (D.view disk.old).content (λ bytes. ¬ HasOpenJournal bytes → Stays (D.view disk.old) (D.view disk.new)) }
-    ensures refused { IsErrOf result NotFormatted → Stays (D.view disk.old) (D.view disk.new) }
-    ensures told { (bytes : List ℕ) → Tells (D.view disk.old) bytes → answers_disk_fault result ≡ false → IsTold (D.view disk.new).content }
+    ensures opens { OpensDisk (D.view disk.old) (D.view disk.new) result }
     ensures one_read { IfTold (D.view disk.old).content (λ bytes. gate bytes ≢ OPEN
         → ReadsAtMost 1 (length bytes) (D.view disk.old) (D.view disk.new)) }
     ensures reads { IfTold (D.view disk.old).content (λ bytes.
         ReadsAtMost (2 + 3 * page_count bytes) (length bytes) (D.view disk.old) (D.view disk.new)) }
     ensures small { IfOk result (λ home. (2 ≤ home) × (4096 * home ≤ 2 ^ 62)) }
-    ensures cause { HasDiskCause (D.view disk.old).faults (D.view disk.new).faults result }
 {
     let mut head = zeros();
     let len = match prepare(disk, &mut head) {
@@ -63,14 +58,12 @@ pub fn open<D: Disk>(disk: &mut D) -> Result<u64, StoreFault>
 #[tactic(auto, using(crate::proofs::Moments::looks))]
 fn prepare<D: Disk>(disk: &mut D, head: &mut [u8; HEAD]) -> Result<u64, StoreFault>
     ensures answers { (bytes : List ℕ) → Tells (D.view disk.old) bytes → Prepares bytes result }
-    ensures alone { IsOpenAnswer result }
     ensures head { OnOk result ((bytes : List ℕ) → Tells (D.view disk.old) bytes → head.new ≡ head_of bytes) }
     ensures durable { OnOk result ((bytes : List ℕ) → Tells (D.view disk.old) bytes → Only bytes (D.view disk.new).crashes) }
     ensures small { IfOk result (λ len. len ≤ 2 ^ 62) }
-    ensures stays { Stays (D.view disk.old) (D.view disk.new) }
     ensures reads { (bytes : List ℕ) → Tells (D.view disk.old) bytes
         → ReadsAtMost 1 (length bytes) (D.view disk.old) (D.view disk.new) }
-    ensures cause { HasDiskCause (D.view disk.old).faults (D.view disk.new).faults result }
+    ensures looks { LooksAtDisk (D.view disk.old) (D.view disk.new) result }
 {
     disk.sync()?;
     let len = disk.len()?;
@@ -96,13 +89,11 @@ fn count_home<D: Disk>(
     requires { len ≤ 2 ^ 62 }
     ensures answers { (bytes : List ℕ) → Tells (D.view disk.old) bytes → 8192 ≤ length bytes
         → (moved ≡ false → head.now ≡ head_of bytes) → Counts bytes len result }
-    ensures alone { IsOpenAnswer result }
     ensures small { IfOk result (λ home. (2 ≤ home) × (4096 * home ≤ len)) }
-    ensures stays { Stays (D.view disk.old) (D.view disk.new) }
     ensures formatted { IsErrOf result NotFormatted → ⊥ }
     ensures unread { moved ≡ false → (D.view disk.new).reads ≡ (D.view disk.old).reads }
     ensures reads { ReadsAtMost 1 8192 (D.view disk.old) (D.view disk.new) }
-    ensures cause { HasDiskCause (D.view disk.old).faults (D.view disk.new).faults result }
+    ensures looks { LooksAtDisk (D.view disk.old) (D.view disk.new) result }
 {
     let home = home_number(disk, head, moved)?;
     if !holds(home, len) {
@@ -115,10 +106,8 @@ fn count_home<D: Disk>(
 fn home_number<D: Disk>(disk: &mut D, head: &[u8; HEAD], moved: bool) -> Result<u64, Failed>
     ensures value { IfOk result (λ value. (bytes : List ℕ) → Tells (D.view disk.old) bytes → 8192 ≤ length bytes
         → (moved ≡ false → head.now ≡ head_of bytes) → value ≡ number bytes ROOT_AT) }
-    ensures stays { Stays (D.view disk.old) (D.view disk.new) }
     ensures unread { moved ≡ false → (D.view disk.new).reads ≡ (D.view disk.old).reads }
-    ensures reads { ReadsAtMost 1 8192 (D.view disk.old) (D.view disk.new) }
-    ensures cause { HasCause (D.view disk.old).faults (D.view disk.new).faults result }
+    ensures reads { ReadsDisk 1 8192 (D.view disk.old) (D.view disk.new) result }
 {
     if moved {
         let home = read_number(disk, ROOT_AT)?;
@@ -140,15 +129,12 @@ fn finish<D: Disk>(disk: &mut D, head: &[u8; HEAD], len: u64) -> Result<bool, St
     requires { len ≤ 2 ^ 62 }
     ensures answers { (bytes : List ℕ) → Tells (D.view disk.old) bytes → IsFormatted bytes → len ≡ length bytes
         → head.now ≡ head_of bytes → Finishes bytes result }
-    ensures alone { IsOpenAnswer result }
     ensures done { OnOk result ((bytes : List ℕ) → Tells (D.view disk.old) bytes → Only bytes (D.view disk.old).crashes
         → IsFormatted bytes → len ≡ length bytes → head.now ≡ head_of bytes
         → (now : List ℕ) × Tells (D.view disk.new) now × Only now (D.view disk.new).crashes × Finished bytes now) }
     ensures any_moment { (bytes : List ℕ) (pages : List (List ℕ)) → Tells (D.view disk.old) bytes
         → Only bytes (D.view disk.old).crashes → len ≡ length bytes → Home pages bytes → head.now ≡ head_of bytes
         → Goes (Home pages) (D.view disk.old).crashes (D.view disk.new).crashes }
-    ensures idle { IfOk result (λ moved. moved ≡ false → Stays (D.view disk.old) (D.view disk.new)) }
-    ensures refused { IfErr result (λ fault. is_disk_fault fault ≡ false → Stays (D.view disk.old) (D.view disk.new)) }
     ensures looked { (bytes : List ℕ) → Tells (D.view disk.old) bytes → IsFormatted bytes → len ≡ length bytes
         → head.now ≡ head_of bytes → ¬ HasOpenJournal bytes → Stays (D.view disk.old) (D.view disk.new) }
     ensures shut { (bytes : List ℕ) → IsFormatted bytes → head.now ≡ head_of bytes → gate bytes ≢ OPEN
@@ -156,7 +142,7 @@ fn finish<D: Disk>(disk: &mut D, head: &[u8; HEAD], len: u64) -> Result<bool, St
     ensures reads { (bytes : List ℕ) → IsFormatted bytes → len ≡ length bytes → head.now ≡ head_of bytes
         → ReadsAtMost (3 * page_count bytes) (length bytes) (D.view disk.old) (D.view disk.new) }
     ensures formatted { IsErrOf result NotFormatted → ⊥ }
-    ensures cause { HasDiskCause (D.view disk.old).faults (D.view disk.new).faults result }
+    ensures moves { MovesHome (D.view disk.old) (D.view disk.new) result }
 {
     match look(disk, head, len) {
         Ok(None) => Ok(false),
@@ -184,11 +170,9 @@ fn look<D: Disk>(
         → IfOk result (λ found. found ≡ None) × ((D.view disk.new).reads ≡ (D.view disk.old).reads) }
     ensures reads { (bytes : List ℕ) → IsFormatted bytes → len ≡ length bytes → head.now ≡ head_of bytes
         → ReadsAtMost (page_count bytes) (length bytes) (D.view disk.old) (D.view disk.new) }
-    ensures alone { IsOpenAnswer result }
     ensures room { IfOk result (λ found. IfSome found (λ (first, count). 4096 * (first + number_pages count + count) ≤ len)) }
-    ensures stays { Stays (D.view disk.old) (D.view disk.new) }
     ensures formatted { IsErrOf result NotFormatted → ⊥ }
-    ensures cause { HasDiskCause (D.view disk.old).faults (D.view disk.new).faults result }
+    ensures looks { LooksAtDisk (D.view disk.old) (D.view disk.new) result }
 {
     let value = gate_in(head);
     if value != OPEN {
@@ -224,9 +208,8 @@ fn rises<D: Disk>(disk: &mut D, first: u64, count: u64) -> Result<bool, Failed>
     requires { 4096 * (first + number_pages count + count) ≤ 2 ^ 62 }
     ensures rises { IfOk result (λ yes. (bytes : List ℕ) → Tells (D.view disk.old) bytes
         → 4096 * (first + number_pages count + count) ≤ length bytes → IsTrue yes ↔ AreRising bytes first count) }
-    ensures stays { Stays (D.view disk.old) (D.view disk.new) }
-    ensures reads { ReadsAtMost count (4096 * (first + number_pages count + count)) (D.view disk.old) (D.view disk.new) }
-    ensures cause { HasCause (D.view disk.old).faults (D.view disk.new).faults result }
+    ensures reads { ReadsDisk count (4096 * (first + number_pages count + count))
+        (D.view disk.old) (D.view disk.new) result }
 {
     let mut last = 0;
     for place in 0..count {
@@ -255,8 +238,8 @@ fn copy_and_shut<D: Disk>(disk: &mut D, first: u64, count: u64) -> Result<(), Fa
         → Only bytes (D.view disk.old).crashes → Home pages bytes → gate bytes ≡ OPEN
         → first ≡ first_page bytes → count ≡ page_count bytes
         → Goes (Home pages) (D.view disk.old).crashes (D.view disk.new).crashes }
-    ensures reads { ReadsAtMost (2 * count) (4096 * (first + number_pages count + count)) (D.view disk.old) (D.view disk.new) }
-    ensures cause { HasCause (D.view disk.old).faults (D.view disk.new).faults result }
+    ensures copies { CopiesOnDisk (2 * count) (4096 * (first + number_pages count + count))
+        (D.view disk.old) (D.view disk.new) result }
 {
     copy_home(disk, first, count)?;
     set_gate(disk, SHUT)
@@ -273,8 +256,8 @@ fn copy_home<D: Disk>(disk: &mut D, first: u64, count: u64) -> Result<(), Failed
         → first ≡ first_page bytes → count ≡ page_count bytes
         → Within (Spares (BesidePages count (entry bytes)) bytes) (D.view disk.old).crashes
         → Goes (Spares (BesidePages count (entry bytes)) bytes) (D.view disk.old).crashes (D.view disk.new).crashes }
-    ensures reads { ReadsAtMost (2 * count) (4096 * (first + number_pages count + count)) (D.view disk.old) (D.view disk.new) }
-    ensures cause { HasCause (D.view disk.old).faults (D.view disk.new).faults result }
+    ensures copies { CopiesOnDisk (2 * count) (4096 * (first + number_pages count + count))
+        (D.view disk.old) (D.view disk.new) result }
 {
     let bodies = (first + number_page_count(count)) * PAGE_LEN;
     for place in 0..count {
@@ -296,8 +279,7 @@ fn copy_page<D: Disk>(disk: &mut D, from: u64, to: u64) -> Result<(), Failed>
         → Tells (D.view disk.new) (overlaid to (page_from bytes from) bytes)) }
     ensures torn { Follows (Torn to 4096) (D.view disk.old).crashes (D.view disk.new).crashes }
     ensures time { Elapses (D.view disk.old).crashes (D.view disk.new).crashes }
-    ensures reads { ReadsAtMost 1 (from + 4096) (D.view disk.old) (D.view disk.new) }
-    ensures cause { HasCause (D.view disk.old).faults (D.view disk.new).faults result }
+    ensures copies { CopiesOnDisk 1 (from + 4096) (D.view disk.old) (D.view disk.new) result }
 {
     let mut page = [0; PAGE];
     disk.read_at(from, &mut page)?;

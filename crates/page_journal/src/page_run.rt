@@ -1,7 +1,7 @@
 //! Pages that lie one behind the other, held back so that they go to the disk in one call.
 ghost use Rattle.std.specs.Prelude.{◌≡◌, ◌⊎◌, ◌+◌, ◌^◌, ◌≤◌, ◌++◌, List, ℕ, length, take, IsTrue, OnOk};
-ghost use Rattle.outside.specs.Causes.{HasCause};
-ghost use Rattle.outside.specs.Disk.{Elapses, Follows, Tells, Torn, overlaid};
+ghost use Rattle.outside.specs.Disk.{Tells, overlaid};
+ghost use Rattle.page_journal.specs.DiskCalls.{WritesDiskOnce};
 ghost use Rattle.page_journal.specs.PageRun.{Fits, Grows, Shows};
 
 use crate::layout::{PAGE, RUN};
@@ -46,10 +46,7 @@ pub fn put_page<D: Disk>(
     ensures shows { OnOk result ((content : List ℕ) → Shows run.old.at run.old.filled run.old.bytes (D.view disk.old) content
         → Shows run.new.at run.new.filled run.new.bytes (D.view disk.new) (overlaid at page.now content)) }
     ensures grows { OnOk result (Grows run.old.at run.old.filled at run.new.at run.new.filled) }
-    ensures reads { (D.view disk.new).reads ≡ (D.view disk.old).reads }
-    ensures crash { Follows (Torn run.old.at run.old.filled) (D.view disk.old).crashes (D.view disk.new).crashes }
-    ensures time { Elapses (D.view disk.old).crashes (D.view disk.new).crashes }
-    ensures cause { HasCause (D.view disk.old).faults (D.view disk.new).faults result }
+    ensures writes { WritesDiskOnce run.old.at run.old.filled (D.view disk.old) (D.view disk.new) result }
 {
     make_room(disk, run, at)?;
     put_behind(&mut run.bytes, run.filled, page);
@@ -64,10 +61,7 @@ pub fn flush<D: Disk>(disk: &mut D, run: &mut PageRun) -> Result<(), Failed>
         → Tells (D.view disk.new) content) }
     ensures none { OnOk result (run.new.filled ≡ 0) }
     ensures size { OnOk result (length run.new.bytes ≡ 65536) }
-    ensures reads { (D.view disk.new).reads ≡ (D.view disk.old).reads }
-    ensures crash { Follows (Torn run.old.at run.old.filled) (D.view disk.old).crashes (D.view disk.new).crashes }
-    ensures time { Elapses (D.view disk.old).crashes (D.view disk.new).crashes }
-    ensures cause { HasCause (D.view disk.old).faults (D.view disk.new).faults result }
+    ensures writes { WritesDiskOnce run.old.at run.old.filled (D.view disk.old) (D.view disk.new) result }
 {
     if run.filled == 0 {
         return Ok(());
@@ -86,10 +80,7 @@ fn make_room<D: Disk>(disk: &mut D, run: &mut PageRun, at: u64) -> Result<(), Fa
     ensures start { OnOk result ((run.new.at ≡ at) ⊎ ((run.new.at ≡ run.old.at) × (at ≡ run.old.at + run.old.filled))) }
     ensures room { OnOk result (run.new.filled + 4096 ≤ 65536) }
     ensures size { OnOk result (length run.new.bytes ≡ 65536) }
-    ensures reads { (D.view disk.new).reads ≡ (D.view disk.old).reads }
-    ensures crash { Follows (Torn run.old.at run.old.filled) (D.view disk.old).crashes (D.view disk.new).crashes }
-    ensures time { Elapses (D.view disk.old).crashes (D.view disk.new).crashes }
-    ensures cause { HasCause (D.view disk.old).faults (D.view disk.new).faults result }
+    ensures writes { WritesDiskOnce run.old.at run.old.filled (D.view disk.old) (D.view disk.new) result }
 {
     if lies_behind(run, at) {
         return Ok(());

@@ -1,9 +1,9 @@
 //! The parts of a commit that write pages, fields and the gate.
-ghost use Rattle.std.specs.Prelude.{◌≡◌, ◌≢◌, ◌+◌, ◌*◌, ◌^◌, ◌<◌, ◌≤◌, List, ℕ, length, option_map, OnOk};
-ghost use Rattle.outside.specs.Causes.{HasCause};
-ghost use Rattle.outside.specs.Disk.{Only, Tells, Goes, Within};
-ghost use Rattle.page_journal.specs.Crash.{BesideGate, BesideJournal, BesidePages, Spares};
-ghost use Rattle.page_journal.specs.PageSet.{number_at, page_at, plain};
+ghost use Rattle.std.specs.Prelude.{◌+◌, ◌*◌, ◌^◌, ◌<◌, ◌≤◌, List, ℕ, length, OnOk};
+ghost use Rattle.outside.specs.Disk.{Only, Tells};
+ghost use Rattle.page_journal.specs.Crash.{BesideGate, BesideJournal, BesidePages};
+ghost use Rattle.page_journal.specs.DiskCalls.{WritesDisk, WritesDiskFrom};
+ghost use Rattle.page_journal.specs.PageSet.{AreSized, number_at, page_at, plain};
 ghost use Rattle.page_journal.specs.Written.{FieldsPut, GatePut, HomePut, NumberPut, PagesPut};
 
 use crate::layout::{COUNT_AT, FIRST_AT, GATE_AT, PAGE};
@@ -17,14 +17,11 @@ pub fn write_bodies<D: Disk>(
     pages: &BTreeMap<u64, Vec<u8>>,
     at: u64,
 ) -> Result<(), Failed>
-    requires sized { (place : ℕ) → place < length pages.now.entries → length (page_at (plain pages.now.entries) place) ≡ 4096 }
+    requires sized { AreSized pages.now.entries }
     requires room { at + 4096 * length pages.now.entries ≤ 2 ^ 62 }
     ensures put { OnOk result ((bytes : List ℕ) → Tells (D.view disk.old) bytes → (now : List ℕ) × Tells (D.view disk.new) now
         × PagesPut (plain pages.now.entries) (length pages.now.entries) at bytes now) }
-    ensures crash { (low : ℕ) (base : List ℕ) → low ≤ at → Within (Spares (BesideJournal low) base) (D.view disk.old).crashes
-        → Goes (Spares (BesideJournal low) base) (D.view disk.old).crashes (D.view disk.new).crashes }
-    ensures reads { (D.view disk.new).reads ≡ (D.view disk.old).reads }
-    ensures cause { HasCause (D.view disk.old).faults (D.view disk.new).faults result }
+    ensures writes { WritesDiskFrom at (D.view disk.old) (D.view disk.new) result }
 {
     let mut run = PageRun::new(at);
     let mut next = at;
@@ -37,16 +34,14 @@ pub fn write_bodies<D: Disk>(
 
 /// Writes the pages to their places.
 pub fn write_home<D: Disk>(disk: &mut D, pages: &BTreeMap<u64, Vec<u8>>) -> Result<(), Failed>
-    requires sized { (place : ℕ) → place < length pages.now.entries → length (page_at (plain pages.now.entries) place) ≡ 4096 }
+    requires sized { AreSized pages.now.entries }
     requires rises { (one two : ℕ) → one < two → two < length pages.now.entries
         → number_at (plain pages.now.entries) one < number_at (plain pages.now.entries) two }
     requires room { (place : ℕ) → place < length pages.now.entries → 4096 * number_at (plain pages.now.entries) place + 4096 ≤ 2 ^ 62 }
     ensures put { OnOk result ((bytes : List ℕ) → Tells (D.view disk.old) bytes → (now : List ℕ) × Tells (D.view disk.new) now
         × Only now (D.view disk.new).crashes × HomePut (number_at (plain pages.now.entries)) (page_at (plain pages.now.entries)) (length pages.now.entries) bytes now) }
-    ensures crash { (base : List ℕ) → Within (Spares (BesidePages (length pages.now.entries) (number_at (plain pages.now.entries))) base) (D.view disk.old).crashes
-        → Goes (Spares (BesidePages (length pages.now.entries) (number_at (plain pages.now.entries))) base) (D.view disk.old).crashes (D.view disk.new).crashes }
-    ensures reads { (D.view disk.new).reads ≡ (D.view disk.old).reads }
-    ensures cause { HasCause (D.view disk.old).faults (D.view disk.new).faults result }
+    ensures writes { WritesDisk (BesidePages (length pages.now.entries) (number_at (plain pages.now.entries)))
+        (D.view disk.old) (D.view disk.new) result }
 {
     let mut run = PageRun::new(0);
     for (number, page) in pages {
@@ -60,10 +55,7 @@ pub fn write_home<D: Disk>(disk: &mut D, pages: &BTreeMap<u64, Vec<u8>>) -> Resu
 pub fn write_fields<D: Disk>(disk: &mut D, first: u64, count: u64) -> Result<(), Failed>
     ensures put { OnOk result ((bytes : List ℕ) → Tells (D.view disk.old) bytes → (now : List ℕ) × Tells (D.view disk.new) now
         × FieldsPut first count bytes now) }
-    ensures crash { (low : ℕ) (base : List ℕ) → Within (Spares (BesideJournal low) base) (D.view disk.old).crashes
-        → Goes (Spares (BesideJournal low) base) (D.view disk.old).crashes (D.view disk.new).crashes }
-    ensures reads { (D.view disk.new).reads ≡ (D.view disk.old).reads }
-    ensures cause { HasCause (D.view disk.old).faults (D.view disk.new).faults result }
+    ensures writes { (low : ℕ) → WritesDisk (BesideJournal low) (D.view disk.old) (D.view disk.new) result }
 {
     write_number(disk, FIRST_AT, first)?;
     write_number(disk, COUNT_AT, count)
@@ -75,10 +67,7 @@ fn write_number<D: Disk>(disk: &mut D, at: u64, value: u64) -> Result<(), Failed
     requires high { at + 8 ≤ 24 }
     ensures put { OnOk result ((bytes : List ℕ) → Tells (D.view disk.old) bytes → (now : List ℕ) × Tells (D.view disk.new) now
         × NumberPut at value bytes now) }
-    ensures crash { (low : ℕ) (base : List ℕ) → Within (Spares (BesideJournal low) base) (D.view disk.old).crashes
-        → Goes (Spares (BesideJournal low) base) (D.view disk.old).crashes (D.view disk.new).crashes }
-    ensures reads { (D.view disk.new).reads ≡ (D.view disk.old).reads }
-    ensures cause { HasCause (D.view disk.old).faults (D.view disk.new).faults result }
+    ensures writes { (low : ℕ) → WritesDisk (BesideJournal low) (D.view disk.old) (D.view disk.new) result }
 {
     disk.write_at(at, &value.to_le_bytes())
 }
@@ -87,10 +76,7 @@ fn write_number<D: Disk>(disk: &mut D, at: u64, value: u64) -> Result<(), Failed
 pub fn set_gate<D: Disk>(disk: &mut D, value: u8) -> Result<(), Failed>
     ensures put { OnOk result ((bytes : List ℕ) → Tells (D.view disk.old) bytes → (now : List ℕ) × Tells (D.view disk.new) now
         × Only now (D.view disk.new).crashes × GatePut value bytes now) }
-    ensures crash { (base : List ℕ) → Within (Spares BesideGate base) (D.view disk.old).crashes
-        → Goes (Spares BesideGate base) (D.view disk.old).crashes (D.view disk.new).crashes }
-    ensures reads { (D.view disk.new).reads ≡ (D.view disk.old).reads }
-    ensures cause { HasCause (D.view disk.old).faults (D.view disk.new).faults result }
+    ensures writes { WritesDisk BesideGate (D.view disk.old) (D.view disk.new) result }
 {
     disk.write_at(GATE_AT, &[value])?;
     disk.sync()

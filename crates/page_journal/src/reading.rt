@@ -1,7 +1,7 @@
 //! Numbers, the first two pages and the gate, read from the disk.
-ghost use Rattle.std.specs.Prelude.{◌≡◌, ◌+◌, ◌*◌, ◌^◌, ◌<◌, ◌≤◌, List, ℕ, length, option_map, IfOk, OnOk};
-ghost use Rattle.outside.specs.Causes.{HasCause};
-ghost use Rattle.outside.specs.Disk.{Tells, Stays, one_read};
+ghost use Rattle.std.specs.Prelude.{◌≡◌, ◌+◌, ◌^◌, ◌<◌, ◌≤◌, List, ℕ, length, IfOk, OnOk};
+ghost use Rattle.outside.specs.Disk.{Tells};
+ghost use Rattle.page_journal.specs.DiskCalls.{ReadsDisk};
 ghost use Rattle.page_journal.specs.Pages.{gate, head_of, number};
 
 use crate::layout::{GATE_AT, HEAD};
@@ -13,9 +13,7 @@ pub fn read_number<D: Disk>(disk: &mut D, at: u64) -> Result<u64, Failed>
     requires { at + 8 ≤ 2 ^ 62 }
     ensures value { IfOk result (λ value. (bytes : List ℕ) → Tells (D.view disk.old) bytes → at + 8 ≤ length bytes
         → value ≡ number bytes at) }
-    ensures stays { Stays (D.view disk.old) (D.view disk.new) }
-    ensures reads { (D.view disk.new).reads ≡ option_map (one_read at 8) (D.view disk.old).reads }
-    ensures cause { HasCause (D.view disk.old).faults (D.view disk.new).faults result }
+    ensures reads { ReadsDisk 1 (at + 8) (D.view disk.old) (D.view disk.new) result }
 {
     let mut bytes = [0; 8];
     disk.read_at(at, &mut bytes)?;
@@ -27,9 +25,7 @@ pub fn read_number<D: Disk>(disk: &mut D, at: u64) -> Result<u64, Failed>
 pub fn read_head<D: Disk>(disk: &mut D, head: &mut [u8; HEAD]) -> Result<(), Failed>
     ensures head { OnOk result ((bytes : List ℕ) → Tells (D.view disk.old) bytes → 8192 ≤ length bytes
         → head.new ≡ head_of bytes) }
-    ensures stays { Stays (D.view disk.old) (D.view disk.new) }
-    ensures reads { (D.view disk.new).reads ≡ option_map (one_read 0 8192) (D.view disk.old).reads }
-    ensures cause { HasCause (D.view disk.old).faults (D.view disk.new).faults result }
+    ensures reads { ReadsDisk 1 8192 (D.view disk.old) (D.view disk.new) result }
 {
     disk.read_at(0, head.as_mut_slice())?;
     Ok(())

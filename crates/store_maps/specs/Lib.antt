@@ -2,6 +2,7 @@ pub mod Append
 pub mod Asked
 pub mod Delta
 pub mod Filling
+pub mod Looks
 pub mod Maps
 pub mod Named
 pub mod SameRows

@@ -10,6 +10,7 @@ ghost use Rattle.object_fold.specs.Listing.{listers};
 ghost use Rattle.store_maps.specs.Append.{MayKeep};
 ghost use Rattle.store_maps.specs.Asked.{May, MayAnswer, MayList, MayObject, MayRows};
 ghost use Rattle.store_maps.specs.Filling.{HasNoLists, MayListAll, all_listed_on};
+ghost use Rattle.store_maps.specs.Looks.{Looks, Sets};
 ghost use Rattle.store_maps.specs.Maps.{Maps, form_in, object_in, rows_at, set_object, set_rows};
 ghost use Rattle.store_maps.specs.Named.{WaysAreThere, index_on, place_in};
 ghost use Rattle.store_maps.specs.Step.{AreTold, relisted_to};
@@ -50,12 +51,8 @@ pub trait MapStore: Back {
     fn form(&mut self, key: Key) -> Result<Option<Object>, Self::Refusal>
         requires { Self.spent self.old ≡ false }
         ensures form { IfOk result (λ form. (under : Under) (maps : Maps) → holds self.old under maps → form ≡ form_in maps key.kind key.id) }
-        ensures holds { OnOk result ((under : Under) (maps : Maps) → holds self.old under maps → holds self.new under maps) }
-        ensures looked { (first : Self) → looked first self.old → looked first self.new }
         ensures within { (may : May) → MayObject may key → within may self.old → within may self.new }
-        ensures spent { OnOk result (Self.spent self.new ≡ false) }
-        ensures refused { IfErr result (λ refusal. (first : Self) → looked first self.old → Self.bears self.new (Self.faults first) refusal) }
-        ensures allowed { (under : Under) (maps : Maps) → holds self.old under maps → IfErr result allowed };
+        ensures looks { Looks holds looked Self.spent Self.bears Self.faults allowed self.old self.new result };
 
     /// A key lists no longer what the old object lists, and from now on what the new one does.
     fn relist(
@@ -67,100 +64,72 @@ pub trait MapStore: Back {
         requires spent { Self.spent self.old ≡ false }
         requires proper { IfSome new.now (IsOfKind key.kind) }
         ensures holds { OnOk result ((under : Under) (maps : Maps) → holds self.old under maps → holds self.new under (relisted_to maps key old.now new.now)) }
-        ensures looked { (first : Self) → looked first self.old → looked first self.new }
         ensures within { (may : May) → MayList may key old.now → MayList may key new.now → within may self.old → within may self.new }
-        ensures spent { OnOk result (Self.spent self.new ≡ false) }
-        ensures refused { IfErr result (λ refusal. (first : Self) → looked first self.old → Self.bears self.new (Self.faults first) refusal) }
-        ensures allowed { (under : Under) (maps : Maps) → holds self.old under maps → AreTold maps key old.now → IfErr result allowed };
+        ensures allowed { (under : Under) (maps : Maps) → holds self.old under maps → AreTold maps key old.now → IfErr result allowed }
+        ensures sets { Sets looked Self.spent Self.bears Self.faults self.old self.new result };
 
     /// What the objects of these entries list is listed by their keys from now on; before, nothing is listed.
     fn list_all(&mut self, entries: &[Entry]) -> Result<(), Self::Refusal>
         requires { Self.spent self.old ≡ false }
         ensures holds { OnOk result ((under : Under) (maps : Maps) → holds self.old under maps → HasNoLists maps → holds self.new under (all_listed_on maps entries.now)) }
-        ensures looked { (first : Self) → looked first self.old → looked first self.new }
         ensures within { (may : May) → MayListAll may entries.now → within may self.old → within may self.new }
-        ensures spent { OnOk result (Self.spent self.new ≡ false) }
-        ensures refused { IfErr result (λ refusal. (first : Self) → looked first self.old → Self.bears self.new (Self.faults first) refusal) }
-        ensures allowed { (under : Under) (maps : Maps) → holds self.old under maps → IfErr result allowed };
+        ensures allowed { (under : Under) (maps : Maps) → holds self.old under maps → IfErr result allowed }
+        ensures sets { Sets looked Self.spent Self.bears Self.faults self.old self.new result };
 
     /// The object of a key is this one, or there is none.
     fn set(&mut self, key: Key, object: &Option<Object>) -> Result<(), Self::Refusal>
         requires spent { Self.spent self.old ≡ false }
         requires proper { IfSome object.now (IsOfKind key.kind) }
         ensures holds { OnOk result ((under : Under) (maps : Maps) → holds self.old under maps → holds self.new under (set_object maps key.kind key.id object.now)) }
-        ensures looked { (first : Self) → looked first self.old → looked first self.new }
         ensures within { (may : May) → MayObject may key → within may self.old → within may self.new }
-        ensures spent { OnOk result (Self.spent self.new ≡ false) }
-        ensures refused { IfErr result (λ refusal. (first : Self) → looked first self.old → Self.bears self.new (Self.faults first) refusal) }
-        ensures allowed { (under : Under) (maps : Maps) → holds self.old under maps → IfErr result allowed };
+        ensures allowed { (under : Under) (maps : Maps) → holds self.old under maps → IfErr result allowed }
+        ensures sets { Sets looked Self.spent Self.bears Self.faults self.old self.new result };
 
     /// The rows of a key.
     fn rows(&mut self, key: Key) -> Result<Option<TableRows>, Self::Refusal>
         requires { Self.spent self.old ≡ false }
         ensures rows { IfOk result (λ rows. (under : Under) (maps : Maps) → holds self.old under maps → rows ≡ rows_at maps key.kind key.id) }
-        ensures holds { OnOk result ((under : Under) (maps : Maps) → holds self.old under maps → holds self.new under maps) }
-        ensures looked { (first : Self) → looked first self.old → looked first self.new }
         ensures within { (may : May) → MayRows may key → within may self.old → within may self.new }
-        ensures spent { OnOk result (Self.spent self.new ≡ false) }
-        ensures refused { IfErr result (λ refusal. (first : Self) → looked first self.old → Self.bears self.new (Self.faults first) refusal) }
-        ensures allowed { (under : Under) (maps : Maps) → holds self.old under maps → IfErr result allowed };
+        ensures looks { Looks holds looked Self.spent Self.bears Self.faults allowed self.old self.new result };
 
     /// The rows of a key are these; where there are none, it has no value.
     fn set_rows(&mut self, key: Key, rows: &TableRows) -> Result<(), Self::Refusal>
         requires spent { Self.spent self.old ≡ false }
         requires kept { MayKeep (style self.old).tables rows.now }
         ensures holds { OnOk result ((under : Under) (maps : Maps) → holds self.old under maps → holds self.new under (set_rows maps key.kind key.id rows.now)) }
-        ensures looked { (first : Self) → looked first self.old → looked first self.new }
         ensures within { (may : May) → MayRows may key → within may self.old → within may self.new }
-        ensures spent { OnOk result (Self.spent self.new ≡ false) }
-        ensures refused { IfErr result (λ refusal. (first : Self) → looked first self.old → Self.bears self.new (Self.faults first) refusal) }
-        ensures allowed { (under : Under) (maps : Maps) → holds self.old under maps → IfErr result allowed };
+        ensures allowed { (under : Under) (maps : Maps) → holds self.old under maps → IfErr result allowed }
+        ensures sets { Sets looked Self.spent Self.bears Self.faults self.old self.new result };
 
     /// The place of a node.
     fn place(&mut self, id: u64) -> Result<Option<Place>, Self::Refusal>
         requires { Self.spent self.old ≡ false }
         ensures place { IfOk result (λ place. (under : Under) (maps : Maps) → holds self.old under maps → place ≡ place_in (finite.get maps.nodes id)) }
-        ensures holds { OnOk result ((under : Under) (maps : Maps) → holds self.old under maps → holds self.new under maps) }
-        ensures looked { (first : Self) → looked first self.old → looked first self.new }
         ensures within { (may : May) → may 0 id ≡ true → within may self.old → within may self.new }
-        ensures spent { OnOk result (Self.spent self.new ≡ false) }
-        ensures refused { IfErr result (λ refusal. (first : Self) → looked first self.old → Self.bears self.new (Self.faults first) refusal) }
-        ensures allowed { (under : Under) (maps : Maps) → holds self.old under maps → IfErr result allowed };
+        ensures looks { Looks holds looked Self.spent Self.bears Self.faults allowed self.old self.new result };
 
     /// The object of a key; none of a node whose tags are not known.
     fn object(&mut self, key: Key) -> Result<Option<Object>, Self::Refusal>
         requires { Self.spent self.old ≡ false }
         ensures object { IfOk result (λ object. (under : Under) (maps : Maps) → holds self.old under maps → object ≡ object_in maps key.kind key.id) }
-        ensures holds { OnOk result ((under : Under) (maps : Maps) → holds self.old under maps → holds self.new under maps) }
-        ensures looked { (first : Self) → looked first self.old → looked first self.new }
         ensures within { (may : May) → MayObject may key → within may self.old → within may self.new }
-        ensures spent { OnOk result (Self.spent self.new ≡ false) }
-        ensures refused { IfErr result (λ refusal. (first : Self) → looked first self.old → Self.bears self.new (Self.faults first) refusal) }
-        ensures allowed { (under : Under) (maps : Maps) → holds self.old under maps → IfErr result allowed };
+        ensures looks { Looks holds looked Self.spent Self.bears Self.faults allowed self.old self.new result };
 
     /// The rising ids of the relations that have a way as a member.
     fn along_way(&mut self, id: u64) -> Result<Ids, Self::Refusal>
         requires { Self.spent self.old ≡ false }
         ensures ids { IfOk result (λ ids. (under : Under) (maps : Maps) → holds self.old under maps → ids ≡ listers maps.relations_of_ways id) }
         ensures rising { IfOk result AreRisingIds }
-        ensures holds { OnOk result ((under : Under) (maps : Maps) → holds self.old under maps → holds self.new under maps) }
-        ensures looked { (first : Self) → looked first self.old → looked first self.new }
         ensures within { (may : May) → may 5 id ≡ true → within may self.old → within may self.new }
-        ensures spent { OnOk result (Self.spent self.new ≡ false) }
-        ensures refused { IfErr result (λ refusal. (first : Self) → looked first self.old → Self.bears self.new (Self.faults first) refusal) }
-        ensures allowed { (under : Under) (maps : Maps) → holds self.old under maps → IfErr result allowed };
+        ensures looks { Looks holds looked Self.spent Self.bears Self.faults allowed self.old self.new result };
 
     /// The rising ids of the relations that have a node as a member.
     fn around_node(&mut self, id: u64) -> Result<Ids, Self::Refusal>
         requires { Self.spent self.old ≡ false }
         ensures ids { IfOk result (λ ids. (under : Under) (maps : Maps) → holds self.old under maps → ids ≡ listers maps.relations_of_nodes id) }
         ensures rising { IfOk result AreRisingIds }
-        ensures holds { OnOk result ((under : Under) (maps : Maps) → holds self.old under maps → holds self.new under maps) }
-        ensures looked { (first : Self) → looked first self.old → looked first self.new }
         ensures within { (may : May) → may 4 id ≡ true → within may self.old → within may self.new }
-        ensures spent { OnOk result (Self.spent self.new ≡ false) }
-        ensures refused { IfErr result (λ refusal. (first : Self) → looked first self.old → Self.bears self.new (Self.faults first) refusal) }
-        ensures allowed { (under : Under) (maps : Maps) → holds self.old under maps → IfErr result allowed };
+        ensures looks { Looks holds looked Self.spent Self.bears Self.faults allowed self.old self.new result };
 
     /// Where nothing is called, nothing is made.
     ghost looked_none: { (store : Self) → looked store store };

@@ -43,7 +43,7 @@ module _ {D : Type 0} {g : Ghosts D} where
     fits = (opened, refl, back.1 rests.image rests.at_rest);
   }
 
-  module _ (fault : Option FlowFault) (old new : Buckets D g) (kept : Option Opened) (back : IsBackOf new kept) (ends : EndsIn fault old new) where
+  module _ {call : Option Step} (fault : Option FlowFault) (old new : Buckets D g) (kept : Option Opened) (back : IsBackOf new kept) (ends : EndsIn call fault old new) where
     turns_here : (limits : LimitNumbers) (state : State) (step : Step) → TurnsIn limits state step fault old new
         → TurnsOn limits state step fault (view_in old) (view_in new) kept
     turns_here limits state step turns = record {
@@ -63,7 +63,7 @@ module _ {D : Type 0} {g : Ghosts D} where
       moments = looks.moments;
     }
 
-    ends_here : EndsOn fault (view_in old) (view_in new) kept
+    ends_here : EndsOn call fault (view_in old) (view_in new) kept
     ends_here = record {
       alone = ends.alone;
       whole = λ no. whole_kept new kept back (ends.whole no);
@@ -86,7 +86,7 @@ module _ {D : Type 0} {g : Ghosts D} where
         (subst (λ (d : D). LooksOn state fault (g.view d) (view_in new) kept) first (looks_here state looks))
 
     pub ends_on : (one other : D) → disk_under (journal_of (chains_of old)) ≡ one → disk_under (journal_of (chains_of new)) ≡ other
-        → EndsOn fault (g.view one) (g.view other) kept
+        → EndsOn call fault (g.view one) (g.view other) kept
     ends_on one other first last =
-        subst (λ (d : D). EndsOn fault (g.view one) (g.view d) kept) last
-        (subst (λ (d : D). EndsOn fault (g.view d) (view_in new) kept) first ends_here)
+        subst (λ (d : D). EndsOn call fault (g.view one) (g.view d) kept) last
+        (subst (λ (d : D). EndsOn call fault (g.view d) (view_in new) kept) first ends_here)

@@ -20,35 +20,9 @@ use Rattle.update_flow.specs.declared.fault.FlowFault.TheVariants as flow
 use Rattle.update_flow.proofs.Openings.{at_state}
 use Rattle.update_flow.proofs.Resting.{either_done, nothing_done}
 
--- a call that may end so is refused so
-pub ends_alone : (fault : FlowFault) → MayEnd (Some fault) → IsCallFault fault
-ends_alone (flow.Store store.NotFormatted) may = absurd may
-ends_alone (flow.Store store.NotEmpty) may = absurd may
-ends_alone (flow.Store (store.BadStore page)) may = tt
-ends_alone (flow.Store store.DiskFault) may = tt
-ends_alone (flow.Store (store.StoreFull pages)) may = tt
-ends_alone (flow.Store store.Broken) may = absurd may
-ends_alone (flow.Store store.OutOfMemory) may = absurd may
-ends_alone flow.NotImported may = absurd may
-ends_alone flow.AlreadyImported may = absurd may
-ends_alone flow.OldFormat may = absurd may
-ends_alone flow.LastChange may = absurd may
-ends_alone (flow.TooMany value) may = tt
-ends_alone flow.OutOfMemory may = tt
-
--- so whatever the answer is
-pub call_alone : {T : Type 0} (r : Result T FlowFault) → MayEnd (result_err r) → IfErr r IsCallFault
-call_alone (Ok t) may = tt
-call_alone (Err fault) may = ends_alone fault may
-
-pub never_broken : {T : Type 0} (r : Result T FlowFault) (P : Type 0) → MayEnd (result_err r) → IsErrOf r (flow.Store store.Broken) → P
-never_broken {T} r P may is = absurd (subst (λ (o : Result T FlowFault). MayEnd (result_err o)) is may)
-
-pub never_old : {T : Type 0} (r : Result T FlowFault) (P : Type 0) → MayEnd (result_err r) → IsErrOf r flow.OldFormat → P
-never_old {T} r P may is = absurd (subst (λ (o : Result T FlowFault). MayEnd (result_err o)) is may)
-
-pub whole_still : {T : Type 0} (r : Result T FlowFault) (old new : DiskView) (kept : Option Opened) (was : Bool) → was ≡ true
-    → EndsOn (result_err r) old new kept → OnOk r (is_some kept ≡ was)
+-- the disk has failed no call still
+pub whole_still : {T : Type 0} {call : Option Step} (r : Result T FlowFault) (old new : DiskView) (kept : Option Opened) (was : Bool) → was ≡ true
+    → EndsOn call (result_err r) old new kept → OnOk r (is_some kept ≡ was)
 whole_still (Ok t) old new kept was is ends = ends.whole tt ∙ sym is
 whole_still (Err fault) old new kept was is ends = tt
 

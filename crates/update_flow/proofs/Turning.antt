@@ -77,30 +77,30 @@ commit_answers T limits most (store.StoreFull pages) P same sound = omega (arith
 commit_answers T limits most store.Broken P same sound = absurd sound
 commit_answers T limits most store.OutOfMemory P same sound = tt
 
-pub commit_ends : (T : Type 0) (most : ℕ) (fault : StoreFault) → IsCommitAnswer {T = T} false most (Err fault) → MayEnd (Some (of_store fault))
-commit_ends T most store.NotFormatted alone = absurd alone
-commit_ends T most store.NotEmpty alone = absurd alone
-commit_ends T most (store.BadStore page) alone = tt
-commit_ends T most store.DiskFault alone = tt
-commit_ends T most (store.StoreFull pages) alone = tt
-commit_ends T most store.Broken alone = absurd (cc (alone))
-commit_ends T most store.OutOfMemory alone = tt
+pub commit_ends : (step : Step) (T : Type 0) (most : ℕ) (fault : StoreFault) → IsCommitAnswer {T = T} false most (Err fault) → MayEnd (Some step) (Some (of_store fault))
+commit_ends step T most store.NotFormatted alone = absurd alone
+commit_ends step T most store.NotEmpty alone = absurd alone
+commit_ends step T most (store.BadStore page) alone = tt
+commit_ends step T most store.DiskFault alone = tt
+commit_ends step T most (store.StoreFull pages) alone = tt
+commit_ends step T most store.Broken alone = absurd (cc (alone))
+commit_ends step T most store.OutOfMemory alone = tt
 
-pub run_ends : (fault : Option FlowFault) → MayRun fault → MayEnd fault
-run_ends None alone = tt
-run_ends (Some (flow.Store store.NotFormatted)) alone = absurd alone
-run_ends (Some (flow.Store store.NotEmpty)) alone = absurd alone
-run_ends (Some (flow.Store (store.BadStore page))) alone = tt
-run_ends (Some (flow.Store store.DiskFault)) alone = tt
-run_ends (Some (flow.Store (store.StoreFull pages))) alone = absurd alone
-run_ends (Some (flow.Store store.Broken)) alone = absurd alone
-run_ends (Some (flow.Store store.OutOfMemory)) alone = absurd alone
-run_ends (Some flow.NotImported) alone = absurd alone
-run_ends (Some flow.AlreadyImported) alone = absurd alone
-run_ends (Some flow.OldFormat) alone = absurd alone
-run_ends (Some flow.LastChange) alone = absurd alone
-run_ends (Some (flow.TooMany value)) alone = tt
-run_ends (Some flow.OutOfMemory) alone = tt
+pub run_ends : (call : Option Step) (fault : Option FlowFault) → MayRun fault → MayEnd call fault
+run_ends call None alone = tt
+run_ends call (Some (flow.Store store.NotFormatted)) alone = absurd alone
+run_ends call (Some (flow.Store store.NotEmpty)) alone = absurd alone
+run_ends call (Some (flow.Store (store.BadStore page))) alone = tt
+run_ends call (Some (flow.Store store.DiskFault)) alone = tt
+run_ends call (Some (flow.Store (store.StoreFull pages))) alone = absurd alone
+run_ends call (Some (flow.Store store.Broken)) alone = absurd alone
+run_ends call (Some (flow.Store store.OutOfMemory)) alone = absurd alone
+run_ends call (Some flow.NotImported) alone = absurd alone
+run_ends call (Some flow.AlreadyImported) alone = absurd alone
+run_ends call (Some flow.OldFormat) alone = absurd alone
+run_ends call (Some flow.LastChange) alone = absurd alone
+run_ends call (Some (flow.TooMany value)) alone = absurd alone
+run_ends call (Some flow.OutOfMemory) alone = tt
 
 -- it is the disk's that is told so
 pub disk_told : (T : Type 0) (fault : StoreFault) → Some (of_store fault) ≡ Some (flow.Store store.DiskFault)
@@ -245,16 +245,16 @@ module _ {D : Type 0} {g : Ghosts D} where
   }
 
   -- what calls leave, whatever the store holds
-  pub runs_ended : (fault : Option FlowFault) (old new : Buckets D g) → Runs old new fault → EndsIn fault old new
-  runs_ended fault old new runs = record {
-    alone = run_ends fault runs.alone;
+  pub runs_ended : {call : Option Step} (fault : Option FlowFault) (old new : Buckets D g) → Runs old new fault → EndsIn call fault old new
+  runs_ended {call} fault old new runs = record {
+    alone = run_ends call fault runs.alone;
     whole = runs.whole;
     later = runs.looks.later;
     failed = runs.failed;
     same_disk = runs.looks.looked.same_disk;
   }
 
-  pub ends_then : (fault : Option FlowFault) (old mid new : Buckets D g) → OnlyLooks old mid → EndsIn fault mid new → EndsIn fault old new
+  pub ends_then : {call : Option Step} (fault : Option FlowFault) (old mid new : Buckets D g) → OnlyLooks old mid → EndsIn call fault mid new → EndsIn call fault old new
   ends_then fault old mid new looks ends = record {
     alone = ends.alone;
     whole = ends.whole;
@@ -266,8 +266,8 @@ module _ {D : Type 0} {g : Ghosts D} where
   -- a commit
   module _ (old new : Buckets D g) (whole : is_whole_store old) (disk : loan_of (journal_of (chains_of new)) ≡ loan_of (journal_of (chains_of old))) where
     pub committed_ends : (later : faults_in old ≤ faults_in new)
-        → is_broken (journal_of (chains_of new)) ≡ (is_broken (journal_of (chains_of old)) || false) → EndsIn None old new
-    committed_ends later broken = record {
+        → is_broken (journal_of (chains_of new)) ≡ (is_broken (journal_of (chains_of old)) || false) → (step : Step) → EndsIn (Some step) None old new
+    committed_ends later broken step = record {
       alone = tt;
       whole = λ no. both_false (is_broken (journal_of (chains_of new))) (is_broken (journal_of (chains_of old))) false broken whole refl;
       later = later;
@@ -277,9 +277,9 @@ module _ {D : Type 0} {g : Ghosts D} where
 
     pub uncommitted_ends : (T : Type 0) (most : ℕ) (fault : StoreFault) → IsCommitAnswer {T = T} (is_broken (journal_of (chains_of old))) most (Err fault)
         → is_broken (journal_of (chains_of new)) ≡ (is_broken (journal_of (chains_of old)) || answers_disk_fault {T = T} (Err fault))
-        → HasDiskCause {T = T} (faults_in old) (faults_in new) (Err fault) → EndsIn (Some (of_store fault)) old new
-    uncommitted_ends T most fault alone broken cause = record {
-      alone = commit_ends T most fault (subst (λ (b : Bool). IsCommitAnswer {T = T} b most (Err fault)) whole alone);
+        → HasDiskCause {T = T} (faults_in old) (faults_in new) (Err fault) → (step : Step) → EndsIn (Some step) (Some (of_store fault)) old new
+    uncommitted_ends T most fault alone broken cause step = record {
+      alone = commit_ends step T most fault (subst (λ (b : Bool). IsCommitAnswer {T = T} b most (Err fault)) whole alone);
       whole = λ no. both_false (is_broken (journal_of (chains_of new))) (is_broken (journal_of (chains_of old))) (answers_disk_fault {T = T} (Err fault))
           broken whole (quiet_fault T fault no);
       later = cause.later;

@@ -6,7 +6,9 @@ pub mod History
 pub mod Refusals
 pub mod Stands
 pub mod Needed
+pub mod Asked
 pub mod AtRest
+pub mod Calls
 pub mod Changes
 pub mod Opening
 pub mod Within

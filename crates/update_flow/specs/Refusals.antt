@@ -5,6 +5,7 @@ use Rattle.osm_base.specs.declared.values.object.Entry.{Entry}
 use Rattle.osm_base.specs.map.Pending.{PendingOf}
 use Rattle.dep_closure.specs.PendingSet.{IsPendingOf, AreTooMany, size}
 use Rattle.page_journal.specs.declared.fault.StoreFault.TheVariants as store
+use Rattle.update_flow.specs.Calls.{IsChange, MayCommit}
 use Rattle.update_flow.specs.declared.fault.FlowFault.{FlowFault}
 use Rattle.update_flow.specs.declared.fault.FlowFault.TheVariants as flow
 use Rattle.update_flow.specs.declared.fault.TheConstants.{LAST_CHANGE}
@@ -77,6 +78,13 @@ MayFind (flow.Store (store.BadStore page)) = Unit {0}
 MayFind (flow.Store store.DiskFault) = Unit {0}
 MayFind flow.OutOfMemory = Unit {0}
 MayFind _ = ⊥
+
+-- which calls may be refused so: too many pages are told by one that commits, and the last change and too many objects by a change
+abbrev pub MayTell : Option Step → FlowFault → Type 0
+MayTell call (flow.Store (store.StoreFull pages)) = MayCommit call
+MayTell call flow.LastChange = IsChange call
+MayTell call (flow.TooMany value) = IsChange call
+MayTell call _ = Unit {0}
 
 -- a call on an open store, whatever its disk holds, is refused so
 abbrev pub IsCallFault : FlowFault → Type 0

@@ -7,11 +7,12 @@ use Rattle.osm_base.specs.declared.bounds.limits.LimitNumbers.{LimitNumbers}
 use Rattle.page_journal.specs.Journal.{home_count, loan_of, page_limit}
 use Rattle.page_journal.specs.declared.fault.StoreFault.TheVariants as store
 use Rattle.chain_store.specs.Chains.{disk_of, journal_of}
-use Rattle.bucket_store.specs.Image.{HasImage, Image, OnlyLooks, RestsAt}
+use Rattle.bucket_store.specs.Image.{Has, HasImage, Image, OnlyLooks, RestsAt}
 use Rattle.bucket_store.specs.Transaction.{chains_of}
 use Rattle.bucket_store.specs.declared.buckets.Buckets.{Buckets}
 use Rattle.bucket_store.specs.declared.opened.Opened.{Opened}
 use Rattle.update_flow.specs.AtRest.{HasFlowCause, IsOfEither}
+use Rattle.update_flow.specs.Calls.{IsChange, MayCommit}
 use Rattle.update_flow.specs.AtRest.{RestsAt as StaysAt}
 use Rattle.update_flow.specs.Needed.{FitsLimit, Grows, NeedsOn}
 use Rattle.bucket_store.specs.Needed.{NeedsPages}
@@ -35,15 +36,15 @@ limit_in buckets = page_limit (journal_of (chains_of buckets))
 abbrev pub home_in : {D : Type 0} {g : Ghosts D} → Buckets D g → ℕ
 home_in buckets = home_count (journal_of (chains_of buckets))
 
--- whatever a store holds, a call that may commit is answered so
-abbrev pub MayEnd : Option FlowFault → Type 0
-MayEnd None = Unit {0}
-MayEnd (Some (flow.Store (store.BadStore page))) = Unit {0}
-MayEnd (Some (flow.Store store.DiskFault)) = Unit {0}
-MayEnd (Some (flow.Store (store.StoreFull pages))) = Unit {0}
-MayEnd (Some (flow.TooMany value)) = Unit {0}
-MayEnd (Some flow.OutOfMemory) = Unit {0}
-MayEnd _ = ⊥
+-- whatever a store holds, a call is answered so
+abbrev pub MayEnd : Option Step → Option FlowFault → Type 0
+MayEnd call None = Unit {0}
+MayEnd call (Some (flow.Store (store.BadStore page))) = Unit {0}
+MayEnd call (Some (flow.Store store.DiskFault)) = Unit {0}
+MayEnd call (Some (flow.Store (store.StoreFull pages))) = MayCommit call
+MayEnd call (Some (flow.TooMany value)) = IsChange call
+MayEnd call (Some flow.OutOfMemory) = Unit {0}
+MayEnd call _ = ⊥
 
 -- the buckets are those of a store at rest that means this state
 pub record RestsIn {D : Type 0} {g : Ghosts D} (state : State) (buckets : Buckets D g) : Type 0 where
@@ -77,12 +78,17 @@ pub record LooksIn {D : Type 0} {g : Ghosts D} (state : State) (fault : Option F
   pub moments : StaysAt state (view_in old) (view_in new)
 
 -- whatever it holds, a call leaves this of buckets whose disk had not failed
-pub record EndsIn {D : Type 0} {g : Ghosts D} (fault : Option FlowFault) (old new : Buckets D g) : Type 0 where
-  pub alone : MayEnd fault
+pub record EndsIn {D : Type 0} {g : Ghosts D} (call : Option Step) (fault : Option FlowFault) (old new : Buckets D g) : Type 0 where
+  pub alone : MayEnd call fault
   pub whole : IsNoDiskFault fault → is_whole_store new
   pub later : faults_in old ≤ faults_in new
   pub failed : fault ≡ Some (flow.Store store.DiskFault) → Rose (faults_in old) (faults_in new)
   pub same_disk : loan_of (journal_of (chains_of new)) ≡ loan_of (journal_of (chains_of old))
+
+-- what a transaction has made, with this done to it, is made to stand, whichever step it ends
+pub record CommitsWith {D : Type 0} {g : Ghosts D} (made : Image → Image) (fault : Option FlowFault) (old new : Buckets D g) : Type 0 where
+  pub commits : (limits : LimitNumbers) (rest now : Image) → limit_in old ≡ limits.pages → Has rest now old → CommitsTo limits rest (made now) fault old new
+  pub ends : (step : Step) → EndsIn (Some step) fault old new
 
 -- a store at rest of this state is on the disk, and what is kept of it is so
 pub record IsKept (state : State) (disk : DiskView) (kept : Option Opened) : Type 0 where
@@ -106,7 +112,7 @@ pub record LooksOn (state : State) (fault : Option FlowFault) (old new : DiskVie
   pub moments : StaysAt state old new
 
 -- whatever it holds, a call leaves this of a disk that had not failed
-pub record EndsOn (fault : Option FlowFault) (old new : DiskView) (kept : Option Opened) : Type 0 where
-  pub alone : MayEnd fault
+pub record EndsOn (call : Option Step) (fault : Option FlowFault) (old new : DiskView) (kept : Option Opened) : Type 0 where
+  pub alone : MayEnd call fault
   pub whole : IsNoDiskFault fault → is_some kept ≡ true
   pub cause : HasFlowCause fault old new

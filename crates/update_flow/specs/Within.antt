@@ -1,13 +1,14 @@
 -- Calls within a transaction on a store.
-use Rattle.std.specs.Prelude.{◌≡◌, ℕ, false, Option, None, Some}
+use Rattle.std.specs.Prelude.{◌≡◌, ℕ, false, List, Option, None, Some, Result, OnOk}
+use Rattle.std.specs.Result.{result_err}
 use Rattle.outside.specs.Causes.{Rose}
 use Rattle.outside.specs.declared.disk.Disk.{Ghosts}
 use Rattle.osm_base.specs.map.Spots.{TableMap}
 use Rattle.page_journal.specs.Journal.{is_broken}
 use Rattle.page_journal.specs.declared.fault.StoreFault.TheVariants as store
 use Rattle.chain_store.specs.Chains.{disk_of, journal_of}
-use Rattle.bucket_store.specs.Image.{Has, Image, OnlyLooks}
-use Rattle.bucket_store.specs.Transaction.{chains_of}
+use Rattle.bucket_store.specs.Image.{Has, Image, OnlyLooks, with_text}
+use Rattle.bucket_store.specs.Transaction.{chains_of, has_refused}
 use Rattle.bucket_store.specs.declared.buckets.Buckets.{Buckets}
 use Rattle.update_flow.specs.declared.fault.FlowFault.{FlowFault}
 use Rattle.update_flow.specs.declared.fault.FlowFault.TheVariants as flow
@@ -20,6 +21,11 @@ use Rattle.update_flow.specs.State.{State}
 abbrev pub is_whole_store : {D : Type 0} {g : Ghosts D} → Buckets D g → Type 0
 is_whole_store buckets = is_broken (journal_of (chains_of buckets)) ≡ false
 
+-- and so one that has refused nothing
+pub record IsGoing {D : Type 0} {g : Ghosts D} (buckets : Buckets D g) : Type 0 where
+  pub going : has_refused buckets ≡ false
+  pub whole : is_whole_store buckets
+
 abbrev pub faults_in : {D : Type 0} {g : Ghosts D} → Buckets D g → ℕ
 faults_in buckets = (disk_of (chains_of buckets)).faults
 
@@ -28,7 +34,6 @@ abbrev pub MayRun : Option FlowFault → Type 0
 MayRun None = Unit {0}
 MayRun (Some (flow.Store (store.BadStore page))) = Unit {0}
 MayRun (Some (flow.Store store.DiskFault)) = Unit {0}
-MayRun (Some (flow.TooMany value)) = Unit {0}
 MayRun (Some flow.OutOfMemory) = Unit {0}
 MayRun _ = ⊥
 
@@ -46,6 +51,13 @@ pub record Runs {D : Type 0} {g : Ghosts D} (old new : Buckets D g) (fault : Opt
   pub alone : MayRun fault
   pub whole : IsNoDiskFault fault → is_whole_store new
   pub failed : fault ≡ Some (flow.Store store.DiskFault) → Rose (faults_in old) (faults_in new)
+
+-- a text is these bytes from now on
+pub record StoresText {T D : Type 0} {g : Ghosts D} (n : ℕ) (bytes : List ℕ) (old new : Buckets D g) (result : Result T FlowFault) : Type 0 where
+  pub stored : OnOk result ((rest now : Image) → Has rest now old → Has rest (with_text n bytes now) new)
+  pub going : OnOk result (has_refused new ≡ false)
+  pub sound : (rest now : Image) → Has rest now old → IsSound (result_err result)
+  pub runs : Runs old new (result_err result)
 
 -- over this store at rest the transaction has made one that means this state
 pub record IsReady {D : Type 0} {g : Ghosts D} (state : State) (rest : Image) (buckets : Buckets D g) : Type 0 where

@@ -1,5 +1,5 @@
 //! A change is made in a store, within its buckets.
-ghost use Rattle.std.specs.Prelude.{◌≡◌, ◌≤◌, ◌+◌, ℕ, List, None, false, IfOk, OnOk};
+ghost use Rattle.std.specs.Prelude.{◌≡◌, ◌≤◌, ◌+◌, ℕ, List, None, Some, IfOk, OnOk};
 ghost use Rattle.std.specs.FinMap as finite;
 ghost use Rattle.std.specs.Result.{result_err};
 ghost use Rattle.osm_base.specs.map.Objects.{folded_all};
@@ -8,16 +8,17 @@ ghost use Rattle.chain_store.specs.Answers.{RestsWith};
 ghost use Rattle.chain_store.specs.Chains.{disk_of, journal_of, kept_of, read_of};
 ghost use Rattle.bucket_store.specs.Buckets.{bucket_count};
 ghost use Rattle.bucket_store.specs.Image.{Has, Image};
-ghost use Rattle.bucket_store.specs.Transaction.{chains_of, has_refused};
+ghost use Rattle.bucket_store.specs.Transaction.{chains_of};
 ghost use Rattle.store_maps.specs.Asked.{May};
 ghost use Rattle.update_step.specs.Touch.{MayTouch};
 ghost use Rattle.kept_maps.specs.Calls.{buckets_of, stop_of, style_in};
+ghost use Rattle.update_flow.specs.Asked.{AreWorkers};
 ghost use Rattle.update_flow.specs.Changes.{AreChanges};
 ghost use Rattle.update_flow.specs.Reads.{MayLoad, ReadsOnce};
 ghost use Rattle.update_flow.specs.Stands.{IsImported};
 ghost use Rattle.update_flow.specs.State.{Append, Holding, imported};
 ghost use Rattle.update_flow.specs.Turning.{EndsIn, TurnsIn, limit_in};
-ghost use Rattle.update_flow.specs.Within.{is_whole_store};
+ghost use Rattle.update_flow.specs.Within.{IsGoing};
 ghost use Rattle.update_flow.specs.declared.fault.TheConstants.{LAST_CHANGE};
 
 use crate::due_text::load_due;
@@ -50,19 +51,17 @@ pub(crate) fn append<D: Disk, R: Threads + Sync, G: Gate>(
     workers: u32,
     gate: &G,
 ) -> Result<RowChanges, FlowFault>
-    requires going { has_refused (buckets_of maps.old) ≡ false }
-    requires whole { is_whole_store (buckets_of maps.old) }
+    requires ready { IsGoing (buckets_of maps.old) }
     requires fresh { stop_of maps.old ≡ None }
     requires style { style_in maps.old ≡ style.now }
     requires counted { number ≤ LAST_CHANGE }
-    requires one_worker { 1 ≤ workers }
-    requires few_workers { workers ≤ 64 }
+    requires workers { AreWorkers workers }
     ensures turns { (held : Holding) (rest : Image) → limit_in (buckets_of maps.old) ≡ limits.now.pages → Has rest rest (buckets_of maps.old)
         → IsImported held rest → held.style ≡ style.now → held.changes + 1 ≡ number
         → TurnsIn limits.now (imported held) (Append bounds.now change.now) (result_err result) (buckets_of maps.old) (buckets_of maps.new) }
     ensures changes { IfOk result (λ changes. (held : Holding) (rest : Image) → Has rest rest (buckets_of maps.old) → IsImported held rest
         → held.style ≡ style.now → AreChanges (tables held.style held.objects) (tables held.style (folded_all held.objects change.now)) changes) }
-    ensures ends { EndsIn (result_err result) (buckets_of maps.old) (buckets_of maps.new) }
+    ensures ends { EndsIn (Some (Append bounds.now change.now)) (result_err result) (buckets_of maps.old) (buckets_of maps.new) }
 
     // It reads the due tiles, what the change touches, and the free list, each page once.
     ensures reads { OnOk result ((held : Holding) (rest : Image) → Has rest rest (buckets_of maps.old) → IsImported held rest → held.style ≡ style.now

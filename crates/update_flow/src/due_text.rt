@@ -3,12 +3,12 @@ ghost use Rattle.std.specs.Prelude.{◌≡◌, ℕ, false, IfOk, OnOk};
 ghost use Rattle.std.specs.Result.{result_err};
 ghost use Rattle.tile_cover.specs.Runs.{has};
 ghost use Rattle.due_tiles.specs.Spelling.{set_bytes};
-ghost use Rattle.bucket_store.specs.Image.{Has, Image, with_text};
+ghost use Rattle.bucket_store.specs.Image.{Has, Image};
 ghost use Rattle.bucket_store.specs.Transaction.{chains_of, has_refused};
 ghost use Rattle.chain_store.specs.Reads.{ReadsOnly};
 ghost use Rattle.update_flow.specs.Stands.{IsImported};
 ghost use Rattle.update_flow.specs.State.{Holding};
-ghost use Rattle.update_flow.specs.Within.{IsSound, Runs, is_whole_store};
+ghost use Rattle.update_flow.specs.Within.{IsGoing, IsSound, Runs, StoresText};
 ghost use Rattle.update_flow.specs.declared.fields.TheConstants.{DUE_TEXT};
 
 use crate::fault::store_fault;
@@ -25,8 +25,7 @@ pub(crate) fn load_due<D: Disk>(
     alloc: Global,
     buckets: &mut Buckets<'_, D>,
 ) -> Result<TileRuns, FlowFault>
-    requires going { has_refused buckets.old ≡ false }
-    requires whole { is_whole_store buckets.old }
+    requires ready { IsGoing buckets.old }
     ensures due { IfOk result (λ found. (rest now : Image) (held : Holding) → Has rest now buckets.old → IsImported held now
         → (zoom x y : ℕ) → has found zoom x y ≡ held.due zoom x y) }
     ensures has { OnOk result ((rest now : Image) → Has rest now buckets.old → Has rest now buckets.new) }
@@ -52,13 +51,9 @@ pub(crate) fn store_due<D: Disk>(
     buckets: &mut Buckets<'_, D>,
     due: &TileRuns,
 ) -> Result<(), FlowFault>
-    requires going { has_refused buckets.old ≡ false }
-    requires whole { is_whole_store buckets.old }
-    ensures stored { OnOk result ((rest now : Image) → Has rest now buckets.old → Has rest (with_text DUE_TEXT (set_bytes due.now) now) buckets.new) }
-    ensures going { OnOk result (has_refused buckets.new ≡ false) }
-    ensures sound { (rest now : Image) → Has rest now buckets.old → IsSound (result_err result) }
+    requires ready { IsGoing buckets.old }
+    ensures stores { StoresText DUE_TEXT (set_bytes due.now) buckets.old buckets.new result }
     ensures reads { OnOk result (ReadsOnly (λ n. n ≡ DUE_TEXT) (chains_of buckets.old) (chains_of buckets.new)) }
-    ensures runs { Runs buckets.old buckets.new (result_err result) }
 {
     let bytes = match encode(alloc, due) {
         Ok(bytes) => bytes,

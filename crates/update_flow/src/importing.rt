@@ -1,17 +1,15 @@
 //! The first import into a store, within its buckets.
-ghost use Rattle.std.specs.Prelude.{◌≡◌, ◌≤◌, None, Ok, IsTrue, false, length};
-ghost use Rattle.std.specs.Int.{is_power_of_two};
+ghost use Rattle.std.specs.Prelude.{◌≡◌, None, Some};
 ghost use Rattle.std.specs.Result.{result_err};
 ghost use Rattle.osm_base.specs.declared.bounds.limits.LimitNumbers.{LimitNumbers};
-ghost use Rattle.style_read.specs.Reading.{reading};
 ghost use Rattle.bucket_store.specs.Image.{Has, Image};
-ghost use Rattle.bucket_store.specs.Transaction.{has_refused};
 ghost use Rattle.kept_maps.specs.Calls.{buckets_of, stop_of, style_in};
+ghost use Rattle.update_flow.specs.Asked.{MayImport};
 ghost use Rattle.update_flow.specs.Settling.{begun};
 ghost use Rattle.update_flow.specs.Stands.{IsBlank};
 ghost use Rattle.update_flow.specs.State.{Import, formatted};
-ghost use Rattle.update_flow.specs.Turning.{CommitsTo, EndsIn, TurnsIn, limit_in};
-ghost use Rattle.update_flow.specs.Within.{is_whole_store};
+ghost use Rattle.update_flow.specs.Turning.{CommitsWith, EndsIn, TurnsIn, limit_in};
+ghost use Rattle.update_flow.specs.Within.{IsGoing};
 
 use crate::fault::step_fault;
 use crate::finishing::finish;
@@ -42,19 +40,13 @@ pub(crate) fn import<D: Disk, R: Threads + Sync, G: Gate>(
     workers: u32,
     gate: &G,
 ) -> Result<(), FlowFault>
-    requires going { has_refused (buckets_of maps.old) ≡ false }
-    requires whole { is_whole_store (buckets_of maps.old) }
+    requires ready { IsGoing (buckets_of maps.old) }
     requires fresh { stop_of maps.old ≡ None }
     requires style { style_in maps.old ≡ style.now }
-    requires reads { reading style_bytes.now ≡ Ok style.now }
-    requires power { IsTrue (is_power_of_two buckets) }
-    requires few_buckets { buckets ≤ 65536 }
-    requires few { length change ≤ 16777216 }
-    requires one_worker { 1 ≤ workers }
-    requires few_workers { workers ≤ 64 }
+    requires asked { MayImport style_bytes.now style.now buckets change workers }
     ensures turns { (limits : LimitNumbers) (rest : Image) → limit_in (buckets_of maps.old) ≡ limits.pages → Has rest rest (buckets_of maps.old)
         → IsBlank rest → TurnsIn limits formatted (Import style.now style_bytes.now buckets change) (result_err result) (buckets_of maps.old) (buckets_of maps.new) }
-    ensures ends { EndsIn (result_err result) (buckets_of maps.old) (buckets_of maps.new) }
+    ensures ends { EndsIn (Some (Import style.now style_bytes.now buckets change)) (result_err result) (buckets_of maps.old) (buckets_of maps.new) }
 {
     if maps.indexed.buckets.root().buckets != 0 {
         return Err(FlowFault::Store(StoreFault::BadStore { page: 1 }));
@@ -73,11 +65,8 @@ fn begin<D: Disk>(
     buckets: &mut Buckets<'_, D>,
     style_bytes: &[u8],
 ) -> Result<(), FlowFault>
-    requires going { has_refused buckets.old ≡ false }
-    requires whole { is_whole_store buckets.old }
-    ensures commits { (limits : LimitNumbers) (rest now : Image) → limit_in buckets.old ≡ limits.pages → Has rest now buckets.old
-        → CommitsTo limits rest (begun style_bytes.now now) (result_err result) buckets.old buckets.new }
-    ensures ends { EndsIn (result_err result) buckets.old buckets.new }
+    requires ready { IsGoing buckets.old }
+    ensures commits { CommitsWith (begun style_bytes.now) (result_err result) buckets.old buckets.new }
 {
     match store_style(alloc, buckets, style_bytes) {
         Ok(()) => {

@@ -1,14 +1,13 @@
 //! An old store is written in the format of today, within its buckets.
-ghost use Rattle.std.specs.Prelude.{◌≡◌, false};
+ghost use Rattle.std.specs.Prelude.{◌≡◌, Some};
 ghost use Rattle.std.specs.Result.{result_err};
 ghost use Rattle.osm_base.specs.declared.bounds.limits.LimitNumbers.{LimitNumbers};
 ghost use Rattle.bucket_store.specs.Image.{Has, Image};
-ghost use Rattle.bucket_store.specs.Transaction.{has_refused};
 ghost use Rattle.update_flow.specs.Settling.{migrated};
 ghost use Rattle.update_flow.specs.Stands.{IsOld};
 ghost use Rattle.update_flow.specs.State.{Holding, Migrate, outdated};
-ghost use Rattle.update_flow.specs.Turning.{CommitsTo, EndsIn, TurnsIn, limit_in};
-ghost use Rattle.update_flow.specs.Within.{is_whole_store};
+ghost use Rattle.update_flow.specs.Turning.{CommitsWith, EndsIn, TurnsIn, limit_in};
+ghost use Rattle.update_flow.specs.Within.{IsGoing};
 
 use crate::fault::store_fault;
 use crate::finishing::finish;
@@ -22,11 +21,10 @@ use std::alloc::Global;
 
 /// Writes the nodes of an old store anew, with unknown tags, and commits them in the format of today.
 pub(crate) fn migrate<D: Disk>(alloc: Global, buckets: &mut Buckets<'_, D>) -> Result<(), FlowFault>
-    requires going { has_refused buckets.old ≡ false }
-    requires whole { is_whole_store buckets.old }
+    requires ready { IsGoing buckets.old }
     ensures turns { (limits : LimitNumbers) (held : Holding) (rest : Image) → limit_in buckets.old ≡ limits.pages → Has rest rest buckets.old
         → IsOld held rest → TurnsIn limits (outdated held) Migrate (result_err result) buckets.old buckets.new }
-    ensures ends { EndsIn (result_err result) buckets.old buckets.new }
+    ensures ends { EndsIn (Some Migrate) (result_err result) buckets.old buckets.new }
 {
     if buckets.root().buckets == 0 {
         return Err(FlowFault::Store(StoreFault::BadStore { page: 1 }));
@@ -39,11 +37,8 @@ pub(crate) fn migrate<D: Disk>(alloc: Global, buckets: &mut Buckets<'_, D>) -> R
 
 /// Commits what the transaction has changed, in the format of today.
 fn finish_migrated<D: Disk>(buckets: &mut Buckets<'_, D>) -> Result<(), FlowFault>
-    requires going { has_refused buckets.old ≡ false }
-    requires whole { is_whole_store buckets.old }
-    ensures commits { (limits : LimitNumbers) (rest now : Image) → limit_in buckets.old ≡ limits.pages → Has rest now buckets.old
-        → CommitsTo limits rest (migrated now) (result_err result) buckets.old buckets.new }
-    ensures ends { EndsIn (result_err result) buckets.old buckets.new }
+    requires ready { IsGoing buckets.old }
+    ensures commits { CommitsWith migrated (result_err result) buckets.old buckets.new }
 {
     let root = buckets.root();
     buckets.set_root(Root {

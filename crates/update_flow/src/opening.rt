@@ -1,22 +1,18 @@
 //! A store is opened on a disk that stays with its owner.
-ghost use Rattle.std.specs.Prelude.{◌≡◌, ◌≢◌, ◌≤◌, List, ℕ, true, is_some, IfOk, IfErr, IsErrOf, OnOk};
+ghost use Rattle.std.specs.Prelude.{◌≡◌, ◌≢◌, ◌≤◌, List, ℕ, true, is_some, IfOk, OnOk};
 ghost use Rattle.std.specs.Result.{result_err};
-ghost use Rattle.outside.specs.Bytes.{IfTold, IsTold};
-ghost use Rattle.outside.specs.Disk.{Stays, Tells};
-ghost use Rattle.page_journal.specs.Home.{IsFormatted};
+ghost use Rattle.outside.specs.Bytes.{IsTold};
+ghost use Rattle.outside.specs.Disk.{Tells};
 ghost use Rattle.page_journal.specs.Pages.{gate};
 ghost use Rattle.page_journal.specs.declared.layout.TheConstants.{OPEN};
-ghost use Rattle.page_journal.specs.declared.fault.StoreFault.TheVariants.{BadStore, NotFormatted};
 ghost use Rattle.bucket_store.specs.Opening.{Fits, opened_root};
-ghost use Rattle.update_flow.specs.AtRest.{HasFlowCause, IsAt, IsAtEither, IsDamaged, Opens, OpensAs};
+ghost use Rattle.update_flow.specs.AtRest.{IsAt, IsAtEither, Opens, OpensAs};
 ghost use Rattle.update_flow.specs.State.{State, style_in, was_imported, was_old};
 ghost use Rattle.update_flow.specs.Stands.{StandsFor};
-ghost use Rattle.update_flow.specs.Refusals.{IsNoDiskFault, IsOpenFault, MayFind};
-ghost use Rattle.update_flow.specs.Opening.{Found, HoldsState, RootTells};
-ghost use Rattle.update_flow.specs.OpeningReads.{ReadsStyle, ReadsToOpen};
+ghost use Rattle.update_flow.specs.Opening.{Finds, Found, HoldsState, OpensAny};
+ghost use Rattle.update_flow.specs.OpeningReads.{ReadsToOpen};
 ghost use Rattle.update_flow.specs.Roots.{AreFieldsOf};
 ghost use Rattle.update_flow.specs.Within.{IsSound};
-ghost use Rattle.update_flow.specs.declared.fault.FlowFault.TheVariants.{Store};
 ghost use Rattle.update_flow.specs.declared.fault.TheConstants.{LAST_CHANGE};
 
 use crate::fault::store_fault;
@@ -39,19 +35,11 @@ pub fn open<D: Disk>(alloc: Global, disk: &mut D, limits: &Limits) -> Result<Ope
         → Opens one other (result_err result) (D.view disk.old) (D.view disk.new) }
     ensures found { IfOk result (λ opened. IsTold (D.view disk.old).content → (state : State) → IsAt state (D.view disk.new)
         → Found state (D.view disk.new) opened) }
+    ensures any { OpensAny (D.view disk.old) (D.view disk.new) result }
 
-    // Whatever the disk holds.
-    ensures alone { IfErr result IsOpenFault }
-    ensures no_store { IsErrOf result (Store NotFormatted) → IfTold (D.view disk.old).content (λ bytes. ¬ IsFormatted bytes) }
-    ensures formed { OnOk result (IfTold (D.view disk.old).content IsFormatted) }
-    ensures fields { IfOk result (λ opened. IfTold (D.view disk.old).content (RootTells opened.style opened.outdated opened.changes)) }
-    ensures untouched { IsErrOf result (Store NotFormatted) → Stays (D.view disk.old) (D.view disk.new) }
-    ensures told { IsTold (D.view disk.old).content → IsNoDiskFault (result_err result) → IsTold (D.view disk.new).content }
-    ensures bad { (page : ℕ) → IsErrOf result (Store (BadStore page)) → IfTold (D.view disk.old).content IsDamaged }
+    // It reads what it needs, each page once.
     ensures once { OnOk result ((bytes : List ℕ) (state : State) → Tells (D.view disk.old) bytes → StandsFor bytes state → gate bytes ≢ OPEN
         → ReadsToOpen bytes (D.view disk.old) (D.view disk.new)) }
-    ensures same { IfTold (D.view disk.old).content (λ bytes. gate bytes ≢ OPEN → (D.view disk.new).content ≡ (D.view disk.old).content) }
-    ensures cause { HasFlowCause (result_err result) (D.view disk.old) (D.view disk.new) }
 {
     match bucket_store::open(alloc, disk, limits) {
         Ok(found) => judged(alloc, disk, limits, found),
@@ -71,11 +59,7 @@ fn judged<D: Disk>(
         → Found state (D.view disk.new) opened) }
     ensures fields { IfOk result (λ opened. AreFieldsOf opened.style opened.outdated opened.changes (opened_root found)) }
     ensures sound { Fits found (D.view disk.old) → (state : State) → HoldsState state (D.view disk.old) → IsSound (result_err result) }
-    ensures alone { IfErr result MayFind }
-    ensures stays { Stays (D.view disk.old) (D.view disk.new) }
-    ensures once { OnOk result ((state : State) → Fits found (D.view disk.old) → HoldsState state (D.view disk.old)
-        → ReadsStyle (D.view disk.old) (D.view disk.new)) }
-    ensures cause { HasFlowCause (result_err result) (D.view disk.old) (D.view disk.new) }
+    ensures finds { Finds found (D.view disk.old) (D.view disk.new) result }
 {
     let root = found.root();
     if is_blank(root) {
@@ -113,11 +97,7 @@ fn with_style<D: Disk>(
         → was_imported state ≡ true → (opened.style ≡ style_in state) × Fits opened.store (D.view disk.new)) }
     ensures sound { Fits found (D.view disk.old) → (state : State) → HoldsState state (D.view disk.old) → was_imported state ≡ true
         → was_old state ≡ outdated → IsSound (result_err result) }
-    ensures alone { IfErr result MayFind }
-    ensures stays { Stays (D.view disk.old) (D.view disk.new) }
-    ensures once { OnOk result ((state : State) → Fits found (D.view disk.old) → HoldsState state (D.view disk.old)
-        → ReadsStyle (D.view disk.old) (D.view disk.new)) }
-    ensures cause { HasFlowCause (result_err result) (D.view disk.old) (D.view disk.new) }
+    ensures finds { Finds found (D.view disk.old) (D.view disk.new) result }
 {
     let mut buckets = Buckets::on(alloc, disk, limits, found);
     let read = load_style(alloc, &mut buckets);

@@ -1,9 +1,8 @@
 //! A store stands on its disk between two calls. For a call its buckets are laid over the disk, and taken off again.
-ghost use Rattle.std.specs.Prelude.{◌≡◌, ◌≤◌, ◌+◌, ℕ, Ok, IsTrue, IfOk, List, OnOk, length};
-ghost use Rattle.std.specs.Int.{is_power_of_two};
+ghost use Rattle.std.specs.Prelude.{◌≡◌, ◌≤◌, ◌+◌, ℕ, None, Some, IfOk, List, OnOk};
 ghost use Rattle.std.specs.Result.{result_err};
 ghost use Rattle.osm_base.specs.map.Objects.{folded_all};
-ghost use Rattle.style_read.specs.Reading.{reading};
+ghost use Rattle.outside.specs.Disk.{Stays};
 ghost use Rattle.row_map.specs.Row.{tables};
 ghost use Rattle.tile_cover.specs.Runs.{has};
 ghost use Rattle.bucket_store.specs.Opening.{Fits};
@@ -11,6 +10,7 @@ ghost use Rattle.page_journal.specs.Crash.{IsAtRest};
 ghost use Rattle.store_maps.specs.Asked.{May};
 ghost use Rattle.update_step.specs.Touch.{MayTouch};
 ghost use Rattle.update_flow.specs.ChangeReads.{ReadsTouched};
+ghost use Rattle.update_flow.specs.Asked.{AreWorkers, MayImport};
 ghost use Rattle.update_flow.specs.Changes.{AreChanges};
 ghost use Rattle.update_flow.specs.Opening.{HoldsState};
 ghost use Rattle.update_flow.specs.State.{Append, Clear, Holding, Import, Migrate, formatted, imported, outdated};
@@ -45,7 +45,7 @@ pub(crate) fn clear_on<D: Disk>(
 ) -> Result<(), FlowFault>
     ensures turns { (held : Holding) → Fits store (D.view disk.old) → HoldsState (imported held) (D.view disk.old)
         → TurnsOn limits.now (imported held) Clear (result_err result) (D.view disk.old) (D.view disk.new) kept.new }
-    ensures ends { EndsOn (result_err result) (D.view disk.old) (D.view disk.new) kept.new }
+    ensures ends { EndsOn (Some Clear) (result_err result) (D.view disk.old) (D.view disk.new) kept.new }
 {
     let mut buckets = Buckets::on(alloc, disk, limits, store);
     let cleared = clear(alloc, &mut buckets);
@@ -63,7 +63,7 @@ pub(crate) fn migrate_on<D: Disk>(
 ) -> Result<(), FlowFault>
     ensures turns { (held : Holding) → Fits store (D.view disk.old) → HoldsState (outdated held) (D.view disk.old)
         → TurnsOn limits.now (outdated held) Migrate (result_err result) (D.view disk.old) (D.view disk.new) kept.new }
-    ensures ends { EndsOn (result_err result) (D.view disk.old) (D.view disk.new) kept.new }
+    ensures ends { EndsOn (Some Migrate) (result_err result) (D.view disk.old) (D.view disk.new) kept.new }
 {
     let mut buckets = Buckets::on(alloc, disk, limits, store);
     let migrated = migrate(alloc, &mut buckets);
@@ -83,7 +83,8 @@ pub(crate) fn due_on<D: Disk>(
         → LooksOn (imported held) (result_err result) (D.view disk.old) (D.view disk.new) kept.new }
     ensures due { IfOk result (λ found. (held : Holding) → Fits store (D.view disk.old) → HoldsState (imported held) (D.view disk.old)
         → (zoom x y : ℕ) → has found zoom x y ≡ held.due zoom x y) }
-    ensures ends { EndsOn (result_err result) (D.view disk.old) (D.view disk.new) kept.new }
+    ensures stays { Stays (D.view disk.old) (D.view disk.new) }
+    ensures ends { EndsOn None (result_err result) (D.view disk.old) (D.view disk.new) kept.new }
 {
     let mut buckets = Buckets::on(alloc, disk, limits, store);
     let due = load_due(alloc, &mut buckets);
@@ -105,7 +106,8 @@ pub(crate) fn rows_on<D: Disk>(
         → LooksOn (imported held) (result_err result) (D.view disk.old) (D.view disk.new) kept.new }
     ensures tables { IfOk result (λ found. (held : Holding) → Fits store (D.view disk.old) → HoldsState (imported held) (D.view disk.old)
         → held.style ≡ style.now → found ≡ wanted_of wanted (tables held.style held.objects)) }
-    ensures ends { EndsOn (result_err result) (D.view disk.old) (D.view disk.new) kept.new }
+    ensures stays { Stays (D.view disk.old) (D.view disk.new) }
+    ensures ends { EndsOn None (result_err result) (D.view disk.old) (D.view disk.new) kept.new }
 {
     let mut buckets = Buckets::on(alloc, disk, limits, store);
     let rows = load_rows(alloc, &mut buckets, style, wanted);
@@ -128,15 +130,10 @@ pub(crate) fn import_on<D: Disk, R: Threads + Sync, G: Gate>(
     workers: u32,
     gate: &G,
 ) -> Result<(), FlowFault>
-    requires reads { reading style_bytes.now ≡ Ok style.now }
-    requires power { IsTrue (is_power_of_two buckets) }
-    requires few_buckets { buckets ≤ 65536 }
-    requires few { length change ≤ 16777216 }
-    requires one_worker { 1 ≤ workers }
-    requires few_workers { workers ≤ 64 }
+    requires asked { MayImport style_bytes.now style.now buckets change workers }
     ensures turns { Fits store (D.view disk.old) → HoldsState formatted (D.view disk.old)
         → TurnsOn limits.now formatted (Import style.now style_bytes.now buckets change) (result_err result) (D.view disk.old) (D.view disk.new) kept.new }
-    ensures ends { EndsOn (result_err result) (D.view disk.old) (D.view disk.new) kept.new }
+    ensures ends { EndsOn (Some (Import style.now style_bytes.now buckets change)) (result_err result) (D.view disk.old) (D.view disk.new) kept.new }
 {
     let opened = Buckets::on(alloc, disk, limits, store);
     let mut maps = KeptMaps::over(alloc, opened, style);
@@ -171,8 +168,7 @@ pub(crate) fn append_on<D: Disk, R: Threads + Sync, G: Gate>(
     gate: &G,
 ) -> Result<RowChanges, FlowFault>
     requires counted { number ≤ LAST_CHANGE }
-    requires one_worker { 1 ≤ workers }
-    requires few_workers { workers ≤ 64 }
+    requires workers { AreWorkers workers }
     ensures turns { (held : Holding) → Fits store (D.view disk.old) → HoldsState (imported held) (D.view disk.old) → held.style ≡ style.now
         → held.changes + 1 ≡ number
         → TurnsOn limits.now (imported held) (Append bounds.now change.now) (result_err result) (D.view disk.old) (D.view disk.new) kept.new }
@@ -181,7 +177,7 @@ pub(crate) fn append_on<D: Disk, R: Threads + Sync, G: Gate>(
     ensures reads { OnOk result ((held : Holding) → Fits store (D.view disk.old) → HoldsState (imported held) (D.view disk.old) → held.style ≡ style.now
         → (may : May) → MayTouch style.now held.objects change.now may → (pages : List (List ℕ)) → IsAtRest pages (D.view disk.old)
         → ReadsTouched may held.buckets pages (D.view disk.old) (D.view disk.new)) }
-    ensures ends { EndsOn (result_err result) (D.view disk.old) (D.view disk.new) kept.new }
+    ensures ends { EndsOn (Some (Append bounds.now change.now)) (result_err result) (D.view disk.old) (D.view disk.new) kept.new }
 {
     let buckets = Buckets::on(alloc, disk, limits, store);
     let mut maps = KeptMaps::over(alloc, buckets, style);

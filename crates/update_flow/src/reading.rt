@@ -1,12 +1,11 @@
 //! The rows of a store are read, of all tables or of one.
-ghost use Rattle.std.specs.Prelude.{◌≡◌, false, IfOk};
+ghost use Rattle.std.specs.Prelude.{◌≡◌, IfOk};
 ghost use Rattle.std.specs.Result.{result_err};
 ghost use Rattle.row_map.specs.Row.{tables};
 ghost use Rattle.bucket_store.specs.Image.{Has, Image};
-ghost use Rattle.bucket_store.specs.Transaction.{has_refused};
 ghost use Rattle.update_flow.specs.Stands.{IsImported};
 ghost use Rattle.update_flow.specs.State.{Holding};
-ghost use Rattle.update_flow.specs.Within.{IsSound, Runs, is_whole_store, wanted_of};
+ghost use Rattle.update_flow.specs.Within.{IsGoing, IsSound, Runs, wanted_of};
 
 use crate::FlowFault;
 use crate::fault::store_fault;
@@ -25,8 +24,7 @@ pub(crate) fn load_rows<D: Disk>(
     style: &Style,
     wanted: Option<u32>,
 ) -> Result<Tables, FlowFault>
-    requires going { has_refused buckets.old ≡ false }
-    requires whole { is_whole_store buckets.old }
+    requires ready { IsGoing buckets.old }
     ensures tables { IfOk result (λ found. (rest now : Image) (held : Holding) → Has rest now buckets.old → IsImported held now → held.style ≡ style.now
         → found ≡ wanted_of wanted (tables held.style held.objects)) }
     ensures sound { (rest now : Image) (held : Holding) → Has rest now buckets.old → IsImported held now → held.style ≡ style.now

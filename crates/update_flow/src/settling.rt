@@ -1,13 +1,11 @@
 //! What a change leaves beside the maps of a store is committed with them.
-ghost use Rattle.std.specs.Prelude.{◌≡◌, false, OnOk};
+ghost use Rattle.std.specs.Prelude.{◌≡◌, OnOk};
 ghost use Rattle.std.specs.Result.{result_err};
-ghost use Rattle.osm_base.specs.declared.bounds.limits.LimitNumbers.{LimitNumbers};
 ghost use Rattle.bucket_store.specs.Image.{Has, Image};
-ghost use Rattle.bucket_store.specs.Transaction.{has_refused};
 ghost use Rattle.update_flow.specs.Reads.{ReadsToCommit};
 ghost use Rattle.update_flow.specs.Settling.{settled};
-ghost use Rattle.update_flow.specs.Turning.{CommitsTo, EndsIn, limit_in};
-ghost use Rattle.update_flow.specs.Within.{is_whole_store};
+ghost use Rattle.update_flow.specs.Turning.{CommitsWith};
+ghost use Rattle.update_flow.specs.Within.{IsGoing};
 ghost use Rattle.update_flow.specs.declared.fields.TheConstants.{DUE_TEXT};
 
 use crate::FlowFault;
@@ -26,12 +24,9 @@ pub(crate) fn settle<D: Disk>(
     due: &TileRuns,
     number: u64,
 ) -> Result<(), FlowFault>
-    requires going { has_refused buckets.old ≡ false }
-    requires whole { is_whole_store buckets.old }
-    ensures commits { (limits : LimitNumbers) (rest now : Image) → limit_in buckets.old ≡ limits.pages → Has rest now buckets.old
-        → CommitsTo limits rest (settled number due.now now) (result_err result) buckets.old buckets.new }
+    requires ready { IsGoing buckets.old }
+    ensures commits { CommitsWith (settled number due.now) (result_err result) buckets.old buckets.new }
     ensures reads { OnOk result ((rest now : Image) → Has rest now buckets.old → ReadsToCommit (λ n. n ≡ DUE_TEXT) buckets.old buckets.new) }
-    ensures ends { EndsIn (result_err result) buckets.old buckets.new }
 {
     match store_due(alloc, buckets, due) {
         Ok(()) => {

@@ -1,14 +1,14 @@
 //! The style of a store: its bytes are one of the store's texts.
-ghost use Rattle.std.specs.Prelude.{◌≡◌, ℕ, Ok, false, IfErr, IfOk, OnOk};
+ghost use Rattle.std.specs.Prelude.{◌≡◌, Ok, IfErr, IfOk, OnOk};
 ghost use Rattle.std.specs.Result.{result_err};
 ghost use Rattle.style_read.specs.Reading.{reading};
 ghost use Rattle.style_read.specs.Style.{StyleOf};
-ghost use Rattle.bucket_store.specs.Image.{Has, Image, with_text};
+ghost use Rattle.bucket_store.specs.Image.{Has, Image};
 ghost use Rattle.chain_store.specs.Chains.{disk_of};
-ghost use Rattle.bucket_store.specs.Transaction.{chains_of, has_refused};
+ghost use Rattle.bucket_store.specs.Transaction.{chains_of};
 ghost use Rattle.update_flow.specs.OpeningReads.{ReadsStyle};
 ghost use Rattle.update_flow.specs.Refusals.{MayFind};
-ghost use Rattle.update_flow.specs.Within.{IsSound, Runs, is_whole_store};
+ghost use Rattle.update_flow.specs.Within.{IsGoing, IsSound, Runs, StoresText};
 ghost use Rattle.update_flow.specs.declared.fields.TheConstants.{STYLE_TEXT};
 
 use crate::fault::store_fault;
@@ -22,8 +22,7 @@ use style_read::{Style, StyleFault, read_style};
 
 /// The style of an imported store. `BadStore` comes with the root page where its bytes do not read.
 pub fn load_style<D: Disk>(alloc: Global, buckets: &mut Buckets<'_, D>) -> Result<Style, FlowFault>
-    requires going { has_refused buckets.old ≡ false }
-    requires whole { is_whole_store buckets.old }
+    requires ready { IsGoing buckets.old }
     ensures style { IfOk result (λ style. (rest now : Image) → Has rest now buckets.old → reading (now.texts STYLE_TEXT) ≡ Ok style) }
     ensures sound { (rest now : Image) (style : StyleOf) → Has rest now buckets.old → reading (now.texts STYLE_TEXT) ≡ Ok style → IsSound (result_err result) }
     ensures alone { IfErr result MayFind }
@@ -48,12 +47,8 @@ pub(crate) fn store_style<D: Disk>(
     buckets: &mut Buckets<'_, D>,
     style_bytes: &[u8],
 ) -> Result<(), FlowFault>
-    requires going { has_refused buckets.old ≡ false }
-    requires whole { is_whole_store buckets.old }
-    ensures stored { OnOk result ((rest now : Image) → Has rest now buckets.old → Has rest (with_text STYLE_TEXT style_bytes.now now) buckets.new) }
-    ensures going { OnOk result (has_refused buckets.new ≡ false) }
-    ensures sound { (rest now : Image) → Has rest now buckets.old → IsSound (result_err result) }
-    ensures runs { Runs buckets.old buckets.new (result_err result) }
+    requires ready { IsGoing buckets.old }
+    ensures stores { StoresText STYLE_TEXT style_bytes.now buckets.old buckets.new result }
 {
     let bytes = match Vec::from_slice(alloc, style_bytes) {
         Ok(bytes) => Bytes::from_vec(bytes),

@@ -1,8 +1,8 @@
 //! An open store.
-ghost use Rattle.std.specs.Prelude.{◌≡◌, ◌≤◌, None, true, false};
+ghost use Rattle.std.specs.Prelude.{◌≡◌, ◌≤◌, None, false};
 ghost use Rattle.std.specs.Option.{option_copied};
 ghost use Rattle.update_flow.specs.AtRest.{IsAt};
-ghost use Rattle.update_flow.specs.Handle.{IsOpen, changes_of, is_imported, is_old, is_whole, limits_of, style_of};
+ghost use Rattle.update_flow.specs.Handle.{IsOpen, changes_of, is_imported, is_old, style_of};
 ghost use Rattle.update_flow.specs.Opening.{Found};
 ghost use Rattle.update_flow.specs.State.{State};
 ghost use Rattle.update_flow.specs.declared.fault.TheConstants.{LAST_CHANGE};
@@ -35,22 +35,14 @@ pub struct Updater<'d, D: Disk> {
 }
 
 impl<'d, D: Disk> Updater<'d, D> {
-    ghost use Rattle.update_flow.specs.Updater.{disk_of, handle_of, loan_of};
+    ghost use Rattle.update_flow.specs.Updater.{TellsFound, disk_of, handle_of, loan_of};
 
     /// The store of a disk that was opened.
     pub fn over(alloc: Global, disk: &'d mut D, opened: Opened, limits: &Limits) -> Self
         ensures open { (state : State) → IsAt state (D.view disk.entry.now) → Found state (D.view disk.entry.now) opened → IsOpen state (handle_of result) }
         ensures same_disk { loan_of result ≡ disk.entry.ghost_name }
         ensures disk { disk_of result ≡ disk.entry.now }
-        ensures limits { limits_of (handle_of result) ≡ limits.now }
-
-        // Whatever the disk holds.
-        ensures changes { changes_of (handle_of result) ≡ opened.changes }
-        ensures style { style_of (handle_of result) ≡ opened.style }
-        ensures outdated { is_old (handle_of result) ≡ opened.outdated }
-        ensures whole { is_whole (handle_of result) ≡ true }
-        ensures begun { is_imported (handle_of result) ≡ false → changes_of (handle_of result) ≡ 0 }
-        ensures unbegun { is_imported (handle_of result) ≡ false → is_old (handle_of result) ≡ false }
+        ensures tells { TellsFound limits.now opened (handle_of result) }
     {
         let Opened {
             store,

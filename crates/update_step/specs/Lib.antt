@@ -1,3 +1,4 @@
+pub mod Changing
 pub mod Due
 pub mod Ends
 pub mod Gather

@@ -1,5 +1,5 @@
--- What a question to a store leaves alone, and how it may end.
-use Rattle.std.specs.Prelude.{◌≡◌, false, Result, IfErr, OnOk}
+-- What a call on a store leaves alone, and how it may end.
+use Rattle.std.specs.Prelude.{◌≡◌, ℕ, false, Result, IfErr, OnOk}
 use Rattle.osm_base.specs.declared.map.back.Back as back
 use Rattle.store_maps.specs.declared.store.MapStore as store
 use Rattle.store_maps.specs.Maps.{Maps}
@@ -23,3 +23,13 @@ pub record HasLooked {S E : Type 0} (own : store.Ghosts S E) (asked : back.Ghost
   pub holds : (under : own.Under) (maps : Maps) → own.holds old under maps → own.holds new under maps
   pub looked : (first : S) → own.looked first old → own.looked first new
   pub spent : asked.spent new ≡ false
+
+-- a call that changes a store. Where it is done more may be asked. Else the store refused, for causes of its own, or there were too many
+-- keys, of whose number this is so, or memory ran out. Whatever it answers, below the maps it has only read.
+pub record Goes {S E A : Type 0} (own : store.Ghosts S E) (asked : back.Ghosts S E) (many : ℕ → Type 0) (old new : S) (result : Result A (StepFault E)) : Type 0 where
+  pub looked : (first : S) → own.looked first old → own.looked first new
+  pub spent : OnOk result (asked.spent new ≡ false)
+  pub ends : IfErr result (Ends
+      (λ refusal. (first : S) → own.looked first old → asked.bears new (asked.faults first) refusal)
+      (asked.spent new ≡ false)
+      many)

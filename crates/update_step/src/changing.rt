@@ -1,18 +1,13 @@
 //! A change of a map, whole.
-ghost use Rattle.std.specs.Prelude.{◌≡◌, ◌≤◌, ◌||◌, ℕ, false, IfOk, IfErr, OnOk};
-ghost use Rattle.std.specs.FinMap as finite;
-ghost use Rattle.osm_base.specs.map.Objects.{ObjectSet, folded_all};
-ghost use Rattle.osm_base.specs.map.Pending.{PendingOf};
-ghost use Rattle.osm_base.specs.map.Spots.{changed_all};
-ghost use Rattle.row_map.specs.Row.{tables};
-ghost use Rattle.dep_closure.specs.PendingSet.{AreTooMany, IsPendingOf, size};
+ghost use Rattle.std.specs.Prelude.{◌≡◌, ◌≤◌, false};
+ghost use Rattle.osm_base.specs.map.Objects.{ObjectSet};
+ghost use Rattle.dep_closure.specs.PendingSet.{AreTooMany, IsPendingOf};
 ghost use Rattle.tile_cover.specs.Runs.{has};
-ghost use Rattle.store_maps.specs.Delta.{IsDelta};
 ghost use Rattle.store_maps.specs.Asked.{May};
 ghost use Rattle.store_maps.specs.Maps.{Maps};
 ghost use Rattle.store_maps.specs.Stands.{Stands};
-ghost use Rattle.update_step.specs.Due.{due_between};
-ghost use Rattle.update_step.specs.Ends.{Ends, MayRefuse};
+ghost use Rattle.update_step.specs.Changing.{Changes};
+ghost use Rattle.update_step.specs.Looks.{Goes};
 ghost use Rattle.update_step.specs.Touch.{MayTouch};
 
 use crate::StepFault;
@@ -47,32 +42,15 @@ pub fn change_maps<S: MapStore, R: Threads + Sync, G: Gate>(
     requires one_worker { 1 ≤ workers }
     requires few_workers { workers ≤ 64 }
 
-    // The maps stand for the objects after it.
-    ensures stands { OnOk result ((under : S.Under) (maps : Maps) (objects : ObjectSet) → S.holds store.old under maps → Stands style.now maps objects
-        → (after : Maps) × S.holds store.new under after × Stands style.now after (folded_all objects change.now)) }
-
-    // What is told leads from the tables before it to those after it, and no more is told.
-    ensures told { IfOk result (λ changes. (under : S.Under) (maps : Maps) (objects : ObjectSet) → S.holds store.old under maps → Stands style.now maps objects
-        → IsDelta (finite.get (tables style.now objects)) (finite.get (tables style.now (folded_all objects change.now))) changes) }
-    ensures applied { IfOk result (λ changes. (under : S.Under) (maps : Maps) (objects : ObjectSet) → S.holds store.old under maps → Stands style.now maps objects
-        → changed_all (tables style.now objects) changes ≡ tables style.now (folded_all objects change.now)) }
-    ensures due { OnOk result ((under : S.Under) (maps : Maps) (objects : ObjectSet) → S.holds store.old under maps → Stands style.now maps objects
-        → (zoom x y : ℕ) → has due.new zoom x y ≡ (has due.old zoom x y || due_between style.now bounds.now objects (folded_all objects change.now) zoom x y)) }
-    ensures few { OnOk result ((under : S.Under) (maps : Maps) (objects : ObjectSet) → S.holds store.old under maps → Stands style.now maps objects
-        → (set : PendingOf) → IsPendingOf style.now objects change.now set → size set ≤ limits.now.pending) }
-    ensures spent { OnOk result (S.spent store.new ≡ false) }
-
-    // Whatever it answers, below the maps it has only looked.
-    ensures looked { (first : S) → S.looked first store.old → S.looked first store.new }
+    // Where its maps stand for objects, they stand for those after it then.
+    ensures changes { (under : S.Under) (maps : Maps) (objects : ObjectSet) → S.holds store.old under maps → Stands style.now maps objects
+        → Changes (S.holds store.new under) S.allowed style.now bounds.now limits.now.pending objects change.now (has due.old) (has due.new) result }
     ensures within { (under : S.Under) (maps : Maps) (objects : ObjectSet) → S.holds store.old under maps → Stands style.now maps objects
         → (may : May) → MayTouch style.now objects change.now may → S.within may store.old → S.within may store.new }
-    ensures ends { IfErr result (Ends
-        (λ refusal. (first : S) → S.looked first store.old → S.bears store.new (S.faults first) refusal)
-        (S.spent store.new ≡ false)
-        (λ value. (under : S.Under) (maps : Maps) (objects : ObjectSet) → S.holds store.old under maps → Stands style.now maps objects
-        → AreTooMany limits.now.pending (λ set. IsPendingOf style.now objects change.now set) value)) }
-    ensures allowed { (under : S.Under) (maps : Maps) (objects : ObjectSet) → S.holds store.old under maps → Stands style.now maps objects
-        → IfErr result (MayRefuse S.allowed) }
+
+    // Whatever it answers, below the maps it has only looked.
+    ensures goes { Goes S.MapStore.own S.Back (λ value. (under : S.Under) (maps : Maps) (objects : ObjectSet) → S.holds store.old under maps → Stands style.now maps objects
+        → AreTooMany limits.now.pending (λ set. IsPendingOf style.now objects change.now set) value) store.old store.new result }
 {
     let _entries = change.entries();
     let _most = limits.pending();

@@ -1,9 +1,10 @@
 //! What the entries of a change make of the maps, and the forms that they replace.
-ghost use Rattle.std.specs.Prelude.{◌≡◌, ◌∷◌, ◌+◌, ℕ, Bool, false, fold, IfOk, IfErr, OnOk};
+ghost use Rattle.std.specs.Prelude.{◌≡◌, Bool, false, fold, IfOk, IfErr, OnOk};
 ghost use Rattle.std.specs.FinMap as finite;
 ghost use Rattle.osm_base.specs.map.Objects.{ObjectSet};
 ghost use Rattle.object_fold.specs.Change.{IsProper};
 ghost use Rattle.store_maps.specs.Asked.{May, MayList, MayObject};
+ghost use Rattle.store_maps.specs.Looks.{Sets};
 ghost use Rattle.store_maps.specs.Maps.{Maps, form_in};
 ghost use Rattle.store_maps.specs.Stands.{StandsOn};
 ghost use Rattle.store_maps.specs.Step.{AreTold, change_on, entry_on};
@@ -23,14 +24,12 @@ fn apply_entry<S: MapStore>(store: &mut S, entry: &Entry) -> Result<(), S::Refus
     requires spent { S.spent store.old ≡ false }
     requires proper { IsProper entry.now }
     ensures holds { OnOk result ((under : S.Under) (maps : Maps) → S.holds store.old under maps → S.holds store.new under (entry_on maps entry.now)) }
-    ensures looked { (first : S) → S.looked first store.old → S.looked first store.new }
     ensures within { (under : S.Under) (maps : Maps) → S.holds store.old under maps → (may : May)
         → MayObject may entry.now.key → MayList may entry.now.key (form_in maps entry.now.key.kind entry.now.key.id) → MayList may entry.now.key entry.now.object
         → S.within may store.old → S.within may store.new }
-    ensures spent { OnOk result (S.spent store.new ≡ false) }
-    ensures refused { IfErr result (λ refusal. (first : S) → S.looked first store.old → S.bears store.new (S.faults first) refusal) }
     ensures allowed { (under : S.Under) (maps : Maps) → S.holds store.old under maps
         → AreTold maps entry.now.key (form_in maps entry.now.key.kind entry.now.key.id) → IfErr result S.allowed }
+    ensures sets { Sets S.looked S.spent S.bears S.faults store.old store.new result }
 {
     let old = store.form(entry.key)?;
     store.relist(entry.key, &old, &entry.object)?;
@@ -42,13 +41,11 @@ fn apply_entry<S: MapStore>(store: &mut S, entry: &Entry) -> Result<(), S::Refus
 pub(crate) fn apply_change<S: MapStore>(store: &mut S, change: &Change) -> Result<(), S::Refusal>
     requires spent { S.spent store.old ≡ false }
     ensures holds { OnOk result ((under : S.Under) (maps : Maps) → S.holds store.old under maps → S.holds store.new under (change_on maps change.now)) }
-    ensures looked { (first : S) → S.looked first store.old → S.looked first store.new }
     ensures within { (under : S.Under) (maps : Maps) → S.holds store.old under maps → (reaches : Bool) (objects : ObjectSet) → StandsOn reaches maps objects
         → (may : May) → MayTurnAll objects may change.now → S.within may store.old → S.within may store.new }
-    ensures spent { OnOk result (S.spent store.new ≡ false) }
-    ensures refused { IfErr result (λ refusal. (first : S) → S.looked first store.old → S.bears store.new (S.faults first) refusal) }
     ensures allowed { (under : S.Under) (maps : Maps) → S.holds store.old under maps
         → (reaches : Bool) (objects : ObjectSet) → StandsOn reaches maps objects → IfErr result S.allowed }
+    ensures sets { Sets S.looked S.spent S.bears S.faults store.old store.new result }
 {
     for entry in change.entries() {
         apply_entry(store, entry)?;

@@ -12,11 +12,13 @@ ghost use Rattle.row_map.specs.Wanted.{may_have_rows};
 ghost use Rattle.geom_workers.specs.Keys.{keys_of};
 ghost use Rattle.store_maps.specs.Append.{MayKeep, set_all_rows};
 ghost use Rattle.store_maps.specs.Filling.{all_objects_on};
+ghost use Rattle.store_maps.specs.Looks.{Sets};
 ghost use Rattle.store_maps.specs.Maps.{Maps, empty_maps, rows_at, set_rows};
 ghost use Rattle.store_maps.specs.Stands.{Stands};
 ghost use Rattle.store_maps.specs.Step.{AreProperEntries, change_on};
-ghost use Rattle.update_step.specs.Ends.{Ends, MayRefuse};
+ghost use Rattle.update_step.specs.Ends.{MayRefuse};
 ghost use Rattle.update_step.specs.Importing.{LacksRows, ids_named, keys_named, wanted_among};
+ghost use Rattle.update_step.specs.Looks.{Goes};
 
 use crate::StepFault;
 use crate::new_objects::NewObjects;
@@ -77,10 +79,8 @@ fn wanted_keys(alloc: Global, style: &Style, change: &Change) -> Result<PendingS
 fn add_entries<S: MapStore>(store: &mut S, change: &Change) -> Result<(), S::Refusal>
     requires spent { S.spent store.old ≡ false }
     ensures holds { OnOk result ((under : S.Under) → S.holds store.old under empty_maps → S.holds store.new under (change_on empty_maps change.now)) }
-    ensures looked { (first : S) → S.looked first store.old → S.looked first store.new }
-    ensures spent { OnOk result (S.spent store.new ≡ false) }
-    ensures refused { IfErr result (λ refusal. (first : S) → S.looked first store.old → S.bears store.new (S.faults first) refusal) }
     ensures allowed { (under : S.Under) → S.holds store.old under empty_maps → IfErr result S.allowed }
+    ensures sets { Sets S.looked S.spent S.bears S.faults store.old store.new result }
 {
     let entries = change.entries();
     store.list_all(entries)?;
@@ -93,10 +93,8 @@ fn put_objects<S: MapStore>(store: &mut S, entries: &[Entry]) -> Result<(), S::R
     requires spent { S.spent store.old ≡ false }
     requires proper { AreProperEntries entries.now }
     ensures holds { OnOk result ((under : S.Under) (maps : Maps) → S.holds store.old under maps → S.holds store.new under (all_objects_on maps entries.now)) }
-    ensures looked { (first : S) → S.looked first store.old → S.looked first store.new }
-    ensures spent { OnOk result (S.spent store.new ≡ false) }
-    ensures refused { IfErr result (λ refusal. (first : S) → S.looked first store.old → S.bears store.new (S.faults first) refusal) }
     ensures allowed { (under : S.Under) (maps : Maps) → S.holds store.old under maps → IfErr result S.allowed }
+    ensures sets { Sets S.looked S.spent S.bears S.faults store.old store.new result }
 {
     for entry in entries {
         store.set(entry.key, &entry.object)?;
@@ -131,10 +129,8 @@ fn put_some<S: MapStore>(store: &mut S, key: Key, rows: &TableRows) -> Result<()
     requires kept { MayKeep (S.style store.old).tables rows.now }
     ensures holds { OnOk result ((under : S.Under) (maps : Maps) → S.holds store.old under maps
         → (rows.now ≡ [] → rows_at maps key.kind key.id ≡ None) → S.holds store.new under (set_rows maps key.kind key.id rows.now)) }
-    ensures looked { (first : S) → S.looked first store.old → S.looked first store.new }
-    ensures spent { OnOk result (S.spent store.new ≡ false) }
-    ensures refused { IfErr result (λ refusal. (first : S) → S.looked first store.old → S.bears store.new (S.faults first) refusal) }
     ensures allowed { (under : S.Under) (maps : Maps) → S.holds store.old under maps → IfErr result S.allowed }
+    ensures sets { Sets S.looked S.spent S.bears S.faults store.old store.new result }
 {
     if rows.as_slice().is_empty() {
         return Ok(());
@@ -155,11 +151,9 @@ fn put_all<S: MapStore>(
     requires kept { AllByRecursion (MayKeep (S.style store.old).tables) rows.now }
     ensures holds { OnOk result ((under : S.Under) (maps : Maps) (new : KeyOf → List TableRow) → rows.now ≡ map new (keys_of keys.now)
         → LacksRows maps new → S.holds store.old under maps → S.holds store.new under (set_all_rows maps new (keys_of keys.now))) }
-    ensures looked { (first : S) → S.looked first store.old → S.looked first store.new }
-    ensures spent { OnOk result (S.spent store.new ≡ false) }
-    ensures refused { IfErr result (λ refusal. (first : S) → S.looked first store.old → S.bears store.new (S.faults first) refusal) }
     ensures allowed { (under : S.Under) (maps : Maps) (new : KeyOf → List TableRow) → rows.now ≡ map new (keys_of keys.now)
         → LacksRows maps new → S.holds store.old under maps → IfErr result S.allowed }
+    ensures sets { Sets S.looked S.spent S.bears S.faults store.old store.new result }
 {
     for index in 0..key_count(keys) {
         put_some(store, key_of(keys, index as u32), &rows[index])?;
@@ -184,15 +178,10 @@ pub fn import_maps<S: MapStore, R: Threads + Sync, G: Gate>(
     requires few_workers { workers ≤ 64 }
     ensures stands { OnOk result ((under : S.Under) → S.holds store.old under empty_maps
         → (after : Maps) × S.holds store.new under after × Stands style.now after (folded_all finite.empty change)) }
-    ensures spent { OnOk result (S.spent store.new ≡ false) }
+    ensures allowed { (under : S.Under) → S.holds store.old under empty_maps → IfErr result (MayRefuse S.allowed) }
 
     // Whatever it answers, below the maps it has only looked.
-    ensures looked { (first : S) → S.looked first store.old → S.looked first store.new }
-    ensures ends { IfErr result (Ends
-        (λ refusal. (first : S) → S.looked first store.old → S.bears store.new (S.faults first) refusal)
-        (S.spent store.new ≡ false)
-        (λ _. ⊥)) }
-    ensures allowed { (under : S.Under) → S.holds store.old under empty_maps → IfErr result (MayRefuse S.allowed) }
+    ensures goes { Goes S.MapStore.own S.Back (λ _. ⊥) store.old store.new result }
 {
     let _entries = change.entries();
     let keys = wanted_keys(alloc, style, &change)?;

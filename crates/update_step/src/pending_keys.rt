@@ -8,7 +8,8 @@ ghost use Rattle.store_maps.specs.Maps.{Maps};
 ghost use Rattle.store_maps.specs.Named.{WaysAreThere};
 ghost use Rattle.store_maps.specs.Stands.{StandsOn};
 ghost use Rattle.store_maps.specs.Step.{change_on};
-ghost use Rattle.update_step.specs.Ends.{Ends, MayRefuse, of_pending};
+ghost use Rattle.update_step.specs.Ends.{MayRefuse, of_pending};
+ghost use Rattle.update_step.specs.Looks.{Goes};
 ghost use Rattle.update_step.specs.Touch.{MayTouch};
 
 use crate::StepFault;
@@ -46,17 +47,12 @@ fn keys_due<S: MapStore>(
         → IsPendingOf style.now objects change.now set × LeavesRows style.now objects change.now set) }
     ensures few { IfOk result (λ set. size set ≤ limits.now.pending) }
     ensures holds { OnOk result ((under : S.Under) (maps : Maps) → S.holds store.old under maps → S.holds store.new under maps) }
-    ensures looked { (first : S) → S.looked first store.old → S.looked first store.new }
     ensures within { (under : S.Under) (maps : Maps) (objects : ObjectSet) → S.holds store.old under maps → StandsOn (reaches_nodes style.now) maps (folded_all objects change.now)
         → (may : May) → MayTouch style.now objects change.now may → S.within may store.old → S.within may store.new }
-    ensures spent { OnOk result (S.spent store.new ≡ false) }
-    ensures ends { IfErr result (Ends
-        (λ refusal. (first : S) → S.looked first store.old → S.bears store.new (S.faults first) refusal)
-        (S.spent store.new ≡ false)
-        (λ value. (objects : ObjectSet) → HasOldForms old.now objects change.now → (under : S.Under) (maps : Maps) → S.holds store.old under maps
-        → StandsOn (reaches_nodes style.now) maps (folded_all objects change.now)
-        → AreTooMany limits.now.pending (λ set. IsPendingOf style.now objects change.now set) value)) }
     ensures allowed { (under : S.Under) (maps : Maps) → S.holds store.old under maps → WaysAreThere maps → IfErr result (MayRefuse S.allowed) }
+    ensures goes { Goes S.MapStore.own S.Back (λ value. (objects : ObjectSet) → HasOldForms old.now objects change.now → (under : S.Under) (maps : Maps) → S.holds store.old under maps
+        → StandsOn (reaches_nodes style.now) maps (folded_all objects change.now)
+        → AreTooMany limits.now.pending (λ set. IsPendingOf style.now objects change.now set) value) store.old store.new result }
 {
     match pending(alloc, style, change, store, old, limits) {
         Ok(set) => Ok(set),
@@ -77,17 +73,12 @@ pub(crate) fn changed_keys<S: MapStore>(
         → IsPendingOf style.now objects change.now set × LeavesRows style.now objects change.now set) }
     ensures few { IfOk result (λ set. size set ≤ limits.now.pending) }
     ensures holds { OnOk result ((under : S.Under) (maps : Maps) → S.holds store.old under maps → S.holds store.new under (change_on maps change.now)) }
-    ensures looked { (first : S) → S.looked first store.old → S.looked first store.new }
     ensures within { (under : S.Under) (maps : Maps) (objects : ObjectSet) → S.holds store.old under maps → StandsOn (reaches_nodes style.now) maps objects
         → (may : May) → MayTouch style.now objects change.now may → S.within may store.old → S.within may store.new }
-    ensures spent { OnOk result (S.spent store.new ≡ false) }
-    ensures ends { IfErr result (Ends
-        (λ refusal. (first : S) → S.looked first store.old → S.bears store.new (S.faults first) refusal)
-        (S.spent store.new ≡ false)
-        (λ value. (under : S.Under) (maps : Maps) (objects : ObjectSet) → S.holds store.old under maps → StandsOn (reaches_nodes style.now) maps objects
-        → AreTooMany limits.now.pending (λ set. IsPendingOf style.now objects change.now set) value)) }
     ensures allowed { (under : S.Under) (maps : Maps) (objects : ObjectSet) → S.holds store.old under maps → StandsOn (reaches_nodes style.now) maps objects
         → IfErr result (MayRefuse S.allowed) }
+    ensures goes { Goes S.MapStore.own S.Back (λ value. (under : S.Under) (maps : Maps) (objects : ObjectSet) → S.holds store.old under maps → StandsOn (reaches_nodes style.now) maps objects
+        → AreTooMany limits.now.pending (λ set. IsPendingOf style.now objects change.now set) value) store.old store.new result }
 {
     let _entries = change.entries();
     let old = old_relations(alloc, store, change)?;

@@ -6,16 +6,18 @@ ghost use Rattle.osm_base.specs.values.Key.{KeyOf};
 ghost use Rattle.row_map.specs.Condition.{reaches_nodes};
 ghost use Rattle.geom_workers.specs.Keys.{keys_of};
 ghost use Rattle.tile_cover.specs.Runs.{has};
-ghost use Rattle.store_maps.specs.Append.{MayKeep, set_all_rows};
+ghost use Rattle.store_maps.specs.Append.{MayKeep};
 ghost use Rattle.store_maps.specs.Asked.{May};
 ghost use Rattle.store_maps.specs.Maps.{Maps};
 ghost use Rattle.store_maps.specs.Named.{known_on};
 ghost use Rattle.store_maps.specs.Stands.{HoldsRows};
 ghost use Rattle.store_maps.specs.Told.{told_all};
+ghost use Rattle.update_step.specs.Changing.{Replaces};
 ghost use Rattle.update_step.specs.Due.{is_due_key};
-ghost use Rattle.update_step.specs.Ends.{Ends, MayRefuse};
+ghost use Rattle.update_step.specs.Ends.{MayRefuse};
 ghost use Rattle.update_step.specs.Gather.{all_needs};
 ghost use Rattle.update_step.specs.Lacking.{AreLacking};
+ghost use Rattle.update_step.specs.Looks.{Goes};
 ghost use Rattle.update_step.specs.Suffices.{IsBuilt};
 ghost use Rattle.update_step.specs.Touch.{MayAllRows, MayAskAll};
 
@@ -78,22 +80,12 @@ fn replace<S: MapStore>(
     requires spent { S.spent store.old ≡ false }
     requires news { length news.now ≡ length keys.now }
     requires kept { AllByRecursion (MayKeep (S.style store.old).tables) news.now }
-    ensures holds { OnOk result ((under : S.Under) (maps : Maps) (old new : KeyOf → List TableRow) → S.holds store.old under maps → HoldsRows maps old → AreLacking old lacking.now
-        → news.now ≡ map new keys.now → S.holds store.new under (set_all_rows maps new keys.now)) }
-    ensures told { IfOk result (λ changes. (under : S.Under) (maps : Maps) (old new : KeyOf → List TableRow) → S.holds store.old under maps → HoldsRows maps old → AreLacking old lacking.now
-        → news.now ≡ map new keys.now → changes ≡ told_all (length style.now.tables) old new keys.now) }
-    ensures due { OnOk result ((under : S.Under) (maps : Maps) (old new : KeyOf → List TableRow) → S.holds store.old under maps → HoldsRows maps old → AreLacking old lacking.now
-        → news.now ≡ map new keys.now → (zoom x y : ℕ) → has due.new zoom x y ≡ (has due.old zoom x y
-        || list_any (λ key. is_due_key style.now bounds.now (old key) (new key) zoom x y) keys.now)) }
-    ensures looked { (first : S) → S.looked first store.old → S.looked first store.new }
+    ensures replaces { (under : S.Under) (maps : Maps) (old new : KeyOf → List TableRow) → S.holds store.old under maps → HoldsRows maps old → AreLacking old lacking.now
+        → news.now ≡ map new keys.now → Replaces (S.holds store.new under) style.now bounds.now maps keys.now old new (has due.old) (has due.new) result }
     ensures within { (may : May) → MayAllRows may keys.now → S.within may store.old → S.within may store.new }
-    ensures spent { OnOk result (S.spent store.new ≡ false) }
-    ensures ends { IfErr result (Ends
-        (λ refusal. (first : S) → S.looked first store.old → S.bears store.new (S.faults first) refusal)
-        (S.spent store.new ≡ false)
-        (λ _. ⊥)) }
     ensures allowed { (under : S.Under) (maps : Maps) (old new : KeyOf → List TableRow) → S.holds store.old under maps → HoldsRows maps old → AreLacking old lacking.now
         → news.now ≡ map new keys.now → IfErr result (MayRefuse S.allowed) }
+    ensures goes { Goes S.MapStore.own S.Back (λ _. ⊥) store.old store.new result }
 {
     let before = all_before(alloc, store, keys, lacking)?;
     let olds = before.as_slice();
@@ -123,23 +115,14 @@ pub(crate) fn rebuild<S: MapStore, R: Threads + Sync, G: Gate>(
     requires one_worker { 1 ≤ workers }
     requires few_workers { workers ≤ 64 }
     requires few { length (keys_of pending.now) ≤ MAX_KEYS }
-    ensures holds { OnOk result ((under : S.Under) (maps : Maps) (old rows : KeyOf → List TableRow) → S.holds store.old under maps → HoldsRows maps old → AreLacking old lacking.now
-        → IsBuilt style.now maps (keys_of pending.now) rows → S.holds store.new under (set_all_rows maps rows (keys_of pending.now))) }
-    ensures told { IfOk result (λ changes. (under : S.Under) (maps : Maps) (old rows : KeyOf → List TableRow) → S.holds store.old under maps → HoldsRows maps old → AreLacking old lacking.now
-        → IsBuilt style.now maps (keys_of pending.now) rows → changes ≡ told_all (length style.now.tables) old rows (keys_of pending.now)) }
-    ensures due { OnOk result ((under : S.Under) (maps : Maps) (old rows : KeyOf → List TableRow) → S.holds store.old under maps → HoldsRows maps old → AreLacking old lacking.now
-        → IsBuilt style.now maps (keys_of pending.now) rows → (zoom x y : ℕ) → has due.new zoom x y ≡ (has due.old zoom x y
-        || list_any (λ key. is_due_key style.now bounds.now (old key) (rows key) zoom x y) (keys_of pending.now))) }
-    ensures looked { (first : S) → S.looked first store.old → S.looked first store.new }
+    ensures replaces { (under : S.Under) (maps : Maps) (old rows : KeyOf → List TableRow) → S.holds store.old under maps → HoldsRows maps old → AreLacking old lacking.now
+        → IsBuilt style.now maps (keys_of pending.now) rows
+        → Replaces (S.holds store.new under) style.now bounds.now maps (keys_of pending.now) old rows (has due.old) (has due.new) result }
     ensures within { (under : S.Under) (maps : Maps) → S.holds store.old under maps → (may : May)
         → MayAskAll may (all_needs style.now (reaches_nodes style.now) (known_on maps) (keys_of pending.now)) → MayAllRows may (keys_of pending.now) → S.within may store.old → S.within may store.new }
-    ensures spent { OnOk result (S.spent store.new ≡ false) }
-    ensures ends { IfErr result (Ends
-        (λ refusal. (first : S) → S.looked first store.old → S.bears store.new (S.faults first) refusal)
-        (S.spent store.new ≡ false)
-        (λ _. ⊥)) }
     ensures allowed { (under : S.Under) (maps : Maps) (old : KeyOf → List TableRow) → S.holds store.old under maps → HoldsRows maps old → AreLacking old lacking.now
         → IfErr result (MayRefuse S.allowed) }
+    ensures goes { Goes S.MapStore.own S.Back (λ _. ⊥) store.old store.new result }
 {
     let keys = keys_in(alloc, pending)?;
     let keys = keys.as_slice();

@@ -6,6 +6,7 @@ ghost use Rattle.osm_base.specs.values.Key.{KeyOf};
 ghost use Rattle.geom_workers.specs.Keys.{keys_of};
 ghost use Rattle.store_maps.specs.Append.{MayKeep, set_all_rows};
 ghost use Rattle.store_maps.specs.Asked.{May, MayRows};
+ghost use Rattle.store_maps.specs.Looks.{Sets};
 ghost use Rattle.store_maps.specs.Maps.{Maps, all_kept, rows_at, set_rows, unless_empty};
 ghost use Rattle.store_maps.specs.Stands.{HoldsRows};
 ghost use Rattle.update_step.specs.Lacking.{AreLacking};
@@ -108,11 +109,9 @@ fn put_changed<S: MapStore>(
     requires kept { MayKeep (S.style store.old).tables new.now }
     ensures holds { OnOk result ((under : S.Under) (maps : Maps) → S.holds store.old under maps
         → (old.now ≡ new.now → rows_at maps key.kind key.id ≡ unless_empty new.now) → S.holds store.new under (set_rows maps key.kind key.id new.now)) }
-    ensures looked { (first : S) → S.looked first store.old → S.looked first store.new }
     ensures within { (may : May) → MayRows may key → S.within may store.old → S.within may store.new }
-    ensures spent { OnOk result (S.spent store.new ≡ false) }
-    ensures refused { IfErr result (λ refusal. (first : S) → S.looked first store.old → S.bears store.new (S.faults first) refusal) }
     ensures allowed { (under : S.Under) (maps : Maps) → S.holds store.old under maps → IfErr result S.allowed }
+    ensures sets { Sets S.looked S.spent S.bears S.faults store.old store.new result }
 {
     if TableRow::are_same(old, new.as_slice()) {
         return Ok(());
@@ -134,12 +133,10 @@ pub(crate) fn put_rows<S: MapStore>(
     requires kept { AllByRecursion (MayKeep (S.style store.old).tables) news.now }
     ensures holds { OnOk result ((under : S.Under) (maps : Maps) (old new : KeyOf → List RowOfTable) → olds.now ≡ map old keys.now → news.now ≡ map new keys.now
         → HoldsRows maps old → S.holds store.old under maps → S.holds store.new under (set_all_rows maps new keys.now)) }
-    ensures looked { (first : S) → S.looked first store.old → S.looked first store.new }
     ensures within { (may : May) → MayAllRows may keys.now → S.within may store.old → S.within may store.new }
-    ensures spent { OnOk result (S.spent store.new ≡ false) }
-    ensures refused { IfErr result (λ refusal. (first : S) → S.looked first store.old → S.bears store.new (S.faults first) refusal) }
     ensures allowed { (under : S.Under) (maps : Maps) (old new : KeyOf → List RowOfTable) → olds.now ≡ map old keys.now → news.now ≡ map new keys.now
         → HoldsRows maps old → S.holds store.old under maps → IfErr result S.allowed }
+    ensures sets { Sets S.looked S.spent S.bears S.faults store.old store.new result }
 {
     for index in 0..keys.len() {
         put_changed(store, keys[index], olds[index].as_slice(), &news[index])?;

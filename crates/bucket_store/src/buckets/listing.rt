@@ -1,11 +1,8 @@
 //! Which pages the chains of an open store have.
-ghost use Rattle.std.specs.Prelude.{◌≡◌, ◌⊎◌, ◌*◌, ◌+◌, ◌≤◌, ◌<◌, List, ℕ, false, length, IfOk, OnOk};
-ghost use Rattle.outside.specs.Disk.{ReadsAtMost};
+ghost use Rattle.std.specs.Prelude.{◌≡◌, ◌⊎◌, ◌≤◌, ◌<◌, false};
 ghost use Rattle.page_journal.specs.Journal.{home_count};
-ghost use Rattle.chain_store.specs.Chains.{ListsPages, disk_of, first_of, journal_of, read_of};
+ghost use Rattle.chain_store.specs.Chains.{journal_of};
 ghost use Rattle.chain_store.specs.Directories.{IsString};
-ghost use Rattle.chain_store.specs.Known.{MayRead};
-ghost use Rattle.chain_store.specs.declared.layout.TheConstants.{FREE};
 ghost use Rattle.bucket_store.specs.Buckets.{IsBucketChain, bucket_count};
 
 use super::Buckets;
@@ -14,8 +11,9 @@ use outside::Disk;
 use page_journal::StoreFault;
 
 impl<'d, D: Disk> Buckets<'d, D> {
-    ghost use Rattle.bucket_store.specs.Listing.{ListsChain, OnlyLists};
-    ghost use Rattle.bucket_store.specs.Transaction.{IsOpenStore, chains_of, has_refused};
+    ghost use Rattle.bucket_store.specs.Calls.{TouchesChain, TouchesNone};
+    ghost use Rattle.bucket_store.specs.Listing.{ListsChainOf, ListsFree};
+    ghost use Rattle.bucket_store.specs.Transaction.{chains_of, has_refused};
 
     /// How many home pages the store has.
     pub fn pages(&self) -> u64
@@ -28,10 +26,8 @@ impl<'d, D: Disk> Buckets<'d, D> {
     pub fn pages_of(&mut self, n: u32) -> Result<Ids, StoreFault>
         requires chain { (n < 16) ⊎ IsBucketChain (bucket_count (chains_of self.old)) n }
         requires going { has_refused self.old ≡ false }
-        ensures answers { (pages : List (List ℕ)) → IsOpenStore pages self.old → ListsChain pages self.old n result }
-        ensures lists { OnlyLists self.old self.new result }
-        ensures reads { OnOk result (MayRead (4096 * home_count (journal_of (chains_of self.old))) n (read_of (chains_of self.old))
-            (read_of (chains_of self.new)) (disk_of (chains_of self.old)) (disk_of (chains_of self.new))) }
+        ensures lists { ListsChainOf n self.old self.new result }
+        ensures touches { TouchesChain n self.old self.new result }
     {
         if n < 16 {
             return self.pages_of_string(n);
@@ -42,11 +38,8 @@ impl<'d, D: Disk> Buckets<'d, D> {
     /// The free pages of the store, in their order. A commit reads them again.
     pub fn free_pages(&mut self) -> Result<Ids, StoreFault>
         requires going { has_refused self.old ≡ false }
-        ensures answers { (pages : List (List ℕ)) → IsOpenStore pages self.old → ListsPages pages FREE (first_of (chains_of self.old) FREE) result }
-        ensures lists { OnlyLists self.old self.new result }
-        ensures read { read_of (chains_of self.new) ≡ read_of (chains_of self.old) }
-        ensures reads { IfOk result (λ ns. ReadsAtMost (length ns) (4096 * home_count (journal_of (chains_of self.old)))
-            (disk_of (chains_of self.old)) (disk_of (chains_of self.new))) }
+        ensures lists { ListsFree self.old self.new result }
+        ensures touches { TouchesNone self.old self.new result }
     {
         self.refused = true;
         match self.chains.free_pages() {
@@ -62,10 +55,8 @@ impl<'d, D: Disk> Buckets<'d, D> {
     fn pages_of_string(&mut self, n: u32) -> Result<Ids, StoreFault>
         requires string { n < 16 }
         requires going { has_refused self.old ≡ false }
-        ensures answers { (pages : List (List ℕ)) → IsOpenStore pages self.old → ListsChain pages self.old n result }
-        ensures lists { OnlyLists self.old self.new result }
-        ensures reads { OnOk result (MayRead (4096 * home_count (journal_of (chains_of self.old))) n (read_of (chains_of self.old))
-            (read_of (chains_of self.new)) (disk_of (chains_of self.old)) (disk_of (chains_of self.new))) }
+        ensures lists { ListsChainOf n self.old self.new result }
+        ensures touches { TouchesChain n self.old self.new result }
     {
         self.refused = true;
         match self.chains.pages_of(n) {
@@ -83,10 +74,8 @@ impl<'d, D: Disk> Buckets<'d, D> {
         requires bucket { IsBucketChain (bucket_count (chains_of self.old)) n }
         requires some { 1 ≤ bucket_count (chains_of self.old) }
         requires going { has_refused self.old ≡ false }
-        ensures answers { (pages : List (List ℕ)) → IsOpenStore pages self.old → ListsChain pages self.old n result }
-        ensures lists { OnlyLists self.old self.new result }
-        ensures reads { OnOk result (MayRead (4096 * home_count (journal_of (chains_of self.old))) n (read_of (chains_of self.old))
-            (read_of (chains_of self.new)) (disk_of (chains_of self.old)) (disk_of (chains_of self.new))) }
+        ensures lists { ListsChainOf n self.old self.new result }
+        ensures touches { TouchesChain n self.old self.new result }
     {
         if let Err(fault) = self.bring_chain(n) {
             return Err(fault);

@@ -1,18 +1,8 @@
 //! The buckets of an open store are read and looked at.
-ghost use Rattle.std.specs.Prelude.{◌≡◌, ◌≢◌, ◌⊎◌, ◌*◌, ◌+◌, ◌%◌, ◌≤◌, ◌<◌, ◌||◌, List, ℕ, None, Some, false, is_err, IfOk, IsErr, IsSome, OnOk, MatchOption};
+ghost use Rattle.std.specs.Prelude.{◌≡◌, ◌%◌, ◌≤◌, ◌<◌, List, ℕ, None, Some, false, IfOk, IsSome, OnOk, MatchOption};
 ghost use Rattle.std.specs.FinMap as map;
-ghost use Rattle.page_journal.specs.Answers.{HasDiskCause, answers_disk_fault};
-ghost use Rattle.page_journal.specs.Journal.{home_count, is_broken, loan_of};
-ghost use Rattle.page_journal.specs.Journal.{disk_of as disk_under};
-ghost use Rattle.chain_store.specs.Answers.{IsReadAnswer};
-ghost use Rattle.chain_store.specs.Chains.{IsOpen, Loads, OnlyRead, disk_of, first_of, is_refused, journal_of, kept_of, read_of, root_of, written_of};
-ghost use Rattle.chain_store.specs.Directories.{IsString, root_in};
-ghost use Rattle.outside.specs.Disk.{Goes};
-ghost use Rattle.chain_store.specs.State.{HasState, IsState};
-ghost use Rattle.chain_store.specs.declared.root.Root.{Root};
-ghost use Rattle.bucket_store.specs.Committing.{given};
-ghost use Rattle.chain_store.specs.Known.{MayRead};
-ghost use Rattle.bucket_store.specs.Buckets.{AreBuckets, IsBucketChain, bucket_count, chain_at};
+ghost use Rattle.chain_store.specs.Directories.{IsString};
+ghost use Rattle.bucket_store.specs.Buckets.{IsBucketChain, bucket_count};
 ghost use Rattle.bucket_records.specs.Records.{BucketMap};
 
 use super::Buckets;
@@ -22,8 +12,9 @@ use outside::Disk;
 use page_journal::StoreFault;
 
 impl<'d, D: Disk> Buckets<'d, D> {
-    ghost use Rattle.bucket_store.specs.Image.{Has, HasImage, Image, IsBucketOf, IsSoundAnswer, OnlyLooks, RestsAt, with_buckets, with_root, with_text, with_value};
-    ghost use Rattle.bucket_store.specs.Transaction.{BringsBucket, Content, IsOpenStore, cached_of, chains_of, has_refused};
+    ghost use Rattle.bucket_store.specs.Calls.{BringsChain, BringsThere, GetsBytes, GetsRecords, GetsText, Touches, TouchesChain};
+    ghost use Rattle.bucket_store.specs.Image.{Has, Image, IsBucketOf};
+    ghost use Rattle.bucket_store.specs.Transaction.{Content, bucket_at, cached_of, chains_of, has_refused};
     ghost use Rattle.bucket_store.specs.Whole.{SameContents};
 
     /// Reads the bucket of a key, where the transaction has not done so: then its values can be looked at.
@@ -31,25 +22,8 @@ impl<'d, D: Disk> Buckets<'d, D> {
         requires which { which < 8 }
         requires some { 1 ≤ bucket_count (chains_of self.old) }
         requires going { has_refused self.old ≡ false }
-        ensures there { OnOk result (IsSome (map.get (cached_of self.new) (chain_at (bucket_count (chains_of self.old)) which key))) }
-        ensures had { OnOk result ((pages : List (List ℕ)) → IsOpenStore pages self.old
-            → (values : BucketMap) × Content pages self.old (chain_at (bucket_count (chains_of self.old)) which key) values) }
-        ensures answers { (pages : List (List ℕ)) → IsOpenStore pages self.old
-            → BringsBucket pages self.old (chain_at (bucket_count (chains_of self.old)) which key) result }
-        ensures open { (pages : List (List ℕ)) → IsOpenStore pages self.old → IsOpenStore pages self.new }
-        ensures content { (pages : List (List ℕ)) → IsOpenStore pages self.old → (other : ℕ) (values : BucketMap)
-            → Content pages self.old other values → Content pages self.new other values }
-        ensures alone { IsReadAnswer (is_broken (journal_of (chains_of self.old))) result }
-        ensures stays { OnlyRead (chains_of self.old) (chains_of self.new) }
-        ensures broken { is_broken (journal_of (chains_of self.new)) ≡ (is_broken (journal_of (chains_of self.old)) || answers_disk_fault result) }
-        ensures reads { OnOk result (MayRead (4096 * home_count (journal_of (chains_of self.old)))
-            (chain_at (bucket_count (chains_of self.old)) which key) (read_of (chains_of self.old))
-            (read_of (chains_of self.new)) (disk_of (chains_of self.old)) (disk_of (chains_of self.new))) }
-        ensures refused { has_refused self.new ≡ is_err result }
-        ensures cause { HasDiskCause (disk_of (chains_of self.old)).faults (disk_of (chains_of self.new)).faults result }
-        ensures has { OnOk result ((rest now : Image) → Has rest now self.old → Has rest now self.new) }
-        ensures sound { (rest now : Image) → Has rest now self.old → IsSoundAnswer result }
-        ensures same { OnlyLooks self.old self.new }
+        ensures brings { BringsThere which key self.old self.new result }
+        ensures touches { Touches which key self.old self.new result }
     {
         let n = self.chain_of(which, key);
         self.bring_chain(n)
@@ -59,9 +33,8 @@ impl<'d, D: Disk> Buckets<'d, D> {
     pub fn value(&self, which: u8, key: u64) -> Option<&[u8]>
         requires which { which < 8 }
         requires some { 1 ≤ bucket_count (chains_of self.now) }
-        requires there { IsSome (map.get (cached_of self.now) (chain_at (bucket_count (chains_of self.now)) which key)) }
-        ensures value { (pages : List (List ℕ)) (values : BucketMap)
-            → Content pages self.now (chain_at (bucket_count (chains_of self.now)) which key) values
+        requires there { IsSome (map.get (cached_of self.now) (bucket_at self.now which key)) }
+        ensures value { (pages : List (List ℕ)) (values : BucketMap) → Content pages self.now (bucket_at self.now which key) values
             → MatchOption result (map.get values key ≡ None) (λ value. map.get values key ≡ Some value.now) }
         ensures found { (rest now : Image) → Has rest now self.now
             → MatchOption result (map.get (now.maps which) key ≡ None) (λ value. map.get (now.maps which) key ≡ Some value.now) }
@@ -74,25 +47,8 @@ impl<'d, D: Disk> Buckets<'d, D> {
         requires which { which < 8 }
         requires some { 1 ≤ bucket_count (chains_of self.old) }
         requires going { has_refused self.old ≡ false }
-        ensures value { IfOk result (λ found. (pages : List (List ℕ)) → IsOpenStore pages self.old → (values : BucketMap)
-            → Content pages self.old (chain_at (bucket_count (chains_of self.old)) which key) values → found ≡ map.get values key) }
-        ensures answers { (pages : List (List ℕ)) → IsOpenStore pages self.old
-            → BringsBucket pages self.old (chain_at (bucket_count (chains_of self.old)) which key) result }
-        ensures open { (pages : List (List ℕ)) → IsOpenStore pages self.old → IsOpenStore pages self.new }
-        ensures content { (pages : List (List ℕ)) → IsOpenStore pages self.old → (other : ℕ) (values : BucketMap)
-            → Content pages self.old other values → Content pages self.new other values }
-        ensures alone { IsReadAnswer (is_broken (journal_of (chains_of self.old))) result }
-        ensures stays { OnlyRead (chains_of self.old) (chains_of self.new) }
-        ensures broken { is_broken (journal_of (chains_of self.new)) ≡ (is_broken (journal_of (chains_of self.old)) || answers_disk_fault result) }
-        ensures reads { OnOk result (MayRead (4096 * home_count (journal_of (chains_of self.old)))
-            (chain_at (bucket_count (chains_of self.old)) which key) (read_of (chains_of self.old))
-            (read_of (chains_of self.new)) (disk_of (chains_of self.old)) (disk_of (chains_of self.new))) }
-        ensures refused { has_refused self.new ≡ is_err result }
-        ensures cause { HasDiskCause (disk_of (chains_of self.old)).faults (disk_of (chains_of self.new)).faults result }
-        ensures found { IfOk result (λ found. (rest now : Image) → Has rest now self.old → found ≡ map.get (now.maps which) key) }
-        ensures has { OnOk result ((rest now : Image) → Has rest now self.old → Has rest now self.new) }
-        ensures sound { (rest now : Image) → Has rest now self.old → IsSoundAnswer result }
-        ensures same { OnlyLooks self.old self.new }
+        ensures bytes { GetsBytes which key self.old self.new result }
+        ensures touches { Touches which key self.old self.new result }
     {
         if let Err(fault) = self.bring(which, key) {
             return Err(fault);
@@ -110,9 +66,9 @@ impl<'d, D: Disk> Buckets<'d, D> {
     fn copied(&self, which: u8, key: u64) -> Result<Option<Bytes>, OutOfMemory>
         requires which { which < 8 }
         requires some { 1 ≤ bucket_count (chains_of self.now) }
-        requires there { IsSome (map.get (cached_of self.now) (chain_at (bucket_count (chains_of self.now)) which key)) }
+        requires there { IsSome (map.get (cached_of self.now) (bucket_at self.now which key)) }
         ensures value { IfOk result (λ found. (pages : List (List ℕ)) (values : BucketMap)
-            → Content pages self.now (chain_at (bucket_count (chains_of self.now)) which key) values → found ≡ map.get values key) }
+            → Content pages self.now (bucket_at self.now which key) values → found ≡ map.get values key) }
         ensures found { IfOk result (λ found. (rest now : Image) → Has rest now self.now → found ≡ map.get (now.maps which) key) }
     {
         match self.value(which, key) {
@@ -129,25 +85,8 @@ impl<'d, D: Disk> Buckets<'d, D> {
         requires which { which < 8 }
         requires some { 1 ≤ bucket_count (chains_of self.old) }
         requires going { has_refused self.old ≡ false }
-        ensures records { IfOk result (λ records. (pages : List (List ℕ)) → IsOpenStore pages self.old → (values : BucketMap)
-            → Content pages self.old (chain_at (bucket_count (chains_of self.old)) which key) values → records.items ≡ map.entries values) }
-        ensures answers { (pages : List (List ℕ)) → IsOpenStore pages self.old
-            → BringsBucket pages self.old (chain_at (bucket_count (chains_of self.old)) which key) result }
-        ensures open { (pages : List (List ℕ)) → IsOpenStore pages self.old → IsOpenStore pages self.new }
-        ensures content { (pages : List (List ℕ)) → IsOpenStore pages self.old → (other : ℕ) (values : BucketMap)
-            → Content pages self.old other values → Content pages self.new other values }
-        ensures alone { IsReadAnswer (is_broken (journal_of (chains_of self.old))) result }
-        ensures stays { OnlyRead (chains_of self.old) (chains_of self.new) }
-        ensures broken { is_broken (journal_of (chains_of self.new)) ≡ (is_broken (journal_of (chains_of self.old)) || answers_disk_fault result) }
-        ensures reads { OnOk result (MayRead (4096 * home_count (journal_of (chains_of self.old)))
-            (chain_at (bucket_count (chains_of self.old)) which key) (read_of (chains_of self.old))
-            (read_of (chains_of self.new)) (disk_of (chains_of self.old)) (disk_of (chains_of self.new))) }
-        ensures refused { has_refused self.new ≡ is_err result }
-        ensures cause { HasDiskCause (disk_of (chains_of self.old)).faults (disk_of (chains_of self.new)).faults result }
-        ensures found { IfOk result (λ records. (rest now : Image) → Has rest now self.old → IsBucketOf now which (key % now.root.buckets) records.items) }
-        ensures has { OnOk result ((rest now : Image) → Has rest now self.old → Has rest now self.new) }
-        ensures sound { (rest now : Image) → Has rest now self.old → IsSoundAnswer result }
-        ensures same { OnlyLooks self.old self.new }
+        ensures records { GetsRecords which key self.old self.new result }
+        ensures touches { Touches which key self.old self.new result }
     {
         if let Err(fault) = self.bring(which, key) {
             return Err(fault);
@@ -165,9 +104,9 @@ impl<'d, D: Disk> Buckets<'d, D> {
     fn listed(&self, which: u8, key: u64) -> Result<Vec<(u64, Bytes)>, OutOfMemory>
         requires which { which < 8 }
         requires some { 1 ≤ bucket_count (chains_of self.now) }
-        requires there { IsSome (map.get (cached_of self.now) (chain_at (bucket_count (chains_of self.now)) which key)) }
+        requires there { IsSome (map.get (cached_of self.now) (bucket_at self.now which key)) }
         ensures records { IfOk result (λ records. (pages : List (List ℕ)) (values : BucketMap)
-            → Content pages self.now (chain_at (bucket_count (chains_of self.now)) which key) values → records.items ≡ map.entries values) }
+            → Content pages self.now (bucket_at self.now which key) values → records.items ≡ map.entries values) }
         ensures found { IfOk result (λ records. (rest now : Image) → Has rest now self.now → IsBucketOf now which (key % now.root.buckets) records.items) }
     {
         self.cache.records(self.chain_of(which, key))
@@ -177,23 +116,8 @@ impl<'d, D: Disk> Buckets<'d, D> {
     pub fn load(&mut self, n: u32) -> Result<Bytes, StoreFault>
         requires string { n < 8 }
         requires going { has_refused self.old ≡ false }
-        ensures answers { (pages : List (List ℕ)) → IsOpenStore pages self.old
-            → Loads pages n (first_of (chains_of self.old) n) (map.get (written_of (chains_of self.old)) n) result }
-        ensures open { (pages : List (List ℕ)) → IsOpenStore pages self.old → IsOpenStore pages self.new }
-        ensures content { (pages : List (List ℕ)) → IsOpenStore pages self.old → (other : ℕ) (values : BucketMap)
-            → Content pages self.old other values → Content pages self.new other values }
-        ensures alone { IsReadAnswer (is_broken (journal_of (chains_of self.old))) result }
-        ensures stays { OnlyRead (chains_of self.old) (chains_of self.new) }
-        ensures broken { is_broken (journal_of (chains_of self.new)) ≡ (is_broken (journal_of (chains_of self.old)) || answers_disk_fault result) }
-        ensures reads { OnOk result (MayRead (4096 * home_count (journal_of (chains_of self.old)))
-            n (read_of (chains_of self.old))
-            (read_of (chains_of self.new)) (disk_of (chains_of self.old)) (disk_of (chains_of self.new))) }
-        ensures refused { has_refused self.new ≡ is_err result }
-        ensures cause { HasDiskCause (disk_of (chains_of self.old)).faults (disk_of (chains_of self.new)).faults result }
-        ensures found { IfOk result (λ bytes. (rest now : Image) → Has rest now self.old → bytes ≡ now.texts n) }
-        ensures has { OnOk result ((rest now : Image) → Has rest now self.old → Has rest now self.new) }
-        ensures sound { (rest now : Image) → Has rest now self.old → IsSoundAnswer result }
-        ensures same { OnlyLooks self.old self.new }
+        ensures text { GetsText n self.old self.new result }
+        ensures touches { TouchesChain n self.old self.new result }
     {
         self.refused = true;
         match self.chains.load(n) {
@@ -211,22 +135,9 @@ impl<'d, D: Disk> Buckets<'d, D> {
         requires bucket { IsBucketChain (bucket_count (chains_of self.old)) n }
         requires some { 1 ≤ bucket_count (chains_of self.old) }
         requires going { has_refused self.old ≡ false }
-        ensures there { OnOk result (IsSome (map.get (cached_of self.new) n)) }
-        ensures had { OnOk result ((pages : List (List ℕ)) → IsOpenStore pages self.old → (values : BucketMap) × Content pages self.old n values) }
-        ensures answers { (pages : List (List ℕ)) → IsOpenStore pages self.old → BringsBucket pages self.old n result }
-        ensures open { (pages : List (List ℕ)) → IsOpenStore pages self.old → IsOpenStore pages self.new }
-        ensures content { (pages : List (List ℕ)) → IsOpenStore pages self.old → (other : ℕ) (values : BucketMap)
-            → Content pages self.old other values → Content pages self.new other values }
-        ensures alone { IsReadAnswer (is_broken (journal_of (chains_of self.old))) result }
-        ensures stays { OnlyRead (chains_of self.old) (chains_of self.new) }
-        ensures broken { is_broken (journal_of (chains_of self.new)) ≡ (is_broken (journal_of (chains_of self.old)) || answers_disk_fault result) }
-        ensures reads { OnOk result (MayRead (4096 * home_count (journal_of (chains_of self.old))) n (read_of (chains_of self.old))
-            (read_of (chains_of self.new)) (disk_of (chains_of self.old)) (disk_of (chains_of self.new))) }
-        ensures refused { has_refused self.new ≡ is_err result }
-        ensures cause { HasDiskCause (disk_of (chains_of self.old)).faults (disk_of (chains_of self.new)).faults result }
+        ensures brings { BringsChain n self.old self.new result }
         ensures contents { OnOk result (SameContents self.old self.new) }
-        ensures has { OnOk result ((rest now : Image) → Has rest now self.old → Has rest now self.new) }
-        ensures same { OnlyLooks self.old self.new }
+        ensures touches { TouchesChain n self.old self.new result }
     {
         if self.cache.has(n) {
             return Ok(());

@@ -1,13 +1,9 @@
 //! What a transaction has written is made to stand.
-ghost use Rattle.std.specs.Prelude.{◌≡◌, ◌≢◌, ◌*◌, ◌⊎◌, ◌≤◌, ◌<◌, ◌||◌, List, ℕ, false, is_err, IfOk, IsErr, IsSome, IsTrue, OnOk, Some};
+ghost use Rattle.std.specs.Prelude.{◌≡◌, ◌⊎◌, ◌≤◌, ◌<◌, List, ℕ, false, is_err, IfOk, IsSome, OnOk, Some};
 ghost use Rattle.std.specs.FinMap as map;
-ghost use Rattle.std.specs.Int.{is_power_of_two};
 ghost use Rattle.outside.specs.Disk.{Goes};
-ghost use Rattle.page_journal.specs.Answers.{HasDiskCause, answers_disk_fault};
-ghost use Rattle.page_journal.specs.Journal.{home_count, is_broken, loan_of, page_limit};
-ghost use Rattle.chain_store.specs.Answers.{Looked};
-ghost use Rattle.chain_store.specs.Directories.{root_in};
-ghost use Rattle.chain_store.specs.Ends.{Ends, IsCommitAnswer, ReadsFree};
+ghost use Rattle.page_journal.specs.Journal.{home_count, page_limit};
+ghost use Rattle.chain_store.specs.Ends.{Ends, ReadsFree};
 ghost use Rattle.chain_store.specs.Known.{changed};
 ghost use Rattle.chain_store.specs.Needed.{FitsNeeded, needed};
 ghost use Rattle.chain_store.specs.State.{HasState, IsState};
@@ -38,6 +34,7 @@ pub(crate) struct Taken {
 
 impl<'d, D: Disk> Chains<'d, D> {
     ghost use Rattle.chain_store.specs.Chains.{IsOpen, IsOpenStore, before_of, disk_of, is_refused, journal_of, kept_of, read_of, root_of, texts_of, written_of};
+    ghost use Rattle.chain_store.specs.StoreCalls.{CommitsStore, IsBegun};
     ghost use Rattle.chain_store.specs.Taken.{MayCommit};
 
     /// Makes what was written stand, all of it or nothing, and begins a transaction anew. At every moment a crash
@@ -55,19 +52,10 @@ impl<'d, D: Disk> Chains<'d, D> {
         ensures needs { (root : Root) (strings : ℕ → List ℕ) (pages : List (List ℕ)) → IsOpen pages self.old → IsState root strings pages
             → FitsNeeded (needed (home_count (journal_of self.old)) (root_of self.old).buckets (changed strings (written_of self.old)))
             (page_limit (journal_of self.old)) (home_count (journal_of self.new)) result }
-        ensures alone { IsCommitAnswer (is_broken (journal_of self.old)) (page_limit (journal_of self.old)) result }
-        ensures open { IsErr result → answers_disk_fault result ≡ false → (pages : List (List ℕ)) → IsOpen pages self.old → IsOpen pages self.new }
-        ensures looked { IsErr result → answers_disk_fault result ≡ false → Looked (journal_of self.old) (journal_of self.new) }
         ensures reads { OnOk result (ReadsFree (journal_of self.old) (kept_of self.old) (journal_of self.new)) }
-        ensures read { read_of self.new ≡ map.empty }
-        ensures written { written_of self.new ≡ map.empty }
-        ensures root { root_of self.new ≡ root_in (kept_of self.new).front.items }
-        ensures kept { IsErr result → kept_of self.new ≡ kept_of self.old }
+        ensures begun { IsBegun self.new }
         ensures refused { is_refused self.new ≡ is_err result }
-        ensures same_disk { loan_of (journal_of self.new) ≡ loan_of (journal_of self.old) }
-        ensures limit { page_limit (journal_of self.new) ≡ page_limit (journal_of self.old) }
-        ensures broken { is_broken (journal_of self.new) ≡ (is_broken (journal_of self.old) || answers_disk_fault result) }
-        ensures cause { HasDiskCause (disk_of self.old).faults (disk_of self.new).faults result }
+        ensures commits { CommitsStore self.old self.new result }
     {
         let taken = self.take();
         let outcome = self.write(taken);
@@ -84,11 +72,7 @@ impl<'d, D: Disk> Chains<'d, D> {
         ensures was_root { result.root ≡ root_of self.old }
         ensures journal { journal_of self.new ≡ journal_of self.old }
         ensures kept { kept_of self.new ≡ kept_of self.old }
-        ensures read { read_of self.new ≡ map.empty }
-        ensures written { written_of self.new ≡ map.empty }
-        ensures before { before_of self.new ≡ map.empty }
-        ensures texts { texts_of self.new ≡ map.empty }
-        ensures root { root_of self.new ≡ root_in (kept_of self.old).front.items }
+        ensures begun { IsBegun self.new }
     {
         let root = self.kept.root();
         let taken = Taken {
@@ -105,11 +89,7 @@ impl<'d, D: Disk> Chains<'d, D> {
     // Writes what was taken out of the transaction.
     fn write(&mut self, taken: Taken) -> Result<(), StoreFault>
         requires may { MayCommit (journal_of self.old) (kept_of self.old) taken }
-        requires read { read_of self.old ≡ map.empty }
-        requires written { written_of self.old ≡ map.empty }
-        requires before { before_of self.old ≡ map.empty }
-        requires texts { texts_of self.old ≡ map.empty }
-        requires root { root_of self.old ≡ root_in (kept_of self.old).front.items }
+        requires begun { IsBegun self.old }
         ensures any_moment { (root : Root) (strings : ℕ → List ℕ) (pages : List (List ℕ))
             → IsOpenStore pages (journal_of self.old) (kept_of self.old) taken.read (texts_of self.old) taken.written taken.before → IsState root strings pages
             → Goes (λ left. HasState root strings left ⊎ HasState taken.root (changed strings taken.written) left)
@@ -124,18 +104,9 @@ impl<'d, D: Disk> Chains<'d, D> {
             → IsOpenStore pages (journal_of self.old) (kept_of self.old) taken.read (texts_of self.old) taken.written taken.before → IsState root strings pages
             → FitsNeeded (needed (home_count (journal_of self.old)) taken.root.buckets (changed strings taken.written))
             (page_limit (journal_of self.old)) (home_count (journal_of self.new)) result }
-        ensures alone { IsCommitAnswer (is_broken (journal_of self.old)) (page_limit (journal_of self.old)) result }
-        ensures open { IsErr result → answers_disk_fault result ≡ false → (pages : List (List ℕ)) → IsOpen pages self.old → IsOpen pages self.new }
-        ensures looked { IsErr result → answers_disk_fault result ≡ false → Looked (journal_of self.old) (journal_of self.new) }
         ensures reads { OnOk result (ReadsFree (journal_of self.old) (kept_of self.old) (journal_of self.new)) }
-        ensures is_read { read_of self.new ≡ map.empty }
-        ensures is_written { written_of self.new ≡ map.empty }
-        ensures is_root { root_of self.new ≡ root_in (kept_of self.new).front.items }
-        ensures kept { IsErr result → kept_of self.new ≡ kept_of self.old }
-        ensures same_disk { loan_of (journal_of self.new) ≡ loan_of (journal_of self.old) }
-        ensures limit { page_limit (journal_of self.new) ≡ page_limit (journal_of self.old) }
-        ensures broken { is_broken (journal_of self.new) ≡ (is_broken (journal_of self.old) || answers_disk_fault result) }
-        ensures cause { HasDiskCause (disk_of self.old).faults (disk_of self.new).faults result }
+        ensures still { IsBegun self.new }
+        ensures commits { CommitsStore self.old self.new result }
     {
         let root = taken.root;
         let home = self.journal.pages();

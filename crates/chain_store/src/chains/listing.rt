@@ -1,11 +1,9 @@
 //! Which pages the chains of an open store have.
-ghost use Rattle.std.specs.Prelude.{◌≡◌, ◌*◌, ◌<◌, ◌||◌, List, ℕ, Some, false, is_err, length, IfOk, IsSome, OnOk};
+ghost use Rattle.std.specs.Prelude.{◌≡◌, ◌*◌, ◌<◌, List, ℕ, Some, false, is_err, length, IfOk, IsSome, OnOk};
 ghost use Rattle.outside.specs.Disk.{ReadsAtMost};
 ghost use Rattle.chain_store.specs.declared.layout.TheConstants.{FREE};
 ghost use Rattle.std.specs.FinMap as map;
-ghost use Rattle.page_journal.specs.Answers.{HasDiskCause, answers_disk_fault};
-ghost use Rattle.page_journal.specs.Journal.{home_count, is_broken};
-ghost use Rattle.chain_store.specs.Answers.{IsReadAnswer};
+ghost use Rattle.page_journal.specs.Journal.{home_count};
 ghost use Rattle.chain_store.specs.Directories.{IsChain};
 ghost use Rattle.chain_store.specs.Known.{MayRead};
 
@@ -17,21 +15,17 @@ use outside::Disk;
 use page_journal::StoreFault;
 
 impl<'d, D: Disk> Chains<'d, D> {
-    ghost use Rattle.chain_store.specs.Chains.{IsOpen, ListsPages, OnlyRead, disk_of, first_of, is_refused, journal_of, read_of};
+    ghost use Rattle.chain_store.specs.Chains.{IsOpen, ListsPages, disk_of, first_of, is_refused, journal_of, read_of};
+    ghost use Rattle.chain_store.specs.StoreCalls.{LooksAtStore};
 
     /// The pages that a chain has in the store, in their order.
     pub fn pages_of(&mut self, n: u32) -> Result<Ids, StoreFault>
         requires chain { IsChain n }
         requires going { is_refused self.old ≡ false }
         ensures answers { (pages : List (List ℕ)) → IsOpen pages self.old → ListsPages pages n (first_of self.old n) result }
-        ensures open { (pages : List (List ℕ)) → IsOpen pages self.old → IsOpen pages self.new }
-        ensures alone { IsReadAnswer (is_broken (journal_of self.old)) result }
-        ensures stays { OnlyRead self.old self.new }
-        ensures broken { is_broken (journal_of self.new) ≡ (is_broken (journal_of self.old) || answers_disk_fault result) }
         ensures reads { OnOk result (MayRead (4096 * home_count (journal_of self.old)) n (read_of self.old) (read_of self.new)
             (disk_of self.old) (disk_of self.new)) }
-        ensures refused { is_refused self.new ≡ is_err result }
-        ensures cause { HasDiskCause (disk_of self.old).faults (disk_of self.new).faults result }
+        ensures looks { LooksAtStore (is_err result) self.old self.new result }
     {
         if let Err(fault) = self.bring(n) {
             self.refused = true;
@@ -50,14 +44,9 @@ impl<'d, D: Disk> Chains<'d, D> {
     pub fn free_pages(&mut self) -> Result<Ids, StoreFault>
         requires going { is_refused self.old ≡ false }
         ensures answers { (pages : List (List ℕ)) → IsOpen pages self.old → ListsPages pages FREE (first_of self.old FREE) result }
-        ensures open { (pages : List (List ℕ)) → IsOpen pages self.old → IsOpen pages self.new }
-        ensures alone { IsReadAnswer (is_broken (journal_of self.old)) result }
-        ensures stays { OnlyRead self.old self.new }
-        ensures broken { is_broken (journal_of self.new) ≡ (is_broken (journal_of self.old) || answers_disk_fault result) }
         ensures read { read_of self.new ≡ read_of self.old }
         ensures reads { IfOk result (λ ns. ReadsAtMost (length ns) (4096 * home_count (journal_of self.old)) (disk_of self.old) (disk_of self.new)) }
-        ensures refused { is_refused self.new ≡ is_err result }
-        ensures cause { HasDiskCause (disk_of self.old).faults (disk_of self.new).faults result }
+        ensures looks { LooksAtStore (is_err result) self.old self.new result }
     {
         let first = self.kept.first(FREE);
         match walk(self.alloc, &mut self.journal, first, FREE) {

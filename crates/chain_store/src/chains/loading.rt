@@ -1,13 +1,10 @@
 //! Chains are read, and what they are to have is noted.
-ghost use Rattle.std.specs.Prelude.{◌≡◌, ◌*◌, ◌⊎◌, ◌≤◌, ◌<◌, ◌||◌, List, ℕ, None, Some, false, is_err, IfOk, IfSome, IsSome, OnErr, OnOk};
+ghost use Rattle.std.specs.Prelude.{◌≡◌, ◌*◌, ◌⊎◌, ◌<◌, List, ℕ, None, Some, false, is_err, IfOk, IfSome, IsSome, OnOk};
 ghost use Rattle.std.specs.FinMap as map;
 ghost use Rattle.std.specs.Option.{IsNone};
-ghost use Rattle.outside.specs.Disk.{ReadsAtMost};
-ghost use Rattle.page_journal.specs.Answers.{HasDiskCause, answers_disk_fault};
-ghost use Rattle.page_journal.specs.Journal.{home_count, is_broken};
-ghost use Rattle.chain_store.specs.Answers.{IsReadAnswer, Looked};
+ghost use Rattle.page_journal.specs.Journal.{home_count};
 ghost use Rattle.chain_store.specs.Directories.{IsChain, IsString};
-ghost use Rattle.chain_store.specs.Known.{MayRead, MayReadAgain, ReadsChain};
+ghost use Rattle.chain_store.specs.Known.{ReadsChain};
 
 use super::Chains;
 use crate::layout::BUCKET;
@@ -20,27 +17,15 @@ use page_journal::StoreFault;
 use std::alloc::Global;
 
 impl<'d, D: Disk> Chains<'d, D> {
-    ghost use Rattle.chain_store.specs.Chains.{Brings, IsMarked, IsOpen, LoadedIs, Loads, OnlyRead, disk_of, first_of, is_refused, journal_of, kept_of, read_of, root_of, texts_of, written_of};
+    ghost use Rattle.chain_store.specs.Chains.{IsMarked, IsOpen, LoadedIs, Loads, disk_of, first_of, is_refused, journal_of, kept_of, read_of, root_of, texts_of, written_of};
+    ghost use Rattle.chain_store.specs.StoreCalls.{BringsChain, ChangesString, LoadsChain, LooksAtStore, PutsString};
 
     /// The bytes of a chain, as the transaction has them. A bucket that is loaded again is read again.
     pub fn load(&mut self, n: u32) -> Result<Bytes, StoreFault>
         requires string { IsString (root_of self.old).buckets n }
         requires going { is_refused self.old ≡ false }
-        ensures answers { (pages : List (List ℕ)) → IsOpen pages self.old
-            → Loads pages n (first_of self.old n) (map.get (written_of self.old) n) result }
-        ensures open { (pages : List (List ℕ)) → IsOpen pages self.old → IsOpen pages self.new }
-        ensures alone { IsReadAnswer (is_broken (journal_of self.old)) result }
-        ensures stays { OnlyRead self.old self.new }
-        ensures broken { is_broken (journal_of self.new) ≡ (is_broken (journal_of self.old) || answers_disk_fault result) }
-        ensures reads { OnOk result (n < 16 ⊎ (map.get (read_of self.old) n ≡ None)
-            → MayRead (4096 * home_count (journal_of self.old)) n (read_of self.old) (read_of self.new) (disk_of self.old) (disk_of self.new)) }
-        ensures again { OnOk result (MayReadAgain (4096 * home_count (journal_of self.old)) n (read_of self.old) (read_of self.new)
-            (disk_of self.old) (disk_of self.new)) }
-        ensures own { IsSome (map.get (written_of self.old) n) → (read_of self.new ≡ read_of self.old)
-            × ReadsAtMost 0 (4096 * home_count (journal_of self.old)) (disk_of self.old) (disk_of self.new) }
-        ensures known { OnOk result (map.get (written_of self.old) n ≡ None → IsSome (map.get (read_of self.new) n)) }
-        ensures refused { is_refused self.new ≡ is_err result }
-        ensures cause { HasDiskCause (disk_of self.old).faults (disk_of self.new).faults result }
+        ensures loads { LoadsChain n self.old self.new result }
+        ensures looks { LooksAtStore (is_err result) self.old self.new result }
     {
         let loaded = self.loaded(n);
         self.refused = loaded.is_err();
@@ -51,23 +36,10 @@ impl<'d, D: Disk> Chains<'d, D> {
     pub fn store(&mut self, n: u32, bytes: Bytes) -> Result<(), StoreFault>
         requires string { IsString (root_of self.old).buckets n }
         requires going { is_refused self.old ≡ false }
-        ensures written { OnOk result (written_of self.new ≡ map.insert (written_of self.old) n bytes) }
-        ensures err { OnErr result (written_of self.new ≡ written_of self.old) }
-        ensures answers { (pages : List (List ℕ)) → IsOpen pages self.old
-            → Brings pages n (first_of self.old n) (map.get (read_of self.old) n) result }
+        ensures puts { PutsString n bytes self.old self.new result }
         ensures open { (pages : List (List ℕ)) → IsOpen pages self.old → IsOpen pages self.new }
-        ensures alone { IsReadAnswer (is_broken (journal_of self.old)) result }
-        ensures looked { Looked (journal_of self.old) (journal_of self.new) }
-        ensures kept { kept_of self.new ≡ kept_of self.old }
-        ensures root { root_of self.new ≡ root_of self.old }
-        ensures broken { is_broken (journal_of self.new) ≡ (is_broken (journal_of self.old) || answers_disk_fault result) }
-        ensures reads { OnOk result (MayRead (4096 * home_count (journal_of self.old)) n (read_of self.old) (read_of self.new)
-            (disk_of self.old) (disk_of self.new)) }
-        ensures own { IsSome (map.get (read_of self.old) n) → (read_of self.new ≡ read_of self.old)
-            × ReadsAtMost 0 (4096 * home_count (journal_of self.old)) (disk_of self.old) (disk_of self.new) }
-        ensures known { OnOk result (IsSome (map.get (read_of self.new) n)) }
-        ensures refused { is_refused self.new ≡ is_err result }
-        ensures cause { HasDiskCause (disk_of self.old).faults (disk_of self.new).faults result }
+        ensures brings { BringsChain n self.old self.new result }
+        ensures changes { ChangesString self.old self.new result }
     {
         if let Err(fault) = self.bring(n) {
             self.refused = true;
@@ -85,24 +57,11 @@ impl<'d, D: Disk> Chains<'d, D> {
     pub fn store_over(&mut self, n: u32, before: Bytes, bytes: Bytes) -> Result<(), StoreFault>
         requires string { IsString (root_of self.old).buckets n }
         requires going { is_refused self.old ≡ false }
-        ensures written { OnOk result (written_of self.new ≡ map.insert (written_of self.old) n bytes) }
-        ensures err { OnErr result (written_of self.new ≡ written_of self.old) }
-        ensures answers { (pages : List (List ℕ)) → IsOpen pages self.old
-            → Brings pages n (first_of self.old n) (map.get (read_of self.old) n) result }
+        ensures puts { PutsString n bytes self.old self.new result }
         ensures open { (pages : List (List ℕ)) → IsOpen pages self.old
             → LoadedIs pages n (first_of self.old n) (map.get (written_of self.old) n) before → IsOpen pages self.new }
-        ensures alone { IsReadAnswer (is_broken (journal_of self.old)) result }
-        ensures looked { Looked (journal_of self.old) (journal_of self.new) }
-        ensures kept { kept_of self.new ≡ kept_of self.old }
-        ensures root { root_of self.new ≡ root_of self.old }
-        ensures broken { is_broken (journal_of self.new) ≡ (is_broken (journal_of self.old) || answers_disk_fault result) }
-        ensures reads { OnOk result (MayRead (4096 * home_count (journal_of self.old)) n (read_of self.old) (read_of self.new)
-            (disk_of self.old) (disk_of self.new)) }
-        ensures own { IsSome (map.get (read_of self.old) n) → (read_of self.new ≡ read_of self.old)
-            × ReadsAtMost 0 (4096 * home_count (journal_of self.old)) (disk_of self.old) (disk_of self.new) }
-        ensures known { OnOk result (IsSome (map.get (read_of self.new) n)) }
-        ensures refused { is_refused self.new ≡ is_err result }
-        ensures cause { HasDiskCause (disk_of self.old).faults (disk_of self.new).faults result }
+        ensures brings { BringsChain n self.old self.new result }
+        ensures changes { ChangesString self.old self.new result }
     {
         if let Err(fault) = self.bring(n) {
             self.refused = true;
@@ -148,8 +107,7 @@ impl<'d, D: Disk> Chains<'d, D> {
     ) -> Result<(), OutOfMemory>
         requires string { IsString (root_of self.old).buckets n }
         requires brought { IsSome (map.get (read_of self.old) n) }
-        ensures written { OnOk result (written_of self.new ≡ map.insert (written_of self.old) n bytes) }
-        ensures err { OnErr result (written_of self.new ≡ written_of self.old) }
+        ensures puts { PutsString n bytes self.old self.new result }
         ensures open { (pages : List (List ℕ)) → IsOpen pages self.old
             → IfOk same (λ same. IsMarked pages n (first_of self.old n) same bytes) → IsOpen pages self.new }
         ensures journal { journal_of self.new ≡ journal_of self.old }
@@ -175,21 +133,8 @@ impl<'d, D: Disk> Chains<'d, D> {
     // What was written, or else what stands in the store.
     fn loaded(&mut self, n: u32) -> Result<Bytes, StoreFault>
         requires string { IsString (root_of self.old).buckets n }
-        ensures answers { (pages : List (List ℕ)) → IsOpen pages self.old
-            → Loads pages n (first_of self.old n) (map.get (written_of self.old) n) result }
-        ensures open { (pages : List (List ℕ)) → IsOpen pages self.old → IsOpen pages self.new }
-        ensures alone { IsReadAnswer (is_broken (journal_of self.old)) result }
-        ensures stays { OnlyRead self.old self.new }
-        ensures broken { is_broken (journal_of self.new) ≡ (is_broken (journal_of self.old) || answers_disk_fault result) }
-        ensures reads { OnOk result (n < 16 ⊎ (map.get (read_of self.old) n ≡ None)
-            → MayRead (4096 * home_count (journal_of self.old)) n (read_of self.old) (read_of self.new) (disk_of self.old) (disk_of self.new)) }
-        ensures again { OnOk result (MayReadAgain (4096 * home_count (journal_of self.old)) n (read_of self.old) (read_of self.new)
-            (disk_of self.old) (disk_of self.new)) }
-        ensures own { IsSome (map.get (written_of self.old) n) → (read_of self.new ≡ read_of self.old)
-            × ReadsAtMost 0 (4096 * home_count (journal_of self.old)) (disk_of self.old) (disk_of self.new) }
-        ensures known { OnOk result (map.get (written_of self.old) n ≡ None → IsSome (map.get (read_of self.new) n)) }
-        ensures going { is_refused self.new ≡ is_refused self.old }
-        ensures cause { HasDiskCause (disk_of self.old).faults (disk_of self.new).faults result }
+        ensures loads { LoadsChain n self.old self.new result }
+        ensures looks { LooksAtStore (is_refused self.old) self.old self.new result }
     {
         if let Some(own) = self.written.get(n) {
             return Ok(own.copy(self.alloc)?);
@@ -215,19 +160,8 @@ impl<'d, D: Disk> Chains<'d, D> {
     // Reads a chain of the store, where that was not done yet.
     pub(super) fn bring(&mut self, n: u32) -> Result<(), StoreFault>
         requires string { IsChain n }
-        ensures answers { (pages : List (List ℕ)) → IsOpen pages self.old
-            → Brings pages n (first_of self.old n) (map.get (read_of self.old) n) result }
-        ensures open { (pages : List (List ℕ)) → IsOpen pages self.old → IsOpen pages self.new }
-        ensures alone { IsReadAnswer (is_broken (journal_of self.old)) result }
-        ensures stays { OnlyRead self.old self.new }
-        ensures broken { is_broken (journal_of self.new) ≡ (is_broken (journal_of self.old) || answers_disk_fault result) }
-        ensures reads { OnOk result (MayRead (4096 * home_count (journal_of self.old)) n (read_of self.old) (read_of self.new)
-            (disk_of self.old) (disk_of self.new)) }
-        ensures own { IsSome (map.get (read_of self.old) n) → (read_of self.new ≡ read_of self.old)
-            × ReadsAtMost 0 (4096 * home_count (journal_of self.old)) (disk_of self.old) (disk_of self.new) }
-        ensures known { OnOk result (IsSome (map.get (read_of self.new) n)) }
-        ensures going { is_refused self.new ≡ is_refused self.old }
-        ensures cause { HasDiskCause (disk_of self.old).faults (disk_of self.new).faults result }
+        ensures brings { BringsChain n self.old self.new result }
+        ensures looks { LooksAtStore (is_refused self.old) self.old self.new result }
     {
         if self.read.get(n).is_some() {
             return Ok(());
@@ -242,15 +176,10 @@ impl<'d, D: Disk> Chains<'d, D> {
     fn fetch(&mut self, n: u32) -> Result<Bytes, StoreFault>
         requires string { IsChain n }
         ensures answers { (pages : List (List ℕ)) → IsOpen pages self.old → Loads pages n (first_of self.old n) None result }
-        ensures open { (pages : List (List ℕ)) → IsOpen pages self.old → IsOpen pages self.new }
-        ensures alone { IsReadAnswer (is_broken (journal_of self.old)) result }
-        ensures stays { OnlyRead self.old self.new }
-        ensures broken { is_broken (journal_of self.new) ≡ (is_broken (journal_of self.old) || answers_disk_fault result) }
         ensures reads { OnOk result (ReadsChain (4096 * home_count (journal_of self.old)) n (read_of self.old) (read_of self.new)
             (disk_of self.old) (disk_of self.new)) }
         ensures known { OnOk result (IsSome (map.get (read_of self.new) n)) }
-        ensures going { is_refused self.new ≡ is_refused self.old }
-        ensures cause { HasDiskCause (disk_of self.old).faults (disk_of self.new).faults result }
+        ensures looks { LooksAtStore (is_refused self.old) self.old self.new result }
     {
         let first = self.kept.first(n);
         let walked = match walk(self.alloc, &mut self.journal, first, n) {

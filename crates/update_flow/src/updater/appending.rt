@@ -1,18 +1,14 @@
 //! A change of an open store.
-ghost use Rattle.std.specs.Prelude.{◌≡◌, ◌≤◌, ◌+◌, ℕ, List, true, false, IfErr, IfOk, IsErr, IsErrOf, OnOk};
+ghost use Rattle.std.specs.Prelude.{◌≡◌, ◌≤◌, ◌+◌, ℕ, List, Some, true, false, IfOk, OnOk};
 ghost use Rattle.std.specs.Result.{result_err};
 ghost use Rattle.osm_base.specs.map.Objects.{folded_all};
-ghost use Rattle.page_journal.specs.declared.fault.StoreFault.TheVariants.{Broken};
 ghost use Rattle.page_journal.specs.Crash.{IsAtRest};
 ghost use Rattle.store_maps.specs.Asked.{May};
 ghost use Rattle.update_step.specs.Touch.{MayTouch};
-ghost use Rattle.update_flow.specs.AtRest.{HasFlowCause};
 ghost use Rattle.update_flow.specs.ChangeReads.{ReadsTouched};
 ghost use Rattle.update_flow.specs.Changes.{IsDeltaOf};
-ghost use Rattle.update_flow.specs.Handle.{IsOpen, Takes, TellsAs, changes_of, is_imported, is_old, is_whole, style_of, view_of};
-ghost use Rattle.update_flow.specs.Refusals.{IsCallFault};
+ghost use Rattle.update_flow.specs.Handle.{IsOpen, Takes, changes_of, is_imported, is_old, style_of, view_of};
 ghost use Rattle.update_flow.specs.State.{Append, Holding, State, imported};
-ghost use Rattle.update_flow.specs.declared.fault.FlowFault.TheVariants.{NotImported, OldFormat, Store};
 
 use super::Updater;
 use crate::over_disk::append_on;
@@ -25,7 +21,7 @@ use std::thread::Threads;
 use tile_cover::Bounds;
 
 impl<D: Disk> Updater<'_, D> {
-    ghost use Rattle.update_flow.specs.Updater.{StaysOver, handle_of};
+    ghost use Rattle.update_flow.specs.Updater.{StaysOpen, handle_of};
 
     /// A change, in one commit: the objects, the rows that depend on them and the tiles that are due. Answers how the tables differ
     /// from then on. The rows are built by so many workers, which pass the gate at `Drawn` and `Built`.
@@ -50,19 +46,11 @@ impl<D: Disk> Updater<'_, D> {
             → ReadsTouched may held.buckets pages (view_of (handle_of self.old)) (view_of (handle_of self.new))) }
 
         // Whatever the disk holds.
-        ensures old_format { is_old (handle_of self.old) ≡ true → IsErrOf result OldFormat }
-        ensures not_imported { is_imported (handle_of self.old) ≡ false → IsErrOf result NotImported }
         ensures version { IfOk result (λ delta. delta.version ≡ changes_of (handle_of self.old) + 1) }
         ensures changes { OnOk result (changes_of (handle_of self.new) ≡ changes_of (handle_of self.old) + 1) }
         ensures style { OnOk result ((is_imported (handle_of self.new) ≡ true) × (is_old (handle_of self.new) ≡ false)
             × (style_of (handle_of self.new) ≡ style_of (handle_of self.old))) }
-        ensures tells { IsErr result → TellsAs (handle_of self.old) (handle_of self.new) }
-        ensures stays { StaysOver self.old self.new }
-        ensures alone { IfErr result IsCallFault }
-        ensures whole { OnOk result (is_whole (handle_of self.new) ≡ is_whole (handle_of self.old)) }
-        ensures not_old { IsErrOf result OldFormat → is_old (handle_of self.old) ≡ true }
-        ensures broken { IsErrOf result (Store Broken) → is_whole (handle_of self.old) ≡ false }
-        ensures cause { HasFlowCause (result_err result) (view_of (handle_of self.old)) (view_of (handle_of self.new)) }
+        ensures stays { StaysOpen (Some (Append bounds.now change)) self.old self.new result }
     {
         if self.old() {
             return Err(FlowFault::OldFormat);

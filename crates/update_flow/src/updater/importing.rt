@@ -1,14 +1,10 @@
 //! The first import into an open store.
-ghost use Rattle.std.specs.Prelude.{◌≡◌, ◌≤◌, Ok, Some, IsTrue, true, false, length, IfErr, IsErr, IsErrOf, OnOk};
+ghost use Rattle.std.specs.Prelude.{◌≡◌, ◌≤◌, Ok, Some, IsTrue, true, false, length, OnOk};
 ghost use Rattle.std.specs.Int.{is_power_of_two};
 ghost use Rattle.std.specs.Result.{result_err};
-ghost use Rattle.page_journal.specs.declared.fault.StoreFault.TheVariants.{Broken};
 ghost use Rattle.style_read.specs.Reading.{reading};
-ghost use Rattle.update_flow.specs.AtRest.{HasFlowCause};
-ghost use Rattle.update_flow.specs.Handle.{IsOpen, Takes, TellsAs, changes_of, is_imported, is_old, is_whole, style_of, view_of};
-ghost use Rattle.update_flow.specs.Refusals.{IsCallFault};
+ghost use Rattle.update_flow.specs.Handle.{IsOpen, Takes, changes_of, is_imported, is_old, style_of};
 ghost use Rattle.update_flow.specs.State.{Import, State};
-ghost use Rattle.update_flow.specs.declared.fault.FlowFault.TheVariants.{AlreadyImported, OldFormat, Store};
 
 use super::Updater;
 use crate::FlowFault;
@@ -20,7 +16,7 @@ use std::thread::Threads;
 use style_read::Style;
 
 impl<D: Disk> Updater<'_, D> {
-    ghost use Rattle.update_flow.specs.Updater.{StaysOver, handle_of};
+    ghost use Rattle.update_flow.specs.Updater.{StaysOpen, handle_of};
 
     /// The first import, in one commit: the entries' objects with their rows under the style. Each of the eight maps has so many
     /// buckets from then on. The rows are built by so many workers, which pass the gate at `Drawn` and `Built`.
@@ -44,17 +40,9 @@ impl<D: Disk> Updater<'_, D> {
             → Takes state (Import style style_bytes.now buckets change) (result_err result) (handle_of self.old) (handle_of self.new) }
 
         // Whatever the disk holds.
-        ensures old_format { is_old (handle_of self.old) ≡ true → IsErrOf result OldFormat }
-        ensures again { is_old (handle_of self.old) ≡ false → is_imported (handle_of self.old) ≡ true → IsErrOf result AlreadyImported }
         ensures imported { OnOk result ((is_imported (handle_of self.new) ≡ true) × (is_old (handle_of self.new) ≡ false)
             × (changes_of (handle_of self.new) ≡ 0) × (style_of (handle_of self.new) ≡ Some style)) }
-        ensures tells { IsErr result → TellsAs (handle_of self.old) (handle_of self.new) }
-        ensures stays { StaysOver self.old self.new }
-        ensures alone { IfErr result IsCallFault }
-        ensures whole { OnOk result (is_whole (handle_of self.new) ≡ is_whole (handle_of self.old)) }
-        ensures not_old { IsErrOf result OldFormat → is_old (handle_of self.old) ≡ true }
-        ensures broken { IsErrOf result (Store Broken) → is_whole (handle_of self.old) ≡ false }
-        ensures cause { HasFlowCause (result_err result) (view_of (handle_of self.old)) (view_of (handle_of self.new)) }
+        ensures stays { StaysOpen (Some (Import style style_bytes.now buckets change)) self.old self.new result }
     {
         if self.old() {
             return Err(FlowFault::OldFormat);

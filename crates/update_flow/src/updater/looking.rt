@@ -1,15 +1,11 @@
 //! An open store is looked at.
-ghost use Rattle.std.specs.Prelude.{◌≡◌, ℕ, true, false, IfErr, IfOk, IsErrOf, OnOk};
+ghost use Rattle.std.specs.Prelude.{◌≡◌, ℕ, None, IfOk};
 ghost use Rattle.std.specs.Result.{result_err};
-ghost use Rattle.page_journal.specs.declared.fault.StoreFault.TheVariants.{Broken};
 ghost use Rattle.row_map.specs.Row.{tables};
 ghost use Rattle.tile_cover.specs.Runs.{has};
-ghost use Rattle.update_flow.specs.AtRest.{HasFlowCause};
 ghost use Rattle.update_flow.specs.Changes.{only_table};
-ghost use Rattle.update_flow.specs.Handle.{IsOpen, Looks, TellsAs, is_imported, is_old, is_whole, view_of};
-ghost use Rattle.update_flow.specs.Refusals.{IsCallFault};
+ghost use Rattle.update_flow.specs.Handle.{IsOpen, Looks};
 ghost use Rattle.update_flow.specs.State.{Holding, State, imported};
-ghost use Rattle.update_flow.specs.declared.fault.FlowFault.TheVariants.{NotImported, OldFormat, Store};
 
 use super::Updater;
 use crate::FlowFault;
@@ -20,7 +16,7 @@ use page_journal::StoreFault;
 use tile_cover::TileRuns;
 
 impl<D: Disk> Updater<'_, D> {
-    ghost use Rattle.update_flow.specs.Updater.{StaysOver, handle_of};
+    ghost use Rattle.update_flow.specs.Updater.{StaysOpen, handle_of};
 
     /// The rows of all tables: those of a fresh import.
     pub fn load_tables(&mut self) -> Result<Tables, FlowFault>
@@ -28,15 +24,7 @@ impl<D: Disk> Updater<'_, D> {
         ensures tables { IfOk result (λ found. (held : Holding) → IsOpen (imported held) (handle_of self.old) → found ≡ tables held.style held.objects) }
 
         // Whatever the disk holds.
-        ensures old_format { is_old (handle_of self.old) ≡ true → IsErrOf result OldFormat }
-        ensures not_imported { is_imported (handle_of self.old) ≡ false → IsErrOf result NotImported }
-        ensures tells { TellsAs (handle_of self.old) (handle_of self.new) }
-        ensures stays { StaysOver self.old self.new }
-        ensures alone { IfErr result IsCallFault }
-        ensures whole { OnOk result (is_whole (handle_of self.new) ≡ is_whole (handle_of self.old)) }
-        ensures not_old { IsErrOf result OldFormat → is_old (handle_of self.old) ≡ true }
-        ensures broken { IsErrOf result (Store Broken) → is_whole (handle_of self.old) ≡ false }
-        ensures cause { HasFlowCause (result_err result) (view_of (handle_of self.old)) (view_of (handle_of self.new)) }
+        ensures stays { StaysOpen None self.old self.new result }
     {
         if self.old() {
             return Err(FlowFault::OldFormat);
@@ -64,15 +52,7 @@ impl<D: Disk> Updater<'_, D> {
         ensures table { IfOk result (λ found. (held : Holding) → IsOpen (imported held) (handle_of self.old) → found ≡ only_table table (tables held.style held.objects)) }
 
         // Whatever the disk holds.
-        ensures old_format { is_old (handle_of self.old) ≡ true → IsErrOf result OldFormat }
-        ensures not_imported { is_imported (handle_of self.old) ≡ false → IsErrOf result NotImported }
-        ensures tells { TellsAs (handle_of self.old) (handle_of self.new) }
-        ensures stays { StaysOver self.old self.new }
-        ensures alone { IfErr result IsCallFault }
-        ensures whole { OnOk result (is_whole (handle_of self.new) ≡ is_whole (handle_of self.old)) }
-        ensures not_old { IsErrOf result OldFormat → is_old (handle_of self.old) ≡ true }
-        ensures broken { IsErrOf result (Store Broken) → is_whole (handle_of self.old) ≡ false }
-        ensures cause { HasFlowCause (result_err result) (view_of (handle_of self.old)) (view_of (handle_of self.new)) }
+        ensures stays { StaysOpen None self.old self.new result }
     {
         if self.old() {
             return Err(FlowFault::OldFormat);
@@ -101,15 +81,7 @@ impl<D: Disk> Updater<'_, D> {
             → (zoom x y : ℕ) → has found zoom x y ≡ held.due zoom x y) }
 
         // Whatever the disk holds.
-        ensures old_format { is_old (handle_of self.old) ≡ true → IsErrOf result OldFormat }
-        ensures not_imported { is_imported (handle_of self.old) ≡ false → IsErrOf result NotImported }
-        ensures tells { TellsAs (handle_of self.old) (handle_of self.new) }
-        ensures stays { StaysOver self.old self.new }
-        ensures alone { IfErr result IsCallFault }
-        ensures whole { OnOk result (is_whole (handle_of self.new) ≡ is_whole (handle_of self.old)) }
-        ensures not_old { IsErrOf result OldFormat → is_old (handle_of self.old) ≡ true }
-        ensures broken { IsErrOf result (Store Broken) → is_whole (handle_of self.old) ≡ false }
-        ensures cause { HasFlowCause (result_err result) (view_of (handle_of self.old)) (view_of (handle_of self.new)) }
+        ensures stays { StaysOpen None self.old self.new result }
     {
         if self.old() {
             return Err(FlowFault::OldFormat);

@@ -1,5 +1,5 @@
 -- The list of the block is read, and then its ways.
-use Rattle.std.proofs.Common.{◌≡◌, ◌⊎◌, inl, inr, ◌/◌, ◌∙◌, ℕ, List, sym, ap, subst, refl}
+use Rattle.std.proofs.Common.{rules, ◌≡◌, ◌⊎◌, inl, inr, ◌/◌, ◌∙◌, ℕ, List, sym, ap, subst, refl}
 use Rattle.std.specs.List.{filter}
 use Rattle.std.specs.FinMap as finite
 use Rattle.osm_base.specs.values.Ids.{has}
@@ -21,14 +21,18 @@ use Rattle.object_fold.specs.Listing.{listers}
 use Rattle.back_index.proofs.ReadKeys.{reads_then}
 use Rattle.back_index.proofs.candidates.ways_of_node.Goals as goal
 
-pub returns-in-Err-clause-stops : goal.returns-in-Err-clause-stops
-returns-in-Err-clause-stops g c rest now owns =
-    let old = c.args.buckets.now in
-    let block = c.args.id / BLOCK in
-    let found = finite.get (now.maps WAYS_OF_BLOCKS) block in
-    refuses_more (λ at. IsUnread found × (at ≡ page_in old WAYS_OF_BLOCKS block)) (λ at. HasUnread old now at ⊎ HasNodeless old now at)
-    (λ at bad. inl (record { which = WAYS_OF_BLOCKS; id = block; is_index = inl refl; unread = bad.0; page_is = bad.1 })) c.in-Err.fault
-    (c.in-Err.ensures.stops rest now owns)
+pub returns-in-Err-clause-touches : goal.returns-in-Err-clause-touches
+returns-in-Err-clause-touches g c = record {
+  answers = search rules;
+  reads = search rules;
+  stops = λ rest now owns.
+      let old = c.args.buckets.now in
+      let block = c.args.id / BLOCK in
+      let found = finite.get (now.maps WAYS_OF_BLOCKS) block in
+      refuses_more (λ at. IsUnread found × (at ≡ page_in old WAYS_OF_BLOCKS block)) (λ at. HasUnread old now at ⊎ HasNodeless old now at)
+      (λ at bad. inl (record { which = WAYS_OF_BLOCKS; id = block; is_index = inl refl; unread = bad.0; page_is = bad.1 })) c.in-Err.fault
+      (c.in-Err.ensures.touches.stops rest now owns);
+}
 
 pub returns-clause-ids : goal.returns-clause-ids
 returns-clause-ids g c =
@@ -44,23 +48,28 @@ returns-clause-ids g c =
     (c.in-Ok.ensures.ids rest now owns) (index.ways_of_blocks block)))
     c.ways_with.ensures.ids
 
-pub returns-clause-stops : goal.returns-clause-stops
-returns-clause-stops g c rest now owns =
-    let old = c.args.buckets.now in
-    let block = c.args.id / BLOCK in
-    let ways = c.as_slice.result.now in
-    let found = finite.get (now.maps WAYS_OF_BLOCKS) block in
-    let fine : ℕ → Type 0 = λ way. (nodes : List ℕ) × HasNodes (finite.get (now.maps WAYS) way) nodes in
-    refuses_result (List ℕ) (StopsAt fine (λ way. c.page_of-page.result) ways) (λ at. HasUnread old now at ⊎ HasNodeless old now at) c.ways_with.result
-    (λ at stops. inr (record {
-      block = block;
-      ids = ways;
-      reads = subst (λ (l : List ℕ). ReadsIds found l) (sym c.as_slice.ensures.items) (c.in-Ok.ensures.ids rest now owns);
-      way = stops.thing;
-      said = ap (λ (l : List ℕ). has l stops.thing) stops.parts ∙ has_part stops.front stops.thing stops.behind;
-      none = stops.bad;
-      page_is = stops.page_is ∙ c.page_of-page.ensures ∙ page_same old c.listers.new.buckets WAYS_OF_BLOCKS block c.in-Ok.ensures.answers.stays;
-    })) (c.ways_with.ensures.stops rest now (c.in-Ok.ensures.has refl rest now owns))
+pub returns-clause-touches : goal.returns-clause-touches
+returns-clause-touches g c = record {
+  answers = search rules;
+  reads =
+      reads_then c.args.buckets.now c.listers.new.buckets c.ways_with.new.buckets c.ways_with.result c.in-Ok.ensures.touches.reads c.ways_with.ensures.touches.reads;
+  stops = λ rest now owns.
+      let old = c.args.buckets.now in
+      let block = c.args.id / BLOCK in
+      let ways = c.as_slice.result.now in
+      let found = finite.get (now.maps WAYS_OF_BLOCKS) block in
+      let fine : ℕ → Type 0 = λ way. (nodes : List ℕ) × HasNodes (finite.get (now.maps WAYS) way) nodes in
+      refuses_result (List ℕ) (StopsAt fine (λ way. c.page_of-page.result) ways) (λ at. HasUnread old now at ⊎ HasNodeless old now at) c.ways_with.result
+      (λ at stops. inr (record {
+        block = block;
+        ids = ways;
+        reads = subst (λ (l : List ℕ). ReadsIds found l) (sym c.as_slice.ensures.items) (c.in-Ok.ensures.ids rest now owns);
+        way = stops.thing;
+        said = ap (λ (l : List ℕ). has l stops.thing) stops.parts ∙ has_part stops.front stops.thing stops.behind;
+        none = stops.bad;
+        page_is = stops.page_is ∙ c.page_of-page.ensures ∙ page_same old c.listers.new.buckets WAYS_OF_BLOCKS block c.in-Ok.ensures.touches.answers.stays;
+      })) (c.ways_with.ensures.touches.stops rest now (c.in-Ok.ensures.has refl rest now owns));
+}
 
 pub returns-in-Err-clause-within : goal.returns-in-Err-clause-within
 returns-in-Err-clause-within g c rest now owns maps index may allowed only =
@@ -72,7 +81,3 @@ returns-clause-within g c rest now owns maps index may allowed only =
     let ways : c.as_slice.result.now ≡ listers maps.ways_of_blocks block = c.as_slice.ensures.items ∙ reads_one (finite.get (now.maps WAYS_OF_BLOCKS) block) c.in-Ok.ways (finite.get maps.ways_of_blocks block)
     (c.in-Ok.ensures.ids rest now owns) (index.ways_of_blocks block) in
     c.ways_with.ensures.within may (subst (MayEach may WAYS) (sym ways) allowed.1) (c.in-Ok.ensures.within may allowed.0 only)
-
-pub returns-clause-reads : goal.returns-clause-reads
-returns-clause-reads g c =
-    reads_then c.args.buckets.now c.listers.new.buckets c.ways_with.new.buckets c.ways_with.result c.in-Ok.ensures.reads c.ways_with.ensures.reads

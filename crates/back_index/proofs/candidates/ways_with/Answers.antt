@@ -21,16 +21,20 @@ use Rattle.back_index.proofs.candidates.ways_with.Goals as goal
 pub returns-in-Err-clause-has : goal.returns-in-Err-clause-has
 returns-in-Err-clause-has g c none rest now owns = c.in-Err.ensures.has none rest now (c.loop-way.invariant.has_still rest now owns)
 
-pub returns-in-Err-clause-stops : goal.returns-in-Err-clause-stops
-returns-in-Err-clause-stops g c rest now owns =
-    let ways = c.args.ways.now in
-    let k = c.loop-way.way-index in
-    let way = get_or ways k 0 in
-    let inv = c.loop-way.invariant in
-    let fine : ℕ → Type 0 = λ way. (nodes : List ℕ) × HasNodes (finite.get (now.maps WAYS) way) nodes in
-    refuses_more (λ at. (¬ fine way) × (at ≡ c.args.page)) (StopsAt fine (λ way. c.args.page) ways)
-    (λ at bad. stops_here fine (λ way. c.args.page) ways k at c.loop-way-test.true (inv.fine rest now owns) bad.0 bad.1) c.in-Err.fault
-    (c.in-Err.ensures.stops rest now (inv.has_still rest now owns))
+pub returns-in-Err-clause-touches : goal.returns-in-Err-clause-touches
+returns-in-Err-clause-touches g c = record {
+  answers = search rules;
+  reads = search rules;
+  stops = λ rest now owns.
+      let ways = c.args.ways.now in
+      let k = c.loop-way.way-index in
+      let way = get_or ways k 0 in
+      let inv = c.loop-way.invariant in
+      let fine : ℕ → Type 0 = λ way. (nodes : List ℕ) × HasNodes (finite.get (now.maps WAYS) way) nodes in
+      refuses_more (λ at. (¬ fine way) × (at ≡ c.args.page)) (StopsAt fine (λ way. c.args.page) ways)
+      (λ at bad. stops_here fine (λ way. c.args.page) ways k at c.loop-way-test.true (inv.fine rest now owns) bad.0 bad.1) c.in-Err.fault
+      (c.in-Err.ensures.touches.stops rest now (inv.has_still rest now owns));
+}
 
 pub loop-way-preserved : goal.loop-way-preserved
 loop-way-preserved g c =
@@ -43,12 +47,12 @@ loop-way-preserved g c =
     let inv = c.loop-way.invariant in
     let did = c.in-Ok.ensures in
     record {
-      some = subst (λ (n : ℕ). 1 ≤ n) (sym (count_same c.loop-way.buckets c.add_way.new.buckets did.answers.stays)) inv.some;
-      going = did.answers.refused;
-      answers = answers_then c.args.buckets.now c.loop-way.buckets c.add_way.new.buckets tt (Ok tt) inv.answers did.answers;
+      some = subst (λ (n : ℕ). 1 ≤ n) (sym (count_same c.loop-way.buckets c.add_way.new.buckets did.touches.answers.stays)) inv.some;
+      going = did.touches.answers.refused;
+      answers = answers_then c.args.buckets.now c.loop-way.buckets c.add_way.new.buckets tt (Ok tt) inv.answers did.touches.answers;
       has_still = λ rest now owns. did.has refl rest now (inv.has_still rest now owns);
       ids = did.ids (at_place IsId ways k 0 within c.requires.rising.1) inv.ids;
-      reads = reads_more c.args.buckets.now c.loop-way.buckets c.add_way.new.buckets inv.reads did.reads;
+      reads = reads_more c.args.buckets.now c.loop-way.buckets c.add_way.new.buckets inv.reads did.touches.reads;
       within = λ may all only. did.within may (at_place (λ (id : ℕ). may WAYS id ≡ true) ways k 0 within all) (inv.within may all only);
       fine = λ rest now owns.
           let fine : ℕ → Type 0 = λ way. (nodes : List ℕ) × HasNodes (finite.get (now.maps WAYS) way) nodes in

@@ -50,3 +50,12 @@ returns-clause-runs g c =
           (runs_more done own.id [] (after.maps which) own refl (runs_next done run.id own.id run.ids.items (now.maps which) (after.maps which) runs lt all))),
     ))
     c.push-2.ensures.ids
+
+pub returns-clause-touches : goal.returns-clause-touches
+returns-clause-touches g c = record {
+  answers = search rules;
+  reads = search rules;
+  stops = λ rest now owns.
+      let kept = c.in_default.ensures.keeps rest now owns in
+      c.push-2.ensures.touches.stops rest (with_value c.args.which c.args.run.now.id (kept_list kept.0) now) kept.3;
+}

@@ -1,4 +1,5 @@
 -- One map after another is filled.
+use Rattle.std.proofs.Common.{rules}
 use Rattle.back_index.proofs.Fills.{all_filled, blocks_may, nodes_may, ways_may}
 use Rattle.back_index.proofs.Reading.{on_ok}
 use Rattle.back_index.proofs.filling.fill.Goals as goal
@@ -16,16 +17,24 @@ returns-clause-fills g c =
     ))
     c.fill_members-2.ensures.fills
 
-pub returns-in-Err-fill_members-clause-stops : goal.returns-in-Err-fill_members-clause-stops
-returns-in-Err-fill_members-clause-stops g c rest now owns =
-    let first = c.in_default.ensures.fills rest now owns in
-    c.in-Err-fill_members.ensures.stops rest first.0 first.1
+pub returns-in-Err-fill_members-clause-touches : goal.returns-in-Err-fill_members-clause-touches
+returns-in-Err-fill_members-clause-touches g c = record {
+  answers = search rules;
+  reads = search rules;
+  stops = λ rest now owns.
+      let first = c.in_default.ensures.fills rest now owns in
+      c.in-Err-fill_members.ensures.touches.stops rest first.0 first.1;
+}
 
-pub returns-clause-stops : goal.returns-clause-stops
-returns-clause-stops g c rest now owns =
-    let first = c.in_default.ensures.fills rest now owns in
-    let second = c.in_default-fill_members.ensures.fills rest first.0 first.1 in
-    c.fill_members-2.ensures.stops rest second.0 second.1
+pub returns-clause-touches : goal.returns-clause-touches
+returns-clause-touches g c = record {
+  answers = search rules;
+  reads = search rules;
+  stops = λ rest now owns.
+      let first = c.in_default.ensures.fills rest now owns in
+      let second = c.in_default-fill_members.ensures.fills rest first.0 first.1 in
+      c.fill_members-2.ensures.touches.stops rest second.0 second.1;
+}
 
 pub returns-clause-within : goal.returns-clause-within
 returns-clause-within g c may all only =

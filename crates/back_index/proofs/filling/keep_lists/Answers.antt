@@ -64,10 +64,10 @@ loop-mention-preserved g c =
     let did = c.in_default.ensures in
     let more : take (k + 1) items ≡ take k items ++ own ∷ [] = take_more items k no_mention within in
     record {
-      some = subst (λ (n : ℕ). 1 ≤ n) (sym (count_same before after did.answers.stays)) inv.some;
-      going = did.answers.refused;
-      answers = answers_then c.args.buckets.now before after tt (Ok tt) inv.answers did.answers;
-      reads = reads_more c.args.buckets.now before after inv.reads did.reads;
+      some = subst (λ (n : ℕ). 1 ≤ n) (sym (count_same before after did.touches.answers.stays)) inv.some;
+      going = did.touches.answers.refused;
+      answers = answers_then c.args.buckets.now before after tt (Ok tt) inv.answers did.touches.answers;
+      reads = reads_more c.args.buckets.now before after inv.reads did.touches.reads;
       at = λ may all.
           subst (λ (n : ℕ). may which n ≡ true) (sym did.at) (all own.id own.own (told_there items k own within (get_or_default items k no_mention own within)));
       within = λ may all only. did.within may (inv.at may all) (inv.within may all only);
@@ -86,15 +86,24 @@ loop-mention-preserved g c =
           );
     }
 
-pub returns-in-Err-clause-stops : goal.returns-in-Err-clause-stops
-returns-in-Err-clause-stops g c rest now owns =
-    let was = c.loop-mention.invariant.runs rest now owns in
-    c.in-Err.ensures.stops rest was.0 was.1
+pub returns-in-Err-clause-touches : goal.returns-in-Err-clause-touches
+returns-in-Err-clause-touches g c = record {
+  answers = search rules;
+  reads = search rules;
+  stops = λ rest now owns.
+      let was = c.loop-mention.invariant.runs rest now owns in
+      c.in-Err.ensures.touches.stops rest was.0 was.1;
+}
 
-pub returns-clause-stops : goal.returns-clause-stops
-returns-clause-stops g c rest now owns =
-    let was = c.loop-mention.invariant.runs rest now owns in
-    c.keep_run.ensures.stops rest was.0 was.1
+pub returns-clause-touches : goal.returns-clause-touches
+returns-clause-touches g c = record {
+  answers = search rules;
+  reads =
+      reads_then c.args.buckets.now c.loop-mention.buckets c.keep_run.new.buckets c.keep_run.result c.loop-mention.invariant.reads c.keep_run.ensures.touches.reads;
+  stops = λ rest now owns.
+      let was = c.loop-mention.invariant.runs rest now owns in
+      c.keep_run.ensures.touches.stops rest was.0 was.1;
+}
 
 pub returns-clause-keeps : goal.returns-clause-keeps
 returns-clause-keeps g c =
@@ -115,10 +124,6 @@ returns-clause-keeps g c =
           (runs_kept (take k items) run.id run.ids.items kept.0 (was.0.maps which) (after.maps which) (was.3 void) kept.1 kept.2 sets.here sets.beside),
     ))
     c.keep_run.ensures.keeps
-
-pub returns-clause-reads : goal.returns-clause-reads
-returns-clause-reads g c =
-    reads_then c.args.buckets.now c.loop-mention.buckets c.keep_run.new.buckets c.keep_run.result c.loop-mention.invariant.reads c.keep_run.ensures.reads
 
 pub returns-in-Err-clause-within : goal.returns-in-Err-clause-within
 returns-in-Err-clause-within g c may all only =

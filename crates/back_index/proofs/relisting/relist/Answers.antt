@@ -1,5 +1,5 @@
 -- The lists of each map of the index in turn.
-use Rattle.std.proofs.Common.{◌≡◌, ℕ, subst, refl, Option}
+use Rattle.std.proofs.Common.{rules, ◌≡◌, ℕ, subst, refl, Option}
 use Rattle.osm_base.specs.declared.values.key.Kind.TheVariants as kinds
 use Rattle.osm_base.specs.declared.values.object.Object.{Object}
 use Rattle.osm_base.specs.map.Listers.{listed}
@@ -44,30 +44,38 @@ returns-in-Way-clause-relists g c =
           (at_kind key kinds.Way old new now was.0 is (way_relists key.id old new now was.0 was.2 was.3)),
     )) c.relist_blocks.ensures.turns
 
-pub returns-in-Way-clause-stops : goal.returns-in-Way-clause-stops
-returns-in-Way-clause-stops g c rest now owns =
-    let key : KeyOf = record { kind = c.key.inside.kind; id = c.key.inside.id } in
-    let old = c.args.old.now in
-    let new = c.args.new.now in
-    let fine = IsFine now key.id in
-    let page = page_at c.args.buckets.now in
-    let is : key.kind ≡ kinds.Way = cc (c.in-Way.is) in
-    refuses_result (Unit {0}) (StopsAt fine page (visits WAYS_OF_BLOCKS (listed_by blocks_in old) (listed_by blocks_in new))) (StopsAt (IsFine now c.args.key.id) page (all_visits c.args.key old new))
-    c.relist_blocks.result
-    (λ at stops. subst (λ (k : KeyOf). StopsAt (IsFine now k.id) page (all_visits k old new) at) c.key.view_is (way_stops fine page key old new at is stops)) (c.relist_blocks.ensures.stops rest now owns)
+pub returns-in-Way-clause-touches : goal.returns-in-Way-clause-touches
+returns-in-Way-clause-touches g c = record {
+  answers = search rules;
+  reads = search rules;
+  stops = λ rest now owns.
+      let key : KeyOf = record { kind = c.key.inside.kind; id = c.key.inside.id } in
+      let old = c.args.old.now in
+      let new = c.args.new.now in
+      let fine = IsFine now key.id in
+      let page = page_at c.args.buckets.now in
+      let is : key.kind ≡ kinds.Way = cc (c.in-Way.is) in
+      refuses_result (Unit {0}) (StopsAt fine page (visits WAYS_OF_BLOCKS (listed_by blocks_in old) (listed_by blocks_in new))) (StopsAt (IsFine now c.args.key.id) page (all_visits c.args.key old new))
+      c.relist_blocks.result
+      (λ at stops. subst (λ (k : KeyOf). StopsAt (IsFine now k.id) page (all_visits k old new) at) c.key.view_is (way_stops fine page key old new at is stops)) (c.relist_blocks.ensures.touches.stops rest now owns);
+}
 
-pub returns-in-Err-clause-stops : goal.returns-in-Err-clause-stops
-returns-in-Err-clause-stops g c rest now owns =
-    let key : KeyOf = record { kind = c.key.inside.kind; id = c.key.inside.id } in
-    let old = c.args.old.now in
-    let new = c.args.new.now in
-    let fine = IsFine now key.id in
-    let page = page_at c.args.buckets.now in
-    let is : key.kind ≡ kinds.Relation = cc (c.in-Relation.is) in
-    refuses_more (StopsAt fine page (visits RELATIONS_OF_NODES (listed_by (listed kinds.Node) old) (listed_by (listed kinds.Node) new)))
-    (StopsAt (IsFine now c.args.key.id) page (all_visits c.args.key old new))
-    (λ at stops. subst (λ (k : KeyOf). StopsAt (IsFine now k.id) page (all_visits k old new) at) c.key.view_is (nodes_stop fine page key old new at is stops))
-    c.in-Err.fault (c.in-Err.ensures.stops rest now owns)
+pub returns-in-Err-clause-touches : goal.returns-in-Err-clause-touches
+returns-in-Err-clause-touches g c = record {
+  answers = search rules;
+  reads = search rules;
+  stops = λ rest now owns.
+      let key : KeyOf = record { kind = c.key.inside.kind; id = c.key.inside.id } in
+      let old = c.args.old.now in
+      let new = c.args.new.now in
+      let fine = IsFine now key.id in
+      let page = page_at c.args.buckets.now in
+      let is : key.kind ≡ kinds.Relation = cc (c.in-Relation.is) in
+      refuses_more (StopsAt fine page (visits RELATIONS_OF_NODES (listed_by (listed kinds.Node) old) (listed_by (listed kinds.Node) new)))
+      (StopsAt (IsFine now c.args.key.id) page (all_visits c.args.key old new))
+      (λ at stops. subst (λ (k : KeyOf). StopsAt (IsFine now k.id) page (all_visits k old new) at) c.key.view_is (nodes_stop fine page key old new at is stops))
+      c.in-Err.fault (c.in-Err.ensures.touches.stops rest now owns);
+}
 
 pub returns-in_default-clause-relists : goal.returns-in_default-clause-relists
 returns-in_default-clause-relists g c =
@@ -85,29 +93,34 @@ returns-in_default-clause-relists g c =
           (relation_relists key.id old new now first.0 second.0 first.2 first.3 second.2 second.3)),
     )) c.relist_members-in-Relation.ensures.turns
 
-pub returns-in_default-clause-stops : goal.returns-in_default-clause-stops
-returns-in_default-clause-stops g c rest now owns =
-    let key : KeyOf = record { kind = c.key.inside.kind; id = c.key.inside.id } in
-    let own = key.id in
-    let old = c.args.old.now in
-    let new = c.args.new.now in
-    let mid = c.relist_members.new.buckets in
-    let first = c.in_default.ensures.turns rest now owns in
-    let nodes_old = listed_by (listed kinds.Node) old in
-    let nodes_new = listed_by (listed kinds.Node) new in
-    let lists = visits RELATIONS_OF_WAYS (listed_by (listed kinds.Way) old) (listed_by (listed kinds.Way) new) in
-    let is : key.kind ≡ kinds.Relation = cc (c.in-Relation.is) in
-    let pages : page_at mid ≡ page_at c.args.buckets.now
-    = λ i visit. page_same c.args.buckets.now mid visit.which visit.id c.in_default.ensures.answers.stays i in
-    refuses_result (Unit {0}) (StopsAt (IsFine first.0 own) (page_at mid) lists) (StopsAt (IsFine now c.args.key.id) (page_at c.args.buckets.now) (all_visits c.args.key old new))
-    c.relist_members-in-Relation.result
-    (λ at stops. subst (λ (k : KeyOf). StopsAt (IsFine now k.id) (page_at c.args.buckets.now) (all_visits k old new) at) c.key.view_is (ways_stop (IsFine now own) (page_at c.args.buckets.now) key old new at is
-    (turned_fine now own RELATIONS_OF_NODES nodes_old nodes_new (first.0.maps RELATIONS_OF_NODES) first.3)
-    (stops_as (IsFine first.0 own) (IsFine now own) (page_at c.args.buckets.now) lists at
-    (fine_as now first.0 own RELATIONS_OF_WAYS RELATIONS_OF_NODES (listed_by (listed kinds.Way) old) (listed_by (listed kinds.Way) new) first.2
-    (apart RELATIONS_OF_WAYS RELATIONS_OF_NODES refl))
-    (subst (λ (p : Visit → ℕ). StopsAt (IsFine first.0 own) p lists at) pages stops))))
-    (c.relist_members-in-Relation.ensures.stops rest first.0 first.1)
+pub returns-in_default-clause-touches : goal.returns-in_default-clause-touches
+returns-in_default-clause-touches g c = record {
+  answers = search rules;
+  reads =
+      reads_then c.args.buckets.now c.relist_members.new.buckets c.relist_members-in-Relation.new.buckets c.relist_members-in-Relation.result c.in_default.ensures.touches.reads c.relist_members-in-Relation.ensures.touches.reads;
+  stops = λ rest now owns.
+      let key : KeyOf = record { kind = c.key.inside.kind; id = c.key.inside.id } in
+      let own = key.id in
+      let old = c.args.old.now in
+      let new = c.args.new.now in
+      let mid = c.relist_members.new.buckets in
+      let first = c.in_default.ensures.turns rest now owns in
+      let nodes_old = listed_by (listed kinds.Node) old in
+      let nodes_new = listed_by (listed kinds.Node) new in
+      let lists = visits RELATIONS_OF_WAYS (listed_by (listed kinds.Way) old) (listed_by (listed kinds.Way) new) in
+      let is : key.kind ≡ kinds.Relation = cc (c.in-Relation.is) in
+      let pages : page_at mid ≡ page_at c.args.buckets.now
+      = λ i visit. page_same c.args.buckets.now mid visit.which visit.id c.in_default.ensures.touches.answers.stays i in
+      refuses_result (Unit {0}) (StopsAt (IsFine first.0 own) (page_at mid) lists) (StopsAt (IsFine now c.args.key.id) (page_at c.args.buckets.now) (all_visits c.args.key old new))
+      c.relist_members-in-Relation.result
+      (λ at stops. subst (λ (k : KeyOf). StopsAt (IsFine now k.id) (page_at c.args.buckets.now) (all_visits k old new) at) c.key.view_is (ways_stop (IsFine now own) (page_at c.args.buckets.now) key old new at is
+      (turned_fine now own RELATIONS_OF_NODES nodes_old nodes_new (first.0.maps RELATIONS_OF_NODES) first.3)
+      (stops_as (IsFine first.0 own) (IsFine now own) (page_at c.args.buckets.now) lists at
+      (fine_as now first.0 own RELATIONS_OF_WAYS RELATIONS_OF_NODES (listed_by (listed kinds.Way) old) (listed_by (listed kinds.Way) new) first.2
+      (apart RELATIONS_OF_WAYS RELATIONS_OF_NODES refl))
+      (subst (λ (p : Visit → ℕ). StopsAt (IsFine first.0 own) p lists at) pages stops))))
+      (c.relist_members-in-Relation.ensures.touches.stops rest first.0 first.1);
+}
 
 pub returns-in-Way-clause-within : goal.returns-in-Way-clause-within
 returns-in-Way-clause-within g c may olds news only =
@@ -129,10 +142,10 @@ returns-in_default-clause-within g c may olds news only =
     c.relist_members-in-Relation.ensures.within may (subst (ways c.args.old.now) is olds.relations_of_ways) (subst (ways c.args.new.now) is news.relations_of_ways)
     (c.in_default.ensures.within may (subst (nodes c.args.old.now) is olds.relations_of_nodes) (subst (nodes c.args.new.now) is news.relations_of_nodes) only)
 
-pub returns-in-Node-clause-reads : goal.returns-in-Node-clause-reads
-returns-in-Node-clause-reads g c =
-    reads_none c.args.buckets.now
-
-pub returns-in_default-clause-reads : goal.returns-in_default-clause-reads
-returns-in_default-clause-reads g c =
-    reads_then c.args.buckets.now c.relist_members.new.buckets c.relist_members-in-Relation.new.buckets c.relist_members-in-Relation.result c.in_default.ensures.reads c.relist_members-in-Relation.ensures.reads
+pub returns-in-Node-clause-touches : goal.returns-in-Node-clause-touches
+returns-in-Node-clause-touches g c = record {
+  answers = search rules;
+  reads =
+      reads_none c.args.buckets.now;
+  stops = search rules;
+}

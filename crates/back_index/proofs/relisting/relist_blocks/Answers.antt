@@ -1,5 +1,5 @@
 -- The ids of both forms are those that the forms list.
-use Rattle.std.proofs.Common.{List, subst, ◌≡◌, ℕ, true}
+use Rattle.std.proofs.Common.{rules, List, subst, ◌≡◌, ℕ, true}
 use Rattle.store_maps.specs.Turns.{blocks_in, listed_by}
 use Rattle.back_index.specs.Calls.{page_at}
 use Rattle.back_index.specs.Visits.{IsFine, StopsAt, visits}
@@ -22,18 +22,22 @@ returns-clause-turns g c =
     (was.0, was.1, was.2, turns_same olds news old new c.in-Ok.ensures.same c.in-Ok-rising_blocks.ensures.same c.args.own (now.maps which) (was.0.maps which) was.3))
     c.relist_map.ensures.turns
 
-pub returns-clause-stops : goal.returns-clause-stops
-returns-clause-stops g c rest now owns =
-    let which = WAYS_OF_BLOCKS in
-    let olds = c.in-Ok.ids in
-    let news = c.in-Ok-rising_blocks.ids in
-    let old = listed_by blocks_in c.args.old.now in
-    let new = listed_by blocks_in c.args.new.now in
-    let fine = IsFine now c.args.own in
-    let page = page_at c.args.buckets.now in
-    refuses_result (Unit {0}) (StopsAt fine page (visits which olds news)) (StopsAt fine page (visits which old new)) c.relist_map.result
-    (λ at stops. subst (λ (l : List Visit). StopsAt fine page l at) (visits_same olds news old new c.in-Ok.ensures.same c.in-Ok-rising_blocks.ensures.same which) stops)
-    (c.relist_map.ensures.stops rest now owns)
+pub returns-clause-touches : goal.returns-clause-touches
+returns-clause-touches g c = record {
+  answers = search rules;
+  reads = search rules;
+  stops = λ rest now owns.
+      let which = WAYS_OF_BLOCKS in
+      let olds = c.in-Ok.ids in
+      let news = c.in-Ok-rising_blocks.ids in
+      let old = listed_by blocks_in c.args.old.now in
+      let new = listed_by blocks_in c.args.new.now in
+      let fine = IsFine now c.args.own in
+      let page = page_at c.args.buckets.now in
+      refuses_result (Unit {0}) (StopsAt fine page (visits which olds news)) (StopsAt fine page (visits which old new)) c.relist_map.result
+      (λ at stops. subst (λ (l : List Visit). StopsAt fine page l at) (visits_same olds news old new c.in-Ok.ensures.same c.in-Ok-rising_blocks.ensures.same which) stops)
+      (c.relist_map.ensures.touches.stops rest now owns);
+}
 
 pub returns-clause-within : goal.returns-clause-within
 returns-clause-within g c may olds news only =

@@ -1,5 +1,5 @@
 -- The lists of both forms are turned in their order.
-use Rattle.std.proofs.Common.{◌≡◌, ◌∙◌, ◌++◌, ℕ, List, map, sym, ap, subst, true}
+use Rattle.std.proofs.Common.{rules, ◌≡◌, ◌∙◌, ◌++◌, ℕ, List, map, sym, ap, subst, true}
 use Rattle.osm_base.specs.values.Ids.{has}
 use Rattle.back_index.specs.Calls.{page_at}
 use Rattle.back_index.specs.Relisting.{in_order}
@@ -22,17 +22,21 @@ returns-in-Ok-clause-turns g c =
     (λ turns rest now owns. let was = turns rest now owns in
     (was.0, was.1, was.2, turns_done c.args.own old new ids (old ++ new) (now.maps which) (was.0.maps which) same was.3)) c.turn_all.ensures.turns
 
-pub returns-in-Ok-clause-stops : goal.returns-in-Ok-clause-stops
-returns-in-Ok-clause-stops g c rest now owns =
-    let which = c.args.which in
-    let old = c.args.old.now in
-    let new = c.args.new.now in
-    let ids = c.as_slice.result.now in
-    let all : ids ≡ in_order (old ++ new) = c.as_slice.ensures.ids ∙ c.in-Ok.ensures.both in
-    let fine = IsFine now c.args.own in
-    let page = page_at c.args.buckets.now in
-    refuses_result (Unit {0}) (StopsAt fine page (map (visit_of which old new) ids)) (StopsAt fine page (visits which old new)) c.turn_all.result
-    (λ at stops. subst (λ (l : List ℕ). StopsAt fine page (map (visit_of which old new) l) at) all stops) (c.turn_all.ensures.stops rest now owns)
+pub returns-in-Ok-clause-touches : goal.returns-in-Ok-clause-touches
+returns-in-Ok-clause-touches g c = record {
+  answers = search rules;
+  reads = search rules;
+  stops = λ rest now owns.
+      let which = c.args.which in
+      let old = c.args.old.now in
+      let new = c.args.new.now in
+      let ids = c.as_slice.result.now in
+      let all : ids ≡ in_order (old ++ new) = c.as_slice.ensures.ids ∙ c.in-Ok.ensures.both in
+      let fine = IsFine now c.args.own in
+      let page = page_at c.args.buckets.now in
+      refuses_result (Unit {0}) (StopsAt fine page (map (visit_of which old new) ids)) (StopsAt fine page (visits which old new)) c.turn_all.result
+      (λ at stops. subst (λ (l : List ℕ). StopsAt fine page (map (visit_of which old new) l) at) all stops) (c.turn_all.ensures.touches.stops rest now owns);
+}
 
 pub returns-in-Ok-clause-within : goal.returns-in-Ok-clause-within
 returns-in-Ok-clause-within g c may olds news only =

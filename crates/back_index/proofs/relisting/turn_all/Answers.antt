@@ -1,5 +1,5 @@
 -- One list after another is turned.
-use Rattle.std.proofs.Common.{◌≡◌, ◌≤◌, ◌<◌, ◌∙◌, ℕ, List, Option, Bool, Ok, length, map, take, get_or, sym, subst, true}
+use Rattle.std.proofs.Common.{rules, ◌≡◌, ◌≤◌, ◌<◌, ◌∙◌, ℕ, List, Option, Bool, Ok, length, map, take, get_or, sym, subst, true}
 use Rattle.std.specs.List.{AllByRecursion}
 use Rattle.std.specs.FinMap as finite
 use Rattle.std.proofs.lemmas.List.{get_or_default, take_all, take_more}
@@ -54,10 +54,10 @@ loop-id-preserved g c =
     subst (λ (v : Option (List ℕ)). Sets which id v (inv.turns rest now owns).0 turns.0)
     (λ i. kept_list (turned (c.contains.ensures.value i) (c.contains-in-loop-id.ensures.value i) own turns.2)) turns.4 in
     record {
-      some = subst (λ (n : ℕ). 1 ≤ n) (sym (count_same before after did.answers.stays)) inv.some;
-      going = did.answers.refused;
-      answers = answers_then c.args.buckets.now before after tt (Ok tt) inv.answers did.answers;
-      reads = reads_more c.args.buckets.now before after inv.reads did.reads;
+      some = subst (λ (n : ℕ). 1 ≤ n) (sym (count_same before after did.touches.answers.stays)) inv.some;
+      going = did.touches.answers.refused;
+      answers = answers_then c.args.buckets.now before after tt (Ok tt) inv.answers did.touches.answers;
+      reads = reads_more c.args.buckets.now before after inv.reads did.touches.reads;
       within = λ may all only. did.within may (at_place (λ (id : ℕ). may which id ≡ true) ids k 0 within all) (inv.within may all only);
       turns = λ rest now owns.
           let was = inv.turns rest now owns in
@@ -76,30 +76,34 @@ loop-id-preserved g c =
           (fine_more own which old new (take k ids) now was.0 turns.0 id turns.2 fresh was.3 (can_of rest now owns) (sets_of rest now owns)));
     }
 
-pub returns-in-Err-clause-stops : goal.returns-in-Err-clause-stops
-returns-in-Err-clause-stops g c rest now owns =
-    let which = c.args.which in
-    let own = c.args.own in
-    let old = c.args.old.now in
-    let new = c.args.new.now in
-    let ids = c.args.ids.now in
-    let k = c.loop-id.id-index in
-    let id = get_or ids k 0 in
-    let within : k < length ids = c.loop-id-test.true in
-    let fresh = before_none ids k 0 c.requires.rise within in
-    let inv = c.loop-id.invariant in
-    let was = inv.turns rest now owns in
-    let visit : Visit = record { which = which; id = id; was = c.contains.result; is = c.contains-in-loop-id.result } in
-    let still : IsFine now own (visit_of which old new id) → IsFine was.0 own visit = λ fine. (
-      fine.0,
-      subst (λ (o : Option (List ℕ)). CanTurn c.contains.result own o fine.0) (sym (was.3.others id fresh))
-          (subst (λ (b : Bool). CanTurn b own (finite.get (now.maps which) id) fine.0) (sym c.contains.ensures.value) fine.1),
-    ) in
-    refuses_more (λ at. (¬ IsFine was.0 own visit) × (at ≡ page_at c.loop-id.buckets visit))
-    (StopsAt (IsFine now own) (page_at c.args.buckets.now) (map (visit_of which old new) ids))
-    (λ at bad. stops_there (IsFine now own) (page_at c.args.buckets.now) (visit_of which old new) ids k id at within (get_or_default ids k 0 id within)
-    (inv.fine rest now owns) (λ fine. bad.0 (still fine)) (bad.1 ∙ page_same c.args.buckets.now c.loop-id.buckets which id inv.answers.stays))
-    c.in-Err.fault (c.in-Err.ensures.stops rest was.0 was.1)
+pub returns-in-Err-clause-touches : goal.returns-in-Err-clause-touches
+returns-in-Err-clause-touches g c = record {
+  answers = search rules;
+  reads = search rules;
+  stops = λ rest now owns.
+      let which = c.args.which in
+      let own = c.args.own in
+      let old = c.args.old.now in
+      let new = c.args.new.now in
+      let ids = c.args.ids.now in
+      let k = c.loop-id.id-index in
+      let id = get_or ids k 0 in
+      let within : k < length ids = c.loop-id-test.true in
+      let fresh = before_none ids k 0 c.requires.rise within in
+      let inv = c.loop-id.invariant in
+      let was = inv.turns rest now owns in
+      let visit : Visit = record { which = which; id = id; was = c.contains.result; is = c.contains-in-loop-id.result } in
+      let still : IsFine now own (visit_of which old new id) → IsFine was.0 own visit = λ fine. (
+        fine.0,
+        subst (λ (o : Option (List ℕ)). CanTurn c.contains.result own o fine.0) (sym (was.3.others id fresh))
+            (subst (λ (b : Bool). CanTurn b own (finite.get (now.maps which) id) fine.0) (sym c.contains.ensures.value) fine.1),
+      ) in
+      refuses_more (λ at. (¬ IsFine was.0 own visit) × (at ≡ page_at c.loop-id.buckets visit))
+      (StopsAt (IsFine now own) (page_at c.args.buckets.now) (map (visit_of which old new) ids))
+      (λ at bad. stops_there (IsFine now own) (page_at c.args.buckets.now) (visit_of which old new) ids k id at within (get_or_default ids k 0 id within)
+      (inv.fine rest now owns) (λ fine. bad.0 (still fine)) (bad.1 ∙ page_same c.args.buckets.now c.loop-id.buckets which id inv.answers.stays))
+      c.in-Err.fault (c.in-Err.ensures.touches.stops rest was.0 was.1);
+}
 
 pub returns-clause-turns : goal.returns-clause-turns
 returns-clause-turns g c rest now owns =

@@ -1,5 +1,5 @@
 -- The list is read, turned, and kept.
-use Rattle.std.proofs.Common.{◌≡◌, ◌≢◌, ◌∙◌, ℕ, List, true, false, sym, ap, subst, refl}
+use Rattle.std.proofs.Common.{rules, ◌≡◌, ◌≢◌, ◌∙◌, ℕ, List, true, false, sym, ap, subst, refl}
 use Rattle.std.specs.FinMap as finite
 use Rattle.osm_base.specs.values.Ids.{has}
 use Rattle.object_fold.proofs.SortedIds.{same_rising}
@@ -14,29 +14,37 @@ use Rattle.back_index.proofs.ReadKeys.{reads_refused, reads_then}
 use Rattle.back_index.proofs.relisting.turn_list.Goals as goal
 use Rattle.back_index.proofs.relisting.turn_list.Goals.{else-visit-via-then-visit+else-not-contains, else-visit-via-else-visit}
 
-pub returns-in-Err-clause-stops : goal.returns-in-Err-clause-stops
-returns-in-Err-clause-stops g c rest now owns =
-    let which = c.args.visit.which in
-    let found = finite.get (now.maps which) c.args.visit.id in
-    refuses_more (λ at. IsUnread found × (at ≡ page_in c.args.buckets.now which c.args.visit.id))
-    (λ at. (¬ IsFine now c.args.own c.args.visit) × (at ≡ page_at c.args.buckets.now c.args.visit))
-    (λ at bad. (λ fine. unread_not found fine.0 bad.0 fine.1.reads, bad.1)) c.in-Err.fault (c.in-Err.ensures.stops rest now owns)
+pub returns-in-Err-clause-touches : goal.returns-in-Err-clause-touches
+returns-in-Err-clause-touches g c = record {
+  answers = search rules;
+  reads = search rules;
+  stops = λ rest now owns.
+      let which = c.args.visit.which in
+      let found = finite.get (now.maps which) c.args.visit.id in
+      refuses_more (λ at. IsUnread found × (at ≡ page_in c.args.buckets.now which c.args.visit.id))
+      (λ at. (¬ IsFine now c.args.own c.args.visit) × (at ≡ page_at c.args.buckets.now c.args.visit))
+      (λ at bad. (λ fine. unread_not found fine.0 bad.0 fine.1.reads, bad.1)) c.in-Err.fault (c.in-Err.ensures.touches.stops rest now owns);
+}
 
-pub returns-then-not-contains-clause-stops : goal.returns-then-not-contains-clause-stops
-returns-then-not-contains-clause-stops g c rest now owns =
-    let old = c.args.buckets.now in
-    let which = c.args.visit.which in
-    let id = c.args.visit.id in
-    let own = c.args.own in
-    let found = finite.get (now.maps which) id in
-    let bad : ℕ → Type 0 = λ at. (¬ IsFine now own c.args.visit) × (at ≡ page_at old c.args.visit) in
-    let listed : c.from_vec-ids.result ≡ c.in-Ok.ids = same_rising c.from_vec-ids.result c.in-Ok.ids c.from_vec-ids.ensures.rise c.in-Ok.ensures.rising.0
-    (λ x. c.from_vec-ids.ensures.same x ∙ ap (λ (l : List ℕ). has l x) c.into_vec.ensures.items) in
-    let lacks : has c.in-Ok.ids own ≡ false = ap (λ (l : List ℕ). has l own) (sym listed) ∙ sym c.contains.ensures.value ∙ c.if-not-contains.true in
-    let not_fine : ¬ IsFine now own c.args.visit = λ fine.
-    let same = reads_same found fine.0 c.in-Ok.ids fine.1.reads (c.in-Ok.ensures.ids rest now owns) in
-    true_not (has c.in-Ok.ids own) (ap (λ (l : List ℕ). has l own) (sym same) ∙ fine.1.there c.if-visit.true) lacks in
-    subst (Refuses bad) (sym c.refused.ensures.fault) (not_fine, c.page_of-page.ensures ∙ page_same old c.listers.new.buckets which id c.in-Ok.ensures.answers.stays)
+pub returns-then-not-contains-clause-touches : goal.returns-then-not-contains-clause-touches
+returns-then-not-contains-clause-touches g c = record {
+  answers = search rules;
+  reads = search rules;
+  stops = λ rest now owns.
+      let old = c.args.buckets.now in
+      let which = c.args.visit.which in
+      let id = c.args.visit.id in
+      let own = c.args.own in
+      let found = finite.get (now.maps which) id in
+      let bad : ℕ → Type 0 = λ at. (¬ IsFine now own c.args.visit) × (at ≡ page_at old c.args.visit) in
+      let listed : c.from_vec-ids.result ≡ c.in-Ok.ids = same_rising c.from_vec-ids.result c.in-Ok.ids c.from_vec-ids.ensures.rise c.in-Ok.ensures.rising.0
+      (λ x. c.from_vec-ids.ensures.same x ∙ ap (λ (l : List ℕ). has l x) c.into_vec.ensures.items) in
+      let lacks : has c.in-Ok.ids own ≡ false = ap (λ (l : List ℕ). has l own) (sym listed) ∙ sym c.contains.ensures.value ∙ c.if-not-contains.true in
+      let not_fine : ¬ IsFine now own c.args.visit = λ fine.
+      let same = reads_same found fine.0 c.in-Ok.ids fine.1.reads (c.in-Ok.ensures.ids rest now owns) in
+      true_not (has c.in-Ok.ids own) (ap (λ (l : List ℕ). has l own) (sym same) ∙ fine.1.there c.if-visit.true) lacks in
+      subst (Refuses bad) (sym c.refused.ensures.fault) (not_fine, c.page_of-page.ensures ∙ page_same old c.listers.new.buckets which id c.in-Ok.ensures.touches.answers.stays);
+}
 
 pub returns-then-visit-2-clause-turns : goal.returns-then-visit-2-clause-turns
 returns-then-visit-2-clause-turns g c rest now owns =
@@ -88,10 +96,15 @@ returns-clause-turns g c =
           (sets_put which id (kept_list c.as_slice.result.now) now),
     )) c.keep_list.ensures.keeps
 
-pub returns-clause-stops : goal.returns-clause-stops
-returns-clause-stops g c rest now owns =
-    refuses_result (Unit {0}) (λ at. ⊥) (λ at. (¬ IsFine now c.args.own c.args.visit) × (at ≡ page_at c.args.buckets.now c.args.visit)) c.keep_list.result
-    (λ at none. absurd none) (c.keep_list.ensures.stops rest now (c.in-Ok.ensures.has refl rest now owns))
+pub returns-clause-touches : goal.returns-clause-touches
+returns-clause-touches g c = record {
+  answers = search rules;
+  reads =
+      reads_then c.args.buckets.now c.listers.new.buckets c.keep_list.new.buckets c.keep_list.result c.in-Ok.ensures.touches.reads c.keep_list.ensures.touches.reads;
+  stops = λ rest now owns.
+      refuses_result (Unit {0}) (λ at. ⊥) (λ at. (¬ IsFine now c.args.own c.args.visit) × (at ≡ page_at c.args.buckets.now c.args.visit)) c.keep_list.result
+      (λ at none. absurd none) (c.keep_list.ensures.touches.stops rest now (c.in-Ok.ensures.has refl rest now owns));
+}
 
 pub returns-then-not-contains-clause-within : goal.returns-then-not-contains-clause-within
 returns-then-not-contains-clause-within g c may allowed only =
@@ -100,7 +113,3 @@ returns-then-not-contains-clause-within g c may allowed only =
 pub returns-in-Err-turn-clause-within : goal.returns-in-Err-turn-clause-within
 returns-in-Err-turn-clause-within g c may allowed only =
     reads_refused may c.refused-in-Err-turn.new.buckets c.refused-in-Err-turn.ensures.marks.refused
-
-pub returns-clause-reads : goal.returns-clause-reads
-returns-clause-reads g c =
-    reads_then c.args.buckets.now c.listers.new.buckets c.keep_list.new.buckets c.keep_list.result c.in-Ok.ensures.reads c.keep_list.ensures.reads

@@ -1,5 +1,5 @@
 -- Each turn stores a bucket, and what will be written stays.
-use Rattle.std.proofs.Common.{ℕ, ◌*◌, IsTrue, refl, sym, ap, subst, ◌∙◌, arith}
+use Rattle.std.proofs.Common.{ℕ, ◌*◌, ◌||◌, Bool, Err, IsTrue, refl, sym, ap, subst, ◌∙◌, arith}
 use Rattle.std.specs.FinMap as map
 use Rattle.std.specs.Option.{IsSome}
 use Rattle.bucket_records.specs.Records.{AreRecords}
@@ -8,7 +8,10 @@ use Rattle.chain_store.specs.declared.root.Root.{Root}
 use Rattle.chain_store.specs.Chains.{disk_of, journal_of, read_of, written_of}
 use Rattle.chain_store.specs.Known.{Lists}
 use Rattle.outside.specs.Disk.{ReadsAtMost}
+use Rattle.page_journal.specs.Answers.{answers_disk_fault}
 use Rattle.page_journal.specs.Journal.{home_count, is_broken}
+use Rattle.chain_store.specs.Answers.{IsReadAnswer}
+use Rattle.bucket_store.proofs.Frames.{or_none, quiet_cause}
 use Rattle.page_journal.proofs.ReadCounts.{reads_then}
 use Rattle.chain_store.proofs.Looks.{looked_then}
 use Rattle.bucket_store.specs.Buckets.{bucket_count}
@@ -34,9 +37,9 @@ loop-n-preserved g c =
     let done = c.in_default-store_bucket.ensures in
     record {
       buckets = buckets_same (bucket_count c.loop-n.chains) (bucket_count c.store_bucket.new.chains) c.pop.new.self
-          (ap (λ (r : Root). r.buckets) (sym done.root))
+          (ap (λ (r : Root). r.buckets) (sym done.leaves.root))
           (buckets_less (bucket_count c.loop-n.chains) c.loop-n.cache c.pop.new.self c.in-Some.n c.in-Some.ensures.rest so-far.buckets);
-      going = done.going;
+      going = done.leaves.going;
       written = λ n. after_same c.loop-n.cache c.pop.new.self (written_of c.loop-n.chains) (written_of c.store_bucket.new.chains) c.in-Some.n
           c.in-Some.cached c.in-Some.ensures.there c.in-Some.ensures.rest done.written n ∙ so-far.written n;
       rise = λ n own there changed. rise_less c.loop-n.cache c.pop.new.self c.in-Some.n c.in-Some.cached n own (AreRecords 0 (map.entries own.bucket.values))
@@ -48,7 +51,7 @@ loop-n-preserved g c =
           let here = so-far.opens pages was had in (
             done.open pages here.0 (here.1 c.in-Some.n c.in-Some.cached c.in-Some.ensures.there),
             origins_less pages c.loop-n.chains c.store_bucket.new.chains c.loop-n.cache c.pop.new.self c.in-Some.n c.in-Some.cached c.in-Some.ensures.rest
-                done.kept done.written here.1,
+                done.leaves.kept done.written here.1,
           );
       reads = λ all.
           let so = so-far.reads all in
@@ -61,12 +64,12 @@ loop-n-preserved g c =
                 (disk_of c.store_bucket.new.chains).reads so.2
                 (subst (λ (n : ℕ). ReadsAtMost 0 (4096 * n) (disk_of c.loop-n.chains) (disk_of c.store_bucket.new.chains)) so-far.looked.pages one.1),
           );
-      kept = done.kept ∙ so-far.kept;
-      root = done.root ∙ so-far.root;
+      kept = done.leaves.kept ∙ so-far.kept;
+      root = done.leaves.root ∙ so-far.root;
       still = still_then (is_broken (journal_of c.args.chains.now)) (is_broken (journal_of c.loop-n.chains))
-          (is_broken (journal_of c.store_bucket.new.chains)) so-far.still done.broken;
-      later = omega (arith, so-far.later, done.cause.later);
-      looked = looked_then (journal_of c.args.chains.now) (journal_of c.loop-n.chains) (journal_of c.store_bucket.new.chains) so-far.looked done.looked;
+          (is_broken (journal_of c.store_bucket.new.chains)) so-far.still done.leaves.broken;
+      later = omega (arith, so-far.later, done.leaves.cause.later);
+      looked = looked_then (journal_of c.args.chains.now) (journal_of c.loop-n.chains) (journal_of c.store_bucket.new.chains) so-far.looked done.leaves.looked;
     }
 
 pub returns-clause-written : goal.returns-clause-written
@@ -86,3 +89,34 @@ pub returns-in-Err-clause-open : goal.returns-in-Err-clause-open
 returns-in-Err-clause-open g c pages was had =
     let here = c.loop-n.invariant.opens pages was had in
     c.in-Err.ensures.open pages here.0 (here.1 c.in-Some.n c.in-Some.cached c.in-Some.ensures.there)
+
+pub returns-clause-leaves : goal.returns-clause-leaves
+returns-clause-leaves g c =
+    let so-far = c.loop-n.invariant in
+    record {
+      kept = so-far.kept;
+      root = so-far.root;
+      going = so-far.going;
+      alone = tt;
+      looked = so-far.looked;
+      broken = so-far.still ∙ or_none (is_broken (journal_of c.args.chains.now));
+      cause = quiet_cause _ _ _ refl (so-far.later);
+    }
+
+pub returns-in-Err-clause-leaves : goal.returns-in-Err-clause-leaves
+returns-in-Err-clause-leaves g c =
+    let so-far = c.loop-n.invariant in
+    let done = c.in-Err.ensures.leaves in
+    let fault = c.in-Err.fault in
+    record {
+      kept = done.kept ∙ so-far.kept;
+      root = done.root ∙ so-far.root;
+      going = tt;
+      alone = subst (λ (b : Bool). IsReadAnswer {T = Unit {0}} b (Err fault)) so-far.still done.alone;
+      looked = looked_then (journal_of c.args.chains.now) (journal_of c.loop-n.chains) (journal_of c.store_bucket.new.chains) so-far.looked done.looked;
+      broken = done.broken ∙ ap (λ (b : Bool). b || answers_disk_fault {T = Unit {0}} (Err fault)) so-far.still;
+      cause = record {
+        later = omega (arith, so-far.later, done.cause.later);
+        failed = λ is. omega (arith, so-far.later, done.cause.failed is);
+      };
+    }

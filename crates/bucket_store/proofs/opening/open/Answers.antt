@@ -1,20 +1,33 @@
 -- The journal is finished, and then what is kept is read.
-use Rattle.std.proofs.Common.{◌+◌, ◌*◌, length, refl, ◌∙◌, arith}
+use Rattle.std.proofs.Common.{◌+◌, ◌*◌, ℕ, length, refl, ◌∙◌, arith}
 use Rattle.page_journal.proofs.ReadCounts.{reads_more, reads_then}
 use Rattle.chain_store.specs.Kept.{page_total}
-use Rattle.bucket_store.proofs.Reopened.{goes_meant, holds_found, image_state, rests_stays, sound_kept, sound_open}
+use Rattle.bucket_store.proofs.Reopened.{goes_meant, holds_found, image_state, kept_formatted, rests_stays, sound_kept, sound_open}
 use Rattle.bucket_store.specs.Opening.{MeansOne}
 use Rattle.bucket_store.specs.declared.opened.Opened.{Opened}
-use Rattle.page_journal.proofs.Moments.{goes_stays}
+use Rattle.page_journal.proofs.Moments.{goes_stays, stays_then}
+use Rattle.page_journal.specs.declared.fault.StoreFault.TheVariants.{NotFormatted}
+use Rattle.chain_store.specs.declared.kept.Kept.{Kept}
+use Rattle.bucket_store.proofs.Frames.{cause_of, err_of, quiet_cause}
 use Rattle.bucket_store.proofs.opening.open.Goals as goal
 
-pub returns-in-Err-clause-sound : goal.returns-in-Err-clause-sound
-returns-in-Err-clause-sound g c bytes told image has =
-    sound_open Opened c.in-Err.fault bytes has.state.pages has.state.home (c.in-Err.ensures.answers bytes told)
+pub returns-in-Err-clause-image : goal.returns-in-Err-clause-image
+returns-in-Err-clause-image g c = record {
+  found = tt;
+  sound = λ bytes told image has. sound_open Opened c.in-Err.fault bytes has.state.pages has.state.home (c.in-Err.ensures.answers bytes told);
+  any_moment = λ bytes told meant.
+      goes_meant (g.D.Disk.view c.args.disk.now).crashes (g.D.Disk.view c.open.new.disk).crashes meant (c.open.ensures.any_moment bytes told);
+}
 
-pub returns-in-Err-clause-any_moment : goal.returns-in-Err-clause-any_moment
-returns-in-Err-clause-any_moment g c bytes told meant =
-    goes_meant (g.D.Disk.view c.args.disk.now).crashes (g.D.Disk.view c.open.new.disk).crashes meant (c.open.ensures.any_moment bytes told)
+pub returns-in-Err-clause-leaves : goal.returns-in-Err-clause-leaves
+returns-in-Err-clause-leaves g c =
+    let done = c.in-Err.ensures.opens in
+    record {
+      looked = c.open.ensures.opens.looked;
+      refused = λ is. done.refused (err_of Opened ℕ c.in-Err.fault NotFormatted is);
+      told = done.told;
+      cause = cause_of ℕ Opened _ _ c.in-Err.fault done.cause;
+    }
 
 pub returns-in-Ok-kept_on-clause-fits : goal.returns-in-Ok-kept_on-clause-fits
 returns-in-Ok-kept_on-clause-fits g c bytes told =
@@ -26,39 +39,63 @@ returns-in-Ok-kept_on-clause-fits g c bytes told =
       keeps = (c.in-Ok-kept_on.ensures.answers done.0 done.3 done.2).1;
     }
 
-pub returns-in-Ok-kept_on-clause-found : goal.returns-in-Ok-kept_on-clause-found
-returns-in-Ok-kept_on-clause-found g c bytes told image has =
-    let done = c.in-Ok.ensures.done bytes told in
-    holds_found image bytes done.0 (g.D.Disk.view c.kept_on.new.disk) has done.1
-    (rests_stays done.0 (g.D.Disk.view c.open.new.disk) (g.D.Disk.view c.kept_on.new.disk) done.3 c.kept_on.ensures.stays)
-
-pub returns-in-Ok-kept_on-clause-any_moment : goal.returns-in-Ok-kept_on-clause-any_moment
-returns-in-Ok-kept_on-clause-any_moment g c bytes told meant =
+pub returns-in-Ok-kept_on-clause-image : goal.returns-in-Ok-kept_on-clause-image
+returns-in-Ok-kept_on-clause-image g c =
     let old = (g.D.Disk.view c.args.disk.now).crashes in
-    goes_stays (MeansOne old) old (g.D.Disk.view c.open.new.disk) (g.D.Disk.view c.kept_on.new.disk)
-    (goes_meant old (g.D.Disk.view c.open.new.disk).crashes meant (c.open.ensures.any_moment bytes told)) c.kept_on.ensures.stays
+    let mid = g.D.Disk.view c.open.new.disk in
+    let new = g.D.Disk.view c.kept_on.new.disk in
+    record {
+      found = λ bytes told image has.
+          let done = c.in-Ok.ensures.done bytes told in
+          holds_found image bytes done.0 new has done.1 (rests_stays done.0 mid new done.3 c.kept_on.ensures.stays);
+      sound = λ bytes told image has. tt;
+      any_moment = λ bytes told meant.
+          goes_stays (MeansOne old) old mid new (goes_meant old mid.crashes meant (c.open.ensures.any_moment bytes told)) c.kept_on.ensures.stays;
+    }
 
-pub returns-in-Err-kept_on-clause-sound : goal.returns-in-Err-kept_on-clause-sound
-returns-in-Err-kept_on-clause-sound g c bytes told image has =
-    let done = c.in-Ok.ensures.done bytes told in
-    sound_kept image.root has.strings done.0 (image_state image bytes done.0 has done.1) Opened c.in-Err-kept_on.fault
-    (c.in-Err-kept_on.ensures.answers done.0 done.3 done.2) c.in-Err-kept_on.ensures.alone
+pub returns-in-Ok-kept_on-clause-leaves : goal.returns-in-Ok-kept_on-clause-leaves
+returns-in-Ok-kept_on-clause-leaves g c =
+    let old = g.D.Disk.view c.args.disk.now in
+    let mid = g.D.Disk.view c.open.new.disk in
+    let new = g.D.Disk.view c.kept_on.new.disk in
+    record {
+      looked = λ bytes told shut. stays_then old mid new (c.open.ensures.opens.looked bytes told shut) c.kept_on.ensures.stays;
+      refused = λ is. absurd (cc (is));
+      told = λ bytes told quiet. let now = c.in-Ok.ensures.opens.told bytes told refl in (now.0, c.kept_on.ensures.stays.content ∙ now.1);
+      cause = quiet_cause _ _ _ refl (omega (arith, c.in-Ok.ensures.opens.cause.later, c.kept_on.ensures.cause.later));
+    }
 
-pub returns-in-Err-kept_on-clause-any_moment : goal.returns-in-Err-kept_on-clause-any_moment
-returns-in-Err-kept_on-clause-any_moment g c bytes told meant =
+pub returns-in-Err-kept_on-clause-image : goal.returns-in-Err-kept_on-clause-image
+returns-in-Err-kept_on-clause-image g c =
     let old = (g.D.Disk.view c.args.disk.now).crashes in
-    goes_stays (MeansOne old) old (g.D.Disk.view c.open.new.disk) (g.D.Disk.view c.kept_on.new.disk)
-    (goes_meant old (g.D.Disk.view c.open.new.disk).crashes meant (c.open.ensures.any_moment bytes told)) c.kept_on.ensures.stays
+    let mid = g.D.Disk.view c.open.new.disk in
+    let new = g.D.Disk.view c.kept_on.new.disk in
+    record {
+      found = tt;
+      sound = λ bytes told image has.
+          let done = c.in-Ok.ensures.done bytes told in
+          sound_kept image.root has.strings done.0 (image_state image bytes done.0 has done.1) Opened c.in-Err-kept_on.fault
+          (c.in-Err-kept_on.ensures.answers done.0 done.3 done.2) c.in-Err-kept_on.ensures.alone;
+      any_moment = λ bytes told meant.
+          goes_stays (MeansOne old) old mid new (goes_meant old mid.crashes meant (c.open.ensures.any_moment bytes told)) c.kept_on.ensures.stays;
+    }
 
-pub returns-in-Ok-kept_on-clause-told : goal.returns-in-Ok-kept_on-clause-told
-returns-in-Ok-kept_on-clause-told g c = λ bytes told quiet.
-    let now = c.in-Ok.ensures.told bytes told refl in
-    (now.0, c.kept_on.ensures.stays.content ∙ now.1)
-
-pub returns-in-Err-kept_on-clause-told : goal.returns-in-Err-kept_on-clause-told
-returns-in-Err-kept_on-clause-told g c = λ bytes told quiet.
-    let now = c.in-Ok.ensures.told bytes told refl in
-    (now.0, c.kept_on.ensures.stays.content ∙ now.1)
+pub returns-in-Err-kept_on-clause-leaves : goal.returns-in-Err-kept_on-clause-leaves
+returns-in-Err-kept_on-clause-leaves g c =
+    let old = g.D.Disk.view c.args.disk.now in
+    let mid = g.D.Disk.view c.open.new.disk in
+    let new = g.D.Disk.view c.kept_on.new.disk in
+    let fault = c.in-Err-kept_on.fault in
+    let cause = cause_of Kept Opened _ _ fault c.in-Err-kept_on.ensures.cause in
+    record {
+      looked = λ bytes told shut. stays_then old mid new (c.open.ensures.opens.looked bytes told shut) c.kept_on.ensures.stays;
+      refused = λ is. absurd (kept_formatted fault c.in-Err-kept_on.ensures.alone is);
+      told = λ bytes told quiet. let now = c.in-Ok.ensures.opens.told bytes told refl in (now.0, c.kept_on.ensures.stays.content ∙ now.1);
+      cause = record {
+        later = omega (arith, c.in-Ok.ensures.opens.cause.later, cause.later);
+        failed = λ is. omega (arith, c.in-Ok.ensures.opens.cause.later, cause.failed is);
+      };
+    }
 
 pub returns-in-Ok-kept_on-clause-reads : goal.returns-in-Ok-kept_on-clause-reads
 returns-in-Ok-kept_on-clause-reads g c = λ bytes told shut.

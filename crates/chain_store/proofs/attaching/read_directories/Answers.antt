@@ -1,4 +1,4 @@
-use Rattle.std.proofs.Common.{Bool, ◌||◌, ◌≡◌, ◌∷◌, [], ◌++◌, ◌+◌, ◌*◌, ◌<◌, ℕ, List, length, sym, ap, subst, ◌∙◌, arith, length-append}
+use Rattle.std.proofs.Common.{Bool, ◌||◌, ◌≡◌, ◌∷◌, [], ◌++◌, ◌+◌, ◌*◌, ◌<◌, ℕ, List, length, sym, ap, subst, ◌∙◌, arith, length-append, rules}
 use Rattle.std.proofs.Math.Bool.{or-false}
 use Rattle.outside.specs.Disk.{ReadsAtMost}
 use Rattle.page_journal.specs.Answers.{is_disk_fault}
@@ -43,25 +43,29 @@ loop-m-preserved g c =
           (more_of (λ k l. AreBehindRoot count l) pages_at old (old ++ here ∷ []) c.loop-m.m here.pages.items
           (λ k below. pages_at-push old here k (omega (arith, below, inv.many))) (pages_at-last old here c.loop-m.m (sym inv.many)) inv.inside
           (subst (λ (n : ℕ). AreBehindRoot n here.pages.items) inv.looked.pages ok.inside));
-      looked = looked_then c.args.journal.now c.loop-m.journal c.read_directory.new.journal inv.looked ok.looked;
-      broken = ok.broken ∙ or-false (is_broken c.loop-m.journal) ∙ inv.broken;
+      looked = looked_then c.args.journal.now c.loop-m.journal c.read_directory.new.journal inv.looked ok.looks.looked;
+      broken = ok.looks.broken ∙ or-false (is_broken c.loop-m.journal) ∙ inv.broken;
       reads =
           subst (λ (n : ℕ). ReadsAtMost n (4096 * count) (view_of c.args.journal.now) (view_of c.read_directory.new.journal))
           (sym (ap (λ (ds : List Walked). page_total ds) pushed ∙ page_total-push old here))
           (reads_then (page_total old) (length here.pages.items) (4096 * count) (view_of c.args.journal.now).reads
           (view_of c.loop-m.journal).reads (view_of c.read_directory.new.journal).reads inv.reads
           (subst (λ (n : ℕ). ReadsAtMost (length here.pages.items) (4096 * n) (view_of c.loop-m.journal) (view_of c.read_directory.new.journal)) inv.looked.pages ok.reads));
-      later = omega (arith, inv.later, ok.cause.later);
+      later = omega (arith, inv.later, ok.looks.cause.later);
     }
 
-pub returns-in-Err-clause-looked : goal.returns-in-Err-clause-looked
-returns-in-Err-clause-looked g c =
-    looked_then c.args.journal.now c.loop-m.journal c.read_directory.new.journal c.loop-m.invariant.looked c.read_directory.ensures.looked
+pub returns-in-Err-clause-looks : goal.returns-in-Err-clause-looks
+returns-in-Err-clause-looks g c = record {
+  looked = looked_then c.args.journal.now c.loop-m.journal c.read_directory.new.journal c.loop-m.invariant.looked c.read_directory.ensures.looks.looked;
+  alone = search rules;
+  broken = c.in-Err.ensures.looks.broken ∙ ap (λ (b : Bool). b || is_disk_fault c.in-Err.fault) c.loop-m.invariant.broken;
+  cause = search rules;
+}
 
-pub returns-in_err-push-clause-looked : goal.returns-in_err-push-clause-looked
-returns-in_err-push-clause-looked g c =
-    looked_then c.args.journal.now c.loop-m.journal c.read_directory.new.journal c.loop-m.invariant.looked c.read_directory.ensures.looked
-
-pub returns-in-Err-clause-broken : goal.returns-in-Err-clause-broken
-returns-in-Err-clause-broken g c =
-    c.in-Err.ensures.broken ∙ ap (λ (b : Bool). b || is_disk_fault c.in-Err.fault) c.loop-m.invariant.broken
+pub returns-in_err-push-clause-looks : goal.returns-in_err-push-clause-looks
+returns-in_err-push-clause-looks g c = record {
+  looked = looked_then c.args.journal.now c.loop-m.journal c.read_directory.new.journal c.loop-m.invariant.looked c.read_directory.ensures.looks.looked;
+  alone = search rules;
+  broken = search rules;
+  cause = search rules;
+}

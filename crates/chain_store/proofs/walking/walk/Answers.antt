@@ -1,4 +1,4 @@
-use Rattle.std.proofs.Common.{Bool, ◌||◌, ◌≡◌, ◌∷◌, [], ◌+◌, ◌*◌, ◌<◌, ◌≤◌, ◌++◌, ℕ, List, length, refl, sym, ap, subst, ◌∙◌, arith, length-append}
+use Rattle.std.proofs.Common.{Bool, ◌||◌, ◌≡◌, ◌∷◌, [], ◌+◌, ◌*◌, ◌<◌, ◌≤◌, ◌++◌, ℕ, List, length, refl, sym, ap, subst, ◌∙◌, arith, length-append, rules}
 use Rattle.page_journal.specs.Pages.{number}
 use Rattle.std.proofs.Math.Bool.{or-false}
 use Rattle.std.proofs.lemmas.List.Elements.{All-push}
@@ -42,27 +42,35 @@ loop-at-preserved g c =
       few = omega (arith, may.2, c.len.ensures, many);
       inside = subst (λ (ns : List ℕ). AreBehindRoot (home_count c.args.journal.now) ns) (sym pushed)
           (All-push (IsBehindRoot (home_count c.args.journal.now)) c.loop-at.pages.items c.loop-at.at inv.inside inside);
-      looked = looked_then c.args.journal.now c.loop-at.journal c.look_at.new.journal inv.looked c.look_at.ensures.looked;
-      broken = c.in_default.ensures.broken ∙ or-false (is_broken c.loop-at.journal) ∙ inv.broken;
+      looked = looked_then c.args.journal.now c.loop-at.journal c.look_at.new.journal inv.looked c.look_at.ensures.looks.looked;
+      broken = c.in_default.ensures.looks.broken ∙ or-false (is_broken c.loop-at.journal) ∙ inv.broken;
       reads = subst (λ (n : ℕ). ReadsAtMost n (4096 * home_count c.args.journal.now) (view_of c.args.journal.now) (view_of c.look_at.new.journal)) (sym many)
           (reads_then (length c.loop-at.pages.items) 1 (4096 * home_count c.args.journal.now) (view_of c.args.journal.now).reads
           (view_of c.loop-at.journal).reads (view_of c.look_at.new.journal).reads inv.reads
           (subst (λ (n : ℕ). ReadsAtMost 1 (4096 * n) (view_of c.loop-at.journal) (view_of c.look_at.new.journal)) inv.looked.pages c.in_default.ensures.reads));
-      later = omega (arith, inv.later, c.in_default.ensures.cause.later);
+      later = omega (arith, inv.later, c.in_default.ensures.looks.cause.later);
     }
 
-pub returns-in-Err-clause-looked : goal.returns-in-Err-clause-looked
-returns-in-Err-clause-looked g c =
-    looked_then c.args.journal.now c.loop-at.journal c.look_at.new.journal c.loop-at.invariant.looked c.look_at.ensures.looked
+pub returns-in-Err-clause-looks : goal.returns-in-Err-clause-looks
+returns-in-Err-clause-looks g c = record {
+  looked = looked_then c.args.journal.now c.loop-at.journal c.look_at.new.journal c.loop-at.invariant.looked c.look_at.ensures.looks.looked;
+  alone = search rules;
+  broken = c.in-Err.ensures.looks.broken ∙ ap (λ (b : Bool). b || is_disk_fault c.in-Err.fault) c.loop-at.invariant.broken;
+  cause = search rules;
+}
 
-pub returns-in_err-push-clause-looked : goal.returns-in_err-push-clause-looked
-returns-in_err-push-clause-looked g c =
-    looked_then c.args.journal.now c.loop-at.journal c.look_at.new.journal c.loop-at.invariant.looked c.look_at.ensures.looked
+pub returns-in_err-push-clause-looks : goal.returns-in_err-push-clause-looks
+returns-in_err-push-clause-looks g c = record {
+  looked = looked_then c.args.journal.now c.loop-at.journal c.look_at.new.journal c.loop-at.invariant.looked c.look_at.ensures.looks.looked;
+  alone = search rules;
+  broken = search rules;
+  cause = search rules;
+}
 
-pub returns-in_err-extend_from_slice-clause-looked : goal.returns-in_err-extend_from_slice-clause-looked
-returns-in_err-extend_from_slice-clause-looked g c =
-    looked_then c.args.journal.now c.loop-at.journal c.look_at.new.journal c.loop-at.invariant.looked c.look_at.ensures.looked
-
-pub returns-in-Err-clause-broken : goal.returns-in-Err-clause-broken
-returns-in-Err-clause-broken g c =
-    c.in-Err.ensures.broken ∙ ap (λ (b : Bool). b || is_disk_fault c.in-Err.fault) c.loop-at.invariant.broken
+pub returns-in_err-extend_from_slice-clause-looks : goal.returns-in_err-extend_from_slice-clause-looks
+returns-in_err-extend_from_slice-clause-looks g c = record {
+  looked = looked_then c.args.journal.now c.loop-at.journal c.look_at.new.journal c.loop-at.invariant.looked c.look_at.ensures.looks.looked;
+  alone = search rules;
+  broken = search rules;
+  cause = search rules;
+}

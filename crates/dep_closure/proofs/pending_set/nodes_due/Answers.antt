@@ -9,7 +9,7 @@ use Rattle.dep_closure.proofs.pending_set.nodes_due.Goals.{then-reaches_nodes+in
 pub returns-clause-rising : goal.returns-clause-rising
 returns-clause-rising c =
     let all : AllByRecursion IsId c.if-reaches_nodes.nodes.items = elim c.if-reaches_nodes.branch [
-      | then-reaches_nodes+in_ok-add_selected w ↦ rw w.nodes-is (w.add_selected.ensures.ids c.in_ok-nodes.ensures.ids)
+      | then-reaches_nodes+in_ok-add_selected w ↦ rw w.nodes-is (w.in_ok-add_selected.ensures.selected.ids c.in_ok-nodes.ensures.ids)
       | else-reaches_nodes w ↦ rw w.nodes-is c.in_ok-nodes.ensures.ids
     ] in (
       subst IsRising (sym c.into_ids.ensures.ids) c.into_ids.ensures.rise,

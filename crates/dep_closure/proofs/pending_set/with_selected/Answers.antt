@@ -9,5 +9,5 @@ pub returns-clause-rising : goal.returns-clause-rising
 returns-clause-rising c = (
   subst IsRising (sym c.into_ids.ensures.ids) c.into_ids.ensures.rise,
   same-ids c.add_selected.new.ids.items c.into_ids.result (λ id. ap (λ ids. has ids id) c.into_ids.ensures.ids ∙ c.from_vec.ensures.same id)
-      (c.add_selected.ensures.ids (subst (AllByRecursion IsId) (sym c.into_vec-ids.ensures.items) c.requires)),
+      (c.in_ok-add_selected.ensures.selected.ids (subst (AllByRecursion IsId) (sym c.into_vec-ids.ensures.items) c.requires)),
 )

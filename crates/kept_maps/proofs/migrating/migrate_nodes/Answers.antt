@@ -3,17 +3,14 @@ use Rattle.std.proofs.Common.{◌≡◌, ◌≤◌, ◌∙◌, ℕ, Ok, Err, ap,
 use Rattle.chain_store.specs.declared.root.Root.{Root}
 use Rattle.bucket_store.specs.Buckets.{bucket_count}
 use Rattle.bucket_store.specs.Transaction.{chains_of}
-use Rattle.back_index.specs.Asking.{reads_more, reads_none}
 use Rattle.back_index.proofs.Chained.{count_same}
-use Rattle.kept_maps.proofs.Migrations.{looks_none, looks_then, old_sound, renewed_maps, renews_all, renews_first, renews_next, unread_next}
+use Rattle.kept_maps.proofs.Migrations.{old_sound, once_none, once_then, renewed_maps, renews_all, renews_first, renews_next, unread_next}
 use Rattle.kept_maps.proofs.migrating.migrate_nodes.Goals as goal
 
 pub loop-bucket-init : goal.loop-bucket-init
 loop-bucket-init g c = record {
-  some = c.requires.some;
-  going = c.requires.going;
-  looks = looks_none c.args.buckets.now c.requires.going;
-  reads = reads_none c.args.buckets.now;
+  live = record { some = c.requires.some; going = c.requires.going };
+  once = once_none c.args.buckets.now c.requires.going;
   renews = λ rest now owns. (now, owns, renews_first now);
 }
 
@@ -25,10 +22,11 @@ loop-bucket-preserved g c =
     let mid = c.loop-bucket.buckets in
     let new = c.renew_bucket.new.buckets in
     record {
-      some = subst (λ (n : ℕ). 1 ≤ n) (sym (count_same mid new did.looks.stays)) inv.some;
-      going = did.looks.refused;
-      looks = looks_then old mid new (Ok tt) inv.looks did.looks;
-      reads = reads_more old mid new inv.reads did.reads;
+      live = record {
+        some = subst (λ (n : ℕ). 1 ≤ n) (sym (count_same mid new did.once.looks.stays)) inv.live.some;
+        going = did.once.looks.refused;
+      };
+      once = once_then old mid new (Ok tt) inv.once did.once;
       renews = λ rest now owns.
           let count : c.root-count.result.buckets ≡ now.root.buckets = ap (λ (r : Root). r.buckets) (c.root-count.ensures ∙ owns.root) in
           let was = inv.renews rest now owns in
@@ -42,19 +40,19 @@ returns-in-Err-clause-sound g c definitions under maps had =
     let was = c.loop-bucket.invariant.renews under.rest had.now had.has in
     old_sound definitions under maps c.args.buckets.now had c.in-Err.fault
     (unread_next c.args.buckets.now c.loop-bucket.buckets had.now was.0 c.loop-bucket.bucket c.in-Err.fault
-    (omega (arith, c.loop-bucket-test.true, count)) c.loop-bucket.invariant.looks.stays was.2 (c.in-Err.ensures.stops under.rest was.0 was.1))
+    (omega (arith, c.loop-bucket-test.true, count)) c.loop-bucket.invariant.once.looks.stays was.2 (c.in-Err.ensures.stops under.rest was.0 was.1))
 
 pub returns-in-Err-clause-stops : goal.returns-in-Err-clause-stops
 returns-in-Err-clause-stops g c rest now owns =
     let count : c.root-count.result.buckets ≡ now.root.buckets = ap (λ (r : Root). r.buckets) (c.root-count.ensures ∙ owns.root) in
     let was = c.loop-bucket.invariant.renews rest now owns in
     unread_next c.args.buckets.now c.loop-bucket.buckets now was.0 c.loop-bucket.bucket c.in-Err.fault
-    (omega (arith, c.loop-bucket-test.true, count)) c.loop-bucket.invariant.looks.stays was.2 (c.in-Err.ensures.stops rest was.0 was.1)
+    (omega (arith, c.loop-bucket-test.true, count)) c.loop-bucket.invariant.once.looks.stays was.2 (c.in-Err.ensures.stops rest was.0 was.1)
 
-pub returns-in-Err-clause-looks : goal.returns-in-Err-clause-looks
-returns-in-Err-clause-looks g c =
-    looks_then {T = Unit {0}} c.args.buckets.now c.loop-bucket.buckets c.renew_bucket.new.buckets (Err c.in-Err.fault) c.loop-bucket.invariant.looks
-    c.in-Err.ensures.looks
+pub returns-in-Err-clause-once : goal.returns-in-Err-clause-once
+returns-in-Err-clause-once g c =
+    once_then {T = Unit {0}} c.args.buckets.now c.loop-bucket.buckets c.renew_bucket.new.buckets (Err c.in-Err.fault) c.loop-bucket.invariant.once
+    c.in-Err.ensures.once
 
 pub returns-clause-renews : goal.returns-clause-renews
 returns-clause-renews g c rest now owns =

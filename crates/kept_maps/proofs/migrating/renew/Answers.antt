@@ -8,9 +8,8 @@ use Rattle.middle_nodes.specs.declared.calls.TheConstants.{NODES}
 use Rattle.std.proofs.Common.{◌≡◌}
 use Rattle.back_index.specs.Calls.{page_in}
 use Rattle.back_index.proofs.Chained.{sound_result}
-use Rattle.back_index.proofs.ReadKeys.{reads_result}
 use Rattle.back_index.proofs.Reading.{on_ok}
-use Rattle.kept_maps.proofs.Migrations.{refuses_value, touched_looks, value_looks}
+use Rattle.kept_maps.proofs.Migrations.{once_key, refuses_value, value_once}
 use Rattle.kept_maps.proofs.migrating.renew.Goals as goal
 
 pub returns-in-Ok-clause-renews : goal.returns-in-Ok-clause-renews
@@ -23,18 +22,15 @@ returns-in-Ok-clause-stops g c rest now owns =
     sound_result (Unit {0}) (λ at. IsNoValue old_bytes IsOldPlace c.args.bytes.now × (at ≡ page_in c.args.buckets.now NODES c.args.id)) c.put.result
     (c.put.ensures.value.sound rest now owns)
 
-pub returns-in-Ok-clause-reads : goal.returns-in-Ok-clause-reads
-returns-in-Ok-clause-reads g c = reads_result c.args.buckets.now c.put.new.buckets NODES c.args.id c.put.result c.put.ensures.touches.reads
-
-pub returns-in-Ok-clause-looks : goal.returns-in-Ok-clause-looks
-returns-in-Ok-clause-looks g c = touched_looks NODES c.args.id c.args.buckets.now c.put.new.buckets c.put.result c.put.ensures.touches
+pub returns-in-Ok-clause-once : goal.returns-in-Ok-clause-once
+returns-in-Ok-clause-once g c = once_key NODES c.args.id c.args.buckets.now c.put.new.buckets c.put.result c.put.ensures.touches
 
 pub returns-in-Err-clause-stops : goal.returns-in-Err-clause-stops
 returns-in-Err-clause-stops g c rest now owns =
     refuses_value (IsNoValue old_bytes IsOldPlace c.args.bytes.now) (page_in c.args.buckets.now NODES c.args.id) c.in-Err.fault c.refuse_value.result
     c.refuse_value.ensures.refusal c.in-Err.ensures.refused
 
-pub returns-in-Err-clause-looks : goal.returns-in-Err-clause-looks
-returns-in-Err-clause-looks g c =
-    value_looks c.args.buckets.now c.refuse_value.new.buckets (first_of (chains_of c.args.buckets.now) (bucket_at c.args.buckets.now NODES c.args.id))
+pub returns-in-Err-clause-once : goal.returns-in-Err-clause-once
+returns-in-Err-clause-once g c =
+    value_once c.args.buckets.now c.refuse_value.new.buckets (first_of (chains_of c.args.buckets.now) (bucket_at c.args.buckets.now NODES c.args.id))
     c.refuse_value.ensures.chains c.refuse_value.ensures.refused c.refuse_value.ensures.same c.in-Err.fault c.refuse_value.result c.refuse_value.ensures.refusal

@@ -1,20 +1,20 @@
 -- The records of a bucket are those of its nodes.
-use Rattle.std.proofs.Common.{◌≡◌, ◌%◌, ℕ, List, Ok, IfErr, sym, subst}
+use Rattle.std.proofs.Common.{◌≡◌, ◌%◌, ℕ, List, Ok, IfErr, refl, sym, subst}
 use Rattle.middle_nodes.specs.declared.calls.TheConstants.{NODES}
-use Rattle.row_store.specs.Loading.{Among, Looks}
+use Rattle.row_store.specs.Loading.{Among}
 use Rattle.row_store.proofs.LookLaws.{sound_err}
 use Rattle.back_index.specs.Visits.{Refuses}
 use Rattle.back_index.proofs.Chained.{sound_refuses}
-use Rattle.back_index.proofs.ReadKeys.{reads_bucket, reads_then}
+use Rattle.back_index.proofs.ReadKeys.{reads_bucket}
 use Rattle.back_index.proofs.Reading.{on_ok}
-use Rattle.kept_maps.specs.Migrating.{AreThere, HasOldUnread, IsIn, Renews}
-use Rattle.kept_maps.proofs.Migrations.{looks_then, records_there, renews_bucket, unread_bucket}
+use Rattle.kept_maps.specs.Migrating.{AreThere, HasOldUnread, IsIn, LooksOnce, Renews}
+use Rattle.kept_maps.proofs.Migrations.{once_then, records_there, renews_bucket, unread_bucket}
 use Rattle.kept_maps.proofs.migrating.renew_bucket.Goals as goal
 
 pub returns-in-Err-clause-stops : goal.returns-in-Err-clause-stops
 returns-in-Err-clause-stops g c rest now owns =
     sound_refuses (Unit {0}) (HasOldUnread (IsIn now.root.buckets c.args.bucket) c.args.buckets.now now) c.in-Err.fault
-    (sound_err (Unit {0}) c.records.result c.in-Err.fault c.in-Err.is (c.records.ensures.sound rest now owns))
+    (sound_err (Unit {0}) c.records.result c.in-Err.fault c.in-Err.is (c.records.ensures.records.sound rest now owns))
 
 pub returns-clause-renews : goal.returns-clause-renews
 returns-clause-renews g c =
@@ -22,10 +22,10 @@ returns-clause-renews g c =
     (λ renews rest now owns.
     let records = c.in-Ok.records.items in
     let bucket = c.args.bucket % now.root.buckets in
-    let are = c.in-Ok.ensures.found rest now owns in
+    let are = c.in-Ok.ensures.records.found rest now owns in
     let same : c.as_slice.result.now ≡ records = cc (c.as_slice.ensures.value) in
     let there = subst (λ (l : List (ℕ × List ℕ)). AreThere now l) (sym same) (records_there now bucket records are) in
-    let done = renews rest now (c.in-Ok.ensures.has rest now owns) there in (
+    let done = renews rest now (c.in-Ok.ensures.records.keeps.has refl rest now owns) there in (
       done.0,
       done.1,
       renews_bucket now bucket records are done.0 (subst (λ (l : List (ℕ × List ℕ)). Renews (Among l) now done.0) same done.2),
@@ -34,27 +34,25 @@ returns-clause-renews g c =
 pub returns-clause-stops : goal.returns-clause-stops
 returns-clause-stops g c rest now owns =
     let records = c.in-Ok.records.items in
-    let are = c.in-Ok.ensures.found rest now owns in
+    let are = c.in-Ok.ensures.records.found rest now owns in
     let same : c.as_slice.result.now ≡ records = cc (c.as_slice.ensures.value) in
     let there = subst (λ (l : List (ℕ × List ℕ)). AreThere now l) (sym same) (records_there now (c.args.bucket % now.root.buckets) records are) in
-    unread_bucket c.args.buckets.now c.records.new.self now c.args.bucket records are c.renew_records.result c.in-Ok.ensures.stays
+    unread_bucket c.args.buckets.now c.records.new.self now c.args.bucket records are c.renew_records.result c.in-Ok.ensures.touches.stays
     (subst (λ (l : List (ℕ × List ℕ)). IfErr c.renew_records.result (Refuses (HasOldUnread (Among l) c.records.new.self now))) same
-    (c.renew_records.ensures.stops rest now (c.in-Ok.ensures.has rest now owns) there))
+    (c.renew_records.ensures.stops rest now (c.in-Ok.ensures.records.keeps.has refl rest now owns) there))
 
-pub returns-clause-reads : goal.returns-clause-reads
-returns-clause-reads g c =
-    reads_then c.args.buckets.now c.records.new.self c.renew_records.new.buckets c.renew_records.result
-    (reads_bucket c.args.buckets.now c.records.new.self NODES c.args.bucket c.in-Ok.ensures.reads) c.renew_records.ensures.reads
-
-pub returns-clause-looks : goal.returns-clause-looks
-returns-clause-looks g c =
-    let done = c.in-Ok.ensures in
-    let first : Looks {T = Unit {0}} c.args.buckets.now c.records.new.self (Ok tt) = record {
-      same = done.same;
-      stays = done.stays;
-      alone = tt;
-      broken = done.broken;
-      refused = done.refused;
-      cause = record { later = done.cause.later; failed = λ is. absurd (cc) };
+pub returns-clause-once : goal.returns-clause-once
+returns-clause-once g c =
+    let done = c.in-Ok.ensures.touches in
+    let first : LooksOnce {T = Unit {0}} c.args.buckets.now c.records.new.self (Ok tt) = record {
+      looks = record {
+        same = done.same;
+        stays = done.stays;
+        alone = tt;
+        broken = done.broken;
+        refused = done.refused;
+        cause = record { later = done.cause.later; failed = λ is. absurd (cc) };
+      };
+      reads = reads_bucket c.args.buckets.now c.records.new.self NODES c.args.bucket done.reads;
     } in
-    looks_then c.args.buckets.now c.records.new.self c.renew_records.new.buckets c.renew_records.result first c.renew_records.ensures.looks
+    once_then c.args.buckets.now c.records.new.self c.renew_records.new.buckets c.renew_records.result first c.renew_records.ensures.once

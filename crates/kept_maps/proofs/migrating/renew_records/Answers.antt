@@ -7,20 +7,17 @@ use Rattle.middle_nodes.specs.Old.{IsOldPlace, old_bytes}
 use Rattle.middle_nodes.specs.declared.calls.TheConstants.{NODES}
 use Rattle.row_store.specs.Loading.{Among}
 use Rattle.row_store.proofs.LoadLaws.{told_at}
-use Rattle.back_index.specs.Asking.{reads_more, reads_none}
 use Rattle.back_index.specs.Calls.{page_in}
 use Rattle.back_index.proofs.Chained.{count_same, page_same}
 use Rattle.back_index.proofs.Reading.{refuses_more}
 use Rattle.kept_maps.specs.Migrating.{HasOldUnread, Renews}
-use Rattle.kept_maps.proofs.Migrations.{among_at, looks_none, looks_then, renews_more, renews_none}
+use Rattle.kept_maps.proofs.Migrations.{among_at, once_none, once_then, renews_more, renews_none}
 use Rattle.kept_maps.proofs.migrating.renew_records.Goals as goal
 
 pub loop-id-init : goal.loop-id-init
 loop-id-init g c = record {
-  some = c.requires.some;
-  going = c.requires.going;
-  looks = looks_none c.args.buckets.now c.requires.going;
-  reads = reads_none c.args.buckets.now;
+  live = c.requires.live;
+  once = once_none c.args.buckets.now c.requires.live.going;
   renews = λ rest now owns there. (now, owns, renews_none now);
 }
 
@@ -34,10 +31,11 @@ loop-id-preserved g c =
     let records = c.args.records.now in
     let one = c.loop-id-item.result in
     record {
-      some = subst (λ (n : ℕ). 1 ≤ n) (sym (count_same mid new did.looks.stays)) inv.some;
-      going = did.looks.refused;
-      looks = looks_then old mid new (Ok tt) inv.looks did.looks;
-      reads = reads_more old mid new inv.reads did.reads;
+      live = record {
+        some = subst (λ (n : ℕ). 1 ≤ n) (sym (count_same mid new did.once.looks.stays)) inv.live.some;
+        going = did.once.looks.refused;
+      };
+      once = once_then old mid new (Ok tt) inv.once did.once;
       renews = λ rest now owns there.
           let was = inv.renews rest now owns there in
           let done = did.renews rest was.0 was.1 in
@@ -64,12 +62,12 @@ returns-in-Err-clause-stops g c rest now owns there =
       bytes = one.1;
       there = here;
       none = subst (λ (l : List ℕ). IsNoValue old_bytes IsOldPlace l) c.as_slice.ensures.items bad.0;
-      page_is = bad.1 ∙ page_same old mid NODES one.0 inv.looks.stays;
+      page_is = bad.1 ∙ page_same old mid NODES one.0 inv.once.looks.stays;
     }) c.in-Err.fault (c.in-Err.ensures.stops rest was.0 was.1)
 
-pub returns-in-Err-clause-looks : goal.returns-in-Err-clause-looks
-returns-in-Err-clause-looks g c =
-    looks_then {T = Unit {0}} c.args.buckets.now c.loop-id.buckets c.renew.new.buckets (Err c.in-Err.fault) c.loop-id.invariant.looks c.in-Err.ensures.looks
+pub returns-in-Err-clause-once : goal.returns-in-Err-clause-once
+returns-in-Err-clause-once g c =
+    once_then {T = Unit {0}} c.args.buckets.now c.loop-id.buckets c.renew.new.buckets (Err c.in-Err.fault) c.loop-id.invariant.once c.in-Err.ensures.once
 
 pub returns-clause-renews : goal.returns-clause-renews
 returns-clause-renews g c rest now owns there =

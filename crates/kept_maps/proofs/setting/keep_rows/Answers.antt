@@ -5,10 +5,9 @@ use Rattle.back_index.proofs.Reading.{on_ok}
 use Rattle.row_store.specs.Maps.{map_of, number_of}
 use Rattle.store_maps.specs.Maps.{set_rows}
 use Rattle.kept_maps.specs.Held.{HasMaps}
-use Rattle.kept_maps.proofs.Findings.{touched}
+use Rattle.kept_maps.proofs.Findings.{touched_key}
 use Rattle.kept_maps.proofs.Settings.{both_ok, no_rows, rows_put}
 use Rattle.kept_maps.proofs.Within.{rows_allowed, within_touched}
-use Rattle.back_index.proofs.ReadKeys.{reads_result}
 use Rattle.kept_maps.proofs.setting.keep_rows.Goals as goal
 
 pub returns-then-is_empty-clause-sets : goal.returns-then-is_empty-clause-sets
@@ -25,14 +24,10 @@ returns-else-is_empty-clause-sets g c =
     (λ has are under maps had. rows_put c.args.buckets.now c.put.new.buckets c.args.style.now.tables under maps c.args.key.kind c.args.key.id c.args.rows.now are has had)
     c.put.ensures.value.has c.put.ensures.are
 
-pub returns-else-is_empty-clause-answers : goal.returns-else-is_empty-clause-answers
-returns-else-is_empty-clause-answers g c =
-    touched c.args.buckets.now c.put.new.buckets (map_of c.args.key.kind) (number_of c.args.key.kind c.args.key.id) c.put.result c.put.ensures.touches
-
-pub returns-else-is_empty-clause-within : goal.returns-else-is_empty-clause-within
-returns-else-is_empty-clause-within g c may allowed only =
-    within_touched may c.args.buckets.now c.put.new.buckets c.requires.going (map_of c.args.key.kind) (number_of c.args.key.kind c.args.key.id) c.put.result (rows_allowed may c.args.key.kind c.args.key.id allowed) c.put.ensures.touches only
-
-pub returns-else-is_empty-clause-reads : goal.returns-else-is_empty-clause-reads
-returns-else-is_empty-clause-reads g c =
-    reads_result c.args.buckets.now c.put.new.buckets (map_of c.args.key.kind) (number_of c.args.key.kind c.args.key.id) c.put.result c.put.ensures.touches.reads
+pub returns-else-is_empty-clause-puts : goal.returns-else-is_empty-clause-puts
+returns-else-is_empty-clause-puts g c = record {
+  sound = c.put.ensures.value.sound;
+  within = λ may allowed only. within_touched may c.args.buckets.now c.put.new.buckets c.requires.live.going (map_of c.args.key.kind) (number_of c.args.key.kind c.args.key.id) c.put.result (rows_allowed may c.args.key.kind c.args.key.id allowed) c.put.ensures.touches only;
+  touched = touched_key c.args.buckets.now c.put.new.buckets (map_of c.args.key.kind) (number_of c.args.key.kind c.args.key.id) c.put.result
+      c.put.ensures.touches;
+}

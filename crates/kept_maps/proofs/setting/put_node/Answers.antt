@@ -3,10 +3,10 @@ use Rattle.std.proofs.Common.{Some, subst}
 use Rattle.osm_base.specs.values.Tags.{TagMap}
 use Rattle.store_maps.specs.Maps.{set}
 use Rattle.kept_maps.specs.Held.{HasMaps}
-use Rattle.kept_maps.proofs.Findings.{answers_refuse, touched}
+use Rattle.kept_maps.proofs.Findings.{touched_key, touched_refused}
 use Rattle.kept_maps.proofs.Settings.{both_ok, node_set}
 use Rattle.kept_maps.proofs.Within.{within_touched}
-use Rattle.back_index.proofs.ReadKeys.{reads_refused, reads_result}
+use Rattle.back_index.proofs.ReadKeys.{reads_refused}
 use Rattle.kept_maps.proofs.setting.put_node.Goals as goal
 
 pub returns-in-Ok-clause-sets : goal.returns-in-Ok-clause-sets
@@ -19,20 +19,16 @@ returns-in-Ok-clause-sets g c =
     (node_set old new definitions under maps c.args.id (Some (record { place = c.args.place; tags = Some c.in-Ok.tags })) is has had))
     c.put.ensures.value.has c.put.ensures.is
 
-pub returns-in-Ok-clause-answers : goal.returns-in-Ok-clause-answers
-returns-in-Ok-clause-answers g c = touched c.args.buckets.now c.put.new.buckets 0 c.args.id c.put.result c.put.ensures.touches
+pub returns-in-Ok-clause-puts : goal.returns-in-Ok-clause-puts
+returns-in-Ok-clause-puts g c = record {
+  sound = c.put.ensures.value.sound;
+  within = λ may allowed only. within_touched may c.args.buckets.now c.put.new.buckets c.requires.live.going 0 c.args.id c.put.result allowed c.put.ensures.touches only;
+  touched = touched_key c.args.buckets.now c.put.new.buckets 0 c.args.id c.put.result c.put.ensures.touches;
+}
 
-pub returns-in-Err-clause-answers : goal.returns-in-Err-clause-answers
-returns-in-Err-clause-answers g c = answers_refuse c.args.buckets.now c.refuse.new.self (Unit {0}) c.refuse.ensures.chains c.refuse.ensures.refused
-
-pub returns-in-Ok-clause-within : goal.returns-in-Ok-clause-within
-returns-in-Ok-clause-within g c may allowed only =
-    within_touched may c.args.buckets.now c.put.new.buckets c.requires.going 0 c.args.id c.put.result allowed c.put.ensures.touches only
-
-pub returns-in-Err-clause-within : goal.returns-in-Err-clause-within
-returns-in-Err-clause-within g c may allowed only =
-    reads_refused may c.refuse.new.self c.refuse.ensures.refused
-
-pub returns-in-Ok-clause-reads : goal.returns-in-Ok-clause-reads
-returns-in-Ok-clause-reads g c =
-    reads_result c.args.buckets.now c.put.new.buckets 0 c.args.id c.put.result c.put.ensures.touches.reads
+pub returns-in-Err-clause-puts : goal.returns-in-Err-clause-puts
+returns-in-Err-clause-puts g c = record {
+  sound = λ rest now has. tt;
+  within = λ may allowed only. reads_refused may c.refuse.new.self c.refuse.ensures.refused;
+  touched = touched_refused c.args.buckets.now c.refuse.new.self (Unit {0}) c.refuse.ensures.chains c.refuse.ensures.refused;
+}

@@ -18,6 +18,11 @@ returns-in-Node-clause-sets g c =
 pub take_form-requires-clause-kind : goal.take_form-requires-clause-kind
 take_form-requires-clause-kind g c = subst (λ (k : KeyOf). k.kind ≡ kinds.Node → ⊥) c.key.view_is c.in_default.not-Node
 
-pub returns-in-Node-clause-within : goal.returns-in-Node-clause-within
-returns-in-Node-clause-within g c may allowed only =
-    c.take_node.ensures.within may (node_allowed may (record { kind = c.key.inside.kind; id = c.key.inside.id }) c.args.key c.key.view_is (cc (c.in-Node.is)) allowed) only
+pub returns-in-Node-clause-puts : goal.returns-in-Node-clause-puts
+returns-in-Node-clause-puts g c =
+    let puts = c.take_node.ensures.puts in
+    record {
+      sound = puts.sound;
+      within = λ may allowed only. puts.within may (node_allowed may (record { kind = c.key.inside.kind; id = c.key.inside.id }) c.args.key c.key.view_is (cc (c.in-Node.is)) allowed) only;
+      touched = puts.touched;
+    }

@@ -1,10 +1,9 @@
 -- What is taken out of the buckets is taken out of the maps.
 use Rattle.std.proofs.Common.{Bool, []}
 use Rattle.row_store.specs.Maps.{map_of, number_of}
-use Rattle.kept_maps.proofs.Findings.{sound_of, told_err, told_ok, touched}
+use Rattle.kept_maps.proofs.Findings.{sound_of, told_err, told_ok, touched_key}
 use Rattle.kept_maps.proofs.Settings.{rows_set}
 use Rattle.kept_maps.proofs.Within.{rows_allowed, within_touched}
-use Rattle.back_index.proofs.ReadKeys.{reads_bucket}
 use Rattle.kept_maps.proofs.setting.take_rows.Goals as goal
 
 pub returns-in-Ok-clause-sets : goal.returns-in-Ok-clause-sets
@@ -12,27 +11,18 @@ returns-in-Ok-clause-sets g c definitions under maps had =
     rows_set c.args.buckets.now c.remove.new.buckets definitions under maps c.args.key.kind c.args.key.id [] tt
     (λ rest now has. (c.in-Ok.ensures.value.has rest now has).1) had
 
-pub returns-in-Ok-clause-answers : goal.returns-in-Ok-clause-answers
-returns-in-Ok-clause-answers g c =
-    told_ok c.args.buckets.now c.remove.new.buckets c.in-Ok.field-0 tt
-    (touched c.args.buckets.now c.remove.new.buckets (map_of c.args.key.kind) (number_of c.args.key.kind c.args.key.id) _ c.in-Ok.ensures.touches)
+pub returns-in-Ok-clause-puts : goal.returns-in-Ok-clause-puts
+returns-in-Ok-clause-puts g c = record {
+  sound = λ rest now has. tt;
+  within = λ may allowed only. within_touched may c.args.buckets.now c.remove.new.buckets c.requires.live.going (map_of c.args.key.kind) (number_of c.args.key.kind c.args.key.id) _ (rows_allowed may c.args.key.kind c.args.key.id allowed) c.in-Ok.ensures.touches only;
+  touched = told_ok c.args.buckets.now c.remove.new.buckets c.in-Ok.field-0 tt
+      (touched_key c.args.buckets.now c.remove.new.buckets (map_of c.args.key.kind) (number_of c.args.key.kind c.args.key.id) _ c.in-Ok.ensures.touches);
+}
 
-pub returns-in-Err-clause-sound : goal.returns-in-Err-clause-sound
-returns-in-Err-clause-sound g c rest now has = sound_of Bool (Unit {0}) c.in-Err.fault (c.in-Err.ensures.value.sound rest now has)
-
-pub returns-in-Err-clause-answers : goal.returns-in-Err-clause-answers
-returns-in-Err-clause-answers g c =
-    told_err c.args.buckets.now c.remove.new.buckets Bool (Unit {0}) c.in-Err.fault
-    (touched c.args.buckets.now c.remove.new.buckets (map_of c.args.key.kind) (number_of c.args.key.kind c.args.key.id) _ c.in-Err.ensures.touches)
-
-pub returns-in-Ok-clause-within : goal.returns-in-Ok-clause-within
-returns-in-Ok-clause-within g c may allowed only =
-    within_touched may c.args.buckets.now c.remove.new.buckets c.requires.going (map_of c.args.key.kind) (number_of c.args.key.kind c.args.key.id) _ (rows_allowed may c.args.key.kind c.args.key.id allowed) c.in-Ok.ensures.touches only
-
-pub returns-in-Err-clause-within : goal.returns-in-Err-clause-within
-returns-in-Err-clause-within g c may allowed only =
-    within_touched may c.args.buckets.now c.remove.new.buckets c.requires.going (map_of c.args.key.kind) (number_of c.args.key.kind c.args.key.id) _ (rows_allowed may c.args.key.kind c.args.key.id allowed) c.in-Err.ensures.touches only
-
-pub returns-in-Ok-clause-reads : goal.returns-in-Ok-clause-reads
-returns-in-Ok-clause-reads g c =
-    reads_bucket c.args.buckets.now c.remove.new.buckets (map_of c.args.key.kind) (number_of c.args.key.kind c.args.key.id) c.in-Ok.ensures.touches.reads
+pub returns-in-Err-clause-puts : goal.returns-in-Err-clause-puts
+returns-in-Err-clause-puts g c = record {
+  sound = λ rest now has. sound_of Bool (Unit {0}) c.in-Err.fault (c.in-Err.ensures.value.sound rest now has);
+  within = λ may allowed only. within_touched may c.args.buckets.now c.remove.new.buckets c.requires.live.going (map_of c.args.key.kind) (number_of c.args.key.kind c.args.key.id) _ (rows_allowed may c.args.key.kind c.args.key.id allowed) c.in-Err.ensures.touches only;
+  touched = told_err c.args.buckets.now c.remove.new.buckets Bool (Unit {0}) c.in-Err.fault
+      (touched_key c.args.buckets.now c.remove.new.buckets (map_of c.args.key.kind) (number_of c.args.key.kind c.args.key.id) _ c.in-Err.ensures.touches);
+}

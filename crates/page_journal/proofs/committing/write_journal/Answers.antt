@@ -10,42 +10,40 @@ use Rattle.page_journal.proofs.Moments.{goes_quiet, goes_then}
 use Rattle.page_journal.proofs.Phases.{journal_put}
 use Rattle.page_journal.proofs.committing.write_journal.Goals as goal
 
-pub returns-in_err-write_numbers-clause-crash : goal.returns-in_err-write_numbers-clause-crash
-returns-in_err-write_numbers-clause-crash g c = λ base within.
-    let start : 4096 * c.args.home ≤ c.args.home * 4096 = omega arith in
-    c.write_numbers.ensures.crash (4096 * c.args.home) base start within
+pub returns-in_err-write_numbers-clause-writes : goal.returns-in_err-write_numbers-clause-writes
+returns-in_err-write_numbers-clause-writes g c = record {
+  crash = λ base within.
+      let start : 4096 * c.args.home ≤ c.args.home * 4096 = omega arith in
+      c.write_numbers.ensures.writes.crash (4096 * c.args.home) base start within;
+  reads = search rules;
+  cause = search rules;
+}
 
-pub returns-in_err-write_bodies-clause-crash : goal.returns-in_err-write_bodies-clause-crash
-returns-in_err-write_bodies-clause-crash g c = λ base within.
-    let P : List ℕ → Type 0 = Spares (BesideJournal (4096 * c.args.home)) base in
-    let start : 4096 * c.args.home ≤ c.args.home * 4096 = omega arith in
-    let behind : 4096 * c.args.home ≤ c.bodies_at-bodies.result = omega (arith, c.bodies_at-bodies.ensures.place) in
-    let one = c.write_numbers.ensures.crash (4096 * c.args.home) base start within in
-    goes_then P _ _ _ one (c.write_bodies.ensures.crash (4096 * c.args.home) base behind one.now)
+pub returns-in_err-write_bodies-clause-writes : goal.returns-in_err-write_bodies-clause-writes
+returns-in_err-write_bodies-clause-writes g c = record {
+  crash = λ base within.
+      let P : List ℕ → Type 0 = Spares (BesideJournal (4096 * c.args.home)) base in
+      let start : 4096 * c.args.home ≤ c.args.home * 4096 = omega arith in
+      let behind : 4096 * c.args.home ≤ c.bodies_at-bodies.result = omega (arith, c.bodies_at-bodies.ensures.place) in
+      let one = c.write_numbers.ensures.writes.crash (4096 * c.args.home) base start within in
+      goes_then P _ _ _ one (c.write_bodies.ensures.writes.crash (4096 * c.args.home) base behind one.now);
+  reads = c.write_bodies.ensures.writes.reads ∙ c.write_numbers.ensures.writes.reads;
+  cause = caused _ _ _ _ c.write_numbers.ensures.writes.cause.later c.write_bodies.ensures.writes.cause.later c.in_err-write_bodies.ensures.writes.cause.failed;
+}
 
-pub returns-in_err-write_bodies-clause-reads : goal.returns-in_err-write_bodies-clause-reads
-returns-in_err-write_bodies-clause-reads g c = c.write_bodies.ensures.reads ∙ c.write_numbers.ensures.reads
-
-pub returns-in_err-write_bodies-clause-cause : goal.returns-in_err-write_bodies-clause-cause
-returns-in_err-write_bodies-clause-cause g c =
-    caused _ _ _ _ c.write_numbers.ensures.cause.later c.write_bodies.ensures.cause.later c.in_err-write_bodies.ensures.cause.failed
-
-pub returns-in_err-write_fields-clause-crash : goal.returns-in_err-write_fields-clause-crash
-returns-in_err-write_fields-clause-crash g c = λ base within.
-    let P : List ℕ → Type 0 = Spares (BesideJournal (4096 * c.args.home)) base in
-    let start : 4096 * c.args.home ≤ c.args.home * 4096 = omega arith in
-    let behind : 4096 * c.args.home ≤ c.bodies_at-bodies.result = omega (arith, c.bodies_at-bodies.ensures.place) in
-    let one = c.write_numbers.ensures.crash (4096 * c.args.home) base start within in
-    let two = goes_then P _ _ _ one (c.write_bodies.ensures.crash (4096 * c.args.home) base behind one.now) in
-    goes_then P _ _ _ two (c.write_fields.ensures.crash (4096 * c.args.home) base two.now)
-
-pub returns-in_err-write_fields-clause-reads : goal.returns-in_err-write_fields-clause-reads
-returns-in_err-write_fields-clause-reads g c = c.write_fields.ensures.reads ∙ (c.write_bodies.ensures.reads ∙ c.write_numbers.ensures.reads)
-
-pub returns-in_err-write_fields-clause-cause : goal.returns-in_err-write_fields-clause-cause
-returns-in_err-write_fields-clause-cause g c =
-    caused _ _ _ _ (le_trans c.write_numbers.ensures.cause.later c.write_bodies.ensures.cause.later) c.write_fields.ensures.cause.later
-    c.in_err-write_fields.ensures.cause.failed
+pub returns-in_err-write_fields-clause-writes : goal.returns-in_err-write_fields-clause-writes
+returns-in_err-write_fields-clause-writes g c = record {
+  crash = λ base within.
+      let P : List ℕ → Type 0 = Spares (BesideJournal (4096 * c.args.home)) base in
+      let start : 4096 * c.args.home ≤ c.args.home * 4096 = omega arith in
+      let behind : 4096 * c.args.home ≤ c.bodies_at-bodies.result = omega (arith, c.bodies_at-bodies.ensures.place) in
+      let one = c.write_numbers.ensures.writes.crash (4096 * c.args.home) base start within in
+      let two = goes_then P _ _ _ one (c.write_bodies.ensures.writes.crash (4096 * c.args.home) base behind one.now) in
+      goes_then P _ _ _ two ((c.write_fields.ensures.writes (4096 * c.args.home)).crash base two.now);
+  reads = (c.write_fields.ensures.writes 0).reads ∙ (c.write_bodies.ensures.writes.reads ∙ c.write_numbers.ensures.writes.reads);
+  cause = caused _ _ _ _ (le_trans c.write_numbers.ensures.writes.cause.later c.write_bodies.ensures.writes.cause.later) (c.write_fields.ensures.writes 0).cause.later
+      (c.in_err-write_fields.ensures.writes 0).cause.failed;
+}
 
 pub returns-clause-put : goal.returns-clause-put
 returns-clause-put g c =
@@ -70,26 +68,22 @@ returns-clause-put g c =
       three.0,
       c.sync.ensures.content ∙ three.1,
       durable three.0 three.1,
-      journal_put entries count home c.bodies_at-bodies.result bytes one.0 two.0 three.0 (omega (arith, c.requires.some, c.requires.few))
-          c.requires.some at-is numbers two.2 fields,
+      journal_put entries count home c.bodies_at-bodies.result bytes one.0 two.0 three.0 (omega (arith, c.requires.fits.some, c.requires.fits.few))
+          c.requires.fits.some at-is numbers two.2 fields,
     ))
     c.sync.ensures.durable
 
-pub returns-clause-crash : goal.returns-clause-crash
-returns-clause-crash g c = λ base within.
-    let P : List ℕ → Type 0 = Spares (BesideJournal (4096 * c.args.home)) base in
-    let start : 4096 * c.args.home ≤ c.args.home * 4096 = omega arith in
-    let behind : 4096 * c.args.home ≤ c.bodies_at-bodies.result = omega (arith, c.bodies_at-bodies.ensures.place) in
-    let one = c.write_numbers.ensures.crash (4096 * c.args.home) base start within in
-    let two = goes_then P _ _ _ one (c.write_bodies.ensures.crash (4096 * c.args.home) base behind one.now) in
-    let three = goes_then P _ _ _ two (c.write_fields.ensures.crash (4096 * c.args.home) base two.now) in
-    goes_quiet P _ _ _ three c.sync.ensures.time c.sync.ensures.crash
-
-pub returns-clause-reads : goal.returns-clause-reads
-returns-clause-reads g c =
-    c.sync.ensures.reads ∙ (c.write_fields.ensures.reads ∙ (c.write_bodies.ensures.reads ∙ c.write_numbers.ensures.reads))
-
-pub returns-clause-cause : goal.returns-clause-cause
-returns-clause-cause g c =
-    cause_after _ _ _ c.sync.result
-    (le_trans c.write_numbers.ensures.cause.later (le_trans c.write_bodies.ensures.cause.later c.write_fields.ensures.cause.later)) c.sync.ensures.cause
+pub returns-clause-writes : goal.returns-clause-writes
+returns-clause-writes g c = record {
+  crash = λ base within.
+      let P : List ℕ → Type 0 = Spares (BesideJournal (4096 * c.args.home)) base in
+      let start : 4096 * c.args.home ≤ c.args.home * 4096 = omega arith in
+      let behind : 4096 * c.args.home ≤ c.bodies_at-bodies.result = omega (arith, c.bodies_at-bodies.ensures.place) in
+      let one = c.write_numbers.ensures.writes.crash (4096 * c.args.home) base start within in
+      let two = goes_then P _ _ _ one (c.write_bodies.ensures.writes.crash (4096 * c.args.home) base behind one.now) in
+      let three = goes_then P _ _ _ two ((c.write_fields.ensures.writes (4096 * c.args.home)).crash base two.now) in
+      goes_quiet P _ _ _ three c.sync.ensures.time c.sync.ensures.crash;
+  reads = c.sync.ensures.reads ∙ ((c.write_fields.ensures.writes 0).reads ∙ (c.write_bodies.ensures.writes.reads ∙ c.write_numbers.ensures.writes.reads));
+  cause = cause_after _ _ _ c.sync.result
+      (le_trans c.write_numbers.ensures.writes.cause.later (le_trans c.write_bodies.ensures.writes.cause.later (c.write_fields.ensures.writes 0).cause.later)) c.sync.ensures.cause;
+}

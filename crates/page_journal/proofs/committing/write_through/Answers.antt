@@ -17,7 +17,7 @@ returns-in_err-write_journal-clause-any_moment g c = λ old new bytes settled ma
     let P : List ℕ → Type 0 = OldOrNew es n h old new makes in
     let v0 = g.D.Disk.view c.args.disk.now in
     let v1 = g.D.Disk.view c.write_journal.new.disk in
-    let run1 = go_journal es n h old new makes v0 bytes v1.crashes settled c.write_journal.ensures.crash in
+    let run1 = go_journal es n h old new makes v0 bytes v1.crashes settled c.write_journal.ensures.writes.crash in
     run1
 
 pub returns-in_err-set_gate-clause-any_moment : goal.returns-in_err-set_gate-clause-any_moment
@@ -28,12 +28,12 @@ returns-in_err-set_gate-clause-any_moment g c = λ old new bytes settled makes.
     let P : List ℕ → Type 0 = OldOrNew es n h old new makes in
     let v0 = g.D.Disk.view c.args.disk.now in
     let v1 = g.D.Disk.view c.write_journal.new.disk in
-    let run1 = go_journal es n h old new makes v0 bytes v1.crashes settled c.write_journal.ensures.crash in
+    let run1 = go_journal es n h old new makes v0 bytes v1.crashes settled c.write_journal.ensures.writes.crash in
     let one = c.in_ok-write_journal.ensures.put bytes settled.told in
     let was = to_before es n h old new makes v0 bytes one.0 settled one.3 in
     let staged1 = to_staged es n h old new makes v0 bytes one.0 settled one.3 in
     let v2 = g.D.Disk.view c.set_gate.new.disk in
-    let run2 = goes_then P v0.crashes v1.crashes v2.crashes run1 (go_gate es n h old new makes one.0 v1.crashes v2.crashes one.2 was staged1 c.set_gate.ensures.crash) in
+    let run2 = goes_then P v0.crashes v1.crashes v2.crashes run1 (go_gate es n h old new makes one.0 v1.crashes v2.crashes one.2 was staged1 c.set_gate.ensures.writes.crash) in
     run2
 
 pub returns-in_err-write_home-clause-any_moment : goal.returns-in_err-write_home-clause-any_moment
@@ -44,16 +44,16 @@ returns-in_err-write_home-clause-any_moment g c = λ old new bytes settled makes
     let P : List ℕ → Type 0 = OldOrNew es n h old new makes in
     let v0 = g.D.Disk.view c.args.disk.now in
     let v1 = g.D.Disk.view c.write_journal.new.disk in
-    let run1 = go_journal es n h old new makes v0 bytes v1.crashes settled c.write_journal.ensures.crash in
+    let run1 = go_journal es n h old new makes v0 bytes v1.crashes settled c.write_journal.ensures.writes.crash in
     let one = c.in_ok-write_journal.ensures.put bytes settled.told in
     let was = to_before es n h old new makes v0 bytes one.0 settled one.3 in
     let staged1 = to_staged es n h old new makes v0 bytes one.0 settled one.3 in
     let v2 = g.D.Disk.view c.set_gate.new.disk in
-    let run2 = goes_then P v0.crashes v1.crashes v2.crashes run1 (go_gate es n h old new makes one.0 v1.crashes v2.crashes one.2 was staged1 c.set_gate.ensures.crash) in
+    let run2 = goes_then P v0.crashes v1.crashes v2.crashes run1 (go_gate es n h old new makes one.0 v1.crashes v2.crashes one.2 was staged1 c.set_gate.ensures.writes.crash) in
     let two = c.in_ok-set_gate.ensures.put one.0 one.1 in
     let staged2 = to_open es n h old new makes one.0 two.0 staged1 two.3 in
     let v3 = g.D.Disk.view c.write_home.new.disk in
-    let run3 = goes_then P v0.crashes v2.crashes v3.crashes run2 (go_home es n h old new makes two.0 v2.crashes v3.crashes two.2 staged2 two.3.gate c.write_home.ensures.crash) in
+    let run3 = goes_then P v0.crashes v2.crashes v3.crashes run2 (go_home es n h old new makes two.0 v2.crashes v3.crashes two.2 staged2 two.3.gate c.write_home.ensures.writes.crash) in
     run3
 
 pub returns-clause-any_moment : goal.returns-clause-any_moment
@@ -64,21 +64,21 @@ returns-clause-any_moment g c = λ old new bytes settled makes.
     let P : List ℕ → Type 0 = OldOrNew es n h old new makes in
     let v0 = g.D.Disk.view c.args.disk.now in
     let v1 = g.D.Disk.view c.write_journal.new.disk in
-    let run1 = go_journal es n h old new makes v0 bytes v1.crashes settled c.write_journal.ensures.crash in
+    let run1 = go_journal es n h old new makes v0 bytes v1.crashes settled c.write_journal.ensures.writes.crash in
     let one = c.in_ok-write_journal.ensures.put bytes settled.told in
     let was = to_before es n h old new makes v0 bytes one.0 settled one.3 in
     let staged1 = to_staged es n h old new makes v0 bytes one.0 settled one.3 in
     let v2 = g.D.Disk.view c.set_gate.new.disk in
-    let run2 = goes_then P v0.crashes v1.crashes v2.crashes run1 (go_gate es n h old new makes one.0 v1.crashes v2.crashes one.2 was staged1 c.set_gate.ensures.crash) in
+    let run2 = goes_then P v0.crashes v1.crashes v2.crashes run1 (go_gate es n h old new makes one.0 v1.crashes v2.crashes one.2 was staged1 c.set_gate.ensures.writes.crash) in
     let two = c.in_ok-set_gate.ensures.put one.0 one.1 in
     let staged2 = to_open es n h old new makes one.0 two.0 staged1 two.3 in
     let v3 = g.D.Disk.view c.write_home.new.disk in
-    let run3 = goes_then P v0.crashes v2.crashes v3.crashes run2 (go_home es n h old new makes two.0 v2.crashes v3.crashes two.2 staged2 two.3.gate c.write_home.ensures.crash) in
+    let run3 = goes_then P v0.crashes v2.crashes v3.crashes run2 (go_home es n h old new makes two.0 v2.crashes v3.crashes two.2 staged2 two.3.gate c.write_home.ensures.writes.crash) in
     let three = c.in_ok-write_home.ensures.put two.0 two.1 in
     let staged3 = to_copied es n h old new makes two.0 three.0 staged2 three.3 in
     let placed = to_placed es n h old new makes two.0 three.0 three.3 in
     let v4 = g.D.Disk.view c.set_gate-2.new.disk in
-    goes_then P v0.crashes v3.crashes v4.crashes run3 (go_shut es n h old new makes three.0 v3.crashes v4.crashes three.2 staged3 placed c.set_gate-2.ensures.crash)
+    goes_then P v0.crashes v3.crashes v4.crashes run3 (go_shut es n h old new makes three.0 v3.crashes v4.crashes three.2 staged3 placed c.set_gate-2.ensures.writes.crash)
 
 pub returns-clause-done : goal.returns-clause-done
 returns-clause-done g c =
@@ -103,25 +103,25 @@ returns-clause-done g c =
     c.set_gate-2.ensures.put
 
 pub returns-in_err-set_gate-clause-reads : goal.returns-in_err-set_gate-clause-reads
-returns-in_err-set_gate-clause-reads g c = c.set_gate.ensures.reads ∙ c.write_journal.ensures.reads
+returns-in_err-set_gate-clause-reads g c = c.set_gate.ensures.writes.reads ∙ c.write_journal.ensures.writes.reads
 
 pub returns-in_err-set_gate-clause-cause : goal.returns-in_err-set_gate-clause-cause
 returns-in_err-set_gate-clause-cause g c =
-    caused _ _ _ _ c.write_journal.ensures.cause.later c.set_gate.ensures.cause.later c.in_err-set_gate.ensures.cause.failed
+    caused _ _ _ _ c.write_journal.ensures.writes.cause.later c.set_gate.ensures.writes.cause.later c.in_err-set_gate.ensures.writes.cause.failed
 
 pub returns-in_err-write_home-clause-reads : goal.returns-in_err-write_home-clause-reads
-returns-in_err-write_home-clause-reads g c = c.write_home.ensures.reads ∙ (c.set_gate.ensures.reads ∙ c.write_journal.ensures.reads)
+returns-in_err-write_home-clause-reads g c = c.write_home.ensures.writes.reads ∙ (c.set_gate.ensures.writes.reads ∙ c.write_journal.ensures.writes.reads)
 
 pub returns-in_err-write_home-clause-cause : goal.returns-in_err-write_home-clause-cause
 returns-in_err-write_home-clause-cause g c =
-    caused _ _ _ _ (le_trans c.write_journal.ensures.cause.later c.set_gate.ensures.cause.later) c.write_home.ensures.cause.later
-    c.in_err-write_home.ensures.cause.failed
+    caused _ _ _ _ (le_trans c.write_journal.ensures.writes.cause.later c.set_gate.ensures.writes.cause.later) c.write_home.ensures.writes.cause.later
+    c.in_err-write_home.ensures.writes.cause.failed
 
 pub returns-clause-reads : goal.returns-clause-reads
 returns-clause-reads g c =
-    c.set_gate-2.ensures.reads ∙ (c.write_home.ensures.reads ∙ (c.set_gate.ensures.reads ∙ c.write_journal.ensures.reads))
+    c.set_gate-2.ensures.writes.reads ∙ (c.write_home.ensures.writes.reads ∙ (c.set_gate.ensures.writes.reads ∙ c.write_journal.ensures.writes.reads))
 
 pub returns-clause-cause : goal.returns-clause-cause
 returns-clause-cause g c =
     cause_after _ _ _ c.set_gate-2.result
-    (le_trans c.write_journal.ensures.cause.later (le_trans c.set_gate.ensures.cause.later c.write_home.ensures.cause.later)) c.set_gate-2.ensures.cause
+    (le_trans c.write_journal.ensures.writes.cause.later (le_trans c.set_gate.ensures.writes.cause.later c.write_home.ensures.writes.cause.later)) c.set_gate-2.ensures.writes.cause

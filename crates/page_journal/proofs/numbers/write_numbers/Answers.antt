@@ -61,9 +61,9 @@ loop-number-preserved g c =
           );
       crash = λ low base le within.
           let run = so_far.crash low base le within in
-          goes_then (Spares (BesideJournal low) base) _ _ _ run (added.crash low base (omega (arith, le, so_far.from)) run.now);
-      reads = added.reads ∙ so_far.reads;
-      later = omega (arith, so_far.later, c.add_number.ensures.cause.later);
+          goes_then (Spares (BesideJournal low) base) _ _ _ run (added.writes.crash low base (omega (arith, le, so_far.from)) run.now);
+      reads = added.writes.reads ∙ so_far.reads;
+      later = omega (arith, so_far.later, c.add_number.ensures.writes.cause.later);
     }
 
 pub add_number-requires-clause-within : goal.add_number-requires-clause-within
@@ -74,18 +74,15 @@ add_number-requires-clause-within g c =
     (c.in-Some.number, c.in-Some.field-0-1) c.in-Some.is c.next.ensures.steps in
     omega (arith, c.requires, c.loop-number.invariant.place, turn.0)
 
-pub returns-in_err-add_number-clause-crash : goal.returns-in_err-add_number-clause-crash
-returns-in_err-add_number-clause-crash g c = λ low base le within.
-    let so_far = c.loop-number.invariant in
-    let run = so_far.crash low base le within in
-    goes_then (Spares (BesideJournal low) base) _ _ _ run (c.add_number.ensures.crash low base (le_trans le so_far.from) run.now)
-
-pub returns-in_err-add_number-clause-reads : goal.returns-in_err-add_number-clause-reads
-returns-in_err-add_number-clause-reads g c = c.add_number.ensures.reads ∙ c.loop-number.invariant.reads
-
-pub returns-in_err-add_number-clause-cause : goal.returns-in_err-add_number-clause-cause
-returns-in_err-add_number-clause-cause g c =
-    caused _ _ _ _ c.loop-number.invariant.later c.add_number.ensures.cause.later c.in_err-add_number.ensures.cause.failed
+pub returns-in_err-add_number-clause-writes : goal.returns-in_err-add_number-clause-writes
+returns-in_err-add_number-clause-writes g c = record {
+  crash = λ low base le within.
+      let so_far = c.loop-number.invariant in
+      let run = so_far.crash low base le within in
+      goes_then (Spares (BesideJournal low) base) _ _ _ run (c.add_number.ensures.writes.crash low base (le_trans le so_far.from) run.now);
+  reads = c.add_number.ensures.writes.reads ∙ c.loop-number.invariant.reads;
+  cause = caused _ _ _ _ c.loop-number.invariant.later c.add_number.ensures.writes.cause.later c.in_err-add_number.ensures.writes.cause.failed;
+}
 
 pub returns-then-page-eq0-clause-put : goal.returns-then-page-eq0-clause-put
 returns-then-page-eq0-clause-put g c = λ bytes told.
@@ -102,11 +99,12 @@ returns-then-page-eq0-clause-put g c = λ bytes told.
           (held_none (plain entries) (length c.loop-number.yielded) c.args.at page.at page.filled page.bytes bytes held.0 held.2 c.if-page-eq0.true),
     )
 
-pub returns-then-page-eq0-clause-crash : goal.returns-then-page-eq0-clause-crash
-returns-then-page-eq0-clause-crash g c = λ low base le within. c.loop-number.invariant.crash low base le within
-
-pub returns-then-page-eq0-clause-cause : goal.returns-then-page-eq0-clause-cause
-returns-then-page-eq0-clause-cause g c = record { later = c.loop-number.invariant.later; failed = tt }
+pub returns-then-page-eq0-clause-writes : goal.returns-then-page-eq0-clause-writes
+returns-then-page-eq0-clause-writes g c = record {
+  crash = λ low base le within. c.loop-number.invariant.crash low base le within;
+  reads = search rules;
+  cause = record { later = c.loop-number.invariant.later; failed = tt };
+}
 
 pub flush-requires : goal.flush-requires
 flush-requires g c =
@@ -138,14 +136,12 @@ returns-clause-put g c =
     ))
     c.flush.ensures.written
 
-pub returns-clause-crash : goal.returns-clause-crash
-returns-clause-crash g c = λ low base le within.
-    let so_far = c.loop-number.invariant in
-    let run = so_far.crash low base le within in
-    goes_then (Spares (BesideJournal low) base) _ _ _ run (c.flush.ensures.crash low base (le_trans le so_far.from) run.now)
-
-pub returns-clause-reads : goal.returns-clause-reads
-returns-clause-reads g c = c.flush.ensures.reads ∙ c.loop-number.invariant.reads
-
-pub returns-clause-cause : goal.returns-clause-cause
-returns-clause-cause g c = cause_after _ _ _ c.flush.result c.loop-number.invariant.later c.flush.ensures.cause
+pub returns-clause-writes : goal.returns-clause-writes
+returns-clause-writes g c = record {
+  crash = λ low base le within.
+      let so_far = c.loop-number.invariant in
+      let run = so_far.crash low base le within in
+      goes_then (Spares (BesideJournal low) base) _ _ _ run (c.flush.ensures.writes.crash low base (le_trans le so_far.from) run.now);
+  reads = c.flush.ensures.writes.reads ∙ c.loop-number.invariant.reads;
+  cause = cause_after _ _ _ c.flush.result c.loop-number.invariant.later c.flush.ensures.writes.cause;
+}

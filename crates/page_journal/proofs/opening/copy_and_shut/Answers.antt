@@ -1,4 +1,4 @@
-use Rattle.std.proofs.Common.{◌≡◌, ℕ, List}
+use Rattle.std.proofs.Common.{◌≡◌, ℕ, List, rules}
 use Rattle.outside.specs.Disk.{Only, Tells}
 use Rattle.page_journal.specs.Home.{Home, IsFormatted, IsWellFormed}
 use Rattle.page_journal.specs.Pages.{first_page, gate, page_count}
@@ -20,7 +20,7 @@ returns-clause-any_moment g c = λ bytes pages told only home is_open first-is c
     goes_then (Home pages) _ _ _
     (go_copy bytes c.args.first c.args.count first-is count-is pages home is_open _ _ only
     (c.copy_home.ensures.crash bytes told (home.journal is_open) first-is count-is))
-    (go_shut bytes c.args.first c.args.count first-is count-is pages home is_open copied.0 _ _ copied.2 copied.3 c.set_gate.ensures.crash)
+    (go_shut bytes c.args.first c.args.count first-is count-is pages home is_open copied.0 _ _ copied.2 copied.3 c.set_gate.ensures.writes.crash)
 
 pub returns-clause-done : goal.returns-clause-done
 returns-clause-done g c =
@@ -42,5 +42,8 @@ returns-clause-done g c =
     ))
     c.set_gate.ensures.put
 
-pub returns-clause-cause : goal.returns-clause-cause
-returns-clause-cause g c = cause_after _ _ _ c.set_gate.result c.copy_home.ensures.cause.later c.set_gate.ensures.cause
+pub returns-clause-copies : goal.returns-clause-copies
+returns-clause-copies g c = record {
+  reads = search rules;
+  cause = cause_after _ _ _ c.set_gate.result c.copy_home.ensures.copies.cause.later c.set_gate.ensures.writes.cause;
+}

@@ -1,4 +1,4 @@
-use Rattle.std.proofs.Common.{◌≡◌, ℕ, List, ◌+◌, ◌*◌, ◌<◌, ap, ◌∙◌, subst, refl, arith}
+use Rattle.std.proofs.Common.{◌≡◌, ℕ, List, ◌+◌, ◌*◌, ◌<◌, ap, ◌∙◌, subst, refl, arith, rules}
 use Rattle.outside.specs.Disk.{Only, Tells, overlaid}
 use Rattle.page_journal.specs.Crash.{BesidePages, Spares}
 use Rattle.page_journal.specs.Home.{IsWellFormed}
@@ -10,7 +10,7 @@ use Rattle.page_journal.proofs.Finishing.{bodies_of, number_fits, copy_to, body_
 use Rattle.page_journal.proofs.Moments.{started, goes_stays, goes_quiet}
 use Rattle.page_journal.proofs.Parts.{home_none, home_more, beside_page}
 use Rattle.page_journal.proofs.Places.{goes_write}
-use Rattle.page_journal.proofs.ReadCounts.{reads_none, reads_one, reads_then, reads_more}
+use Rattle.page_journal.proofs.ReadCounts.{reads_none, reads_then, reads_more}
 use Rattle.page_journal.proofs.opening.copy_home.Goals as goal
 
 pub loop-place-init : goal.loop-place-init
@@ -39,7 +39,7 @@ loop-place-preserved g c = record {
       let fits = body_fits bytes first count first-is count-is well place from left.0 inside left.2 from-is in
       let page = page_from left.0 from in (
         overlaid to page left.0,
-        c.in_ok-copy_page.ensures.put left.0 (c.read_number.ensures.stays.content ∙ left.1) fits,
+        c.in_ok-copy_page.ensures.put left.0 (c.read_number.ensures.reads.stays.content ∙ left.1) fits,
         home_more (entry bytes) (bodies_of bytes) place to page bytes left.0 left.2
             (rises_to bytes first count first-is count-is well place inside) to-is
             (copied_body bytes first count first-is count-is well place from left.0 inside left.2 from-is) (page_long left.0 from fits),
@@ -56,23 +56,23 @@ loop-place-preserved g c = record {
       let to-is : to ≡ 4096 * entry bytes place =
       ap (λ (n : ℕ). n * 4096) c.min.ensures ∙ copy_to bytes first count first-is count-is well place value left.0 inside left.2 is in
       goes_write (BesidePages count (entry bytes)) bytes to 4096 _ _ _
-      (goes_stays (Spares (BesidePages count (entry bytes)) bytes) _ _ _ (c.loop-place.invariant.crash bytes told well first-is count-is within) c.read_number.ensures.stays)
+      (goes_stays (Spares (BesidePages count (entry bytes)) bytes) _ _ _ (c.loop-place.invariant.crash bytes told well first-is count-is within) c.read_number.ensures.reads.stays)
       c.copy_page.ensures.time c.copy_page.ensures.torn (beside_page count (entry bytes) place to 4096 inside to-is refl);
   reads =
       let place = c.loop-place.place in
       let first = c.args.first in
       let end = 4096 * (first + number_pages c.args.count + c.args.count) in
-      let one = reads_one (first * 4096 + 8 * place) 8 end _ _ (omega (arith, c.loop-place-test.true)) c.read_number.ensures.reads in
-      let two = reads_more 1 1 _ end _ _ (omega arith) (omega (arith, c.loop-place-test.true, c.number_page_count.ensures)) c.copy_page.ensures.reads in
+      let one = reads_more 1 1 _ end _ _ (omega arith) (omega (arith, c.loop-place-test.true)) c.read_number.ensures.reads.reads in
+      let two = reads_more 1 1 _ end _ _ (omega arith) (omega (arith, c.loop-place-test.true, c.number_page_count.ensures)) c.copy_page.ensures.copies.reads in
       reads_more (2 * place + (1 + 1)) (2 * (place + 1)) end end _ _ (omega arith) (omega arith)
       (reads_then (2 * place) (1 + 1) end _ _ _ c.loop-place.invariant.reads (reads_then 1 1 end _ _ _ one two));
-  later = omega (arith, c.loop-place.invariant.later, c.read_number.ensures.cause.later, c.copy_page.ensures.cause.later);
+  later = omega (arith, c.loop-place.invariant.later, c.read_number.ensures.reads.cause.later, c.copy_page.ensures.copies.cause.later);
 }
 
 pub returns-in_err-number-clause-crash : goal.returns-in_err-number-clause-crash
 returns-in_err-number-clause-crash g c = λ bytes told well first-is count-is within.
     goes_stays (Spares (BesidePages c.args.count (entry bytes)) bytes) _ _ _
-    (c.loop-place.invariant.crash bytes told well first-is count-is within) c.read_number.ensures.stays
+    (c.loop-place.invariant.crash bytes told well first-is count-is within) c.read_number.ensures.reads.stays
 
 pub returns-in_err-copy_page-clause-crash : goal.returns-in_err-copy_page-clause-crash
 returns-in_err-copy_page-clause-crash g c = λ bytes told well first-is count-is within.
@@ -87,7 +87,7 @@ returns-in_err-copy_page-clause-crash g c = λ bytes told well first-is count-is
     let to-is : to ≡ 4096 * entry bytes place =
     ap (λ (n : ℕ). n * 4096) c.min.ensures ∙ copy_to bytes first count first-is count-is well place value left.0 inside left.2 is in
     goes_write (BesidePages count (entry bytes)) bytes to 4096 _ _ _
-    (goes_stays (Spares (BesidePages count (entry bytes)) bytes) _ _ _ (c.loop-place.invariant.crash bytes told well first-is count-is within) c.read_number.ensures.stays)
+    (goes_stays (Spares (BesidePages count (entry bytes)) bytes) _ _ _ (c.loop-place.invariant.crash bytes told well first-is count-is within) c.read_number.ensures.reads.stays)
     c.copy_page.ensures.time c.copy_page.ensures.torn (beside_page count (entry bytes) place to 4096 inside to-is refl)
 
 pub returns-clause-crash : goal.returns-clause-crash
@@ -115,5 +115,8 @@ returns-clause-put g c =
     ))
     c.sync.ensures.durable
 
-pub returns-clause-cause : goal.returns-clause-cause
-returns-clause-cause g c = cause_after _ _ _ c.sync.result c.loop-place.invariant.later c.sync.ensures.cause
+pub returns-clause-copies : goal.returns-clause-copies
+returns-clause-copies g c = record {
+  reads = search rules;
+  cause = cause_after _ _ _ c.sync.result c.loop-place.invariant.later c.sync.ensures.cause;
+}

@@ -1,4 +1,4 @@
-use Rattle.std.proofs.Common.{◌≡◌, ◌≤◌, ℕ, ◌+◌, List, length, option_map, Some, ap, ◌∙◌}
+use Rattle.std.proofs.Common.{◌≡◌, ◌≤◌, ℕ, ◌+◌, List, length, option_map, Some, ap, ◌∙◌, rules}
 use Rattle.std.proofs.lemmas.List.{length-replicate}
 use Rattle.outside.specs.Disk.{Tells, overlaid}
 use Rattle.page_journal.specs.Pages.{page_from}
@@ -28,5 +28,8 @@ returns-clause-time g c =
     let laws = g.met.D.Disk in
     elapses_quiet _ _ _ (laws.counts_now c.args.disk.now) c.read_at.ensures.crash c.read_at.ensures.time c.write_at.ensures.time
 
-pub returns-clause-cause : goal.returns-clause-cause
-returns-clause-cause g c = cause_after _ _ _ c.write_at.result c.read_at.ensures.cause.later c.write_at.ensures.cause
+pub returns-clause-copies : goal.returns-clause-copies
+returns-clause-copies g c = record {
+  reads = search rules;
+  cause = cause_after _ _ _ c.write_at.result c.read_at.ensures.cause.later c.write_at.ensures.cause;
+}

@@ -9,7 +9,7 @@ returns-in_err-well-clause-reads g c = λ bytes formatted long head.
     let end = 4096 * (c.number_in-first.result + number_pages count + count) in
     let is : count ≡ page_count bytes = c.number_in-count.ensures.value bytes formatted.long head in
     let fits = c.fits.ensures.0 c.if-not-fits.false in
-    reads_more count (page_count bytes) end (length bytes) _ _ (omega (arith, is)) (omega (arith, fits.1, long)) c.rises.ensures.reads
+    reads_more count (page_count bytes) end (length bytes) _ _ (omega (arith, is)) (omega (arith, fits.1, long)) c.rises.ensures.reads.reads
 
 pub returns-then-not-well-clause-reads : goal.returns-then-not-well-clause-reads
 returns-then-not-well-clause-reads g c = λ bytes formatted long head.
@@ -17,7 +17,7 @@ returns-then-not-well-clause-reads g c = λ bytes formatted long head.
     let end = 4096 * (c.number_in-first.result + number_pages count + count) in
     let is : count ≡ page_count bytes = c.number_in-count.ensures.value bytes formatted.long head in
     let fits = c.fits.ensures.0 c.if-not-fits.false in
-    reads_more count (page_count bytes) end (length bytes) _ _ (omega (arith, is)) (omega (arith, fits.1, long)) c.rises.ensures.reads
+    reads_more count (page_count bytes) end (length bytes) _ _ (omega (arith, is)) (omega (arith, fits.1, long)) c.rises.ensures.reads.reads
 
 pub returns-clause-reads : goal.returns-clause-reads
 returns-clause-reads g c = λ bytes formatted long head.
@@ -25,4 +25,4 @@ returns-clause-reads g c = λ bytes formatted long head.
     let end = 4096 * (c.number_in-first.result + number_pages count + count) in
     let is : count ≡ page_count bytes = c.number_in-count.ensures.value bytes formatted.long head in
     let fits = c.fits.ensures.0 c.if-not-fits.false in
-    reads_more count (page_count bytes) end (length bytes) _ _ (omega (arith, is)) (omega (arith, fits.1, long)) c.rises.ensures.reads
+    reads_more count (page_count bytes) end (length bytes) _ _ (omega (arith, is)) (omega (arith, fits.1, long)) c.rises.ensures.reads.reads

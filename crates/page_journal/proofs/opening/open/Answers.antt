@@ -1,4 +1,4 @@
-use Rattle.std.proofs.Common.{ℕ, ◌+◌, ◌*◌, ◌≤◌, List, length, false, ap, sym, ◌∙◌, arith, ◌≡◌}
+use Rattle.std.proofs.Common.{ℕ, ◌+◌, ◌*◌, ◌≤◌, List, length, false, ap, sym, ◌∙◌, arith, ◌≡◌, rules}
 use Rattle.outside.specs.Disk.{told_is}
 use Rattle.page_journal.specs.Answers.{CanFinish}
 use Rattle.page_journal.specs.Crash.{IsLikeOne}
@@ -19,8 +19,8 @@ returns-in-Err-finish-clause-any_moment g c = λ bytes told all.
     let pages = all bytes among in
     let P : List ℕ → Type 0 = IsLikeOne v0.crashes in
     let ready = c.in-Ok.ensures.answers bytes told in
-    let told1 = c.prepare.ensures.stays.content ∙ told in
-    let run1 = goes_weaker v0.crashes.outcomes P v0.crashes v1.crashes c.prepare.ensures.stays.runs (like_itself v0.crashes all) in
+    let told1 = c.prepare.ensures.looks.stays.content ∙ told in
+    let run1 = goes_weaker v0.crashes.outcomes P v0.crashes v1.crashes c.prepare.ensures.looks.stays.runs (like_itself v0.crashes all) in
     let run2 = goes_then P v0.crashes v1.crashes v2.crashes run1 (goes_weaker (Home pages.0) P v1.crashes v2.crashes
     (c.finish.ensures.any_moment bytes pages.0 told1 (c.in-Ok.ensures.durable bytes told) ready.1 pages.1 (c.in-Ok.ensures.head bytes told))
     (λ left has. record { one = bytes; among = among; pages = pages.0; had = pages.1; has = has })) in
@@ -36,12 +36,12 @@ returns-in-Ok-count_home-clause-any_moment g c = λ bytes told all.
     let pages = all bytes among in
     let P : List ℕ → Type 0 = IsLikeOne v0.crashes in
     let ready = c.in-Ok.ensures.answers bytes told in
-    let told1 = c.prepare.ensures.stays.content ∙ told in
-    let run1 = goes_weaker v0.crashes.outcomes P v0.crashes v1.crashes c.prepare.ensures.stays.runs (like_itself v0.crashes all) in
+    let told1 = c.prepare.ensures.looks.stays.content ∙ told in
+    let run1 = goes_weaker v0.crashes.outcomes P v0.crashes v1.crashes c.prepare.ensures.looks.stays.runs (like_itself v0.crashes all) in
     let run2 = goes_then P v0.crashes v1.crashes v2.crashes run1 (goes_weaker (Home pages.0) P v1.crashes v2.crashes
     (c.finish.ensures.any_moment bytes pages.0 told1 (c.in-Ok.ensures.durable bytes told) ready.1 pages.1 (c.in-Ok.ensures.head bytes told))
     (λ left has. record { one = bytes; among = among; pages = pages.0; had = pages.1; has = has })) in
-    goes_stays P v0.crashes v2 _ run2 c.count_home.ensures.stays
+    goes_stays P v0.crashes v2 _ run2 c.count_home.ensures.looks.stays
 
 pub returns-in-Err-count_home-clause-any_moment : goal.returns-in-Err-count_home-clause-any_moment
 returns-in-Err-count_home-clause-any_moment g c = λ bytes told all.
@@ -53,23 +53,23 @@ returns-in-Err-count_home-clause-any_moment g c = λ bytes told all.
     let pages = all bytes among in
     let P : List ℕ → Type 0 = IsLikeOne v0.crashes in
     let ready = c.in-Ok.ensures.answers bytes told in
-    let told1 = c.prepare.ensures.stays.content ∙ told in
-    let run1 = goes_weaker v0.crashes.outcomes P v0.crashes v1.crashes c.prepare.ensures.stays.runs (like_itself v0.crashes all) in
+    let told1 = c.prepare.ensures.looks.stays.content ∙ told in
+    let run1 = goes_weaker v0.crashes.outcomes P v0.crashes v1.crashes c.prepare.ensures.looks.stays.runs (like_itself v0.crashes all) in
     let run2 = goes_then P v0.crashes v1.crashes v2.crashes run1 (goes_weaker (Home pages.0) P v1.crashes v2.crashes
     (c.finish.ensures.any_moment bytes pages.0 told1 (c.in-Ok.ensures.durable bytes told) ready.1 pages.1 (c.in-Ok.ensures.head bytes told))
     (λ left has. record { one = bytes; among = among; pages = pages.0; had = pages.1; has = has })) in
-    goes_stays P v0.crashes v2 _ run2 c.count_home.ensures.stays
+    goes_stays P v0.crashes v2 _ run2 c.count_home.ensures.looks.stays
 
 pub returns-in-Ok-count_home-clause-answers : goal.returns-in-Ok-count_home-clause-answers
 returns-in-Ok-count_home-clause-answers g c = λ bytes told.
     let ready = c.in-Ok.ensures.answers bytes told in
-    let told1 = c.prepare.ensures.stays.content ∙ told in
+    let told1 = c.prepare.ensures.looks.stays.content ∙ told in
     let formatted = ready.0 in
     let can : CanFinish bytes = record { formatted = formatted; journal = c.in-Ok-finish.ensures.answers bytes told1 formatted ready.1 (c.in-Ok.ensures.head bytes told) } in
     let done = c.in-Ok-finish.ensures.done bytes told1 (c.in-Ok.ensures.durable bytes told) formatted ready.1 (c.in-Ok.ensures.head bytes told) in
     let long : 8192 ≤ length done.0 = omega (arith, formatted.long, done.3.long) in
     let same : c.in-Ok-finish.moved ≡ false → c.prepare.new.head ≡ head_of done.0 = λ idle.
-    c.in-Ok.ensures.head bytes told ∙ ap (λ (l : List ℕ). head_of l) (told_is done.0 bytes (sym done.1 ∙ ((c.in-Ok-finish.ensures.idle idle).content ∙ told1))) in
+    c.in-Ok.ensures.head bytes told ∙ ap (λ (l : List ℕ). head_of l) (told_is done.0 bytes (sym done.1 ∙ ((c.in-Ok-finish.ensures.moves.idle idle).content ∙ told1))) in
     let home = c.in-Ok-count_home.home in
     let counts = c.in-Ok-count_home.ensures.answers done.0 done.1 long same in
     let fits : 4096 * home ≤ length bytes = omega (arith, counts.2, ready.1) in
@@ -78,13 +78,13 @@ returns-in-Ok-count_home-clause-answers g c = λ bytes told.
 pub returns-in-Ok-count_home-clause-done : goal.returns-in-Ok-count_home-clause-done
 returns-in-Ok-count_home-clause-done g c = λ bytes told.
     let ready = c.in-Ok.ensures.answers bytes told in
-    let told1 = c.prepare.ensures.stays.content ∙ told in
+    let told1 = c.prepare.ensures.looks.stays.content ∙ told in
     let formatted = ready.0 in
     let can : CanFinish bytes = record { formatted = formatted; journal = c.in-Ok-finish.ensures.answers bytes told1 formatted ready.1 (c.in-Ok.ensures.head bytes told) } in
     let done = c.in-Ok-finish.ensures.done bytes told1 (c.in-Ok.ensures.durable bytes told) formatted ready.1 (c.in-Ok.ensures.head bytes told) in
     let long : 8192 ≤ length done.0 = omega (arith, formatted.long, done.3.long) in
     let same : c.in-Ok-finish.moved ≡ false → c.prepare.new.head ≡ head_of done.0 = λ idle.
-    c.in-Ok.ensures.head bytes told ∙ ap (λ (l : List ℕ). head_of l) (told_is done.0 bytes (sym done.1 ∙ ((c.in-Ok-finish.ensures.idle idle).content ∙ told1))) in
+    c.in-Ok.ensures.head bytes told ∙ ap (λ (l : List ℕ). head_of l) (told_is done.0 bytes (sym done.1 ∙ ((c.in-Ok-finish.ensures.moves.idle idle).content ∙ told1))) in
     let home = c.in-Ok-count_home.home in
     let counts = c.in-Ok-count_home.ensures.answers done.0 done.1 long same in
     let fits : 4096 * home ≤ length bytes = omega (arith, counts.2, ready.1) in (
@@ -94,8 +94,8 @@ returns-in-Ok-count_home-clause-done g c = λ bytes told.
       (
         done.0,
         record {
-          told = c.count_home.ensures.stays.content ∙ done.1;
-          only = λ left now. done.2 left (c.count_home.ensures.stays.runs.now left now);
+          told = c.count_home.ensures.looks.stays.content ∙ done.1;
+          only = λ left now. done.2 left (c.count_home.ensures.looks.stays.runs.now left now);
           shut = done.3.shut;
           home = home_after bytes done.0 home can done.3 counts.0 counts.1 fits;
         },
@@ -105,13 +105,13 @@ returns-in-Ok-count_home-clause-done g c = λ bytes told.
 pub returns-in-Err-count_home-clause-answers : goal.returns-in-Err-count_home-clause-answers
 returns-in-Err-count_home-clause-answers g c = λ bytes told.
     let ready = c.in-Ok.ensures.answers bytes told in
-    let told1 = c.prepare.ensures.stays.content ∙ told in
+    let told1 = c.prepare.ensures.looks.stays.content ∙ told in
     let formatted = ready.0 in
     let can : CanFinish bytes = record { formatted = formatted; journal = c.in-Ok-finish.ensures.answers bytes told1 formatted ready.1 (c.in-Ok.ensures.head bytes told) } in
     let done = c.in-Ok-finish.ensures.done bytes told1 (c.in-Ok.ensures.durable bytes told) formatted ready.1 (c.in-Ok.ensures.head bytes told) in
     let long : 8192 ≤ length done.0 = omega (arith, formatted.long, done.3.long) in
     let same : c.in-Ok-finish.moved ≡ false → c.prepare.new.head ≡ head_of done.0 = λ idle.
-    c.in-Ok.ensures.head bytes told ∙ ap (λ (l : List ℕ). head_of l) (told_is done.0 bytes (sym done.1 ∙ ((c.in-Ok-finish.ensures.idle idle).content ∙ told1))) in
+    c.in-Ok.ensures.head bytes told ∙ ap (λ (l : List ℕ). head_of l) (told_is done.0 bytes (sym done.1 ∙ ((c.in-Ok-finish.ensures.moves.idle idle).content ∙ told1))) in
     opens_count bytes done.0 c.in-Ok.len c.in-Err-count_home.fault can done.3 ready.1 (c.in-Err-count_home.ensures.answers done.0 done.1 long same)
 
 pub returns-in-Err-clause-reads : goal.returns-in-Err-clause-reads
@@ -121,16 +121,23 @@ returns-in-Err-clause-reads g c = λ bytes told.
 pub returns-in-Err-finish-clause-answers : goal.returns-in-Err-finish-clause-answers
 returns-in-Err-finish-clause-answers g c = λ bytes told.
     let ready = c.in-Ok.ensures.answers bytes told in
-    let told1 = c.prepare.ensures.stays.content ∙ told in
+    let told1 = c.prepare.ensures.looks.stays.content ∙ told in
     let head = c.in-Ok.ensures.head bytes told in
     opens_finish bytes c.in-Err-finish.fault (c.in-Err-finish.ensures.answers bytes told1 ready.0 ready.1 head)
 
-pub returns-in-Err-finish-clause-looked : goal.returns-in-Err-finish-clause-looked
-returns-in-Err-finish-clause-looked g c = λ bytes told none.
-    let ready = c.in-Ok.ensures.answers bytes told in
-    let told1 = c.prepare.ensures.stays.content ∙ told in
-    let head = c.in-Ok.ensures.head bytes told in
-    stays_then _ _ _ c.prepare.ensures.stays (c.finish.ensures.looked bytes told1 ready.0 ready.1 head none)
+pub returns-in-Err-finish-clause-opens : goal.returns-in-Err-finish-clause-opens
+returns-in-Err-finish-clause-opens g c = record {
+  alone = search rules;
+  looked = λ bytes told none.
+      let ready = c.in-Ok.ensures.answers bytes told in
+      let told1 = c.prepare.ensures.looks.stays.content ∙ told in
+      let head = c.in-Ok.ensures.head bytes told in
+      stays_then _ _ _ c.prepare.ensures.looks.stays (c.finish.ensures.looked bytes told1 ready.0 ready.1 head none);
+  refused = search rules;
+  told = λ bytes told quiet.
+      (bytes, (c.in-Err-finish.ensures.moves.refused quiet).content ∙ (c.prepare.ensures.looks.stays.content ∙ told));
+  cause = search rules;
+}
 
 pub returns-in-Err-finish-clause-one_read : goal.returns-in-Err-finish-clause-one_read
 returns-in-Err-finish-clause-one_read g c = λ bytes told shut.
@@ -145,12 +152,22 @@ returns-in-Err-finish-clause-reads g c = λ bytes told.
     reads_more (1 + 3 * page_count bytes) (2 + 3 * page_count bytes) _ _ _ _ (omega arith) (omega arith)
     (reads_then 1 (3 * page_count bytes) (length bytes) _ _ _ (c.prepare.ensures.reads bytes told) (c.finish.ensures.reads bytes ready.0 ready.1 head))
 
-pub returns-in-Ok-count_home-clause-looked : goal.returns-in-Ok-count_home-clause-looked
-returns-in-Ok-count_home-clause-looked g c = λ bytes told none.
-    let ready = c.in-Ok.ensures.answers bytes told in
-    let told1 = c.prepare.ensures.stays.content ∙ told in
-    let head = c.in-Ok.ensures.head bytes told in
-    stays_then _ _ _ (stays_then _ _ _ c.prepare.ensures.stays (c.finish.ensures.looked bytes told1 ready.0 ready.1 head none)) c.count_home.ensures.stays
+pub returns-in-Ok-count_home-clause-opens : goal.returns-in-Ok-count_home-clause-opens
+returns-in-Ok-count_home-clause-opens g c = record {
+  alone = search rules;
+  looked = λ bytes told none.
+      let ready = c.in-Ok.ensures.answers bytes told in
+      let told1 = c.prepare.ensures.looks.stays.content ∙ told in
+      let head = c.in-Ok.ensures.head bytes told in
+      stays_then _ _ _ (stays_then _ _ _ c.prepare.ensures.looks.stays (c.finish.ensures.looked bytes told1 ready.0 ready.1 head none)) c.count_home.ensures.looks.stays;
+  refused = search rules;
+  told = λ bytes told quiet.
+      let ready = c.in-Ok.ensures.answers bytes told in
+      let told1 = c.prepare.ensures.looks.stays.content ∙ told in
+      let done = c.in-Ok-finish.ensures.done bytes told1 (c.in-Ok.ensures.durable bytes told) ready.0 ready.1 (c.in-Ok.ensures.head bytes told) in
+      (done.0, c.count_home.ensures.looks.stays.content ∙ done.1);
+  cause = search rules;
+}
 
 pub returns-in-Ok-count_home-clause-one_read : goal.returns-in-Ok-count_home-clause-one_read
 returns-in-Ok-count_home-clause-one_read g c = λ bytes told shut.
@@ -168,12 +185,22 @@ returns-in-Ok-count_home-clause-reads g c = λ bytes told.
     reads_more (1 + 3 * page_count bytes + 1) (2 + 3 * page_count bytes) _ _ _ _ (omega arith) (omega arith)
     (reads_then (1 + 3 * page_count bytes) 1 (length bytes) _ _ _ first last)
 
-pub returns-in-Err-count_home-clause-looked : goal.returns-in-Err-count_home-clause-looked
-returns-in-Err-count_home-clause-looked g c = λ bytes told none.
-    let ready = c.in-Ok.ensures.answers bytes told in
-    let told1 = c.prepare.ensures.stays.content ∙ told in
-    let head = c.in-Ok.ensures.head bytes told in
-    stays_then _ _ _ (stays_then _ _ _ c.prepare.ensures.stays (c.finish.ensures.looked bytes told1 ready.0 ready.1 head none)) c.count_home.ensures.stays
+pub returns-in-Err-count_home-clause-opens : goal.returns-in-Err-count_home-clause-opens
+returns-in-Err-count_home-clause-opens g c = record {
+  alone = search rules;
+  looked = λ bytes told none.
+      let ready = c.in-Ok.ensures.answers bytes told in
+      let told1 = c.prepare.ensures.looks.stays.content ∙ told in
+      let head = c.in-Ok.ensures.head bytes told in
+      stays_then _ _ _ (stays_then _ _ _ c.prepare.ensures.looks.stays (c.finish.ensures.looked bytes told1 ready.0 ready.1 head none)) c.count_home.ensures.looks.stays;
+  refused = search rules;
+  told = λ bytes told quiet.
+      let ready = c.in-Ok.ensures.answers bytes told in
+      let told1 = c.prepare.ensures.looks.stays.content ∙ told in
+      let done = c.in-Ok-finish.ensures.done bytes told1 (c.in-Ok.ensures.durable bytes told) ready.0 ready.1 (c.in-Ok.ensures.head bytes told) in
+      (done.0, c.count_home.ensures.looks.stays.content ∙ done.1);
+  cause = search rules;
+}
 
 pub returns-in-Err-count_home-clause-one_read : goal.returns-in-Err-count_home-clause-one_read
 returns-in-Err-count_home-clause-one_read g c = λ bytes told shut.
@@ -191,23 +218,11 @@ returns-in-Err-count_home-clause-reads g c = λ bytes told.
     reads_more (1 + 3 * page_count bytes + 1) (2 + 3 * page_count bytes) _ _ _ _ (omega arith) (omega arith)
     (reads_then (1 + 3 * page_count bytes) 1 (length bytes) _ _ _ first last)
 
-pub returns-in-Err-count_home-clause-told : goal.returns-in-Err-count_home-clause-told
-returns-in-Err-count_home-clause-told g c = λ bytes told quiet.
-    let ready = c.in-Ok.ensures.answers bytes told in
-    let told1 = c.prepare.ensures.stays.content ∙ told in
-    let done = c.in-Ok-finish.ensures.done bytes told1 (c.in-Ok.ensures.durable bytes told) ready.0 ready.1 (c.in-Ok.ensures.head bytes told) in
-    (done.0, c.count_home.ensures.stays.content ∙ done.1)
-
-pub returns-in-Ok-count_home-clause-told : goal.returns-in-Ok-count_home-clause-told
-returns-in-Ok-count_home-clause-told g c = λ bytes told quiet.
-    let ready = c.in-Ok.ensures.answers bytes told in
-    let told1 = c.prepare.ensures.stays.content ∙ told in
-    let done = c.in-Ok-finish.ensures.done bytes told1 (c.in-Ok.ensures.durable bytes told) ready.0 ready.1 (c.in-Ok.ensures.head bytes told) in
-    (done.0, c.count_home.ensures.stays.content ∙ done.1)
-
-pub returns-in-Err-finish-clause-told : goal.returns-in-Err-finish-clause-told
-returns-in-Err-finish-clause-told g c = λ bytes told quiet.
-    (bytes, (c.in-Err-finish.ensures.refused quiet).content ∙ (c.prepare.ensures.stays.content ∙ told))
-
-pub returns-in-Err-clause-told : goal.returns-in-Err-clause-told
-returns-in-Err-clause-told g c = λ bytes told quiet. (bytes, c.prepare.ensures.stays.content ∙ told)
+pub returns-in-Err-clause-opens : goal.returns-in-Err-clause-opens
+returns-in-Err-clause-opens g c = record {
+  alone = search rules;
+  looked = search rules;
+  refused = search rules;
+  told = λ bytes told quiet. (bytes, c.prepare.ensures.looks.stays.content ∙ told);
+  cause = search rules;
+}

@@ -2,7 +2,7 @@ use Rattle.std.proofs.Common.{◌≡◌, ℕ, ◌+◌, ◌-◌, ◌*◌, ap, sym
 use Rattle.page_journal.specs.Pages.{number}
 use Rattle.page_journal.proofs.Finishing.{rising_none, rising_more}
 use Rattle.page_journal.proofs.Moments.{stays_same, stays_then}
-use Rattle.page_journal.proofs.ReadCounts.{reads_none, reads_one, reads_then}
+use Rattle.page_journal.proofs.ReadCounts.{reads_more, reads_none, reads_then}
 use Rattle.page_journal.proofs.opening.rises.Goals as goal
 
 pub loop-place-init : goal.loop-place-init
@@ -32,8 +32,8 @@ loop-place-preserved g c =
           let back : place + 1 - 1 ≡ place = omega arith in
           c.in_ok-number.ensures.value bytes (so_far.stays.content ∙ told) (omega (arith, long, c.loop-place-test.true))
           ∙ ap (λ (at : ℕ). number bytes at) at-is ∙ ap (λ (n : ℕ). number bytes (4096 * first + 8 * n)) (sym back);
-      stays = stays_then _ _ _ so_far.stays c.read_number.ensures.stays;
+      stays = stays_then _ _ _ so_far.stays c.read_number.ensures.reads.stays;
       reads = reads_then place 1 _ _ _ _ so_far.reads
-          (reads_one (first * 4096 + 8 * place) 8 _ _ _ (omega (arith, c.loop-place-test.true)) c.read_number.ensures.reads);
-      later = omega (arith, so_far.later, c.read_number.ensures.cause.later);
+          (reads_more 1 1 _ _ _ _ (omega arith) (omega (arith, c.loop-place-test.true)) c.read_number.ensures.reads.reads);
+      later = omega (arith, so_far.later, c.read_number.ensures.reads.cause.later);
     }

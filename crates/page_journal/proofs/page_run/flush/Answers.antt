@@ -1,4 +1,4 @@
-use Rattle.std.proofs.Common.{◌≤◌, ◌<◌, length, take, arith, refl}
+use Rattle.std.proofs.Common.{◌≤◌, ◌<◌, length, take, arith, refl, rules}
 use Rattle.page_journal.proofs.Runs.{elapses_same, follows_same, tells_none, tells_written}
 use Rattle.page_journal.proofs.page_run.flush.Goals as goal
 
@@ -6,11 +6,13 @@ pub returns-then-run-eq0-clause-tells : goal.returns-then-run-eq0-clause-tells
 returns-then-run-eq0-clause-tells g c = λ content shows.
     let run = c.args.run.now in tells_none run.at run.filled run.bytes content _ c.if-run-eq0.true shows
 
-pub returns-then-run-eq0-clause-crash : goal.returns-then-run-eq0-clause-crash
-returns-then-run-eq0-clause-crash g c = follows_same c.args.run.now.at c.args.run.now.filled (g.D.Disk.view c.args.disk.now).crashes
-
-pub returns-then-run-eq0-clause-time : goal.returns-then-run-eq0-clause-time
-returns-then-run-eq0-clause-time g c = elapses_same (g.D.Disk.view c.args.disk.now).crashes
+pub returns-then-run-eq0-clause-writes : goal.returns-then-run-eq0-clause-writes
+returns-then-run-eq0-clause-writes g c = record {
+  crash = follows_same c.args.run.now.at c.args.run.now.filled (g.D.Disk.view c.args.disk.now).crashes;
+  time = elapses_same (g.D.Disk.view c.args.disk.now).crashes;
+  reads = search rules;
+  cause = search rules;
+}
 
 pub returns-clause-tells : goal.returns-clause-tells
 returns-clause-tells g c = λ content shows.

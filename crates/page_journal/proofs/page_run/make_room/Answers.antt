@@ -1,15 +1,17 @@
-use Rattle.std.proofs.Common.{inl, inr, sym, refl}
+use Rattle.std.proofs.Common.{inl, inr, sym, refl, rules}
 use Rattle.page_journal.proofs.Runs.{elapses_same, follows_same, shows_none}
 use Rattle.page_journal.proofs.page_run.make_room.Goals as goal
 
 pub returns-then-lies_behind-clause-start : goal.returns-then-lies_behind-clause-start
 returns-then-lies_behind-clause-start g c = inr (refl, sym (c.lies_behind.ensures.place c.if-lies_behind.true))
 
-pub returns-then-lies_behind-clause-crash : goal.returns-then-lies_behind-clause-crash
-returns-then-lies_behind-clause-crash g c = follows_same c.args.run.now.at c.args.run.now.filled (g.D.Disk.view c.args.disk.now).crashes
-
-pub returns-then-lies_behind-clause-time : goal.returns-then-lies_behind-clause-time
-returns-then-lies_behind-clause-time g c = elapses_same (g.D.Disk.view c.args.disk.now).crashes
+pub returns-then-lies_behind-clause-writes : goal.returns-then-lies_behind-clause-writes
+returns-then-lies_behind-clause-writes g c = record {
+  crash = follows_same c.args.run.now.at c.args.run.now.filled (g.D.Disk.view c.args.disk.now).crashes;
+  time = elapses_same (g.D.Disk.view c.args.disk.now).crashes;
+  reads = search rules;
+  cause = search rules;
+}
 
 pub returns-clause-shows : goal.returns-clause-shows
 returns-clause-shows g c = λ content shows.

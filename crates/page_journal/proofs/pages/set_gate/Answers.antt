@@ -1,4 +1,4 @@
-use Rattle.std.proofs.Common.{◌≡◌, ℕ, List, [], ◌∷◌, Some, ◌∙◌}
+use Rattle.std.proofs.Common.{◌≡◌, ℕ, List, [], ◌∷◌, Some, ◌∙◌, rules}
 use Rattle.outside.specs.Disk.{Only, Tells, overlaid}
 use Rattle.page_journal.specs.Crash.{BesideGate, Spares}
 use Rattle.page_journal.specs.Written.{GatePut}
@@ -8,9 +8,13 @@ use Rattle.page_journal.proofs.Parts.{beside_gate, gate_put}
 use Rattle.page_journal.proofs.Places.{goes_write}
 use Rattle.page_journal.proofs.pages.set_gate.Goals as goal
 
-pub returns-in_err-write_at-clause-crash : goal.returns-in_err-write_at-clause-crash
-returns-in_err-write_at-clause-crash g c = λ base within.
-    goes_write BesideGate base 4095 1 _ _ _ (started (Spares BesideGate base) _ within) c.write_at.ensures.time c.write_at.ensures.crash beside_gate
+pub returns-in_err-write_at-clause-writes : goal.returns-in_err-write_at-clause-writes
+returns-in_err-write_at-clause-writes g c = record {
+  crash = λ base within.
+      goes_write BesideGate base 4095 1 _ _ _ (started (Spares BesideGate base) _ within) c.write_at.ensures.time c.write_at.ensures.crash beside_gate;
+  reads = search rules;
+  cause = search rules;
+}
 
 pub returns-clause-put : goal.returns-clause-put
 returns-clause-put g c =
@@ -26,14 +30,12 @@ returns-clause-put g c =
     (now, c.sync.ensures.content ∙ tells, durable now tells, gate_put c.args.value bytes))
     c.sync.ensures.durable
 
-pub returns-clause-crash : goal.returns-clause-crash
-returns-clause-crash g c = λ base within.
-    goes_quiet (Spares BesideGate base) _ _ _
-    (goes_write BesideGate base 4095 1 _ _ _ (started (Spares BesideGate base) _ within) c.write_at.ensures.time c.write_at.ensures.crash beside_gate)
-    c.sync.ensures.time c.sync.ensures.crash
-
-pub returns-clause-reads : goal.returns-clause-reads
-returns-clause-reads g c = c.sync.ensures.reads ∙ c.write_at.ensures.reads
-
-pub returns-clause-cause : goal.returns-clause-cause
-returns-clause-cause g c = cause_after _ _ _ c.sync.result c.write_at.ensures.cause.later c.sync.ensures.cause
+pub returns-clause-writes : goal.returns-clause-writes
+returns-clause-writes g c = record {
+  crash = λ base within.
+      goes_quiet (Spares BesideGate base) _ _ _
+      (goes_write BesideGate base 4095 1 _ _ _ (started (Spares BesideGate base) _ within) c.write_at.ensures.time c.write_at.ensures.crash beside_gate)
+      c.sync.ensures.time c.sync.ensures.crash;
+  reads = c.sync.ensures.reads ∙ c.write_at.ensures.reads;
+  cause = cause_after _ _ _ c.sync.result c.write_at.ensures.cause.later c.sync.ensures.cause;
+}

@@ -85,25 +85,33 @@ loop-page-preserved g c =
                 (bodies_more (plain entries) (length yielded) c.args.at next c.as_slice.result.now bytes now.0 now.2 so_far.place is size),
           );
       crash = λ low base le within.
-          goes_write (BesideJournal low) base run.at run.filled _ _ _ (so_far.crash low base le within) c.put_page.ensures.time c.put_page.ensures.crash
+          goes_write (BesideJournal low) base run.at run.filled _ _ _ (so_far.crash low base le within) c.put_page.ensures.writes.time c.put_page.ensures.writes.crash
           (λ i keeps. let below = keeps.1 in inl (omega (arith, below, le, so_far.from)));
-      reads = c.put_page.ensures.reads ∙ so_far.reads;
-      later = omega (arith, so_far.later, c.put_page.ensures.cause.later);
+      reads = c.put_page.ensures.writes.reads ∙ so_far.reads;
+      later = omega (arith, so_far.later, c.put_page.ensures.writes.cause.later);
     }
 
-pub returns-in_err-put_page-clause-crash : goal.returns-in_err-put_page-clause-crash
-returns-in_err-put_page-clause-crash g c = λ low base le within.
-    let so_far = c.loop-page.invariant in
-    let run = c.loop-page.run in
-    goes_write (BesideJournal low) base run.at run.filled _ _ _ (so_far.crash low base le within) c.put_page.ensures.time c.put_page.ensures.crash
-    (λ i keeps. let below = keeps.1 in inl (omega (arith, below, le, so_far.from)))
+pub returns-in_err-put_page-clause-writes : goal.returns-in_err-put_page-clause-writes
+returns-in_err-put_page-clause-writes g c = record {
+  crash = λ low base le within.
+      let so_far = c.loop-page.invariant in
+      let run = c.loop-page.run in
+      goes_write (BesideJournal low) base run.at run.filled _ _ _ (so_far.crash low base le within) c.put_page.ensures.writes.time c.put_page.ensures.writes.crash
+      (λ i keeps. let below = keeps.1 in inl (omega (arith, below, le, so_far.from)));
+  reads = c.put_page.ensures.writes.reads ∙ c.loop-page.invariant.reads;
+  cause = caused _ _ _ _ c.loop-page.invariant.later c.put_page.ensures.writes.cause.later c.in_err-put_page.ensures.writes.cause.failed;
+}
 
-pub returns-clause-crash : goal.returns-clause-crash
-returns-clause-crash g c = λ low base le within.
-    let so_far = c.loop-page.invariant in
-    let run = c.loop-page.run in
-    goes_write (BesideJournal low) base run.at run.filled _ _ _ (so_far.crash low base le within) c.flush.ensures.time c.flush.ensures.crash
-    (λ i keeps. let below = keeps.1 in inl (omega (arith, below, le, so_far.from)))
+pub returns-clause-writes : goal.returns-clause-writes
+returns-clause-writes g c = record {
+  crash = λ low base le within.
+      let so_far = c.loop-page.invariant in
+      let run = c.loop-page.run in
+      goes_write (BesideJournal low) base run.at run.filled _ _ _ (so_far.crash low base le within) c.flush.ensures.writes.time c.flush.ensures.writes.crash
+      (λ i keeps. let below = keeps.1 in inl (omega (arith, below, le, so_far.from)));
+  reads = c.flush.ensures.writes.reads ∙ c.loop-page.invariant.reads;
+  cause = cause_after _ _ _ c.flush.result c.loop-page.invariant.later c.flush.ensures.writes.cause;
+}
 
 pub returns-clause-put : goal.returns-clause-put
 returns-clause-put g c =
@@ -124,16 +132,3 @@ returns-clause-put g c =
       subst (λ (n : ℕ). PagesPut (plain entries) n c.args.at bytes now.0) end.1 now.2,
     ))
     c.flush.ensures.tells
-
-pub returns-clause-reads : goal.returns-clause-reads
-returns-clause-reads g c = c.flush.ensures.reads ∙ c.loop-page.invariant.reads
-
-pub returns-clause-cause : goal.returns-clause-cause
-returns-clause-cause g c = cause_after _ _ _ c.flush.result c.loop-page.invariant.later c.flush.ensures.cause
-
-pub returns-in_err-put_page-clause-reads : goal.returns-in_err-put_page-clause-reads
-returns-in_err-put_page-clause-reads g c = c.put_page.ensures.reads ∙ c.loop-page.invariant.reads
-
-pub returns-in_err-put_page-clause-cause : goal.returns-in_err-put_page-clause-cause
-returns-in_err-put_page-clause-cause g c =
-    caused _ _ _ _ c.loop-page.invariant.later c.put_page.ensures.cause.later c.in_err-put_page.ensures.cause.failed

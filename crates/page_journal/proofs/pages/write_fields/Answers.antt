@@ -1,8 +1,8 @@
-use Rattle.std.proofs.Common.{ℕ, List, ◌∙◌}
+use Rattle.std.proofs.Common.{ℕ, List, ◌∙◌, arith}
 use Rattle.outside.specs.Disk.{Tells}
 use Rattle.page_journal.specs.Crash.{BesideJournal, Spares}
 use Rattle.page_journal.specs.Written.{FieldsPut, NumberPut}
-use Rattle.page_journal.proofs.Causes.{cause_after, on_ok}
+use Rattle.page_journal.proofs.Causes.{cause_after, caused, on_ok}
 use Rattle.page_journal.proofs.Moments.{goes_then}
 use Rattle.page_journal.proofs.Parts.{fields_put}
 use Rattle.page_journal.proofs.pages.write_fields.Goals as goal
@@ -20,14 +20,21 @@ returns-clause-put g c =
     (two.0, two.1, fields_put c.args.first c.args.count bytes one.0 two.0 one.2 two.2))
     c.write_number-2.ensures.put
 
-pub returns-clause-crash : goal.returns-clause-crash
-returns-clause-crash g c = λ low base within.
-    let P : List ℕ → Type 0 = Spares (BesideJournal low) base in
-    let one = c.write_number.ensures.crash low base within in
-    goes_then P _ _ _ one (c.write_number-2.ensures.crash low base one.now)
+pub returns-in_err-write_number-clause-writes : goal.returns-in_err-write_number-clause-writes
+returns-in_err-write_number-clause-writes g c = λ low. record {
+  crash = (c.write_number.ensures.writes low).crash;
+  reads = (c.write_number.ensures.writes low).reads;
+  cause =
+      let before = (g.D.Disk.view c.args.disk.now).faults in
+      caused before before _ _ (omega arith) (c.write_number.ensures.writes low).cause.later (c.in_err-write_number.ensures.writes low).cause.failed;
+}
 
-pub returns-clause-reads : goal.returns-clause-reads
-returns-clause-reads g c = c.write_number-2.ensures.reads ∙ c.write_number.ensures.reads
-
-pub returns-clause-cause : goal.returns-clause-cause
-returns-clause-cause g c = cause_after _ _ _ c.write_number-2.result c.write_number.ensures.cause.later c.write_number-2.ensures.cause
+pub returns-clause-writes : goal.returns-clause-writes
+returns-clause-writes g c = λ low. record {
+  crash = λ base within.
+      let P : List ℕ → Type 0 = Spares (BesideJournal low) base in
+      let one = (c.write_number.ensures.writes low).crash base within in
+      goes_then P _ _ _ one ((c.write_number-2.ensures.writes low).crash base one.now);
+  reads = (c.write_number-2.ensures.writes low).reads ∙ (c.write_number.ensures.writes low).reads;
+  cause = cause_after _ _ _ c.write_number-2.result (c.write_number.ensures.writes low).cause.later (c.write_number-2.ensures.writes low).cause;
+}

@@ -101,35 +101,47 @@ loop-number-preserved g c =
                 (λ place below. c.requires.rises place (length yielded) below inside) at-is is size),
           );
       crash = λ base within.
-          goes_write beside base run.at run.filled _ _ _ (so_far.crash base within) c.put_page.ensures.time c.put_page.ensures.crash so_far.spared;
-      reads = c.put_page.ensures.reads ∙ so_far.reads;
-      later = omega (arith, so_far.later, c.put_page.ensures.cause.later);
+          goes_write beside base run.at run.filled _ _ _ (so_far.crash base within) c.put_page.ensures.writes.time c.put_page.ensures.writes.crash so_far.spared;
+      reads = c.put_page.ensures.writes.reads ∙ so_far.reads;
+      later = omega (arith, so_far.later, c.put_page.ensures.writes.cause.later);
     }
 
-pub returns-in_err-put_page-clause-crash : goal.returns-in_err-put_page-clause-crash
-returns-in_err-put_page-clause-crash g c = λ base within.
-    let so_far = c.loop-number.invariant in
-    let entries = c.args.pages.now.entries in
-    let run = c.loop-number.run in
-    goes_write (BesidePages (length entries) (number_at (plain entries))) base run.at run.filled _ _ _ (so_far.crash base within)
-    c.put_page.ensures.time c.put_page.ensures.crash so_far.spared
+pub returns-in_err-put_page-clause-writes : goal.returns-in_err-put_page-clause-writes
+returns-in_err-put_page-clause-writes g c = record {
+  crash = λ base within.
+      let so_far = c.loop-number.invariant in
+      let entries = c.args.pages.now.entries in
+      let run = c.loop-number.run in
+      goes_write (BesidePages (length entries) (number_at (plain entries))) base run.at run.filled _ _ _ (so_far.crash base within)
+      c.put_page.ensures.writes.time c.put_page.ensures.writes.crash so_far.spared;
+  reads = c.put_page.ensures.writes.reads ∙ c.loop-number.invariant.reads;
+  cause = caused _ _ _ _ c.loop-number.invariant.later c.put_page.ensures.writes.cause.later c.in_err-put_page.ensures.writes.cause.failed;
+}
 
-pub returns-in_err-flush-clause-crash : goal.returns-in_err-flush-clause-crash
-returns-in_err-flush-clause-crash g c = λ base within.
-    let so_far = c.loop-number.invariant in
-    let entries = c.args.pages.now.entries in
-    let run = c.loop-number.run in
-    goes_write (BesidePages (length entries) (number_at (plain entries))) base run.at run.filled _ _ _ (so_far.crash base within)
-    c.flush.ensures.time c.flush.ensures.crash so_far.spared
+pub returns-in_err-flush-clause-writes : goal.returns-in_err-flush-clause-writes
+returns-in_err-flush-clause-writes g c = record {
+  crash = λ base within.
+      let so_far = c.loop-number.invariant in
+      let entries = c.args.pages.now.entries in
+      let run = c.loop-number.run in
+      goes_write (BesidePages (length entries) (number_at (plain entries))) base run.at run.filled _ _ _ (so_far.crash base within)
+      c.flush.ensures.writes.time c.flush.ensures.writes.crash so_far.spared;
+  reads = c.flush.ensures.writes.reads ∙ c.loop-number.invariant.reads;
+  cause = caused _ _ _ _ c.loop-number.invariant.later c.flush.ensures.writes.cause.later c.in_err-flush.ensures.writes.cause.failed;
+}
 
-pub returns-clause-crash : goal.returns-clause-crash
-returns-clause-crash g c = λ base within.
-    let so_far = c.loop-number.invariant in
-    let entries = c.args.pages.now.entries in
-    let beside = BesidePages (length entries) (number_at (plain entries)) in
-    let run = c.loop-number.run in
-    let flushed = goes_write beside base run.at run.filled _ _ _ (so_far.crash base within) c.flush.ensures.time c.flush.ensures.crash so_far.spared in
-    goes_quiet (Spares beside base) _ _ _ flushed c.sync.ensures.time c.sync.ensures.crash
+pub returns-clause-writes : goal.returns-clause-writes
+returns-clause-writes g c = record {
+  crash = λ base within.
+      let so_far = c.loop-number.invariant in
+      let entries = c.args.pages.now.entries in
+      let beside = BesidePages (length entries) (number_at (plain entries)) in
+      let run = c.loop-number.run in
+      let flushed = goes_write beside base run.at run.filled _ _ _ (so_far.crash base within) c.flush.ensures.writes.time c.flush.ensures.writes.crash so_far.spared in
+      goes_quiet (Spares beside base) _ _ _ flushed c.sync.ensures.time c.sync.ensures.crash;
+  reads = c.sync.ensures.reads ∙ (c.flush.ensures.writes.reads ∙ c.loop-number.invariant.reads);
+  cause = cause_after _ _ _ c.sync.result (le_trans c.loop-number.invariant.later c.flush.ensures.writes.cause.later) c.sync.ensures.cause;
+}
 
 pub returns-clause-put : goal.returns-clause-put
 returns-clause-put g c =
@@ -152,24 +164,3 @@ returns-clause-put g c =
       subst (λ (n : ℕ). HomePut (number_at (plain entries)) (page_at (plain entries)) n bytes now.0) end.1 now.2,
     ))
     c.sync.ensures.durable
-
-pub returns-clause-reads : goal.returns-clause-reads
-returns-clause-reads g c = c.sync.ensures.reads ∙ (c.flush.ensures.reads ∙ c.loop-number.invariant.reads)
-
-pub returns-clause-cause : goal.returns-clause-cause
-returns-clause-cause g c =
-    cause_after _ _ _ c.sync.result (le_trans c.loop-number.invariant.later c.flush.ensures.cause.later) c.sync.ensures.cause
-
-pub returns-in_err-flush-clause-reads : goal.returns-in_err-flush-clause-reads
-returns-in_err-flush-clause-reads g c = c.flush.ensures.reads ∙ c.loop-number.invariant.reads
-
-pub returns-in_err-flush-clause-cause : goal.returns-in_err-flush-clause-cause
-returns-in_err-flush-clause-cause g c =
-    caused _ _ _ _ c.loop-number.invariant.later c.flush.ensures.cause.later c.in_err-flush.ensures.cause.failed
-
-pub returns-in_err-put_page-clause-reads : goal.returns-in_err-put_page-clause-reads
-returns-in_err-put_page-clause-reads g c = c.put_page.ensures.reads ∙ c.loop-number.invariant.reads
-
-pub returns-in_err-put_page-clause-cause : goal.returns-in_err-put_page-clause-cause
-returns-in_err-put_page-clause-cause g c =
-    caused _ _ _ _ c.loop-number.invariant.later c.put_page.ensures.cause.later c.in_err-put_page.ensures.cause.failed

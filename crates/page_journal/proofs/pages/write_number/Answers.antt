@@ -1,4 +1,4 @@
-use Rattle.std.proofs.Common.{◌≡◌, ℕ, List, length, option_map, ap, ◌∙◌, sym, subst, arith, refl}
+use Rattle.std.proofs.Common.{◌≡◌, ℕ, List, length, option_map, ap, ◌∙◌, sym, subst, arith, refl, rules}
 use Rattle.std.specs.Int.{w64, to_le_bytes}
 use Rattle.outside.specs.Disk.{Tells, overlaid}
 use Rattle.page_journal.specs.Crash.{BesideJournal, Spares}
@@ -25,10 +25,14 @@ returns-clause-put g c =
     ))
     c.write_at.ensures.written
 
-pub returns-clause-crash : goal.returns-clause-crash
-returns-clause-crash g c = λ low base within.
-    let spelled : List ℕ = to_le_bytes w64 c.args.value in
-    let eight : length spelled ≡ 8 = refl in
-    let long : length c.to_le_bytes.result ≡ 8 = ap length c.to_le_bytes.ensures ∙ eight in
-    goes_write (BesideJournal low) base c.args.at (length c.to_le_bytes.result) _ _ _ (started (Spares (BesideJournal low) base) _ within)
-    c.write_at.ensures.time c.write_at.ensures.crash (beside_field low c.args.at (length c.to_le_bytes.result) c.requires.low c.requires.high long)
+pub returns-clause-writes : goal.returns-clause-writes
+returns-clause-writes g c = λ low. record {
+  crash = λ base within.
+      let spelled : List ℕ = to_le_bytes w64 c.args.value in
+      let eight : length spelled ≡ 8 = refl in
+      let long : length c.to_le_bytes.result ≡ 8 = ap length c.to_le_bytes.ensures ∙ eight in
+      goes_write (BesideJournal low) base c.args.at (length c.to_le_bytes.result) _ _ _ (started (Spares (BesideJournal low) base) _ within)
+      c.write_at.ensures.time c.write_at.ensures.crash (beside_field low c.args.at (length c.to_le_bytes.result) c.requires.low c.requires.high long);
+  reads = search rules;
+  cause = search rules;
+}

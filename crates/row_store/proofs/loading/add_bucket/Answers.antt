@@ -1,9 +1,8 @@
 -- The records of a bucket fill in the rows of its numbers.
-use Rattle.std.proofs.Common.{◌≡◌, ◌%◌, ℕ, List, sym, subst}
+use Rattle.std.proofs.Common.{◌≡◌, ◌%◌, ℕ, Err, List, Ok, sym, subst}
 use Rattle.std.specs.List.{AllByRecursion}
 use Rattle.chain_store.specs.Chains.{first_of}
-use Rattle.bucket_store.specs.Transaction.{chains_of}
-use Rattle.bucket_store.specs.Typed.{bucket_at}
+use Rattle.bucket_store.specs.Transaction.{bucket_at, chains_of}
 use Rattle.row_store.specs.Loading.{Among, Fills, IsTold}
 use Rattle.row_store.proofs.LoadLaws.{bucket_fills, records_told}
 use Rattle.row_store.proofs.LookLaws.{memory_sound, sound_err}
@@ -11,14 +10,14 @@ use Rattle.row_store.proofs.loading.add_bucket.Goals as goal
 
 pub returns-in-Err-clause-sound : goal.returns-in-Err-clause-sound
 returns-in-Err-clause-sound g c rest now rows has told =
-    sound_err (Unit {0}) c.records.result c.in-Err.fault c.in-Err.is (c.records.ensures.sound rest now has)
+    sound_err (Unit {0}) c.records.result c.in-Err.fault c.in-Err.is (c.records.ensures.records.sound rest now has)
 
 pub returns-in-Ok-add_records-clause-filled : goal.returns-in-Ok-add_records-clause-filled
 returns-in-Ok-add_records-clause-filled g c rest now rows has told =
     let definitions = c.args.style.now.tables in
     let records = c.in-Ok.records.items in
     let bucket = c.args.bucket % now.root.buckets in
-    let are = c.in-Ok.ensures.found rest now has in
+    let are = c.in-Ok.ensures.records.found rest now has in
     let same : c.as_slice.result.now ≡ records = cc (c.as_slice.ensures.value) in
     let each = records_told definitions c.args.wanted c.args.which rows now bucket records are told in
     let filled = c.in-Ok-add_records.ensures.filled rows
@@ -31,7 +30,7 @@ returns-clause-sound g c rest now rows has told =
     let definitions = c.args.style.now.tables in
     let records = c.in-Ok.records.items in
     let bucket = c.args.bucket % now.root.buckets in
-    let are = c.in-Ok.ensures.found rest now has in
+    let are = c.in-Ok.ensures.records.found rest now has in
     let same : c.as_slice.result.now ≡ records = cc (c.as_slice.ensures.value) in
     let each = records_told definitions c.args.wanted c.args.which rows now bucket records are told in
     let memory = c.in-Err-add_records.ensures.sound rows

@@ -35,11 +35,13 @@ change_maps-requires-clause-spent g c =
     over_none (stop_of c.args.maps.now) (is_spent c.load_due.new.buckets) c.requires.fresh (none_spent c.load_due.new.buckets c.in-Ok.ensures.going (c.in-Ok.ensures.runs.whole tt)
     (not_zero (bucket_count (chains_of c.load_due.new.buckets)) (λ zero. c.if-root-eq0.false (ap (λ (r : Root). r.buckets) c.root.ensures ∙ zero))))
 
-pub settle-requires-clause-going : goal.settle-requires-clause-going
-settle-requires-clause-going g c = over_going c.change_maps.new.store c.in-Ok-change_maps.ensures.spent
-
-pub settle-requires-clause-whole : goal.settle-requires-clause-whole
-settle-requires-clause-whole g c = over_whole c.change_maps.new.store c.in-Ok-change_maps.ensures.spent
+pub settle-requires : goal.settle-requires
+settle-requires g c = record {
+  ready = record {
+    going = over_going c.change_maps.new.store c.in-Ok-change_maps.ensures.goes.spent;
+    whole = over_whole c.change_maps.new.store c.in-Ok-change_maps.ensures.goes.spent;
+  };
+}
 
 -- the due tiles are not read
 pub returns-in-Err-clause-turns : goal.returns-in-Err-clause-turns
@@ -60,15 +62,15 @@ returns-in-Err-change_maps-clause-turns g c held rest same was is style next =
     let last = c.change_maps.new.store in
     let change = c.args.change.now in
     let limits = c.args.limits.now in
-    let later = c.change_maps.ensures.looked _ (later_same _) in
+    let later = c.change_maps.ensures.goes.looked _ (later_same _) in
     let own : style_in c.args.maps.now ≡ held.style = c.requires.style ∙ sym style in
     let under : Beside = record { rest = rest; root = rest.root; texts = rest.texts } in
     let keeps : HasMaps (style_in c.args.maps.now).tables under is.maps.maps mid =
     subst (λ (s : StyleOf). HasMaps s.tables under is.maps.maps mid) (sym own)
     (record { now = rest; has = c.in-Ok.ensures.has rest rest was; root = refl; texts = λ n below. refl; kept = is.maps.kept }) in
     let stand : Stands c.args.style.now is.maps.maps held.objects = subst (λ (s : StyleOf). Stands s is.maps.maps held.objects) style is.maps.stand in
-    let answers = step_answers limits held c.args.bounds.now change _ _ _ c.in-Err-change_maps.why c.in-Err-change_maps.ensures.ends
-    (c.in-Err-change_maps.ensures.allowed under is.maps.maps held.objects keeps stand)
+    let answers = step_answers limits held c.args.bounds.now change _ _ _ c.in-Err-change_maps.why c.in-Err-change_maps.ensures.goes.ends
+    (c.in-Err-change_maps.ensures.changes under is.maps.maps held.objects keeps stand).allowed
     (λ value many. (
       (λ last. absurd (omega (arith, last, next, c.requires.counted))),
       subst (λ (s : StyleOf). AreTooMany limits.pending (λ set. IsPendingOf s held.objects change set) value) (sym style)
@@ -77,18 +79,18 @@ returns-in-Err-change_maps-clause-turns g c held rest same was is style next =
     subst (λ (f : FlowFault). TurnsIn limits (imported held) (Append c.args.bounds.now change) (Some f) old (buckets_of last)) (sym c.step_fault.ensures)
     (turns_refused limits (imported held) (Append c.args.bounds.now change) _ rest old (buckets_of last) (rests_under rest rest old was) is
     (looks_then old mid (buckets_of last) c.in-Ok.ensures.runs.looks later.looks) answers
-    (step_fits limits _ c.in-Err-change_maps.why (c.in-Err-change_maps.ensures.allowed under is.maps.maps held.objects keeps stand)))
+    (step_fits limits _ c.in-Err-change_maps.why (c.in-Err-change_maps.ensures.changes under is.maps.maps held.objects keeps stand).allowed))
 
 pub returns-in-Err-change_maps-clause-ends : goal.returns-in-Err-change_maps-clause-ends
 returns-in-Err-change_maps-clause-ends g c =
     let old = buckets_of c.args.maps.now in
     let mid = c.load_due.new.buckets in
     let last = c.change_maps.new.store in
-    let later = c.change_maps.ensures.looked _ (later_same _) in
-    subst (λ (f : FlowFault). EndsIn (Some f) old (buckets_of last)) (sym c.step_fault.ensures)
+    let later = c.change_maps.ensures.goes.looked _ (later_same _) in
+    subst (λ (f : FlowFault). EndsIn (Some (Append c.args.bounds.now c.args.change.now)) (Some f) old (buckets_of last)) (sym c.step_fault.ensures)
     (ends_then _ old mid (buckets_of last) c.in-Ok.ensures.runs.looks
-    (step_ends mid (buckets_of last) later.looks _ _ _ c.in-Err-change_maps.why c.in-Err-change_maps.ensures.ends
-    (λ fault refused. (refused _ (later_same _)).1) (λ fresh. over_whole last fresh)))
+    (step_ends mid (buckets_of last) later.looks _ _ _ c.in-Err-change_maps.why c.in-Err-change_maps.ensures.goes.ends
+    (λ fault refused. (refused _ (later_same _)).1) (λ fresh. over_whole last fresh) (Some (Append c.args.bounds.now c.args.change.now)) (λ value many. tt)))
 
 -- all is committed, or nothing
 pub returns-in-Ok-settle-clause-changes : goal.returns-in-Ok-settle-clause-changes
@@ -101,9 +103,10 @@ returns-in-Ok-settle-clause-changes g c held rest was is style =
     subst (λ (s : StyleOf). HasMaps s.tables under is.maps.maps mid) (sym own)
     (record { now = rest; has = c.in-Ok.ensures.has rest rest was; root = refl; texts = λ n below. refl; kept = is.maps.kept }) in
     let stand : Stands c.args.style.now is.maps.maps held.objects = subst (λ (s : StyleOf). Stands s is.maps.maps held.objects) style is.maps.stand in
-    let told = c.in-Ok-change_maps.ensures.told under is.maps.maps held.objects keeps stand in
+    let done = c.in-Ok-change_maps.ensures.changes under is.maps.maps held.objects keeps stand in
+    let told = done.told in
     subst (λ (s : StyleOf). AreChanges (tables s held.objects) (tables s (folded_all held.objects change)) c.in-Ok-change_maps.told) (sym style)
-    (record { each = told.each; all = told.all; applied = c.in-Ok-change_maps.ensures.applied under is.maps.maps held.objects keeps stand })
+    (record { each = told.each; all = told.all; applied = done.applied })
 
 pub returns-in-Ok-settle-clause-turns : goal.returns-in-Ok-settle-clause-turns
 returns-in-Ok-settle-clause-turns g c held rest same was is style next =
@@ -112,7 +115,7 @@ returns-in-Ok-settle-clause-turns g c held rest same was is style next =
     let last = c.change_maps.new.store in
     let change = c.args.change.now in
     let limits = c.args.limits.now in
-    let later = c.change_maps.ensures.looked _ (later_same _) in
+    let later = c.change_maps.ensures.goes.looked _ (later_same _) in
     let done = c.in-Ok-change_maps.ensures in
     let own : style_in c.args.maps.now ≡ held.style = c.requires.style ∙ sym style in
     let under : Beside = record { rest = rest; root = rest.root; texts = rest.texts } in
@@ -120,7 +123,7 @@ returns-in-Ok-settle-clause-turns g c held rest same was is style next =
     subst (λ (s : StyleOf). HasMaps s.tables under is.maps.maps mid) (sym own)
     (record { now = rest; has = c.in-Ok.ensures.has rest rest was; root = refl; texts = λ n below. refl; kept = is.maps.kept }) in
     let stand : Stands c.args.style.now is.maps.maps held.objects = subst (λ (s : StyleOf). Stands s is.maps.maps held.objects) style is.maps.stand in
-    let made = done.stands under is.maps.maps held.objects keeps stand in
+    let made = (done.changes under is.maps.maps held.objects keeps stand).stands in
     let after = made.0 in
     let kept : HasMaps held.style.tables under after (buckets_of last) =
     subst (λ (s : StyleOf). HasMaps s.tables under after (buckets_of last)) (later.same_style ∙ own) made.1 in
@@ -128,7 +131,7 @@ returns-in-Ok-settle-clause-turns g c held rest same was is style next =
     subst (λ (s : StyleOf). Stands s after (folded_all held.objects change)) (sym style) made.2 in
     let due = c.change_maps.new.due in
     let tiles : (zoom x y : ℕ) → has due zoom x y ≡ both held.due (due_between held.style c.args.bounds.now held.objects (folded_all held.objects change)) zoom x y = λ zoom x y.
-    done.due under is.maps.maps held.objects keeps stand zoom x y
+    (done.changes under is.maps.maps held.objects keeps stand).due zoom x y
     ∙ ap (λ (b : Bool). b || due_between c.args.style.now c.args.bounds.now held.objects (folded_all held.objects change) zoom x y)
     (c.in-Ok.ensures.due rest rest held was is zoom x y)
     ∙ ap (λ (s : StyleOf). held.due zoom x y || due_between s c.args.bounds.now held.objects (folded_all held.objects change) zoom x y) (sym style) in
@@ -138,15 +141,15 @@ returns-in-Ok-settle-clause-turns g c held rest same was is style next =
     turns_committed limits (imported held) (Append c.args.bounds.now change) _ rest _ old (buckets_of last) c.settle.new.buckets
     (rests_under rest rest old was) is looks becomes (
       (λ last. absurd (omega (arith, last, next, c.requires.counted))),
-      (λ set pending. done.few under is.maps.maps held.objects keeps stand set (subst (λ (s : StyleOf). IsPendingOf s held.objects change set) style pending)),
+      (λ set pending. (done.changes under is.maps.maps held.objects keeps stand).few set (subst (λ (s : StyleOf). IsPendingOf s held.objects change set) style pending)),
     )
-    (c.in-Ok-settle.ensures.commits limits rest kept.now (looks.looked.limit ∙ same) kept.has)
+    (c.in-Ok-settle.ensures.commits.commits limits rest kept.now (looks.looked.limit ∙ same) kept.has)
 
 pub returns-in-Ok-settle-clause-ends : goal.returns-in-Ok-settle-clause-ends
 returns-in-Ok-settle-clause-ends g c =
-    let later = c.change_maps.ensures.looked _ (later_same _) in
+    let later = c.change_maps.ensures.goes.looked _ (later_same _) in
     ends_then _ (buckets_of c.args.maps.now) (buckets_of c.change_maps.new.store) c.settle.new.buckets
-    (looks_then (buckets_of c.args.maps.now) c.load_due.new.buckets (buckets_of c.change_maps.new.store) c.in-Ok.ensures.runs.looks later.looks) c.in-Ok-settle.ensures.ends
+    (looks_then (buckets_of c.args.maps.now) c.load_due.new.buckets (buckets_of c.change_maps.new.store) c.in-Ok.ensures.runs.looks later.looks) (c.in-Ok-settle.ensures.commits.ends (Append c.args.bounds.now c.args.change.now))
 
 pub returns-clause-turns : goal.returns-clause-turns
 returns-clause-turns g c held rest same was is style next =
@@ -155,7 +158,7 @@ returns-clause-turns g c held rest same was is style next =
     let last = c.change_maps.new.store in
     let change = c.args.change.now in
     let limits = c.args.limits.now in
-    let later = c.change_maps.ensures.looked _ (later_same _) in
+    let later = c.change_maps.ensures.goes.looked _ (later_same _) in
     let done = c.in-Ok-change_maps.ensures in
     let own : style_in c.args.maps.now ≡ held.style = c.requires.style ∙ sym style in
     let under : Beside = record { rest = rest; root = rest.root; texts = rest.texts } in
@@ -163,7 +166,7 @@ returns-clause-turns g c held rest same was is style next =
     subst (λ (s : StyleOf). HasMaps s.tables under is.maps.maps mid) (sym own)
     (record { now = rest; has = c.in-Ok.ensures.has rest rest was; root = refl; texts = λ n below. refl; kept = is.maps.kept }) in
     let stand : Stands c.args.style.now is.maps.maps held.objects = subst (λ (s : StyleOf). Stands s is.maps.maps held.objects) style is.maps.stand in
-    let made = done.stands under is.maps.maps held.objects keeps stand in
+    let made = (done.changes under is.maps.maps held.objects keeps stand).stands in
     let after = made.0 in
     let kept : HasMaps held.style.tables under after (buckets_of last) =
     subst (λ (s : StyleOf). HasMaps s.tables under after (buckets_of last)) (later.same_style ∙ own) made.1 in
@@ -171,7 +174,7 @@ returns-clause-turns g c held rest same was is style next =
     subst (λ (s : StyleOf). Stands s after (folded_all held.objects change)) (sym style) made.2 in
     let due = c.change_maps.new.due in
     let tiles : (zoom x y : ℕ) → has due zoom x y ≡ both held.due (due_between held.style c.args.bounds.now held.objects (folded_all held.objects change)) zoom x y = λ zoom x y.
-    done.due under is.maps.maps held.objects keeps stand zoom x y
+    (done.changes under is.maps.maps held.objects keeps stand).due zoom x y
     ∙ ap (λ (b : Bool). b || due_between c.args.style.now c.args.bounds.now held.objects (folded_all held.objects change) zoom x y)
     (c.in-Ok.ensures.due rest rest held was is zoom x y)
     ∙ ap (λ (s : StyleOf). held.due zoom x y || due_between s c.args.bounds.now held.objects (folded_all held.objects change) zoom x y) (sym style) in
@@ -181,9 +184,9 @@ returns-clause-turns g c held rest same was is style next =
     turns_committed limits (imported held) (Append c.args.bounds.now change) _ rest _ old (buckets_of last) c.settle.new.buckets
     (rests_under rest rest old was) is looks becomes (
       (λ last. absurd (omega (arith, last, next, c.requires.counted))),
-      (λ set pending. done.few under is.maps.maps held.objects keeps stand set (subst (λ (s : StyleOf). IsPendingOf s held.objects change set) style pending)),
+      (λ set pending. (done.changes under is.maps.maps held.objects keeps stand).few set (subst (λ (s : StyleOf). IsPendingOf s held.objects change set) style pending)),
     )
-    (c.in-Err-settle.ensures.commits limits rest kept.now (looks.looked.limit ∙ same) kept.has)
+    (c.in-Err-settle.ensures.commits.commits limits rest kept.now (looks.looked.limit ∙ same) kept.has)
 
 -- no more was read than the change touches
 pub returns-in-Ok-settle-clause-reads : goal.returns-in-Ok-settle-clause-reads
@@ -191,7 +194,7 @@ returns-in-Ok-settle-clause-reads g c held rest was is style unread may touched 
     let old = buckets_of c.args.maps.now in
     let mid = c.load_due.new.buckets in
     let last = c.change_maps.new.store in
-    let later = c.change_maps.ensures.looked _ (later_same _) in
+    let later = c.change_maps.ensures.goes.looked _ (later_same _) in
     let done = c.in-Ok-change_maps.ensures in
     let own : style_in c.args.maps.now ≡ held.style = c.requires.style ∙ sym style in
     let under : Beside = record { rest = rest; root = rest.root; texts = rest.texts } in
@@ -199,8 +202,8 @@ returns-in-Ok-settle-clause-reads g c held rest was is style unread may touched 
     subst (λ (s : StyleOf). HasMaps s.tables under is.maps.maps mid) (sym own)
     (record { now = rest; has = c.in-Ok.ensures.has rest rest was; root = refl; texts = λ n below. refl; kept = is.maps.kept }) in
     let stand : Stands c.args.style.now is.maps.maps held.objects = subst (λ (s : StyleOf). Stands s is.maps.maps held.objects) style is.maps.stand in
-    let made = (done.stands under is.maps.maps held.objects keeps stand).1 in
-    let going = over_going last done.spent in
+    let made = (done.changes under is.maps.maps held.objects keeps stand).stands.1 in
+    let going = over_going last done.goes.spent in
     let loads = c.in-Ok.ensures.reads in
     let only = c.change_maps.ensures.within under is.maps.maps held.objects keeps stand may touched (none_loaded may old mid (buckets_of last) c.settle.new.buckets unread loads) in
     change_reads may old mid (buckets_of last) c.settle.new.buckets unread loads c.in-Ok.ensures.runs.looks later.looks (later.reads going) only going
@@ -208,6 +211,6 @@ returns-in-Ok-settle-clause-reads g c held rest was is style unread may touched 
 
 pub returns-clause-ends : goal.returns-clause-ends
 returns-clause-ends g c =
-    let later = c.change_maps.ensures.looked _ (later_same _) in
+    let later = c.change_maps.ensures.goes.looked _ (later_same _) in
     ends_then _ (buckets_of c.args.maps.now) (buckets_of c.change_maps.new.store) c.settle.new.buckets
-    (looks_then (buckets_of c.args.maps.now) c.load_due.new.buckets (buckets_of c.change_maps.new.store) c.in-Ok.ensures.runs.looks later.looks) c.in-Err-settle.ensures.ends
+    (looks_then (buckets_of c.args.maps.now) c.load_due.new.buckets (buckets_of c.change_maps.new.store) c.in-Ok.ensures.runs.looks later.looks) (c.in-Err-settle.ensures.commits.ends (Append c.args.bounds.now c.args.change.now))

@@ -14,24 +14,24 @@ use Rattle.update_flow.proofs.clearing.clear.Goals as goal
 
 pub returns-in-Ok-clause-turns : goal.returns-in-Ok-clause-turns
 returns-in-Ok-clause-turns g c limits held rest same has is =
-    let looks = c.in-Ok.ensures.runs.looks in
+    let looks = c.in-Ok.ensures.stores.runs.looks in
     let now = with_text DUE_TEXT (set_bytes []) rest in
     let mid : Has rest now c.store_due.new.buckets =
-    subst (λ (runs : List Run). Has rest (with_text DUE_TEXT (set_bytes runs) rest) c.store_due.new.buckets) c.new-none.ensures.none (c.in-Ok.ensures.stored rest rest has) in
+    subst (λ (runs : List Run). Has rest (with_text DUE_TEXT (set_bytes runs) rest) c.store_due.new.buckets) c.new-none.ensures.none (c.in-Ok.ensures.stores.stored rest rest has) in
     turns_committed limits (imported held) Clear (result_err c.finish.result) rest now c.args.buckets.now c.store_due.new.buckets c.finish.new.buckets
     (rests_under rest rest c.args.buckets.now has) is looks (cleared_becomes held rest is) refl
-    (c.finish.ensures.commits limits rest now (looks.looked.limit ∙ same) mid)
+    (c.finish.ensures.commits.commits limits rest now (looks.looked.limit ∙ same) mid)
 
 pub returns-in-Ok-clause-ends : goal.returns-in-Ok-clause-ends
 returns-in-Ok-clause-ends g c =
-    ends_then (result_err c.finish.result) c.args.buckets.now c.store_due.new.buckets c.finish.new.buckets c.in-Ok.ensures.runs.looks c.finish.ensures.ends
+    ends_then (result_err c.finish.result) c.args.buckets.now c.store_due.new.buckets c.finish.new.buckets c.in-Ok.ensures.stores.runs.looks (c.finish.ensures.commits.ends Clear)
 
 pub returns-clause-turns : goal.returns-clause-turns
 returns-clause-turns g c limits held rest same has is =
     turns_refused limits (imported held) Clear c.in-Err.fault rest c.args.buckets.now c.store_due.new.buckets
-    (rests_under rest rest c.args.buckets.now has) is c.in-Err.ensures.runs.looks
-    (sound_answers limits c.in-Err.fault _ (c.in-Err.ensures.sound rest rest has))
-    (sound_fits limits _ c.in-Err.fault (c.in-Err.ensures.sound rest rest has))
+    (rests_under rest rest c.args.buckets.now has) is c.in-Err.ensures.stores.runs.looks
+    (sound_answers limits c.in-Err.fault _ (c.in-Err.ensures.stores.sound rest rest has))
+    (sound_fits limits _ c.in-Err.fault (c.in-Err.ensures.stores.sound rest rest has))
 
 pub returns-clause-ends : goal.returns-clause-ends
-returns-clause-ends g c = runs_ended _ c.args.buckets.now c.store_due.new.buckets c.in-Err.ensures.runs
+returns-clause-ends g c = runs_ended _ c.args.buckets.now c.store_due.new.buckets c.in-Err.ensures.stores.runs

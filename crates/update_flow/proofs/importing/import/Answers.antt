@@ -31,14 +31,13 @@ returns-then-root-ne0-clause-turns g c limits rest same has blank =
 pub import_maps-requires-clause-spent : goal.import_maps-requires-clause-spent
 import_maps-requires-clause-spent g c lifetimes lives =
     over_none c.args.maps.now.indexed.stopped (is_spent c.set_buckets.new.self) c.requires.fresh
-    (none_spent c.set_buckets.new.self c.set_buckets.ensures.going (ap (λ j. is_broken j) c.set_buckets.ensures.journal ∙ c.requires.whole)
-    (ap (λ (r : Root). nat_eq r.buckets 0) c.set_buckets.ensures.root ∙ power_counts c.args.buckets c.requires.power))
+    (none_spent c.set_buckets.new.self c.set_buckets.ensures.fields.going (ap (λ j. is_broken j) c.set_buckets.ensures.fields.journal ∙ c.requires.ready.whole)
+    (ap (λ (r : Root). nat_eq r.buckets 0) c.set_buckets.ensures.fields.root ∙ power_counts c.args.buckets c.requires.asked.power))
 
-pub begin-requires-clause-going : goal.begin-requires-clause-going
-begin-requires-clause-going g c = over_going c.import_maps.new.store c.in-Ok.ensures.spent
-
-pub begin-requires-clause-whole : goal.begin-requires-clause-whole
-begin-requires-clause-whole g c = over_whole c.import_maps.new.store c.in-Ok.ensures.spent
+pub begin-requires : goal.begin-requires
+begin-requires g c = record {
+  ready = record { going = over_going c.import_maps.new.store c.in-Ok.ensures.goes.spent; whole = over_whole c.import_maps.new.store c.in-Ok.ensures.goes.spent };
+}
 
 pub returns-in-Ok-clause-turns : goal.returns-in-Ok-clause-turns
 returns-in-Ok-clause-turns g c limits rest same has blank =
@@ -46,7 +45,7 @@ returns-in-Ok-clause-turns g c limits rest same has blank =
     let mid = c.set_buckets.new.self in
     let last = c.import_maps.new.store in
     let count = c.args.buckets in
-    let later = c.import_maps.ensures.looked _ (later_same _) in
+    let later = c.import_maps.ensures.goes.looked _ (later_same _) in
     let numbered = with_root (with_buckets count rest.root) rest in
     let root = root_with_root (with_buckets count rest.root) rest in
     let texts = texts_with_root (with_buckets count rest.root) rest in
@@ -64,18 +63,18 @@ returns-in-Ok-clause-turns g c limits rest same has blank =
     let after = made.0 in
     let kept : HasMaps c.args.style.now.tables under after (buckets_of last) =
     subst (λ (s : StyleOf). HasMaps s.tables under after (buckets_of last)) (later.same_style ∙ c.requires.style) made.1 in
-    let becomes = begun_becomes c.args.style.now c.args.style_bytes.now count c.args.change rest kept.now after blank c.requires.reads c.requires.power
-    c.requires.few_buckets (ap (λ (r : Root). r.buckets) kept.root) kept.texts kept.kept made.2
+    let becomes = begun_becomes c.args.style.now c.args.style_bytes.now count c.args.change rest kept.now after blank c.requires.asked.reads c.requires.asked.power
+    c.requires.asked.few_buckets (ap (λ (r : Root). r.buckets) kept.root) kept.texts kept.kept made.2
     (subst (λ (l : List Entry). AreIdEntries l) c.entries.ensures.entries c.known_ids.ensures) in
-    let looks = looks_then old mid (buckets_of last) c.set_buckets.ensures.same later.looks in
+    let looks = looks_then old mid (buckets_of last) c.set_buckets.ensures.fields.same later.looks in
     turns_committed limits formatted (Import c.args.style.now c.args.style_bytes.now count c.args.change) _ rest _ old (buckets_of last) c.begin.new.buckets
-    (rests_under rest rest old has) blank looks becomes refl (c.begin.ensures.commits limits rest kept.now (looks.looked.limit ∙ same) kept.has)
+    (rests_under rest rest old has) blank looks becomes refl (c.begin.ensures.commits.commits limits rest kept.now (looks.looked.limit ∙ same) kept.has)
 
 pub returns-in-Ok-clause-ends : goal.returns-in-Ok-clause-ends
 returns-in-Ok-clause-ends g c =
-    let later = c.import_maps.ensures.looked _ (later_same _) in
+    let later = c.import_maps.ensures.goes.looked _ (later_same _) in
     ends_then _ (buckets_of c.args.maps.now) (buckets_of c.import_maps.new.store) c.begin.new.buckets
-    (looks_then (buckets_of c.args.maps.now) c.set_buckets.new.self (buckets_of c.import_maps.new.store) c.set_buckets.ensures.same later.looks) c.begin.ensures.ends
+    (looks_then (buckets_of c.args.maps.now) c.set_buckets.new.self (buckets_of c.import_maps.new.store) c.set_buckets.ensures.fields.same later.looks) (c.begin.ensures.commits.ends (Import c.args.style.now c.args.style_bytes.now c.args.buckets c.args.change))
 
 pub returns-in-Err-clause-turns : goal.returns-in-Err-clause-turns
 returns-in-Err-clause-turns g c limits rest same has blank =
@@ -84,7 +83,7 @@ returns-in-Err-clause-turns g c limits rest same has blank =
     let last = c.import_maps.new.store in
     let count = c.args.buckets in
     let step = Import c.args.style.now c.args.style_bytes.now count c.args.change in
-    let later = c.import_maps.ensures.looked _ (later_same _) in
+    let later = c.import_maps.ensures.goes.looked _ (later_same _) in
     let numbered = with_root (with_buckets count rest.root) rest in
     let none : rest.root.buckets ≡ 0 = ap (λ (r : Root). r.buckets) blank.root in
     let under : Beside = record { rest = rest; root = with_buckets count rest.root; texts = rest.texts } in
@@ -98,8 +97,8 @@ returns-in-Err-clause-turns g c limits rest same has blank =
     } in
     subst (λ (f : FlowFault). TurnsIn limits formatted step (Some f) old (buckets_of last)) (sym c.step_fault.ensures)
     (turns_refused limits formatted step _ rest old (buckets_of last) (rests_under rest rest old has) blank
-    (looks_then old mid (buckets_of last) c.set_buckets.ensures.same later.looks)
-    (step_begins limits step _ _ c.in-Err.why c.in-Err.ensures.ends (c.in-Err.ensures.allowed under keeps))
+    (looks_then old mid (buckets_of last) c.set_buckets.ensures.fields.same later.looks)
+    (step_begins limits step _ _ c.in-Err.why c.in-Err.ensures.goes.ends (c.in-Err.ensures.allowed under keeps))
     (step_fits limits _ c.in-Err.why (c.in-Err.ensures.allowed under keeps)))
 
 pub returns-in-Err-clause-ends : goal.returns-in-Err-clause-ends
@@ -107,8 +106,9 @@ returns-in-Err-clause-ends g c =
     let old = buckets_of c.args.maps.now in
     let mid = c.set_buckets.new.self in
     let last = c.import_maps.new.store in
-    let later = c.import_maps.ensures.looked _ (later_same _) in
-    subst (λ (f : FlowFault). EndsIn (Some f) old (buckets_of last)) (sym c.step_fault.ensures)
-    (ends_then _ old mid (buckets_of last) c.set_buckets.ensures.same
-    (step_ends mid (buckets_of last) later.looks _ _ _ c.in-Err.why c.in-Err.ensures.ends
-    (λ fault refused. (refused _ (later_same _)).1) (λ fresh. over_whole last fresh)))
+    let later = c.import_maps.ensures.goes.looked _ (later_same _) in
+    let step = Import c.args.style.now c.args.style_bytes.now c.args.buckets c.args.change in
+    subst (λ (f : FlowFault). EndsIn (Some step) (Some f) old (buckets_of last)) (sym c.step_fault.ensures)
+    (ends_then _ old mid (buckets_of last) c.set_buckets.ensures.fields.same
+    (step_ends mid (buckets_of last) later.looks _ _ _ c.in-Err.why c.in-Err.ensures.goes.ends
+    (λ fault refused. (refused _ (later_same _)).1) (λ fresh. over_whole last fresh) (Some step) (λ value none. absurd none)))

@@ -8,14 +8,16 @@ use Rattle.update_flow.specs.Settling.{migrated, migrated_root}
 use Rattle.update_flow.proofs.Turning.{commits_after, ends_then}
 use Rattle.update_flow.proofs.migrating.finish_migrated.Goals as goal
 
-pub returns-clause-commits : goal.returns-clause-commits
-returns-clause-commits g c limits rest now same has =
-    let looks = c.set_root.ensures.same in
-    let root : migrated_root c.root-root.result ≡ migrated_root now.root = ap (λ (r : Root). migrated_root r) (c.root-root.ensures ∙ has.root) in
-    commits_after limits (result_err c.finish.result) rest (migrated now) c.args.buckets.now c.set_root.new.self c.finish.new.buckets
-    (rests_under rest now c.args.buckets.now has) looks
-    (c.finish.ensures.commits limits rest (migrated now) (looks.looked.limit ∙ same)
-    (subst (λ (r : Root). Has rest (with_root r now) c.set_root.new.self) root (c.set_root.ensures.has rest now has)))
-
-pub returns-clause-ends : goal.returns-clause-ends
-returns-clause-ends g c = ends_then (result_err c.finish.result) c.args.buckets.now c.set_root.new.self c.finish.new.buckets c.set_root.ensures.same c.finish.ensures.ends
+pub returns : goal.returns
+returns g c = record {
+  commits = record {
+    commits = λ limits rest now same has.
+        let looks = c.set_root.ensures.fields.same in
+        let root : migrated_root c.root-root.result ≡ migrated_root now.root = ap (λ (r : Root). migrated_root r) (c.root-root.ensures ∙ has.root) in
+        commits_after limits (result_err c.finish.result) rest (migrated now) c.args.buckets.now c.set_root.new.self c.finish.new.buckets
+        (rests_under rest now c.args.buckets.now has) looks
+        (c.finish.ensures.commits.commits limits rest (migrated now) (looks.looked.limit ∙ same)
+        (subst (λ (r : Root). Has rest (with_root r now) c.set_root.new.self) root (c.set_root.ensures.has rest now has)));
+    ends = λ step. ends_then (result_err c.finish.result) c.args.buckets.now c.set_root.new.self c.finish.new.buckets c.set_root.ensures.fields.same (c.finish.ensures.commits.ends step);
+  };
+}

@@ -1,5 +1,5 @@
 -- The fields say which state it is.
-use Rattle.std.proofs.Common.{true, false, ap, sym, ◌∙◌}
+use Rattle.std.proofs.Common.{true, false, ap, rules, sym, ◌∙◌}
 use Rattle.std.specs.Result.{result_err}
 use Rattle.chain_store.specs.declared.root.Root.{Root}
 use Rattle.update_flow.specs.Roots.{is_blank}
@@ -13,8 +13,13 @@ returns-then-is_blank-clause-fields g c = record {
   count = λ is. absurd (cc (is));
 }
 
-pub returns-then-is_blank-clause-once : goal.returns-then-is_blank-clause-once
-returns-then-is_blank-clause-once g c = λ state fits holds. style_unread state (g.D.Disk.view c.args.disk.now) holds
+pub returns-then-is_blank-clause-finds : goal.returns-then-is_blank-clause-finds
+returns-then-is_blank-clause-finds g c = record {
+  alone = search rules;
+  stays = search rules;
+  once = λ state fits holds. style_unread state (g.D.Disk.view c.args.disk.now) holds;
+  cause = search rules;
+}
 
 -- an old store
 pub returns-then-is_old-clause-found : goal.returns-then-is_old-clause-found

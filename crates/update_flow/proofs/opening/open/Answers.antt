@@ -1,11 +1,12 @@
 -- What the buckets found is judged.
-use Rattle.std.proofs.Common.{◌≡◌, ◌≢◌, ◌⊎◌, inl, inr, ℕ, List, Some, Result, Ok, Err, OnOk, refl, sym, subst, ◌∙◌}
+use Rattle.std.proofs.Common.{◌≡◌, ◌≢◌, ◌⊎◌, inl, inr, ℕ, List, Some, Result, Ok, Err, OnOk, refl, rules, sym, subst, ◌∙◌}
 use Rattle.std.specs.Result.{result_err}
 use Rattle.std.proofs.lemmas.Result.{IfOk-weaker, on_ok_weaker}
 use Rattle.outside.specs.Bytes.{IfTold, IsTold}
 use Rattle.outside.specs.Disk.{Goes, Tells}
 use Rattle.page_journal.specs.Home.{HasOpenJournal}
 use Rattle.page_journal.specs.declared.fault.StoreFault.TheVariants as store
+use Rattle.page_journal.proofs.Moments.{stays_then}
 use Rattle.page_journal.specs.Pages.{gate}
 use Rattle.page_journal.specs.declared.layout.TheConstants.{OPEN}
 use Rattle.bucket_store.specs.Image.{IsSoundAnswer}
@@ -27,12 +28,75 @@ use Rattle.update_flow.proofs.OpeningReads.{opens_then}
 use Rattle.update_flow.proofs.Openings.{bad_formed, bad_none, each_meant, goes_either, opens_as, opens_either, quiet_fault, root_told, sound_answer, sound_store, state_before}
 use Rattle.update_flow.proofs.opening.open.Goals as goal
 
+-- what holds anyway holds of an answer
+on_ok_always : {T E : Type 0} (result : Result T E) (P : Type 0) → P → OnOk result P
+on_ok_always (Ok value) P own = own
+on_ok_always (Err fault) P own = tt
+
+pub returns-in-Ok-clause-any : goal.returns-in-Ok-clause-any
+unfolding StandsFor
+returns-in-Ok-clause-any g c = record {
+  alone = search rules;
+  no_store = search rules;
+  formed = on_ok_always c.judged.result _ (λ bytes told. (c.in-Ok.ensures.answers bytes told).1.formatted);
+  fields = let old = g.D.Disk.view c.args.disk.now in
+      let mid = g.D.Disk.view c.open.new.disk in
+      IfOk-weaker c.judged.result
+      (λ opened. AreFieldsOf opened.style opened.outdated opened.changes (opened_root c.in-Ok.found))
+      (λ opened. IfTold old.content (RootTells opened.style opened.outdated opened.changes))
+      (λ opened own bytes told shut pages home.
+      subst (λ (root : Root). AreFieldsOf opened.style opened.outdated opened.changes root)
+      (root_told c.in-Ok.found bytes pages old mid told (c.open.ensures.leaves.looked bytes told (λ (opened : HasOpenJournal bytes). shut opened.is_open)) (c.in-Ok.ensures.fits bytes told) home) own)
+      c.judged.ensures.fields;
+  untouched = search rules;
+  told = λ told no.
+      let mid = c.in-Ok.ensures.leaves.told told.0 told.1 refl in
+      (mid.0, c.judged.ensures.finds.stays.content ∙ mid.1);
+  bad = λ page is bytes told. record {
+    formed = (c.in-Ok.ensures.answers bytes told).1.formatted;
+    none = λ state stands.
+        let mid = g.D.Disk.view c.open.new.disk in
+        let holds : HoldsState state mid = record { image = stands.0; holds = c.in-Ok.ensures.image.found bytes told stands.0 stands.2; means = stands.1 } in
+        bad_none Opened c.judged.result page is (c.judged.ensures.sound (c.in-Ok.ensures.fits bytes told) state holds);
+  };
+  same = λ bytes told shut.
+      c.judged.ensures.finds.stays.content ∙ (c.open.ensures.leaves.looked bytes told (λ (opened : HasOpenJournal bytes). shut opened.is_open)).content;
+  looked = λ bytes told shut.
+      stays_then (g.D.Disk.view c.args.disk.now) (g.D.Disk.view c.open.new.disk) (g.D.Disk.view c.judged.new.disk) (c.open.ensures.leaves.looked bytes told shut) c.judged.ensures.finds.stays;
+  cause = search rules;
+}
+
+pub returns-in-Err-clause-any : goal.returns-in-Err-clause-any
+unfolding StandsFor
+returns-in-Err-clause-any g c = record {
+  alone = search rules;
+  no_store = search rules;
+  formed = search rules;
+  fields = search rules;
+  untouched = search rules;
+  told = λ told no.
+      c.in-Err.ensures.leaves.told told.0 told.1 (quiet_fault Stored c.in-Err.fault (subst (λ (f : FlowFault). IsNoDiskFault (Some f)) c.store_fault.ensures no));
+  bad = λ page is bytes told. record {
+    formed =
+        let own : c.store_fault.result ≡ flow.Store (store.BadStore page) = cc (is) in
+        bad_formed Stored bytes page c.in-Err.fault (sym c.store_fault.ensures ∙ own) (c.in-Err.ensures.answers bytes told);
+    none = λ state stands.
+        let sound : IsSound (Some c.store_fault.result) =
+        subst (λ (f : FlowFault). IsSound (Some f)) (sym c.store_fault.ensures)
+        (sound_store Stored c.in-Err.fault (c.in-Err.ensures.image.sound bytes told stands.0 stands.2)) in
+        bad_none Opened (Err c.store_fault.result) page is sound;
+  };
+  same = λ bytes told shut. (c.open.ensures.leaves.looked bytes told (λ (opened : HasOpenJournal bytes). shut opened.is_open)).content;
+  looked = λ bytes told shut. c.open.ensures.leaves.looked bytes told shut;
+  cause = search rules;
+}
+
 pub returns-in-Ok-clause-reads : goal.returns-in-Ok-clause-reads
 unfolding StandsFor
 returns-in-Ok-clause-reads g c = λ bytes state told stands.
     let mid = g.D.Disk.view c.open.new.disk in
-    let holds : HoldsState state mid = record { image = stands.0; holds = c.in-Ok.ensures.found bytes told stands.0 stands.2; means = stands.1 } in
-    opens_as state mid (g.D.Disk.view c.judged.new.disk) (result_err c.judged.result) holds c.judged.ensures.stays
+    let holds : HoldsState state mid = record { image = stands.0; holds = c.in-Ok.ensures.image.found bytes told stands.0 stands.2; means = stands.1 } in
+    opens_as state mid (g.D.Disk.view c.judged.new.disk) (result_err c.judged.result) holds c.judged.ensures.finds.stays
     (c.judged.ensures.sound (c.in-Ok.ensures.fits bytes told) state holds)
 
 pub returns-in-Ok-clause-opens : goal.returns-in-Ok-clause-opens
@@ -44,14 +108,14 @@ returns-in-Ok-clause-opens g c = λ one other either.
     let bytes = either.told.0 in
     let told = either.told.1 in
     let goes : Goes (IsOfEither one other) old.crashes mid.crashes =
-    goes_either one other old.crashes mid.crashes either.only (c.open.ensures.any_moment bytes told (each_meant one other old.crashes either.only)) in
+    goes_either one other old.crashes mid.crashes either.only (c.open.ensures.image.any_moment bytes told (each_meant one other old.crashes either.only)) in
     let here : (state : State) → StandsFor bytes state → HoldsState state mid = λ state stands.
-    record { image = stands.0; holds = c.in-Ok.ensures.found bytes told stands.0 stands.2; means = stands.1 } in
+    record { image = stands.0; holds = c.in-Ok.ensures.image.found bytes told stands.0 stands.2; means = stands.1 } in
     let holds : HoldsState one mid ⊎ HoldsState other mid = elim (either.only bytes (g.met.D.Disk.reads_stay c.args.disk.now bytes told)) [
       | inl stands ↦ inl (here one stands)
       | inr stands ↦ inr (here other stands)
     ] in
-    opens_either one other old mid new (result_err c.judged.result) holds c.judged.ensures.stays
+    opens_either one other old mid new (result_err c.judged.result) holds c.judged.ensures.finds.stays
     (c.judged.ensures.sound (c.in-Ok.ensures.fits bytes told)) goes
 
 pub returns-in-Ok-clause-found : goal.returns-in-Ok-clause-found
@@ -63,44 +127,15 @@ returns-in-Ok-clause-found g c =
     (λ opened. IsTold (g.D.Disk.view c.args.disk.now).content → (state : State) → IsAt state new → Found state new opened)
     (λ opened own told state at.
     let fits = c.in-Ok.ensures.fits told.0 told.1 in
-    own fits state (state_before state mid new c.in-Ok.found fits c.judged.ensures.stays at))
+    own fits state (state_before state mid new c.in-Ok.found fits c.judged.ensures.finds.stays at))
     c.judged.ensures.found
-
-pub returns-in-Ok-clause-bad : goal.returns-in-Ok-clause-bad
-unfolding StandsFor
-returns-in-Ok-clause-bad g c = λ page is bytes told. record {
-  formed = (c.in-Ok.ensures.answers bytes told).1.formatted;
-  none = λ state stands.
-      let mid = g.D.Disk.view c.open.new.disk in
-      let holds : HoldsState state mid = record { image = stands.0; holds = c.in-Ok.ensures.found bytes told stands.0 stands.2; means = stands.1 } in
-      bad_none Opened c.judged.result page is (c.judged.ensures.sound (c.in-Ok.ensures.fits bytes told) state holds);
-}
-
-pub returns-in-Ok-clause-fields : goal.returns-in-Ok-clause-fields
-returns-in-Ok-clause-fields g c =
-    let old = g.D.Disk.view c.args.disk.now in
-    let mid = g.D.Disk.view c.open.new.disk in
-    IfOk-weaker c.judged.result
-    (λ opened. AreFieldsOf opened.style opened.outdated opened.changes (opened_root c.in-Ok.found))
-    (λ opened. IfTold old.content (RootTells opened.style opened.outdated opened.changes))
-    (λ opened own bytes told shut pages home.
-    subst (λ (root : Root). AreFieldsOf opened.style opened.outdated opened.changes root)
-    (root_told c.in-Ok.found bytes pages old mid told (c.open.ensures.looked bytes told (λ (opened : HasOpenJournal bytes). shut opened.is_open)) (c.in-Ok.ensures.fits bytes told) home) own)
-    c.judged.ensures.fields
-
-pub returns-in-Ok-clause-formed : goal.returns-in-Ok-clause-formed
-returns-in-Ok-clause-formed g c = on_ok_always c.judged.result _ (λ bytes told. (c.in-Ok.ensures.answers bytes told).1.formatted)
-  where
-    on_ok_always : {T E : Type 0} (result : Result T E) (P : Type 0) → P → OnOk result P
-    on_ok_always (Ok value) P own = own
-    on_ok_always (Err fault) P own = tt
 
 pub returns-in-Err-clause-reads : goal.returns-in-Err-clause-reads
 unfolding StandsFor
 returns-in-Err-clause-reads g c = λ bytes state told stands.
     let sound : IsSound (Some c.store_fault.result) =
     subst (λ (f : FlowFault). IsSound (Some f)) (sym c.store_fault.ensures)
-    (sound_store Stored c.in-Err.fault (c.in-Err.ensures.sound bytes told stands.0 stands.2)) in
+    (sound_store Stored c.in-Err.fault (c.in-Err.ensures.image.sound bytes told stands.0 stands.2)) in
     record { answer = sound_answer (Some c.store_fault.result) sound; found = λ none. absurd (cc) }
 
 pub returns-in-Err-clause-opens : goal.returns-in-Err-clause-opens
@@ -111,38 +146,16 @@ returns-in-Err-clause-opens g c = λ one other either.
     let bytes = either.told.0 in
     let told = either.told.1 in
     let meant : IsSoundAnswer {T = Stored} (Err c.in-Err.fault) = elim (either.only bytes (g.met.D.Disk.reads_stay c.args.disk.now bytes told)) [
-      | inl stands ↦ c.in-Err.ensures.sound bytes told stands.0 stands.2
-      | inr stands ↦ c.in-Err.ensures.sound bytes told stands.0 stands.2
+      | inl stands ↦ c.in-Err.ensures.image.sound bytes told stands.0 stands.2
+      | inr stands ↦ c.in-Err.ensures.image.sound bytes told stands.0 stands.2
     ] in
     let sound : IsSound (Some c.store_fault.result) =
     subst (λ (f : FlowFault). IsSound (Some f)) (sym c.store_fault.ensures) (sound_store Stored c.in-Err.fault meant) in
     record {
       answer = sound_answer (Some c.store_fault.result) sound;
       found = λ none. absurd {A = IsAt one new ⊎ IsAt other new} (cc);
-      moments = goes_either one other old.crashes new.crashes either.only (c.open.ensures.any_moment bytes told (each_meant one other old.crashes either.only));
+      moments = goes_either one other old.crashes new.crashes either.only (c.open.ensures.image.any_moment bytes told (each_meant one other old.crashes either.only));
     }
-
-pub returns-in-Err-clause-bad : goal.returns-in-Err-clause-bad
-unfolding StandsFor
-returns-in-Err-clause-bad g c = λ page is bytes told. record {
-  formed =
-      let own : c.store_fault.result ≡ flow.Store (store.BadStore page) = cc (is) in
-      bad_formed Stored bytes page c.in-Err.fault (sym c.store_fault.ensures ∙ own) (c.in-Err.ensures.answers bytes told);
-  none = λ state stands.
-      let sound : IsSound (Some c.store_fault.result) =
-      subst (λ (f : FlowFault). IsSound (Some f)) (sym c.store_fault.ensures)
-      (sound_store Stored c.in-Err.fault (c.in-Err.ensures.sound bytes told stands.0 stands.2)) in
-      bad_none Opened (Err c.store_fault.result) page is sound;
-}
-
-pub returns-in-Ok-clause-told : goal.returns-in-Ok-clause-told
-returns-in-Ok-clause-told g c = λ told no.
-    let mid = c.in-Ok.ensures.told told.0 told.1 refl in
-    (mid.0, c.judged.ensures.stays.content ∙ mid.1)
-
-pub returns-in-Err-clause-told : goal.returns-in-Err-clause-told
-returns-in-Err-clause-told g c = λ told no.
-    c.in-Err.ensures.told told.0 told.1 (quiet_fault Stored c.in-Err.fault (subst (λ (f : FlowFault). IsNoDiskFault (Some f)) c.store_fault.ensures no))
 
 pub returns-in-Ok-clause-once : goal.returns-in-Ok-clause-once
 unfolding StandsFor
@@ -153,15 +166,8 @@ returns-in-Ok-clause-once g c =
     on_ok_weaker {P = (state : State) → Fits c.in-Ok.found mid → HoldsState state mid → ReadsStyle mid new}
     {Q = (bytes : List ℕ) (state : State) → Tells old bytes → StandsFor bytes state → gate bytes ≢ OPEN → ReadsToOpen bytes old new} c.judged.result
     (λ reads bytes state told stands shut.
-    let holds : HoldsState state mid = record { image = stands.0; holds = c.in-Ok.ensures.found bytes told stands.0 stands.2; means = stands.1 } in
+    let holds : HoldsState state mid = record { image = stands.0; holds = c.in-Ok.ensures.image.found bytes told stands.0 stands.2; means = stands.1 } in
     let fits = c.in-Ok.ensures.fits bytes told in
-    opens_then bytes old mid new c.in-Ok.found told (c.open.ensures.looked bytes told (λ (opened : HasOpenJournal bytes). shut opened.is_open)) fits
+    opens_then bytes old mid new c.in-Ok.found told (c.open.ensures.leaves.looked bytes told (λ (opened : HasOpenJournal bytes). shut opened.is_open)) fits
     (c.in-Ok.ensures.reads bytes told shut) (reads state fits holds))
-    c.judged.ensures.once
-
-pub returns-in-Ok-clause-same : goal.returns-in-Ok-clause-same
-returns-in-Ok-clause-same g c = λ bytes told shut.
-    c.judged.ensures.stays.content ∙ (c.open.ensures.looked bytes told (λ (opened : HasOpenJournal bytes). shut opened.is_open)).content
-
-pub returns-in-Err-clause-same : goal.returns-in-Err-clause-same
-returns-in-Err-clause-same g c = λ bytes told shut. (c.open.ensures.looked bytes told (λ (opened : HasOpenJournal bytes). shut opened.is_open)).content
+    c.judged.ensures.finds.once

@@ -38,10 +38,15 @@ returns-then-reaches_nodes-clause-sound g c = λ fits state holds begun old.
     let none : reaches_nodes c.in-Ok.style ≡ false = old_unreached state holds.image c.in-Ok.style holds.means dated read in
     absurd (cc (none, c.if-reaches_nodes.true, c.reaches_nodes.ensures.reaches))
 
-pub returns-clause-once : goal.returns-clause-once
-returns-clause-once g c = λ state fits holds.
-    let after = c.load_style-read.new.buckets in
-    let here : ReadsStyle (g.D.Disk.view c.args.disk.now) (g.D.Disk.view c.hand_back-disk.result.now) =
-    style_over c.on-buckets.result after c.args.disk.now c.hand_back-disk.result.now c.on-buckets.ensures.disk c.hand_back-disk.ensures.disk
-    (c.in-Ok.ensures.reads holds.image holds.image (c.on-buckets.ensures.has holds.image fits holds.holds)) in
-    search (rules, here)
+pub returns-clause-finds : goal.returns-clause-finds
+returns-clause-finds g c = record {
+  alone = search rules;
+  stays = search rules;
+  once = λ state fits holds.
+      let after = c.load_style-read.new.buckets in
+      let here : ReadsStyle (g.D.Disk.view c.args.disk.now) (g.D.Disk.view c.hand_back-disk.result.now) =
+      style_over c.on-buckets.result after c.args.disk.now c.hand_back-disk.result.now c.on-buckets.ensures.disk c.hand_back-disk.ensures.disk
+      (c.in-Ok.ensures.reads holds.image holds.image (c.on-buckets.ensures.has holds.image fits holds.holds)) in
+      search (rules, here);
+  cause = search rules;
+}

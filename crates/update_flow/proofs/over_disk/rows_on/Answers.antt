@@ -1,5 +1,5 @@
 -- What the buckets say is said of the disk under them.
-use Rattle.std.proofs.Common.{◌≡◌, rules}
+use Rattle.std.proofs.Common.{◌≡◌, None, rules, sym}
 use Rattle.std.specs.Result.{result_err}
 use Rattle.page_journal.specs.Journal.{disk_of as disk_under}
 use Rattle.chain_store.specs.Chains.{journal_of}
@@ -7,6 +7,7 @@ use Rattle.bucket_store.specs.Transaction.{chains_of}
 use Rattle.bucket_store.proofs.Holding.{rests_under}
 use Rattle.update_flow.specs.State.{imported}
 use Rattle.update_flow.proofs.Carrying.{ends_on, looks_on, ok_then}
+use Rattle.update_flow.proofs.Looking.{looked_stays}
 use Rattle.update_flow.proofs.Openings.{sound_answer}
 use Rattle.update_flow.proofs.Turning.{looks_at, runs_ended}
 use Rattle.update_flow.proofs.over_disk.rows_on.Goals as goal
@@ -19,7 +20,7 @@ returns-clause-looks g c =
     let old = c.on-buckets.result in
     let new = c.load_rows-rows.new.buckets in
     let has = c.on-buckets.ensures.has holds.image fits holds.holds in
-    looks_on fault old new c.hand_back-disk.new.kept (c.hand_back-disk.ensures.whole, c.hand_back-disk.ensures.fits) (runs_ended fault old new c.load_rows-rows.ensures.runs)
+    looks_on fault old new c.hand_back-disk.new.kept (c.hand_back-disk.ensures.whole, c.hand_back-disk.ensures.fits) (runs_ended {call = None} fault old new c.load_rows-rows.ensures.runs)
     (imported held) (looks_at held fault holds.image old new (rests_under holds.image holds.image old has) holds.means c.load_rows-rows.ensures.runs.looks
     (sound_answer fault (c.load_rows-rows.ensures.sound holds.image holds.image held has holds.means same))) c.args.disk.now c.disk-1.given.0 c.on-buckets.ensures.disk last
 
@@ -34,5 +35,10 @@ returns-clause-ends g c =
     search (
       rules,
       ends_on (result_err c.load_rows-rows.result) c.on-buckets.result c.load_rows-rows.new.buckets c.hand_back-disk.new.kept
-          (c.hand_back-disk.ensures.whole, c.hand_back-disk.ensures.fits) (runs_ended (result_err c.load_rows-rows.result) c.on-buckets.result c.load_rows-rows.new.buckets c.load_rows-rows.ensures.runs),
+          (c.hand_back-disk.ensures.whole, c.hand_back-disk.ensures.fits) (runs_ended {call = None} (result_err c.load_rows-rows.result) c.on-buckets.result c.load_rows-rows.new.buckets c.load_rows-rows.ensures.runs),
     )
+
+pub returns-clause-stays : goal.returns-clause-stays
+returns-clause-stays g c =
+    let last : disk_under (journal_of (chains_of c.load_rows-rows.new.buckets)) ≡ c.disk-1.given.0 = search rules in
+    looked_stays c.on-buckets.result c.load_rows-rows.new.buckets c.args.disk.now c.disk-1.given.0 c.on-buckets.ensures.disk (sym last) c.load_rows-rows.ensures.runs.looks

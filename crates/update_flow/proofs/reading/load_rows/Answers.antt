@@ -43,7 +43,7 @@ returns-in-Ok-clause-tables g c = λ rest now held has is same.
 
 pub returns-in-Ok-clause-runs : goal.returns-in-Ok-clause-runs
 returns-in-Ok-clause-runs g c =
-    runs_done c.args.buckets.now c.load.new.buckets c.load.ensures.looks.same c.requires.whole c.in-Ok.ensures.looks.broken
+    runs_done c.args.buckets.now c.load.new.buckets c.load.ensures.looks.same c.requires.ready.whole c.in-Ok.ensures.looks.broken
 
 pub returns-in-Err-clause-sound : goal.returns-in-Err-clause-sound
 returns-in-Err-clause-sound g c = λ rest now held has is same.
@@ -54,7 +54,7 @@ returns-in-Err-clause-sound g c = λ rest now held has is same.
 pub returns-in-Err-clause-runs : goal.returns-in-Err-clause-runs
 returns-in-Err-clause-runs g c =
     subst (λ (f : FlowFault). Runs c.args.buckets.now c.load.new.buckets (Some f)) (sym c.store_fault.ensures)
-    (runs_refused c.args.buckets.now c.load.new.buckets c.load.ensures.looks.same c.requires.whole (Unit {0}) c.in-Err.fault
+    (runs_refused c.args.buckets.now c.load.new.buckets c.load.ensures.looks.same c.requires.ready.whole (Unit {0}) c.in-Err.fault
     c.in-Err.ensures.looks.alone c.in-Err.ensures.looks.broken c.in-Err.ensures.looks.cause)
 
 pub returns-then-root-eq0-clause-sound : goal.returns-then-root-eq0-clause-sound
@@ -62,4 +62,4 @@ returns-then-root-eq0-clause-sound g c = λ rest now held has is same.
     absurd (omega (arith, is.some, ap (λ (r : Root). r.buckets) (c.root.ensures ∙ has.root ∙ is.root), c.if-root-eq0.true))
 
 pub returns-then-root-eq0-clause-runs : goal.returns-then-root-eq0-clause-runs
-returns-then-root-eq0-clause-runs g c = runs_unfit c.args.buckets.now 1 c.requires.whole
+returns-then-root-eq0-clause-runs g c = runs_unfit c.args.buckets.now 1 c.requires.ready.whole

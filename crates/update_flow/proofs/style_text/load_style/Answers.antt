@@ -14,16 +14,16 @@ use Rattle.update_flow.proofs.style_text.load_style.Goals as goal
 
 pub returns-in-Err-clause-sound : goal.returns-in-Err-clause-sound
 returns-in-Err-clause-sound g c = λ rest now style has is.
-    subst (λ (f : FlowFault). IsSound (Some f)) (sym c.store_fault.ensures) (sound_store (List ℕ) c.in-Err.fault (c.in-Err.ensures.sound rest now has))
+    subst (λ (f : FlowFault). IsSound (Some f)) (sym c.store_fault.ensures) (sound_store (List ℕ) c.in-Err.fault (c.in-Err.ensures.text.sound rest now has))
 
 pub returns-in-Ok-read_style-clause-style : goal.returns-in-Ok-read_style-clause-style
 returns-in-Ok-read_style-clause-style g c = λ rest now has.
-    ap (λ (b : List ℕ). reading b) (sym (c.in-Ok.ensures.found rest now has) ∙ sym c.as_slice.ensures.items) ∙ c.in-Ok-read_style.ensures.exact
+    ap (λ (b : List ℕ). reading b) (sym (c.in-Ok.ensures.text.found rest now has) ∙ sym c.as_slice.ensures.items) ∙ c.in-Ok-read_style.ensures.exact
 
 pub returns-in-Err-Bad-clause-sound : goal.returns-in-Err-Bad-clause-sound
 returns-in-Err-Bad-clause-sound g c = λ rest now style has is.
     let good : reading c.as_slice.result.now ≡ Ok style =
-    ap (λ (b : List ℕ). reading b) (c.as_slice.ensures.items ∙ c.in-Ok.ensures.found rest now has) ∙ is in
+    ap (λ (b : List ℕ). reading b) (c.as_slice.ensures.items ∙ c.in-Ok.ensures.text.found rest now has) ∙ is in
     let bad : Gives (Err (Bad c.in-Err-Bad.field-0-0 c.in-Err-Bad.field-0-1)) (reading c.as_slice.result.now) =
     subst (λ (f : StyleFault). Gives (Err f) (reading c.as_slice.result.now)) c.in-Err-Bad.field-0-is c.in-Err-Bad.ensures.exact in
     absurd (cc (bad, good))
@@ -31,8 +31,8 @@ returns-in-Err-Bad-clause-sound g c = λ rest now style has is.
 pub returns-in-Err-clause-alone : goal.returns-in-Err-clause-alone
 returns-in-Err-clause-alone g c =
     subst (λ (f : FlowFault). MayFind f) (sym c.store_fault.ensures)
-    (reads_alone (List ℕ) (is_broken (journal_of (chains_of c.args.buckets.now))) c.in-Err.fault c.requires.whole c.in-Err.ensures.alone)
+    (reads_alone (List ℕ) (is_broken (journal_of (chains_of c.args.buckets.now))) c.in-Err.fault c.requires.ready.whole c.in-Err.ensures.touches.alone)
 
 pub returns-in-Ok-read_style-clause-reads : goal.returns-in-Ok-read_style-clause-reads
 returns-in-Ok-read_style-clause-reads g c = λ rest now has.
-    text_read c.args.buckets.now c.load.new.self rest now has c.in-Ok.ensures.reads c.in-Ok.ensures.stays c.in-Ok.ensures.open
+    text_read c.args.buckets.now c.load.new.self rest now has c.in-Ok.ensures.touches.reads c.in-Ok.ensures.touches.stays c.in-Ok.ensures.touches.opens

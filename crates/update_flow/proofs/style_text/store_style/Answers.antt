@@ -1,5 +1,5 @@
 -- The bytes become the text.
-use Rattle.std.proofs.Common.{◌∙◌, ℕ, List, Some, sym, subst}
+use Rattle.std.proofs.Common.{◌∙◌, ℕ, List, Some, rules, sym, subst}
 use Rattle.bucket_store.specs.Image.{Has, with_text}
 use Rattle.update_flow.specs.Within.{IsSound, Runs}
 use Rattle.update_flow.specs.declared.fault.FlowFault.{FlowFault}
@@ -8,22 +8,36 @@ use Rattle.update_flow.proofs.Openings.{sound_store}
 use Rattle.update_flow.proofs.Running.{runs_done, runs_idle, runs_refused}
 use Rattle.update_flow.proofs.style_text.store_style.Goals as goal
 
-pub returns-in-Err-clause-runs : goal.returns-in-Err-clause-runs
-returns-in-Err-clause-runs g c = runs_idle c.args.buckets.now c.requires.whole
+pub returns-in-Err : goal.returns-in-Err
+returns-in-Err g c = record {
+  stores = record {
+    stored = search rules;
+    going = search rules;
+    sound = search rules;
+    runs = runs_idle c.args.buckets.now c.requires.ready.whole;
+  };
+}
 
-pub returns-in-Ok-store-clause-stored : goal.returns-in-Ok-store-clause-stored
-returns-in-Ok-store-clause-stored g c = λ rest now was.
-    subst (λ (b : List ℕ). Has rest (with_text STYLE_TEXT b now) c.store.new.self) (c.from_vec-bytes.ensures.items ∙ c.in-Ok.ensures.items) (c.in-Ok-store.ensures.has rest now was)
+pub returns-in-Ok-store : goal.returns-in-Ok-store
+returns-in-Ok-store g c = record {
+  stores = record {
+    stored = λ rest now was.
+        subst (λ (b : List ℕ). Has rest (with_text STYLE_TEXT b now) c.store.new.self) (c.from_vec-bytes.ensures.items ∙ c.in-Ok.ensures.items) (c.in-Ok-store.ensures.text.has rest now was);
+    going = search rules;
+    sound = search rules;
+    runs = runs_done c.args.buckets.now c.store.new.self c.store.ensures.touches.same c.requires.ready.whole c.in-Ok-store.ensures.touches.broken;
+  };
+}
 
-pub returns-in-Ok-store-clause-runs : goal.returns-in-Ok-store-clause-runs
-returns-in-Ok-store-clause-runs g c = runs_done c.args.buckets.now c.store.new.self c.store.ensures.same c.requires.whole c.in-Ok-store.ensures.broken
-
-pub returns-in-Err-store-clause-sound : goal.returns-in-Err-store-clause-sound
-returns-in-Err-store-clause-sound g c = λ rest now was.
-    subst (λ (f : FlowFault). IsSound (Some f)) (sym c.store_fault.ensures) (sound_store (Unit {0}) c.in-Err-store.fault (c.in-Err-store.ensures.sound rest now was))
-
-pub returns-in-Err-store-clause-runs : goal.returns-in-Err-store-clause-runs
-returns-in-Err-store-clause-runs g c =
-    subst (λ (f : FlowFault). Runs c.args.buckets.now c.store.new.self (Some f)) (sym c.store_fault.ensures)
-    (runs_refused c.args.buckets.now c.store.new.self c.store.ensures.same c.requires.whole (Unit {0}) c.in-Err-store.fault
-    c.in-Err-store.ensures.alone c.in-Err-store.ensures.broken c.in-Err-store.ensures.cause)
+pub returns-in-Err-store : goal.returns-in-Err-store
+returns-in-Err-store g c = record {
+  stores = record {
+    stored = search rules;
+    going = search rules;
+    sound = λ rest now was.
+        subst (λ (f : FlowFault). IsSound (Some f)) (sym c.store_fault.ensures) (sound_store (Unit {0}) c.in-Err-store.fault (c.in-Err-store.ensures.text.sound rest now was));
+    runs = subst (λ (f : FlowFault). Runs c.args.buckets.now c.store.new.self (Some f)) (sym c.store_fault.ensures)
+        (runs_refused c.args.buckets.now c.store.new.self c.store.ensures.touches.same c.requires.ready.whole (Unit {0}) c.in-Err-store.fault
+        c.in-Err-store.ensures.touches.alone c.in-Err-store.ensures.touches.broken c.in-Err-store.ensures.touches.cause);
+  };
+}

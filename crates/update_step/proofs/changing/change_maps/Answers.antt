@@ -26,7 +26,7 @@ use Rattle.update_step.proofs.changing.change_maps.Goals as goal
 pub rebuild-requires-clause-style : goal.rebuild-requires-clause-style
 rebuild-requires-clause-style g c _ _ =
     let first = c.args.store.now in
-    g.met.S.MapStore.same_style first c.changed_keys.new.store (c.changed_keys.ensures.looked first (c.keys_lacking.ensures.looks.looked first (g.met.S.MapStore.looked_none first))) ∙ c.requires.style
+    g.met.S.MapStore.same_style first c.changed_keys.new.store (c.changed_keys.ensures.goes.looked first (c.keys_lacking.ensures.looks.looked first (g.met.S.MapStore.looked_none first))) ∙ c.requires.style
 
 pub rebuild-requires-clause-few : goal.rebuild-requires-clause-few
 rebuild-requires-clause-few g c =
@@ -36,105 +36,61 @@ rebuild-requires-clause-few g c =
     let most = c.pending-most.ensures.most in
     omega (arith, count, few, number, most)
 
-pub returns-in-Ok-clause-stands : goal.returns-in-Ok-clause-stands
-returns-in-Ok-clause-stands g c =
-    on_ok-then c.rebuild.result c.rebuild.ensures.holds (λ holds under maps objects held stands.
+pub returns-in-Ok-clause-changes : goal.returns-in-Ok-clause-changes
+returns-in-Ok-clause-changes g c under maps objects held stands =
     let style = c.args.style.now in
     let change = c.args.change.now in
     let set = c.in-Ok.set in
     let proper = change_proper change c.entries-entries.ensures.rise in
     let after : ObjectSet = folded_all objects change in
-    let still = c.in_ok-lacking.ensures.looks.holds under maps held in
-    let both = c.in-Ok.ensures.pending under maps objects still stands.on in
-    let changed : Maps = change_on maps change in
-    let read = c.in-Ok.ensures.holds under maps still in
-    let kept = entries-keep maps change (rows_in style objects) stands.rows in
-    let lacks : AreLacking (rows_in style objects) c.as_slice-lacking.result.now = subst (AreLacking (rows_in style objects)) (sym c.as_slice-lacking.ensures.value) (c.in_ok-lacking.ensures.lacking under maps objects held stands.on) in
-    let on = entries_stand (reaches_nodes style) change maps objects stands.on proper in
-    let built = pending-rows style maps objects change on set both.0 in
-    (appended maps change (rows_in style after) (keys_of set), holds under changed (rows_in style objects) (rows_in style after) read kept lacks built, appended_stands style maps objects change (keys_of set) stands proper (outside-rows style objects change set both.1)))
-
-pub returns-in-Ok-clause-told : goal.returns-in-Ok-clause-told
-returns-in-Ok-clause-told g c =
-    if_ok-then c.rebuild.result c.rebuild.ensures.told (λ changes told under maps objects held stands.
-    let style = c.args.style.now in
-    let change = c.args.change.now in
-    let set = c.in-Ok.set in
-    let proper = change_proper change c.entries-entries.ensures.rise in
-    let after : ObjectSet = folded_all objects change in
-    let still = c.in_ok-lacking.ensures.looks.holds under maps held in
-    let both = c.in-Ok.ensures.pending under maps objects still stands.on in
-    let changed : Maps = change_on maps change in
-    let read = c.in-Ok.ensures.holds under maps still in
-    let kept = entries-keep maps change (rows_in style objects) stands.rows in
-    let lacks : AreLacking (rows_in style objects) c.as_slice-lacking.result.now = subst (AreLacking (rows_in style objects)) (sym c.as_slice-lacking.ensures.value) (c.in_ok-lacking.ensures.lacking under maps objects held stands.on) in
-    let on = entries_stand (reaches_nodes style) change maps objects stands.on proper in
-    let built = pending-rows style maps objects change on set both.0 in
-    subst (λ (own : List RowChange). IsDelta (finite.get (tables style objects)) (finite.get (tables style after)) own) (sym (told under changed (rows_in style objects) (rows_in style after) read kept lacks built)) (delta-is style objects change set both.0.rising both.1))
-
-pub returns-in-Ok-clause-applied : goal.returns-in-Ok-clause-applied
-returns-in-Ok-clause-applied g c =
-    if_ok-then c.rebuild.result c.rebuild.ensures.told (λ changes told under maps objects held stands.
-    let style = c.args.style.now in
-    let change = c.args.change.now in
-    let set = c.in-Ok.set in
-    let proper = change_proper change c.entries-entries.ensures.rise in
-    let after : ObjectSet = folded_all objects change in
-    let still = c.in_ok-lacking.ensures.looks.holds under maps held in
-    let both = c.in-Ok.ensures.pending under maps objects still stands.on in
-    let changed : Maps = change_on maps change in
-    let read = c.in-Ok.ensures.holds under maps still in
-    let kept = entries-keep maps change (rows_in style objects) stands.rows in
-    let lacks : AreLacking (rows_in style objects) c.as_slice-lacking.result.now = subst (AreLacking (rows_in style objects)) (sym c.as_slice-lacking.ensures.value) (c.in_ok-lacking.ensures.lacking under maps objects held stands.on) in
-    let on = entries_stand (reaches_nodes style) change maps objects stands.on proper in
-    let built = pending-rows style maps objects change on set both.0 in
-    delta-applied (tables style objects) (tables style after) changes
-    (subst (λ (own : List RowChange). IsDelta (finite.get (tables style objects)) (finite.get (tables style after)) own) (sym (told under changed (rows_in style objects) (rows_in style after) read kept lacks built)) (delta-is style objects change set both.0.rising both.1)))
-
-pub returns-in-Ok-clause-due : goal.returns-in-Ok-clause-due
-returns-in-Ok-clause-due g c =
-    on_ok-then c.rebuild.result c.rebuild.ensures.due (λ due under maps objects held stands zoom x y.
-    let style = c.args.style.now in
-    let change = c.args.change.now in
-    let set = c.in-Ok.set in
-    let proper = change_proper change c.entries-entries.ensures.rise in
-    let after : ObjectSet = folded_all objects change in
-    let still = c.in_ok-lacking.ensures.looks.holds under maps held in
-    let both = c.in-Ok.ensures.pending under maps objects still stands.on in
-    let changed : Maps = change_on maps change in
-    let read = c.in-Ok.ensures.holds under maps still in
-    let kept = entries-keep maps change (rows_in style objects) stands.rows in
-    let lacks : AreLacking (rows_in style objects) c.as_slice-lacking.result.now = subst (AreLacking (rows_in style objects)) (sym c.as_slice-lacking.ensures.value) (c.in_ok-lacking.ensures.lacking under maps objects held stands.on) in
-    let on = entries_stand (reaches_nodes style) change maps objects stands.on proper in
-    let built = pending-rows style maps objects change on set both.0 in
-    due under changed (rows_in style objects) (rows_in style after) read kept lacks built zoom x y ∙ ap (λ (b : Bool). has c.args.due.now zoom x y || b) (due-is style objects change set both.0.rising both.1 c.args.bounds.now zoom x y))
-
-pub returns-in-Ok-clause-few : goal.returns-in-Ok-clause-few
-returns-in-Ok-clause-few g c =
-    on_ok-then c.rebuild.result c.rebuild.ensures.spent (λ _ under maps objects held stands own pending.
     let both = c.in-Ok.ensures.pending under maps objects (c.in_ok-lacking.ensures.looks.holds under maps held) stands.on in
-    subst (λ (count : ℕ). count ≤ c.args.limits.now.pending) (same-size c.args.style.now objects c.args.change.now c.in-Ok.set own both.0 pending) c.in-Ok.ensures.few)
-
-pub returns-in-Ok-clause-ends : goal.returns-in-Ok-clause-ends
-returns-in-Ok-clause-ends g c =
-    if_err-then c.rebuild.result c.rebuild.ensures.ends (λ why ends.
-    ends-then _ _ _ _ _ _ why (λ refusal bears first looked. bears first (c.changed_keys.ensures.looked first (c.keys_lacking.ensures.looks.looked first looked))) (λ unspent. unspent) (λ value never. absurd never) ends)
-
-pub returns-in-Ok-clause-allowed : goal.returns-in-Ok-clause-allowed
-returns-in-Ok-clause-allowed g c under maps objects held stands =
-    let style = c.args.style.now in
-    let change = c.args.change.now in
+    let changed : Maps = change_on maps change in
+    let read = c.in-Ok.ensures.holds under maps (c.in_ok-lacking.ensures.looks.holds under maps held) in
     let kept = entries-keep maps change (rows_in style objects) stands.rows in
     let lacks : AreLacking (rows_in style objects) c.as_slice-lacking.result.now = subst (AreLacking (rows_in style objects)) (sym c.as_slice-lacking.ensures.value) (c.in_ok-lacking.ensures.lacking under maps objects held stands.on) in
-    c.rebuild.ensures.allowed under (change_on maps change) (rows_in style objects) (c.in-Ok.ensures.holds under maps (c.in_ok-lacking.ensures.looks.holds under maps held)) kept lacks
+    let on = entries_stand (reaches_nodes style) change maps objects stands.on proper in
+    let built = pending-rows style maps objects change on set both.0 in
+    let done = c.rebuild.ensures.replaces under changed (rows_in style objects) (rows_in style after) read kept lacks built in
+    let delta = delta-is style objects change set both.0.rising both.1 in
+    record {
+      stands = on_ok-then c.rebuild.result done.holds (λ holds.
+          (appended maps change (rows_in style after) (keys_of set), holds, appended_stands style maps objects change (keys_of set) stands proper (outside-rows style objects change set both.1)));
+      told = if_ok-then c.rebuild.result done.told (λ changes told.
+          subst (λ (own : List RowChange). IsDelta (finite.get (tables style objects)) (finite.get (tables style after)) own) (sym told) delta);
+      applied = if_ok-then c.rebuild.result done.told (λ changes told. delta-applied (tables style objects) (tables style after) changes
+          (subst (λ (own : List RowChange). IsDelta (finite.get (tables style objects)) (finite.get (tables style after)) own) (sym told) delta));
+      due = on_ok-then c.rebuild.result done.due (λ due zoom x y.
+          due zoom x y ∙ ap (λ (b : Bool). has c.args.due.now zoom x y || b) (due-is style objects change set both.0.rising both.1 c.args.bounds.now zoom x y));
+      few = on_ok-then c.rebuild.result done.holds (λ _ own pending.
+          subst (λ (count : ℕ). count ≤ c.args.limits.now.pending) (same-size style objects change set own both.0 pending) c.in-Ok.ensures.few);
+      allowed = c.rebuild.ensures.allowed under changed (rows_in style objects) read kept lacks;
+    }
 
-pub returns-clause-ends : goal.returns-clause-ends
-returns-clause-ends g c =
-    ends-then _ _ _ _ _ _ c.in-Err.why (λ refusal bears first looked. bears first (c.keys_lacking.ensures.looks.looked first looked)) (λ unspent. unspent)
-    (λ value many under maps objects held stands. many under maps objects (c.in_ok-lacking.ensures.looks.holds under maps held) stands.on) c.in-Err.ensures.ends
+pub returns-in-Ok-clause-goes : goal.returns-in-Ok-clause-goes
+returns-in-Ok-clause-goes g c = record {
+  looked = λ first looked. c.rebuild.ensures.goes.looked first (c.changed_keys.ensures.goes.looked first (c.keys_lacking.ensures.looks.looked first looked));
+  spent = c.rebuild.ensures.goes.spent;
+  ends = if_err-then c.rebuild.result c.rebuild.ensures.goes.ends (λ why ends.
+      ends-then _ _ _ _ _ _ why (λ refusal bears first looked. bears first (c.changed_keys.ensures.goes.looked first (c.keys_lacking.ensures.looks.looked first looked))) (λ unspent. unspent) (λ value never. absurd never) ends);
+}
 
-pub returns-clause-allowed : goal.returns-clause-allowed
-returns-clause-allowed g c under maps objects held stands = c.in-Err.ensures.allowed under maps objects (c.in_ok-lacking.ensures.looks.holds under maps held) stands.on
+pub returns-clause-changes : goal.returns-clause-changes
+returns-clause-changes g c under maps objects held stands = record {
+  stands = tt;
+  told = tt;
+  applied = tt;
+  due = tt;
+  few = tt;
+  allowed = c.in-Err.ensures.allowed under maps objects (c.in_ok-lacking.ensures.looks.holds under maps held) stands.on;
+}
+
+pub returns-clause-goes : goal.returns-clause-goes
+returns-clause-goes g c = record {
+  looked = λ first looked. c.changed_keys.ensures.goes.looked first (c.keys_lacking.ensures.looks.looked first looked);
+  spent = tt;
+  ends = ends-then _ _ _ _ _ _ c.in-Err.why (λ refusal bears first looked. bears first (c.keys_lacking.ensures.looks.looked first looked)) (λ unspent. unspent)
+      (λ value many under maps objects held stands. many under maps objects (c.in_ok-lacking.ensures.looks.holds under maps held) stands.on) c.in-Err.ensures.goes.ends;
+}
 
 pub returns-in-Ok-clause-within : goal.returns-in-Ok-clause-within
 returns-in-Ok-clause-within g c under maps objects held stands may touched before =

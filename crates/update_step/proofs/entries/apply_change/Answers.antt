@@ -33,7 +33,6 @@ loop-entry-preserved g c =
           let items : List Entry = c.entries-entry-items.result.now in
           subst (g.S.MapStore.holds c.apply_entry.new.store under) (sym (fold-more entry_on maps items c.loop-entry.entry-index c.entry-item.result c.loop-entry-test.true c.entry-item.is))
           (c.in_ok-apply_entry.ensures.holds under (change_on maps (take c.loop-entry.entry-index items)) (c.loop-entry.invariant.holds under maps held));
-      looked = search rules;
       within = λ under maps held reaches objects stands may all before.
           let items : List Entry = c.entries-entry-items.result.now in
           let entries : items ≡ c.args.change.now = c.entries-entry-items.ensures.entries in
@@ -46,7 +45,7 @@ loop-entry-preserved g c =
           c.apply_entry.ensures.within under (change_on maps (take at items)) (c.loop-entry.invariant.holds under maps held) may
           (entry-object may reaches maps objects stands items rise at entry below is each) (entry-old may reaches maps objects stands items rise at entry below is each)
           (entry-new may reaches maps objects stands items rise at entry below is each) (c.loop-entry.invariant.within under maps held reaches objects stands may all before);
-      spent = search rules;
+      sets = search rules;
     }
 
 pub returns-in_err-apply_entry-clause-within : goal.returns-in_err-apply_entry-clause-within

@@ -34,7 +34,7 @@ put_all-requires-clause-few g c =
 pub put_all-requires-clause-kept : goal.put_all-requires-clause-kept
 put_all-requires-clause-kept g c =
     let first = c.args.store.now in
-    let style = g.met.S.MapStore.same_style first c.add_entries.new.store (c.add_entries.ensures.looked first (g.met.S.MapStore.looked_none first)) ∙ c.requires.style in
+    let style = g.met.S.MapStore.same_style first c.add_entries.new.store (c.add_entries.ensures.sets.looked first (g.met.S.MapStore.looked_none first)) ∙ c.requires.style in
     subst (λ (own : StyleOf). AllByRecursion (MayKeep own.tables) c.as_slice.result.now) (sym style)
     (subst (AllByRecursion (MayKeep c.args.style.now.tables)) (sym c.as_slice.ensures.items) c.in_ok-rows.ensures.kept)
 

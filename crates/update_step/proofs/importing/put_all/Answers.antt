@@ -13,7 +13,7 @@ use Rattle.update_step.proofs.importing.put_all.Goals as goal
 pub put_some-requires-clause-kept : goal.put_some-requires-clause-kept
 put_some-requires-clause-kept g c =
     let first = c.args.store.now in
-    let style = g.met.S.MapStore.same_style first c.loop-index.store (c.loop-index.invariant.looked first (g.met.S.MapStore.looked_none first)) in
+    let style = g.met.S.MapStore.same_style first c.loop-index.store (c.loop-index.invariant.sets.looked first (g.met.S.MapStore.looked_none first)) in
     let test = c.loop-index-test.true in
     let most = c.key_count-index-end.ensures.count in
     let count = c.requires.count in
@@ -43,6 +43,5 @@ loop-index-preserved g c =
           let step = c.in_ok-put_some.ensures.holds under before (c.loop-index.invariant.holds under maps new are lacks held) (λ empty. lacks-still new (take at keys) maps lacks key (sym rows_are ∙ empty)) in
           subst (g.S.MapStore.holds c.put_some.new.store under) (ap (set_rows before key.kind key.id) rows_are
           ∙ sym (fold_more put maps keys at (node_key 0) below ∙ ap (put before) (sym c.key_of.ensures.key))) step;
-      looked = search rules;
-      spent = search rules;
+      sets = search rules;
     }

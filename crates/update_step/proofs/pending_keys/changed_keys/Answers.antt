@@ -20,19 +20,23 @@ returns-in-Ok-clause-pending g c =
     let after = entries_stand reaches change maps objects on (change_proper change c.entries-entries.ensures.rise) in
     is objects forms under (change_on maps change) (c.in-Ok.ensures.holds under maps (c.in_ok-old.ensures.looks.holds under maps held)) after)
 
-pub returns-in-Ok-clause-ends : goal.returns-in-Ok-clause-ends
-returns-in-Ok-clause-ends g c =
+pub returns-in-Ok-clause-goes : goal.returns-in-Ok-clause-goes
+returns-in-Ok-clause-goes g c =
     let change = c.args.change.now in
     let reaches = reaches_nodes c.args.style.now in
-    if_err-then c.keys_due.result c.keys_due.ensures.ends (λ why ends.
-    ends-then _ _ _ _ _ _ why
-    (λ refusal bears first looked. bears first (c.apply_change.ensures.looked first (c.old_relations.ensures.looks.looked first looked)))
-    (λ unspent. unspent)
-    (λ value many under maps objects held on.
-    let forms : HasOldForms c.in_ok-old.old objects change = subst (λ (old : ObjectSet). HasOldForms old objects change) (sym (c.in_ok-old.ensures.old under maps held)) (old-forms maps objects reaches change on) in
-    let after = entries_stand reaches change maps objects on (change_proper change c.entries-entries.ensures.rise) in
-    many objects forms under (change_on maps change) (c.in-Ok.ensures.holds under maps (c.in_ok-old.ensures.looks.holds under maps held)) after)
-    ends)
+    record {
+      looked = λ first looked. c.keys_due.ensures.goes.looked first (c.apply_change.ensures.sets.looked first (c.old_relations.ensures.looks.looked first looked));
+      spent = c.keys_due.ensures.goes.spent;
+      ends = if_err-then c.keys_due.result c.keys_due.ensures.goes.ends (λ why ends.
+          ends-then _ _ _ _ _ _ why
+          (λ refusal bears first looked. bears first (c.apply_change.ensures.sets.looked first (c.old_relations.ensures.looks.looked first looked)))
+          (λ unspent. unspent)
+          (λ value many under maps objects held on.
+          let forms : HasOldForms c.in_ok-old.old objects change = subst (λ (old : ObjectSet). HasOldForms old objects change) (sym (c.in_ok-old.ensures.old under maps held)) (old-forms maps objects reaches change on) in
+          let after = entries_stand reaches change maps objects on (change_proper change c.entries-entries.ensures.rise) in
+          many objects forms under (change_on maps change) (c.in-Ok.ensures.holds under maps (c.in_ok-old.ensures.looks.holds under maps held)) after)
+          ends);
+    }
 
 pub returns-in-Ok-clause-allowed : goal.returns-in-Ok-clause-allowed
 returns-in-Ok-clause-allowed g c under maps objects held on =

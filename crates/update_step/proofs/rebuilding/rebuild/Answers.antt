@@ -1,5 +1,5 @@
-use Rattle.std.proofs.Common.{◌≡◌, ◌||◌, Bool, List, length, map, sym, subst, ap, ◌∙◌}
-use Rattle.std.specs.List.{AllByRecursion, list_any}
+use Rattle.std.proofs.Common.{◌≡◌, Bool, List, length, map, sym, subst, ap, ◌∙◌}
+use Rattle.std.specs.List.{AllByRecursion}
 use Rattle.std.proofs.lemmas.List.{length-map}
 use Rattle.osm_base.specs.declared.values.row.TableRow.{TableRow}
 use Rattle.osm_base.specs.values.Key.{KeyOf}
@@ -8,15 +8,14 @@ use Rattle.row_map.specs.Condition.{reaches_nodes}
 use Rattle.row_map.specs.Rows.{rows_known}
 use Rattle.geom_workers.specs.Keys.{keys_of}
 use Rattle.tile_cover.specs.Runs.{has}
-use Rattle.store_maps.specs.Append.{MayKeep, set_all_rows}
+use Rattle.store_maps.specs.Append.{MayKeep}
 use Rattle.store_maps.specs.Maps.{Maps}
 use Rattle.store_maps.specs.Named.{known_on}
-use Rattle.store_maps.specs.Told.{told_all}
-use Rattle.update_step.specs.Due.{is_due_key}
+use Rattle.update_step.specs.Changing.{Replaces}
 use Rattle.update_step.specs.Gather.{AreAsked, Gathered, IsRight, all_needs, gathered_in, known_in}
 use Rattle.update_step.specs.Suffices.{IsBuilt}
 use Rattle.update_step.specs.Touch.{MayAllRows, MayAskAll}
-use Rattle.update_step.proofs.Endings.{ends-then, if_err-then, if_ok-then, on_ok-then}
+use Rattle.update_step.proofs.Endings.{ends-then, if_err-then}
 use Rattle.update_step.proofs.PendingKeys.{all-kept}
 use Rattle.update_step.proofs.rebuilding.rebuild.Goals as goal
 
@@ -46,41 +45,23 @@ replace-requires-clause-kept g c =
     subst (λ (own : StyleOf). AllByRecursion (MayKeep own.tables) c.as_slice-news.result.now) (sym style_is)
     (subst (λ (lists : List (List TableRow)). AllByRecursion (MayKeep style.tables) lists) (sym news_are) (all-kept style g_in keys))
 
-pub returns-clause-holds : goal.returns-clause-holds
-returns-clause-holds g c =
-    on_ok-then c.replace.result c.replace.ensures.holds (λ holds under maps old rows held kept lacks built.
+pub returns-clause-replaces : goal.returns-clause-replaces
+returns-clause-replaces g c under maps old rows held kept lacks built =
     let style = c.args.style.now in
     let keys : List KeyOf = keys_of c.args.pending.now in
     let same : c.as_slice-keys.result.now ≡ keys = c.as_slice-keys.ensures.value ∙ c.in_ok-keys.ensures.keys in
     let news = rows_are style maps keys c.as_slice-keys.result.now rows (gathered_in c.in_ok-known.known) c.reaches_nodes.result c.as_slice-news.result.now built same c.reaches_nodes.ensures.reaches
     (c.in_ok-known.ensures.right under maps held) (c.in_ok-known.ensures.asked under maps held) (c.as_slice-news.ensures.items ∙ c.in_ok-built.ensures.rows) in
-    subst (λ (own : List KeyOf). g.S.MapStore.holds c.replace.new.store under (set_all_rows maps rows own)) same (holds under maps old rows (c.in_ok-known.ensures.looks.holds under maps held) kept lacks news))
+    subst (λ (own : List KeyOf). Replaces (g.S.MapStore.holds c.replace.new.store under) style c.args.bounds.now maps own old rows (has c.args.due.now) (has c.replace.new.due) c.replace.result) same
+    (c.replace.ensures.replaces under maps old rows (c.in_ok-known.ensures.looks.holds under maps held) kept lacks news)
 
-pub returns-clause-told : goal.returns-clause-told
-returns-clause-told g c =
-    if_ok-then c.replace.result c.replace.ensures.told (λ changes told under maps old rows held kept lacks built.
-    let style = c.args.style.now in
-    let keys : List KeyOf = keys_of c.args.pending.now in
-    let same : c.as_slice-keys.result.now ≡ keys = c.as_slice-keys.ensures.value ∙ c.in_ok-keys.ensures.keys in
-    let news = rows_are style maps keys c.as_slice-keys.result.now rows (gathered_in c.in_ok-known.known) c.reaches_nodes.result c.as_slice-news.result.now built same c.reaches_nodes.ensures.reaches
-    (c.in_ok-known.ensures.right under maps held) (c.in_ok-known.ensures.asked under maps held) (c.as_slice-news.ensures.items ∙ c.in_ok-built.ensures.rows) in
-    told under maps old rows (c.in_ok-known.ensures.looks.holds under maps held) kept lacks news ∙ ap (told_all (length style.tables) old rows) same)
-
-pub returns-clause-due : goal.returns-clause-due
-returns-clause-due g c =
-    on_ok-then c.replace.result c.replace.ensures.due (λ due under maps old rows held kept lacks built zoom x y.
-    let style = c.args.style.now in
-    let keys : List KeyOf = keys_of c.args.pending.now in
-    let same : c.as_slice-keys.result.now ≡ keys = c.as_slice-keys.ensures.value ∙ c.in_ok-keys.ensures.keys in
-    let news = rows_are style maps keys c.as_slice-keys.result.now rows (gathered_in c.in_ok-known.known) c.reaches_nodes.result c.as_slice-news.result.now built same c.reaches_nodes.ensures.reaches
-    (c.in_ok-known.ensures.right under maps held) (c.in_ok-known.ensures.asked under maps held) (c.as_slice-news.ensures.items ∙ c.in_ok-built.ensures.rows) in
-    due under maps old rows (c.in_ok-known.ensures.looks.holds under maps held) kept lacks news zoom x y
-    ∙ ap (λ (own : List KeyOf). has c.args.due.now zoom x y || list_any (λ (key : KeyOf). is_due_key style c.args.bounds.now (old key) (rows key) zoom x y) own) same)
-
-pub returns-clause-ends : goal.returns-clause-ends
-returns-clause-ends g c =
-    if_err-then c.replace.result c.replace.ensures.ends (λ why ends.
-    ends-then _ _ _ _ _ _ why (λ refusal bears first looked. bears first (c.gathered.ensures.looks.looked first looked)) (λ unspent. unspent) (λ value never. never) ends)
+pub returns-clause-goes : goal.returns-clause-goes
+returns-clause-goes g c = record {
+  looked = λ first looked. c.replace.ensures.goes.looked first (c.gathered.ensures.looks.looked first looked);
+  spent = c.replace.ensures.goes.spent;
+  ends = if_err-then c.replace.result c.replace.ensures.goes.ends (λ why ends.
+      ends-then _ _ _ _ _ _ why (λ refusal bears first looked. bears first (c.gathered.ensures.looks.looked first looked)) (λ unspent. unspent) (λ value never. never) ends);
+}
 
 pub returns-clause-allowed : goal.returns-clause-allowed
 returns-clause-allowed g c under maps old held kept lacks =

@@ -10,20 +10,14 @@ put_rows-requires-clause-kept g c =
     let style_is = g.met.S.MapStore.same_style first c.all_before.new.store (c.all_before.ensures.looks.looked first (g.met.S.MapStore.looked_none first)) in
     subst (λ (own : StyleOf). AllByRecursion (MayKeep own.tables) c.args.news.now) (sym style_is) c.requires.kept
 
-pub returns-in-Ok-clause-holds : goal.returns-in-Ok-clause-holds
-returns-in-Ok-clause-holds g c under maps old new held kept lacks news =
+pub returns-in-Ok-clause-replaces : goal.returns-in-Ok-clause-replaces
+returns-in-Ok-clause-replaces g c under maps old new held kept lacks news =
     let olds : c.as_slice-olds.result.now ≡ map old c.args.keys.now = c.as_slice-olds.ensures.items ∙ c.in_ok-before.ensures.kept under maps old held kept lacks in
-    c.in-Ok.ensures.holds under maps old new olds news kept (c.in_ok-before.ensures.looks.holds under maps held)
-
-pub returns-in-Ok-clause-told : goal.returns-in-Ok-clause-told
-returns-in-Ok-clause-told g c under maps old new held kept lacks news =
-    let olds : c.as_slice-olds.result.now ≡ map old c.args.keys.now = c.as_slice-olds.ensures.items ∙ c.in_ok-before.ensures.kept under maps old held kept lacks in
-    c.in_ok-changes.ensures.told old new olds news
-
-pub returns-in-Ok-clause-due : goal.returns-in-Ok-clause-due
-returns-in-Ok-clause-due g c under maps old new held kept lacks news =
-    let olds : c.as_slice-olds.result.now ≡ map old c.args.keys.now = c.as_slice-olds.ensures.items ∙ c.in_ok-before.ensures.kept under maps old held kept lacks in
-    c.in_ok-changes.ensures.due old new olds news
+    record {
+      holds = c.in-Ok.ensures.holds under maps old new olds news kept (c.in_ok-before.ensures.looks.holds under maps held);
+      told = c.in_ok-changes.ensures.told old new olds news;
+      due = c.in_ok-changes.ensures.due old new olds news;
+    }
 
 pub returns-clause-allowed : goal.returns-clause-allowed
 returns-clause-allowed g c under maps old new held kept lacks news =

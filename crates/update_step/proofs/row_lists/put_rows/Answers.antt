@@ -12,7 +12,7 @@ use Rattle.update_step.proofs.row_lists.put_rows.Goals as goal
 pub put_changed-requires-clause-kept : goal.put_changed-requires-clause-kept
 put_changed-requires-clause-kept g c =
     let first = c.args.store.now in
-    let style = g.met.S.MapStore.same_style first c.loop-index.store (c.loop-index.invariant.looked first (g.met.S.MapStore.looked_none first)) in
+    let style = g.met.S.MapStore.same_style first c.loop-index.store (c.loop-index.invariant.sets.looked first (g.met.S.MapStore.looked_none first)) in
     subst (λ (own : StyleOf). MayKeep own.tables c.index-news-index.result) (sym style)
     (all_at (MayKeep (g.S.MapStore.style first).tables) c.args.news.now c.loop-index.index c.index-news-index.result c.index-news-index.result c.requires.kept
     (subst (λ most. c.loop-index.index < most) (sym c.requires.news) c.loop-index-test.true) c.index-news-index.is)
@@ -31,10 +31,9 @@ loop-index-preserved g c =
           (λ same. rows-still old new maps (take c.loop-index.index keys) has key (sym rows_were ∙ same ∙ rows_are) ∙ ap (λ (rows : List TableRow). unless_empty rows) (sym rows_are)) in
           subst (g.S.MapStore.holds c.put_changed.new.store under) (ap (set_rows before key.kind key.id) rows_are
           ∙ sym (fold-more (λ (own : Maps) (other : KeyOf). set_rows own other.kind other.id (new other)) maps keys c.loop-index.index key c.loop-index-test.true c.index-keys-index.is)) step;
-      looked = search rules;
       within = λ may all before. c.put_changed.ensures.within may (all_at (MayRows may) c.args.keys.now c.loop-index.index c.index-keys-index.result c.index-keys-index.result all c.loop-index-test.true c.index-keys-index.is)
           (c.loop-index.invariant.within may all before);
-      spent = search rules;
+      sets = search rules;
     }
 
 pub returns-in_err-put_changed-clause-allowed : goal.returns-in_err-put_changed-clause-allowed

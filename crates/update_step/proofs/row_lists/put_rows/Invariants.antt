@@ -1,8 +1,9 @@
-use Rattle.std.proofs.Common.{◌≡◌, false, List, map, take}
+use Rattle.std.proofs.Common.{◌≡◌, List, map, take, Ok}
 use Rattle.osm_base.specs.declared.values.row.TableRow.{TableRow}
 use Rattle.osm_base.specs.values.Key.{KeyOf}
 use Rattle.store_maps.specs.Append.{set_all_rows}
 use Rattle.store_maps.specs.Asked.{May}
+use Rattle.store_maps.specs.Looks.{Sets}
 use Rattle.store_maps.specs.Maps.{Maps}
 use Rattle.store_maps.specs.Stands.{HoldsRows}
 use Rattle.update_step.specs.Touch.{MayAllRows}
@@ -13,7 +14,6 @@ abbrev pub invariant-loop-index : goal.invariant-loop-index
 invariant-loop-index g l = record {
   holds : (under : g.S.MapStore.Under) (maps : Maps) (old new : KeyOf → List TableRow) → l.olds ≡ map old l.keys → l.news ≡ map new l.keys → HoldsRows maps old
       → g.S.MapStore.holds l.initial.store under maps → g.S.MapStore.holds l.store under (set_all_rows maps new (take l.index l.keys));
-  looked : (first : g.row.S.Denot) → g.S.MapStore.looked first l.initial.store → g.S.MapStore.looked first l.store;
   within : (may : May) → MayAllRows may l.keys → g.S.MapStore.within may l.initial.store → g.S.MapStore.within may l.store;
-  spent : g.S.Back.spent l.store ≡ false;
+  sets : Sets {A = Unit {0}} g.S.MapStore.looked g.S.Back.spent g.S.Back.bears g.S.Back.faults l.initial.store l.store (Ok tt);
 }

@@ -1,34 +1,29 @@
 -- A bucket that was read is there as it is in the store, and the others are as they were.
-use Rattle.std.proofs.Common.{◌≡◌, false, sym, ap, subst}
-use Rattle.chain_store.specs.declared.root.Root.{Root}
-use Rattle.chain_store.specs.Chains.{disk_of}
-use Rattle.chain_store.specs.Known.{Lists}
+use Rattle.std.proofs.Common.{◌≡◌, Err, Ok, ap, false, refl, sym}
 use Rattle.std.specs.FinMap as map
-use Rattle.bucket_store.specs.Cache.{CacheMap}
+use Rattle.page_journal.specs.Journal.{is_broken}
+use Rattle.page_journal.specs.declared.fault.StoreFault.TheVariants.{OutOfMemory}
+use Rattle.chain_store.specs.Chains.{disk_of, journal_of}
+use Rattle.chain_store.specs.Known.{Lists}
+use Rattle.chain_store.specs.declared.root.Root.{Root}
+use Rattle.bucket_records.specs.Held.{HeldBucket}
 use Rattle.bucket_store.specs.Buckets.{bucket_count}
-use Rattle.bucket_store.specs.Transaction.{IsOpenWith}
 use Rattle.bucket_store.specs.declared.cache.Cached.{Cached}
+use Rattle.bucket_store.proofs.Frames.{alone_of, brings_read, cause_of, keeps_low, keeps_read, keeps_same, leaves_low, leaves_read, quiet_cause}
+use Rattle.bucket_store.proofs.Listings.{sound_chain}
 use Rattle.bucket_store.proofs.Once.{read_more, unread_chain}
-use Rattle.bucket_store.proofs.Openings.{open_later, open_more, stored_later, buckets_more, buckets_same, put_there, some_of, none_of, content_more}
-use Rattle.std.proofs.Common.{◌||◌, Bool, refl, ◌∙◌}
-use Rattle.bucket_store.proofs.Holding.{has_later}
-use Rattle.bucket_store.proofs.Openings.{content_is, none_content, there_own}
+use Rattle.bucket_store.proofs.Openings.{buckets_more, buckets_same, content_is, content_more, none_content, none_of, open_later, open_more, put_there, some_of, stored_later, there_own}
 use Rattle.bucket_store.proofs.Origins.{origin_same}
 use Rattle.bucket_store.proofs.Wholes.{bad_more, content_before, same_contents}
 use Rattle.bucket_store.proofs.buckets.Buckets.bring_chain.Goals as goal
-
-pub returns-in-Err-clause-open : goal.returns-in-Err-clause-open
-returns-in-Err-clause-open g c pages was =
-    open_later pages c.args.self.now.chains c.read_bucket.new.chains c.args.self.now.cache c.in-Err.ensures.stays
-    (c.in-Err.ensures.open pages was.open_chains) was
 
 pub invariant_of-self-in-Ok-add : goal.invariant_of-self-in-Ok-add
 invariant_of-self-in-Ok-add g c =
     let own : Cached = record { bucket = c.in-Ok.bucket; changed = false } in
     let many : bucket_count c.args.self.now.chains ≡ bucket_count c.read_bucket.new.chains =
-    ap (λ (r : Root). r.buckets) (sym c.in-Ok.ensures.stays.root) in
+    ap (λ (r : Root). r.buckets) (sym c.in-Ok.ensures.leaves.stays.root) in
     record {
-      going = λ _. c.in-Ok.ensures.going;
+      going = λ _. c.in-Ok.ensures.leaves.going;
       own = buckets_same _ _ c.add.new.self many (buckets_more (bucket_count c.args.self.now.chains) c.args.self.now.cache c.add.new.self c.args.n own
           c.in-Ok-add.ensures.ok c.args.self.now.own c.requires.bucket c.in-Ok.ensures.own);
       once = λ _.
@@ -36,75 +31,115 @@ invariant_of-self-in-Ok-add g c =
           let are = c.args.self.now.once c.requires.going in
           read_more c.args.self.now.cache c.add.new.self c.args.n own c.in-Ok-add.ensures.ok _ _ _
           (disk_of c.args.self.now.chains) (disk_of c.read_bucket.new.chains)
-          (c.in-Ok.ensures.reads (unread_chain _ c.args.self.now.cache c.args.n are c.requires.bucket.0 none)) c.in-Ok.ensures.known are;
+          (c.in-Ok.ensures.leaves.reads (unread_chain _ c.args.self.now.cache c.args.n are c.requires.bucket.0 none)) c.in-Ok.ensures.leaves.known are;
     }
 
-pub returns-in-Ok-add-clause-there : goal.returns-in-Ok-add-clause-there
-returns-in-Ok-add-clause-there g c =
-    let own : Cached = record { bucket = c.in-Ok.bucket; changed = false } in
-    some_of _ own (put_there c.args.self.now.cache c.add.new.self c.args.n own c.in-Ok-add.ensures.ok)
-
-pub returns-in-Ok-add-clause-open : goal.returns-in-Ok-add-clause-open
-returns-in-Ok-add-clause-open g c pages was =
-    let own : Cached = record { bucket = c.in-Ok.bucket; changed = false } in
-    let stored = stored_later pages c.args.self.now.chains c.read_bucket.new.chains c.args.n c.in-Ok.bucket.values c.in-Ok.ensures.stays
-    (c.in-Ok.ensures.answers pages was.open_chains).0 in
-    let origin = origin_same pages c.args.self.now.chains c.read_bucket.new.chains c.args.n c.in-Ok.bucket c.in-Ok.ensures.stays.kept
-    (ap (λ (l : Lists). map.get l c.args.n) c.in-Ok.ensures.stays.written) (c.in-Ok.ensures.answers pages was.open_chains).1 in
-    open_more pages c.read_bucket.new.chains c.args.self.now.cache c.add.new.self c.args.n own c.in-Ok-add.ensures.ok (λ same. stored) origin
-    (open_later pages c.args.self.now.chains c.read_bucket.new.chains c.args.self.now.cache c.in-Ok.ensures.stays
-    (c.in-Ok.ensures.open pages was.open_chains) was)
-
-pub returns-in-Ok-add-clause-content : goal.returns-in-Ok-add-clause-content
-returns-in-Ok-add-clause-content g c pages was other values has =
-    let own : Cached = record { bucket = c.in-Ok.bucket; changed = false } in
-    let none = none_of c.has.result (map.get c.args.self.now.cache c.args.n) c.has.ensures.1 c.if-has.false in
-    content_more pages c.args.self.now.chains c.read_bucket.new.chains c.args.self.now.cache c.add.new.self c.args.n own c.in-Ok.ensures.stays
-    c.in-Ok-add.ensures.ok (c.in-Ok.ensures.answers pages was.open_chains).0 none other values has
-
-pub returns-in-Err-add-clause-open : goal.returns-in-Err-add-clause-open
-returns-in-Err-add-clause-open g c pages was =
-    subst (λ (m : CacheMap). IsOpenWith pages c.read_bucket.new.chains m) (sym c.in-Err-add.ensures.err)
-    (open_later pages c.args.self.now.chains c.read_bucket.new.chains c.args.self.now.cache c.in-Ok.ensures.stays
-    (c.in-Ok.ensures.open pages was.open_chains) was)
-
-pub returns-then-has-clause-had : goal.returns-then-has-clause-had
-returns-then-has-clause-had g c pages was =
-    let found = there_own (map.get c.args.self.now.cache c.args.n) (c.has.ensures.0 c.if-has.true) in
-    (found.0.bucket.values, content_is pages c.args.self.now.chains (map.get c.args.self.now.cache c.args.n) c.args.n found.0 found.0.bucket.values found.1 refl)
-
-pub returns-in-Ok-add-clause-had : goal.returns-in-Ok-add-clause-had
-returns-in-Ok-add-clause-had g c pages was =
-    let none = none_of c.has.result (map.get c.args.self.now.cache c.args.n) c.has.ensures.1 c.if-has.false in (
-      c.in-Ok.bucket.values,
-      none_content (map.get c.args.self.now.cache c.args.n) pages c.args.self.now.chains c.args.n c.in-Ok.bucket.values none
-          (c.in-Ok.ensures.answers pages was.open_chains).0,
-    )
-
-pub returns-in-Ok-add-clause-has : goal.returns-in-Ok-add-clause-has
-returns-in-Ok-add-clause-has g c rest now has =
-    has_later rest now c.args.self.now _ c.in-Ok.ensures.stays (c.in-Ok.ensures.broken ∙ ap (λ (b : Bool). b || false) has.whole)
-    (returns-in-Ok-add-clause-open g c) (returns-in-Ok-add-clause-content g c) has
-
-pub returns-in-Ok-add-clause-reads : goal.returns-in-Ok-add-clause-reads
-returns-in-Ok-add-clause-reads g c =
-    let none = none_of c.has.result (map.get c.args.self.now.cache c.args.n) c.has.ensures.1 c.if-has.false in
-    c.in-Ok.ensures.reads (unread_chain _ c.args.self.now.cache c.args.n (c.args.self.now.once c.requires.going) c.requires.bucket.0 none)
+pub returns-then-has-clause-brings : goal.returns-then-has-clause-brings
+returns-then-has-clause-brings g c =
+    let self = c.args.self.now in
+    let there = c.has.ensures.0 c.if-has.true in
+    let found = there_own (map.get self.cache c.args.n) there in
+    record {
+      there = there;
+      had = λ pages was.
+          (found.0.bucket.values, content_is pages self.chains (map.get self.cache c.args.n) c.args.n found.0 found.0.bucket.values found.1 refl);
+      answers = λ pages was. tt;
+      sound = λ rest now has. tt;
+      keeps = keeps_same self (Ok tt);
+    }
 
 pub returns-then-has-clause-contents : goal.returns-then-has-clause-contents
 returns-then-has-clause-contents g c = same_contents c.args.self.now
 
+pub returns-in-Err-clause-brings : goal.returns-in-Err-clause-brings
+returns-in-Err-clause-brings g c =
+    let self = c.args.self.now in
+    let none = none_of c.has.result (map.get self.cache c.args.n) c.has.ensures.1 c.if-has.false in
+    let done = c.in-Err.ensures in
+    let alone = alone_of HeldBucket (Unit {0}) (is_broken (journal_of self.chains)) c.in-Err.fault done.leaves.alone in
+    record {
+      there = tt;
+      had = tt;
+      answers = λ pages was. brings_read pages self c.args.n c.in-Err.fault none (done.answers pages was.open_chains);
+      sound = λ rest now has.
+          sound_chain c.in-Err.fault rest now self c.args.n c.requires.bucket
+          (λ pages was. brings_read pages self c.args.n c.in-Err.fault none (done.answers pages was.open_chains)) alone has;
+      keeps = keeps_low {T = Unit {0}} self _ (Err c.in-Err.fault) refl done.leaves.stays done.leaves.opens done.leaves.broken;
+    }
+
 pub returns-in-Ok-add-clause-contents : goal.returns-in-Ok-add-clause-contents
 returns-in-Ok-add-clause-contents g c =
+    let old = c.args.self.now in
+    let mid = c.read_bucket.new.chains in
     let own : Cached = record { bucket = c.in-Ok.bucket; changed = false } in
-    let none = none_of c.has.result (map.get c.args.self.now.cache c.args.n) c.has.ensures.1 c.if-has.false in
+    let none = none_of c.has.result (map.get old.cache c.args.n) c.has.ensures.1 c.if-has.false in
+    let done = c.in-Ok.ensures in
+    let stays = done.leaves.stays in
     record {
-      opens = returns-in-Ok-add-clause-open g c;
-      later = returns-in-Ok-add-clause-content g c;
+      opens = λ pages was.
+          let stored = stored_later pages old.chains mid c.args.n c.in-Ok.bucket.values stays (done.answers pages was.open_chains).0 in
+          let origin = origin_same pages old.chains mid c.args.n c.in-Ok.bucket stays.kept (ap (λ (l : Lists). map.get l c.args.n) stays.written)
+          (done.answers pages was.open_chains).1 in
+          open_more pages mid old.cache c.add.new.self c.args.n own c.in-Ok-add.ensures.ok (λ same. stored) origin
+          (open_later pages old.chains mid old.cache stays (done.leaves.opens pages was.open_chains) was);
+      later = λ pages was other values has.
+          content_more pages old.chains mid old.cache c.add.new.self c.args.n own stays c.in-Ok-add.ensures.ok (done.answers pages was.open_chains).0 none
+          other values has;
       before = λ pages was other values has.
-          content_before pages c.args.self.now.chains c.read_bucket.new.chains c.args.self.now.cache c.add.new.self c.args.n own c.in-Ok.ensures.stays
-          c.in-Ok-add.ensures.ok (c.in-Ok.ensures.answers pages was.open_chains).0 none other values has;
-      bad = λ pages k at bad.
-          bad_more pages c.args.self.now.chains c.read_bucket.new.chains c.args.self.now.cache c.add.new.self c.args.n own c.in-Ok.ensures.stays
-          c.in-Ok-add.ensures.ok k at bad;
+          content_before pages old.chains mid old.cache c.add.new.self c.args.n own stays c.in-Ok-add.ensures.ok (done.answers pages was.open_chains).0 none
+          other values has;
+      bad = λ pages k at bad. bad_more pages old.chains mid old.cache c.add.new.self c.args.n own stays c.in-Ok-add.ensures.ok k at bad;
     }
+
+pub returns-in-Ok-add-clause-brings : goal.returns-in-Ok-add-clause-brings
+returns-in-Ok-add-clause-brings g c =
+    let old = c.args.self.now in
+    let own : Cached = record { bucket = c.in-Ok.bucket; changed = false } in
+    let none = none_of c.has.result (map.get old.cache c.args.n) c.has.ensures.1 c.if-has.false in
+    let done = c.in-Ok.ensures in
+    let same = returns-in-Ok-add-clause-contents g c in
+    record {
+      there = some_of _ own (put_there old.cache c.add.new.self c.args.n own c.in-Ok-add.ensures.ok);
+      had = λ pages was. (
+        c.in-Ok.bucket.values,
+        none_content (map.get old.cache c.args.n) pages old.chains c.args.n c.in-Ok.bucket.values none (done.answers pages was.open_chains).0,
+      );
+      answers = λ pages was. tt;
+      sound = λ rest now has. tt;
+      keeps = keeps_read old _ (Ok tt) done.leaves.stays same.opens done.leaves.broken same.later;
+    }
+
+pub returns-in-Err-clause-touches : goal.returns-in-Err-clause-touches
+returns-in-Err-clause-touches g c =
+    let self = c.args.self.now in
+    let done = c.in-Err.ensures.leaves in
+    leaves_low _ self _ (Err c.in-Err.fault) refl done.stays done.opens
+    (alone_of HeldBucket (Unit {0}) (is_broken (journal_of self.chains)) c.in-Err.fault done.alone) done.broken tt refl
+    (cause_of HeldBucket (Unit {0}) _ _ c.in-Err.fault done.cause)
+
+pub returns-in-Ok-add-clause-touches : goal.returns-in-Ok-add-clause-touches
+returns-in-Ok-add-clause-touches g c =
+    let old = c.args.self.now in
+    let none = none_of c.has.result (map.get old.cache c.args.n) c.has.ensures.1 c.if-has.false in
+    let done = c.in-Ok.ensures.leaves in
+    leaves_read _ old _ (Ok tt) done.stays (returns-in-Ok-add-clause-contents g c).opens tt done.broken
+    (done.reads (unread_chain _ old.cache c.args.n (old.once c.requires.going) c.requires.bucket.0 none)) refl
+    (quiet_cause _ _ _ refl (done.cause.later))
+
+pub returns-in-Err-add-clause-brings : goal.returns-in-Err-add-clause-brings
+returns-in-Err-add-clause-brings g c =
+    let done = c.in-Ok.ensures.leaves in
+    record {
+      there = tt;
+      had = tt;
+      answers = λ pages was. tt;
+      sound = λ rest now has. tt;
+      keeps = keeps_low c.args.self.now _ (Err OutOfMemory) c.in-Err-add.ensures.err done.stays done.opens done.broken;
+    }
+
+pub returns-in-Err-add-clause-touches : goal.returns-in-Err-add-clause-touches
+returns-in-Err-add-clause-touches g c =
+    let old = c.args.self.now in
+    let done = c.in-Ok.ensures.leaves in
+    leaves_low _ old _ (Err OutOfMemory) c.in-Err-add.ensures.err done.stays done.opens tt done.broken tt refl
+    (quiet_cause _ _ _ refl (done.cause.later))

@@ -1,10 +1,11 @@
 -- What is listed of the free pages changes no bucket.
-use Rattle.std.proofs.Common.{Err, Ok, ap, sym, refl, subst, inl}
+use Rattle.std.proofs.Common.{Err, Ok, ap, inl, refl, subst, sym}
 use Rattle.chain_store.specs.Known.{Lists}
 use Rattle.chain_store.specs.declared.layout.TheConstants.{FREE}
 use Rattle.chain_store.specs.declared.root.Root.{Root}
 use Rattle.bucket_store.specs.Buckets.{AreRead}
-use Rattle.bucket_store.proofs.Listings.{lists_low, sound_lists}
+use Rattle.bucket_store.proofs.Frames.{keeps_low, leaves_low}
+use Rattle.bucket_store.proofs.Listings.{sound_lists}
 use Rattle.bucket_store.proofs.Openings.{buckets_same}
 use Rattle.bucket_store.proofs.buckets.Buckets.free_pages.Goals as goal
 
@@ -12,18 +13,43 @@ pub invariant_of-self : goal.invariant_of-self
 invariant_of-self g c =
     let self = c.args.self.now in
     record {
-      going = λ _. c.in-Ok.ensures.refused;
-      own = buckets_same _ _ self.cache (ap (λ (r : Root). r.buckets) (sym c.in-Ok.ensures.stays.root)) self.own;
+      going = λ _. c.in-Ok.ensures.looks.refused;
+      own = buckets_same _ _ self.cache (ap (λ (r : Root). r.buckets) (sym c.in-Ok.ensures.looks.stays.root)) self.own;
       once = λ _. subst (λ (read : Lists). AreRead read self.cache) (sym c.in-Ok.ensures.read) (self.once c.requires.going);
     }
 
 pub returns-in-Ok-clause-lists : goal.returns-in-Ok-clause-lists
 returns-in-Ok-clause-lists g c =
-    lists_low c.args.self.now _ (Ok c.in-Ok.pages) refl c.in-Ok.ensures.stays c.in-Ok.ensures.open c.in-Ok.ensures.alone c.in-Ok.ensures.broken refl c.in-Ok.ensures.cause
-    (λ rest now has. tt)
+    let self = c.args.self.now in
+    let done = c.in-Ok.ensures in
+    record {
+      answers = λ pages was. done.answers pages was.open_chains;
+      read = done.read;
+      reads = done.reads;
+      sound = λ rest now has. tt;
+      keeps = keeps_low self _ (Ok c.in-Ok.pages) refl done.looks.stays done.looks.opens done.looks.broken;
+    }
+
+pub returns-in-Ok-clause-touches : goal.returns-in-Ok-clause-touches
+returns-in-Ok-clause-touches g c =
+    let self = c.args.self.now in
+    let done = c.in-Ok.ensures in
+    leaves_low _ self _ (Ok c.in-Ok.pages) refl done.looks.stays done.looks.opens done.looks.alone done.looks.broken done.read refl done.looks.cause
 
 pub returns-in-Err-clause-lists : goal.returns-in-Err-clause-lists
 returns-in-Err-clause-lists g c =
-    lists_low c.args.self.now _ (Err c.in-Err.fault) refl c.in-Err.ensures.stays c.in-Err.ensures.open c.in-Err.ensures.alone c.in-Err.ensures.broken refl c.in-Err.ensures.cause
-    (λ rest now has. sound_lists c.in-Err.fault rest now c.args.self.now FREE (inl refl)
-    (λ pages was. c.in-Err.ensures.answers pages was.open_chains) c.in-Err.ensures.alone has)
+    let self = c.args.self.now in
+    let done = c.in-Err.ensures in
+    record {
+      answers = λ pages was. done.answers pages was.open_chains;
+      read = done.read;
+      reads = tt;
+      sound = λ rest now has. sound_lists c.in-Err.fault rest now self FREE (inl refl) (λ pages was. done.answers pages was.open_chains) done.looks.alone has;
+      keeps = keeps_low self _ (Err c.in-Err.fault) refl done.looks.stays done.looks.opens done.looks.broken;
+    }
+
+pub returns-in-Err-clause-touches : goal.returns-in-Err-clause-touches
+returns-in-Err-clause-touches g c =
+    let self = c.args.self.now in
+    let done = c.in-Err.ensures in
+    leaves_low _ self _ (Err c.in-Err.fault) refl done.looks.stays done.looks.opens done.looks.alone done.looks.broken tt refl done.looks.cause

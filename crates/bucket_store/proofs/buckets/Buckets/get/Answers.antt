@@ -1,5 +1,29 @@
 -- What the bucket of a key has is copied.
+use Rattle.std.proofs.Common.{Err, refl}
+use Rattle.page_journal.specs.declared.fault.StoreFault.TheVariants.{OutOfMemory}
+use Rattle.bucket_store.proofs.Frames.{content_at, keeps_after}
 use Rattle.bucket_store.proofs.buckets.Buckets.get.Goals as goal
 
-pub returns-in-Ok-clause-found : goal.returns-in-Ok-clause-found
-returns-in-Ok-clause-found g c rest now has = c.in-Ok.ensures.found rest now (c.in_default.ensures.has rest now has)
+pub returns-in-Ok-clause-bytes : goal.returns-in-Ok-clause-bytes
+returns-in-Ok-clause-bytes g c =
+    let old = c.args.self.now in
+    let mid = c.bring.new.self in
+    let brings = c.in_default.ensures.brings in
+    record {
+      value = λ pages was values has.
+          c.in-Ok.ensures.value pages values
+          (content_at c.args.which c.args.key old mid c.in_default.ensures.touches.stays brings.keeps.content pages was values has);
+      found = λ rest now has. c.in-Ok.ensures.found rest now (brings.keeps.has refl rest now has);
+      answers = λ pages was. tt;
+      sound = λ rest now has. tt;
+      keeps = record { content = brings.keeps.content; has = λ quiet. brings.keeps.has refl };
+    }
+
+pub returns-in-Err-copied-clause-bytes : goal.returns-in-Err-copied-clause-bytes
+returns-in-Err-copied-clause-bytes g c = record {
+  value = tt;
+  found = tt;
+  answers = λ pages was. tt;
+  sound = λ rest now has. tt;
+  keeps = keeps_after c.args.self.now c.bring.new.self _ _ (Err OutOfMemory) c.in_default.ensures.brings.keeps refl refl;
+}

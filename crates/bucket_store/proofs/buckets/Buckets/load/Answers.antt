@@ -1,50 +1,59 @@
 -- What is read of a string changes no bucket.
-use Rattle.bucket_store.proofs.Once.{read_string}
-use Rattle.bucket_store.proofs.Openings.{open_later}
-use Rattle.std.proofs.Common.{◌||◌, Bool, false, Err, sym, ap, ◌∙◌, inl, arith}
+use Rattle.std.proofs.Common.{Err, Ok, ap, arith, inl, refl, sym, ◌∙◌}
 use Rattle.std.specs.FinMap as map
 use Rattle.chain_store.specs.Chains.{disk_of, kept_of, written_of}
-use Rattle.bucket_store.proofs.Holding.{has_later, loaded_string}
-use Rattle.bucket_store.proofs.Openings.{buckets_same, match_later}
 use Rattle.chain_store.specs.declared.root.Root.{Root}
+use Rattle.bucket_store.proofs.Frames.{keeps_low, leaves_low}
+use Rattle.bucket_store.proofs.Holding.{loaded_string}
+use Rattle.bucket_store.proofs.Once.{read_string}
+use Rattle.bucket_store.proofs.Openings.{buckets_same}
 use Rattle.bucket_store.proofs.Sound.{sound_load}
 use Rattle.bucket_store.proofs.buckets.Buckets.load.Goals as goal
-
-pub returns-in-Ok-clause-open : goal.returns-in-Ok-clause-open
-returns-in-Ok-clause-open g c pages was =
-    open_later pages c.args.self.now.chains c.load.new.self c.args.self.now.cache c.in-Ok.ensures.stays (c.in-Ok.ensures.open pages was.open_chains) was
-
-pub returns-in-Err-clause-open : goal.returns-in-Err-clause-open
-returns-in-Err-clause-open g c pages was =
-    open_later pages c.args.self.now.chains c.load.new.self c.args.self.now.cache c.in-Err.ensures.stays (c.in-Err.ensures.open pages was.open_chains) was
-
-pub returns-in-Ok-clause-found : goal.returns-in-Ok-clause-found
-returns-in-Ok-clause-found g c rest now has =
-    let chains = c.args.self.now.chains in
-    loaded_string has.pages (kept_of chains) rest.root has.strings has.opens.open_chains.keeps has.state c.args.n (map.get (written_of chains) c.args.n)
-    c.in-Ok.bytes (inl c.requires.string) (omega (arith, c.requires.string)) (c.in-Ok.ensures.answers has.pages has.opens.open_chains)
-    ∙ has.texts c.args.n c.requires.string
-
-pub returns-in-Ok-clause-has : goal.returns-in-Ok-clause-has
-returns-in-Ok-clause-has g c rest now has =
-    has_later rest now c.args.self.now _ c.in-Ok.ensures.stays (c.in-Ok.ensures.broken ∙ ap (λ (b : Bool). b || false) has.whole)
-    (returns-in-Ok-clause-open g c)
-    (λ pages was other values content.
-    match_later (map.get c.args.self.now.cache other) pages c.args.self.now.chains c.load.new.self other values c.in-Ok.ensures.stays content) has
-
-pub returns-in-Err-clause-sound : goal.returns-in-Err-clause-sound
-returns-in-Err-clause-sound g c rest now has =
-    sound_load (Err c.in-Err.fault) rest now c.args.self.now c.args.n c.requires.string (λ pages was. c.in-Err.ensures.answers pages was.open_chains) c.in-Err.ensures.alone has
 
 pub invariant_of-self : goal.invariant_of-self
 invariant_of-self g c =
     let self = c.args.self.now in
     record {
-      going = λ _. c.in-Ok.ensures.refused;
-      own = buckets_same _ _ self.cache (ap (λ (r : Root). r.buckets) (sym c.in-Ok.ensures.stays.root)) self.own;
+      going = λ _. c.in-Ok.ensures.looks.refused;
+      own = buckets_same _ _ self.cache (ap (λ (r : Root). r.buckets) (sym c.in-Ok.ensures.looks.stays.root)) self.own;
       once = λ _. read_string _ c.args.n _ _ self.cache (disk_of self.chains) (disk_of c.load.new.self) (omega (arith, c.requires.string))
-          (c.in-Ok.ensures.reads (inl (omega (arith, c.requires.string)))) (self.once c.requires.going);
+          (c.in-Ok.ensures.loads.reads (inl (omega (arith, c.requires.string)))) (self.once c.requires.going);
     }
 
-pub returns-in-Ok-clause-reads : goal.returns-in-Ok-clause-reads
-returns-in-Ok-clause-reads g c = c.in-Ok.ensures.reads (inl (omega (arith, c.requires.string)))
+pub returns-in-Ok-clause-text : goal.returns-in-Ok-clause-text
+returns-in-Ok-clause-text g c =
+    let self = c.args.self.now in
+    let done = c.in-Ok.ensures in
+    record {
+      found = λ rest now has.
+          loaded_string has.pages (kept_of self.chains) rest.root has.strings has.opens.open_chains.keeps has.state c.args.n (map.get (written_of self.chains) c.args.n)
+          c.in-Ok.bytes (inl c.requires.string) (omega (arith, c.requires.string)) (done.loads.answers has.pages has.opens.open_chains)
+          ∙ has.texts c.args.n c.requires.string;
+      answers = λ pages was. done.loads.answers pages was.open_chains;
+      sound = λ rest now has. tt;
+      keeps = keeps_low self _ (Ok c.in-Ok.bytes) refl done.looks.stays done.looks.opens done.looks.broken;
+    }
+
+pub returns-in-Err-clause-text : goal.returns-in-Err-clause-text
+returns-in-Err-clause-text g c =
+    let self = c.args.self.now in
+    let done = c.in-Err.ensures in
+    record {
+      found = tt;
+      answers = λ pages was. done.loads.answers pages was.open_chains;
+      sound = λ rest now has. sound_load (Err c.in-Err.fault) rest now self c.args.n c.requires.string (λ pages was. done.loads.answers pages was.open_chains) done.looks.alone has;
+      keeps = keeps_low self _ (Err c.in-Err.fault) refl done.looks.stays done.looks.opens done.looks.broken;
+    }
+
+pub returns-in-Ok-clause-touches : goal.returns-in-Ok-clause-touches
+returns-in-Ok-clause-touches g c =
+    let self = c.args.self.now in
+    let done = c.in-Ok.ensures in
+    leaves_low _ self _ (Ok c.in-Ok.bytes) refl done.looks.stays done.looks.opens done.looks.alone done.looks.broken
+    (done.loads.reads (inl (omega (arith, c.requires.string)))) refl done.looks.cause
+
+pub returns-in-Err-clause-touches : goal.returns-in-Err-clause-touches
+returns-in-Err-clause-touches g c =
+    let self = c.args.self.now in
+    let done = c.in-Err.ensures in
+    leaves_low _ self _ (Err c.in-Err.fault) refl done.looks.stays done.looks.opens done.looks.alone done.looks.broken tt refl done.looks.cause

@@ -1,17 +1,19 @@
 -- A value is set in the bucket of its key where that is there; else all is as it was, and the bucket is read first.
-use Rattle.std.proofs.Common.{◌≡◌, ◌%◌, ℕ, Some, refl, sym, ap, subst, ◌∙◌, inl, inr}
+use Rattle.std.proofs.Common.{◌≡◌, ◌≢◌, ◌%◌, ℕ, List, Ok, Some, refl, sym, ap, subst, ◌∙◌, inl, inr}
+use Rattle.std.specs.Option.{MatchOption}
 use Rattle.std.specs.FinMap as map
 use Rattle.bucket_records.specs.Records.{BucketMap}
 use Rattle.chain_store.specs.Chains.{read_of}
-use Rattle.bucket_store.specs.Buckets.{AreBuckets, AreRead, bucket_count, bucket_in, chain_at}
+use Rattle.bucket_store.specs.Buckets.{AreBuckets, AreRead, Stored, bucket_count, bucket_in}
 use Rattle.bucket_store.specs.Cache.{CacheMap, changed_to}
 use Rattle.bucket_store.specs.declared.cache.Cached.{Cached}
-use Rattle.bucket_store.proofs.Caches.{on_ok, true_is_some}
+use Rattle.bucket_store.specs.Transaction.{Content, IsOpenStore, bucket_at}
+use Rattle.bucket_store.proofs.Caches.{true_is_some}
+use Rattle.bucket_store.proofs.Frames.{sets_same, touches_after, touches_none}
 use Rattle.bucket_store.proofs.Once.{read_put}
 use Rattle.bucket_store.proofs.Openings.{bucket_in-chain_at, buckets_more, content_is, content_own, content_apart, keys_put, never_changed, open_more, put_there, some_of, there_own}
 use Rattle.bucket_store.proofs.Holding.{has_changed}
 use Rattle.bucket_store.proofs.Settings.{set_or_same}
-use Rattle.bucket_store.proofs.TypedLaws.{has_same}
 use Rattle.bucket_store.proofs.buckets.Buckets.put.Goals as goal
 
 pub invariant_of-self : goal.invariant_of-self
@@ -39,50 +41,53 @@ invariant_of-self g c =
       ];
     }
 
-pub returns-then-there-clause-put : goal.returns-then-there-clause-put
-returns-then-there-clause-put g c pages was values has =
-    let cache = c.args.self.now.cache in
+pub returns-then-there-clause-value : goal.returns-then-there-clause-value
+returns-then-there-clause-value g c =
+    let self = c.args.self.now in
+    let cache = self.cache in
     let n = c.chain_of-chain.result in
+    let at = bucket_at self c.args.which c.args.key in
     let found = there_own (map.get cache n) (true_is_some c.in-Ok.there (map.get cache n) c.in-Ok.ensures.there c.if-there.true) in
     let own : Cached = changed_to found.0 (map.insert found.0.bucket.values c.args.key c.args.value.now) in
-    let at = chain_at (bucket_count c.args.self.now.chains) c.args.which c.args.key in
+    let is = c.in-Ok.ensures.ok found.0 found.1 in
+    let put : (pages : List (List ℕ)) → IsOpenStore pages self → (values : BucketMap) → Content pages self at values
+    → MatchOption (map.get c.put.new.self at) (Stored pages self.chains at (map.insert values c.args.key c.args.value.now))
+    (λ it. it.bucket.values ≡ map.insert values c.args.key c.args.value.now) =
+    λ pages was values has.
     let here = ap (λ (k : ℕ). map.get cache k) (sym c.chain_of-chain.ensures.chain) ∙ found.1 in
-    let before = content_own pages c.args.self.now.chains (map.get cache at) at found.0 values here has in
-    let there = ap (λ (k : ℕ). map.get c.put.new.self k) (sym c.chain_of-chain.ensures.chain)
-    ∙ put_there cache c.put.new.self n own (c.in-Ok.ensures.ok found.0 found.1) in
-    content_is pages c.args.self.now.chains (map.get c.put.new.self at) at own (map.insert values c.args.key c.args.value.now) there
-    (ap (λ (m : BucketMap). map.insert m c.args.key c.args.value.now) before)
+    let before = content_own pages self.chains (map.get cache at) at found.0 values here has in
+    let there = ap (λ (k : ℕ). map.get c.put.new.self k) (sym c.chain_of-chain.ensures.chain) ∙ put_there cache c.put.new.self n own is in
+    content_is pages self.chains (map.get c.put.new.self at) at own (map.insert values c.args.key c.args.value.now) there
+    (ap (λ (m : BucketMap). map.insert m c.args.key c.args.value.now) before) in
+    let others : (pages : List (List ℕ)) → IsOpenStore pages self → (other : ℕ) (values : BucketMap) → other ≢ at → Content pages self other values
+    → MatchOption (map.get c.put.new.self other) (Stored pages self.chains other values) (λ it. it.bucket.values ≡ values) =
+    λ pages was other values apart has.
+    content_apart pages self.chains cache c.put.new.self n own other values is (λ same. apart (same ∙ c.chain_of-chain.ensures.chain)) has in
+    record {
+      answers = λ pages was. tt;
+      here = put;
+      others = others;
+      has = λ rest now has.
+          has_changed rest now self _ c.args.which c.args.key (Some c.args.value.now) c.requires.which c.requires.some refl refl has.whole
+          (λ pages was. open_more pages self.chains cache c.put.new.self n own is (λ same. absurd (never_changed same)) (was.origins n found.0 found.1) was)
+          put others has;
+      sound = λ rest now has. tt;
+    }
 
-pub returns-then-there-clause-others : goal.returns-then-there-clause-others
-returns-then-there-clause-others g c pages was other values apart has =
-    let cache = c.args.self.now.cache in
+pub returns-then-there-clause-touches : goal.returns-then-there-clause-touches
+returns-then-there-clause-touches g c =
+    let self = c.args.self.now in
     let n = c.chain_of-chain.result in
-    let found = there_own (map.get cache n) (true_is_some c.in-Ok.there (map.get cache n) c.in-Ok.ensures.there c.if-there.true) in
+    let at = bucket_at self c.args.which c.args.key in
+    let found = there_own (map.get self.cache n) (true_is_some c.in-Ok.there (map.get self.cache n) c.in-Ok.ensures.there c.if-there.true) in
     let own : Cached = changed_to found.0 (map.insert found.0.bucket.values c.args.key c.args.value.now) in
-    content_apart pages c.args.self.now.chains cache c.put.new.self n own other values (c.in-Ok.ensures.ok found.0 found.1)
-    (λ same. apart (same ∙ c.chain_of-chain.ensures.chain)) has
+    touches_after at self self _ _ (Ok tt) (touches_none at self at c.requires.going) refl
+    (λ pages was.
+    open_more pages self.chains self.cache c.put.new.self n own (c.in-Ok.ensures.ok found.0 found.1) (λ same. absurd (never_changed same))
+    (was.origins n found.0 found.1) was)
+    c.requires.going tt refl
 
-pub returns-then-there-clause-open : goal.returns-then-there-clause-open
-returns-then-there-clause-open g c pages was =
-    let cache = c.args.self.now.cache in
-    let n = c.chain_of-chain.result in
-    let found = there_own (map.get cache n) (true_is_some c.in-Ok.there (map.get cache n) c.in-Ok.ensures.there c.if-there.true) in
-    let own : Cached = changed_to found.0 (map.insert found.0.bucket.values c.args.key c.args.value.now) in
-    open_more pages c.args.self.now.chains cache c.put.new.self n own (c.in-Ok.ensures.ok found.0 found.1)
-    (λ same. absurd (never_changed same)) (was.origins n found.0 found.1) was
-
-pub returns-then-there-clause-has : goal.returns-then-there-clause-has
-returns-then-there-clause-has g c rest now has =
-    has_changed rest now c.args.self.now _ c.args.which c.args.key (Some c.args.value.now) c.requires.which c.requires.some refl refl has.whole
-    (returns-then-there-clause-open g c) (returns-then-there-clause-put g c) (returns-then-there-clause-others g c) has
-
-pub returns-else-there-clause-has : goal.returns-else-there-clause-has
-returns-else-there-clause-has g c =
-    let same = c.in-Ok.ensures.none c.if-there.false in
-    on_ok c.bring_and_set.result _ _ c.bring_and_set.ensures.has (λ leads rest now has.
-    leads rest now (has_same c.args.self.now _ refl same rest now has))
-
-pub returns-else-there-clause-sound : goal.returns-else-there-clause-sound
-returns-else-there-clause-sound g c rest now has =
-    let same = c.in-Ok.ensures.none c.if-there.false in
-    c.bring_and_set.ensures.sound rest now (has_same c.args.self.now _ refl same rest now has)
+pub returns-else-there-clause-value : goal.returns-else-there-clause-value
+returns-else-there-clause-value g c =
+    sets_same c.args.which c.args.key c.args.value.now c.args.self.now _ c.bring_and_set.new.self c.bring_and_set.result refl (c.in-Ok.ensures.none c.if-there.false)
+    c.bring_and_set.ensures.value

@@ -1,5 +1,9 @@
 -- The bucket of a key is there, and then the key is taken out of it.
+use Rattle.bucket_store.proofs.Frames.{takes_then}
 use Rattle.bucket_store.proofs.buckets.Buckets.remove.Goals as goal
 
-pub returns-in-Ok-clause-has : goal.returns-in-Ok-clause-has
-returns-in-Ok-clause-has g c rest now has = c.in-Ok.ensures.has rest now (c.in_default.ensures.has rest now has)
+pub returns-in-Ok-clause-value : goal.returns-in-Ok-clause-value
+returns-in-Ok-clause-value g c =
+    let done = c.in_default.ensures in
+    takes_then c.args.which c.args.key c.args.self.now c.bring.new.self c.unset.new.self done.touches done.brings c.in-Ok.was
+    c.in-Ok.ensures.taken c.in-Ok.ensures.others c.in-Ok.ensures.has

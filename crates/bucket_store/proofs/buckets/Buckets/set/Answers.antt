@@ -8,7 +8,6 @@ use Rattle.bucket_store.specs.Cache.{changed_to}
 use Rattle.bucket_store.specs.declared.cache.Cached.{Cached}
 use Rattle.bucket_store.proofs.Once.{read_put}
 use Rattle.bucket_store.proofs.Openings.{bucket_in-chain_at, buckets_more, content_is, content_own, content_apart, keys_put, never_changed, open_more, put_there, there_own}
-use Rattle.std.specs.FinMap as map
 use Rattle.std.proofs.Common.{Some, refl}
 use Rattle.bucket_store.proofs.Holding.{has_changed}
 use Rattle.bucket_store.proofs.buckets.Buckets.set.Goals as goal
@@ -54,16 +53,21 @@ returns-in-Ok-clause-others g c pages was other values apart has =
     content_apart pages c.args.self.now.chains cache c.put.new.self n own other values (c.in-Ok.ensures.ok found.0 found.1)
     (λ same. apart (same ∙ c.chain_of-n.ensures.chain)) has
 
-pub returns-in-Ok-clause-open : goal.returns-in-Ok-clause-open
-returns-in-Ok-clause-open g c pages was =
+pub returns-in-Ok-clause-memory : goal.returns-in-Ok-clause-memory
+returns-in-Ok-clause-memory g c =
     let cache = c.args.self.now.cache in
     let n = c.chain_of-n.result in
     let found = there_own (map.get cache n) (subst (λ (k : ℕ). IsSome (map.get cache k)) (sym c.chain_of-n.ensures.chain) c.requires.there) in
     let own : Cached = changed_to found.0 (map.insert found.0.bucket.values c.args.key c.args.value.now) in
-    open_more pages c.args.self.now.chains cache c.put.new.self n own (c.in-Ok.ensures.ok found.0 found.1)
-    (λ same. absurd (never_changed same)) (was.origins n found.0 found.1) was
+    record {
+      opens = λ pages was.
+          open_more pages c.args.self.now.chains cache c.put.new.self n own (c.in-Ok.ensures.ok found.0 found.1)
+          (λ same. absurd (never_changed same)) (was.origins n found.0 found.1) was;
+      chains = refl;
+      refused = c.requires.going;
+    }
 
 pub returns-in-Ok-clause-has : goal.returns-in-Ok-clause-has
 returns-in-Ok-clause-has g c rest now has =
     has_changed rest now c.args.self.now _ c.args.which c.args.key (Some c.args.value.now) c.requires.which c.requires.some refl refl has.whole
-    (returns-in-Ok-clause-open g c) (returns-in-Ok-clause-put g c) (returns-in-Ok-clause-others g c) has
+    (returns-in-Ok-clause-memory g c).opens (returns-in-Ok-clause-put g c) (returns-in-Ok-clause-others g c) has

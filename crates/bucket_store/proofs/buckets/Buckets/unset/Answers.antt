@@ -71,22 +71,26 @@ returns-in-Ok-clause-others g c pages was other values apart has =
       | inr same ↦ content_same pages c.args.self.now.chains cache c.remove.new.self other values same.1 has
     ]
 
-pub returns-in-Ok-clause-open : goal.returns-in-Ok-clause-open
-returns-in-Ok-clause-open g c pages was =
+pub returns-in-Ok-clause-memory : goal.returns-in-Ok-clause-memory
+returns-in-Ok-clause-memory g c =
     let cache = c.args.self.now.cache in
     let n = c.chain_of-n.result in
     let found = there_own (map.get cache n) (subst (λ (k : ℕ). IsSome (map.get cache k)) (sym c.chain_of-n.ensures.chain) c.requires.there) in
     let own : Cached = changed_to found.0 (map.remove found.0.bucket.values c.args.key) in
-    elim (took c.in-Ok.was cache c.remove.new.self n own (c.in-Ok.ensures.taken found.0 found.1) c.in-Ok.ensures.none) [
-      | inl is ↦ open_more pages c.args.self.now.chains cache c.remove.new.self n own is (λ same. absurd (never_changed same)) (was.origins n found.0 found.1) was
-      | inr same ↦ subst (λ (m : CacheMap). IsOpenWith pages c.args.self.now.chains m) (sym same.1) was
-    ]
+    record {
+      opens = λ pages was. elim (took c.in-Ok.was cache c.remove.new.self n own (c.in-Ok.ensures.taken found.0 found.1) c.in-Ok.ensures.none) [
+        | inl is ↦ open_more pages c.args.self.now.chains cache c.remove.new.self n own is (λ same. absurd (never_changed same)) (was.origins n found.0 found.1) was
+        | inr same ↦ subst (λ (m : CacheMap). IsOpenWith pages c.args.self.now.chains m) (sym same.1) was
+      ];
+      chains = refl;
+      refused = c.requires.going;
+    }
 
 pub returns-in-Ok-clause-has : goal.returns-in-Ok-clause-has
 returns-in-Ok-clause-has g c rest now has =
     let own = has_bucket rest now c.args.self.now c.args.which c.args.key c.requires.which c.requires.some has in (
       (returns-in-Ok-clause-taken g c has.pages has.opens own.0 own.1).0 ∙ ap (λ o. is_some o) own.2,
       has_changed rest now c.args.self.now _ c.args.which c.args.key None c.requires.which c.requires.some refl refl has.whole
-          (returns-in-Ok-clause-open g c) (λ pages was values content. (returns-in-Ok-clause-taken g c pages was values content).1)
+          (returns-in-Ok-clause-memory g c).opens (λ pages was values content. (returns-in-Ok-clause-taken g c pages was values content).1)
           (returns-in-Ok-clause-others g c) has,
     )

@@ -1,11 +1,16 @@
 -- All buckets are the map.
-use Rattle.std.proofs.Common.{◌≡◌, ◌<◌, ◌%◌, ℕ, Err, refl, ap, subst, ◌∙◌, arith, mod-lt}
+use Rattle.std.proofs.Common.{◌≡◌, ◌<◌, ◌%◌, ◌||◌, ℕ, Bool, Err, refl, ap, subst, ◌∙◌, arith, mod-lt}
 use Rattle.std.specs.FinMap as map
 use Rattle.std.specs.Ordering.{nat_cmp}
+use Rattle.page_journal.specs.Answers.{answers_disk_fault}
+use Rattle.page_journal.specs.Journal.{is_broken}
+use Rattle.chain_store.specs.Answers.{IsReadAnswer}
+use Rattle.chain_store.specs.Chains.{journal_of}
 use Rattle.chain_store.specs.declared.root.Root.{Root}
 use Rattle.bucket_records.specs.Records.{BucketMap}
 use Rattle.bucket_store.specs.Buckets.{bucket_count}
 use Rattle.bucket_store.specs.Transaction.{BringsBucket, chains_of}
+use Rattle.bucket_store.proofs.Frames.{alone_of, cause_of, keeps_read, leaves_read}
 use Rattle.bucket_store.proofs.Holding.{has_bucket, has_later, looks_same, looks_then}
 use Rattle.bucket_store.proofs.KeyReads.{keys_none}
 use Rattle.bucket_store.proofs.Sound.{sound_bring}
@@ -27,19 +32,19 @@ loop-bucket-preserved g c =
     let low : bucket < bucket_count (chains_of old) = omega (arith, c.loop-bucket-test.true, count) in
     let at = c.chain_of-n.ensures.chain in
     record {
-      going = done.refused;
-      still = still_then _ _ _ was.still done.broken;
-      same = looks_then old mid new was.same done.same;
-      stays = read_then old mid new was.stays done.stays;
+      going = done.touches.refused;
+      still = still_then _ _ _ was.still done.touches.broken;
+      same = looks_then old mid new was.same done.touches.same;
+      stays = read_then old mid new was.stays done.touches.stays;
       contents = contents_then old mid new was.contents done.contents;
-      reads = reads_bucket _ which bucket n old mid new at was.stays done.reads was.reads;
+      reads = reads_bucket _ which bucket n old mid new at was.stays done.touches.reads was.reads;
       there = λ pages opened.
-          there_more old mid which bucket n c.loop-bucket.whole c.add_bucket.new.whole was.stays was.contents low at done.had done.added pages opened (was.there pages opened);
+          there_more old mid which bucket n c.loop-bucket.whole c.add_bucket.new.whole was.stays was.contents low at done.brings.had done.added pages opened (was.there pages opened);
       some = λ pages opened.
-          some_more old mid which bucket n c.loop-bucket.whole c.add_bucket.new.whole was.stays was.contents low at done.had done.added pages opened
+          some_more old mid which bucket n c.loop-bucket.whole c.add_bucket.new.whole was.stays was.contents low at done.brings.had done.added pages opened
           (was.none pages opened) (was.some pages opened);
       none = λ pages opened.
-          none_more old mid which bucket n c.loop-bucket.whole c.add_bucket.new.whole was.stays was.contents low at done.had done.added pages opened (was.none pages opened);
+          none_more old mid which bucket n c.loop-bucket.whole c.add_bucket.new.whole was.stays was.contents low at done.brings.had done.added pages opened (was.none pages opened);
     }
 
 pub loop-bucket-init : goal.loop-bucket-init
@@ -57,38 +62,67 @@ loop-bucket-init g c =
       none = λ pages opened key high. ap (λ m. map.get m key) c.new-whole.ensures.empty ∙ map.get-empty nat_cmp key;
     }
 
-pub returns-in-Err-clause-answers : goal.returns-in-Err-clause-answers
-returns-in-Err-clause-answers g c pages opened =
+pub returns-in-Err-clause-whole : goal.returns-in-Err-clause-whole
+returns-in-Err-clause-whole g c =
     let was = c.loop-bucket.invariant in
+    let done = c.in-Err.ensures in
     let old = c.args.self.now in
+    let mid = c.loop-bucket.self in
+    let new = c.add_bucket.new.self in
+    let which = c.args.which in
+    let bucket = c.loop-bucket.bucket in
+    let n = c.chain_of-n.result in
     let count : c.root-count.result.buckets ≡ bucket_count (chains_of old) = ap (λ (r : Root). r.buckets) c.root-count.ensures in
-    let low : c.loop-bucket.bucket < bucket_count (chains_of old) = omega (arith, c.loop-bucket-test.true, count) in
-    brings_map BucketMap pages old c.loop-bucket.self c.args.which c.loop-bucket.bucket c.chain_of-n.result c.in-Err.fault was.contents
-    (place_low old c.loop-bucket.self c.args.which c.loop-bucket.bucket c.chain_of-n.result was.stays low c.chain_of-n.ensures.chain)
-    low (was.there pages opened) (c.in-Err.ensures.answers pages (was.contents.opens pages opened))
+    let low : bucket < bucket_count (chains_of old) = omega (arith, c.loop-bucket-test.true, count) in
+    record {
+      value = tt;
+      found = tt;
+      answers = λ pages opened.
+          brings_map BucketMap pages old mid which bucket n c.in-Err.fault was.contents (place_low old mid which bucket n was.stays low c.chain_of-n.ensures.chain)
+          low (was.there pages opened) (done.brings.answers pages (was.contents.opens pages opened));
+      sound = λ rest now has.
+          sound_of (Unit {0}) BucketMap c.in-Err.fault
+          (sound_bring {T = Unit {0}} (Err c.in-Err.fault) rest now mid which bucket c.requires.which (some_later old mid was.stays c.requires.some)
+          (λ pages opened. subst (λ (k : ℕ). BringsBucket {T = Unit {0}} pages mid k (Err c.in-Err.fault)) c.chain_of-n.ensures.chain (done.brings.answers pages opened))
+          done.touches.alone (has_later rest now old mid was.stays (was.still ∙ has.whole) was.contents.opens was.contents.later has));
+      keeps = keeps_read {T = BucketMap} old new (Err c.in-Err.fault) (read_then old mid new was.stays done.touches.stays)
+          (λ pages opened. done.touches.opens pages (was.contents.opens pages opened))
+          (done.touches.broken ∙ ap (λ (b : Bool). b || answers_disk_fault {T = Unit {0}} (Err c.in-Err.fault)) was.still)
+          (λ pages opened other values has. done.brings.keeps.content pages (was.contents.opens pages opened) other values (was.contents.later pages opened other values has));
+    }
 
-pub returns-in-Err-clause-sound : goal.returns-in-Err-clause-sound
-returns-in-Err-clause-sound g c rest now has =
+pub returns-in-Err-clause-touches : goal.returns-in-Err-clause-touches
+returns-in-Err-clause-touches g c =
+    let was = c.loop-bucket.invariant in
+    let done = c.in-Err.ensures.touches in
+    let old = c.args.self.now in
+    let mid = c.loop-bucket.self in
+    let new = c.add_bucket.new.self in
+    leaves_read {T = BucketMap} _ old new (Err c.in-Err.fault) (read_then old mid new was.stays done.stays)
+    (λ pages opened. done.opens pages (was.contents.opens pages opened))
+    (subst (λ (b : Bool). IsReadAnswer {T = BucketMap} b (Err c.in-Err.fault)) was.still
+    (alone_of (Unit {0}) BucketMap (is_broken (journal_of (chains_of mid))) c.in-Err.fault done.alone))
+    (done.broken ∙ ap (λ (b : Bool). b || answers_disk_fault {T = Unit {0}} (Err c.in-Err.fault)) was.still) tt done.refused
+    (cause_of (Unit {0}) BucketMap _ _ c.in-Err.fault
+    (record { later = omega (arith, was.same.later, done.cause.later); failed = λ failed. omega (arith, was.same.later, done.cause.failed failed) }))
+
+pub returns-clause-whole : goal.returns-clause-whole
+returns-clause-whole g c =
     let was = c.loop-bucket.invariant in
     let old = c.args.self.now in
     let mid = c.loop-bucket.self in
-    sound_of (Unit {0}) BucketMap c.in-Err.fault
-    (sound_bring {T = Unit {0}} (Err c.in-Err.fault) rest now mid c.args.which c.loop-bucket.bucket c.requires.which (some_later old mid was.stays c.requires.some)
-    (λ pages opened. subst (λ (n : ℕ). BringsBucket {T = Unit {0}} pages mid n (Err c.in-Err.fault)) c.chain_of-n.ensures.chain (c.in-Err.ensures.answers pages opened))
-    c.in-Err.ensures.alone
-    (has_later rest now old mid was.stays (was.still ∙ has.whole) was.contents.opens was.contents.later has))
-
-pub returns-clause-has : goal.returns-clause-has
-returns-clause-has g c rest now has =
-    let was = c.loop-bucket.invariant in
-    has_later rest now c.args.self.now c.loop-bucket.self was.stays (was.still ∙ has.whole) was.contents.opens was.contents.later has
-
-pub returns-clause-found : goal.returns-clause-found
-returns-clause-found g c rest now has =
-    let was = c.loop-bucket.invariant in
-    let old = c.args.self.now in
     let count : c.root-count.result.buckets ≡ bucket_count (chains_of old) = ap (λ (r : Root). r.buckets) c.root-count.ensures in
-    gathered_all c.loop-bucket.whole (now.maps c.args.which) (λ key.
-    let own = has_bucket rest now old c.args.which key c.requires.which c.requires.some has in
-    let low : key % bucket_count (chains_of old) < bucket_count (chains_of old) = mod-lt key c.requires.some in
-    was.some has.pages has.opens key own.0 own.1 (omega (arith, low, c.loop-bucket-test.false, count)) ∙ own.2)
+    let low : (key : ℕ) → key % bucket_count (chains_of old) < bucket_count (chains_of old) = λ key. mod-lt key c.requires.some in
+    record {
+      value = λ pages opened key values has. was.some pages opened key values has (omega (arith, low key, c.loop-bucket-test.false, count));
+      found = λ rest now has.
+          gathered_all c.loop-bucket.whole (now.maps c.args.which) (λ key.
+          let own = has_bucket rest now old c.args.which key c.requires.which c.requires.some has in
+          was.some has.pages has.opens key own.0 own.1 (omega (arith, low key, c.loop-bucket-test.false, count)) ∙ own.2);
+      answers = λ pages opened. tt;
+      sound = λ rest now has. tt;
+      keeps = record {
+        content = was.contents.later;
+        has = λ quiet rest now has. has_later rest now old mid was.stays (was.still ∙ has.whole) was.contents.opens was.contents.later has;
+      };
+    }

@@ -1,4 +1,4 @@
-use Rattle.std.proofs.Common.{◌⊎◌, ℕ, List, ap, subst}
+use Rattle.std.proofs.Common.{◌⊎◌, ℕ, List, ap, subst, rules}
 use Rattle.std.specs.Result.{OnOk}
 use Rattle.outside.specs.Disk.{Goes}
 use Rattle.page_journal.specs.Journal.{home_count, page_limit, view_of}
@@ -25,7 +25,7 @@ returns-clause-any_moment g c = λ root strings pages opened state.
     (view_of c.write-outcome.new.self.journal).crashes
     (c.write-outcome.ensures.any_moment root strings pages
     (opened_taken pages self.journal mid.journal self.kept mid.kept self.read self.texts self.written self.before taken.read mid.texts taken.written taken.before
-    t.journal t.kept t.texts opened t.was_read t.was_written t.was_before) state))
+    t.journal t.kept t.begun.texts opened t.was_read t.was_written t.was_before) state))
 
 pub returns-clause-done : goal.returns-clause-done
 returns-clause-done g c =
@@ -42,22 +42,28 @@ returns-clause-done g c =
     (λ done root strings pages opened state.
     let x = done root strings pages
     (opened_taken pages self.journal mid.journal self.kept mid.kept self.read self.texts self.written self.before taken.read mid.texts taken.written taken.before
-    t.journal t.kept t.texts opened t.was_read t.was_written t.was_before) state in
+    t.journal t.kept t.begun.texts opened t.was_read t.was_written t.was_before) state in
     (x.0, x.1, state_taken root taken.root self.root strings self.written taken.written t.was_root t.was_written x.0 x.2))
     c.write-outcome.ensures.done
 
-pub returns-clause-open : goal.returns-clause-open
-returns-clause-open g c = λ err fine pages opened.
-    let self = c.args.self.now in
-    let t = c.take-taken.ensures in
-    let mid = c.take-taken.new.self in
-    c.write-outcome.ensures.open err fine pages
-    (opened_anew pages self.journal mid.journal self.kept mid.kept self.read self.texts self.written self.before mid.read mid.texts mid.written mid.before
-    t.journal t.kept t.texts opened t.read t.before)
-
-pub returns-clause-looked : goal.returns-clause-looked
-returns-clause-looked g c = λ err fine.
-    subst (λ j. Looked j c.write-outcome.new.self.journal) c.take-taken.ensures.journal (c.write-outcome.ensures.looked err fine)
+pub returns-clause-commits : goal.returns-clause-commits
+returns-clause-commits g c = record {
+  alone = search rules;
+  opens = λ err fine pages opened.
+      let self = c.args.self.now in
+      let t = c.take-taken.ensures in
+      let mid = c.take-taken.new.self in
+      c.write-outcome.ensures.commits.opens err fine pages
+      (opened_anew pages self.journal mid.journal self.kept mid.kept self.read self.texts self.written self.before mid.read mid.texts mid.written mid.before
+      t.journal t.kept t.begun.texts opened t.begun.read t.begun.before);
+  looked = λ err fine.
+      subst (λ j. Looked j c.write-outcome.new.self.journal) c.take-taken.ensures.journal (c.write-outcome.ensures.commits.looked err fine);
+  kept = search rules;
+  same_disk = search rules;
+  limit = search rules;
+  broken = search rules;
+  cause = search rules;
+}
 
 pub returns-clause-reads : goal.returns-clause-reads
 returns-clause-reads g c =
@@ -79,7 +85,7 @@ returns-clause-needs g c = λ root strings pages opened state.
     (ap (λ j. page_limit j) t.journal)
     (c.write-outcome.ensures.needs root strings pages
     (opened_taken pages self.journal mid.journal self.kept mid.kept self.read self.texts self.written self.before taken.read mid.texts taken.written taken.before
-    t.journal t.kept t.texts opened t.was_read t.was_written t.was_before) state) in
+    t.journal t.kept t.begun.texts opened t.was_read t.was_written t.was_before) state) in
     needs_taken taken.root self.root strings self.written taken.written (home_count mid.journal) (home_count self.journal) (page_limit self.journal)
     (home_count after.journal) c.write-outcome.result t.was_root t.was_written (ap (λ j. home_count j) t.journal) fits
 
@@ -94,4 +100,4 @@ returns-clause-answers g c = λ pages opened.
     t.kept t.was_root t.was_written t.was_read t.was_before (ap (λ j. page_limit j) t.journal)
     (c.write-outcome.ensures.answers pages
     (opened_taken pages self.journal mid.journal self.kept mid.kept self.read self.texts self.written self.before taken.read mid.texts taken.written taken.before
-    t.journal t.kept t.texts opened t.was_read t.was_written t.was_before))
+    t.journal t.kept t.begun.texts opened t.was_read t.was_written t.was_before))

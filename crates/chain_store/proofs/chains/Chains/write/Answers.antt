@@ -1,4 +1,4 @@
-use Rattle.std.proofs.Common.{◌≡◌, ◌+◌, ◌*◌, ◌≤◌, ℕ, List, length, refl, sym, ap, subst, ◌∙◌, arith}
+use Rattle.std.proofs.Common.{◌≡◌, ◌+◌, ◌*◌, ◌≤◌, ℕ, List, length, refl, sym, ap, subst, ◌∙◌, arith, rules}
 use Rattle.page_journal.specs.Journal.{home_count, is_broken, page_limit, view_of}
 use Rattle.page_journal.specs.PageSet.{CanCommit, overwritten}
 use Rattle.page_journal.proofs.ReadCounts.{reads_quiet}
@@ -30,7 +30,7 @@ commit-requires g c =
     let taken = c.args.taken in
     let plan = c.in_ok-plan.plan in
     let is_home : c.pages-home.result ≡ home_count self.journal = c.pages-home.ensures.pages in
-    subst (λ (n : ℕ). CanCommit plan.set n plan.home) (is_home ∙ sym c.walk.ensures.looked.pages)
+    subst (λ (n : ℕ). CanCommit plan.set n plan.home) (is_home ∙ sym c.walk.ensures.looks.looked.pages)
     (can_of self.kept taken.root taken.written taken.read taken.before c.in_ok-plan.ensures.parts c.in-Ok.free.pages.items c.pages-home.result plan
     (subst (λ (l : List ℕ). IsPlan c.args.self.now.kept c.args.taken.root c.in_ok-plan.ensures.parts l c.pages-home.result c.in_ok-plan.plan) c.deref.ensures.value c.in_ok-plan.ensures.is) c.in_ok-plan.ensures.gathered.each
     (subst (λ (n : ℕ). AreKnown n taken.read) (sym is_home) c.requires.may.known)
@@ -49,9 +49,9 @@ returns-in-Err-commit-clause-any_moment g c = λ root strings pages opened state
     subst (λ (n : ℕ). IsPlan self.kept taken.root c.in_ok-plan.ensures.parts c.in-Ok.free.pages.items n plan) is_home (subst (λ (l : List ℕ). IsPlan c.args.self.now.kept c.args.taken.root c.in_ok-plan.ensures.parts l c.pages-home.result c.in_ok-plan.plan) c.deref.ensures.value c.in_ok-plan.ensures.is) in
     let free : HasPages (page_in pages) (length pages + 1) FREE (kept_first self.kept FREE) c.in-Ok.free.pages.items =
     subst (λ (n : ℕ). HasPages (page_in pages) (length pages + 1) FREE n c.in-Ok.free.pages.items) c.first.ensures.first (c.in-Ok.ensures.answers pages opened.rests).0 in
-    let now = rests_looked pages self.journal c.walk.new.journal opened.rests c.walk.ensures.looked in
+    let now = rests_looked pages self.journal c.walk.new.journal opened.rests c.walk.ensures.looks.looked in
     ran pages (overwritten plan.set plan.home pages) opened.rests.0.0 (view_of self.journal) (view_of c.walk.new.journal) (view_of c.commit.new.self)
-    root taken.root strings (changed strings taken.written) settled c.walk.ensures.looked.stays state
+    root taken.root strings (changed strings taken.written) settled c.walk.ensures.looks.looked.stays state
     (renewed_state pages self.kept taken.root taken.written taken.read taken.before c.in_ok-plan.ensures.parts c.in-Ok.free.pages.items plan
     root strings state opened.keeps opened.known opened.marked (pages_long pages opened.rests.0.0 (view_of self.journal) settled)
     c.requires.may.stored c.requires.may.gone c.requires.may.few c.requires.may.count c.in_ok-plan.ensures.gathered free is)
@@ -65,7 +65,7 @@ invariant_of-self-2 g c =
     let is_home : c.pages-home.result ≡ home_count self.journal = c.pages-home.ensures.pages in
     let buckets = ap (λ (root : Root). root.buckets) (plan_root self.kept taken.root c.in_ok-plan.ensures.parts c.in-Ok.free.pages.items c.pages-home.result plan (subst (λ (l : List ℕ). IsPlan c.args.self.now.kept c.args.taken.root c.in_ok-plan.ensures.parts l c.pages-home.result c.in_ok-plan.plan) c.deref.ensures.value c.in_ok-plan.ensures.is)) in
     record {
-      known = known_none self.read c.requires.read _;
+      known = known_none self.read c.requires.begun.read _;
       behind = subst (λ (n : ℕ). AreAllBehindRoot n plan.kept.directories.items) (sym c.in_default.ensures.pages)
           (behind_of self.kept taken.root taken.written taken.read taken.before c.in_ok-plan.ensures.parts c.in-Ok.free.pages.items c.pages-home.result plan
           (subst (λ (l : List ℕ). IsPlan c.args.self.now.kept c.args.taken.root c.in_ok-plan.ensures.parts l c.pages-home.result c.in_ok-plan.plan) c.deref.ensures.value c.in_ok-plan.ensures.is) c.in_ok-plan.ensures.gathered.each
@@ -73,8 +73,8 @@ invariant_of-self-2 g c =
           (subst (λ (n : ℕ). AreAllBehindRoot n self.kept.directories.items) (sym is_home) self.behind)
           c.pages-home.ensures.some
           (subst (λ (n : ℕ). AreBehindRoot n c.in-Ok.free.pages.items) (sym is_home) c.in-Ok.ensures.inside));
-      held = held_none self.read self.texts c.requires.read;
-      stored = stored_none self.read self.written taken.root.buckets c.requires.written;
+      held = held_none self.read self.texts c.requires.begun.read;
+      stored = stored_none self.read self.written taken.root.buckets c.requires.begun.written;
       gone = λ other. absurd (other buckets);
       few = c.requires.may.few;
       count = λ other. absurd (other buckets);
@@ -91,9 +91,9 @@ returns-clause-any_moment g c = λ root strings pages opened state.
     subst (λ (n : ℕ). IsPlan self.kept taken.root c.in_ok-plan.ensures.parts c.in-Ok.free.pages.items n plan) is_home (subst (λ (l : List ℕ). IsPlan c.args.self.now.kept c.args.taken.root c.in_ok-plan.ensures.parts l c.pages-home.result c.in_ok-plan.plan) c.deref.ensures.value c.in_ok-plan.ensures.is) in
     let free : HasPages (page_in pages) (length pages + 1) FREE (kept_first self.kept FREE) c.in-Ok.free.pages.items =
     subst (λ (n : ℕ). HasPages (page_in pages) (length pages + 1) FREE n c.in-Ok.free.pages.items) c.first.ensures.first (c.in-Ok.ensures.answers pages opened.rests).0 in
-    let now = rests_looked pages self.journal c.walk.new.journal opened.rests c.walk.ensures.looked in
+    let now = rests_looked pages self.journal c.walk.new.journal opened.rests c.walk.ensures.looks.looked in
     ran pages (overwritten plan.set plan.home pages) opened.rests.0.0 (view_of self.journal) (view_of c.walk.new.journal) (view_of c.commit.new.self)
-    root taken.root strings (changed strings taken.written) settled c.walk.ensures.looked.stays state
+    root taken.root strings (changed strings taken.written) settled c.walk.ensures.looks.looked.stays state
     (renewed_state pages self.kept taken.root taken.written taken.read taken.before c.in_ok-plan.ensures.parts c.in-Ok.free.pages.items plan
     root strings state opened.keeps opened.known opened.marked (pages_long pages opened.rests.0.0 (view_of self.journal) settled)
     c.requires.may.stored c.requires.may.gone c.requires.may.few c.requires.may.count c.in_ok-plan.ensures.gathered free is)
@@ -110,7 +110,7 @@ returns-clause-done g c = λ root strings pages opened state.
     subst (λ (n : ℕ). IsPlan self.kept taken.root c.in_ok-plan.ensures.parts c.in-Ok.free.pages.items n plan) is_home (subst (λ (l : List ℕ). IsPlan c.args.self.now.kept c.args.taken.root c.in_ok-plan.ensures.parts l c.pages-home.result c.in_ok-plan.plan) c.deref.ensures.value c.in_ok-plan.ensures.is) in
     let free : HasPages (page_in pages) (length pages + 1) FREE (kept_first self.kept FREE) c.in-Ok.free.pages.items =
     subst (λ (n : ℕ). HasPages (page_in pages) (length pages + 1) FREE n c.in-Ok.free.pages.items) c.first.ensures.first (c.in-Ok.ensures.answers pages opened.rests).0 in
-    let now = rests_looked pages self.journal c.walk.new.journal opened.rests c.walk.ensures.looked in
+    let now = rests_looked pages self.journal c.walk.new.journal opened.rests c.walk.ensures.looks.looked in
     let long = pages_long pages opened.rests.0.0 (view_of self.journal) settled in
     let may = c.requires.may in
     let new : List (List ℕ) = overwritten plan.set plan.home pages in
@@ -125,18 +125,36 @@ returns-clause-done g c = λ root strings pages opened state.
     root strings state opened.keeps opened.known opened.marked long may.stored may.gone may.few may.count c.in_ok-plan.ensures.gathered free is in (
       new,
       opened_new new c.commit.new.self plan.kept self.read self.texts self.written self.before (c.in_default.ensures.done pages now.0 now.1) (many ∙ sym c.in_default.ensures.pages) keeps
-          c.requires.read c.requires.texts c.requires.before,
+          c.requires.begun.read c.requires.begun.texts c.requires.begun.before,
       renewed,
     )
 
-pub returns-clause-is_root : goal.returns-clause-is_root
-returns-clause-is_root g c =
-    plan_root c.args.self.now.kept c.args.taken.root c.in_ok-plan.ensures.parts c.in-Ok.free.pages.items c.pages-home.result c.in_ok-plan.plan (subst (λ (l : List ℕ). IsPlan c.args.self.now.kept c.args.taken.root c.in_ok-plan.ensures.parts l c.pages-home.result c.in_ok-plan.plan) c.deref.ensures.value c.in_ok-plan.ensures.is)
+pub returns-clause-still : goal.returns-clause-still
+returns-clause-still g c = record {
+  read = search rules;
+  written = search rules;
+  before = search rules;
+  texts = search rules;
+  root = plan_root c.args.self.now.kept c.args.taken.root c.in_ok-plan.ensures.parts c.in-Ok.free.pages.items c.pages-home.result c.in_ok-plan.plan (subst (λ (l : List ℕ). IsPlan c.args.self.now.kept c.args.taken.root c.in_ok-plan.ensures.parts l c.pages-home.result c.in_ok-plan.plan) c.deref.ensures.value c.in_ok-plan.ensures.is);
+}
 
-pub returns-in-Err-commit-clause-looked : goal.returns-in-Err-commit-clause-looked
-returns-in-Err-commit-clause-looked g c = λ err fine.
-    looked_untouched c.args.self.now.journal c.walk.new.journal c.commit.new.self c.walk.ensures.looked (c.in-Err-commit.ensures.untouched refl fine)
-    c.in-Err-commit.ensures.pages c.in-Err-commit.ensures.limit c.in-Err-commit.ensures.same_disk
+pub returns-in-Err-commit-clause-commits : goal.returns-in-Err-commit-clause-commits
+returns-in-Err-commit-clause-commits g c = record {
+  alone = search rules;
+  opens = λ err fine pages opened.
+      let self = c.args.self.now in
+      open_looked pages self.journal c.commit.new.self self.kept self.read self.texts self.written self.before opened
+      (looked_untouched self.journal c.walk.new.journal c.commit.new.self c.walk.ensures.looks.looked (c.in-Err-commit.ensures.untouched refl fine)
+      c.in-Err-commit.ensures.pages c.in-Err-commit.ensures.keeps.limit c.in-Err-commit.ensures.keeps.same_disk);
+  looked = λ err fine.
+      looked_untouched c.args.self.now.journal c.walk.new.journal c.commit.new.self c.walk.ensures.looks.looked (c.in-Err-commit.ensures.untouched refl fine)
+      c.in-Err-commit.ensures.pages c.in-Err-commit.ensures.keeps.limit c.in-Err-commit.ensures.keeps.same_disk;
+  kept = search rules;
+  same_disk = search rules;
+  limit = search rules;
+  broken = search rules;
+  cause = search rules;
+}
 
 pub returns-clause-reads : goal.returns-clause-reads
 returns-clause-reads g c =
@@ -167,7 +185,7 @@ returns-clause-needs g c = λ root strings pages opened state.
     root strings state opened.keeps opened.known opened.marked (pages_long pages opened.rests.0.0 (view_of self.journal) settled)
     may.stored may.gone may.few may.count c.in_ok-plan.ensures.gathered free is) in (
       c.in_default.ensures.pages ∙ enough,
-      subst (λ (n : ℕ). n ≤ page_limit self.journal) enough (omega (arith, c.in_default.ensures.answers.1, c.walk.ensures.looked.limit)),
+      subst (λ (n : ℕ). n ≤ page_limit self.journal) enough (omega (arith, c.in_default.ensures.answers.1, c.walk.ensures.looks.looked.limit)),
     )
 
 pub returns-in-Err-commit-clause-needs : goal.returns-in-Err-commit-clause-needs
@@ -189,35 +207,46 @@ returns-in-Err-commit-clause-needs g c = λ root strings pages opened state.
     may.stored may.gone may.few may.count c.in_ok-plan.ensures.gathered free is) in
     fits_refused c.in-Err-commit.fault (is_broken c.walk.new.journal) (page_limit c.walk.new.journal) (page_limit self.journal) plan.home
     (home_count c.commit.new.self) (needed (home_count self.journal) taken.root.buckets (changed strings taken.written))
-    c.in-Err-commit.ensures.answers c.walk.ensures.looked.limit enough
+    c.in-Err-commit.ensures.answers c.walk.ensures.looks.looked.limit enough
 
 pub returns-in-Err-clause-any_moment : goal.returns-in-Err-clause-any_moment
 returns-in-Err-clause-any_moment g c = λ root strings pages opened state.
     let self = c.args.self.now in
     let taken = c.args.taken in
     idle pages opened.rests.0.0 (view_of self.journal) (view_of c.walk.new.journal) root strings (HasState taken.root (changed strings taken.written))
-    opened.rests.0.1 c.walk.ensures.looked.stays state
+    opened.rests.0.1 c.walk.ensures.looks.looked.stays state
 
-pub returns-in-Err-clause-open : goal.returns-in-Err-clause-open
-returns-in-Err-clause-open g c = λ err fine pages opened.
-    let self = c.args.self.now in
-    open_looked pages self.journal c.walk.new.journal self.kept self.read self.texts self.written self.before opened c.walk.ensures.looked
+pub returns-in-Err-clause-commits : goal.returns-in-Err-clause-commits
+returns-in-Err-clause-commits g c = record {
+  alone = search rules;
+  opens = λ err fine pages opened.
+      let self = c.args.self.now in
+      open_looked pages self.journal c.walk.new.journal self.kept self.read self.texts self.written self.before opened c.walk.ensures.looks.looked;
+  looked = search rules;
+  kept = search rules;
+  same_disk = search rules;
+  limit = search rules;
+  broken = search rules;
+  cause = search rules;
+}
 
 pub returns-in_err-plan-clause-any_moment : goal.returns-in_err-plan-clause-any_moment
 returns-in_err-plan-clause-any_moment g c = λ root strings pages opened state.
     let self = c.args.self.now in
     let taken = c.args.taken in
     idle pages opened.rests.0.0 (view_of self.journal) (view_of c.walk.new.journal) root strings (HasState taken.root (changed strings taken.written))
-    opened.rests.0.1 c.walk.ensures.looked.stays state
+    opened.rests.0.1 c.walk.ensures.looks.looked.stays state
 
-pub returns-in_err-plan-clause-open : goal.returns-in_err-plan-clause-open
-returns-in_err-plan-clause-open g c = λ err fine pages opened.
-    let self = c.args.self.now in
-    open_looked pages self.journal c.walk.new.journal self.kept self.read self.texts self.written self.before opened c.walk.ensures.looked
-
-pub returns-in-Err-commit-clause-open : goal.returns-in-Err-commit-clause-open
-returns-in-Err-commit-clause-open g c = λ err fine pages opened.
-    let self = c.args.self.now in
-    open_looked pages self.journal c.commit.new.self self.kept self.read self.texts self.written self.before opened
-    (looked_untouched self.journal c.walk.new.journal c.commit.new.self c.walk.ensures.looked (c.in-Err-commit.ensures.untouched refl fine)
-    c.in-Err-commit.ensures.pages c.in-Err-commit.ensures.limit c.in-Err-commit.ensures.same_disk)
+pub returns-in_err-plan-clause-commits : goal.returns-in_err-plan-clause-commits
+returns-in_err-plan-clause-commits g c = record {
+  alone = search rules;
+  opens = λ err fine pages opened.
+      let self = c.args.self.now in
+      open_looked pages self.journal c.walk.new.journal self.kept self.read self.texts self.written self.before opened c.walk.ensures.looks.looked;
+  looked = search rules;
+  kept = search rules;
+  same_disk = search rules;
+  limit = search rules;
+  broken = search rules;
+  cause = search rules;
+}

@@ -1,10 +1,10 @@
 -- What the call on the buckets answers is what the maps answer.
 use Rattle.std.proofs.Common.{ℕ, List, Ok, Err, refl}
 use Rattle.back_index.specs.Calls.{page_in}
-use Rattle.kept_maps.specs.Calls.{buckets_of, style_in}
-use Rattle.kept_maps.specs.Laws.{maps_stay, over_going, over_some}
-use Rattle.kept_maps.proofs.Findings.{list_allowed, list_found}
-use Rattle.kept_maps.proofs.Keeping.{bears_refused, fresh_answered, looks_answered, reads_answered, reads_stopped}
+use Rattle.kept_maps.specs.Calls.{buckets_of}
+use Rattle.kept_maps.specs.Laws.{over_going, over_some}
+use Rattle.kept_maps.proofs.Findings.{list_allowed, list_found, touched_index}
+use Rattle.kept_maps.proofs.Keeping.{looks_done, looks_stopped}
 use Rattle.kept_maps.proofs.kept.KeptMapsMapStore.along_way.Goals as goal
 
 pub listers-requires-clause-some : goal.listers-requires-clause-some
@@ -17,32 +17,16 @@ pub returns-in-Ok-clause-ids : goal.returns-in-Ok-clause-ids
 returns-in-Ok-clause-ids g c under maps had =
     list_found had.now 5 c.args.id maps.relations_of_ways had.kept.relations_of_ways c.in-Ok.ids (c.in-Ok.ensures.ids under.rest had.now had.has)
 
-pub returns-in-Ok-clause-holds : goal.returns-in-Ok-clause-holds
-returns-in-Ok-clause-holds g c under maps had =
-    maps_stay (style_in c.args.self.now).tables under maps (buckets_of c.args.self.now) c.listers.new.buckets (c.in-Ok.ensures.has refl) had
+pub returns-in-Ok-clause-looks : goal.returns-in-Ok-clause-looks
+returns-in-Ok-clause-looks g c =
+    looks_done c.args.self.now _ c.requires refl c.in-Ok.ids refl
+    (touched_index (buckets_of c.args.self.now) c.listers.new.buckets (Ok c.in-Ok.ids) c.in-Ok.ensures.touches.answers c.in-Ok.ensures.touches.reads)
+    (c.in-Ok.ensures.has refl)
 
-pub returns-in-Ok-clause-looked : goal.returns-in-Ok-clause-looked
-returns-in-Ok-clause-looked g c first later = record {
-  looks = looks_answered c.args.self.now c.listers.new.buckets (Ok c.in-Ok.ids) first later c.in-Ok.ensures.answers;
-  reads = λ going. reads_answered c.args.self.now c.listers.new.buckets first later c.requires c.in-Ok.ensures.reads;
-  same_style = later.same_style;
-}
-
-pub returns-in-Ok-clause-spent : goal.returns-in-Ok-clause-spent
-returns-in-Ok-clause-spent g c = fresh_answered c.args.self.now c.listers.new.buckets c.in-Ok.ids c.requires c.in-Ok.ensures.answers
-
-pub returns-in-Err-clause-looked : goal.returns-in-Err-clause-looked
-returns-in-Err-clause-looked g c first later = record {
-  looks = looks_answered c.args.self.now c.listers.new.buckets {T = List ℕ} (Err c.in-Err.fault) first later c.in-Err.ensures.answers;
-  reads = λ going. reads_stopped c.args.self.now c.listers.new.buckets {T = List ℕ} c.in-Err.fault c.in-Err.ensures.answers going;
-  same_style = later.same_style;
-}
-
-pub returns-in-Err-clause-refused : goal.returns-in-Err-clause-refused
-returns-in-Err-clause-refused g c first later =
-    bears_refused c.args.self.now c.listers.new.buckets {T = List ℕ} c.in-Err.fault c.requires c.in-Err.ensures.answers first later
-
-pub returns-in-Err-clause-allowed : goal.returns-in-Err-clause-allowed
-returns-in-Err-clause-allowed g c under maps had =
+pub returns-in-Err-clause-looks : goal.returns-in-Err-clause-looks
+returns-in-Err-clause-looks g c =
+    looks_stopped c.args.self.now _ c.requires refl (List ℕ) c.in-Err.fault refl
+    (touched_index (buckets_of c.args.self.now) c.listers.new.buckets {T = List ℕ} (Err c.in-Err.fault) c.in-Err.ensures.touches.answers tt)
+    (λ under maps had.
     list_allowed had.now 5 c.args.id maps.relations_of_ways had.kept.relations_of_ways (page_in (buckets_of c.args.self.now) 5 c.args.id) c.in-Err.fault
-    (c.in-Err.ensures.stops under.rest had.now had.has)
+    (c.in-Err.ensures.touches.stops under.rest had.now had.has))

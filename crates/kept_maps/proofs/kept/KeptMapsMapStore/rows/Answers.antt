@@ -1,44 +1,20 @@
 -- What the call on the buckets answers is what the maps answer.
-use Rattle.std.proofs.Common.{List, Option, Ok, Err}
+use Rattle.std.proofs.Common.{List, Option, refl}
 use Rattle.osm_base.specs.declared.values.row.TableRow.{TableRow}
-use Rattle.kept_maps.specs.Calls.{buckets_of, style_in}
-use Rattle.kept_maps.specs.Laws.{maps_stay, over_going, over_some}
-use Rattle.kept_maps.proofs.Keeping.{allowed_sound, bears_refused, fresh_answered, looks_answered, reads_answered, reads_stopped}
+use Rattle.kept_maps.proofs.Keeping.{allowed_sound, looks_done, looks_stopped, over_live}
 use Rattle.kept_maps.proofs.kept.KeptMapsMapStore.rows.Goals as goal
 
-pub find_rows-requires-clause-some : goal.find_rows-requires-clause-some
-find_rows-requires-clause-some g c = over_some c.args.self.now c.requires
-
-pub find_rows-requires-clause-going : goal.find_rows-requires-clause-going
-find_rows-requires-clause-going g c = over_going c.args.self.now c.requires
+pub find_rows-requires : goal.find_rows-requires
+find_rows-requires g c = record { live = over_live c.args.self.now c.requires }
 
 pub returns-in-Ok-clause-rows : goal.returns-in-Ok-clause-rows
-returns-in-Ok-clause-rows g c under maps had = c.in-Ok.ensures.found under maps had
+returns-in-Ok-clause-rows g c = c.in-Ok.ensures.finds.found
 
-pub returns-in-Ok-clause-holds : goal.returns-in-Ok-clause-holds
-returns-in-Ok-clause-holds g c under maps had =
-    maps_stay (style_in c.args.self.now).tables under maps (buckets_of c.args.self.now) c.find_rows.new.buckets c.in-Ok.ensures.has had
+pub returns-in-Ok-clause-looks : goal.returns-in-Ok-clause-looks
+returns-in-Ok-clause-looks g c =
+    looks_done c.args.self.now _ c.requires refl c.in-Ok.found refl c.in-Ok.ensures.asks.touched c.in-Ok.ensures.asks.has
 
-pub returns-in-Ok-clause-looked : goal.returns-in-Ok-clause-looked
-returns-in-Ok-clause-looked g c first later = record {
-  looks = looks_answered c.args.self.now c.find_rows.new.buckets (Ok c.in-Ok.found) first later c.in-Ok.ensures.answers;
-  reads = λ going. reads_answered c.args.self.now c.find_rows.new.buckets first later c.requires c.in-Ok.ensures.reads;
-  same_style = later.same_style;
-}
-
-pub returns-in-Ok-clause-spent : goal.returns-in-Ok-clause-spent
-returns-in-Ok-clause-spent g c = fresh_answered c.args.self.now c.find_rows.new.buckets c.in-Ok.found c.requires c.in-Ok.ensures.answers
-
-pub returns-in-Err-clause-looked : goal.returns-in-Err-clause-looked
-returns-in-Err-clause-looked g c first later = record {
-  looks = looks_answered c.args.self.now c.find_rows.new.buckets {T = Option (List TableRow)} (Err c.in-Err.fault) first later c.in-Err.ensures.answers;
-  reads = λ going. reads_stopped c.args.self.now c.find_rows.new.buckets {T = Option (List TableRow)} c.in-Err.fault c.in-Err.ensures.answers going;
-  same_style = later.same_style;
-}
-
-pub returns-in-Err-clause-refused : goal.returns-in-Err-clause-refused
-returns-in-Err-clause-refused g c first later =
-    bears_refused c.args.self.now c.find_rows.new.buckets {T = Option (List TableRow)} c.in-Err.fault c.requires c.in-Err.ensures.answers first later
-
-pub returns-in-Err-clause-allowed : goal.returns-in-Err-clause-allowed
-returns-in-Err-clause-allowed g c under maps had = allowed_sound (Option (List TableRow)) c.in-Err.fault (c.in-Err.ensures.sound under maps had)
+pub returns-in-Err-clause-looks : goal.returns-in-Err-clause-looks
+returns-in-Err-clause-looks g c =
+    looks_stopped c.args.self.now _ c.requires refl (Option (List TableRow)) c.in-Err.fault refl c.in-Err.ensures.asks.touched
+    (λ under maps had. allowed_sound (Option (List TableRow)) c.in-Err.fault (c.in-Err.ensures.finds.sound under maps had))

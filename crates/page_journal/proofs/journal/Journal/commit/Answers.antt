@@ -1,4 +1,4 @@
-use Rattle.std.proofs.Common.{ℕ, subst, arith}
+use Rattle.std.proofs.Common.{ℕ, subst, arith, rules}
 use Rattle.page_journal.specs.PageSet.{plain, overwritten}
 use Rattle.page_journal.specs.Written.{Makes}
 use Rattle.page_journal.proofs.Entries.{plain_long}
@@ -17,17 +17,15 @@ write_through-requires-clause-below g c =
     let same = plain_long c.set.inside.pages.entries in
     λ place inside. set_below es c.set.invariant.sorted c.args.set.now c.set.view_is c.args.self.now.pages c.args.home c.requires place (omega (arith, inside, same))
 
-pub write_through-requires-clause-some : goal.write_through-requires-clause-some
-write_through-requires-clause-some g c =
+pub write_through-requires-clause-fits : goal.write_through-requires-clause-fits
+write_through-requires-clause-fits g c =
     let es = plain c.set.inside.pages.entries in
     let same = plain_long c.set.inside.pages.entries in
-    omega (arith, set_some es c.set.invariant.sorted c.args.set.now c.set.view_is c.args.self.now.pages c.args.home c.requires, same)
-
-pub write_through-requires-clause-few : goal.write_through-requires-clause-few
-write_through-requires-clause-few g c =
-    let es = plain c.set.inside.pages.entries in
-    let same = plain_long c.set.inside.pages.entries in
-    omega (arith, set_few es c.set.invariant.sorted c.args.set.now c.set.view_is c.args.self.now.pages c.args.home c.requires, same)
+    record {
+      some = omega (arith, set_some es c.set.invariant.sorted c.args.set.now c.set.view_is c.args.self.now.pages c.args.home c.requires, same);
+      few = omega (arith, set_few es c.set.invariant.sorted c.args.set.now c.set.view_is c.args.self.now.pages c.args.home c.requires, same);
+      room = search rules;
+    }
 
 pub returns-in-Ok-clause-any_moment : goal.returns-in-Ok-clause-any_moment
 returns-in-Ok-clause-any_moment g c =

@@ -13,11 +13,41 @@ returns-else-count-lt-PAGE-clause-page g c = λ bytes told.
     page_read bytes c.as_mut_slice.result.now c.read_at.new.buf (c.args.page * 4096) c.in-Ok.count long many reads
     ∙ ap (λ (at : ℕ). page_from bytes at) at-is
 
-pub returns-then-count-lt-PAGE-clause-stays : goal.returns-then-count-lt-PAGE-clause-stays
-returns-then-count-lt-PAGE-clause-stays g c = stays_call _ _ c.read_at.ensures.content c.read_at.ensures.crash c.read_at.ensures.time
+pub returns-then-count-lt-PAGE-clause-looks : goal.returns-then-count-lt-PAGE-clause-looks
+returns-then-count-lt-PAGE-clause-looks g c = record {
+  looked = record {
+    stays = stays_call _ _ c.read_at.ensures.content c.read_at.ensures.crash c.read_at.ensures.time;
+    pages = search rules;
+    limit = search rules;
+    same_disk = search rules;
+  };
+  alone = search rules;
+  broken = search rules;
+  cause = search rules;
+}
 
-pub returns-else-count-lt-PAGE-clause-stays : goal.returns-else-count-lt-PAGE-clause-stays
-returns-else-count-lt-PAGE-clause-stays g c = stays_call _ _ c.read_at.ensures.content c.read_at.ensures.crash c.read_at.ensures.time
+pub returns-else-count-lt-PAGE-clause-looks : goal.returns-else-count-lt-PAGE-clause-looks
+returns-else-count-lt-PAGE-clause-looks g c = record {
+  looked = record {
+    stays = stays_call _ _ c.read_at.ensures.content c.read_at.ensures.crash c.read_at.ensures.time;
+    pages = search rules;
+    limit = search rules;
+    same_disk = search rules;
+  };
+  alone = search rules;
+  broken = search rules;
+  cause = search rules;
+}
 
-pub returns-in-Err-clause-stays : goal.returns-in-Err-clause-stays
-returns-in-Err-clause-stays g c = stays_call _ _ c.read_at.ensures.content c.read_at.ensures.crash c.read_at.ensures.time
+pub returns-in-Err-clause-looks : goal.returns-in-Err-clause-looks
+returns-in-Err-clause-looks g c = record {
+  looked = record {
+    stays = stays_call _ _ c.read_at.ensures.content c.read_at.ensures.crash c.read_at.ensures.time;
+    pages = search rules;
+    limit = search rules;
+    same_disk = search rules;
+  };
+  alone = search rules;
+  broken = search rules;
+  cause = search rules;
+}

@@ -38,7 +38,7 @@ returns-in-Err-clause-goes_on g c = rw c.in_flow.ensures.fault (λ old start don
     if_there start done 0 old files (handle_of c.args.store.now) output _ _ _ state head (sym c.old.ensures.is ∙ c.if-old.false) (ap (λ (style : Option StyleOf). is_some style) (sym c.in-Some.ensures.style))
     (λ held head. exports_found start done held 0 old files (handle_of c.args.store.now) output head c.args.table.now (Some number)
     (found_table start done held 0 old files (handle_of c.args.store.now) output head c.in-Some.style.now c.args.table.now (Some number) c.in-Some.ensures.style c.in-Some-number.ensures.table) _ _
-    (look_refused start done held 0 old files (handle_of c.args.store.now) (handle_of c.load_table.new.self) output head c.in-Err.fault c.in-Err.ensures.looks c.in-Err.ensures.alone (λ is. c.in-Err.ensures.broken (ap Err is)) (λ is. c.in-Err.ensures.not_old (ap Err is)) c.in-Err.ensures.cause
+    (look_refused start done held 0 old files (handle_of c.args.store.now) (handle_of c.load_table.new.self) output head c.in-Err.fault c.in-Err.ensures.looks c.in-Err.ensures.stays.alone (λ is. c.in-Err.ensures.stays.broken (ap Err is)) (λ is. c.in-Err.ensures.stays.not_old (ap Err is)) c.in-Err.ensures.stays.cause
     (writes_text (table_text held.style (tables held.style held.objects) number) ends))))
 
 pub returns-in-Ok-text-clause-goes_on : goal.returns-in-Ok-text-clause-goes_on
@@ -52,7 +52,7 @@ returns-in-Ok-text-clause-goes_on g c = λ old start done state head.
     c.as_bytes.ensures.value ∙ sym (encodes-chars c.as_str.result.now c.as_str.utf8) ∙ ap encode_utf8_all c.as_str.ensures.characters ∙ c.in-Ok-text.ensures.text in
     if_there start done 0 old files (handle_of c.args.store.now) output _ (result_err c.tell.result) (world files (view_of (handle_of c.load_table.new.self)) new) state head (sym c.old.ensures.is ∙ c.if-old.false) (ap (λ (style : Option StyleOf). is_some style) (sym c.in-Some.ensures.style))
     (λ held head.
-    let sure = look_done start done held 0 old files (handle_of c.args.store.now) (handle_of c.load_table.new.self) output head c.in-Ok.ensures.looks c.in-Ok.ensures.tells c.in-Ok.ensures.whole c.load_table.ensures.stays.same_limits c.in-Ok.ensures.cause in
+    let sure = look_done start done held 0 old files (handle_of c.args.store.now) (handle_of c.load_table.new.self) output head c.in-Ok.ensures.looks (c.in-Ok.ensures.stays.still tt) c.in-Ok.ensures.stays.whole c.load_table.ensures.stays.over.same_limits c.in-Ok.ensures.stays.cause in
     exports_found start done held 0 old files (handle_of c.args.store.now) output head c.args.table.now (Some number)
     (found_table start done held 0 old files (handle_of c.args.store.now) output head c.in-Some.style.now c.args.table.now (Some number) c.in-Some.ensures.style c.in-Some-number.ensures.table) _ _
     (look_ends start done held 0 old files (handle_of c.args.store.now) (handle_of c.load_table.new.self) output head (λ (own : List ℕ). own ≡ table_text held.style (tables held.style held.objects) number) sure text new c.tell.result
@@ -68,7 +68,7 @@ returns-clause-goes_on g c = λ old start done state head.
     let number = c.in-Some-number.number in
     if_there start done 0 old files (handle_of c.args.store.now) output _ _ _ state head (sym c.old.ensures.is ∙ c.if-old.false) (ap (λ (style : Option StyleOf). is_some style) (sym c.in-Some.ensures.style))
     (λ held head.
-    let sure = look_done start done held 0 old files (handle_of c.args.store.now) (handle_of c.load_table.new.self) output head c.in-Ok.ensures.looks c.in-Ok.ensures.tells c.in-Ok.ensures.whole c.load_table.ensures.stays.same_limits c.in-Ok.ensures.cause in
+    let sure = look_done start done held 0 old files (handle_of c.args.store.now) (handle_of c.load_table.new.self) output head c.in-Ok.ensures.looks (c.in-Ok.ensures.stays.still tt) c.in-Ok.ensures.stays.whole c.load_table.ensures.stays.over.same_limits c.in-Ok.ensures.stays.cause in
     exports_found start done held 0 old files (handle_of c.args.store.now) output head c.args.table.now (Some number)
     (found_table start done held 0 old files (handle_of c.args.store.now) output head c.in-Some.style.now c.args.table.now (Some number) c.in-Some.ensures.style c.in-Some-number.ensures.table) _ _
     (look_short start done held 0 old files (handle_of c.args.store.now) (handle_of c.load_table.new.self) output head (λ (own : List ℕ). own ≡ table_text held.style (tables held.style held.objects) number) ends sure))

@@ -23,11 +23,11 @@ returns-in-Ok-clause-goes_on g c = λ old start done state head.
       old_is = c.in-Ok.ensures.migrated.1;
       style_is = c.in-Ok.ensures.migrated.3 ∙ shows.style_is;
     })
-    c.in-Ok.ensures.whole c.migrate.ensures.stays.same_limits c.in-Ok.ensures.cause
+    c.in-Ok.ensures.stays.whole c.migrate.ensures.stays.over.same_limits c.in-Ok.ensures.stays.cause
     c.as_bytes-in-Ok.result.now (g.S.Sink.view c.tell-in-Ok.new.out) c.tell-in-Ok.result c.as_bytes-in-Ok.ensures.value c.tell-in-Ok.ensures.ok c.tell-in-Ok.ensures.err c.tell-in-Ok.ensures.alone c.tell-in-Ok.ensures.cause
 
 pub returns-in-Err-clause-goes_on : goal.returns-in-Err-clause-goes_on
 returns-in-Err-clause-goes_on g c = rw c.in_flow.ensures.fault (λ old start done state head.
     migrate_refused start done 0 old (g.I.Inputs.view c.args.inputs.now) (handle_of c.args.store.now) (g.S.Sink.view c.args.out.now) state head
-    (sym c.old.ensures.is ∙ c.if-not-old.false) (handle_of c.migrate.new.self) c.in-Err.fault c.in-Err.ensures.takes c.in-Err.ensures.alone
-    (λ is. c.in-Err.ensures.broken (ap Err is)) (λ is. c.in-Err.ensures.never (ap Err is)) c.in-Err.ensures.cause)
+    (sym c.old.ensures.is ∙ c.if-not-old.false) (handle_of c.migrate.new.self) c.in-Err.fault c.in-Err.ensures.takes c.in-Err.ensures.stays.alone
+    (λ is. c.in-Err.ensures.stays.broken (ap Err is)) (λ is. c.in-Err.ensures.never (ap Err is)) c.in-Err.ensures.stays.cause)

@@ -49,7 +49,7 @@ returns-in-Err-load_tables-clause-goes_on g c = rw c.in_flow.ensures.fault (λ o
     (λ queries. looks (writes_text (answers_text held.style (tables held.style held.objects) held.changes queries) ends)) (imported held) head read c.in-Ok.queries
     (subst (λ (style : StyleOf). IsRead (IsQueries style first) first c.in-Ok.queries files read) (same_style start done held first old files (handle_of c.args.store.now) output head c.in-Some.style.now c.in-Some.ensures.style) c.in-Ok.ensures.ok)
     _ _ (λ head. look_refused start (past first done) held (first + 1) old read (handle_of c.args.store.now) (handle_of c.load_tables.new.self) output head c.in-Err-load_tables.fault
-    c.in-Err-load_tables.ensures.looks c.in-Err-load_tables.ensures.alone (λ is. c.in-Err-load_tables.ensures.broken (ap Err is)) (λ is. c.in-Err-load_tables.ensures.not_old (ap Err is)) c.in-Err-load_tables.ensures.cause
+    c.in-Err-load_tables.ensures.looks c.in-Err-load_tables.ensures.stays.alone (λ is. c.in-Err-load_tables.ensures.stays.broken (ap Err is)) (λ is. c.in-Err-load_tables.ensures.stays.not_old (ap Err is)) c.in-Err-load_tables.ensures.stays.cause
     (writes_text (answers_text held.style (tables held.style held.objects) held.changes c.in-Ok.queries) ends))))
 
 pub returns-in-Ok-text-clause-goes_on : goal.returns-in-Ok-text-clause-goes_on
@@ -65,7 +65,7 @@ returns-in-Ok-text-clause-goes_on g c = λ old start done state head.
     (λ queries. looks (writes_text (answers_text held.style (tables held.style held.objects) held.changes queries) ends)) (imported held) head read c.in-Ok.queries
     (subst (λ (style : StyleOf). IsRead (IsQueries style first) first c.in-Ok.queries files read) (same_style start done held first old files (handle_of c.args.store.now) output head c.in-Some.style.now c.in-Some.ensures.style) c.in-Ok.ensures.ok)
     (result_err c.tell.result) (world read (view_of (handle_of c.load_tables.new.self)) new) (λ head.
-    let sure = look_done start (past first done) held (first + 1) old read (handle_of c.args.store.now) (handle_of c.load_tables.new.self) output head c.in-Ok-load_tables.ensures.looks c.in-Ok-load_tables.ensures.tells c.in-Ok-load_tables.ensures.whole c.load_tables.ensures.stays.same_limits c.in-Ok-load_tables.ensures.cause in
+    let sure = look_done start (past first done) held (first + 1) old read (handle_of c.args.store.now) (handle_of c.load_tables.new.self) output head c.in-Ok-load_tables.ensures.looks (c.in-Ok-load_tables.ensures.stays.still tt) c.in-Ok-load_tables.ensures.stays.whole c.load_tables.ensures.stays.over.same_limits c.in-Ok-load_tables.ensures.stays.cause in
     let shown = shows_here done.store done.cut (imported held) (handle_of c.load_tables.new.self) sure.here in
     look_ends start (past first done) held (first + 1) old read (handle_of c.args.store.now) (handle_of c.load_tables.new.self) output head
     (λ (own : List ℕ). own ≡ answers_text held.style (tables held.style held.objects) held.changes c.in-Ok.queries) sure text new c.tell.result
@@ -87,7 +87,7 @@ returns-clause-goes_on g c = λ old start done state head.
     (λ queries. looks (writes_text (answers_text held.style (tables held.style held.objects) held.changes queries) ends)) (imported held) head read c.in-Ok.queries
     (subst (λ (style : StyleOf). IsRead (IsQueries style first) first c.in-Ok.queries files read) (same_style start done held first old files (handle_of c.args.store.now) output head c.in-Some.style.now c.in-Some.ensures.style) c.in-Ok.ensures.ok)
     _ _ (λ head.
-    let sure = look_done start (past first done) held (first + 1) old read (handle_of c.args.store.now) (handle_of c.load_tables.new.self) output head c.in-Ok-load_tables.ensures.looks c.in-Ok-load_tables.ensures.tells c.in-Ok-load_tables.ensures.whole c.load_tables.ensures.stays.same_limits c.in-Ok-load_tables.ensures.cause in
+    let sure = look_done start (past first done) held (first + 1) old read (handle_of c.args.store.now) (handle_of c.load_tables.new.self) output head c.in-Ok-load_tables.ensures.looks (c.in-Ok-load_tables.ensures.stays.still tt) c.in-Ok-load_tables.ensures.stays.whole c.load_tables.ensures.stays.over.same_limits c.in-Ok-load_tables.ensures.stays.cause in
     look_short start (past first done) held (first + 1) old read (handle_of c.args.store.now) (handle_of c.load_tables.new.self) output head
     (λ (own : List ℕ). own ≡ answers_text held.style (tables held.style held.objects) held.changes c.in-Ok.queries) ends sure))
 

@@ -90,7 +90,7 @@ returns-in-Err-load_tables-clause-goes_on g c = rw c.in_flow.ensures.fault (λ o
     (subst (λ (style : StyleOf). IsRead (IsQueries style (first + 1)) (first + 1) c.in-Ok-read.queries bounds_read read)
     (same_style start (past first done) held (first + 1) old bounds_read store output head c.in-Some.style.now c.in-Some.ensures.style) c.in-Ok-read.ensures.ok) _ _
     (λ head. look_refused start (past (first + 1) (past first done)) held (first + 1 + 1) old read store (handle_of c.load_tables.new.self) output head c.in-Err-load_tables.fault
-    c.in-Err-load_tables.ensures.looks c.in-Err-load_tables.ensures.alone (λ is. c.in-Err-load_tables.ensures.broken (ap Err is)) (λ is. c.in-Err-load_tables.ensures.not_old (ap Err is)) c.in-Err-load_tables.ensures.cause
+    c.in-Err-load_tables.ensures.looks c.in-Err-load_tables.ensures.stays.alone (λ is. c.in-Err-load_tables.ensures.stays.broken (ap Err is)) (λ is. c.in-Err-load_tables.ensures.stays.not_old (ap Err is)) c.in-Err-load_tables.ensures.stays.cause
     (serves c.in-Ok.bounds c.in-Ok-read.queries c.args.readers [] held (first + 2) count)))))
 
 pub returns-clause-goes_on : goal.returns-clause-goes_on
@@ -114,7 +114,7 @@ returns-clause-goes_on g c = λ old start done state head.
     (same_style start (past first done) held (first + 1) old bounds_read store output head c.in-Some.style.now c.in-Some.ensures.style) c.in-Ok-read.ensures.ok) fault new
     (λ head.
     let both = past (first + 1) (past first done) in
-    let sure = look_done start both held (first + 1 + 1) old read store loaded output head c.in-Ok-load_tables.ensures.looks c.in-Ok-load_tables.ensures.tells c.in-Ok-load_tables.ensures.whole c.load_tables.ensures.stays.same_limits c.in-Ok-load_tables.ensures.cause in
+    let sure = look_done start both held (first + 1 + 1) old read store loaded output head c.in-Ok-load_tables.ensures.looks (c.in-Ok-load_tables.ensures.stays.still tt) c.in-Ok-load_tables.ensures.stays.whole c.load_tables.ensures.stays.over.same_limits c.in-Ok-load_tables.ensures.stays.cause in
     let here : first + 1 + 1 ≡ first + 2 = omega arith in
     let further = subst (λ (next : ℕ). IsHead start both (imported held) next old read loaded output) here sure in
     let whole = serves c.in-Ok.bounds c.in-Ok-read.queries c.args.readers [] held (first + 2) count in

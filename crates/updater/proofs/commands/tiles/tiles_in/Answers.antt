@@ -22,7 +22,7 @@ returns-in-Err-clause-goes_on g c = rw c.in_flow.ensures.fault (λ old start don
     let files = g.I.Inputs.view c.args.inputs.now in
     let output = g.S.Sink.view c.args.out.now in
     if_there start done 0 old files (handle_of c.args.store.now) output _ _ _ state head (sym c.old.ensures.is ∙ c.if-old.false) (sym c.imported.ensures.is ∙ c.if-not-imported.false)
-    (λ held head. look_refused start done held 0 old files (handle_of c.args.store.now) (handle_of c.due.new.self) output head c.in-Err.fault c.in-Err.ensures.looks c.in-Err.ensures.alone (λ is. c.in-Err.ensures.broken (ap Err is)) (λ is. c.in-Err.ensures.not_old (ap Err is)) c.in-Err.ensures.cause
+    (λ held head. look_refused start done held 0 old files (handle_of c.args.store.now) (handle_of c.due.new.self) output head c.in-Err.fault c.in-Err.ensures.looks c.in-Err.ensures.stays.alone (λ is. c.in-Err.ensures.stays.broken (ap Err is)) (λ is. c.in-Err.ensures.stays.not_old (ap Err is)) c.in-Err.ensures.stays.cause
     (writes (IsTileText held.due c.args.least) (clears c.args.clear))))
 
 pub returns-in-Err-tiles_text-clause-goes_on : goal.returns-in-Err-tiles_text-clause-goes_on
@@ -31,7 +31,7 @@ returns-in-Err-tiles_text-clause-goes_on g c = λ old start done state head.
     let output = g.S.Sink.view c.args.out.now in
     if_there start done 0 old files (handle_of c.args.store.now) output _ _ _ state head (sym c.old.ensures.is ∙ c.if-old.false) (sym c.imported.ensures.is ∙ c.if-not-imported.false)
     (λ held head.
-    let sure = look_done start done held 0 old files (handle_of c.args.store.now) (handle_of c.due.new.self) output head c.in-Ok.ensures.looks c.in-Ok.ensures.tells c.in-Ok.ensures.whole c.due.ensures.stays.same_limits c.in-Ok.ensures.cause in
+    let sure = look_done start done held 0 old files (handle_of c.args.store.now) (handle_of c.due.new.self) output head c.in-Ok.ensures.looks (c.in-Ok.ensures.stays.still tt) c.in-Ok.ensures.stays.whole c.due.ensures.stays.over.same_limits c.in-Ok.ensures.stays.cause in
     look_short start done held 0 old files (handle_of c.args.store.now) (handle_of c.due.new.self) output head (IsTileText held.due c.args.least) (clears c.args.clear) sure)
 
 pub returns-in-Err-tell-clause-goes_on : goal.returns-in-Err-tell-clause-goes_on
@@ -40,7 +40,7 @@ returns-in-Err-tell-clause-goes_on g c = λ old start done state head.
     let output = g.S.Sink.view c.args.out.now in
     if_there start done 0 old files (handle_of c.args.store.now) output _ _ _ state head (sym c.old.ensures.is ∙ c.if-old.false) (sym c.imported.ensures.is ∙ c.if-not-imported.false)
     (λ held head.
-    let sure = look_done start done held 0 old files (handle_of c.args.store.now) (handle_of c.due.new.self) output head c.in-Ok.ensures.looks c.in-Ok.ensures.tells c.in-Ok.ensures.whole c.due.ensures.stays.same_limits c.in-Ok.ensures.cause in
+    let sure = look_done start done held 0 old files (handle_of c.args.store.now) (handle_of c.due.new.self) output head c.in-Ok.ensures.looks (c.in-Ok.ensures.stays.still tt) c.in-Ok.ensures.stays.whole c.due.ensures.stays.over.same_limits c.in-Ok.ensures.stays.cause in
     look_untold start done held 0 old files (handle_of c.args.store.now) (handle_of c.due.new.self) output head (IsTileText held.due c.args.least) (clears c.args.clear) sure
     c.deref.result.now (g.S.Sink.view c.tell.new.out) c.in-Err-tell.fault
     (λ read certain. (c.in-Ok.due, c.in-Ok.ensures.due held (held_certain done held (handle_of c.args.store.now) head.here certain), c.deref.ensures.value ∙ c.in-Ok-tiles_text.ensures.text))
@@ -54,7 +54,7 @@ returns-then-not-clear-clause-goes_on g c = rw c.if-not-clear.true (λ old start
     let new = g.S.Sink.view c.tell.new.out in
     if_there start done 0 old files (handle_of c.args.store.now) output _ None (world files (view_of (handle_of c.due.new.self)) new) state head (sym c.old.ensures.is ∙ c.if-old.false) (sym c.imported.ensures.is ∙ c.if-not-imported.false)
     (λ held head.
-    let sure = look_done start done held 0 old files (handle_of c.args.store.now) (handle_of c.due.new.self) output head c.in-Ok.ensures.looks c.in-Ok.ensures.tells c.in-Ok.ensures.whole c.due.ensures.stays.same_limits c.in-Ok.ensures.cause in
+    let sure = look_done start done held 0 old files (handle_of c.args.store.now) (handle_of c.due.new.self) output head c.in-Ok.ensures.looks (c.in-Ok.ensures.stays.still tt) c.in-Ok.ensures.stays.whole c.due.ensures.stays.over.same_limits c.in-Ok.ensures.stays.cause in
     look_told start done held 0 old files (handle_of c.args.store.now) (handle_of c.due.new.self) output head (IsTileText held.due c.args.least) (clears false) sure text new
     (λ read certain. (c.in-Ok.due, c.in-Ok.ensures.due held (held_certain done held (handle_of c.args.store.now) head.here certain), c.deref.ensures.value ∙ c.in-Ok-tiles_text.ensures.text))
     c.in_default.ensures.ok c.tell.ensures.cause.later None (world files (view_of (handle_of c.due.new.self)) new)
@@ -68,12 +68,12 @@ returns-in-Ok-clear_due-clause-goes_on g c = rw c.if-not-clear.false (λ old sta
     let new = g.S.Sink.view c.tell.new.out in
     if_there start done 0 old files (handle_of c.args.store.now) output _ None (world files (view_of (handle_of c.clear_due.new.self)) new) state head (sym c.old.ensures.is ∙ c.if-old.false) (sym c.imported.ensures.is ∙ c.if-not-imported.false)
     (λ held head.
-    let sure = look_done start done held 0 old files (handle_of c.args.store.now) (handle_of c.due.new.self) output head c.in-Ok.ensures.looks c.in-Ok.ensures.tells c.in-Ok.ensures.whole c.due.ensures.stays.same_limits c.in-Ok.ensures.cause in
+    let sure = look_done start done held 0 old files (handle_of c.args.store.now) (handle_of c.due.new.self) output head c.in-Ok.ensures.looks (c.in-Ok.ensures.stays.still tt) c.in-Ok.ensures.stays.whole c.due.ensures.stays.over.same_limits c.in-Ok.ensures.stays.cause in
     look_told start done held 0 old files (handle_of c.args.store.now) (handle_of c.due.new.self) output head (IsTileText held.due c.args.least) (clears true) sure text new
     (λ read certain. (c.in-Ok.due, c.in-Ok.ensures.due held (held_certain done held (handle_of c.args.store.now) head.here certain), c.deref.ensures.value ∙ c.in-Ok-tiles_text.ensures.text))
     c.in_default.ensures.ok c.tell.ensures.cause.later None (world files (view_of (handle_of c.clear_due.new.self)) new)
     (λ head. clear_done start (plus text done) held 0 old files (handle_of c.due.new.self) (handle_of c.clear_due.new.self) new head
-    c.in-Ok-clear_due.ensures.takes c.in-Ok-clear_due.ensures.tells c.in-Ok-clear_due.ensures.whole c.clear_due.ensures.stays.same_limits c.in-Ok-clear_due.ensures.cause)))
+    c.in-Ok-clear_due.ensures.takes (c.in-Ok-clear_due.ensures.stays.still tt) c.in-Ok-clear_due.ensures.stays.whole c.clear_due.ensures.stays.over.same_limits c.in-Ok-clear_due.ensures.stays.cause)))
 
 pub returns-clause-goes_on : goal.returns-clause-goes_on
 returns-clause-goes_on g c = rw c.in_flow-in-Err-clear_due.ensures.fault (rw c.if-not-clear.false (λ old start done state head.
@@ -83,9 +83,9 @@ returns-clause-goes_on g c = rw c.in_flow-in-Err-clear_due.ensures.fault (rw c.i
     let new = g.S.Sink.view c.tell.new.out in
     if_there start done 0 old files (handle_of c.args.store.now) output _ _ (world files (view_of (handle_of c.clear_due.new.self)) new) state head (sym c.old.ensures.is ∙ c.if-old.false) (sym c.imported.ensures.is ∙ c.if-not-imported.false)
     (λ held head.
-    let sure = look_done start done held 0 old files (handle_of c.args.store.now) (handle_of c.due.new.self) output head c.in-Ok.ensures.looks c.in-Ok.ensures.tells c.in-Ok.ensures.whole c.due.ensures.stays.same_limits c.in-Ok.ensures.cause in
+    let sure = look_done start done held 0 old files (handle_of c.args.store.now) (handle_of c.due.new.self) output head c.in-Ok.ensures.looks (c.in-Ok.ensures.stays.still tt) c.in-Ok.ensures.stays.whole c.due.ensures.stays.over.same_limits c.in-Ok.ensures.stays.cause in
     look_told start done held 0 old files (handle_of c.args.store.now) (handle_of c.due.new.self) output head (IsTileText held.due c.args.least) (clears true) sure text new
     (λ read certain. (c.in-Ok.due, c.in-Ok.ensures.due held (held_certain done held (handle_of c.args.store.now) head.here certain), c.deref.ensures.value ∙ c.in-Ok-tiles_text.ensures.text))
     c.in_default.ensures.ok c.tell.ensures.cause.later _ (world files (view_of (handle_of c.clear_due.new.self)) new)
     (λ head. clear_refused start (plus text done) held 0 old files (handle_of c.due.new.self) (handle_of c.clear_due.new.self) new head
-    c.in-Err-clear_due.fault c.in-Err-clear_due.ensures.takes c.in-Err-clear_due.ensures.alone (λ is. c.in-Err-clear_due.ensures.broken (ap Err is)) (λ is. c.in-Err-clear_due.ensures.not_old (ap Err is)) c.in-Err-clear_due.ensures.cause))))
+    c.in-Err-clear_due.fault c.in-Err-clear_due.ensures.takes c.in-Err-clear_due.ensures.stays.alone (λ is. c.in-Err-clear_due.ensures.stays.broken (ap Err is)) (λ is. c.in-Err-clear_due.ensures.stays.not_old (ap Err is)) c.in-Err-clear_due.ensures.stays.cause))))
