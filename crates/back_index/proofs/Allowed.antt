@@ -1,5 +1,6 @@
 -- A store that stands for something refuses no question to its index, and no change of it, but for the disk or for want of memory.
-use Rattle.std.proofs.Common.{◌≡◌, inl, inr, ℕ, List, [], ◌∷◌, ◌++◌, append_assoc, length, Option, Some, None, refl, sym, ap, subst, ◌∙◌, arith}
+use Rattle.std.proofs.Common.{◌≡◌, inl, inr, ℕ, List, [], ◌∷◌, ◌++◌, append_assoc, length, Option, Some, None, refl, sym, ap, subst, ◌∙◌}
+use Rattle.std.proofs.Common.{arith}
 use Rattle.std.specs.List.{AllByRecursion}
 use Rattle.std.specs.Option.{IsSome}
 use Rattle.std.specs.FinMap as finite
@@ -42,8 +43,10 @@ front_one [] (id ∷ others) rest behind long are all same = absurd (omega (arit
 front_one (id ∷ ids) [] rest behind long are all same = absurd (omega (arith, long))
 front_one (id ∷ ids) (next ∷ others) rest behind long are all same =
     let eights : length (number_bytes id) ≡ length (number_bytes next) = length-number_bytes id ∙ sym (length-number_bytes next) in
-    let turned = sym (append_assoc (number_bytes id) (ids_bytes ids) rest) ∙ same ∙ append_assoc (number_bytes next) (ids_bytes others) behind in
-    let first = number_same id next are.0 all.0 (front_same (number_bytes id) (number_bytes next) (ids_bytes ids ++ rest) (ids_bytes others ++ behind) eights turned) in
+    let turned = sym (append_assoc (number_bytes id) (ids_bytes ids) rest) ∙ same
+    ∙ append_assoc (number_bytes next) (ids_bytes others) behind in
+    let first = number_same id next are.0 all.0
+    (front_same (number_bytes id) (number_bytes next) (ids_bytes ids ++ rest) (ids_bytes others ++ behind) eights turned) in
     let later = front_one ids others rest behind (omega (arith, long)) are.1 all.1
     (behind_same (number_bytes id) (number_bytes next) (ids_bytes ids ++ rest) (ids_bytes others ++ behind) eights turned) in
     (λ i. first i ∷ later.0 i, later.1)
@@ -59,9 +62,11 @@ list_front bytes own rest begins = record {
       let same = sym (append_assoc (number_bytes (length other)) (ids_bytes other) behind) ∙ sym again.bytes_are ∙ begins.bytes_are
       ∙ append_assoc (number_bytes (length own)) (ids_bytes own) rest in
       let long = number_same (length other) (length own) again.is.few begins.is.few
-      (front_same (number_bytes (length other)) (number_bytes (length own)) (ids_bytes other ++ behind) (ids_bytes own ++ rest) eights same) in
+      (front_same (number_bytes (length other)) (number_bytes (length own)) (ids_bytes other ++ behind)
+      (ids_bytes own ++ rest) eights same) in
       front_one other own behind rest long again.is.each begins.is.each
-      (behind_same (number_bytes (length other)) (number_bytes (length own)) (ids_bytes other ++ behind) (ids_bytes own ++ rest) eights same);
+      (behind_same (number_bytes (length other)) (number_bytes (length own)) (ids_bytes other ++ behind)
+      (ids_bytes own ++ rest) eights same);
 }
 
 -- a way that is kept has its nodes in front
@@ -75,11 +80,14 @@ way_nodes (Some bytes) (Some (Relation members tags)) some is = absurd is.0
 way_nodes (Some bytes) (Some (Way nodes tags)) some is =
     (nodes, (tags_bytes tags, list_front bytes nodes (tags_bytes tags) (record { is = is.0.0.few; bytes_are = is.1 })))
 
-unread_held : (now : Image) (which id : ℕ) (listing : ListingOf) → HoldsMap ids_bytes AreListed (now.maps which) listing → IsUnread (finite.get (now.maps which) id) → ⊥
+unread_held : (now : Image) (which id : ℕ) (listing : ListingOf) → HoldsMap ids_bytes AreListed (now.maps which) listing
+    → IsUnread (finite.get (now.maps which) id) → ⊥
 unread_held now which id listing holds unread =
-    unread_not (finite.get (now.maps which) id) (listers listing id) unread (decoded_reads (finite.get (now.maps which) id) (finite.get listing id) (holds id))
+    unread_not (finite.get (now.maps which) id) (listers listing id) unread
+    (decoded_reads (finite.get (now.maps which) id) (finite.get listing id) (holds id))
 
-module _ {D : Type 0} {g : Ghosts D} (buckets : Buckets D g) (now : Image) (maps : Maps) (index : HoldsIndex now maps) (holds : HoldsWays now maps) (are : WaysAreThere maps) where
+module _ {D : Type 0} {g : Ghosts D} (buckets : Buckets D g) (now : Image) (maps : Maps) (index : HoldsIndex now maps)
+    (holds : HoldsWays now maps) (are : WaysAreThere maps) where
   none_damaged : (at : ℕ) → IsDamaged buckets now at → ⊥
   none_damaged at (inl bad) = elim bad.is_index [
     | inl is ↦ unread_held now WAYS_OF_BLOCKS bad.id maps.ways_of_blocks index.ways_of_blocks
@@ -102,8 +110,10 @@ module _ {D : Type 0} {g : Ghosts D} (buckets : Buckets D g) (now : Image) (maps
   questions_allowed fault refuses = refuses_more (IsDamaged buckets now) (λ at. ⊥) none_damaged fault refuses
 
 -- and a change of the index too
-pub relist_allowed : (key : KeyOf) (old new : Option Object) (now : Image) (maps : Maps) (page : Visit → ℕ) (fault : StoreFault) → HoldsIndex now maps
+pub relist_allowed : (key : KeyOf) (old new : Option Object) (now : Image) (maps : Maps) (page : Visit → ℕ) (fault : StoreFault)
+    → HoldsIndex now maps
     → AreTold maps key old → Refuses (StopsAt (IsFine now key.id) page (all_visits key old new)) fault → Refuses (λ at. ⊥) fault
 relist_allowed key old new now maps page fault index told refuses =
     refuses_more (StopsAt (IsFine now key.id) page (all_visits key old new)) (λ at. ⊥)
-    (λ at stops. stops_never (IsFine now key.id) page (all_visits key old new) at (told_fine key old new now maps index told) stops) fault refuses
+    (λ at stops. stops_never (IsFine now key.id) page (all_visits key old new) at (told_fine key old new now maps index told) stops) fault
+    refuses

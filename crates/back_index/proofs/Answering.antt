@@ -7,7 +7,8 @@ use Rattle.outside.specs.declared.disk.Disk.{Ghosts}
 use Rattle.page_journal.specs.Answers.{is_disk_fault}
 use Rattle.page_journal.specs.Journal.{is_broken}
 use Rattle.page_journal.specs.declared.fault.StoreFault.{StoreFault}
-use Rattle.page_journal.specs.declared.fault.StoreFault.TheVariants.{NotFormatted, NotEmpty, BadStore, DiskFault, StoreFull, Broken, OutOfMemory}
+use Rattle.page_journal.specs.declared.fault.StoreFault.TheVariants.{NotFormatted, NotEmpty, BadStore, DiskFault, StoreFull, Broken}
+use Rattle.page_journal.specs.declared.fault.StoreFault.TheVariants.{OutOfMemory}
 use Rattle.chain_store.specs.Chains.{disk_of, journal_of}
 use Rattle.bucket_store.specs.Buckets.{bucket_count}
 use Rattle.bucket_store.specs.Image.{Has, Image}
@@ -43,7 +44,8 @@ none_count n some = grind (arith, nat_tests)
 
 module _ {D : Type 0} {g : Ghosts D} where
   pub spent_going : (buckets : Buckets D g) → is_spent buckets ≡ false → has_refused buckets ≡ false
-  spent_going buckets fresh = (neither (has_refused buckets) (is_broken (journal_of (chains_of buckets)) || nat_eq (bucket_count (chains_of buckets)) 0) fresh).0
+  spent_going buckets fresh = (neither (has_refused buckets)
+      (is_broken (journal_of (chains_of buckets)) || nat_eq (bucket_count (chains_of buckets)) 0) fresh).0
 
   pub spent_whole : (buckets : Buckets D g) → is_spent buckets ≡ false → is_broken (journal_of (chains_of buckets)) ≡ false
   spent_whole buckets fresh =
@@ -60,13 +62,16 @@ module _ {D : Type 0} {g : Ghosts D} where
     still_fresh : {T : Type 0} (value : T) → Answers old new (Ok value) → is_spent new ≡ false
     still_fresh value answers = λ i.
         answers.refused i || ((answers.broken ∙ or_none (is_broken (journal_of (chains_of old))) ∙ spent_whole old fresh) i
-        || none_count (bucket_count (chains_of new)) (subst (λ (n : ℕ). 1 ≤ n) (sym (count_same old new answers.stays)) (spent_some old fresh)) i)
+        || none_count (bucket_count (chains_of new))
+        (subst (λ (n : ℕ). 1 ≤ n) (sym (count_same old new answers.stays)) (spent_some old fresh)) i)
 
     pub fresh_after : {T : Type 0} (value : T) → Answers old new (Ok value) → is_spent new ≡ false
     fresh_after value answers = still_fresh value answers
 
-    pub asked_ok : {T : Type 0} (questions : List Question) (value : T) (stopped : Option StoreFault) → Answers old new (Ok value) → ((rest now : Image) → Has rest now old → Has rest now new)
-        → ((rest now : Image) → Has rest now old → (maps : Maps) → IndexHeld now maps → (may : May) → AllByRecursion (MayAnswer may maps) questions → HasReadOnly may old → HasReadOnly may new)
+    pub asked_ok : {T : Type 0} (questions : List Question) (value : T) (stopped : Option StoreFault) → Answers old new (Ok value)
+        → ((rest now : Image) → Has rest now old → Has rest now new)
+        → ((rest now : Image) → Has rest now old → (maps : Maps) → IndexHeld now maps → (may : May)
+        → AllByRecursion (MayAnswer may maps) questions → HasReadOnly may old → HasReadOnly may new)
         → ReadsBuckets old new → Asked questions old stopped new stopped
     asked_ok questions value stopped answers has within reads = record {
       stays = answers.stays;
@@ -82,14 +87,16 @@ module _ {D : Type 0} {g : Ghosts D} where
       within = within;
     }
 
-    none_failed : (fault : StoreFault) → is_broken (journal_of (chains_of new)) ≡ (is_broken (journal_of (chains_of old)) || is_disk_fault fault)
+    none_failed : (fault : StoreFault) → is_broken (journal_of (chains_of new))
+        ≡ (is_broken (journal_of (chains_of old)) || is_disk_fault fault)
         → is_broken (journal_of (chains_of new)) ≡ false → is_disk_fault fault ≡ false
     none_failed fault broken whole = (neither (is_broken (journal_of (chains_of old))) (is_disk_fault fault) (sym broken ∙ whole)).1
 
     the_same : (fault other : StoreFault) → Some fault ≡ Some other → fault ≡ other
     the_same fault other is = cc (is)
 
-    pub asked_err : {T : Type 0} (questions : List Question) (fault : StoreFault) (stopped : Option StoreFault) → Answers {T = T} old new (Err fault)
+    pub asked_err : {T : Type 0} (questions : List Question) (fault : StoreFault) (stopped : Option StoreFault)
+        → Answers {T = T} old new (Err fault)
         → (is_disk_fault fault ≡ false → (rest now : Image) → Has rest now old → Has rest now new)
         → ((rest now : Image) → Has rest now old → Refuses (IsDamaged old now) fault) → Asked questions old stopped new (Some fault)
     asked_err questions fault stopped answers has stops = record {
@@ -101,12 +108,14 @@ module _ {D : Type 0} {g : Ghosts D} where
       refused = λ is. absurd (clash (has_refused old) is (spent_going old fresh));
       kept = λ is. absurd (clash (has_refused old) is (spent_going old fresh));
       going = λ none. absurd (clash (has_refused new) answers.refused none);
-      why = λ going refused other is rest now owns. subst (λ f. Refuses (IsDamaged old now) f) (the_same fault other is) (stops rest now owns);
+      why = λ going refused other is rest now owns.
+          subst (λ f. Refuses (IsDamaged old now) f) (the_same fault other is) (stops rest now owns);
       reads = λ going. absurd (clash (has_refused new) answers.refused going);
       within = λ rest now owns maps index may all only. reads_refused may new answers.refused;
     }
 
-    pub borne : {T : Type 0} (fault : StoreFault) → Answers {T = T} old new (Err fault) → Bears new (Some fault) (disk_of (chains_of old)).faults fault
+    pub borne : {T : Type 0} (fault : StoreFault) → Answers {T = T} old new (Err fault)
+        → Bears new (Some fault) (disk_of (chains_of old)).faults fault
     borne NotFormatted answers = absurd answers.alone
     borne NotEmpty answers = absurd answers.alone
     borne (BadStore at) answers = (refl, answers.broken ∙ or_none (is_broken (journal_of (chains_of old))) ∙ spent_whole old fresh)
@@ -115,7 +124,8 @@ module _ {D : Type 0} {g : Ghosts D} where
     borne Broken answers = absurd (clash (is_broken (journal_of (chains_of old))) answers.alone (spent_whole old fresh))
     borne OutOfMemory answers = (refl, answers.broken ∙ or_none (is_broken (journal_of (chains_of old))) ∙ spent_whole old fresh)
 
-  pub knows_still : (old new : Buckets D g) (index : Index) → ((rest now : Image) → Has rest now old → Has rest now new) → Knows old index → Knows new index
+  pub knows_still : (old new : Buckets D g) (index : Index) → ((rest now : Image) → Has rest now old → Has rest now new) → Knows old index
+      → Knows new index
   knows_still old new index has knows = record {
     rest = knows.rest;
     now = knows.now;
@@ -127,5 +137,6 @@ module _ {D : Type 0} {g : Ghosts D} where
   }
 
   -- an index that is spent keeps nothing
-  pub spent_refused : {T : Type 0} (old new : Buckets D g) (fault : StoreFault) → Answers {T = T} old new (Err fault) → is_spent new ≡ false → ⊥
+  pub spent_refused : {T : Type 0} (old new : Buckets D g) (fault : StoreFault) → Answers {T = T} old new (Err fault) → is_spent new ≡ false
+      → ⊥
   spent_refused old new fault answers fresh = clash (has_refused new) answers.refused (spent_going new fresh)

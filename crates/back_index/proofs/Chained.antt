@@ -6,7 +6,8 @@ use Rattle.outside.specs.declared.disk.Disk.{Ghosts}
 use Rattle.page_journal.specs.Answers.{answers_disk_fault}
 use Rattle.page_journal.specs.Journal.{is_broken}
 use Rattle.page_journal.specs.declared.fault.StoreFault.{StoreFault}
-use Rattle.page_journal.specs.declared.fault.StoreFault.TheVariants.{NotFormatted, NotEmpty, BadStore, DiskFault, StoreFull, Broken, OutOfMemory}
+use Rattle.page_journal.specs.declared.fault.StoreFault.TheVariants.{NotFormatted, NotEmpty, BadStore, DiskFault, StoreFull, Broken}
+use Rattle.page_journal.specs.declared.fault.StoreFault.TheVariants.{OutOfMemory}
 use Rattle.chain_store.specs.Answers.{IsReadAnswer}
 use Rattle.chain_store.specs.Chains.{OnlyRead, disk_of, journal_of}
 use Rattle.chain_store.specs.declared.chains.Chains.{Chains}
@@ -45,10 +46,12 @@ module _ {D : Type 0} {g : Ghosts D} where
     cause = record { later = omega arith; failed = λ is. absurd (cc) };
   }
 
-  pub answers_then : {S T : Type 0} (old mid new : Buckets D g) (value : S) (result : Result T StoreFault) → Answers old mid (Ok value) → Answers mid new result
+  pub answers_then : {S T : Type 0} (old mid new : Buckets D g) (value : S) (result : Result T StoreFault) → Answers old mid (Ok value)
+      → Answers mid new result
       → Answers old new result
   answers_then old mid new value result first second =
-      let same : is_broken (journal_of (chains_of mid)) ≡ is_broken (journal_of (chains_of old)) = first.broken ∙ or_none (is_broken (journal_of (chains_of old))) in
+      let same : is_broken (journal_of (chains_of mid)) ≡ is_broken (journal_of (chains_of old)) =
+      first.broken ∙ or_none (is_broken (journal_of (chains_of old))) in
       record {
         stays = read_then (chains_of old) (chains_of mid) (chains_of new) first.stays second.stays;
         alone = subst (λ b. IsReadAnswer b result) same second.alone;
@@ -56,12 +59,14 @@ module _ {D : Type 0} {g : Ghosts D} where
         refused = second.refused;
         cause = record {
           later = omega (arith, first.cause.later, second.cause.later);
-          failed = λ is. rose_later (disk_of (chains_of old)).faults (disk_of (chains_of mid)).faults (disk_of (chains_of new)).faults first.cause.later (second.cause.failed is);
+          failed = λ is. rose_later (disk_of (chains_of old)).faults (disk_of (chains_of mid)).faults
+              (disk_of (chains_of new)).faults first.cause.later (second.cause.failed is);
         };
       }
 
   -- a call that is refused for a value
-  pub answers_marks : {S T : Type 0} (old mid new : Buckets D g) (value : S) (fault : ValueFault) (page : ℕ) → Answers old mid (Ok value) → Marks mid new
+  pub answers_marks : {S T : Type 0} (old mid new : Buckets D g) (value : S) (fault : ValueFault) (page : ℕ) → Answers old mid (Ok value)
+      → Marks mid new
       → Answers {T = T} old new (Err (refusal_of fault page))
   answers_marks {S} {T} old mid new value fault page first marks =
       answers_then old mid new value (Err (refusal_of fault page)) first (marked fault)
@@ -87,10 +92,12 @@ module _ {D : Type 0} {g : Ghosts D} where
 
   pub answers_marks_same : {T : Type 0} (old new : Buckets D g) (fault : ValueFault) (page : ℕ) → has_refused old ≡ false → Marks old new
       → Answers {T = T} old new (Err (refusal_of fault page))
-  answers_marks_same {T} old new fault page going marks = answers_marks {S = ℕ} {T = T} old old new 0 fault page (answers_none {T = ℕ} old 0 going) marks
+  answers_marks_same {T} old new fault page going marks =
+      answers_marks {S = ℕ} {T = T} old old new 0 fault page (answers_none {T = ℕ} old 0 going) marks
 
   -- the same refusal of a call that gives another value
-  pub answers_err : {S T : Type 0} (old new : Buckets D g) (fault : StoreFault) → Answers {T = S} old new (Err fault) → Answers {T = T} old new (Err fault)
+  pub answers_err : {S T : Type 0} (old new : Buckets D g) (fault : StoreFault) → Answers {T = S} old new (Err fault)
+      → Answers {T = T} old new (Err fault)
   answers_err old new NotFormatted first = absurd first.alone
   answers_err old new NotEmpty first = absurd first.alone
   answers_err old new (BadStore page) first = record {
@@ -144,14 +151,18 @@ module _ {D : Type 0} {g : Ghosts D} where
       subst (λ (c : Chains D g). IsOpenWith pages c (cached_of new)) (sym chains)
       (subst (λ (k : CacheMap). IsOpenWith pages (chains_of old) k) (sym cached) opens)
 
-  content_same : (pages : List (List ℕ)) (old new : Buckets D g) (n : ℕ) (values : BucketMap) → chains_of new ≡ chains_of old → cached_of new ≡ cached_of old
+  content_same : (pages : List (List ℕ)) (old new : Buckets D g) (n : ℕ) (values : BucketMap) → chains_of new ≡ chains_of old
+      → cached_of new ≡ cached_of old
       → Content pages old n values → Content pages new n values
   content_same pages old new n values chains cached content =
-      subst (λ (c : Chains D g). MatchOption (map.get (cached_of new) n) (Stored pages c n values) (λ own. own.bucket.values ≡ values)) (sym chains)
-      (subst (λ (k : CacheMap). MatchOption (map.get k n) (Stored pages (chains_of old) n values) (λ own. own.bucket.values ≡ values)) (sym cached) content)
+      subst (λ (c : Chains D g). MatchOption (map.get (cached_of new) n) (Stored pages c n values) (λ own. own.bucket.values ≡ values))
+      (sym chains)
+      (subst (λ (k : CacheMap). MatchOption (map.get k n) (Stored pages (chains_of old) n values) (λ own. own.bucket.values ≡ values))
+      (sym cached) content)
 
   -- a transaction that is refused has what it had
-  pub has_same : (rest now : Image) (old new : Buckets D g) → chains_of new ≡ chains_of old → cached_of new ≡ cached_of old → Has rest now old → Has rest now new
+  pub has_same : (rest now : Image) (old new : Buckets D g) → chains_of new ≡ chains_of old → cached_of new ≡ cached_of old
+      → Has rest now old → Has rest now new
   has_same rest now old new chains cached has =
       has_later rest now old new (subst (OnlyRead (chains_of old)) (sym chains) (read_same (chains_of old)))
       (ap (λ (c : Chains D g). is_broken (journal_of c)) chains ∙ has.whole)
@@ -159,18 +170,23 @@ module _ {D : Type 0} {g : Ghosts D} where
       (λ pages opens other values content. content_same pages old new other values chains cached content) has
 
   -- what was read leaves a transaction what it had
-  pub has_read : {T : Type 0} (rest now : Image) (old new : Buckets D g) (result : Result T StoreFault) → OnlyRead (chains_of old) (chains_of new)
-      → is_broken (journal_of (chains_of new)) ≡ (is_broken (journal_of (chains_of old)) || answers_disk_fault result) → answers_disk_fault result ≡ false
+  pub has_read : {T : Type 0} (rest now : Image) (old new : Buckets D g) (result : Result T StoreFault)
+      → OnlyRead (chains_of old) (chains_of new)
+      → is_broken (journal_of (chains_of new)) ≡ (is_broken (journal_of (chains_of old)) || answers_disk_fault result)
+      → answers_disk_fault result ≡ false
       → ((pages : List (List ℕ)) → IsOpenStore pages old → IsOpenStore pages new)
-      → ((pages : List (List ℕ)) → IsOpenStore pages old → (other : ℕ) (values : BucketMap) → Content pages old other values → Content pages new other values)
+      → ((pages : List (List ℕ)) → IsOpenStore pages old → (other : ℕ) (values : BucketMap) → Content pages old other values
+      → Content pages new other values)
       → Has rest now old → Has rest now new
   has_read rest now old new result stays broken none opens content has =
       has_later rest now old new stays (broken ∙ (λ i. has.whole i || none i)) opens content has
 
   -- the page of a key's bucket stays
-  pub page_same : (old new : Buckets D g) (which key : ℕ) → OnlyRead (chains_of old) (chains_of new) → page_in new which key ≡ page_in old which key
+  pub page_same : (old new : Buckets D g) (which key : ℕ) → OnlyRead (chains_of old) (chains_of new)
+      → page_in new which key ≡ page_in old which key
   page_same old new which key stays =
       (λ i. kept_first (stays.kept i) (chain_at (stays.root i).buckets which key))
 
-  pub count_same : (old new : Buckets D g) → OnlyRead (chains_of old) (chains_of new) → bucket_count (chains_of new) ≡ bucket_count (chains_of old)
+  pub count_same : (old new : Buckets D g) → OnlyRead (chains_of old) (chains_of new)
+      → bucket_count (chains_of new) ≡ bucket_count (chains_of old)
   count_same old new stays = ap (λ (r : Root). r.buckets) stays.root

@@ -23,7 +23,8 @@ use Rattle.back_index.proofs.ReadKeys.{all_has}
 use Rattle.back_index.proofs.Relists.{apart}
 
 -- each that is told is told
-pub told_there : (items : List Mention) (at : ℕ) (own : Mention) → at < length items → own ≡ get_or items at own → mentions_tell items own.id own.own ≡ true
+pub told_there : (items : List Mention) (at : ℕ) (own : Mention) → at < length items → own ≡ get_or items at own
+    → mentions_tell items own.id own.own ≡ true
 told_there items at own within is =
     list_any_at (λ (other : Mention). is_told other own.id own.own) items at own within
     (subst (λ (other : Mention). is_told other own.id own.own ≡ true) is (λ i. tied_self own.id i && tied_self own.own i))
@@ -37,70 +38,87 @@ abbrev Kept : Told → ℕ → Image → Type 0
 Kept told which image = AreKept told (image.maps which)
 
 -- a map beside stays
-stays_kept : (told : Told) (which other : ℕ) (now after : Image) → OnlyMap other now after → (which ≡ other → ⊥) → Kept told which now → Kept told which after
+stays_kept : (told : Told) (which other : ℕ) (now after : Image) → OnlyMap other now after → (which ≡ other → ⊥) → Kept told which now
+    → Kept told which after
 stays_kept told which other now after only differs kept = subst (λ (own : BucketMap). AreKept told own) (sym (only.maps which differs)) kept
 
-stays_void : (which other : ℕ) (now after : Image) → OnlyMap other now after → (which ≡ other → ⊥) → IsVoid (now.maps which) → IsVoid (after.maps which)
+stays_void : (which other : ℕ) (now after : Image) → OnlyMap other now after → (which ≡ other → ⊥) → IsVoid (now.maps which)
+    → IsVoid (after.maps which)
 stays_void which other now after only differs void = subst IsVoid (sym (only.maps which differs)) void
 
 module _ (entries : List Entry) (now first second third : Image) (none : HasNoIndex now)
-    (one : OnlyMap WAYS_OF_BLOCKS now first) (blocks : IsVoid (now.maps WAYS_OF_BLOCKS) → Kept (entries_tell kinds.Way blocks_in entries) WAYS_OF_BLOCKS first)
+    (one : OnlyMap WAYS_OF_BLOCKS now first)
+    (blocks : IsVoid (now.maps WAYS_OF_BLOCKS) → Kept (entries_tell kinds.Way blocks_in entries) WAYS_OF_BLOCKS first)
     (two : OnlyMap RELATIONS_OF_NODES first second)
-    (nodes : IsVoid (first.maps RELATIONS_OF_NODES) → Kept (entries_tell kinds.Relation (listed kinds.Node) entries) RELATIONS_OF_NODES second)
+    (nodes : IsVoid (first.maps RELATIONS_OF_NODES)
+    → Kept (entries_tell kinds.Relation (listed kinds.Node) entries) RELATIONS_OF_NODES second)
     (three : OnlyMap RELATIONS_OF_WAYS second third)
-    (ways : IsVoid (second.maps RELATIONS_OF_WAYS) → Kept (entries_tell kinds.Relation (listed kinds.Way) entries) RELATIONS_OF_WAYS third) where
-  pub all_filled : Fills entries now third
-  all_filled = record {
-    root = three.root ∙ two.root ∙ one.root;
-    texts = λ n. three.texts n ∙ two.texts n ∙ one.texts n;
-    maps = λ m a b c. three.maps m c ∙ two.maps m b ∙ one.maps m a;
-    ways_of_blocks =
-        stays_kept (entries_tell kinds.Way blocks_in entries) WAYS_OF_BLOCKS RELATIONS_OF_WAYS second third three (apart WAYS_OF_BLOCKS RELATIONS_OF_WAYS refl)
-        (stays_kept (entries_tell kinds.Way blocks_in entries) WAYS_OF_BLOCKS RELATIONS_OF_NODES first second two (apart WAYS_OF_BLOCKS RELATIONS_OF_NODES refl)
-        (blocks none.ways_of_blocks));
-    relations_of_nodes =
-        stays_kept (entries_tell kinds.Relation (listed kinds.Node) entries) RELATIONS_OF_NODES RELATIONS_OF_WAYS second third three
-        (apart RELATIONS_OF_NODES RELATIONS_OF_WAYS refl)
-        (nodes (stays_void RELATIONS_OF_NODES WAYS_OF_BLOCKS now first one (apart RELATIONS_OF_NODES WAYS_OF_BLOCKS refl) none.relations_of_nodes));
-    relations_of_ways =
-        ways (stays_void RELATIONS_OF_WAYS RELATIONS_OF_NODES first second two (apart RELATIONS_OF_WAYS RELATIONS_OF_NODES refl)
-        (stays_void RELATIONS_OF_WAYS WAYS_OF_BLOCKS now first one (apart RELATIONS_OF_WAYS WAYS_OF_BLOCKS refl) none.relations_of_ways));
-  }
+    (ways : IsVoid (second.maps RELATIONS_OF_WAYS) → Kept (entries_tell kinds.Relation (listed kinds.Way) entries) RELATIONS_OF_WAYS third)
+  where
+    pub all_filled : Fills entries now third
+    all_filled = record {
+      root = three.root ∙ two.root ∙ one.root;
+      texts = λ n. three.texts n ∙ two.texts n ∙ one.texts n;
+      maps = λ m a b c. three.maps m c ∙ two.maps m b ∙ one.maps m a;
+      ways_of_blocks =
+          stays_kept (entries_tell kinds.Way blocks_in entries) WAYS_OF_BLOCKS RELATIONS_OF_WAYS second third three
+          (apart WAYS_OF_BLOCKS RELATIONS_OF_WAYS refl)
+          (stays_kept (entries_tell kinds.Way blocks_in entries) WAYS_OF_BLOCKS RELATIONS_OF_NODES first second two
+          (apart WAYS_OF_BLOCKS RELATIONS_OF_NODES refl)
+          (blocks none.ways_of_blocks));
+      relations_of_nodes =
+          stays_kept (entries_tell kinds.Relation (listed kinds.Node) entries) RELATIONS_OF_NODES RELATIONS_OF_WAYS second third three
+          (apart RELATIONS_OF_NODES RELATIONS_OF_WAYS refl)
+          (nodes (stays_void RELATIONS_OF_NODES WAYS_OF_BLOCKS now first one
+          (apart RELATIONS_OF_NODES WAYS_OF_BLOCKS refl) none.relations_of_nodes));
+      relations_of_ways =
+          ways (stays_void RELATIONS_OF_WAYS RELATIONS_OF_NODES first second two (apart RELATIONS_OF_WAYS RELATIONS_OF_NODES refl)
+          (stays_void RELATIONS_OF_WAYS WAYS_OF_BLOCKS now first one (apart RELATIONS_OF_WAYS WAYS_OF_BLOCKS refl) none.relations_of_ways));
+    }
 
 -- what entries tell is of lists that may be asked
 module _ (may : May) (which : ℕ) (by : Kind) (what : Object → List ℕ) where
-  one_may : (entry : Entry) (id own : ℕ) → MayEach may which (ids_for by what entry.key.kind entry.object) → entry_tells by what entry id own ≡ true → may which id ≡ true
-  one_may entry id own each is = all_has (λ key. may which key ≡ true) (ids_for by what entry.key.kind entry.object) id each (and_first (has (ids_for by what entry.key.kind entry.object) id) (nat_eq entry.key.id own) is)
+  one_may : (entry : Entry) (id own : ℕ) → MayEach may which (ids_for by what entry.key.kind entry.object)
+      → entry_tells by what entry id own ≡ true → may which id ≡ true
+  one_may entry id own each is = all_has (λ key. may which key ≡ true) (ids_for by what entry.key.kind entry.object) id each
+      (and_first (has (ids_for by what entry.key.kind entry.object) id) (nat_eq entry.key.id own) is)
     where
       and_first : (a b : Bool) → (a && b) ≡ true → a ≡ true
       and_first true b is = refl
       and_first false b is = is
 
-  pub told_may : (entries : List Entry) → AllByRecursion (λ (entry : Entry). MayEach may which (ids_for by what entry.key.kind entry.object)) entries
+  pub told_may : (entries : List Entry) → AllByRecursion
+      (λ (entry : Entry). MayEach may which (ids_for by what entry.key.kind entry.object)) entries
       → MayTold may which (entries_tell by what entries)
   told_may [] all id own is = absurd (cc)
   told_may (entry ∷ entries) all id own is =
-      elim (entry_tells by what entry id own) as (λ b. entry_tells by what entry id own ≡ b → (b || entries_tell by what entries id own) ≡ true → may which id ≡ true) [
+      elim (entry_tells by what entry id own) as
+      (λ b. entry_tells by what entry id own ≡ b → (b || entries_tell by what entries id own) ≡ true → may which id ≡ true) [
         | true ↦ λ here _. one_may entry id own all.0 here
         | false ↦ λ _ later. told_may entries all.1 id own later
       ] refl is
 
-all_wider : (P Q : Entry → Type 0) (entries : List Entry) → ((entry : Entry) → P entry → Q entry) → AllByRecursion P entries → AllByRecursion Q entries
+all_wider : (P Q : Entry → Type 0) (entries : List Entry) → ((entry : Entry) → P entry → Q entry) → AllByRecursion P entries
+    → AllByRecursion Q entries
 all_wider P Q [] wider all = tt
 all_wider P Q (entry ∷ entries) wider all = (wider entry all.0, all_wider P Q entries wider all.1)
 
 module _ (may : May) (entries : List Entry) (all : MayListAll may entries) where
   pub blocks_may : MayTold may WAYS_OF_BLOCKS (entries_tell kinds.Way blocks_in entries)
   blocks_may = told_may may WAYS_OF_BLOCKS kinds.Way blocks_in entries
-      (all_wider (λ (entry : Entry). MayList may entry.key entry.object) (λ (entry : Entry). MayEach may WAYS_OF_BLOCKS (ids_for kinds.Way blocks_in entry.key.kind entry.object)) entries
+      (all_wider (λ (entry : Entry). MayList may entry.key entry.object)
+      (λ (entry : Entry). MayEach may WAYS_OF_BLOCKS (ids_for kinds.Way blocks_in entry.key.kind entry.object)) entries
       (λ entry lists. lists.ways_of_blocks) all)
 
   pub nodes_may : MayTold may RELATIONS_OF_NODES (entries_tell kinds.Relation (listed kinds.Node) entries)
   nodes_may = told_may may RELATIONS_OF_NODES kinds.Relation (listed kinds.Node) entries
-      (all_wider (λ (entry : Entry). MayList may entry.key entry.object) (λ (entry : Entry). MayEach may RELATIONS_OF_NODES (ids_for kinds.Relation (listed kinds.Node) entry.key.kind entry.object)) entries
+      (all_wider (λ (entry : Entry). MayList may entry.key entry.object)
+      (λ (entry : Entry). MayEach may RELATIONS_OF_NODES (ids_for kinds.Relation (listed kinds.Node) entry.key.kind entry.object))
+      entries
       (λ entry lists. lists.relations_of_nodes) all)
 
   pub ways_may : MayTold may RELATIONS_OF_WAYS (entries_tell kinds.Relation (listed kinds.Way) entries)
   ways_may = told_may may RELATIONS_OF_WAYS kinds.Relation (listed kinds.Way) entries
-      (all_wider (λ (entry : Entry). MayList may entry.key entry.object) (λ (entry : Entry). MayEach may RELATIONS_OF_WAYS (ids_for kinds.Relation (listed kinds.Way) entry.key.kind entry.object)) entries
+      (all_wider (λ (entry : Entry). MayList may entry.key entry.object)
+      (λ (entry : Entry). MayEach may RELATIONS_OF_WAYS (ids_for kinds.Relation (listed kinds.Way) entry.key.kind entry.object)) entries
       (λ entry lists. lists.relations_of_ways) all)

@@ -1,5 +1,6 @@
 -- The laws of lists of the index in bytes.
-use Rattle.std.proofs.Common.{◌≡◌, ◌≢◌, ◌+◌, ◌*◌, ◌/◌, ◌<◌, ◌≤◌, ℕ, List, [], ◌∷◌, ◌++◌, length, refl, sym, ap, ◌∙◌, subst, arith, suc, get_or, drop, drop-cons, length-append, true}
+use Rattle.std.proofs.Common.{◌≡◌, ◌≢◌, ◌+◌, ◌*◌, ◌/◌, ◌<◌, ◌≤◌, ℕ, List, [], ◌∷◌, ◌++◌, length, refl, sym, ap, ◌∙◌, subst, arith, suc}
+use Rattle.std.proofs.Common.{get_or, drop, drop-cons, length-append, true}
 use Rattle.std.specs.Prelude.{◌==◌}
 use Rattle.std.proofs.lemmas.Bool.{eqb-true}
 use Rattle.std.proofs.lemmas.List.{append-nil, drop_all}
@@ -43,7 +44,8 @@ sorted least (id ∷ ids) low rise =
     let rest = sorted (id + 1) ids (omega arith) rise.2 in
     ((above id (id + 1) ids (omega arith) rise.2, rest.0), (record { least = omega (arith, rise.0); greatest = rise.1 }, rest.1))
 
-first_above : (id : ℕ) (ids : List ℕ) → AllByRecursion (λ other. nat_cmp id other ≡ Less) ids → IsRising ids → AllByRecursion IsId ids → RiseFrom (id + 1) ids
+first_above : (id : ℕ) (ids : List ℕ) → AllByRecursion (λ other. nat_cmp id other ≡ Less) ids → IsRising ids → AllByRecursion IsId ids
+    → RiseFrom (id + 1) ids
 unfolding IsStrictlySortedBy
 first_above id [] all rise are = tt
 first_above id (next ∷ ids) all rise are =
@@ -83,7 +85,8 @@ many bytes ids are same = record {
   bytes_are = same ∙ sym (append-nil (ids_bytes ids));
 }
 
-pub numbers_spelled : (bytes ids rest : List ℕ) → IsFront (all_bytes number_bytes) (AreMany (length bytes / 8) IsNumber) bytes ids rest → rest ≡ []
+pub numbers_spelled : (bytes ids rest : List ℕ) → IsFront (all_bytes number_bytes) (AreMany (length bytes / 8) IsNumber) bytes ids rest
+    → rest ≡ []
     → Spells ids_bytes (AllByRecursion IsNumber) bytes ids
 numbers_spelled bytes ids rest front none = record {
   is = front.begins.is.each;
@@ -95,7 +98,8 @@ pub numbers_refused : (bytes : List ℕ) → IsFrontless (all_bytes number_bytes
     → IsNoValue ids_bytes (AllByRecursion IsNumber) bytes
 numbers_refused bytes none ids are same = none ids [] (many bytes ids are same)
 
-pub numbers_behind : (bytes ids rest : List ℕ) → IsFront (all_bytes number_bytes) (AreMany (length bytes / 8) IsNumber) bytes ids rest → rest ≢ []
+pub numbers_behind : (bytes ids rest : List ℕ) → IsFront (all_bytes number_bytes) (AreMany (length bytes / 8) IsNumber) bytes ids rest
+    → rest ≢ []
     → IsNoValue ids_bytes (AllByRecursion IsNumber) bytes
 numbers_behind bytes ids rest front some other are same = some (sym (front.alone other [] (many bytes other are same)).1)
 

@@ -15,7 +15,8 @@ use Rattle.back_index.specs.Relisting.{in_order}
 all-filter : (P : ℕ → Type 0) (test : ℕ → Bool) (ids : List ℕ) → AllByRecursion P ids → AllByRecursion P (filter test ids)
 all-filter P test [] all = tt
 all-filter P test (first ∷ ids) all =
-    elim (test first) as (λ b. AllByRecursion P (cond b (first ∷ filter test ids) (filter test ids))) [ true ↦ (all.0, all-filter P test ids all.1) | false ↦ all-filter P test ids all.1 ]
+    elim (test first) as (λ b. AllByRecursion P (cond b (first ∷ filter test ids) (filter test ids)))
+    [ true ↦ (all.0, all-filter P test ids all.1) | false ↦ all-filter P test ids all.1 ]
 
 all-append : (P : ℕ → Type 0) (ids others : List ℕ) → AllByRecursion P ids → AllByRecursion P others → AllByRecursion P (ids ++ others)
 all-append P [] others one other = other
@@ -24,7 +25,8 @@ all-append P (first ∷ ids) others one other = (one.0, all-append P ids others 
 pub ids-with_id : (own : ℕ) (ids : List ℕ) → IsId own → AreRisingIds ids → AreRisingIds (with_id own ids)
 ids-with_id own ids is are = (
   with_id-rise own ids are.0,
-  all-append IsId (filter (λ id. nat_lt id own) ids) (own ∷ filter (λ id. nat_lt own id) ids) (all-filter IsId (λ id. nat_lt id own) ids are.1)
+  all-append IsId (filter (λ id. nat_lt id own) ids) (own ∷ filter (λ id. nat_lt own id) ids)
+      (all-filter IsId (λ id. nat_lt id own) ids are.1)
       (is, all-filter IsId (λ id. nat_lt own id) ids are.1),
 )
 
@@ -51,13 +53,15 @@ and_again false b = refl
 
 pub with_id-again : (own : ℕ) (ids : List ℕ) → IsRising ids → with_id own (with_id own ids) ≡ with_id own ids
 with_id-again own ids rise =
-    same_rising (with_id own (with_id own ids)) (with_id own ids) (with_id-rise own (with_id own ids) (with_id-rise own ids rise)) (with_id-rise own ids rise)
+    same_rising (with_id own (with_id own ids)) (with_id own ids) (with_id-rise own (with_id own ids) (with_id-rise own ids rise))
+    (with_id-rise own ids rise)
     (λ id. has-with_id own (with_id own ids) id ∙ ap (λ b. nat_eq own id || b) (has-with_id own ids id)
     ∙ or_again (nat_eq own id) (has ids id) ∙ sym (has-with_id own ids id))
 
 pub without_id-again : (own : ℕ) (ids : List ℕ) → IsRising ids → without_id own (without_id own ids) ≡ without_id own ids
 without_id-again own ids rise =
-    same_rising (without_id own (without_id own ids)) (without_id own ids) (without_id-rise own (without_id own ids) (without_id-rise own ids rise))
+    same_rising (without_id own (without_id own ids)) (without_id own ids)
+    (without_id-rise own (without_id own ids) (without_id-rise own ids rise))
     (without_id-rise own ids rise)
     (λ id. has-without_id own (without_id own ids) id ∙ ap (λ b. not (nat_eq own id) && b) (has-without_id own ids id)
     ∙ and_again (not (nat_eq own id)) (has ids id) ∙ sym (has-without_id own ids id))

@@ -1,6 +1,7 @@
 -- What calls on keys have read of the buckets of a store.
 use Rattle.chain_store.proofs.Counted.{reads_call, reads_wider}
-use Rattle.std.proofs.Common.{◌≡◌, ◌⊎◌, inl, inr, ℕ, ◌*◌, Bool, true, false, cond, ◌||◌, List, [], ◌∷◌, ◌++◌, Some, Result, Ok, Err, OnOk, refl, sym, ap, subst, ◌∙◌, nat_eq, ◌+◌, ◌%◌, ◌≤◌, arith}
+use Rattle.std.proofs.Common.{◌≡◌, ◌⊎◌, inl, inr, ℕ, ◌*◌, Bool, true, false, cond, ◌||◌, List, [], ◌∷◌, ◌++◌, Some, Result, Ok, Err, OnOk}
+use Rattle.std.proofs.Common.{refl, sym, ap, subst, ◌∙◌, nat_eq, ◌+◌, ◌%◌, ◌≤◌, arith}
 use mathlib.Core.Bool.{false≢true}
 use Rattle.std.specs.Prelude.{IsSome, is_err}
 use Rattle.std.specs.Cmp.{Equal-is, nat_cmp_total}
@@ -31,23 +32,28 @@ clash : (b : Bool) → b ≡ true → b ≡ false → ⊥
 clash b is none = false≢true (sym none ∙ is)
 
 -- a chain that was read was read before, or is this one
-inserted : (old : Lists) (n : ℕ) (ns : List ℕ) (other : ℕ) → IsSome (map.get (map.insert old n ns) other) → IsSome (map.get old other) ⊎ (other ≡ n)
+inserted : (old : Lists) (n : ℕ) (ns : List ℕ) (other : ℕ) → IsSome (map.get (map.insert old n ns) other)
+    → IsSome (map.get old other) ⊎ (other ≡ n)
 inserted old n ns other there =
-    elim (eq_by_cmp nat_cmp other n) as (λ b. eq_by_cmp nat_cmp other n ≡ b → IsSome (cond b (Some ns) (map.get old other)) → IsSome (map.get old other) ⊎ (other ≡ n)) [
+    elim (eq_by_cmp nat_cmp other n) as (λ b. eq_by_cmp nat_cmp other n ≡ b → IsSome (cond b (Some ns) (map.get old other))
+    → IsSome (map.get old other) ⊎ (other ≡ n)) [
       | true ↦ λ same _. inr (nat_cmp-IsAntisymmetric other n ((Equal-is (nat_cmp other n)).0 same))
       | false ↦ λ _ before. inl before
     ] refl (subst IsSome (map.get-insert nat_cmp_total old n ns other) there)
 
-read_before : (end n : ℕ) (old new : Lists) (before after : DiskView) → MayRead end n old new before after → (other : ℕ) → IsSome (map.get new other) → IsSome (map.get old other) ⊎ (other ≡ n)
+read_before : (end n : ℕ) (old new : Lists) (before after : DiskView) → MayRead end n old new before after → (other : ℕ)
+    → IsSome (map.get new other) → IsSome (map.get old other) ⊎ (other ≡ n)
 read_before end n old new before after (inl none) other there = inl (subst (λ (l : Lists). IsSome (map.get l other)) none.0 there)
-read_before end n old new before after (inr one) other there = inserted old n one.1.0 other (subst (λ (l : Lists). IsSome (map.get l other)) one.1.1 there)
+read_before end n old new before after (inr one) other there =
+    inserted old n one.1.0 other (subst (λ (l : Lists). IsSome (map.get l other)) one.1.1 there)
 
 module _ {D : Type 0} {g : Ghosts D} (may : May) where
   pub reads_refused : (new : Buckets D g) → has_refused new ≡ true → HasReadOnly may new
   reads_refused new is = record { each = λ going. absurd (clash (has_refused new) is going) }
 
   -- a call on a key that may be asked
-  module _ (old new : Buckets D g) (which key : ℕ) (goes : has_refused old ≡ false) (allowed : may which key ≡ true) (stays : OnlyRead (chains_of old) (chains_of new)) where
+  module _ (old new : Buckets D g) (which key : ℕ) (goes : has_refused old ≡ false) (allowed : may which key ≡ true)
+      (stays : OnlyRead (chains_of old) (chains_of new)) where
     abbrev buckets : ℕ
     buckets = bucket_count (chains_of old)
 
@@ -60,37 +66,45 @@ module _ {D : Type 0} {g : Ghosts D} (may : May) where
     abbrev after : DiskView
     after = disk_of (chains_of new)
 
-    one_more : MayRead end (chain_at buckets which key) (read_of (chains_of old)) (read_of (chains_of new)) before after → HasReadOnly may old → HasReadOnly may new
+    one_more : MayRead end (chain_at buckets which key) (read_of (chains_of old)) (read_of (chains_of new)) before after
+        → HasReadOnly may old → HasReadOnly may new
     one_more reads only = record {
       each = λ going n from there.
           subst (λ (count : ℕ). IsOfKey may count n) (sym (count_same old new stays))
-          (elim (read_before end (chain_at buckets which key) (read_of (chains_of old)) (read_of (chains_of new)) before after reads n there) [
+          (elim (read_before end (chain_at buckets which key) (read_of (chains_of old))
+          (read_of (chains_of new)) before after reads n there) [
             | inl was ↦ only.each goes n from was
             | inr is ↦ record { which = which; key = key; allowed = allowed; chain = is }
           ]);
     }
 
-    pub reads_key : {T : Type 0} (result : Result T StoreFault) → OnOk result (MayRead end (chain_at buckets which key) (read_of (chains_of old)) (read_of (chains_of new)) before after)
+    pub reads_key : {T : Type 0} (result : Result T StoreFault)
+        → OnOk result (MayRead end (chain_at buckets which key) (read_of (chains_of old)) (read_of (chains_of new)) before after)
         → has_refused new ≡ is_err result → HasReadOnly may old → HasReadOnly may new
     reads_key (Ok value) reads refused only = one_more reads only
     reads_key (Err fault) reads refused only = reads_refused new refused
 
 module _ {D : Type 0} {g : Ghosts D} where
   module _ (old new : Buckets D g) (which key : ℕ) where
-    pub reads_bucket : MayRead (4096 * home_count (journal_of (chains_of old))) (chain_at (bucket_count (chains_of old)) which key) (read_of (chains_of old)) (read_of (chains_of new))
+    pub reads_bucket : MayRead (4096 * home_count (journal_of (chains_of old))) (chain_at (bucket_count (chains_of old)) which key)
+        (read_of (chains_of old)) (read_of (chains_of new))
         (disk_of (chains_of old)) (disk_of (chains_of new)) → ReadsBuckets old new
     reads_bucket reads =
         let n : ℕ = chain_at (bucket_count (chains_of old)) which key in
-        reads_wider (λ k. k ≡ n) (λ k. 16 ≤ k) (chains_of old) (chains_of new) (λ k is. from_sixteen (65536 * which) (key % bucket_count (chains_of old)) k is)
+        reads_wider (λ k. k ≡ n) (λ k. 16 ≤ k) (chains_of old) (chains_of new)
+        (λ k is. from_sixteen (65536 * which) (key % bucket_count (chains_of old)) k is)
         (reads_call (4096 * home_count (journal_of (chains_of old))) n (chains_of old) (chains_of new) reads)
 
-    pub reads_result : {T : Type 0} (result : Result T StoreFault) → OnOk result (MayRead (4096 * home_count (journal_of (chains_of old))) (chain_at (bucket_count (chains_of old)) which key)
-        (read_of (chains_of old)) (read_of (chains_of new)) (disk_of (chains_of old)) (disk_of (chains_of new))) → OnOk result (ReadsBuckets old new)
+    pub reads_result : {T : Type 0} (result : Result T StoreFault)
+        → OnOk result (MayRead (4096 * home_count (journal_of (chains_of old))) (chain_at (bucket_count (chains_of old)) which key)
+        (read_of (chains_of old)) (read_of (chains_of new)) (disk_of (chains_of old)) (disk_of (chains_of new)))
+        → OnOk result (ReadsBuckets old new)
     reads_result (Ok value) reads = reads_bucket reads
     reads_result (Err fault) reads = tt
 
   -- a call, and then another one
-  pub reads_then : {T : Type 0} (old mid new : Buckets D g) (result : Result T StoreFault) → ReadsBuckets old mid → OnOk result (ReadsBuckets mid new) → OnOk result (ReadsBuckets old new)
+  pub reads_then : {T : Type 0} (old mid new : Buckets D g) (result : Result T StoreFault) → ReadsBuckets old mid
+      → OnOk result (ReadsBuckets mid new) → OnOk result (ReadsBuckets old new)
   reads_then old mid new (Ok value) first second = reads_more old mid new first second
   reads_then old mid new (Err fault) first second = tt
 

@@ -1,7 +1,8 @@
 -- A list that is read, or is refused.
 use Rattle.std.proofs.Common.{◌≡◌, ℕ, List, Option, Some, None, Result, Ok, Err, IfOk, IfErr, OnOk, sym, subst, ◌∙◌}
 use Rattle.page_journal.specs.declared.fault.StoreFault.{StoreFault}
-use Rattle.page_journal.specs.declared.fault.StoreFault.TheVariants.{NotFormatted, NotEmpty, BadStore, DiskFault, StoreFull, Broken, OutOfMemory}
+use Rattle.page_journal.specs.declared.fault.StoreFault.TheVariants.{NotFormatted, NotEmpty, BadStore, DiskFault, StoreFull, Broken}
+use Rattle.page_journal.specs.declared.fault.StoreFault.TheVariants.{OutOfMemory}
 use Rattle.bucket_store.specs.Image.{Image}
 use Rattle.value_bytes.specs.Forms.{IsAtFront, IsFrontless, IsNoValue, NeedsFor, Spells}
 use Rattle.value_bytes.specs.Lists.{list_bytes, IsList}
@@ -15,7 +16,8 @@ use Rattle.back_index.specs.Relisting.{IsUnread, ReadsIds}
 use Rattle.back_index.specs.Visits.{Refuses}
 use Rattle.back_index.proofs.Held.{listed_same}
 
-module _ (Has : Image → Image → Type 0) (found : Image → Option (List ℕ)) (bytes : List ℕ) (is : (rest now : Image) → Has rest now → found now ≡ Some bytes) where
+module _ (Has : Image → Image → Type 0) (found : Image → Option (List ℕ)) (bytes : List ℕ)
+    (is : (rest now : Image) → Has rest now → found now ≡ Some bytes) where
   pub read_some : (result : Result (List ℕ) ValueFault) → IfOk result (Spells ids_bytes AreListed bytes)
       → IfOk result (λ ids. (rest now : Image) → Has rest now → ReadsIds (found now) ids)
   read_some (Ok ids) spells = λ rest now has. subst (λ o. ReadsIds o ids) (sym (is rest now has)) (spells.is, spells.bytes_are)
@@ -28,13 +30,15 @@ module _ (Has : Image → Image → Type 0) (found : Image → Option (List ℕ)
   unread_some (Err values.OutOfMemory) none = tt
 
 -- the nodes of a way, in the same words
-module _ (Has : Image → Image → Type 0) (found : Image → Option (List ℕ)) (bytes : List ℕ) (is : (rest now : Image) → Has rest now → found now ≡ Some bytes) where
+module _ (Has : Image → Image → Type 0) (found : Image → Option (List ℕ)) (bytes : List ℕ)
+    (is : (rest now : Image) → Has rest now → found now ≡ Some bytes) where
   pub nodes_some : (result : Result (List ℕ) ValueFault) → IfOk result (IsAtFront (list_bytes number_bytes) (IsList IsNumber) bytes)
       → IfOk result (λ nodes. (rest now : Image) → Has rest now → HasNodes (found now) nodes)
   nodes_some (Ok nodes) front = λ rest now has. subst (λ o. HasNodes o nodes) (sym (is rest now has)) front
   nodes_some (Err fault) front = tt
 
-  pub nodeless_some : (result : Result (List ℕ) ValueFault) → IfErr result (NeedsFor (IsFrontless (list_bytes number_bytes) (IsList IsNumber) bytes))
+  pub nodeless_some : (result : Result (List ℕ) ValueFault)
+      → IfErr result (NeedsFor (IsFrontless (list_bytes number_bytes) (IsList IsNumber) bytes))
       → IfErr result (NeedsFor ((rest now : Image) → Has rest now → IsNodeless (found now)))
   nodeless_some (Ok nodes) none = tt
   nodeless_some (Err values.NotSpelled) none = λ rest now has. subst IsNodeless (sym (is rest now has)) none
@@ -54,7 +58,8 @@ reads_same None one other reads again = reads ∙ sym again
 reads_same (Some bytes) one other reads again = listed_same one other reads.0 again.0 (sym reads.1 ∙ again.1)
 
 -- a refusal says less
-pub refuses_more : (Bad Worse : ℕ → Type 0) → ((at : ℕ) → Bad at → Worse at) → (fault : StoreFault) → Refuses Bad fault → Refuses Worse fault
+pub refuses_more : (Bad Worse : ℕ → Type 0) → ((at : ℕ) → Bad at → Worse at) → (fault : StoreFault) → Refuses Bad fault
+    → Refuses Worse fault
 refuses_more Bad Worse more NotFormatted refuses = refuses
 refuses_more Bad Worse more NotEmpty refuses = refuses
 refuses_more Bad Worse more (BadStore at) refuses = more at refuses
@@ -63,7 +68,8 @@ refuses_more Bad Worse more (StoreFull pages) refuses = refuses
 refuses_more Bad Worse more Broken refuses = refuses
 refuses_more Bad Worse more OutOfMemory refuses = tt
 
-pub refuses_result : (T : Type 0) (Bad Worse : ℕ → Type 0) (result : Result T StoreFault) → ((at : ℕ) → Bad at → Worse at) → IfErr result (Refuses Bad)
+pub refuses_result : (T : Type 0) (Bad Worse : ℕ → Type 0) (result : Result T StoreFault) → ((at : ℕ) → Bad at → Worse at)
+    → IfErr result (Refuses Bad)
     → IfErr result (Refuses Worse)
 refuses_result T Bad Worse (Ok value) more refuses = tt
 refuses_result T Bad Worse (Err fault) more refuses = refuses_more Bad Worse more fault refuses
@@ -76,10 +82,12 @@ on_ok T P Q (Ok value) more p = more p
 on_ok T P Q (Err fault) more p = tt
 
 -- what is refused for a value is refused for this page
-pub needs_refuses : (Bad : ℕ → Type 0) (Fact : Type 0) (fault : ValueFault) (page : ℕ) → NeedsFor Fact fault → (Fact → Bad page) → Refuses Bad (refusal_of fault page)
+pub needs_refuses : (Bad : ℕ → Type 0) (Fact : Type 0) (fault : ValueFault) (page : ℕ) → NeedsFor Fact fault → (Fact → Bad page)
+    → Refuses Bad (refusal_of fault page)
 needs_refuses Bad Fact values.NotSpelled page fact bad = bad fact
 needs_refuses Bad Fact values.OutOfMemory page fact bad = tt
 
-pub if_ok : (T : Type 0) (P Q : T → Type 0) (result : Result T StoreFault) → ((value : T) → P value → Q value) → IfOk result P → IfOk result Q
+pub if_ok : (T : Type 0) (P Q : T → Type 0) (result : Result T StoreFault) → ((value : T) → P value → Q value) → IfOk result P
+    → IfOk result Q
 if_ok T P Q (Ok value) more p = more value p
 if_ok T P Q (Err fault) more p = tt

@@ -1,5 +1,6 @@
 -- The index of a store, once it is turned from the one form of an object to the other.
-use Rattle.std.proofs.Common.{◌≡◌, ◌≢◌, ℕ, Bool, true, false, ◌||◌, List, [], ◌∷◌, ◌++◌, map, Option, refl, sym, ap, subst, ◌∙◌, arith, nat_eq}
+use Rattle.std.proofs.Common.{◌≡◌, ◌≢◌, ℕ, Bool, true, false, ◌||◌, List, [], ◌∷◌, ◌++◌, map, Option, refl, sym, ap, subst, ◌∙◌, arith}
+use Rattle.std.proofs.Common.{nat_eq}
 use Rattle.std.specs.List.{AllByRecursion}
 use Rattle.std.specs.FinMap as finite
 use Rattle.std.proofs.lemmas.Bool.Decides.{nat_tests}
@@ -31,10 +32,12 @@ use Rattle.back_index.proofs.WayLaws.{each_of}
 turns_nothing : (own : ℕ) (values : BucketMap) → Turns own [] [] values values
 turns_nothing own values = record { at = λ id there. absurd (cc); others = λ id none. refl }
 
-turns_to : (own : ℕ) (old new : List ℕ) (before after other : BucketMap) → other ≡ after → Turns own old new before after → Turns own old new before other
+turns_to : (own : ℕ) (old new : List ℕ) (before after other : BucketMap) → other ≡ after → Turns own old new before after
+    → Turns own old new before other
 turns_to own old new before after other same turns = subst (λ (l : BucketMap). Turns own old new before l) (sym same) turns
 
-turns_from : (own : ℕ) (old new : List ℕ) (before after other : BucketMap) → before ≡ other → Turns own old new before after → Turns own old new other after
+turns_from : (own : ℕ) (old new : List ℕ) (before after other : BucketMap) → before ≡ other → Turns own old new before after
+    → Turns own old new other after
 turns_from own old new before after other same turns = subst (λ (l : BucketMap). Turns own old new l after) same turns
 
 pub apart : (m k : ℕ) → nat_eq m k ≡ false → m ≢ k
@@ -52,7 +55,8 @@ module _ (id : ℕ) (old new : Option Object) where
   }
 
   pub way_relists : (now after : Image) → OnlyMap WAYS_OF_BLOCKS now after
-      → Turns id (listed_by blocks_in old) (listed_by blocks_in new) (now.maps WAYS_OF_BLOCKS) (after.maps WAYS_OF_BLOCKS) → Relists (way_key id) old new now after
+      → Turns id (listed_by blocks_in old) (listed_by blocks_in new) (now.maps WAYS_OF_BLOCKS) (after.maps WAYS_OF_BLOCKS)
+      → Relists (way_key id) old new now after
   way_relists now after only turns = record {
     root = only.root;
     texts = only.texts;
@@ -65,28 +69,36 @@ module _ (id : ℕ) (old new : Option Object) where
   }
 
   pub relation_relists : (now mid after : Image) → OnlyMap RELATIONS_OF_NODES now mid
-      → Turns id (listed_by (listed kinds.Node) old) (listed_by (listed kinds.Node) new) (now.maps RELATIONS_OF_NODES) (mid.maps RELATIONS_OF_NODES)
+      → Turns id (listed_by (listed kinds.Node) old) (listed_by (listed kinds.Node) new) (now.maps RELATIONS_OF_NODES)
+      (mid.maps RELATIONS_OF_NODES)
       → OnlyMap RELATIONS_OF_WAYS mid after
-      → Turns id (listed_by (listed kinds.Way) old) (listed_by (listed kinds.Way) new) (mid.maps RELATIONS_OF_WAYS) (after.maps RELATIONS_OF_WAYS)
+      → Turns id (listed_by (listed kinds.Way) old) (listed_by (listed kinds.Way) new) (mid.maps RELATIONS_OF_WAYS)
+      (after.maps RELATIONS_OF_WAYS)
       → Relists (relation_key id) old new now after
   relation_relists now mid after first nodes second ways = record {
     root = second.root ∙ first.root;
     texts = λ n. second.texts n ∙ first.texts n;
     maps = λ m a b c. second.maps m c ∙ first.maps m b;
     ways_of_blocks = turns_to id [] [] (now.maps WAYS_OF_BLOCKS) (now.maps WAYS_OF_BLOCKS) (after.maps WAYS_OF_BLOCKS)
-        (second.maps WAYS_OF_BLOCKS (apart WAYS_OF_BLOCKS RELATIONS_OF_WAYS refl) ∙ first.maps WAYS_OF_BLOCKS (apart WAYS_OF_BLOCKS RELATIONS_OF_NODES refl))
+        (second.maps WAYS_OF_BLOCKS (apart WAYS_OF_BLOCKS RELATIONS_OF_WAYS refl)
+        ∙ first.maps WAYS_OF_BLOCKS (apart WAYS_OF_BLOCKS RELATIONS_OF_NODES refl))
         (turns_nothing id (now.maps WAYS_OF_BLOCKS));
-    relations_of_nodes = turns_to id (listed_by (listed kinds.Node) old) (listed_by (listed kinds.Node) new) (now.maps RELATIONS_OF_NODES) (mid.maps RELATIONS_OF_NODES)
+    relations_of_nodes = turns_to id (listed_by (listed kinds.Node) old) (listed_by (listed kinds.Node) new) (now.maps RELATIONS_OF_NODES)
+        (mid.maps RELATIONS_OF_NODES)
         (after.maps RELATIONS_OF_NODES) (second.maps RELATIONS_OF_NODES (apart RELATIONS_OF_NODES RELATIONS_OF_WAYS refl)) nodes;
-    relations_of_ways = turns_from id (listed_by (listed kinds.Way) old) (listed_by (listed kinds.Way) new) (mid.maps RELATIONS_OF_WAYS) (after.maps RELATIONS_OF_WAYS)
+    relations_of_ways = turns_from id (listed_by (listed kinds.Way) old) (listed_by (listed kinds.Way) new) (mid.maps RELATIONS_OF_WAYS)
+        (after.maps RELATIONS_OF_WAYS)
         (now.maps RELATIONS_OF_WAYS) (first.maps RELATIONS_OF_WAYS (apart RELATIONS_OF_WAYS RELATIONS_OF_NODES refl)) ways;
   }
 
 -- a law of the visits of a map, told of each id
-all_map : {X : Type 0} (P : X → Type 0) (f : ℕ → X) (ids : List ℕ) → ((id : ℕ) → has ids id ≡ true → P (f id)) → AllByRecursion P (map f ids)
+all_map : {X : Type 0} (P : X → Type 0) (f : ℕ → X) (ids : List ℕ) → ((id : ℕ) → has ids id ≡ true → P (f id))
+    → AllByRecursion P (map f ids)
 all_map P f [] each = tt
-all_map P f (first ∷ ids) each =
-    (each first (ap (λ b. b || has ids first) (itself first)), all_map P f ids (λ id there. each id (or_true (nat_eq first id) (has ids id) there)))
+all_map P f (first ∷ ids) each = (
+  each first (ap (λ b. b || has ids first) (itself first)),
+  all_map P f ids (λ id there. each id (or_true (nat_eq first id) (has ids id) there)),
+)
   where
     itself : (id : ℕ) → nat_eq id id ≡ true
     itself id = grind (arith, nat_tests)
@@ -95,9 +107,11 @@ all_map P f (first ∷ ids) each =
     or_true true b is = refl
     or_true false b is = is
 
-pub all_visited : (P : Visit → Type 0) (which : ℕ) (old new : List ℕ) → ((id : ℕ) → has (old ++ new) id ≡ true → P (visit_of which old new id))
+pub all_visited : (P : Visit → Type 0) (which : ℕ) (old new : List ℕ)
+    → ((id : ℕ) → has (old ++ new) id ≡ true → P (visit_of which old new id))
     → AllByRecursion P (visits which old new)
-all_visited P which old new each = all_map P (visit_of which old new) (in_order (old ++ new)) (λ id there. each id (sym (has-in_order (old ++ new) id) ∙ there))
+all_visited P which old new each = all_map P (visit_of which old new) (in_order (old ++ new))
+    (λ id there. each id (sym (has-in_order (old ++ new) id) ∙ there))
 
 -- lists that were turned could be
 pub turned_fine : (now : Image) (own which : ℕ) (old new : List ℕ) (after : BucketMap) → Turns own old new (now.maps which) after
@@ -106,15 +120,18 @@ turned_fine now own which old new after turns =
     all_visited (IsFine now own) which old new (λ id there. let at = turns.at id there in (at.0, at.1))
 
 -- what stops by one measure stops by another that agrees with it
-all_front : {X : Type 0} (P : X → Type 0) (front : List X) (x : X) (behind : List X) → AllByRecursion P (front ++ x ∷ behind) → AllByRecursion P front × P x
+all_front : {X : Type 0} (P : X → Type 0) (front : List X) (x : X) (behind : List X) → AllByRecursion P (front ++ x ∷ behind)
+    → AllByRecursion P front × P x
 all_front P [] x behind all = (tt, all.0)
 all_front P (first ∷ front) x behind all = let rest = all_front P front x behind all.1 in ((all.0, rest.0), rest.1)
 
-all_as : {X : Type 0} (P Q : X → Type 0) (xs : List X) → AllByRecursion (λ x. (P x → Q x) × (Q x → P x)) xs → AllByRecursion P xs → AllByRecursion Q xs
+all_as : {X : Type 0} (P Q : X → Type 0) (xs : List X) → AllByRecursion (λ x. (P x → Q x) × (Q x → P x)) xs → AllByRecursion P xs
+    → AllByRecursion Q xs
 all_as P Q [] same all = tt
 all_as P Q (x ∷ xs) same all = (same.0.0 all.0, all_as P Q xs same.1 all.1)
 
-pub stops_as : {X : Type 0} (Fine Other : X → Type 0) (page : X → ℕ) (xs : List X) (at : ℕ) → AllByRecursion (λ x. (Fine x → Other x) × (Other x → Fine x)) xs
+pub stops_as : {X : Type 0} (Fine Other : X → Type 0) (page : X → ℕ) (xs : List X) (at : ℕ)
+    → AllByRecursion (λ x. (Fine x → Other x) × (Other x → Fine x)) xs
     → StopsAt Fine page xs at → StopsAt Other page xs at
 stops_as Fine Other page xs at same stops =
     let each = all_front (λ x. (Fine x → Other x) × (Other x → Fine x)) stops.front stops.thing stops.behind
@@ -131,28 +148,35 @@ stops_as Fine Other page xs at same stops =
 
 -- of another map the same lists can be turned
 pub fine_as : (now mid : Image) (own which other : ℕ) (old new : List ℕ) → OnlyMap other now mid → which ≢ other
-    → AllByRecursion (λ visit. (IsFine mid own visit → IsFine now own visit) × (IsFine now own visit → IsFine mid own visit)) (visits which old new)
+    → AllByRecursion (λ visit. (IsFine mid own visit → IsFine now own visit) × (IsFine now own visit → IsFine mid own visit))
+    (visits which old new)
 fine_as now mid own which other old new only differs =
     let same : mid.maps which ≡ now.maps which = only.maps which differs in
-    all_visited (λ visit. (IsFine mid own visit → IsFine now own visit) × (IsFine now own visit → IsFine mid own visit)) which old new (λ id there. (
+    all_visited (λ visit. (IsFine mid own visit → IsFine now own visit) × (IsFine now own visit → IsFine mid own visit)) which old new
+    (λ id there. (
       (λ fine. (fine.0, subst (λ (l : BucketMap). CanTurn (has old id) own (finite.get l id) fine.0) same fine.1)),
       (λ fine. (fine.0, subst (λ (l : BucketMap). CanTurn (has old id) own (finite.get l id) fine.0) (sym same) fine.1)),
     ))
 
 -- the store's index is that of maps, once both are told
-pub relists_hold : (key : KeyOf) (old new : Option Object) (now after : Image) (maps : Maps) → IsId key.id → HoldsIndex now maps → Relists key old new now after
+pub relists_hold : (key : KeyOf) (old new : Option Object) (now after : Image) (maps : Maps) → IsId key.id → HoldsIndex now maps
+    → Relists key old new now after
     → HoldsIndex after (relisted_to maps key old new)
 relists_hold key old new now after maps is holds relists = record {
-  ways_of_blocks = turned_held key.id (blocks_for key old) (blocks_for key new) (now.maps WAYS_OF_BLOCKS) (after.maps WAYS_OF_BLOCKS) maps.ways_of_blocks is
+  ways_of_blocks = turned_held key.id (blocks_for key old) (blocks_for key new) (now.maps WAYS_OF_BLOCKS)
+      (after.maps WAYS_OF_BLOCKS) maps.ways_of_blocks is
       holds.ways_of_blocks relists.ways_of_blocks;
-  relations_of_nodes = turned_held key.id (nodes_for key old) (nodes_for key new) (now.maps RELATIONS_OF_NODES) (after.maps RELATIONS_OF_NODES) maps.relations_of_nodes is
+  relations_of_nodes = turned_held key.id (nodes_for key old) (nodes_for key new) (now.maps RELATIONS_OF_NODES)
+      (after.maps RELATIONS_OF_NODES) maps.relations_of_nodes is
       holds.relations_of_nodes relists.relations_of_nodes;
-  relations_of_ways = turned_held key.id (ways_for key old) (ways_for key new) (now.maps RELATIONS_OF_WAYS) (after.maps RELATIONS_OF_WAYS) maps.relations_of_ways is
+  relations_of_ways = turned_held key.id (ways_for key old) (ways_for key new) (now.maps RELATIONS_OF_WAYS)
+      (after.maps RELATIONS_OF_WAYS) maps.relations_of_ways is
       holds.relations_of_ways relists.relations_of_ways;
 }
 
 -- where an index holds the old form, each list can be turned
-told_one : (now : Image) (own which : ℕ) (old new : List ℕ) (listing : ListingOf) → HoldsMap ids_bytes AreListed (now.maps which) listing → AllListed listing own old
+told_one : (now : Image) (own which : ℕ) (old new : List ℕ) (listing : ListingOf) → HoldsMap ids_bytes AreListed (now.maps which) listing
+    → AllListed listing own old
     → AllByRecursion (IsFine now own) (visits which old new)
 told_one now own which old new listing holds told =
     all_visited (IsFine now own) which old new (λ id there. (
@@ -172,10 +196,14 @@ pub told_fine : (key : KeyOf) (old new : Option Object) (now : Image) (maps : Ma
 told_fine key old new now maps holds told =
     all_append (IsFine now key.id) (visits WAYS_OF_BLOCKS (blocks_for key old) (blocks_for key new))
     (visits RELATIONS_OF_NODES (nodes_for key old) (nodes_for key new) ++ visits RELATIONS_OF_WAYS (ways_for key old) (ways_for key new))
-    (told_one now key.id WAYS_OF_BLOCKS (blocks_for key old) (blocks_for key new) maps.ways_of_blocks holds.ways_of_blocks told.ways_of_blocks)
-    (all_append (IsFine now key.id) (visits RELATIONS_OF_NODES (nodes_for key old) (nodes_for key new)) (visits RELATIONS_OF_WAYS (ways_for key old) (ways_for key new))
-    (told_one now key.id RELATIONS_OF_NODES (nodes_for key old) (nodes_for key new) maps.relations_of_nodes holds.relations_of_nodes told.relations_of_nodes)
-    (told_one now key.id RELATIONS_OF_WAYS (ways_for key old) (ways_for key new) maps.relations_of_ways holds.relations_of_ways told.relations_of_ways))
+    (told_one now key.id WAYS_OF_BLOCKS (blocks_for key old)
+    (blocks_for key new) maps.ways_of_blocks holds.ways_of_blocks told.ways_of_blocks)
+    (all_append (IsFine now key.id) (visits RELATIONS_OF_NODES (nodes_for key old) (nodes_for key new))
+    (visits RELATIONS_OF_WAYS (ways_for key old) (ways_for key new))
+    (told_one now key.id RELATIONS_OF_NODES (nodes_for key old)
+    (nodes_for key new) maps.relations_of_nodes holds.relations_of_nodes told.relations_of_nodes)
+    (told_one now key.id RELATIONS_OF_WAYS (ways_for key old)
+    (ways_for key new) maps.relations_of_ways holds.relations_of_ways told.relations_of_ways))
 
 -- the same, of a key of which the kind is known
 pub at_kind : (key : KeyOf) (kind : Kind) (old new : Option Object) (now after : Image) → key.kind ≡ kind
@@ -183,7 +211,8 @@ pub at_kind : (key : KeyOf) (kind : Kind) (old new : Option Object) (now after :
 at_kind key kind old new now after is relists =
     subst (λ (k : Kind). Relists (record { kind = k; id = key.id }) old new now after) (sym is) relists
 
-pub stops_at_kind : (Fine : Visit → Type 0) (page : Visit → ℕ) (key : KeyOf) (kind : Kind) (old new : Option Object) (at : ℕ) → key.kind ≡ kind
+pub stops_at_kind : (Fine : Visit → Type 0) (page : Visit → ℕ) (key : KeyOf) (kind : Kind) (old new : Option Object) (at : ℕ)
+    → key.kind ≡ kind
     → StopsAt Fine page (all_visits (record { kind = kind; id = key.id }) old new) at → StopsAt Fine page (all_visits key old new) at
 stops_at_kind Fine page key kind old new at is stops =
     subst (λ (k : Kind). StopsAt Fine page (all_visits (record { kind = k; id = key.id }) old new) at) (sym is) stops
@@ -195,14 +224,16 @@ module _ (Fine : Visit → Type 0) (page : Visit → ℕ) (key : KeyOf) (old new
       stops_at_kind Fine page key kinds.Way old new at is
       (stops_front Fine page (visits WAYS_OF_BLOCKS (listed_by blocks_in old) (listed_by blocks_in new)) [] at stops)
 
-  pub nodes_stop : key.kind ≡ kinds.Relation → StopsAt Fine page (visits RELATIONS_OF_NODES (listed_by (listed kinds.Node) old) (listed_by (listed kinds.Node) new)) at
+  pub nodes_stop : key.kind ≡ kinds.Relation
+      → StopsAt Fine page (visits RELATIONS_OF_NODES (listed_by (listed kinds.Node) old) (listed_by (listed kinds.Node) new)) at
       → StopsAt Fine page (all_visits key old new) at
   nodes_stop is stops =
       stops_at_kind Fine page key kinds.Relation old new at is
       (stops_front Fine page (visits RELATIONS_OF_NODES (listed_by (listed kinds.Node) old) (listed_by (listed kinds.Node) new))
       (visits RELATIONS_OF_WAYS (listed_by (listed kinds.Way) old) (listed_by (listed kinds.Way) new)) at stops)
 
-  pub ways_stop : key.kind ≡ kinds.Relation → AllByRecursion Fine (visits RELATIONS_OF_NODES (listed_by (listed kinds.Node) old) (listed_by (listed kinds.Node) new))
+  pub ways_stop : key.kind ≡ kinds.Relation
+      → AllByRecursion Fine (visits RELATIONS_OF_NODES (listed_by (listed kinds.Node) old) (listed_by (listed kinds.Node) new))
       → StopsAt Fine page (visits RELATIONS_OF_WAYS (listed_by (listed kinds.Way) old) (listed_by (listed kinds.Way) new)) at
       → StopsAt Fine page (all_visits key old new) at
   ways_stop is fine stops =

@@ -1,5 +1,6 @@
 -- Lists of a store are turned, one after another.
-use Rattle.std.proofs.Common.{◌≡◌, ◌≢◌, ◌<◌, ℕ, suc, zero, Bool, true, false, ◌||◌, List, [], ◌∷◌, ◌++◌, map, take, drop, drop-cons, append_assoc, length, get_or, Option, Some, None, refl, sym, ap, subst, ◌∙◌, arith, nat_eq, if◌then◌else◌}
+use Rattle.std.proofs.Common.{◌≡◌, ◌≢◌, ◌<◌, ℕ, suc, zero, Bool, true, false, ◌||◌, List, [], ◌∷◌, ◌++◌, map, take, drop, drop-cons}
+use Rattle.std.proofs.Common.{append_assoc, length, get_or, Option, Some, None, refl, sym, ap, subst, ◌∙◌, arith, nat_eq, if◌then◌else◌}
 use Rattle.std.proofs.Math.Bool.{beq}
 use Rattle.std.specs.List.{AllByRecursion}
 use Rattle.std.specs.List.Sorted.{IsStrictlySortedBy}
@@ -45,7 +46,8 @@ turned_none true false own ids same = absurd (cc)
 turned_none false true own ids same = absurd (cc)
 turned_none false false own ids same = refl
 
-pub turned_one : (was is : Bool) (own : ℕ) (ids : List ℕ) → was ≢ is → (if is then with_id own ids else without_id own ids) ≡ turned was is own ids
+pub turned_one : (was is : Bool) (own : ℕ) (ids : List ℕ) → was ≢ is
+    → (if is then with_id own ids else without_id own ids) ≡ turned was is own ids
 turned_one true true own ids apart = absurd (apart refl)
 turned_one true false own ids apart = refl
 turned_one false true own ids apart = refl
@@ -61,9 +63,15 @@ sets_none m key value now is = record {
 
 pub sets_put : (m key : ℕ) (value : Option (List ℕ)) (now : Image) → Sets m key value now (with_value m key value now)
 sets_put m key value now = record {
-  only = record { root = root_with_value m key value now; texts = texts_with_value m key value now; maps = λ k apart. maps_beside m key value now k apart };
+  only = record {
+    root = root_with_value m key value now;
+    texts = texts_with_value m key value now;
+    maps =
+        λ k apart. maps_beside m key value now k apart;
+  };
   here = ap (λ (own : BucketMap). finite.get own key) (maps_here m key value now m refl) ∙ entry_here key value (now.maps m) key refl;
-  beside = λ other apart. ap (λ (own : BucketMap). finite.get own other) (maps_here m key value now m refl) ∙ entry_beside key value (now.maps m) other apart;
+  beside = λ other apart. ap (λ (own : BucketMap). finite.get own other) (maps_here m key value now m refl)
+      ∙ entry_beside key value (now.maps m) other apart;
 }
 
 pub only_none : (m : ℕ) (now : Image) → OnlyMap m now now
@@ -77,7 +85,8 @@ only_then m now mid after first second = record {
 }
 
 -- the place of an id among rising ones is its only one
-above_at : (first : ℕ) (ids : List ℕ) (place d : ℕ) → AllByRecursion (λ other. nat_cmp first other ≡ Less) ids → place < length ids → nat_eq first (get_or ids place d) ≡ false
+above_at : (first : ℕ) (ids : List ℕ) (place d : ℕ) → AllByRecursion (λ other. nat_cmp first other ≡ Less) ids → place < length ids
+    → nat_eq first (get_or ids place d) ≡ false
 above_at first [] place d above within = absurd (omega (arith, within))
 above_at first (id ∷ ids) zero d above within = let less = above.0 in grind (arith, nat_tests)
 above_at first (id ∷ ids) (suc place) d above within = above_at first ids place d above.1 (omega (arith, within))
@@ -126,7 +135,8 @@ module _ (own m : ℕ) (old new done : List ℕ) (now mid after : Image) (id : �
       (was.0, was.1, sets.beside other (apart_of other there) ∙ was.2)
   at_more other false true there same some =
       subst (λ k. (ids : List ℕ) × CanTurn (has old k) own (finite.get (now.maps m) k) ids
-      × (finite.get (after.maps m) k ≡ kept_list (turned (has old k) (has new k) own ids))) (same_as id other same) (ids, now_can, sets.here)
+      × (finite.get (after.maps m) k ≡ kept_list (turned (has old k) (has new k) own ids))) (same_as id other same)
+      (ids, now_can, sets.here)
   at_more other false false there same some = absurd (cc)
 
   others_more : (other : ℕ) (b c : Bool) → has done other ≡ b → nat_eq id other ≡ c → (b || (c || false)) ≡ false
@@ -142,23 +152,30 @@ module _ (own m : ℕ) (old new done : List ℕ) (now mid after : Image) (id : �
   }
 
 -- the same lists, told otherwise
-pub turns_done : (own : ℕ) (old new done other : List ℕ) (before after : BucketMap) → ((id : ℕ) → has other id ≡ has done id) → TurnsAt own old new done before after
+pub turns_done : (own : ℕ) (old new done other : List ℕ) (before after : BucketMap) → ((id : ℕ) → has other id ≡ has done id)
+    → TurnsAt own old new done before after
     → TurnsAt own old new other before after
 turns_done own old new done other before after same turns = record {
   at = λ id there. turns.at id (sym (same id) ∙ there);
   others = λ id none. turns.others id (sym (same id) ∙ none);
 }
 
-module _ (old new old_other new_other : List ℕ) (same_old : (id : ℕ) → has old id ≡ has old_other id) (same_new : (id : ℕ) → has new id ≡ has new_other id) where
+module _ (old new old_other new_other : List ℕ) (same_old : (id : ℕ) → has old id ≡ has old_other id)
+    (same_new : (id : ℕ) → has new id ≡ has new_other id) where
   has_both : (id : ℕ) → has (old ++ new) id ≡ has (old_other ++ new_other) id
   has_both id =
-      list_any-append (λ x. nat_eq x id) old new ∙ (λ i. same_old id i || same_new id i) ∙ sym (list_any-append (λ x. nat_eq x id) old_other new_other)
+      list_any-append (λ x. nat_eq x id) old new ∙ (λ i. same_old id i || same_new id i)
+      ∙ sym (list_any-append (λ x. nat_eq x id) old_other new_other)
 
   pub turns_same : (own : ℕ) (before after : BucketMap) → Turns own old new before after → Turns own old_other new_other before after
   turns_same own before after turns = record {
     at = λ id there.
-        let was = turns.at id (has_both id ∙ there) in
-        (was.0, subst (λ b. CanTurn b own (finite.get before id) was.0) (same_old id) was.1, was.2 ∙ (λ i. kept_list (turned (same_old id i) (same_new id i) own was.0)));
+        let was = turns.at id (has_both id ∙ there) in (
+          was.0,
+          subst (λ b. CanTurn b own (finite.get before id) was.0) (same_old id) was.1,
+          was.2
+              ∙ (λ i. kept_list (turned (same_old id i) (same_new id i) own was.0)),
+        );
     others = λ id none. turns.others id (has_both id ∙ none);
   }
 
@@ -172,25 +189,29 @@ map_append : {X Y : Type 0} (f : X → Y) (xs ys : List X) → map f (xs ++ ys) 
 map_append f [] ys = refl
 map_append f (x ∷ xs) ys = ap (λ rest. f x ∷ rest) (map_append f xs ys)
 
-pub stops_there : {X Y : Type 0} (Fine : Y → Type 0) (page : Y → ℕ) (f : X → Y) (xs : List X) (place : ℕ) (x : X) (at : ℕ) → place < length xs → x ≡ get_or xs place x
+pub stops_there : {X Y : Type 0} (Fine : Y → Type 0) (page : Y → ℕ) (f : X → Y) (xs : List X) (place : ℕ) (x : X) (at : ℕ)
+    → place < length xs → x ≡ get_or xs place x
     → AllByRecursion Fine (map f (take place xs)) → ¬ Fine (f x) → at ≡ page (f x) → StopsAt Fine page (map f xs) at
 stops_there Fine page f xs place x at within is fine bad here = record {
   front = map f (take place xs);
   thing = f x;
   behind = map f (drop (suc place) xs);
-  parts = ap (map f) (sym (take-append-drop place xs) ∙ ap (λ rest. take place xs ++ rest) (drop-cons xs place x within ∙ ap (λ y. y ∷ drop (suc place) xs) (sym is)))
+  parts = ap (map f) (sym (take-append-drop place xs)
+      ∙ ap (λ rest. take place xs ++ rest) (drop-cons xs place x within ∙ ap (λ y. y ∷ drop (suc place) xs) (sym is)))
       ∙ map_append f (take place xs) (x ∷ drop (suc place) xs);
   fine = fine;
   bad = bad;
   page_is = here;
 }
 
-pub all_more : {X Y : Type 0} (Fine : Y → Type 0) (f : X → Y) (xs : List X) (x : X) → AllByRecursion Fine (map f xs) → Fine (f x) → AllByRecursion Fine (map f (xs ++ x ∷ []))
+pub all_more : {X Y : Type 0} (Fine : Y → Type 0) (f : X → Y) (xs : List X) (x : X) → AllByRecursion Fine (map f xs) → Fine (f x)
+    → AllByRecursion Fine (map f (xs ++ x ∷ []))
 all_more Fine f [] x fine one = (one, tt)
 all_more Fine f (first ∷ xs) x fine one = (fine.0, all_more Fine f xs x fine.1 one)
 
 -- what stops in a part stops in the whole
-pub stops_front : {X : Type 0} (Fine : X → Type 0) (page : X → ℕ) (xs ys : List X) (at : ℕ) → StopsAt Fine page xs at → StopsAt Fine page (xs ++ ys) at
+pub stops_front : {X : Type 0} (Fine : X → Type 0) (page : X → ℕ) (xs ys : List X) (at : ℕ) → StopsAt Fine page xs at
+    → StopsAt Fine page (xs ++ ys) at
 stops_front Fine page xs ys at stops = record {
   front = stops.front;
   thing = stops.thing;
@@ -205,7 +226,8 @@ all_append : {X : Type 0} (P : X → Type 0) (xs ys : List X) → AllByRecursion
 all_append P [] ys one other = other
 all_append P (x ∷ xs) ys one other = (one.0, all_append P xs ys one.1 other)
 
-pub stops_behind : {X : Type 0} (Fine : X → Type 0) (page : X → ℕ) (xs ys : List X) (at : ℕ) → AllByRecursion Fine xs → StopsAt Fine page ys at → StopsAt Fine page (xs ++ ys) at
+pub stops_behind : {X : Type 0} (Fine : X → Type 0) (page : X → ℕ) (xs ys : List X) (at : ℕ) → AllByRecursion Fine xs
+    → StopsAt Fine page ys at → StopsAt Fine page (xs ++ ys) at
 stops_behind Fine page xs ys at fine stops = record {
   front = xs ++ stops.front;
   thing = stops.thing;
@@ -221,5 +243,7 @@ all_at : {X : Type 0} (P : X → Type 0) (front : List X) (x : X) (behind : List
 all_at P [] x behind all = all.0
 all_at P (first ∷ front) x behind all = all_at P front x behind all.1
 
-pub stops_never : {X : Type 0} (Fine : X → Type 0) (page : X → ℕ) (xs : List X) (at : ℕ) → AllByRecursion Fine xs → StopsAt Fine page xs at → ⊥
-stops_never Fine page xs at all stops = stops.bad (all_at Fine stops.front stops.thing stops.behind (subst (λ l. AllByRecursion Fine l) stops.parts all))
+pub stops_never : {X : Type 0} (Fine : X → Type 0) (page : X → ℕ) (xs : List X) (at : ℕ) → AllByRecursion Fine xs → StopsAt Fine page xs at
+    → ⊥
+stops_never Fine page xs at all stops = stops.bad
+    (all_at Fine stops.front stops.thing stops.behind (subst (λ l. AllByRecursion Fine l) stops.parts all))

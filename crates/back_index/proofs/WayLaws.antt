@@ -1,5 +1,6 @@
 -- Ways that are looked at for a node.
-use Rattle.std.proofs.Common.{◌≡◌, ◌<◌, ℕ, suc, zero, Bool, true, false, ◌||◌, List, [], ◌∷◌, ◌++◌, take, drop, drop-cons, length, get_or, Option, Some, None, refl, sym, ap, subst, ◌∙◌, arith, nat_eq, if◌then◌else◌}
+use Rattle.std.proofs.Common.{◌≡◌, ◌<◌, ℕ, suc, zero, Bool, true, false, ◌||◌, List, [], ◌∷◌, ◌++◌, take, drop, drop-cons, length, get_or}
+use Rattle.std.proofs.Common.{Option, Some, None, refl, sym, ap, subst, ◌∙◌, arith, nat_eq, if◌then◌else◌}
 use Rattle.std.specs.List.{AllByRecursion, filter}
 use Rattle.std.specs.FinMap as finite
 use Rattle.std.proofs.lemmas.Bool.Decides.{nat_tests}
@@ -21,7 +22,8 @@ use Rattle.back_index.specs.Index.{HasNodes, HoldsWays}
 use Rattle.back_index.specs.Visits.{StopsAt}
 use Rattle.back_index.specs.declared.visit.TheConstants.{WAYS}
 
-lists_nodes : (bytes : Option (List ℕ)) (object : Option Object) (nodes : List ℕ) (id : ℕ) → Decodes object_bytes (IsStored kinds.Way) bytes object → HasNodes bytes nodes
+lists_nodes : (bytes : Option (List ℕ)) (object : Option Object) (nodes : List ℕ) (id : ℕ)
+    → Decodes object_bytes (IsStored kinds.Way) bytes object → HasNodes bytes nodes
     → lists kinds.Node id object ≡ has nodes id
 unfolding object_bytes IsStored
 lists_nodes None object nodes id is front = absurd front
@@ -32,16 +34,19 @@ lists_nodes (Some bytes) (Some (Way own tags)) nodes id is front =
     ap (λ (l : List ℕ). has l id) (front.1.alone own (tags_bytes tags) (record { is = is.0.0.few; bytes_are = is.1 })).0
 
 -- a way lists a node where its front does
-pub way_lists : (now : Image) (maps : Maps) (way node : ℕ) (nodes : List ℕ) → HoldsWays now maps → HasNodes (finite.get (now.maps WAYS) way) nodes
+pub way_lists : (now : Image) (maps : Maps) (way node : ℕ) (nodes : List ℕ) → HoldsWays now maps
+    → HasNodes (finite.get (now.maps WAYS) way) nodes
     → list_it maps node way ≡ has nodes node
-way_lists now maps way node nodes holds front = lists_nodes (finite.get (now.maps WAYS) way) (finite.get maps.ways way) nodes node (holds way) front
+way_lists now maps way node nodes holds front =
+    lists_nodes (finite.get (now.maps WAYS) way) (finite.get maps.ways way) nodes node (holds way) front
 
 -- the ways so far, and one more
 filter_one : (test : ℕ → Bool) (way : ℕ) (b : Bool) → test way ≡ b → filter test (way ∷ []) ≡ (if b then way ∷ [] else [])
 filter_one test way true is = rw is refl
 filter_one test way false is = rw is refl
 
-pub filter_more : (test : ℕ → Bool) (ways : List ℕ) (way : ℕ) (b : Bool) → test way ≡ b → filter test (ways ++ way ∷ []) ≡ filter test ways ++ (if b then way ∷ [] else [])
+pub filter_more : (test : ℕ → Bool) (ways : List ℕ) (way : ℕ) (b : Bool) → test way ≡ b
+    → filter test (ways ++ way ∷ []) ≡ filter test ways ++ (if b then way ∷ [] else [])
 filter_more test ways way b is = filter-append test ways (way ∷ []) ∙ ap (λ (l : List ℕ). filter test ways ++ l) (filter_one test way b is)
 
 pub each_more : (P : ℕ → Type 0) (ids : List ℕ) (id : ℕ) → AllByRecursion P ids → P id → AllByRecursion P (ids ++ id ∷ [])
@@ -66,9 +71,13 @@ or_true false b is = is
 
 all_from : (P : ℕ → Type 0) (ids : List ℕ) → ((id : ℕ) → has ids id ≡ true → P id) → AllByRecursion P ids
 all_from P [] each = tt
-all_from P (first ∷ ids) each = (each first (ap (λ b. b || has ids first) (itself first)), all_from P ids (λ id there. each id (or_true (nat_eq first id) (has ids id) there)))
+all_from P (first ∷ ids) each = (
+  each first (ap (λ b. b || has ids first) (itself first)),
+  all_from P ids (λ id there. each id (or_true (nat_eq first id) (has ids id) there)),
+)
 
-pub all_same : (P : ℕ → Type 0) (one other : List ℕ) → ((id : ℕ) → has one id ≡ has other id) → AllByRecursion P other → AllByRecursion P one
+pub all_same : (P : ℕ → Type 0) (one other : List ℕ) → ((id : ℕ) → has one id ≡ has other id) → AllByRecursion P other
+    → AllByRecursion P one
 all_same P one other same all = all_from P one (λ id there. each_of P other id all (sym (same id) ∙ there))
 
 pub at_place : (P : ℕ → Type 0) (ids : List ℕ) (place d : ℕ) → place < length ids → AllByRecursion P ids → P (get_or ids place d)
@@ -77,7 +86,8 @@ at_place P (first ∷ ids) zero d within all = all.0
 at_place P (first ∷ ids) (suc place) d within all = at_place P ids place d (omega (arith, within)) all.1
 
 -- the first way that fails
-pub stops_here : (Fine : ℕ → Type 0) (page : ℕ → ℕ) (ids : List ℕ) (place at : ℕ) → place < length ids → AllByRecursion Fine (take place ids)
+pub stops_here : (Fine : ℕ → Type 0) (page : ℕ → ℕ) (ids : List ℕ) (place at : ℕ) → place < length ids
+    → AllByRecursion Fine (take place ids)
     → ¬ Fine (get_or ids place 0) → at ≡ page (get_or ids place 0) → StopsAt Fine page ids at
 stops_here Fine page ids place at within fine bad here = record {
   front = take place ids;

@@ -6,7 +6,8 @@ use Rattle.outside.specs.Causes.{Rose}
 use Rattle.outside.specs.declared.disk.Disk.{Ghosts}
 use Rattle.page_journal.specs.Journal.{is_broken}
 use Rattle.page_journal.specs.declared.fault.StoreFault.{StoreFault}
-use Rattle.page_journal.specs.declared.fault.StoreFault.TheVariants.{NotFormatted, NotEmpty, BadStore, DiskFault, StoreFull, Broken, OutOfMemory}
+use Rattle.page_journal.specs.declared.fault.StoreFault.TheVariants.{NotFormatted, NotEmpty, BadStore, DiskFault, StoreFull, Broken}
+use Rattle.page_journal.specs.declared.fault.StoreFault.TheVariants.{OutOfMemory}
 use Rattle.chain_store.specs.Chains.{OnlyRead, disk_of, journal_of}
 use Rattle.chain_store.specs.declared.chains.Chains.{Chains}
 use Rattle.chain_store.proofs.Looks.{looked_same, looked_then}
@@ -60,13 +61,16 @@ module _ {D : Type 0} {g : Ghosts D} where
 
   pub reads_more : (old mid new : Buckets D g) → ReadsBuckets old mid → ReadsBuckets mid new → ReadsBuckets old new
   reads_more old mid new first second =
-      reads_wider (λ n. (16 ≤ n) ⊎ (16 ≤ n)) (λ n. 16 ≤ n) (chains_of old) (chains_of new) (λ n both. elim both [ inl is ↦ is | inr is ↦ is ])
+      reads_wider (λ n. (16 ≤ n) ⊎ (16 ≤ n)) (λ n. 16 ≤ n) (chains_of old) (chains_of new)
+      (λ n both. elim both [ inl is ↦ is | inr is ↦ is ])
       (reads_on (λ n. 16 ≤ n) (λ n. 16 ≤ n) (chains_of old) (chains_of mid) (chains_of new) first second)
 
-  page_stays : (old new : Buckets D g) (which key : ℕ) → OnlyRead (chains_of old) (chains_of new) → page_in new which key ≡ page_in old which key
+  page_stays : (old new : Buckets D g) (which key : ℕ) → OnlyRead (chains_of old) (chains_of new)
+      → page_in new which key ≡ page_in old which key
   page_stays old new which key stays = λ i. kept_first (stays.kept i) (chain_at (stays.root i).buckets which key)
 
-  damaged_before : (old new : Buckets D g) (now : Image) (at : ℕ) → OnlyRead (chains_of old) (chains_of new) → IsDamaged new now at → IsDamaged old now at
+  damaged_before : (old new : Buckets D g) (now : Image) (at : ℕ) → OnlyRead (chains_of old) (chains_of new) → IsDamaged new now at
+      → IsDamaged old now at
   damaged_before old new now at stays (inl bad) = inl (record {
     which = bad.which;
     id = bad.id;
@@ -84,7 +88,8 @@ module _ {D : Type 0} {g : Ghosts D} where
     page_is = bad.page_is ∙ page_stays old new WAYS_OF_BLOCKS bad.block stays;
   })
 
-  refuses_before : (old new : Buckets D g) (now : Image) (fault : StoreFault) → OnlyRead (chains_of old) (chains_of new) → Refuses (IsDamaged new now) fault
+  refuses_before : (old new : Buckets D g) (now : Image) (fault : StoreFault) → OnlyRead (chains_of old) (chains_of new)
+      → Refuses (IsDamaged new now) fault
       → Refuses (IsDamaged old now) fault
   refuses_before old new now NotFormatted stays refuses = refuses
   refuses_before old new now NotEmpty stays refuses = refuses
@@ -110,12 +115,14 @@ module _ {D : Type 0} {g : Ghosts D} where
     within = λ rest now owns maps index may all only. only;
   }
 
-  pub asked_then : (before after : List Question) (first second third : Buckets D g) (one two three : Option StoreFault) → Asked before first one second two → Asked after second two third three
+  pub asked_then : (before after : List Question) (first second third : Buckets D g) (one two three : Option StoreFault)
+      → Asked before first one second two → Asked after second two third three
       → Asked (before ++ after) first one third three
   asked_then before after first second third one two three once again =
       let whole_before : is_broken (journal_of (chains_of third)) ≡ false → is_broken (journal_of (chains_of second)) ≡ false = λ whole.
       still (is_broken (journal_of (chains_of second))) (is_broken (journal_of (chains_of third))) again.broken whole in
-      let going_before : has_refused third ≡ false → has_refused second ≡ false = λ going. still (has_refused second) (has_refused third) again.refused going in
+      let going_before : has_refused third ≡ false → has_refused second ≡ false =
+      λ going. still (has_refused second) (has_refused third) again.refused going in
       record {
         stays = read_then (chains_of first) (chains_of second) (chains_of third) once.stays again.stays;
         later = omega (arith, once.later, again.later);
@@ -143,12 +150,14 @@ module _ {D : Type 0} {g : Ghosts D} where
             };
       }
 
-  pub bears_fewer : (buckets : Buckets D g) (stopped : Option StoreFault) (fewer more : ℕ) (fault : StoreFault) → fewer ≤ more → Bears buckets stopped more fault
+  pub bears_fewer : (buckets : Buckets D g) (stopped : Option StoreFault) (fewer more : ℕ) (fault : StoreFault) → fewer ≤ more
+      → Bears buckets stopped more fault
       → Bears buckets stopped fewer fault
   bears_fewer buckets stopped fewer more NotFormatted le bears = bears
   bears_fewer buckets stopped fewer more NotEmpty le bears = bears
   bears_fewer buckets stopped fewer more (BadStore page) le bears = bears
-  bears_fewer buckets stopped fewer more DiskFault le bears = (bears.0, rose_later fewer more (disk_of (chains_of buckets)).faults le bears.1)
+  bears_fewer buckets stopped fewer more DiskFault le bears =
+      (bears.0, rose_later fewer more (disk_of (chains_of buckets)).faults le bears.1)
   bears_fewer buckets stopped fewer more (StoreFull pages) le bears = bears
   bears_fewer buckets stopped fewer more Broken le bears = bears
   bears_fewer buckets stopped fewer more OutOfMemory le bears = bears

@@ -32,7 +32,8 @@ pub record Answers {D T : Type 0} {g : Ghosts D} (old new : Buckets D g) (result
 
 -- what each call on the lists leaves of the store. Of buckets it read no more than those of chains, each once; on a store that means
 -- something it is refused for the disk, for want of memory, or for a page where there is such damage.
-pub record TouchesLists {D T : Type 0} {g : Ghosts D} (Damage : Image → ℕ → Type 0) (old new : Buckets D g) (result : Result T StoreFault) : Type 0 where
+pub record TouchesLists {D T : Type 0} {g : Ghosts D} (Damage : Image → ℕ → Type 0) (old new : Buckets D g)
+    (result : Result T StoreFault) : Type 0 where
   pub answers : Answers old new result
   pub reads : OnOk result (ReadsBuckets old new)
   pub stops : (rest now : Image) → Has rest now old → IfErr result (Refuses (Damage now))

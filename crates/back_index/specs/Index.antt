@@ -54,7 +54,8 @@ pub record Relists (key : KeyOf) (old new : Option Object) (now after : Image) :
   pub texts : (n : ℕ) → after.texts n ≡ now.texts n
   pub maps : (m : ℕ) → m ≢ WAYS_OF_BLOCKS → m ≢ RELATIONS_OF_NODES → m ≢ RELATIONS_OF_WAYS → after.maps m ≡ now.maps m
   pub ways_of_blocks : Turns key.id (blocks_for key old) (blocks_for key new) (now.maps WAYS_OF_BLOCKS) (after.maps WAYS_OF_BLOCKS)
-  pub relations_of_nodes : Turns key.id (nodes_for key old) (nodes_for key new) (now.maps RELATIONS_OF_NODES) (after.maps RELATIONS_OF_NODES)
+  pub relations_of_nodes : Turns key.id (nodes_for key old) (nodes_for key new) (now.maps RELATIONS_OF_NODES)
+      (after.maps RELATIONS_OF_NODES)
   pub relations_of_ways : Turns key.id (ways_for key old) (ways_for key new) (now.maps RELATIONS_OF_WAYS) (after.maps RELATIONS_OF_WAYS)
 
 -- the lists that are visited for this, in their order
@@ -136,7 +137,8 @@ Bears buckets stopped count fault = (stopped ≡ Some fault) × Causes buckets c
 -- these questions were asked: the store was only read, and but for a disk fault the transaction has what it had. The first that is
 -- refused is the last, and a store that means something refuses it for the disk, for want of memory, or for damage.
 -- Of the index no more was read than answers them.
-pub record Asked {D : Type 0} {g : Ghosts D} (questions : List Question) (old : Buckets D g) (was : Option StoreFault) (new : Buckets D g) (stopped : Option StoreFault) : Type 0 where
+pub record Asked {D : Type 0} {g : Ghosts D} (questions : List Question) (old : Buckets D g) (was : Option StoreFault) (new : Buckets D g)
+    (stopped : Option StoreFault) : Type 0 where
   pub stays : OnlyRead (chains_of old) (chains_of new)
   pub later : (disk_of (chains_of old)).faults ≤ (disk_of (chains_of new)).faults
   pub broken : is_broken (journal_of (chains_of old)) ≡ true → is_broken (journal_of (chains_of new)) ≡ true
@@ -145,8 +147,10 @@ pub record Asked {D : Type 0} {g : Ghosts D} (questions : List Question) (old : 
   pub refused : has_refused old ≡ true → has_refused new ≡ true
   pub kept : has_refused old ≡ true → stopped ≡ was
   pub going : has_refused new ≡ false → stopped ≡ was
-  pub why : has_refused old ≡ false → has_refused new ≡ true → (fault : StoreFault) → stopped ≡ Some fault → (rest now : Image) → Has rest now old
+  pub why : has_refused old ≡ false → has_refused new ≡ true → (fault : StoreFault) → stopped ≡ Some fault → (rest now : Image)
+      → Has rest now old
       → Refuses (IsDamaged old now) fault
   pub reads : has_refused new ≡ false → ReadsBuckets old new
-  pub within : (rest now : Image) → Has rest now old → (maps : Maps) → HoldsIndex now maps → (may : May) → AllByRecursion (MayAnswer may maps) questions
+  pub within : (rest now : Image) → Has rest now old → (maps : Maps) → HoldsIndex now maps → (may : May)
+      → AllByRecursion (MayAnswer may maps) questions
       → HasReadOnly may old → HasReadOnly may new

@@ -22,4 +22,5 @@ ReadsBuckets old new = ReadsOnly (λ n. 16 ≤ n) (chains_of old) (chains_of new
 
 -- of the chains of buckets those of such keys alone were read, if no call was refused
 pub record HasReadOnly {D : Type 0} {g : Ghosts D} (may : May) (buckets : Buckets D g) : Type 0 where
-  pub each : has_refused buckets ≡ false → (n : ℕ) → 16 ≤ n → IsSome (map.get (read_of (chains_of buckets)) n) → IsOfKey may (bucket_count (chains_of buckets)) n
+  pub each : has_refused buckets ≡ false → (n : ℕ) → 16 ≤ n → IsSome (map.get (read_of (chains_of buckets)) n)
+      → IsOfKey may (bucket_count (chains_of buckets)) n

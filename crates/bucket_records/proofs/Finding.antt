@@ -1,10 +1,12 @@
 -- How far the records of a bucket were found in its bytes.
-use Rattle.std.proofs.Common.{◌≡◌, ◌≢◌, ◌⊎◌, ℕ, ◌+◌, ◌*◌, ◌-◌, ◌%◌, ◌≤◌, List, [], ◌∷◌, ◌++◌, length, refl, sym, ap, subst, ◌∙◌, arith, append_assoc, length-append}
+use Rattle.std.proofs.Common.{◌≡◌, ◌≢◌, ◌⊎◌, ℕ, ◌+◌, ◌*◌, ◌-◌, ◌%◌, ◌≤◌, List, [], ◌∷◌, ◌++◌, length, refl, sym, ap, subst, ◌∙◌, arith}
+use Rattle.std.proofs.Common.{append_assoc, length-append}
 use Rattle.std.proofs.lemmas.List.{append-nil}
 use Rattle.bucket_records.specs.Records.{record_bytes, records_bytes, AreRecords, AreOf, IsBucket, IsNoBucket}
 use Rattle.bucket_records.specs.Places.{AreMarks, Lies}
 use Rattle.bucket_records.specs.Spelling.{StartsRecord, BeginsRecord, IsRecordless}
-use Rattle.bucket_records.proofs.RecordLists.{records_bytes-append, records_bytes-one, AreRecords-append, AreRecords-one, AreOf-append, AreOf-one, below_end, end_of, end_of-append, length-record_bytes, many_within}
+use Rattle.bucket_records.proofs.RecordLists.{records_bytes-append, records_bytes-one, AreRecords-append, AreRecords-one, AreOf-append}
+use Rattle.bucket_records.proofs.RecordLists.{AreOf-one, below_end, end_of, end_of-append, length-record_bytes, many_within}
 use Rattle.bucket_records.proofs.Marks.{marks_more, no_marks}
 
 -- these records were found; whatever the bucket's records are, those behind make up the rest
@@ -59,7 +61,8 @@ later_fits buckets bucket rest least key value behind (one ∷ more) begins are 
       (more, subst (λ (n : ℕ). AreRecords (n + 1) more) same.0 are.2, of.1, sym same.2),
     )
 
-pub found_more : (buckets bucket : ℕ) (bytes rest : List ℕ) (least count last : ℕ) (marks : List ℕ) (key : ℕ) (value behind more : List ℕ) (begin : ℕ)
+pub found_more : (buckets bucket : ℕ) (bytes rest : List ℕ) (least count last : ℕ) (marks : List ℕ) (key : ℕ) (value behind more : List ℕ)
+    (begin : ℕ)
     → HasFound buckets bucket bytes rest least count last marks → BeginsRecord rest key value behind → least ≤ key → key % buckets ≡ bucket
     → begin ≡ length bytes - length rest
     → (more ≡ marks) ⊎ ((16 * (length marks + 1) ≡ count) × (more ≡ marks ++ begin ∷ []))
@@ -128,7 +131,8 @@ later_recordless rest least [] some none are rest-is = some rest-is
 later_recordless rest least (one ∷ later) some none are rest-is =
     none one.0 one.1 (records_bytes later) (front_of_records rest one later least are rest-is)
 
-pub refused_recordless : (buckets bucket : ℕ) (bytes rest : List ℕ) (least count last : ℕ) (marks : List ℕ) → HasFound buckets bucket bytes rest least count last marks
+pub refused_recordless : (buckets bucket : ℕ) (bytes rest : List ℕ) (least count last : ℕ) (marks : List ℕ)
+    → HasFound buckets bucket bytes rest least count last marks
     → rest ≢ [] → IsRecordless rest → IsNoBucket buckets bucket bytes
 refused_recordless buckets bucket bytes rest least count last marks found some none records is =
     let later = found.only records is in later_recordless rest least later.0 some none later.1 later.3

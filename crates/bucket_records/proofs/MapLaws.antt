@@ -1,5 +1,6 @@
 -- Rising records and changes as finite maps.
-use Rattle.std.proofs.Common.{◌≡◌, ◌≢◌, ℕ, zero, suc, ◌+◌, ◌<◌, ◌≤◌, Bool, true, false, cond, ◌&&◌, T, List, [], ◌∷◌, ◌++◌, length, Option, Some, None, Result, Ok, Err, Vec, refl, sym, ap, subst, ◌∙◌, arith, inl, inr}
+use Rattle.std.proofs.Common.{◌≡◌, ◌≢◌, ℕ, zero, suc, ◌+◌, ◌<◌, ◌≤◌, Bool, true, false, cond, ◌&&◌, T, List, [], ◌∷◌, ◌++◌, length, Option}
+use Rattle.std.proofs.Common.{Some, None, Result, Ok, Err, Vec, refl, sym, ap, subst, ◌∙◌, arith, inl, inr}
 use Rattle.std.proofs.lemmas.Bool.{cases_order}
 use Rattle.std.specs.Option.{option_map, is_some, MatchOption}
 use Rattle.std.specs.Result.{IfOk}
@@ -66,7 +67,8 @@ unfolding map_of
 get-map_of records key are = map.get-from_sorted nat_cmp records key (sorted_rise 0 records are)
 
 -- a key that is none of theirs is not found, and one that is, is
-pub find_apart : (records : List (ℕ × List ℕ)) (key : ℕ) → ((k : ℕ) → k < length records → key_of records k ≢ key) → find nat_cmp key records ≡ None
+pub find_apart : (records : List (ℕ × List ℕ)) (key : ℕ) → ((k : ℕ) → k < length records → key_of records k ≢ key)
+    → find nat_cmp key records ≡ None
 find_apart [] key apart = refl
 find_apart (one ∷ records) key apart =
     ap (λ (b : Bool). cond b (Some one.1) (find nat_cmp key records)) (apart_of key one.0 (λ e. apart zero (omega arith) (sym e)))
@@ -100,16 +102,19 @@ keys_rise least (one ∷ records) (suc i) zero are order inside = absurd (omega 
 keys_rise least (one ∷ records) (suc i) (suc j) are order inside = keys_rise (one.0 + 1) records i j are.2 (omega arith) (omega arith)
 
 -- what is at the place of a key
-pub place_past : (records : List (ℕ × List ℕ)) (key place : ℕ) → IsPlaceOf records key place → length records ≤ place → find nat_cmp key records ≡ None
+pub place_past : (records : List (ℕ × List ℕ)) (key place : ℕ) → IsPlaceOf records key place → length records ≤ place
+    → find nat_cmp key records ≡ None
 place_past records key place is past =
     find_apart records key (λ k inside same. let low = is.below k (omega (arith, past, inside)) in omega (arith, low, same))
 
-pub place_there : (records : List (ℕ × List ℕ)) (key place : ℕ) → IsPlaceOf records key place → place < length records → key_of records place ≡ key
+pub place_there : (records : List (ℕ × List ℕ)) (key place : ℕ) → IsPlaceOf records key place → place < length records
+    → key_of records place ≡ key
     → find nat_cmp key records ≡ Some (value_of records place)
 place_there records key place is inside here =
     find_here records key place inside here (λ k low same. let below = is.below k low in omega (arith, below, same))
 
-pub place_apart : (records : List (ℕ × List ℕ)) (key place : ℕ) → AreRecords 0 records → IsPlaceOf records key place → place < length records
+pub place_apart : (records : List (ℕ × List ℕ)) (key place : ℕ) → AreRecords 0 records → IsPlaceOf records key place
+    → place < length records
     → key_of records place ≢ key → find nat_cmp key records ≡ None
 place_apart records key place are is inside other =
     find_apart records key (λ k within same. elim (cases_order k place) [
@@ -130,8 +135,10 @@ put_last least (one ∷ records) key value are above =
     (greater_of key one.0 (above zero (omega arith)))
     ∙ ap (λ (l : List (ℕ × List ℕ)). one ∷ l) (put_last (one.0 + 1) records key value are.2 (λ k inside. above (suc k) (omega arith)))
 
-pub map_of-push : (records : List (ℕ × List ℕ)) (key : ℕ) (value : List ℕ) → AreRecords 0 records → AreRecords 0 (records ++ (key, value) ∷ [])
-    → ((k : ℕ) → k < length records → key_of records k < key) → map_of (records ++ (key, value) ∷ []) ≡ map.insert (map_of records) key value
+pub map_of-push : (records : List (ℕ × List ℕ)) (key : ℕ) (value : List ℕ) → AreRecords 0 records
+    → AreRecords 0 (records ++ (key, value) ∷ [])
+    → ((k : ℕ) → k < length records → key_of records k < key)
+    → map_of (records ++ (key, value) ∷ []) ≡ map.insert (map_of records) key value
 map_of-push records key value are more above =
     map.same_entries_map (map_of (records ++ (key, value) ∷ [])) (map.insert (map_of records) key value)
     (entries-map_of (records ++ (key, value) ∷ []) more ∙ sym (map.entries-insert nat_cmp_total (map_of records) key value
@@ -158,7 +165,8 @@ unfolding changed
 get-changed values [] q = refl
 get-changed values (one ∷ changes) q =
     get-change (changed values changes) one.0 one.1 q
-    ∙ ap (λ (o : Option (List ℕ)). cond (is_eq (nat_cmp q one.0)) (option_map (λ (v : Vec ℕ Global). v.items) one.1) o) (get-changed values changes q)
+    ∙ ap (λ (o : Option (List ℕ)). cond (is_eq (nat_cmp q one.0)) (option_map (λ (v : Vec ℕ Global). v.items) one.1) o)
+    (get-changed values changes q)
     ∙ cond_picked (is_eq (nat_cmp q one.0)) one.1 (lookup (is_at (nat_cmp q)) changes) (map.get values q)
 
 -- changes with one more
@@ -170,7 +178,8 @@ changed_more values old new key own updates =
     get-changed values new q ∙ ap (λ (o : Option (Option (Vec ℕ Global))). picked o (map.get values q)) (updates q
     ∙ ap (λ (b : Bool). cond b (Some own) (lookup (is_at (nat_cmp q)) old)) ((eq_by_cmp_equiv nat_cmp_total).symm key q))
     ∙ sym (get-change (changed values old) key own q
-    ∙ ap (λ (o : Option (List ℕ)). cond (is_eq (nat_cmp q key)) (option_map (λ (v : Vec ℕ Global). v.items) own) o) (get-changed values old q)
+    ∙ ap (λ (o : Option (List ℕ)). cond (is_eq (nat_cmp q key)) (option_map (λ (v : Vec ℕ Global). v.items) own) o)
+    (get-changed values old q)
     ∙ cond_picked (is_eq (nat_cmp q key)) own (lookup (is_at (nat_cmp q)) old) (map.get values q)))
 
 pub changed-nil : (values : BucketMap) → changed values [] ≡ values
@@ -188,15 +197,19 @@ remove_absent values key none =
     elim (cases_order q key) [
       | inl same ↦
           ap (λ (n : ℕ). map.get values n) same ∙ none
-          ∙ sym (map.get-remove nat_cmp_total values key q ∙ ap (λ (r : Ordering). cond (is_eq r) None (map.get values q)) (equal_of q key same))
+          ∙ sym (map.get-remove nat_cmp_total values key q
+          ∙ ap (λ (r : Ordering). cond (is_eq r) None (map.get values q)) (equal_of q key same))
       | inr (inl low) ↦
-          sym (map.get-remove nat_cmp_total values key q ∙ ap (λ (r : Ordering). cond (is_eq r) None (map.get values q)) (less_of q key low))
+          sym (map.get-remove nat_cmp_total values key q
+          ∙ ap (λ (r : Ordering). cond (is_eq r) None (map.get values q)) (less_of q key low))
       | inr (inr high) ↦
-          sym (map.get-remove nat_cmp_total values key q ∙ ap (λ (r : Ordering). cond (is_eq r) None (map.get values q)) (greater_of q key high))
+          sym (map.get-remove nat_cmp_total values key q
+          ∙ ap (λ (r : Ordering). cond (is_eq r) None (map.get values q)) (greater_of q key high))
     ])
 
 -- the records up to one below a key are below it, and those from one that is not on are not
-pub keys_below : (records : List (ℕ × List ℕ)) (key middle : ℕ) → AreRecords 0 records → middle < length records → key_of records middle < key
+pub keys_below : (records : List (ℕ × List ℕ)) (key middle : ℕ) → AreRecords 0 records → middle < length records
+    → key_of records middle < key
     → (k : ℕ) → k < middle + 1 → key_of records k < key
 keys_below records key middle are inside below k low = elim (cases_order k middle) [
   | inl level ↦ let same = ap (λ (n : ℕ). key_of records n) level in omega (arith, same, below)

@@ -1,5 +1,6 @@
 -- The marks of records.
-use Rattle.std.proofs.Common.{◌≡◌, ◌⊎◌, ℕ, ◌+◌, ◌*◌, List, [], ◌∷◌, ◌++◌, length, get_or, take, sym, ap, ◌∙◌, arith, length-append, inl, inr}
+use Rattle.std.proofs.Common.{◌≡◌, ◌⊎◌, ℕ, ◌+◌, ◌*◌, List, [], ◌∷◌, ◌++◌, length, get_or, take, sym, ap, ◌∙◌, arith, length-append, inl}
+use Rattle.std.proofs.Common.{inr}
 use Rattle.std.proofs.Math.Seq.{take-append_seam}
 use Rattle.std.proofs.lemmas.List.{get_or_append_left, get_or_push, take-append-le}
 use Rattle.std.proofs.lemmas.Bool.{cases_order}
@@ -10,12 +11,14 @@ pub no_marks : (records : List (ℕ × List ℕ)) (marks : List ℕ) → marks �
 no_marks records marks none k d inside = let long = ap (λ (l : List ℕ). length l) none in absurd (omega (arith, inside, long))
 
 -- with a record more they are marks still
-marks_longer : (records : List (ℕ × List ℕ)) (one : ℕ × List ℕ) (marks : List ℕ) → AreMarks records marks → AreMarks (records ++ one ∷ []) marks
+marks_longer : (records : List (ℕ × List ℕ)) (one : ℕ × List ℕ) (marks : List ℕ) → AreMarks records marks
+    → AreMarks (records ++ one ∷ []) marks
 marks_longer records one marks are k d inside =
     let was = are k d inside in
     let long = length-append records (one ∷ []) in (
       omega (arith, was.0, long),
-      was.1 ∙ ap (λ (l : List (ℕ × List ℕ)). length (records_bytes l)) (sym (take-append-le (16 * (k + 1)) records (one ∷ []) (omega (arith, was.0)))),
+      was.1 ∙ ap (λ (l : List (ℕ × List ℕ)). length (records_bytes l))
+          (sym (take-append-le (16 * (k + 1)) records (one ∷ []) (omega (arith, was.0)))),
     )
 
 -- and the record may be the next that is marked

@@ -1,5 +1,6 @@
 -- Rising records with rising changes made to them.
-use Rattle.std.proofs.Common.{◌≡◌, ◌≢◌, ℕ, zero, suc, ◌+◌, ◌-◌, ◌<◌, ◌≤◌, max, Bool, cond, List, [], ◌∷◌, ◌++◌, length, get_or, take, drop, Option, Some, None, Vec, refl, sym, ap, subst, ◌∙◌, arith, inl, inr, eq-eqb, append_assoc, slice_get}
+use Rattle.std.proofs.Common.{◌≡◌, ◌≢◌, ℕ, zero, suc, ◌+◌, ◌-◌, ◌<◌, ◌≤◌, max, Bool, cond, List, [], ◌∷◌, ◌++◌, length, get_or, take, drop}
+use Rattle.std.proofs.Common.{Option, Some, None, Vec, refl, sym, ap, subst, ◌∙◌, arith, inl, inr, eq-eqb, append_assoc, slice_get}
 use Rattle.std.proofs.lemmas.Bool.{ne_eqb, cases_lt, cases_order, lt-ltb, le-ltb}
 use Rattle.std.proofs.lemmas.List.{drop_more, drop_all, get_or-drop, drop-drop, length-drop, take_rest}
 use Rattle.std.specs.Option.{option_map}
@@ -34,7 +35,8 @@ behind_none : (key : ℕ) → behind key [] ≡ []
 unfolding behind
 behind_none key = refl
 
-pub behind_end : (records : List (ℕ × List ℕ)) (key place : ℕ) → length records ≤ place → drop place records ≡ behind key (drop place records)
+pub behind_end : (records : List (ℕ × List ℕ)) (key place : ℕ) → length records ≤ place
+    → drop place records ≡ behind key (drop place records)
 behind_end records key place past =
     let none = drop_all place records past in
     none ∙ sym (behind_none key) ∙ ap (λ (l : List (ℕ × List ℕ)). behind key l) (sym none)
@@ -49,7 +51,8 @@ pub behind_apart : (records : List (ℕ × List ℕ)) (key place : ℕ) → plac
     → drop place records ≡ behind key (drop place records)
 behind_apart records key place inside other =
     let whole = drop_more records place (0, []) inside in
-    whole ∙ sym (ap (λ (l : List (ℕ × List ℕ)). behind key l) whole ∙ behind_other key (get_or records place (0, [])) (drop (place + 1) records) other)
+    whole ∙ sym (ap (λ (l : List (ℕ × List ℕ)). behind key l) whole
+    ∙ behind_other key (get_or records place (0, [])) (drop (place + 1) records) other)
 
 -- so many records at the front are below the key, and the one behind them is not
 below_take : (records : List (ℕ × List ℕ)) (key n : ℕ) → n ≤ length records → ((k : ℕ) → k < n → key_of records k < key)
@@ -96,7 +99,8 @@ apart_behind records key place at is within =
           omega (arith, high, behind-at (place - at)),
     )
 
-pub below_between : (records : List (ℕ × List ℕ)) (key place at to : ℕ) → IsPlaceOf records key place → at ≤ length records → to ≡ max place at
+pub below_between : (records : List (ℕ × List ℕ)) (key place at to : ℕ) → IsPlaceOf records key place → at ≤ length records
+    → to ≡ max place at
     → below key (drop at records) ≡ take (to - at) (drop at records)
 below_between records key place at to is within to-is =
     let apart = apart_behind records key place at is within in
@@ -122,7 +126,8 @@ no_change = (0, None)
 
 -- what each of these changes makes is a record
 abbrev pub AreMade : ChangeList → ℕ → Type 0
-AreMade changes count = (k : ℕ) → k < count → AreRecords (get_or changes k no_change).0 (made (get_or changes k no_change).0 (get_or changes k no_change).1)
+AreMade changes count = (k : ℕ) → k < count
+    → AreRecords (get_or changes k no_change).0 (made (get_or changes k no_change).0 (get_or changes k no_change).1)
 
 -- records below a key, and then records from it on
 rise_below : (least key : ℕ) (records more : List (ℕ × List ℕ)) → least ≤ key → AreRecords least records → AreRecords key more
@@ -180,7 +185,8 @@ rise_later least records (one ∷ changes) are rise is =
     (rise_later (one.0 + 1) (behind one.0 (from one.0 records)) changes
     (rise_behind one.0 (from one.0 records) (rise_from least one.0 records are)) rise.1 (λ k inside. is (suc k) (omega arith))))
 
-pub merged_rise : (records : List (ℕ × List ℕ)) (changes : ChangeList) → AreRecords 0 records → RiseFrom 0 changes → AreMade changes (length changes)
+pub merged_rise : (records : List (ℕ × List ℕ)) (changes : ChangeList) → AreRecords 0 records → RiseFrom 0 changes
+    → AreMade changes (length changes)
     → AreRecords 0 (merged records changes)
 merged_rise records changes are rise is = rise_later 0 records changes are rise is
 
@@ -207,7 +213,8 @@ find_under least q key [] more are under none = none
 find_under least q key (one ∷ records) more are under none = elim (cases_lt one.0 key) [
   | inl inside ↦
       ap (λ (b : Bool). find nat_cmp q (cond b (one ∷ below key records) [] ++ more)) (lt-ltb one.0 key inside)
-      ∙ ap (λ (o : Option (List ℕ)). cond (is_eq (nat_cmp q one.0)) (Some one.1) o) (find_under (one.0 + 1) q key records more are.2 under none)
+      ∙ ap (λ (o : Option (List ℕ)). cond (is_eq (nat_cmp q one.0)) (Some one.1) o)
+      (find_under (one.0 + 1) q key records more are.2 under none)
   | inr over ↦
       ap (λ (b : Bool). find nat_cmp q (cond b (one ∷ below key records) [] ++ more)) (le-ltb one.0 key over)
       ∙ none ∙ sym (find_low one.0 q (one ∷ records) (omega arith, are.1, are.2) (omega arith))
@@ -278,18 +285,22 @@ find_merged least q records (one ∷ changes) are rise is =
           find_over q one.0 records (made one.0 one.1 ++ more) (omega (arith, same))
           ∙ ap (λ (n : ℕ). find nat_cmp n (made one.0 one.1 ++ more)) same
           ∙ find_made_here one.0 one.1 more (find_low (one.0 + 1) one.0 more are-more (omega arith))
-          ∙ sym (ap (λ (r : Ordering). picked (cond (is_eq r) (Some one.1) (lookup (is_at (nat_cmp q)) changes)) (find nat_cmp q records)) (equal_of q one.0 same))
+          ∙ sym (ap (λ (r : Ordering). picked (cond (is_eq r) (Some one.1) (lookup (is_at (nat_cmp q)) changes)) (find nat_cmp q records))
+          (equal_of q one.0 same))
       | inr (inl under) ↦
           find_under least q one.0 records (made one.0 one.1 ++ more) are under (find_low one.0 q (made one.0 one.1 ++ more) are-made under)
-          ∙ sym (ap (λ (r : Ordering). picked (cond (is_eq r) (Some one.1) (lookup (is_at (nat_cmp q)) changes)) (find nat_cmp q records)) (less_of q one.0 under)
-          ∙ ap (λ (o : Option (Option (Vec ℕ Global))). picked o (find nat_cmp q records)) (lookup_low (one.0 + 1) q changes rise.1 (omega arith)))
+          ∙ sym (ap (λ (r : Ordering). picked (cond (is_eq r) (Some one.1) (lookup (is_at (nat_cmp q)) changes)) (find nat_cmp q records))
+          (less_of q one.0 under)
+          ∙ ap (λ (o : Option (Option (Vec ℕ Global))). picked o (find nat_cmp q records))
+          (lookup_low (one.0 + 1) q changes rise.1 (omega arith)))
       | inr (inr over) ↦
           find_over q one.0 records (made one.0 one.1 ++ more) (omega arith)
           ∙ find_made_apart q one.0 one.1 more (λ same. omega (arith, same))
           ∙ find_merged (one.0 + 1) q later changes are-later rise.1 is-later
           ∙ ap (λ (o : Option (List ℕ)). picked (lookup (is_at (nat_cmp q)) changes) o)
           (find_behind q one.0 (from one.0 records) over ∙ find_from q one.0 records (omega arith))
-          ∙ sym (ap (λ (r : Ordering). picked (cond (is_eq r) (Some one.1) (lookup (is_at (nat_cmp q)) changes)) (find nat_cmp q records)) (greater_of q one.0 over))
+          ∙ sym (ap (λ (r : Ordering). picked (cond (is_eq r) (Some one.1) (lookup (is_at (nat_cmp q)) changes)) (find nat_cmp q records))
+          (greater_of q one.0 over))
     ]
 
 -- the map of records with changes has the entries that are merged of them
@@ -297,7 +308,8 @@ pub entries_merged : (records : List (ℕ × List ℕ)) (changes : ChangeList) �
     → AreMade changes (length changes) → map.entries (changed (map_of records) changes) ≡ merged records changes
 entries_merged records changes are rise is =
     same_entries nat_cmp nat_cmp_total map.nat_cmp-IsAntisymmetric (map.entries (changed (map_of records) changes)) (merged records changes)
-    (map.entries_sorted (changed (map_of records) changes)) (sorted_rise 0 (merged records changes) (merged_rise records changes are rise is))
+    (map.entries_sorted (changed (map_of records) changes))
+    (sorted_rise 0 (merged records changes) (merged_rise records changes are rise is))
     (λ q. sym (map.get-entries (changed (map_of records) changes) q) ∙ get-changed (map_of records) changes q
     ∙ ap (λ (o : Option (List ℕ)). picked (lookup (is_at (nat_cmp q)) changes) o) (get-map_of records q are)
     ∙ sym (find_merged 0 q records changes are rise is))
@@ -344,7 +356,8 @@ merge_one records one changes =
     ∙ ap (λ (l : List ℕ). records_bytes (below one.0 records) ++ l) (records_bytes-append (made one.0 one.1) more)
     ∙ sym (append_assoc (records_bytes (below one.0 records)) (records_bytes (made one.0 one.1)) (records_bytes more))
 
-pub merge_step : (records : List (ℕ × List ℕ)) (changes : ChangeList) (k at next key : ℕ) (own : Option (Vec ℕ Global)) (out more whole : List ℕ)
+pub merge_step : (records : List (ℕ × List ℕ)) (changes : ChangeList) (k at next key : ℕ) (own : Option (Vec ℕ Global))
+    (out more whole : List ℕ)
     → slice_get changes k ≡ Some (key, own)
     → more ≡ out ++ (records_bytes (below key (drop at records)) ++ records_bytes (made key own))
     → drop next records ≡ behind key (from key (drop at records))

@@ -22,7 +22,12 @@ begins_of bytes key value rest starts =
 some_bytes : (one : ℕ × List ℕ) (records : List (ℕ × List ℕ)) → [] ≡ records_bytes (one ∷ records) → ⊥
 unfolding records_bytes
 some_bytes one records same =
-    omega (arith, ap (λ (l : List ℕ). length l) same, length-append (record_bytes one.0 one.1) (records_bytes records), length-record_bytes one.0 one.1)
+    omega (
+      arith,
+      ap (λ (l : List ℕ). length l) same,
+      length-append (record_bytes one.0 one.1) (records_bytes records),
+      length-record_bytes one.0 one.1,
+    )
 
 no_bytes : (records : List (ℕ × List ℕ)) → records_bytes [] ≡ records_bytes records → [] ≡ records
 unfolding records_bytes
@@ -37,7 +42,8 @@ records_one least low (first ∷ one) [] are-one are-two same = sym (no_bytes (f
 records_one least low (first ∷ one) (second ∷ two) are-one are-two same =
     let starts = front_of_records (records_bytes (first ∷ one)) first one least are-one refl in
     let other = front_of_records (records_bytes (first ∷ one)) second two low are-two same in
-    let alone = (begins_of (records_bytes (first ∷ one)) first.0 first.1 (records_bytes one) starts).alone second.0 second.1 (records_bytes two) other in
+    let alone = (begins_of (records_bytes (first ∷ one)) first.0 first.1 (records_bytes one) starts).alone second.0 second.1
+    (records_bytes two) other in
     let later = records_one (first.0 + 1) (second.0 + 1) one two are-one.2 are-two.2 (sym alone.2) in
     let key = sym alone.0 in
     let value = sym alone.1 in

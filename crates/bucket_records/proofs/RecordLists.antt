@@ -1,5 +1,6 @@
 -- Records one after another.
-use Rattle.std.proofs.Common.{◌≡◌, ℕ, zero, suc, ◌+◌, ◌*◌, ◌%◌, ◌<◌, ◌≤◌, List, [], ◌∷◌, ◌++◌, length, refl, sym, ap, ◌∙◌, arith, append_assoc, length-append}
+use Rattle.std.proofs.Common.{◌≡◌, ℕ, zero, suc, ◌+◌, ◌*◌, ◌%◌, ◌<◌, ◌≤◌, List, [], ◌∷◌, ◌++◌, length, refl, sym, ap, ◌∙◌, arith}
+use Rattle.std.proofs.Common.{append_assoc, length-append}
 use Rattle.value_bytes.specs.Numbers.{number_bytes, counted_bytes}
 use Rattle.value_bytes.proofs.NumberLaws.{length-number_bytes}
 use Rattle.bucket_records.specs.Records.{record_bytes, records_bytes, AreRecords, AreOf, IsRecord}

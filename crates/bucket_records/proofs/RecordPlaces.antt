@@ -1,5 +1,6 @@
 -- The records at their places in the bytes.
-use Rattle.std.proofs.Common.{◌≡◌, ◌⊎◌, ℕ, zero, suc, ◌+◌, ◌*◌, ◌-◌, ◌<◌, ◌≤◌, List, [], ◌∷◌, ◌++◌, length, take, drop, refl, sym, ap, subst, ◌∙◌, arith, append_assoc, length-append}
+use Rattle.std.proofs.Common.{◌≡◌, ◌⊎◌, ℕ, zero, suc, ◌+◌, ◌*◌, ◌-◌, ◌<◌, ◌≤◌, List, [], ◌∷◌, ◌++◌, length, take, drop, refl, sym, ap}
+use Rattle.std.proofs.Common.{subst, ◌∙◌, arith, append_assoc, length-append}
 use Rattle.std.proofs.Math.Seq.{take-append_seam, drop-append_seam, take-add}
 use Rattle.std.proofs.lemmas.List.{drop-drop, append-nil, take-append-drop, drop_more}
 use Rattle.std.proofs.lemmas.Nat.{from_le_bytes-to_le_bytes_8}
@@ -9,7 +10,8 @@ use Rattle.value_bytes.proofs.NumberLaws.{length-number_bytes}
 use Rattle.bucket_records.specs.Records.{record_bytes, records_bytes, AreRecords, IsRecord, IsBucket}
 use Rattle.bucket_records.specs.Places.{number, record_at, records_from, IsIndexed, Lies, key_of, value_of}
 use Rattle.bucket_records.specs.Spelling.{StartsRecord}
-use Rattle.bucket_records.proofs.RecordLists.{records_bytes-append, records_bytes-one, AreRecords-append, AreRecords-one, end_of, end_above, length-record_bytes}
+use Rattle.bucket_records.proofs.RecordLists.{records_bytes-append, records_bytes-one, AreRecords-append, AreRecords-one, end_of, end_above}
+use Rattle.bucket_records.proofs.RecordLists.{length-record_bytes}
 use Rattle.bucket_records.proofs.Marks.{marks_more}
 
 number_again : (n : ℕ) → IsNumber n → from_le_bytes w64 (number_bytes n) ≡ n
@@ -29,7 +31,8 @@ number_there bytes at n rest small there =
     ap (λ (l : List ℕ). from_le_bytes w64 (take 8 l)) there
     ∙ ap (λ (l : List ℕ). from_le_bytes w64 l) (take_front (number_bytes n) rest 8 (sym (length-number_bytes n))) ∙ number_again n small
 
-drop_again : (bytes : List ℕ) (at more : ℕ) (front rest : List ℕ) → drop at bytes ≡ front ++ rest → more ≡ length front → drop (at + more) bytes ≡ rest
+drop_again : (bytes : List ℕ) (at more : ℕ) (front rest : List ℕ) → drop at bytes ≡ front ++ rest → more ≡ length front
+    → drop (at + more) bytes ≡ rest
 drop_again bytes at more front rest there is =
     sym (drop-drop more at bytes) ∙ ap (λ (l : List ℕ). drop more l) there ∙ drop_front front rest more is
 
@@ -37,25 +40,31 @@ pair_same : {n m : ℕ} {xs ys : List ℕ} → n ≡ m → xs ≡ ys → ◌≡�
 pair_same first second = λ i. (first i, second i)
 
 -- the length of the value stands behind the key
-pub count_there : (bytes : List ℕ) (at key : ℕ) (value rest : List ℕ) → IsRecord (key, value) → drop at bytes ≡ record_bytes key value ++ rest
+pub count_there : (bytes : List ℕ) (at key : ℕ) (value rest : List ℕ) → IsRecord (key, value)
+    → drop at bytes ≡ record_bytes key value ++ rest
     → number bytes (at + 8) ≡ length value
 unfolding record_bytes counted_bytes
 count_there bytes at key value rest is there =
     let count = number_bytes (length value) in
-    let front : drop at bytes ≡ number_bytes key ++ (count ++ value ++ rest) = there ∙ append_assoc (number_bytes key) (count ++ value) rest in
+    let front : drop at bytes ≡ number_bytes key ++ (count ++ value ++ rest) =
+    there ∙ append_assoc (number_bytes key) (count ++ value) rest in
     let middle : drop (at + 8) bytes ≡ count ++ (value ++ rest) =
-    drop_again bytes at 8 (number_bytes key) (count ++ value ++ rest) front (sym (length-number_bytes key)) ∙ append_assoc count value rest in
+    drop_again bytes at 8 (number_bytes key) (count ++ value ++ rest) front (sym (length-number_bytes key))
+    ∙ append_assoc count value rest in
     number_there bytes (at + 8) (length value) (value ++ rest) is.1 middle
 
-pub record_there : (bytes : List ℕ) (at key : ℕ) (value rest : List ℕ) → IsRecord (key, value) → drop at bytes ≡ record_bytes key value ++ rest
+pub record_there : (bytes : List ℕ) (at key : ℕ) (value rest : List ℕ) → IsRecord (key, value)
+    → drop at bytes ≡ record_bytes key value ++ rest
     → record_at bytes at ≡ (key, value)
 unfolding record_at record_bytes counted_bytes
 record_there bytes at key value rest is there =
     let count = number_bytes (length value) in
-    let front : drop at bytes ≡ number_bytes key ++ (count ++ value ++ rest) = there ∙ append_assoc (number_bytes key) (count ++ value) rest in
+    let front : drop at bytes ≡ number_bytes key ++ (count ++ value ++ rest) =
+    there ∙ append_assoc (number_bytes key) (count ++ value) rest in
     let first = number_there bytes at key (count ++ value ++ rest) is.0 front in
     let middle : drop (at + 8) bytes ≡ count ++ (value ++ rest) =
-    drop_again bytes at 8 (number_bytes key) (count ++ value ++ rest) front (sym (length-number_bytes key)) ∙ append_assoc count value rest in
+    drop_again bytes at 8 (number_bytes key) (count ++ value ++ rest) front (sym (length-number_bytes key))
+    ∙ append_assoc count value rest in
     let second = number_there bytes (at + 8) (length value) (value ++ rest) is.1 middle in
     let eight : at + 8 + 8 ≡ at + 16 = omega arith in
     let last : drop (at + 16) bytes ≡ value ++ rest =
@@ -179,7 +188,8 @@ highest_push (one ∷ records) key value above (suc k) inside =
     highest_push records key value (λ j within. above (suc j) (omega (arith, within))) k (omega (arith, inside))
 
 -- a record more at the end
-pub lies_push : (bytes more : List ℕ) (count last : ℕ) (marks places : List ℕ) (records : List (ℕ × List ℕ)) (key : ℕ) (value : List ℕ) (begin : ℕ)
+pub lies_push : (bytes more : List ℕ) (count last : ℕ) (marks places : List ℕ) (records : List (ℕ × List ℕ)) (key : ℕ) (value : List ℕ)
+    (begin : ℕ)
     → Lies bytes records count last marks → ((k : ℕ) → k < length records → key_of records k < key) → IsRecord (key, value)
     → more ≡ bytes ++ record_bytes key value → begin ≡ length bytes
     → (places ≡ marks) ⊎ ((16 * (length marks + 1) ≡ count) × (places ≡ marks ++ begin ∷ []))

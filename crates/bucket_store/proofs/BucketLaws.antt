@@ -1,5 +1,6 @@
 -- Buckets and the numbers of their chains.
-use Rattle.std.proofs.Common.{◌≡◌, ℕ, ◌+◌, ◌-◌, ◌*◌, ◌/◌, ◌%◌, ◌<◌, cond, List, [], ◌∷◌, Option, Some, refl, sym, ap, subst, ◌∙◌, arith, inl, inr}
+use Rattle.std.proofs.Common.{◌≡◌, ℕ, ◌+◌, ◌-◌, ◌*◌, ◌/◌, ◌%◌, ◌<◌, cond, List, [], ◌∷◌, Option, Some, refl, sym, ap, subst, ◌∙◌, arith}
+use Rattle.std.proofs.Common.{inl, inr}
 use Rattle.std.proofs.lemmas.Bool.{cases_order}
 use Rattle.std.specs.Option.{IsSome}
 use Rattle.std.specs.Ordering.{nat_cmp, is_eq}
@@ -62,7 +63,8 @@ of_keys least buckets bucket (one ∷ records) are keys = (
   ])),
 )
 
-pub keys_given : (count buckets place bucket : ℕ) (read bytes : List ℕ) (values : BucketMap) → count ≡ buckets → place ≡ bucket → read ≡ bytes
+pub keys_given : (count buckets place bucket : ℕ) (read bytes : List ℕ) (values : BucketMap) → count ≡ buckets → place ≡ bucket
+    → read ≡ bytes
     → IsBucket count place read (map.entries values) → IsBucket buckets bucket bytes (map.entries values)
 keys_given count buckets place bucket read bytes values many here same is =
     let first = subst (λ (n : ℕ). IsBucket n place read (map.entries values)) many is in

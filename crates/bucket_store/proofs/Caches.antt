@@ -1,5 +1,6 @@
 -- The buckets of a transaction in a tree, as a finite map.
-use Rattle.std.proofs.Common.{◌≡◌, ◌≢◌, ◌⊎◌, ◌-◌, ◌<◌, ℕ, Bool, true, cond, List, Option, Some, None, Result, Ok, Err, sym, ap, subst, ◌∙◌, arith, inl, inr}
+use Rattle.std.proofs.Common.{◌≡◌, ◌≢◌, ◌⊎◌, ◌-◌, ◌<◌, ℕ, Bool, true, cond, List, Option, Some, None, Result, Ok, Err, sym, ap, subst, ◌∙◌}
+use Rattle.std.proofs.Common.{arith, inl, inr}
 use Rattle.std.proofs.lemmas.Bool.{cases_order}
 use Rattle.std.specs.declared.cmp.Ordering.{Ordering}
 use Rattle.bucket_records.proofs.MapLaws.{less_of, equal_of, greater_of}
@@ -43,7 +44,8 @@ some_there own = cc
 pub none_there : (n : ℕ) (entries : List (ℕ × Cached)) (seen : CacheMap) → map.from_entries entries ≡ seen → IsSome (map.get seen n)
     → None ≡ lookup (is_at (nat_cmp n)) entries → ⊥
 none_there n entries seen is there none =
-    let same = none ∙ seen_get n entries seen is in absurd (let P : Option Cached → Type 0 = λ o. IsSome o in not_none (subst P (sym same) there))
+    let same = none ∙ seen_get n entries seen is in
+    absurd (let P : Option Cached → Type 0 = λ o. IsSome o in not_none (subst P (sym same) there))
 
 pub same_there : (n : ℕ) (entries : List (ℕ × Cached)) (seen : CacheMap) (found own : Cached) → map.from_entries entries ≡ seen
     → Some found ≡ lookup (is_at (nat_cmp n)) entries → map.get seen n ≡ Some own → found ≡ own
@@ -114,7 +116,8 @@ pub get_less : (old new : CacheMap) (n k : ℕ) → new ≡ map.remove old n →
 get_less old new n k is = ap (λ (m : CacheMap). map.get m k) is ∙ map.get-remove nat_cmp_total old n k
 
 -- what holds of the buckets that were taken out holds of one more
-pub rise_less : (old new : CacheMap) (n : ℕ) (out : Cached) (k : ℕ) (own : Cached) (P : Type 0) → map.get old n ≡ Some out → new ≡ map.remove old n
+pub rise_less : (old new : CacheMap) (n : ℕ) (out : Cached) (k : ℕ) (own : Cached) (P : Type 0) → map.get old n ≡ Some out
+    → new ≡ map.remove old n
     → (out ≡ own → P) → (map.get old k ≡ Some own) ⊎ P → (map.get new k ≡ Some own) ⊎ P
 rise_less old new n out k own P there is leads (inr has) = inr has
 rise_less old new n out k own P there is leads (inl here) = elim (cases_order k n) [

@@ -1,5 +1,6 @@
 -- What a call leaves and keeps, by what the calls below it do.
-use Rattle.std.proofs.Common.{◌≡◌, ◌≢◌, ◌*◌, ◌≤◌, ◌||◌, inl, ℕ, Bool, true, false, List, None, Result, Ok, Err, refl, sym, ap, subst, ◌∙◌, arith}
+use Rattle.std.proofs.Common.{◌≡◌, ◌≢◌, ◌*◌, ◌≤◌, ◌||◌, inl, ℕ, Bool, true, false, List, None, Result, Ok, Err, refl, sym, ap, subst, ◌∙◌}
+use Rattle.std.proofs.Common.{arith}
 use Rattle.std.specs.FinMap as map
 use Rattle.std.specs.Option.{MatchOption}
 use Rattle.std.specs.Result.{IsErrOf, OnOk, is_err}
@@ -34,7 +35,8 @@ ok_of : {T E : Type 0} (result : Result T E) (P : Type 0) → P → OnOk result 
 ok_of (Ok value) P holds = holds
 ok_of (Err error) P holds = tt
 
-pub alone_of : (T U : Type 0) (broken : Bool) (fault : StoreFault) → IsReadAnswer {T = T} broken (Err fault) → IsReadAnswer {T = U} broken (Err fault)
+pub alone_of : (T U : Type 0) (broken : Bool) (fault : StoreFault) → IsReadAnswer {T = T} broken (Err fault)
+    → IsReadAnswer {T = U} broken (Err fault)
 alone_of T U broken refusals.NotFormatted is = is
 alone_of T U broken refusals.NotEmpty is = is
 alone_of T U broken (refusals.BadStore page) is = is
@@ -49,15 +51,21 @@ fault_is T one other same = ap (λ (r : Result T StoreFault). elim r [ Ok value 
 pub err_of : (T U : Type 0) (one other : StoreFault) → IsErrOf {T = T} (Err one) other → IsErrOf {T = U} (Err one) other
 err_of T U one other same = ap (λ (fault : StoreFault). Err fault) (fault_is T one other same)
 
-pub cause_of : (T U : Type 0) (before now : ℕ) (fault : StoreFault) → HasDiskCause {T = T} before now (Err fault) → HasDiskCause {T = U} before now (Err fault)
-cause_of T U before now fault cause = record { later = cause.later; failed = λ failed. cause.failed (err_of U T fault refusals.DiskFault failed) }
+pub cause_of : (T U : Type 0) (before now : ℕ) (fault : StoreFault) → HasDiskCause {T = T} before now (Err fault)
+    → HasDiskCause {T = U} before now (Err fault)
+cause_of T U before now fault cause = record {
+  later = cause.later;
+  failed =
+      λ failed. cause.failed (err_of U T fault refusals.DiskFault failed);
+}
 
 -- an answer that is not of the disk
 quiet_fails : {T : Type 0} (result : Result T StoreFault) → answers_disk_fault result ≡ false → IsErrOf result refusals.DiskFault → ⊥
 quiet_fails {T} result quiet is =
     absurd (let told : true ≡ false = sym (ap (λ (r : Result T StoreFault). answers_disk_fault r) is) ∙ quiet in cc (told))
 
-pub quiet_cause : {T : Type 0} (before now : ℕ) (result : Result T StoreFault) → answers_disk_fault result ≡ false → before ≤ now → HasDiskCause before now result
+pub quiet_cause : {T : Type 0} (before now : ℕ) (result : Result T StoreFault) → answers_disk_fault result ≡ false → before ≤ now
+    → HasDiskCause before now result
 quiet_cause before now result quiet later = record { later = later; failed = λ is. absurd (quiet_fails result quiet is) }
 
 pub or_none : (b : Bool) → b ≡ (b || false)
@@ -77,8 +85,10 @@ module _ {D : Type 0} {g : Ghosts D} where
   brings_read pages buckets n refusals.OutOfMemory none is = tt
 
   -- a call that only reads
-  pub leaves_read : {T : Type 0} (Read : Type 0) (old new : Buckets D g) (result : Result T StoreFault) → OnlyRead (chains_of old) (chains_of new)
-      → ((pages : List (List ℕ)) → IsOpenStore pages old → IsOpenStore pages new) → IsReadAnswer (is_broken (journal_of (chains_of old))) result
+  pub leaves_read : {T : Type 0} (Read : Type 0) (old new : Buckets D g) (result : Result T StoreFault)
+      → OnlyRead (chains_of old) (chains_of new)
+      → ((pages : List (List ℕ)) → IsOpenStore pages old → IsOpenStore pages new)
+      → IsReadAnswer (is_broken (journal_of (chains_of old))) result
       → is_broken (journal_of (chains_of new)) ≡ (is_broken (journal_of (chains_of old)) || answers_disk_fault result) → OnOk result Read
       → has_refused new ≡ is_err result → HasDiskCause (disk_of (chains_of old)).faults (disk_of (chains_of new)).faults result
       → LeavesStore Read old new result
@@ -96,9 +106,11 @@ module _ {D : Type 0} {g : Ghosts D} where
   pub keeps_read : {T : Type 0} (old new : Buckets D g) (result : Result T StoreFault) → OnlyRead (chains_of old) (chains_of new)
       → ((pages : List (List ℕ)) → IsOpenStore pages old → IsOpenStore pages new)
       → is_broken (journal_of (chains_of new)) ≡ (is_broken (journal_of (chains_of old)) || answers_disk_fault result)
-      → ((pages : List (List ℕ)) → IsOpenStore pages old → (other : ℕ) (values : BucketMap) → Content pages old other values → Content pages new other values)
+      → ((pages : List (List ℕ)) → IsOpenStore pages old → (other : ℕ) (values : BucketMap) → Content pages old other values
+      → Content pages new other values)
       → KeepsContent old new result
-  keeps_read old new result stays opens broken content = record { content = content; has = has_read old new result stays broken opens content }
+  keeps_read old new result stays opens broken content =
+      record { content = content; has = has_read old new result stays broken opens content }
 
   -- and reads no bucket
   opens_low : (old new : Buckets D g) → cached_of new ≡ cached_of old → OnlyRead (chains_of old) (chains_of new)
@@ -116,16 +128,20 @@ module _ {D : Type 0} {g : Ghosts D} where
       → LeavesStore Read old new result
   leaves_low Read old new result same stays opened = leaves_read Read old new result stays (opens_low old new same stays opened)
 
-  pub keeps_low : {T : Type 0} (old new : Buckets D g) (result : Result T StoreFault) → cached_of new ≡ cached_of old → OnlyRead (chains_of old) (chains_of new)
+  pub keeps_low : {T : Type 0} (old new : Buckets D g) (result : Result T StoreFault) → cached_of new ≡ cached_of old
+      → OnlyRead (chains_of old) (chains_of new)
       → ((pages : List (List ℕ)) → IsOpen pages (chains_of old) → IsOpen pages (chains_of new))
-      → is_broken (journal_of (chains_of new)) ≡ (is_broken (journal_of (chains_of old)) || answers_disk_fault result) → KeepsContent old new result
+      → is_broken (journal_of (chains_of new)) ≡ (is_broken (journal_of (chains_of old)) || answers_disk_fault result)
+      → KeepsContent old new result
   keeps_low old new result same stays opened broken =
       keeps_read old new result stays (opens_low old new same stays opened) broken
-      (λ pages was n values has. subst (λ (m : CacheMap). MatchOption (map.get m n) (Stored pages (chains_of new) n values) (λ it. it.bucket.values ≡ values)) (sym same)
+      (λ pages was n values has. subst (λ (m : CacheMap).
+      MatchOption (map.get m n) (Stored pages (chains_of new) n values) (λ it. it.bucket.values ≡ values)) (sym same)
       (match_later (map.get (cached_of old) n) pages (chains_of old) (chains_of new) n values stays has))
 
   -- the fields alone are others
-  pub looks_fields : (old new : Buckets D g) → journal_of (chains_of new) ≡ journal_of (chains_of old) → kept_of (chains_of new) ≡ kept_of (chains_of old)
+  pub looks_fields : (old new : Buckets D g) → journal_of (chains_of new) ≡ journal_of (chains_of old)
+      → kept_of (chains_of new) ≡ kept_of (chains_of old)
       → OnlyLooks old new
   looks_fields old new journal kept = record {
     looked = subst (λ (j : Journal D g). Looked (journal_of (chains_of old)) j) (sym journal) (looked_same (journal_of (chains_of old)));
@@ -134,13 +150,18 @@ module _ {D : Type 0} {g : Ghosts D} where
   }
 
   -- nothing is done
-  pub touches_none : {T : Type 0} (n : ℕ) (buckets : Buckets D g) (value : T) → has_refused buckets ≡ false → TouchesChain n buckets buckets (Ok value)
+  pub touches_none : {T : Type 0} (n : ℕ) (buckets : Buckets D g) (value : T) → has_refused buckets ≡ false
+      → TouchesChain n buckets buckets (Ok value)
   touches_none n buckets value going = record {
     opens = λ pages was. was;
     alone = tt;
     stays = read_same buckets buckets refl;
     broken = or_none (is_broken (journal_of (chains_of buckets)));
-    reads = inl (refl, reads_none 0 (PAGE_LEN * home_count (journal_of (chains_of buckets))) (disk_of (chains_of buckets)).reads (disk_of (chains_of buckets)).reads refl);
+    reads = inl (
+      refl,
+      reads_none 0 (PAGE_LEN * home_count (journal_of (chains_of buckets))) (disk_of (chains_of buckets)).reads
+          (disk_of (chains_of buckets)).reads refl,
+    );
     refused = going;
     cause = quiet_cause (disk_of (chains_of buckets)).faults (disk_of (chains_of buckets)).faults (Ok value) refl (omega arith);
     same = looks_same buckets;
@@ -150,8 +171,10 @@ module _ {D : Type 0} {g : Ghosts D} where
   keeps_same buckets result = record { content = λ pages was other values has. has; has = λ quiet rest now had. had }
 
   -- what was brought is changed in memory, or there is none
-  pub touches_after : {T U : Type 0} (n : ℕ) (old mid new : Buckets D g) (value : T) (result : Result U StoreFault) → TouchesChain n old mid (Ok value)
-      → chains_of new ≡ chains_of mid → ((pages : List (List ℕ)) → IsOpenStore pages mid → IsOpenStore pages new) → has_refused new ≡ is_err result
+  pub touches_after : {T U : Type 0} (n : ℕ) (old mid new : Buckets D g) (value : T) (result : Result U StoreFault)
+      → TouchesChain n old mid (Ok value)
+      → chains_of new ≡ chains_of mid → ((pages : List (List ℕ)) → IsOpenStore pages mid → IsOpenStore pages new)
+      → has_refused new ≡ is_err result
       → IsReadAnswer (is_broken (journal_of (chains_of old))) result → answers_disk_fault result ≡ false → TouchesChain n old new result
   touches_after n old mid new value result touches chains opens refused alone quiet = record {
     opens = λ pages was. opens pages (touches.opens pages was);
@@ -175,20 +198,24 @@ module _ {D : Type 0} {g : Ghosts D} where
   pub keeps_after : {T U : Type 0} (old mid new : Buckets D g) (value : T) (result : Result U StoreFault) → KeepsContent old mid (Ok value)
       → chains_of new ≡ chains_of mid → cached_of new ≡ cached_of mid → KeepsContent old new result
   keeps_after old mid new value result keeps chains cached = record {
-    content = λ pages was other values had. content_kept mid new chains cached pages other values (keeps.content pages was other values had);
+    content = λ pages was other values had. content_kept mid new chains cached pages other values
+        (keeps.content pages was other values had);
     has = λ quiet rest now had. has_same mid new chains cached rest now (keeps.has refl rest now had);
   }
 
   -- a key's bucket, once it is brought, is where it was, with what it had
   pub content_at : (which key : ℕ) (old mid : Buckets D g) → OnlyRead (chains_of old) (chains_of mid)
-      → ((pages : List (List ℕ)) → IsOpenStore pages old → (other : ℕ) (values : BucketMap) → Content pages old other values → Content pages mid other values)
+      → ((pages : List (List ℕ)) → IsOpenStore pages old → (other : ℕ) (values : BucketMap) → Content pages old other values
+      → Content pages mid other values)
       → (pages : List (List ℕ)) → IsOpenStore pages old → (values : BucketMap) → Content pages old (bucket_at old which key) values
       → Content pages mid (bucket_at mid which key) values
   content_at which key old mid stays content pages was values has =
-      subst (λ (n : ℕ). Content pages mid n values) (sym (at_same old mid which key stays)) (content pages was (bucket_at old which key) values has)
+      subst (λ (n : ℕ). Content pages mid n values) (sym (at_same old mid which key stays))
+      (content pages was (bucket_at old which key) values has)
 
   -- then its value is taken out
-  module _ (which key : ℕ) (old mid new : Buckets D g) {unit : Unit {0}} (touches : TouchesChain (bucket_at old which key) old mid (Ok unit))
+  module _ (which key : ℕ) (old mid new : Buckets D g) {unit : Unit {0}}
+      (touches : TouchesChain (bucket_at old which key) old mid (Ok unit))
       (brings : BringsThere which key old mid (Ok unit)) where
     others_then : ((pages : List (List ℕ)) → IsOpenStore pages mid → (other : ℕ) (values : BucketMap) → other ≢ bucket_at mid which key
         → Content pages mid other values → Content pages new other values)
@@ -198,16 +225,19 @@ module _ {D : Type 0} {g : Ghosts D} where
         others pages (touches.opens pages was) other values (λ same. apart (same ∙ at_same old mid which key touches.stays))
         (brings.keeps.content pages was other values has)
 
-    pub takes_then : (was : Bool) → ((pages : List (List ℕ)) → IsOpenStore pages mid → (values : BucketMap) → Content pages mid (bucket_at mid which key) values
+    pub takes_then : (was : Bool) → ((pages : List (List ℕ)) → IsOpenStore pages mid → (values : BucketMap)
+        → Content pages mid (bucket_at mid which key) values
         → (was ≡ map.contains_key values key) × Content pages new (bucket_at mid which key) (map.remove values key))
         → ((pages : List (List ℕ)) → IsOpenStore pages mid → (other : ℕ) (values : BucketMap) → other ≢ bucket_at mid which key
         → Content pages mid other values → Content pages new other values)
-        → ((rest now : Image) → Has rest now mid → (was ≡ map.contains_key (now.maps which) key) × Has rest (with_value which key None now) new)
+        → ((rest now : Image) → Has rest now mid
+        → (was ≡ map.contains_key (now.maps which) key) × Has rest (with_value which key None now) new)
         → TakesValue which key old new (Ok was)
     takes_then was taken others has = record {
       answers = λ pages opened. tt;
       here = λ pages opened values had.
-          let one = taken pages (touches.opens pages opened) values (content_at which key old mid touches.stays brings.keeps.content pages opened values had) in
+          let one = taken pages (touches.opens pages opened) values
+          (content_at which key old mid touches.stays brings.keeps.content pages opened values had) in
           (one.0, subst (λ (n : ℕ). Content pages new n (map.remove values key)) (at_same old mid which key touches.stays) one.1);
       others = others_then others;
       has = λ rest now had. has rest now (brings.keeps.has refl rest now had);
@@ -215,9 +245,11 @@ module _ {D : Type 0} {g : Ghosts D} where
     }
 
   -- a call on a transaction with the same chains and the same buckets is one on this
-  module _ {T : Type 0} (old mid new : Buckets D g) (result : Result T StoreFault) (chains : chains_of mid ≡ chains_of old) (cached : cached_of mid ≡ cached_of old) where
+  module _ {T : Type 0} (old mid new : Buckets D g) (result : Result T StoreFault) (chains : chains_of mid ≡ chains_of old)
+      (cached : cached_of mid ≡ cached_of old) where
     -- a bucket is refused for what was there
-    bad_same : (pages : List (List ℕ)) (n : ℕ) (answer : Result T StoreFault) → BringsBucket pages mid n answer → BringsBucket pages old n answer
+    bad_same : (pages : List (List ℕ)) (n : ℕ) (answer : Result T StoreFault) → BringsBucket pages mid n answer
+        → BringsBucket pages old n answer
     bad_same pages n (Ok value) is = tt
     bad_same pages n (Err refusals.NotFormatted) is = tt
     bad_same pages n (Err refusals.NotEmpty) is = tt
@@ -231,19 +263,24 @@ module _ {D : Type 0} {g : Ghosts D} where
     pub answers_same : (n other : ℕ) → n ≡ other → ((pages : List (List ℕ)) → IsOpenStore pages mid → BringsBucket pages mid n result)
         → (pages : List (List ℕ)) → IsOpenStore pages old → BringsBucket pages old other result
     answers_same n other at answers pages was =
-        subst (λ (k : ℕ). BringsBucket pages old k result) at (bad_same pages n result (answers pages (opens_same old mid chains cached pages was)))
+        subst (λ (k : ℕ). BringsBucket pages old k result) at
+        (bad_same pages n result (answers pages (opens_same old mid chains cached pages was)))
 
-  pub sets_same : (which key : ℕ) (bytes : List ℕ) (old mid new : Buckets D g) (result : Result (Unit {0}) StoreFault) → chains_of mid ≡ chains_of old
+  pub sets_same : (which key : ℕ) (bytes : List ℕ) (old mid new : Buckets D g) (result : Result (Unit {0}) StoreFault)
+      → chains_of mid ≡ chains_of old
       → cached_of mid ≡ cached_of old → SetsValue which key bytes mid new result → SetsValue which key bytes old new result
   sets_same which key bytes old mid new result chains cached sets =
       let at = ap (λ (c : Chains D g). chain_at (bucket_count c) which key) chains in
       record {
         answers = answers_same old mid new result chains cached (bucket_at mid which key) (bucket_at old which key) at sets.answers;
         here = on_ok result _ _ sets.here (λ here pages was values had.
-            subst (λ (n : ℕ). Content pages new n (map.insert values key bytes)) at (here pages (opens_same old mid chains cached pages was) values
-            (subst (λ (n : ℕ). Content pages mid n values) (sym at) (content_kept old mid chains cached pages (bucket_at old which key) values had))));
+            subst (λ (n : ℕ). Content pages new n (map.insert values key bytes)) at
+            (here pages (opens_same old mid chains cached pages was) values
+            (subst (λ (n : ℕ). Content pages mid n values) (sym at)
+            (content_kept old mid chains cached pages (bucket_at old which key) values had))));
         others = on_ok result _ _ sets.others (λ others pages was other values apart had.
-            others pages (opens_same old mid chains cached pages was) other values (λ same. apart (same ∙ at)) (content_kept old mid chains cached pages other values had));
+            others pages (opens_same old mid chains cached pages was) other values (λ same. apart (same ∙ at))
+            (content_kept old mid chains cached pages other values had));
         has = on_ok result _ _ sets.has (λ has rest now had. has rest now (has_same old mid chains cached rest now had));
         sound = λ rest now had. sets.sound rest now (has_same old mid chains cached rest now had);
       }

@@ -1,5 +1,6 @@
 -- The bytes of a store that was just formatted mean the empty store.
-use Rattle.std.proofs.Common.{◌≡◌, ◌≢◌, inl, inr, ℕ, ◌+◌, ◌-◌, ◌*◌, ◌%◌, ◌≤◌, List, [], ◌∷◌, length, replicate, refl, sym, subst, ◌∙◌, arith}
+use Rattle.std.proofs.Common.{◌≡◌, ◌≢◌, inl, inr, ℕ, ◌+◌, ◌-◌, ◌*◌, ◌%◌, ◌≤◌, List, [], ◌∷◌, length, replicate, refl, sym, subst, ◌∙◌}
+use Rattle.std.proofs.Common.{arith}
 use Rattle.std.proofs.lemmas.Bool.{cases_lt}
 use Rattle.std.proofs.lemmas.List.{get_or-replicate, length-replicate}
 use Rattle.page_journal.specs.Home.{Home, IsFresh, IsHomePage}
@@ -95,7 +96,8 @@ module _ (bytes : List ℕ) (is : IsFresh bytes) where
         holds = omega (arith, long);
         each = λ n from to.
             let one : n ≡ 1 = omega (arith, from, to) in
-            let here : IsHomePage bytes 1 (page_from bytes 4096) = inr (record { not_there = λ is_open. absurd (fresh_shut is_open); same = refl }) in
+            let here : IsHomePage bytes 1 (page_from bytes 4096) =
+            inr (record { not_there = λ is_open. absurd (fresh_shut is_open); same = refl }) in
             subst (λ (k : ℕ). IsHomePage bytes k (page_in (page_from bytes 4096 ∷ []) k)) (sym one) here;
       }
 
@@ -108,4 +110,9 @@ module _ (bytes : List ℕ) (is : IsFresh bytes) where
   }
 
   pub fresh_means : HasImage fresh_image bytes
-  fresh_means = record { strings = λ n. []; state = record { pages = pages; home = fresh_home; state = fresh_state }; spells = fresh_spells }
+  fresh_means = record {
+    strings = λ n. [];
+    state = record { pages = pages; home = fresh_home; state = fresh_state };
+    spells =
+        fresh_spells;
+  }

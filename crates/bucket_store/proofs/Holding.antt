@@ -1,5 +1,6 @@
 -- What a transaction has of a store, call by call.
-use Rattle.std.proofs.Common.{◌≡◌, ◌≢◌, ◌⊎◌, inl, inr, ℕ, ◌+◌, ◌%◌, ◌<◌, ◌≤◌, false, List, length, Option, Some, None, refl, sym, ap, subst, ◌∙◌, arith, mod-lt}
+use Rattle.std.proofs.Common.{◌≡◌, ◌≢◌, ◌⊎◌, inl, inr, ℕ, ◌+◌, ◌%◌, ◌<◌, ◌≤◌, false, List, length, Option, Some, None, refl, sym, ap, subst}
+use Rattle.std.proofs.Common.{◌∙◌, arith, mod-lt}
 use Rattle.std.specs.Option.{MatchOption}
 use Rattle.std.specs.FinMap as map
 use Rattle.outside.specs.declared.disk.Disk.{Ghosts}
@@ -31,14 +32,17 @@ use Rattle.bucket_store.proofs.Openings.{none_content}
 use Rattle.bucket_store.proofs.Images.{maps_beside, maps_here, part_changed, part_gives, part_stays, same_bucket, same_chain}
 
 -- what is kept of a store tells its chains
-module _ (pages : List (List ℕ)) (kept : Kept) (root : Root) (strings : ℕ → List ℕ) (keeps : Keeps pages kept) (state : IsState root strings pages) where
+module _ (pages : List (List ℕ)) (kept : Kept) (root : Root) (strings : ℕ → List ℕ) (keeps : Keeps pages kept)
+    (state : IsState root strings pages) where
   directory_same : (m : ℕ) → m < 8 → state.directory m ≡ bytes_at kept.directories.items m
   directory_same m below =
-      bytes_one (page_in pages) (length pages + 1) (8 + m) (directory_first (page_in pages 1) m) (state.directory m) (bytes_at kept.directories.items m)
+      bytes_one (page_in pages) (length pages + 1) (8 + m) (directory_first (page_in pages 1) m) (state.directory m)
+      (bytes_at kept.directories.items m)
       (state.directories m below)
       (record {
         ns = pages_at kept.directories.items m;
-        has = subst (λ (l : List ℕ). HasPages (page_in pages) (length pages + 1) (8 + m) (directory_first l m) (pages_at kept.directories.items m)) keeps.front (keeps.has m below);
+        has = subst (λ (l : List ℕ). HasPages (page_in pages) (length pages + 1) (8 + m) (directory_first l m)
+            (pages_at kept.directories.items m)) keeps.front (keeps.has m below);
         held = keeps.held m below;
       })
 
@@ -136,11 +140,17 @@ module _ {D : Type 0} {g : Ghosts D} where
             let stored : Stored pages chains n had.0 = record {
               bytes = strings n;
               loaded = subst (λ (o : Option (List ℕ)). LoadedIs pages n (first_of chains n) o (strings n)) (sym (none n))
-                  (kept_holds pages (kept_of chains) image.root strings opens.open_chains.keeps state n (inr (bucket_above m bucket)) (bucket_is_chain m bucket below few));
+                  (kept_holds pages (kept_of chains) image.root strings opens.open_chains.keeps state n (inr (bucket_above m bucket))
+                  (bucket_is_chain m bucket below few));
               spells = subst (λ (k : ℕ). IsBucket k (bucket_in n) (strings n) (map.entries had.0)) (sym (ap (λ (r : Root). r.buckets) root))
-                  (subst (λ (k : ℕ). IsBucket image.root.buckets k (strings n) (map.entries had.0)) (sym (bucket_of_chain m bucket few)) had.2);
-            } in
-            (had.0, had.1, none_content (map.get (cached_of buckets) n) pages chains n had.0 (ap (λ (c : CacheMap). map.get c n) cached ∙ map.get-empty _ n) stored);
+                  (subst (λ (k : ℕ). IsBucket image.root.buckets k (strings n) (map.entries had.0))
+                  (sym (bucket_of_chain m bucket few)) had.2);
+            } in (
+              had.0,
+              had.1,
+              none_content (map.get (cached_of buckets) n) pages chains n had.0
+                  (ap (λ (c : CacheMap). map.get c n) cached ∙ map.get-empty _ n) stored,
+            );
         none = spells.none;
       }
 
@@ -148,7 +158,8 @@ module _ {D : Type 0} {g : Ghosts D} where
   pub has_later : (rest now : Image) (old new : Buckets D g) → OnlyRead (chains_of old) (chains_of new)
       → is_broken (journal_of (chains_of new)) ≡ false
       → ((pages : List (List ℕ)) → IsOpenStore pages old → IsOpenStore pages new)
-      → ((pages : List (List ℕ)) → IsOpenStore pages old → (other : ℕ) (values : BucketMap) → Content pages old other values → Content pages new other values)
+      → ((pages : List (List ℕ)) → IsOpenStore pages old → (other : ℕ) (values : BucketMap) → Content pages old other values
+      → Content pages new other values)
       → Has rest now old → Has rest now new
   has_later rest now old new stays whole opens content has = record {
     pages = has.pages;
@@ -166,8 +177,10 @@ module _ {D : Type 0} {g : Ghosts D} where
   }
 
   -- the bucket of a key, as the transaction has it
-  pub has_bucket : (rest now : Image) (buckets : Buckets D g) (which key : ℕ) → which < 8 → 1 ≤ bucket_count (chains_of buckets) → (has : Has rest now buckets)
-      → (own : BucketMap) × Content has.pages buckets (chain_at (bucket_count (chains_of buckets)) which key) own × (map.get own key ≡ map.get (now.maps which) key)
+  pub has_bucket : (rest now : Image) (buckets : Buckets D g) (which key : ℕ) → which < 8 → 1 ≤ bucket_count (chains_of buckets)
+      → (has : Has rest now buckets)
+      → (own : BucketMap) × Content has.pages buckets (chain_at (bucket_count (chains_of buckets)) which key) own
+      × (map.get own key ≡ map.get (now.maps which) key)
   has_bucket rest now buckets which key below some has =
       let count : bucket_count (chains_of buckets) ≡ now.root.buckets = ap (λ (r : Root). r.buckets) has.root in
       let low : key % now.root.buckets < now.root.buckets = mod-lt key (omega (arith, some, count)) in
@@ -178,7 +191,8 @@ module _ {D : Type 0} {g : Ghosts D} where
       )
 
   -- and all of it
-  pub has_part : (rest now : Image) (buckets : Buckets D g) (which key : ℕ) → which < 8 → 1 ≤ bucket_count (chains_of buckets) → (has : Has rest now buckets)
+  pub has_part : (rest now : Image) (buckets : Buckets D g) (which key : ℕ) → which < 8 → 1 ≤ bucket_count (chains_of buckets)
+      → (has : Has rest now buckets)
       → (own : BucketMap) × Content has.pages buckets (chain_at (bucket_count (chains_of buckets)) which key) own
       × IsPart now.root.buckets (key % now.root.buckets) (now.maps which) own
   has_part rest now buckets which key below some has =
@@ -188,13 +202,16 @@ module _ {D : Type 0} {g : Ghosts D} where
       (had.0, subst (λ (k : ℕ). Content has.pages buckets (chain_at k which key) had.0) (sym count) had.2, had.1)
 
   -- one key's value changes
-  pub has_changed : (rest now : Image) (old new : Buckets D g) (which key : ℕ) (change : Option (List ℕ)) → which < 8 → 1 ≤ bucket_count (chains_of old)
+  pub has_changed : (rest now : Image) (old new : Buckets D g) (which key : ℕ) (change : Option (List ℕ)) → which < 8
+      → 1 ≤ bucket_count (chains_of old)
       → root_of (chains_of new) ≡ root_of (chains_of old) → written_of (chains_of new) ≡ written_of (chains_of old)
       → is_broken (journal_of (chains_of new)) ≡ false
       → ((pages : List (List ℕ)) → IsOpenStore pages old → IsOpenStore pages new)
-      → ((pages : List (List ℕ)) → IsOpenStore pages old → (values : BucketMap) → Content pages old (chain_at (bucket_count (chains_of old)) which key) values
+      → ((pages : List (List ℕ)) → IsOpenStore pages old → (values : BucketMap)
+      → Content pages old (chain_at (bucket_count (chains_of old)) which key) values
       → Content pages new (chain_at (bucket_count (chains_of old)) which key) (with_entry key change values))
-      → ((pages : List (List ℕ)) → IsOpenStore pages old → (other : ℕ) (values : BucketMap) → other ≢ chain_at (bucket_count (chains_of old)) which key
+      → ((pages : List (List ℕ)) → IsOpenStore pages old → (other : ℕ) (values : BucketMap)
+      → other ≢ chain_at (bucket_count (chains_of old)) which key
       → Content pages old other values → Content pages new other values)
       → Has rest now old → Has rest (with_value which key change now) new
   unfolding with_value
@@ -223,7 +240,8 @@ module _ {D : Type 0} {g : Ghosts D} where
                     let place : chain_at (bucket_count (chains_of old)) which key ≡ bucket_chain m bucket =
                     at ∙ ap (λ (k : ℕ). bucket_chain which k) (sym mine) ∙ ap (λ (k : ℕ). bucket_chain k bucket) (sym same) in (
                       with_entry key change had.0,
-                      subst (λ (whole : BucketMap). IsPart now.root.buckets bucket whole (with_entry key change had.0)) (sym (maps_here which key change now m same))
+                      subst (λ (whole : BucketMap). IsPart now.root.buckets bucket whole (with_entry key change had.0))
+                          (sym (maps_here which key change now m same))
                           (part_changed now.root.buckets bucket (now.maps m) had.0 key change had.1 (sym mine)),
                       subst (λ (k : ℕ). Content has.pages new k (with_entry key change had.0)) place
                           (here has.pages has.opens had.0 (subst (λ (k : ℕ). Content has.pages old k had.0) (sym place) had.2)),
@@ -238,7 +256,8 @@ module _ {D : Type 0} {g : Ghosts D} where
               ]
               | inr apart ↦ (
                 had.0,
-                subst (λ (whole : BucketMap). IsPart now.root.buckets bucket whole had.0) (sym (maps_beside which key change now m apart)) had.1,
+                subst (λ (whole : BucketMap). IsPart now.root.buckets bucket whole had.0)
+                    (sym (maps_beside which key change now m apart)) had.1,
                 others has.pages has.opens (bucket_chain m bucket) had.0
                     (λ is. apart (same_chain m which bucket (key % now.root.buckets) few key_few (is ∙ at))) had.2,
               )

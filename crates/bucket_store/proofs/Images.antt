@@ -12,11 +12,13 @@ use Rattle.bucket_store.specs.Image.{Image, IsPart, bucket_chain, with_entry, wi
 use Rattle.chain_store.specs.declared.root.Root.{Root}
 
 -- what a map with a change has for its key
-pub entry_here : (key : ℕ) (change : Option (List ℕ)) (values : BucketMap) (q : ℕ) → q ≡ key → map.get (with_entry key change values) q ≡ change
+pub entry_here : (key : ℕ) (change : Option (List ℕ)) (values : BucketMap) (q : ℕ) → q ≡ key
+    → map.get (with_entry key change values) q ≡ change
 entry_here key None values q same =
     map.get-remove nat_cmp_total values key q ∙ ap (λ (r : Ordering). cond (is_eq r) None (map.get values q)) (equal_of q key same)
 entry_here key (Some value) values q same =
-    map.get-insert nat_cmp_total values key value q ∙ ap (λ (r : Ordering). cond (is_eq r) (Some value) (map.get values q)) (equal_of q key same)
+    map.get-insert nat_cmp_total values key value q
+    ∙ ap (λ (r : Ordering). cond (is_eq r) (Some value) (map.get values q)) (equal_of q key same)
 
 -- and for others
 pub entry_beside : (key : ℕ) (change : Option (List ℕ)) (values : BucketMap) (q : ℕ) → q ≢ key
@@ -54,7 +56,8 @@ part_changed buckets bucket whole own key change part mine =
     part_of buckets bucket (with_entry key change whole) (with_entry key change own) (λ q here. elim (same_or q key) [
       | inl same ↦ entry_here key change own q same ∙ sym (entry_here key change whole q same)
       | inr apart ↦
-          entry_beside key change own q apart ∙ part_gives buckets bucket whole own q part here ∙ sym (entry_beside key change whole q apart)
+          entry_beside key change own q apart ∙ part_gives buckets bucket whole own q part here
+          ∙ sym (entry_beside key change whole q apart)
     ]) (λ q other. elim (same_or q key) [
       | inl same ↦ absurd (other (ap (λ (k : ℕ). k % buckets) same ∙ mine))
       | inr apart ↦ entry_beside key change own q apart ∙ part_none buckets bucket whole own q part other
@@ -76,7 +79,8 @@ unfolding with_value
 maps_here m key change image k same =
     ap (λ (b : Bool). cond b (with_entry key change (image.maps k)) (image.maps k)) (eq-eqb k m same)
 
-pub maps_beside : (m key : ℕ) (change : Option (List ℕ)) (image : Image) (k : ℕ) → k ≢ m → (with_value m key change image).maps k ≡ image.maps k
+pub maps_beside : (m key : ℕ) (change : Option (List ℕ)) (image : Image) (k : ℕ) → k ≢ m
+    → (with_value m key change image).maps k ≡ image.maps k
 unfolding with_value
 maps_beside m key change image k apart =
     ap (λ (b : Bool). cond b (with_entry key change (image.maps k)) (image.maps k)) (ne_eqb k m apart)
@@ -85,7 +89,8 @@ pub root_with_value : (m key : ℕ) (change : Option (List ℕ)) (image : Image)
 unfolding with_value
 root_with_value m key change image = refl
 
-pub texts_with_value : (m key : ℕ) (change : Option (List ℕ)) (image : Image) (n : ℕ) → (with_value m key change image).texts n ≡ image.texts n
+pub texts_with_value : (m key : ℕ) (change : Option (List ℕ)) (image : Image) (n : ℕ)
+    → (with_value m key change image).texts n ≡ image.texts n
 unfolding with_value
 texts_with_value m key change image n = refl
 

@@ -13,7 +13,8 @@ use Rattle.bucket_store.specs.declared.buckets.Buckets.{Buckets}
 
 module _ {D : Type 0} {g : Ghosts D} where
   pub keys_call : (end which key : ℕ) (old new : Buckets D g)
-      → MayRead end (bucket_at old which key) (read_of (chains_of old)) (read_of (chains_of new)) (disk_of (chains_of old)) (disk_of (chains_of new))
+      → MayRead end (bucket_at old which key) (read_of (chains_of old)) (read_of (chains_of new)) (disk_of (chains_of old))
+      (disk_of (chains_of new))
       → ReadsKeys (IsKey which key) old new
   keys_call end which key old new may =
       reads_wider (λ n. n ≡ bucket_at old which key) (IsAskedChain (IsKey which key) old) (chains_of old) (chains_of new)
@@ -25,15 +26,18 @@ module _ {D : Type 0} {g : Ghosts D} where
   -- the chains are as they were
   pub keys_same : (May : ℕ → ℕ → Type 0) (old new : Buckets D g) → chains_of new ≡ chains_of old → ReadsKeys May old new
   keys_same May old new same =
-      subst (λ (chains : Chains D g). ReadsOnly (IsAskedChain May old) (chains_of old) chains) (sym same) (reads_nothing (IsAskedChain May old) (chains_of old))
+      subst (λ (chains : Chains D g). ReadsOnly (IsAskedChain May old) (chains_of old) chains) (sym same)
+      (reads_nothing (IsAskedChain May old) (chains_of old))
 
-  pub keys_wider : (May More : ℕ → ℕ → Type 0) (old new : Buckets D g) → ((which key : ℕ) → May which key → More which key) → ReadsKeys May old new
+  pub keys_wider : (May More : ℕ → ℕ → Type 0) (old new : Buckets D g) → ((which key : ℕ) → May which key → More which key)
+      → ReadsKeys May old new
       → ReadsKeys More old new
   keys_wider May More old new wider reads =
       reads_wider (IsAskedChain May old) (IsAskedChain More old) (chains_of old) (chains_of new)
       (λ n asked. (asked.0, asked.1, wider asked.0 asked.1 asked.2, asked.3)) reads
 
-  pub keys_then : (May : ℕ → ℕ → Type 0) (old mid new : Buckets D g) → OnlyRead (chains_of old) (chains_of mid) → ReadsKeys May old mid → ReadsKeys May mid new
+  pub keys_then : (May : ℕ → ℕ → Type 0) (old mid new : Buckets D g) → OnlyRead (chains_of old) (chains_of mid) → ReadsKeys May old mid
+      → ReadsKeys May mid new
       → ReadsKeys May old new
   keys_then May old mid new stays first second =
       let back : (n : ℕ) → IsAskedChain May mid n → IsAskedChain May old n = λ n asked.

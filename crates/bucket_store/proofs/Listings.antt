@@ -27,7 +27,8 @@ some_buckets buckets n is = omega (arith, is.2)
 
 module _ {D : Type 0} {g : Ghosts D} where
   -- a refusal of a bucket
-  pub lists_bucket : (pages : List (List ℕ)) (buckets : Buckets D g) (n : ℕ) (fault : StoreFault) → 16 ≤ n → BringsBucket {T = Unit {0}} pages buckets n (Err fault)
+  pub lists_bucket : (pages : List (List ℕ)) (buckets : Buckets D g) (n : ℕ) (fault : StoreFault) → 16 ≤ n
+      → BringsBucket {T = Unit {0}} pages buckets n (Err fault)
       → ListsChain pages buckets n (Err fault)
   lists_bucket pages buckets n refusals.NotFormatted high brings = tt
   lists_bucket pages buckets n refusals.NotEmpty high brings = tt
@@ -48,21 +49,27 @@ module _ {D : Type 0} {g : Ghosts D} where
   lists_string pages buckets n refusals.Broken low lists = tt
   lists_string pages buckets n refusals.OutOfMemory low lists = tt
 
-  pub sound_chain : (fault : StoreFault) (rest now : Image) (buckets : Buckets D g) (n : ℕ) → IsBucketChain (bucket_count (chains_of buckets)) n
+  pub sound_chain : (fault : StoreFault) (rest now : Image) (buckets : Buckets D g) (n : ℕ)
+      → IsBucketChain (bucket_count (chains_of buckets)) n
       → ((pages : List (List ℕ)) → IsOpenStore pages buckets → BringsBucket {T = Unit {0}} pages buckets n (Err fault))
-      → IsReadAnswer {T = Unit {0}} (is_broken (journal_of (chains_of buckets))) (Err fault) → Has rest now buckets → IsSoundAnswer {T = Unit {0}} (Err fault)
+      → IsReadAnswer {T = Unit {0}} (is_broken (journal_of (chains_of buckets))) (Err fault) → Has rest now buckets
+      → IsSoundAnswer {T = Unit {0}} (Err fault)
   sound_chain fault rest now buckets n is brings alone has =
-      sound_bring {T = Unit {0}} (Err fault) rest now buckets ((n - 16) / 65536) (bucket_in n) (omega (arith, is.0, is.1)) (some_buckets (bucket_count (chains_of buckets)) n is)
-      (λ pages opened. subst (λ (k : ℕ). BringsBucket {T = Unit {0}} pages buckets k (Err fault)) (chain_is (bucket_count (chains_of buckets)) n is) (brings pages opened))
+      sound_bring {T = Unit {0}} (Err fault) rest now buckets ((n - 16) / 65536) (bucket_in n) (omega (arith, is.0, is.1))
+      (some_buckets (bucket_count (chains_of buckets)) n is)
+      (λ pages opened. subst (λ (k : ℕ). BringsBucket {T = Unit {0}} pages buckets k (Err fault))
+      (chain_is (bucket_count (chains_of buckets)) n is) (brings pages opened))
       alone has
 
   pub sound_lists : (fault : StoreFault) (rest now : Image) (buckets : Buckets D g) (n : ℕ) → IsOwner n
       → ((pages : List (List ℕ)) → IsOpenStore pages buckets → ListsPages pages n (first_of (chains_of buckets) n) (Err fault))
-      → IsReadAnswer {T = List ℕ} (is_broken (journal_of (chains_of buckets))) (Err fault) → Has rest now buckets → IsSoundAnswer {T = List ℕ} (Err fault)
+      → IsReadAnswer {T = List ℕ} (is_broken (journal_of (chains_of buckets))) (Err fault) → Has rest now buckets
+      → IsSoundAnswer {T = List ℕ} (Err fault)
   sound_lists refusals.NotFormatted rest now buckets n owner lists alone has = absurd alone
   sound_lists refusals.NotEmpty rest now buckets n owner lists alone has = absurd alone
   sound_lists (refusals.BadStore at) rest now buckets n owner lists alone has =
-      absurd (none_refused has.pages (kept_of (chains_of buckets)) rest.root has.strings has.opens.open_chains.keeps has.state n at owner (lists has.pages has.opens))
+      absurd (none_refused has.pages (kept_of (chains_of buckets)) rest.root has.strings has.opens.open_chains.keeps has.state n at owner
+      (lists has.pages has.opens))
   sound_lists refusals.DiskFault rest now buckets n owner lists alone has = tt
   sound_lists (refusals.StoreFull many) rest now buckets n owner lists alone has = absurd alone
   sound_lists refusals.Broken rest now buckets n owner lists alone has =

@@ -1,5 +1,6 @@
 -- What a store means once a transaction is made to stand, and with one text or its fields changed.
-use Rattle.std.proofs.Common.{◌≡◌, ◌⊎◌, inl, inr, ℕ, ◌<◌, ◌≤◌, Bool, false, cond, List, Option, Some, None, IsTrue, refl, sym, ap, subst, ◌∙◌, arith}
+use Rattle.std.proofs.Common.{◌≡◌, ◌⊎◌, inl, inr, ℕ, ◌<◌, ◌≤◌, Bool, false, cond, List, Option, Some, None, IsTrue, refl, sym, ap, subst}
+use Rattle.std.proofs.Common.{◌∙◌, arith}
 use Rattle.std.proofs.lemmas.Bool.{cases_Bool}
 use Rattle.std.specs.Option.{IsSome, MatchOption}
 use Rattle.std.specs.Ordering.{is_eq}
@@ -43,7 +44,8 @@ no_some own same = absurd (cc)
 
 module _ {D : Type 0} {g : Ghosts D} where
   -- what the chain of a bucket is given spells the bucket
-  given_bucket : (o : Option Cached) (pages : List (List ℕ)) (chains : Chains D g) (strings : ℕ → List ℕ) (root : Root) (n : ℕ) (own : BucketMap)
+  given_bucket : (o : Option Cached) (pages : List (List ℕ)) (chains : Chains D g) (strings : ℕ → List ℕ) (root : Root) (n : ℕ)
+      (own : BucketMap)
       → IsOpen pages chains → IsState root strings pages → 16 ≤ n → IsChain n
       → ((it : Cached) → o ≡ Some it → it.changed ≡ false → Stored pages chains n it.bucket.values)
       → ((it : Cached) → o ≡ Some it → IsTrue it.changed → AreRecords 0 (map.entries it.bucket.values))
@@ -52,27 +54,36 @@ module _ {D : Type 0} {g : Ghosts D} where
       → IsBucket (bucket_count chains) (bucket_in n) (own_or (after o (map.get (written_of chains) n)) (strings n)) (map.entries own)
   given_bucket None pages chains strings root n own opens state above chain had rise keys content =
       subst (λ (l : List ℕ). IsBucket (bucket_count chains) (bucket_in n) l (map.entries own))
-      (loaded_string pages (kept_of chains) root strings opens.keeps state n (map.get (written_of chains) n) content.bytes (inr above) chain content.loaded)
+      (loaded_string pages (kept_of chains) root strings opens.keeps state n (map.get (written_of chains) n) content.bytes
+      (inr above) chain content.loaded)
       content.spells
   given_bucket (Some it) pages chains strings root n own opens state above chain had rise keys content = elim (cases_Bool it.changed) [
     | inl yes-changed ↦
         let bucket = written_bucket (bucket_count chains) (bucket_in n) it.bucket.values (rise it refl (cc yes-changed)) (keys it refl) in
-        subst (λ (b : Bool). IsBucket (bucket_count chains) (bucket_in n) (own_or (cond b (Some (records_bytes (map.entries it.bucket.values))) (map.get (written_of chains) n)) (strings n)) (map.entries own))
+        subst (λ (b : Bool). IsBucket (bucket_count chains) (bucket_in n)
+        (own_or (cond b (Some (records_bytes (map.entries it.bucket.values))) (map.get (written_of chains) n)) (strings n))
+        (map.entries own))
         (sym yes-changed)
-        (subst (λ (m : BucketMap). IsBucket (bucket_count chains) (bucket_in n) (records_bytes (map.entries it.bucket.values)) (map.entries m)) content bucket)
+        (subst (λ (m : BucketMap). IsBucket (bucket_count chains) (bucket_in n) (records_bytes (map.entries it.bucket.values))
+        (map.entries m)) content bucket)
     | inr unchanged ↦
         let stored = had it refl unchanged in
-        subst (λ (b : Bool). IsBucket (bucket_count chains) (bucket_in n) (own_or (cond b (Some (records_bytes (map.entries it.bucket.values))) (map.get (written_of chains) n)) (strings n)) (map.entries own))
+        subst (λ (b : Bool). IsBucket (bucket_count chains) (bucket_in n)
+        (own_or (cond b (Some (records_bytes (map.entries it.bucket.values))) (map.get (written_of chains) n)) (strings n))
+        (map.entries own))
         (sym unchanged)
-        (subst (λ (m : BucketMap). IsBucket (bucket_count chains) (bucket_in n) (own_or (map.get (written_of chains) n) (strings n)) (map.entries m)) content
+        (subst (λ (m : BucketMap). IsBucket (bucket_count chains) (bucket_in n) (own_or (map.get (written_of chains) n) (strings n))
+        (map.entries m)) content
         (subst (λ (l : List ℕ). IsBucket (bucket_count chains) (bucket_in n) l (map.entries it.bucket.values))
-        (loaded_string pages (kept_of chains) root strings opens.keeps state n (map.get (written_of chains) n) stored.bytes (inr above) chain stored.loaded)
+        (loaded_string pages (kept_of chains) root strings opens.keeps state n (map.get (written_of chains) n) stored.bytes
+        (inr above) chain stored.loaded)
         stored.spells))
   ]
 
   -- a string below the buckets is in no bucket
   low_cached : (buckets : Buckets D g) (n : ℕ) → n < 8 → map.get (cached_of buckets) n ≡ None
-  low_cached buckets n below = none_low (map.get (cached_of buckets) n) (λ own there. absurd (omega (arith, below, (buckets.own n own there).0.0)))
+  low_cached buckets n below = none_low (map.get (cached_of buckets) n)
+      (λ own there. absurd (omega (arith, below, (buckets.own n own there).0.0)))
     where
       none_low : (o : Option Cached) → ((own : Cached) → o ≡ Some own → ⊥) → o ≡ None
       none_low None not = refl
@@ -80,7 +91,8 @@ module _ {D : Type 0} {g : Ghosts D} where
 
   -- what a commit gives the chains spells what the transaction has
   pub spells_given : (rest now : Image) (buckets : Buckets D g) → (has : Has rest now buckets)
-      → ((n : ℕ) (own : Cached) → map.get (cached_of buckets) n ≡ Some own → IsTrue own.changed → AreRecords 0 (map.entries own.bucket.values))
+      → ((n : ℕ) (own : Cached) → map.get (cached_of buckets) n ≡ Some own → IsTrue own.changed
+      → AreRecords 0 (map.entries own.bucket.values))
       → Spells now (given has.strings (cached_of buckets) (written_of (chains_of buckets)))
   spells_given rest now buckets has rise =
       let chains = chains_of buckets in
@@ -93,13 +105,16 @@ module _ {D : Type 0} {g : Ghosts D} where
             let had = has.parts m bucket below low in
             let few : bucket < 65536 = omega (arith, low, chains.few, count) in
             let n = bucket_chain m bucket in
-            let whole = given_bucket (map.get (cached_of buckets) n) has.pages chains has.strings rest.root n had.0 has.opens.open_chains has.state
+            let whole = given_bucket (map.get (cached_of buckets) n) has.pages chains has.strings rest.root n had.0 has.opens.open_chains
+            has.state
             (bucket_above m bucket) (bucket_is_chain m bucket below few)
-            (λ it there same. has.opens.had n it there same) (λ it there changed. rise n it there changed) (λ it there. (buckets.own n it there).1) had.2 in (
+            (λ it there same. has.opens.had n it there same) (λ it there changed. rise n it there changed)
+            (λ it there. (buckets.own n it there).1) had.2 in (
               had.0,
               had.1,
               subst (λ (k : ℕ). IsBucket k bucket (given has.strings (cached_of buckets) (written_of chains) n) (map.entries had.0)) count
-                  (subst (λ (k : ℕ). IsBucket (bucket_count chains) k (given has.strings (cached_of buckets) (written_of chains) n) (map.entries had.0))
+                  (subst (λ (k : ℕ). IsBucket (bucket_count chains) k (given has.strings (cached_of buckets) (written_of chains) n)
+                  (map.entries had.0))
                   (bucket_of_chain m bucket few) whole),
             );
         none = has.none;
@@ -127,10 +142,12 @@ module _ {D : Type 0} {g : Ghosts D} where
         ∙ ap (λ (o : Option (List ℕ)). own_or o (has.strings k)) (map.get-insert nat_cmp_total (written_of (chains_of old)) n bytes k) in
         elim (same_or k n) [
           | inl same ↦
-              found ∙ ap (λ r. own_or (cond (is_eq r) (Some bytes) (map.get (written_of (chains_of old)) k)) (has.strings k)) (equal_of k n same)
+              found ∙ ap (λ r. own_or (cond (is_eq r) (Some bytes) (map.get (written_of (chains_of old)) k)) (has.strings k))
+              (equal_of k n same)
               ∙ sym (texts_here n bytes now k same)
           | inr apart ↦
-              found ∙ ap (λ (b : Bool). own_or (cond b (Some bytes) (map.get (written_of (chains_of old)) k)) (has.strings k)) (apart_of k n apart)
+              found ∙ ap (λ (b : Bool). own_or (cond b (Some bytes) (map.get (written_of (chains_of old)) k)) (has.strings k))
+              (apart_of k n apart)
               ∙ has.texts k low ∙ sym (texts_beside n bytes now k apart)
         ];
     parts = λ m bucket low inside.
@@ -141,7 +158,8 @@ module _ {D : Type 0} {g : Ghosts D} where
 
   -- other fields, with as many buckets
   pub has_root : (rest now : Image) (old new : Buckets D g) (root : Root) → root.buckets ≡ bucket_count (chains_of old)
-      → root_of (chains_of new) ≡ root → journal_of (chains_of new) ≡ journal_of (chains_of old) → written_of (chains_of new) ≡ written_of (chains_of old)
+      → root_of (chains_of new) ≡ root → journal_of (chains_of new) ≡ journal_of (chains_of old)
+      → written_of (chains_of new) ≡ written_of (chains_of old)
       → ((pages : List (List ℕ)) → IsOpenStore pages old → IsOpenStore pages new)
       → ((pages : List (List ℕ)) (other : ℕ) (values : BucketMap) → Content pages old other values → Content pages new other values)
       → Has rest now old → Has rest (with_root root now) new
@@ -158,16 +176,22 @@ module _ {D : Type 0} {g : Ghosts D} where
         root = is;
         texts = λ n low. ap (λ (l : Lists). own_or (map.get l n) (has.strings n)) written ∙ has.texts n low;
         parts = λ m bucket low inside.
-            let had = has.parts m bucket low (omega (arith, inside, same)) in
-            (had.0, subst (λ (k : ℕ). IsPart k bucket (now.maps m) had.0) same had.1, content has.pages (bucket_chain m bucket) had.0 had.2);
+            let had = has.parts m bucket low (omega (arith, inside, same)) in (
+              had.0,
+              subst (λ (k : ℕ). IsPart k bucket (now.maps m) had.0) same had.1,
+              content has.pages (bucket_chain m bucket) had.0 had.2,
+            );
         none = λ zero m low. has.none (same ∙ zero) m low;
       }
 
 -- a crash leaves one store or the other
-pub goes_images : (rest now : Image) (one other : ℕ → List ℕ) (root : Root) (old new : Crashes) → Spells rest one → Spells now other → root ≡ now.root
-    → Goes (λ left. HasState rest.root one left ⊎ HasState root other left) old new → Goes (λ left. HasImage rest left ⊎ HasImage now left) old new
+pub goes_images : (rest now : Image) (one other : ℕ → List ℕ) (root : Root) (old new : Crashes) → Spells rest one → Spells now other
+    → root ≡ now.root
+    → Goes (λ left. HasState rest.root one left ⊎ HasState root other left) old new
+    → Goes (λ left. HasImage rest left ⊎ HasImage now left) old new
 goes_images rest now one other root old new before after same goes =
-    goes_weaker (λ left. HasState rest.root one left ⊎ HasState root other left) (λ left. HasImage rest left ⊎ HasImage now left) old new goes
+    goes_weaker (λ left. HasState rest.root one left ⊎ HasState root other left)
+    (λ left. HasImage rest left ⊎ HasImage now left) old new goes
     (λ left state. elim state [
       | inl was ↦ inl (record { strings = one; state = was; spells = before })
       | inr later ↦ inr (record { strings = other; state = subst (λ (r : Root). HasState r other left) same later; spells = after })

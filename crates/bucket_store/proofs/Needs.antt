@@ -3,7 +3,8 @@ use Rattle.std.proofs.Common.{◌≡◌, ℕ, ◌+◌, ◌*◌, max, Bool, List,
 use Rattle.std.specs.FinMap as map
 use Rattle.std.specs.Cmp.{nat_cmp_total}
 use Rattle.page_journal.specs.declared.fault.StoreFault.{StoreFault}
-use Rattle.page_journal.specs.declared.fault.StoreFault.TheVariants.{NotFormatted, NotEmpty, BadStore, DiskFault, StoreFull, Broken, OutOfMemory}
+use Rattle.page_journal.specs.declared.fault.StoreFault.TheVariants.{NotFormatted, NotEmpty, BadStore, DiskFault, StoreFull, Broken}
+use Rattle.page_journal.specs.declared.fault.StoreFault.TheVariants.{OutOfMemory}
 use Rattle.chain_store.specs.Answers.{IsReadAnswer}
 use Rattle.chain_store.specs.Needed.{FitsNeeded, chain_pages, needed, total}
 use Rattle.chain_store.specs.Parts.{pages_for}
@@ -20,7 +21,8 @@ needed_same home before root next one two same_home same_root same =
     ∙ ap (λ (r : Root). needed before r.buckets one) same_root
     ∙ ap (λ (s : ℕ → List ℕ). needed before next.buckets s) same
 
-pub fits_image : (result : Result (Unit {0}) StoreFault) (home before limit most now : ℕ) (root : Root) (one two : ℕ → List ℕ) (image : Image)
+pub fits_image : (result : Result (Unit {0}) StoreFault) (home before limit most now : ℕ) (root : Root) (one two : ℕ → List ℕ)
+    (image : Image)
     → home ≡ before → limit ≡ most → root ≡ image.root → one ≡ two → Spells image two
     → FitsNeeded (needed home root.buckets one) limit now result → FitsImage before image most now result
 fits_image (Ok done) home before limit most now root one two image same_home same_limit same_root same spells fits = (
@@ -39,7 +41,8 @@ fits_image (Err Broken) home before limit most now root one two image same_home 
 fits_image (Err OutOfMemory) home before limit most now root one two image same_home same_limit same_root same spells fits = tt
 
 -- a refusal of a read tells none
-pub fits_unread : (fault : StoreFault) (broken : Bool) (before : ℕ) (image : Image) (limit now : ℕ) → IsReadAnswer {T = Unit {0}} broken (Err fault)
+pub fits_unread : (fault : StoreFault) (broken : Bool) (before : ℕ) (image : Image) (limit now : ℕ)
+    → IsReadAnswer {T = Unit {0}} broken (Err fault)
     → FitsImage before image limit now (Err fault)
 fits_unread NotFormatted broken before image limit now alone = tt
 fits_unread NotEmpty broken before image limit now alone = tt
@@ -63,7 +66,8 @@ spelled_one image one two is are =
     ap (λ (l : List ℕ). pages_for (length l)) (is.texts n below ∙ sym (are.texts n below))) in
     let buckets = total-same (λ m. total (λ b. pages_for (length (one (16 + 65536 * m + b)))) image.root.buckets)
     (λ m. total (λ b. pages_for (length (two (16 + 65536 * m + b)))) image.root.buckets) 8 (λ m below.
-    total-same (λ b. pages_for (length (one (16 + 65536 * m + b)))) (λ b. pages_for (length (two (16 + 65536 * m + b)))) image.root.buckets (λ b low.
+    total-same (λ b. pages_for (length (one (16 + 65536 * m + b)))) (λ b. pages_for (length (two (16 + 65536 * m + b)))) image.root.buckets
+    (λ b low.
     let here = is.parts m b below low in
     let there = are.parts m b below low in
     let same = part_one image.root.buckets b (image.maps m) here.0 there.0 here.1 there.1 in

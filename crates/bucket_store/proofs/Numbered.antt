@@ -1,5 +1,6 @@
 -- A store without buckets is given some.
-use Rattle.std.proofs.Common.{◌≡◌, ◌≢◌, inl, inr, ℕ, ◌-◌, ◌*◌, ◌/◌, ◌%◌, ◌<◌, ◌≤◌, ◌==◌, Bool, cond, List, [], ◌∷◌, length, Option, Some, None, IsTrue, refl, sym, ap, subst, ◌∙◌, arith}
+use Rattle.std.proofs.Common.{◌≡◌, ◌≢◌, inl, inr, ℕ, ◌-◌, ◌*◌, ◌/◌, ◌%◌, ◌<◌, ◌≤◌, ◌==◌, Bool, cond, List, [], ◌∷◌, length, Option, Some}
+use Rattle.std.proofs.Common.{None, IsTrue, refl, sym, ap, subst, ◌∙◌, arith}
 use Rattle.std.proofs.lemmas.Bool.{cases_Bool}
 use Rattle.std.proofs.lemmas.Nat.{ones_le_self}
 use Rattle.std.specs.Prelude.{count_ones}
@@ -45,7 +46,8 @@ empty_written : (o : Option (List ℕ)) (first : ℕ) → first ≡ 0 → ((byte
 empty_written None first none own = none
 empty_written (Some bytes) first none own = own bytes refl
 
-loaded_none : (o : Option (List ℕ)) (pages : List (List ℕ)) (n first : ℕ) → MatchOption o (first ≡ 0) (λ own. own ≡ []) → LoadedIs pages n first o []
+loaded_none : (o : Option (List ℕ)) (pages : List (List ℕ)) (n first : ℕ) → MatchOption o (first ≡ 0) (λ own. own ≡ [])
+    → LoadedIs pages n first o []
 loaded_none None pages n first is = record { ns = []; has = record { path = is; few = omega arith }; held = refl }
 loaded_none (Some own) pages n first is = sym is
 

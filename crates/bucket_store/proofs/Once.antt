@@ -1,5 +1,6 @@
 -- The buckets of a transaction are those that it has read.
-use Rattle.std.proofs.Common.{◌≡◌, ◌⊎◌, inl, inr, ◌+◌, ◌*◌, ◌≤◌, ◌<◌, ℕ, Bool, true, false, cond, Option, Some, None, List, length, refl, sym, ap, subst, ◌∙◌, arith}
+use Rattle.std.proofs.Common.{◌≡◌, ◌⊎◌, inl, inr, ◌+◌, ◌*◌, ◌≤◌, ◌<◌, ℕ, Bool, true, false, cond, Option, Some, None, List, length, refl}
+use Rattle.std.proofs.Common.{sym, ap, subst, ◌∙◌, arith}
 use Rattle.std.specs.Option.{is_some, IsSome}
 use Rattle.std.specs.Ordering.{nat_cmp, is_eq, eq_by_cmp}
 use Rattle.std.specs.Cmp.{nat_cmp_total, eq_by_cmp_equiv}
@@ -50,9 +51,11 @@ equal_here a b is = subst (λ (k : ℕ). eq_by_cmp nat_cmp a k ≡ true) is ((eq
 call_got : (end n : ℕ) (read now : Lists) (old new : DiskView) → MayRead end n read now old new → (k : ℕ) → IsSome (map.get now k)
     → IsSome (map.get read k) ⊎ (k ≡ n)
 call_got end n read now old new (inl same) k some = inl (subst (λ (l : Lists). IsSome (map.get l k)) same.0 some)
-call_got end n read now old new (inr (none, chain)) k some = got_some read n chain.0 k (subst (λ (l : Lists). IsSome (map.get l k)) chain.1 some)
+call_got end n read now old new (inr (none, chain)) k some =
+    got_some read n chain.0 k (subst (λ (l : Lists). IsSome (map.get l k)) chain.1 some)
 
-call_kept : (end n : ℕ) (read now : Lists) (old new : DiskView) → MayRead end n read now old new → (k : ℕ) → IsSome (map.get read k) → IsSome (map.get now k)
+call_kept : (end n : ℕ) (read now : Lists) (old new : DiskView) → MayRead end n read now old new → (k : ℕ) → IsSome (map.get read k)
+    → IsSome (map.get now k)
 call_kept end n read now old new (inl same) k some = subst (λ (l : Lists). IsSome (map.get l k)) (sym same.0) some
 call_kept end n read now old new (inr (none, chain)) k some =
     subst (λ (l : Lists). IsSome (map.get l k)) (sym chain.1) (some_more read n chain.0 k some)
@@ -91,7 +94,8 @@ module _ (cache after : CacheMap) (n : ℕ) (own : Cached) (is : after ≡ map.i
   }
 
   -- the chain of a bucket is read, and the bucket is there
-  pub read_more : (end : ℕ) (read now : Lists) (old new : DiskView) → MayRead end n read now old new → IsSome (map.get now n) → AreRead read cache → AreRead now after
+  pub read_more : (end : ℕ) (read now : Lists) (old new : DiskView) → MayRead end n read now old new → IsSome (map.get now n)
+      → AreRead read cache → AreRead now after
   read_more end read now old new may known are = record {
     there = λ k above some. elim (call_got end n read now old new may k some) [
       | inl earlier ↦ cached_more k (are.there k above earlier)
@@ -104,7 +108,8 @@ module _ (cache after : CacheMap) (n : ℕ) (own : Cached) (is : after ≡ map.i
   }
 
 -- a string below the buckets is read
-pub read_string : (end n : ℕ) (read now : Lists) (cache : CacheMap) (old new : DiskView) → n < 16 → MayRead end n read now old new → AreRead read cache
+pub read_string : (end n : ℕ) (read now : Lists) (cache : CacheMap) (old new : DiskView) → n < 16 → MayRead end n read now old new
+    → AreRead read cache
     → AreRead now cache
 read_string end n read now cache old new low may are = record {
   there = λ k above some. elim (call_got end n read now old new may k some) [
@@ -124,7 +129,8 @@ unread_chain read cache n are above none =
 
 -- what was loaded of a chain was read, now or before it was written
 pub loaded_read : (end buckets : ℕ) (read now written : Lists) (n : ℕ) (old new : DiskView) → AreStored buckets read written
-    → (IsSome (map.get written n) → (now ≡ read) × ReadsAtMost 0 end old new) → (map.get written n ≡ None → IsSome (map.get now n)) → IsSome (map.get now n)
+    → (IsSome (map.get written n) → (now ≡ read) × ReadsAtMost 0 end old new) → (map.get written n ≡ None → IsSome (map.get now n))
+    → IsSome (map.get now n)
 loaded_read end buckets read now written n old new stored own known =
     elim (map.get written n) as (λ (o : Option (List ℕ)). map.get written n ≡ o → IsSome (map.get now n)) [
       | None ↦ λ is. known is

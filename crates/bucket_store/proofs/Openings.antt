@@ -1,5 +1,6 @@
 -- A store that is open stays so while buckets are read.
-use Rattle.std.proofs.Common.{◌≡◌, ◌≢◌, ◌⊎◌, ℕ, ◌+◌, ◌-◌, ◌*◌, ◌%◌, ◌<◌, ◌≤◌, Bool, true, false, cond, List, length, Option, Some, None, refl, sym, ap, subst, ◌∙◌, arith, mod-lt, inl, inr}
+use Rattle.std.proofs.Common.{◌≡◌, ◌≢◌, ◌⊎◌, ℕ, ◌+◌, ◌-◌, ◌*◌, ◌%◌, ◌<◌, ◌≤◌, Bool, true, false, cond, List, length, Option, Some, None}
+use Rattle.std.proofs.Common.{refl, sym, ap, subst, ◌∙◌, arith, mod-lt, inl, inr}
 use Rattle.std.proofs.lemmas.Bool.{cases_order}
 use Rattle.std.proofs.lemmas.Option.{same_Some}
 use Rattle.std.specs.Bool.{IsTrue}
@@ -52,7 +53,8 @@ put_apart old new n own k is apart = elim (cases_order k n) [
 
 -- what is stored stays so where nothing was written
 module _ {D : Type 0} {g : Ghosts D} where
-  pub stored_later : (pages : List (List ℕ)) (old new : Chains D g) (n : ℕ) (values : BucketMap) → OnlyRead old new → Stored pages old n values
+  pub stored_later : (pages : List (List ℕ)) (old new : Chains D g) (n : ℕ) (values : BucketMap) → OnlyRead old new
+      → Stored pages old n values
       → Stored pages new n values
   stored_later pages old new n values stays is = record {
     bytes = is.bytes;
@@ -69,7 +71,8 @@ module _ {D : Type 0} {g : Ghosts D} where
       bucket_one (bucket_count chains) (bucket_in n) is.bytes one two is.spells
       (subst (λ (l : List ℕ). IsBucket (bucket_count chains) (bucket_in n) l (map.entries two)) same other.spells)
 
-  pub match_later : (o : Option Cached) (pages : List (List ℕ)) (chains later : Chains D g) (n : ℕ) (values : BucketMap) → OnlyRead chains later
+  pub match_later : (o : Option Cached) (pages : List (List ℕ)) (chains later : Chains D g) (n : ℕ) (values : BucketMap)
+      → OnlyRead chains later
       → MatchOption o (Stored pages chains n values) (λ it. it.bucket.values ≡ values)
       → MatchOption o (Stored pages later n values) (λ it. it.bucket.values ≡ values)
   match_later None pages chains later n values stays has = stored_later pages chains later n values stays has
@@ -78,14 +81,17 @@ module _ {D : Type 0} {g : Ghosts D} where
   -- what the transaction has in each bucket, once another is there as it stands in the store
   pub content_more : (pages : List (List ℕ)) (chains later : Chains D g) (old new : CacheMap) (n : ℕ) (own : Cached) → OnlyRead chains later
       → new ≡ map.insert old n own → Stored pages chains n own.bucket.values → map.get old n ≡ None
-      → (other : ℕ) (values : BucketMap) → MatchOption (map.get old other) (Stored pages chains other values) (λ it. it.bucket.values ≡ values)
+      → (other : ℕ) (values : BucketMap) → MatchOption (map.get old other) (Stored pages chains other values)
+      (λ it. it.bucket.values ≡ values)
       → MatchOption (map.get new other) (Stored pages later other values) (λ it. it.bucket.values ≡ values)
   content_more pages chains later old new n own stays is stands none other values has = elim (same_or other n) [
     | inl level ↦
         let absent : map.get old other ≡ None = ap (λ (k : ℕ). map.get old k) level ∙ none in
-        let stored = subst (λ (o : Option Cached). MatchOption o (Stored pages chains other values) (λ it. it.bucket.values ≡ values)) absent has in
+        let stored = subst (λ (o : Option Cached). MatchOption o (Stored pages chains other values) (λ it. it.bucket.values ≡ values))
+        absent has in
         let here = ap (λ (k : ℕ). map.get new k) level ∙ put_there old new n own is in
-        let one = stored_one pages chains n own.bucket.values values stands (subst (λ (k : ℕ). Stored pages chains k values) level stored) in
+        let one = stored_one pages chains n own.bucket.values values stands
+        (subst (λ (k : ℕ). Stored pages chains k values) level stored) in
         subst (λ (o : Option Cached). MatchOption o (Stored pages later other values) (λ it. it.bucket.values ≡ values)) (sym here) one
     | inr apart ↦
         let same = put_apart old new n own other is apart in
@@ -98,7 +104,8 @@ module _ {D : Type 0} {g : Ghosts D} where
   open_later pages old new cache stays opens was = record {
     open_chains = opens;
     had = λ n own there same. stored_later pages old new n own.bucket.values stays (was.had n own there same);
-    origins = λ n own there. origin_same pages old new n own.bucket stays.kept (ap (λ (l : Lists). map.get l n) stays.written) (was.origins n own there);
+    origins = λ n own there. origin_same pages old new n own.bucket stays.kept (ap (λ (l : Lists). map.get l n) stays.written)
+        (was.origins n own there);
   }
 
   -- a bucket more that is so in the store
@@ -111,11 +118,14 @@ module _ {D : Type 0} {g : Ghosts D} where
         let found = sym (ap (λ (m : CacheMap). map.get m k) is ∙ map.get-insert nat_cmp_total old n own k) ∙ there in
         elim (cases_order k n) [
           | inl level ↦
-              let here = same_Some own other (sym (ap (λ (r : Ordering). cond (is_eq r) (Some own) (map.get old k)) (equal_of k n level)) ∙ found) in
+              let here = same_Some own other (sym (ap (λ (r : Ordering). cond (is_eq r) (Some own) (map.get old k)) (equal_of k n level))
+              ∙ found) in
               subst (λ (j : ℕ). Stored pages chains j other.bucket.values) (sym level)
               (subst (λ (it : Cached). Stored pages chains n it.bucket.values) here (stands (ap (λ (it : Cached). it.changed) here ∙ same)))
-          | inr (inl low) ↦ was.had k other (sym (ap (λ (r : Ordering). cond (is_eq r) (Some own) (map.get old k)) (less_of k n low)) ∙ found) same
-          | inr (inr high) ↦ was.had k other (sym (ap (λ (r : Ordering). cond (is_eq r) (Some own) (map.get old k)) (greater_of k n high)) ∙ found) same
+          | inr (inl low) ↦ was.had k other (sym (ap (λ (r : Ordering). cond (is_eq r) (Some own) (map.get old k)) (less_of k n low))
+              ∙ found) same
+          | inr (inr high) ↦ was.had k other (sym (ap (λ (r : Ordering). cond (is_eq r) (Some own) (map.get old k)) (greater_of k n high))
+              ∙ found) same
         ];
     origins = λ k other there. elim (same_or k n) [
       | inl level ↦
@@ -133,7 +143,8 @@ buckets_more buckets old new n own is were here keys k other there =
     let found = sym (ap (λ (m : CacheMap). map.get m k) is ∙ map.get-insert nat_cmp_total old n own k) ∙ there in
     elim (cases_order k n) [
       | inl level ↦
-          let same = same_Some own other (sym (ap (λ (r : Ordering). cond (is_eq r) (Some own) (map.get old k)) (equal_of k n level)) ∙ found) in
+          let same = same_Some own other (sym (ap (λ (r : Ordering). cond (is_eq r) (Some own) (map.get old k)) (equal_of k n level))
+          ∙ found) in
           subst (λ (j : ℕ). IsBucketChain buckets j × HasKeysOf buckets (bucket_in j) other.bucket.values) (sym level)
           (subst (λ (it : Cached). IsBucketChain buckets n × HasKeysOf buckets (bucket_in n) it.bucket.values) same (here, keys))
       | inr (inl low) ↦ were k other (sym (ap (λ (r : Ordering). cond (is_eq r) (Some own) (map.get old k)) (less_of k n low)) ∙ found)
@@ -164,7 +175,8 @@ mod_low : (key buckets : ℕ) → 1 ≤ buckets → key % buckets < buckets
 mod_low key buckets some = mod-lt key some
 
 -- a value more, and a key less, in the bucket of the key
-pub keys_put : (buckets bucket : ℕ) (values : BucketMap) (key : ℕ) (value : List ℕ) → HasKeysOf buckets bucket values → key % buckets ≡ bucket
+pub keys_put : (buckets bucket : ℕ) (values : BucketMap) (key : ℕ) (value : List ℕ) → HasKeysOf buckets bucket values
+    → key % buckets ≡ bucket
     → HasKeysOf buckets bucket (map.insert values key value)
 keys_put buckets bucket values key value keys own q there =
     let P : Option (List ℕ) → Type 0 = λ o. IsSome o in
@@ -172,7 +184,8 @@ keys_put buckets bucket values key value keys own q there =
     elim (cases_order q key) [
       | inl same ↦ ap (λ (k : ℕ). k % buckets) same ∙ own
       | inr (inl low) ↦ keys q (subst (λ (r : Ordering). IsSome (cond (is_eq r) (Some value) (map.get values q))) (less_of q key low) found)
-      | inr (inr high) ↦ keys q (subst (λ (r : Ordering). IsSome (cond (is_eq r) (Some value) (map.get values q))) (greater_of q key high) found)
+      | inr (inr high) ↦ keys q (subst (λ (r : Ordering). IsSome (cond (is_eq r) (Some value) (map.get values q)))
+          (greater_of q key high) found)
     ]
 
 pub keys_remove : (buckets bucket : ℕ) (values : BucketMap) (key : ℕ) → HasKeysOf buckets bucket values
@@ -181,7 +194,8 @@ keys_remove buckets bucket values key keys q there =
     let P : Option (List ℕ) → Type 0 = λ o. IsSome o in
     let found = subst P (map.get-remove nat_cmp_total values key q) there in
     elim (cases_order q key) [
-      | inl same ↦ absurd (none_left (subst (λ (r : Ordering). IsSome (cond (is_eq r) None (map.get values q))) (equal_of q key same) found))
+      | inl same ↦ absurd (none_left (subst (λ (r : Ordering). IsSome (cond (is_eq r) None (map.get values q)))
+          (equal_of q key same) found))
       | inr (inl low) ↦ keys q (subst (λ (r : Ordering). IsSome (cond (is_eq r) None (map.get values q))) (less_of q key low) found)
       | inr (inr high) ↦ keys q (subst (λ (r : Ordering). IsSome (cond (is_eq r) None (map.get values q))) (greater_of q key high) found)
     ]
@@ -194,19 +208,22 @@ bucket_in-chain_at buckets m key some few =
 
 -- what a bucket that is there has, and what it has then
 pub content_own : {D : Type 0} {g : Ghosts D} (pages : List (List ℕ)) (chains : Chains D g) (o : Option Cached) (n : ℕ) (own : Cached)
-    (values : BucketMap) → o ≡ Some own → MatchOption o (Stored pages chains n values) (λ it. it.bucket.values ≡ values) → own.bucket.values ≡ values
+    (values : BucketMap) → o ≡ Some own → MatchOption o (Stored pages chains n values) (λ it. it.bucket.values ≡ values)
+    → own.bucket.values ≡ values
 content_own pages chains o n own values there has =
     subst (λ (p : Option Cached). MatchOption p (Stored pages chains n values) (λ it. it.bucket.values ≡ values)) there has
 
 pub content_is : {D : Type 0} {g : Ghosts D} (pages : List (List ℕ)) (chains : Chains D g) (o : Option Cached) (n : ℕ) (own : Cached)
-    (values : BucketMap) → o ≡ Some own → own.bucket.values ≡ values → MatchOption o (Stored pages chains n values) (λ it. it.bucket.values ≡ values)
+    (values : BucketMap) → o ≡ Some own → own.bucket.values ≡ values
+    → MatchOption o (Stored pages chains n values) (λ it. it.bucket.values ≡ values)
 content_is pages chains o n own values there is =
     subst (λ (p : Option Cached). MatchOption p (Stored pages chains n values) (λ it. it.bucket.values ≡ values)) (sym there) is
 
 pub never_changed : true ≡ false → ⊥
 never_changed same = absurd (cc)
 
-pub content_apart : {D : Type 0} {g : Ghosts D} (pages : List (List ℕ)) (chains : Chains D g) (old new : CacheMap) (n : ℕ) (own : Cached) (other : ℕ)
+pub content_apart : {D : Type 0} {g : Ghosts D} (pages : List (List ℕ)) (chains : Chains D g) (old new : CacheMap) (n : ℕ) (own : Cached)
+    (other : ℕ)
     (values : BucketMap) → new ≡ map.insert old n own → other ≢ n
     → MatchOption (map.get old other) (Stored pages chains other values) (λ it. it.bucket.values ≡ values)
     → MatchOption (map.get new other) (Stored pages chains other values) (λ it. it.bucket.values ≡ values)
@@ -215,7 +232,8 @@ content_apart pages chains old new n own other values is apart has =
     (sym (put_apart old new n own other is apart)) has
 
 -- a key that was taken out, or was not there
-pub took : (was : Bool) (old new : CacheMap) (n : ℕ) (less : Cached) → (IsTrue was → new ≡ map.insert old n less) → (was ≡ false → new ≡ old)
+pub took : (was : Bool) (old new : CacheMap) (n : ℕ) (less : Cached) → (IsTrue was → new ≡ map.insert old n less)
+    → (was ≡ false → new ≡ old)
     → (new ≡ map.insert old n less) ⊎ ((was ≡ false) × (new ≡ old))
 took true old new n less taken none = inl (taken cc)
 took false old new n less taken none = inr (refl, none refl)
@@ -224,14 +242,17 @@ pub absent_of : (o : Option (List ℕ)) → is_some o ≡ false → o ≡ None
 absent_of None is = refl
 absent_of (Some value) is = absurd (cc)
 
-pub taken_own : (own : Cached) (key : ℕ) → map.contains_key own.bucket.values key ≡ false → own.bucket.values ≡ map.remove own.bucket.values key
+pub taken_own : (own : Cached) (key : ℕ) → map.contains_key own.bucket.values key ≡ false
+    → own.bucket.values ≡ map.remove own.bucket.values key
 taken_own own key none = remove_absent own.bucket.values key (absent_of (map.get own.bucket.values key) none)
 
-pub content_same : {D : Type 0} {g : Ghosts D} (pages : List (List ℕ)) (chains : Chains D g) (old new : CacheMap) (other : ℕ) (values : BucketMap)
+pub content_same : {D : Type 0} {g : Ghosts D} (pages : List (List ℕ)) (chains : Chains D g) (old new : CacheMap) (other : ℕ)
+    (values : BucketMap)
     → new ≡ old → MatchOption (map.get old other) (Stored pages chains other values) (λ it. it.bucket.values ≡ values)
     → MatchOption (map.get new other) (Stored pages chains other values) (λ it. it.bucket.values ≡ values)
 content_same pages chains old new other values same has =
-    subst (λ (m : CacheMap). MatchOption (map.get m other) (Stored pages chains other values) (λ it. it.bucket.values ≡ values)) (sym same) has
+    subst (λ (m : CacheMap). MatchOption (map.get m other) (Stored pages chains other values) (λ it. it.bucket.values ≡ values))
+    (sym same) has
 
 -- what is stored stays so where no field changes but those that tell no chain
 pub stored_like : {D : Type 0} {g : Ghosts D} (pages : List (List ℕ)) (old new : Chains D g) (n : ℕ) (values : BucketMap)
@@ -267,7 +288,8 @@ buckets_less buckets old new n is were k other there =
     ]
 
 -- what a bucket that is not there has
-pub none_content : {D : Type 0} {g : Ghosts D} (o : Option Cached) (pages : List (List ℕ)) (chains : Chains D g) (n : ℕ) (values : BucketMap) → o ≡ None
+pub none_content : {D : Type 0} {g : Ghosts D} (o : Option Cached) (pages : List (List ℕ)) (chains : Chains D g) (n : ℕ)
+    (values : BucketMap) → o ≡ None
     → Stored pages chains n values → MatchOption o (Stored pages chains n values) (λ it. it.bucket.values ≡ values)
 none_content None pages chains n values none stored = stored
 none_content (Some own) pages chains n values none stored = absurd (no_own own (sym none))

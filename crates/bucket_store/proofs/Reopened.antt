@@ -1,5 +1,6 @@
 -- A store that is opened means what its bytes mean.
-use Rattle.std.proofs.Common.{◌≡◌, ◌⊎◌, inl, inr, ℕ, ◌+◌, ◌-◌, ◌*◌, ◌<◌, true, false, List, [], length, slice_index_or, Option, Some, Err, refl, sym, ap, subst, ◌∙◌, arith}
+use Rattle.std.proofs.Common.{◌≡◌, ◌⊎◌, inl, inr, ℕ, ◌+◌, ◌-◌, ◌*◌, ◌<◌, true, false, List, [], length, slice_index_or, Option, Some, Err}
+use Rattle.std.proofs.Common.{refl, sym, ap, subst, ◌∙◌, arith}
 use Rattle.std.proofs.lemmas.Option.{same_Some}
 use Rattle.std.specs.Result.{IsErrOf}
 use Rattle.outside.specs.Disk.{Crashes, DiskView, Goes, Stays, Within}
@@ -8,7 +9,8 @@ use Rattle.page_journal.specs.Crash.{AllHome, IsAtRest, IsLikeOne}
 use Rattle.page_journal.specs.Home.{Home, IsHomePage, IsWellFormed}
 use Rattle.page_journal.specs.Pages.{body_at, entry, first_page, gate, number, page_count, page_from}
 use Rattle.page_journal.specs.declared.fault.StoreFault.{StoreFault}
-use Rattle.page_journal.specs.declared.fault.StoreFault.TheVariants.{NotFormatted, NotEmpty, BadStore, DiskFault, StoreFull, Broken, OutOfMemory}
+use Rattle.page_journal.specs.declared.fault.StoreFault.TheVariants.{NotFormatted, NotEmpty, BadStore, DiskFault, StoreFull, Broken}
+use Rattle.page_journal.specs.declared.fault.StoreFault.TheVariants.{OutOfMemory}
 use Rattle.page_journal.specs.declared.layout.TheConstants.{OPEN}
 use Rattle.page_journal.proofs.Finishing.{numbers}
 use Rattle.page_journal.proofs.Moments.{goes_weaker, settled_stays}
@@ -40,7 +42,8 @@ told_one content one two first second = same_Some one two (sym first ∙ second)
 pub image_state : (image : Image) (bytes : List ℕ) (pages : List (List ℕ)) → (has : HasImage image bytes) → Home pages bytes
     → IsState image.root has.strings pages
 image_state image bytes pages has home =
-    subst (λ (l : List (List ℕ)). IsState image.root has.strings l) (one_home has.state.pages pages bytes has.state.home home) has.state.state
+    subst (λ (l : List (List ℕ)). IsState image.root has.strings l)
+    (one_home has.state.pages pages bytes has.state.home home) has.state.state
 
 -- other bytes with these home pages mean the same
 pub same_meaning : (image : Image) (bytes left : List ℕ) (pages : List (List ℕ)) → HasImage image bytes → Home pages bytes → Home pages left
@@ -81,7 +84,8 @@ one_page : (bytes : List ℕ) (n : ℕ) (page other : List ℕ) → (gate bytes 
 one_page bytes n page other well (inl here) (inl there) =
     let are = numbers bytes (first_page bytes) (page_count bytes) refl refl (well here.is_open) in
     let same : here.place ≡ there.place =
-    apart (page_count bytes) (entry bytes) (first_page bytes) here.place there.place are here.within there.within (here.here ∙ sym there.here) in
+    apart (page_count bytes) (entry bytes) (first_page bytes) here.place there.place are here.within there.within
+    (here.here ∙ sym there.here) in
     here.same ∙ ap (λ (place : ℕ). page_from bytes (body_at bytes place)) same ∙ sym there.same
 one_page bytes n page other well (inl here) (inr not) = absurd (not.not_there here.is_open here.place here.within here.here)
 one_page bytes n page other well (inr not) (inl there) = absurd (not.not_there there.is_open there.place there.within there.here)
@@ -91,7 +95,8 @@ home_sound : (bytes : List ℕ) (pages : List (List ℕ)) (page : ℕ) → Home 
 home_sound bytes pages page home (inl refused) = refused.malformed (home.journal refused.is_open)
 home_sound bytes pages page home (inr refused) =
     let root : slice_index_or pages (1 - 1) [] ≡ refused.says.root =
-    one_page bytes 1 (slice_index_or pages (1 - 1) []) refused.says.root home.journal (home.each 1 (omega arith) home.some) refused.says.stands in
+    one_page bytes 1 (slice_index_or pages (1 - 1) []) refused.says.root home.journal
+    (home.each 1 (omega arith) home.some) refused.says.stands in
     let many : length pages + 1 ≡ refused.home = sym home.count ∙ ap (λ (l : List ℕ). number l 0) root ∙ refused.says.says in
     elim refused.bad [
       | inl few ↦ absurd (omega (arith, few, many, home.some))
@@ -100,7 +105,8 @@ home_sound bytes pages page home (inr refused) =
 
 -- what is read of a store that is formatted does not say that it is not
 pub kept_formatted : (fault : StoreFault) → IsReadAnswer {T = Kept} false (Err fault) → IsErrOf {T = Opened} (Err fault) NotFormatted → ⊥
-kept_formatted fault alone is = subst (λ (f : StoreFault). IsReadAnswer {T = Kept} false (Err f)) (fault_is Opened fault NotFormatted is) alone
+kept_formatted fault alone is = subst (λ (f : StoreFault). IsReadAnswer {T = Kept} false (Err f))
+    (fault_is Opened fault NotFormatted is) alone
 
 -- a journal that has home pages is opened
 pub sound_open : (T : Type 0) (fault : StoreFault) (bytes : List ℕ) (pages : List (List ℕ)) → Home pages bytes → Opens bytes (Err fault)
@@ -149,7 +155,8 @@ found_state image view opened fits holds =
     image_state image holds.bytes fits.pages holds.has (subst (λ (l : List ℕ). Home fits.pages l) same fits.rests.1.home)
 
 -- the fields of a store that was opened
-pub root_found : (image : Image) (view : DiskView) (opened : Opened) → Fits opened view → HoldsImage image view → opened_root opened ≡ image.root
+pub root_found : (image : Image) (view : DiskView) (opened : Opened) → Fits opened view → HoldsImage image view
+    → opened_root opened ≡ image.root
 root_found image view opened fits holds =
     ap (λ (l : List ℕ). root_in l) fits.keeps.front ∙ (found_state image view opened fits holds).fields
 
@@ -187,5 +194,6 @@ pub moments_looked : {D : Type 0} {g : Ghosts D} (image : Image) (old new : Buck
 moments_looked {D} {g} image old new rests looks =
     let before = view_of (journal_of (chains_of old)) in
     let holds = holds_under image old rests in
-    goes_weaker before.crashes.outcomes (λ left. HasImage image left) before.crashes (view_of (journal_of (chains_of new))).crashes looks.looked.stays.runs
+    goes_weaker before.crashes.outcomes (λ left. HasImage image left) before.crashes
+    (view_of (journal_of (chains_of new))).crashes looks.looked.stays.runs
     (λ left among. subst (λ (l : List ℕ). HasImage image l) (sym (holds.only left among)) holds.has)

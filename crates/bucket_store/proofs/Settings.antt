@@ -11,7 +11,8 @@ use Rattle.bucket_store.proofs.Openings.{there_own}
 pub set_or_same : (there : Bool) (old new : CacheMap) (n key : ℕ) (value : List ℕ) → there ≡ is_some (map.get old n)
     → ((own : Cached) → map.get old n ≡ Some own → new ≡ map.insert old n (changed_to own (map.insert own.bucket.values key value)))
     → (there ≡ false → new ≡ old)
-    → ((own : Cached) × (map.get old n ≡ Some own) × (new ≡ map.insert old n (changed_to own (map.insert own.bucket.values key value)))) ⊎ (new ≡ old)
+    → ((own : Cached) × (map.get old n ≡ Some own) × (new ≡ map.insert old n (changed_to own (map.insert own.bucket.values key value))))
+    ⊎ (new ≡ old)
 set_or_same true old new n key value there changed none =
     let found = there_own (map.get old n) (true_is_some true (map.get old n) there refl) in inl (found.0, found.1, changed found.0 found.1)
 set_or_same false old new n key value there changed none = inr (none refl)

@@ -1,5 +1,6 @@
 -- What a call that gets a value does, once its bucket was brought.
-use Rattle.std.proofs.Common.{◌≡◌, ◌||◌, ℕ, Bool, false, List, Option, None, Some, Result, Ok, Err, refl, sym, ap, subst, ◌∙◌, inr, option_map}
+use Rattle.std.proofs.Common.{◌≡◌, ◌||◌, ℕ, Bool, false, List, Option, None, Some, Result, Ok, Err, refl, sym, ap, subst, ◌∙◌, inr}
+use Rattle.std.proofs.Common.{option_map}
 use Rattle.std.specs.Option.{MatchOption}
 use Rattle.std.specs.Ordering.{nat_cmp}
 use Rattle.std.specs.FinMap as map
@@ -32,7 +33,8 @@ use Rattle.value_bytes.specs.declared.fault.ValueFault.TheVariants.{NotSpelled, 
 use Rattle.value_bytes.proofs.MapLaws.{held_insert, held_remove, never_refused, read_one}
 
 -- what was looked up
-seen : {A : Type 0} (look : A → List ℕ) (found : Option A) (own : Option (List ℕ)) → MatchOption found (own ≡ None) (λ value. own ≡ Some (look value))
+seen : {A : Type 0} (look : A → List ℕ) (found : Option A) (own : Option (List ℕ))
+    → MatchOption found (own ≡ None) (λ value. own ≡ Some (look value))
     → own ≡ option_map look found
 seen look None own is = is
 seen look (Some value) own is = is
@@ -58,12 +60,15 @@ module _ {D : Type 0} {g : Ghosts D} where
   pub content_kept : (old new : Buckets D g) → chains_of new ≡ chains_of old → cached_of new ≡ cached_of old
       → (pages : List (List ℕ)) (other : ℕ) (values : BucketMap) → Content pages old other values → Content pages new other values
   content_kept old new chains cached pages other values has =
-      subst (λ (c : Chains D g). MatchOption (map.get (cached_of new) other) (Stored pages c other values) (λ own. own.bucket.values ≡ values)) (sym chains)
-      (subst (λ (m : CacheMap). MatchOption (map.get m other) (Stored pages (chains_of old) other values) (λ own. own.bucket.values ≡ values)) (sym cached) has)
+      subst (λ (c : Chains D g). MatchOption (map.get (cached_of new) other) (Stored pages c other values)
+      (λ own. own.bucket.values ≡ values)) (sym chains)
+      (subst (λ (m : CacheMap). MatchOption (map.get m other) (Stored pages (chains_of old) other values)
+      (λ own. own.bucket.values ≡ values)) (sym cached) has)
 
   pub read_same : (old new : Buckets D g) → chains_of new ≡ chains_of old → OnlyRead (chains_of old) (chains_of new)
   read_same old new chains = record {
-    looked = subst (λ (c : Chains D g). Looked (journal_of (chains_of old)) (journal_of c)) (sym chains) (looked_same (journal_of (chains_of old)));
+    looked = subst (λ (c : Chains D g). Looked (journal_of (chains_of old)) (journal_of c)) (sym chains)
+        (looked_same (journal_of (chains_of old)));
     kept = ap (λ (c : Chains D g). kept_of c) chains;
     root = ap (λ (c : Chains D g). root_of c) chains;
     written = ap (λ (c : Chains D g). written_of c) chains;
@@ -79,13 +84,15 @@ module _ {D : Type 0} {g : Ghosts D} where
   pub has_read : {T : Type 0} (old new : Buckets D g) (result : Result T StoreFault) → OnlyRead (chains_of old) (chains_of new)
       → is_broken (journal_of (chains_of new)) ≡ (is_broken (journal_of (chains_of old)) || answers_disk_fault result)
       → ((pages : List (List ℕ)) → IsOpenStore pages old → IsOpenStore pages new)
-      → ((pages : List (List ℕ)) → IsOpenStore pages old → (other : ℕ) (values : BucketMap) → Content pages old other values → Content pages new other values)
+      → ((pages : List (List ℕ)) → IsOpenStore pages old → (other : ℕ) (values : BucketMap) → Content pages old other values
+      → Content pages new other values)
       → answers_disk_fault result ≡ false → (rest now : Image) → Has rest now old → Has rest now new
   has_read old new result stays broken opens content none rest now has =
       has_later rest now old new stays (broken ∙ ap (λ (b : Bool). b || answers_disk_fault result) has.whole ∙ none) opens content has
 
   -- the bucket of a key stays where it is
-  pub at_same : (old new : Buckets D g) (which key : ℕ) → OnlyRead (chains_of old) (chains_of new) → bucket_at new which key ≡ bucket_at old which key
+  pub at_same : (old new : Buckets D g) (which key : ℕ) → OnlyRead (chains_of old) (chains_of new)
+      → bucket_at new which key ≡ bucket_at old which key
   at_same old new which key stays = ap (λ (r : Root). chain_at r.buckets which key) stays.root
 
   pub first_same : (old new : Buckets D g) (which key : ℕ) → OnlyRead (chains_of old) (chains_of new)
@@ -105,17 +112,20 @@ module _ {D : Type 0} {g : Ghosts D} where
   }
 
   -- values are read out of a bucket that was brought
-  module _ {V A : Type 0} (spell : V → List ℕ) (Is : V → Type 0) (look : A → List ℕ) (which key : ℕ) (old mid : Buckets D g) (bytes : Option A)
+  module _ {V A : Type 0} (spell : V → List ℕ) (Is : V → Type 0) (look : A → List ℕ) (which key : ℕ) (old mid : Buckets D g)
+      (bytes : Option A)
       {done : Unit {0}} (brings : BringsThere which key old mid (Ok done)) where
     there : OnlyRead (chains_of old) (chains_of mid) → (pages : List (List ℕ)) → IsOpenStore pages old → (values : BucketMap)
         → Content pages old (bucket_at old which key) values → Content pages mid (bucket_at mid which key) values
     there stays pages opens values has =
-        subst (λ (n : ℕ). Content pages mid n values) (sym (at_same old mid which key stays)) (brings.keeps.content pages opens (bucket_at old which key) values has)
+        subst (λ (n : ℕ). Content pages mid n values) (sym (at_same old mid which key stays))
+        (brings.keeps.content pages opens (bucket_at old which key) values has)
 
     unread : OnlyRead (chains_of old) (chains_of mid)
         → ((pages : List (List ℕ)) (values : BucketMap) → Content pages mid (bucket_at mid which key) values
         → MatchOption bytes (map.get values key ≡ None) (λ value. map.get values key ≡ Some (look value)))
-        → (fault : ValueFault) → ReadsAs {V = V} spell Is (option_map look bytes) (Err fault) → (pages : List (List ℕ)) → IsOpenStore pages old
+        → (fault : ValueFault) → ReadsAs {V = V} spell Is (option_map look bytes) (Err fault) → (pages : List (List ℕ))
+        → IsOpenStore pages old
         → Gets spell Is pages old which key (Err (refusal_of fault (first_of (chains_of mid) (bucket_at mid which key))))
     unread stays value NotSpelled read pages opens =
         let here = brings.had pages opens in
@@ -147,7 +157,8 @@ module _ {D : Type 0} {g : Ghosts D} where
         (sym (seen look bytes (map.get (now.maps which) key) (value rest now (brings.keeps.has refl rest now had)))) read in
         record {
           bytes = same;
-          value = λ rest now values had held. read_one spell Is (map.get (now.maps which) key) found (map.get values key) (same rest now had) (held key);
+          value = λ rest now values had held. read_one spell Is (map.get (now.maps which) key) found (map.get values key)
+              (same rest now had) (held key);
           sound = λ rest now values had held. tt;
           keeps = record { content = brings.keeps.content; has = λ none. brings.keeps.has refl };
         }
@@ -173,7 +184,8 @@ module _ {D : Type 0} {g : Ghosts D} where
           (sym (seen look bytes (map.get (now.maps which) key) (value rest now (brings.keeps.has refl rest now had)))) read)
           (held key));
       keeps = record {
-        content = λ pages opens other values had. content_kept mid new chains cached pages other values (brings.keeps.content pages opens other values had);
+        content = λ pages opens other values had.
+            content_kept mid new chains cached pages other values (brings.keeps.content pages opens other values had);
         has = λ none rest now had. has_same mid new chains cached rest now (brings.keeps.has refl rest now had);
       };
     }
@@ -183,7 +195,8 @@ module _ {V : Type 0} (spell : V → List ℕ) (Is : V → Type 0) (now : Image)
   pub held_with : (value : V) → HoldsMap spell Is (now.maps which) values → Is value
       → HoldsMap spell Is ((with_value which key (Some (spell value)) now).maps which) (map.insert values key value)
   held_with value held is =
-      subst (λ (m : BucketMap). HoldsMap spell Is m (map.insert values key value)) (sym (maps_here which key (Some (spell value)) now which refl))
+      subst (λ (m : BucketMap). HoldsMap spell Is m (map.insert values key value))
+      (sym (maps_here which key (Some (spell value)) now which refl))
       (held_insert spell Is (now.maps which) values key value held is)
 
   pub held_without : HoldsMap spell Is (now.maps which) values

@@ -1,6 +1,7 @@
 -- A map is read whole, bucket by bucket.
 use Rattle.std.proofs.Math.Nat.{mod-eq_of_lt}
-use Rattle.std.proofs.Common.{◌≡◌, ◌≢◌, ◌⊎◌, inl, inr, ℕ, ◌+◌, ◌%◌, ◌<◌, ◌≤◌, Bool, true, false, cond, List, [], ◌∷◌, ◌++◌, Option, Some, None, Err, refl, sym, ap, subst, ◌∙◌, arith}
+use Rattle.std.proofs.Common.{◌≡◌, ◌≢◌, ◌⊎◌, inl, inr, ℕ, ◌+◌, ◌%◌, ◌<◌, ◌≤◌, Bool, true, false, cond, List, [], ◌∷◌, ◌++◌, Option, Some}
+use Rattle.std.proofs.Common.{None, Err, refl, sym, ap, subst, ◌∙◌, arith}
 use Rattle.std.specs.Option.{IsSome, MatchOption}
 use Rattle.std.specs.Ordering.{nat_cmp, is_eq}
 use Rattle.std.specs.Cmp.{nat_cmp_total}
@@ -40,7 +41,8 @@ abbrev pub or_else : Option (List ℕ) → Option (List ℕ) → Option (List �
 or_else None other = other
 or_else (Some own) other = Some own
 
-cond_or : (b : Bool) (own : List ℕ) (later other : Option (List ℕ)) → cond b (Some own) (or_else later other) ≡ or_else (cond b (Some own) later) other
+cond_or : (b : Bool) (own : List ℕ) (later other : Option (List ℕ))
+    → cond b (Some own) (or_else later other) ≡ or_else (cond b (Some own) later) other
 cond_or true own later other = refl
 cond_or false own later other = refl
 
@@ -68,7 +70,8 @@ with_records-push [] one whole = refl
 with_records-push (first ∷ front) one whole = ap (λ (m : BucketMap). map.insert m first.0 first.1) (with_records-push front one whole)
 
 -- the records of a bucket give its keys, and no others
-module _ (buckets bucket : ℕ) (values old new : BucketMap) (keys : HasKeysOf buckets bucket values) (is : new ≡ with_records (map.entries values) old) where
+module _ (buckets bucket : ℕ) (values old new : BucketMap) (keys : HasKeysOf buckets bucket values)
+    (is : new ≡ with_records (map.entries values) old) where
   got : (key : ℕ) → map.get new key ≡ or_else (map.get values key) (map.get old key)
   got key =
       ap (λ (m : BucketMap). map.get m key) is ∙ get-with_records (map.entries values) old key
@@ -92,8 +95,10 @@ module _ (Has : ℕ → BucketMap → Type 0) (buckets which bucket n : ℕ) (ol
     (had : (values : BucketMap) × Has n values)
     (added : (values : BucketMap) → Has n values → (new ≡ with_records (map.entries values) old) × HasKeysOf buckets bucket values)
     (none : (key : ℕ) → bucket ≤ key % buckets → map.get old key ≡ None) where
-  pub gathers_some : ((key : ℕ) (values : BucketMap) → Has (chain_at buckets which key) values → key % buckets < bucket → map.get old key ≡ map.get values key)
-      → (key : ℕ) (values : BucketMap) → Has (chain_at buckets which key) values → key % buckets < bucket + 1 → map.get new key ≡ map.get values key
+  pub gathers_some : ((key : ℕ) (values : BucketMap) → Has (chain_at buckets which key) values → key % buckets < bucket
+      → map.get old key ≡ map.get values key)
+      → (key : ℕ) (values : BucketMap) → Has (chain_at buckets which key) values → key % buckets < bucket + 1
+      → map.get new key ≡ map.get values key
   gathers_some some key values has low = elim (same_or (key % buckets) bucket) [
     | inl same ↦
         let place : chain_at buckets which key ≡ n = ap (λ (k : ℕ). bucket_chain which k) same ∙ sym at in
@@ -115,17 +120,20 @@ gathered_all whole own same = map.same_map nat_cmp_total nat_cmp-IsAntisymmetric
 
 none_before : (old new : CacheMap) (n : ℕ) (own : Cached) (k : ℕ) → new ≡ map.insert old n own → map.get new k ≡ None → map.get old k ≡ None
 none_before old new n own k is none = elim (same_or k n) [
-  | inl level ↦ absurd (let mine : map.get new k ≡ Some own = ap (λ (j : ℕ). map.get new j) level ∙ put_there old new n own is in cc (mine, none))
+  | inl level ↦ absurd (let mine : map.get new k ≡ Some own = ap (λ (j : ℕ). map.get new j) level ∙ put_there old new n own is in
+      cc (mine, none))
   | inr apart ↦ sym (put_apart old new n own k is apart) ∙ none
 ]
 
 -- a chain that cannot be read, by all that tells it
 abbrev IsBadBy : List (List ℕ) → ℕ → ℕ → Kept → Lists → ℕ → Type 0
 IsBadBy pages n at kept written buckets = ((map.get written n ≡ None) × IsRefused pages n (kept_first kept n) at)
-    ⊎ ((bytes : List ℕ) × LoadedIs pages n (kept_first kept n) (map.get written n) bytes × IsNoBucket buckets (bucket_in n) bytes × (at ≡ kept_first kept n))
+    ⊎ ((bytes : List ℕ) × LoadedIs pages n (kept_first kept n) (map.get written n) bytes × IsNoBucket buckets (bucket_in n) bytes
+    × (at ≡ kept_first kept n))
 
 module _ {D : Type 0} {g : Ghosts D} where
-  bad_before : (pages : List (List ℕ)) (old new : Chains D g) (n at : ℕ) → OnlyRead old new → IsBadChain pages new n at → IsBadChain pages old n at
+  bad_before : (pages : List (List ℕ)) (old new : Chains D g) (n at : ℕ) → OnlyRead old new → IsBadChain pages new n at
+      → IsBadChain pages old n at
   bad_before pages old new n at stays bad =
       subst (λ (r : Root). IsBadBy pages n at (kept_of old) (written_of old) r.buckets) stays.root
       (subst (λ (l : Lists). IsBadBy pages n at (kept_of old) l (bucket_count new)) stays.written
@@ -148,9 +156,11 @@ module _ {D : Type 0} {g : Ghosts D} where
   }
 
   -- a bucket more that is there as it stands in the store
-  pub content_before : (pages : List (List ℕ)) (chains later : Chains D g) (old new : CacheMap) (n : ℕ) (own : Cached) → OnlyRead chains later
+  pub content_before : (pages : List (List ℕ)) (chains later : Chains D g) (old new : CacheMap) (n : ℕ) (own : Cached)
+      → OnlyRead chains later
       → new ≡ map.insert old n own → Stored pages chains n own.bucket.values → map.get old n ≡ None
-      → (other : ℕ) (values : BucketMap) → MatchOption (map.get new other) (Stored pages later other values) (λ it. it.bucket.values ≡ values)
+      → (other : ℕ) (values : BucketMap) → MatchOption (map.get new other) (Stored pages later other values)
+      (λ it. it.bucket.values ≡ values)
       → MatchOption (map.get old other) (Stored pages chains other values) (λ it. it.bucket.values ≡ values)
   content_before pages chains later old new n own stays is stands none other values has = elim (same_or other n) [
     | inl level ↦
@@ -160,17 +170,21 @@ module _ {D : Type 0} {g : Ghosts D} where
         none_content (map.get old other) pages chains other values free
         (subst (λ (k : ℕ). Stored pages chains k values) (sym level) (subst (λ (m : BucketMap). Stored pages chains n m) same stands))
     | inr apart ↦
-        match_like (map.get old other) pages later chains other values (sym stays.kept) (sym stays.written) (ap (λ (r : Root). r.buckets) (sym stays.root))
-        (subst (λ (o : Option Cached). MatchOption o (Stored pages later other values) (λ it. it.bucket.values ≡ values)) (put_apart old new n own other is apart) has)
+        match_like (map.get old other) pages later chains other values (sym stays.kept) (sym stays.written)
+        (ap (λ (r : Root). r.buckets) (sym stays.root))
+        (subst (λ (o : Option Cached). MatchOption o (Stored pages later other values) (λ it. it.bucket.values ≡ values))
+        (put_apart old new n own other is apart) has)
   ]
 
   pub bad_more : (pages : List (List ℕ)) (chains later : Chains D g) (old new : CacheMap) (n : ℕ) (own : Cached) → OnlyRead chains later
-      → new ≡ map.insert old n own → (k at : ℕ) → (map.get new k ≡ None) × IsBadChain pages later k at → (map.get old k ≡ None) × IsBadChain pages chains k at
+      → new ≡ map.insert old n own → (k at : ℕ) → (map.get new k ≡ None) × IsBadChain pages later k at
+      → (map.get old k ≡ None) × IsBadChain pages chains k at
   bad_more pages chains later old new n own stays is k at bad =
       (none_before old new n own k is bad.0, bad_before pages chains later k at stays bad.1)
 
   -- a bucket that is refused refuses the map
-  pub brings_map : (T : Type 0) (pages : List (List ℕ)) (first mid : Buckets D g) (which bucket n : ℕ) (fault : StoreFault) → SameContents first mid
+  pub brings_map : (T : Type 0) (pages : List (List ℕ)) (first mid : Buckets D g) (which bucket n : ℕ) (fault : StoreFault)
+      → SameContents first mid
       → n ≡ bucket_chain which bucket → bucket < bucket_count (chains_of first) → HasBucketsBefore pages first which bucket
       → BringsBucket {T = Unit {0}} pages mid n (Err fault) → BringsMap {T = T} pages first which (Err fault)
   brings_map T pages first mid which bucket n refusals.NotFormatted same at low there brings = tt
@@ -192,7 +206,8 @@ module _ {D : Type 0} {g : Ghosts D} where
   }
 
   -- the reads of a bucket are those of its map
-  pub reads_bucket : (end which bucket n : ℕ) (old mid new : Buckets D g) → n ≡ bucket_at mid which bucket → OnlyRead (chains_of old) (chains_of mid)
+  pub reads_bucket : (end which bucket n : ℕ) (old mid new : Buckets D g) → n ≡ bucket_at mid which bucket
+      → OnlyRead (chains_of old) (chains_of mid)
       → MayRead end n (read_of (chains_of mid)) (read_of (chains_of new)) (disk_of (chains_of mid)) (disk_of (chains_of new))
       → ReadsKeys (λ m key. m ≡ which) old mid → ReadsKeys (λ m key. m ≡ which) old new
   reads_bucket end which bucket n old mid new at stays may reads =
@@ -203,11 +218,13 @@ module _ {D : Type 0} {g : Ghosts D} where
   pub read_same : (buckets : Buckets D g) → OnlyRead (chains_of buckets) (chains_of buckets)
   read_same buckets = record { looked = looked_same (journal_of (chains_of buckets)); kept = refl; root = refl; written = refl }
 
-  pub some_later : (old new : Buckets D g) → OnlyRead (chains_of old) (chains_of new) → 1 ≤ bucket_count (chains_of old) → 1 ≤ bucket_count (chains_of new)
+  pub some_later : (old new : Buckets D g) → OnlyRead (chains_of old) (chains_of new) → 1 ≤ bucket_count (chains_of old)
+      → 1 ≤ bucket_count (chains_of new)
   some_later old new stays some = omega (arith, some, ap (λ (r : Root). r.buckets) stays.root)
 
   -- where a bucket's chain stands
-  pub place_low : (old mid : Buckets D g) (which bucket n : ℕ) → OnlyRead (chains_of old) (chains_of mid) → bucket < bucket_count (chains_of old)
+  pub place_low : (old mid : Buckets D g) (which bucket n : ℕ) → OnlyRead (chains_of old) (chains_of mid)
+      → bucket < bucket_count (chains_of old)
       → n ≡ bucket_at mid which bucket → n ≡ bucket_chain which bucket
   place_low old mid which bucket n stays low at =
       at ∙ ap (λ (k : ℕ). bucket_chain which k) (mod-eq_of_lt (omega (arith, low, ap (λ (r : Root). r.buckets) stays.root)))
@@ -236,10 +253,12 @@ module _ {D : Type 0} {g : Ghosts D} where
     added_first pages opened values has =
         let put = added pages (same.opens pages opened) values (same.later pages opened n values has) in (
           put.0,
-          subst (λ (k : ℕ). HasKeysOf k bucket values) count (subst (λ (k : ℕ). HasKeysOf (bucket_count (chains_of mid)) k values) own put.1),
+          subst (λ (k : ℕ). HasKeysOf k bucket values) count
+              (subst (λ (k : ℕ). HasKeysOf (bucket_count (chains_of mid)) k values) own put.1),
         )
 
-    pub there_more : (pages : List (List ℕ)) → IsOpenStore pages old → HasBucketsBefore pages old which bucket → HasBucketsBefore pages old which (bucket + 1)
+    pub there_more : (pages : List (List ℕ)) → IsOpenStore pages old → HasBucketsBefore pages old which bucket
+        → HasBucketsBefore pages old which (bucket + 1)
     there_more pages opened there k less = elim (same_or k bucket) [
       | inl level ↦
           let one = had_first pages opened in
@@ -251,7 +270,8 @@ module _ {D : Type 0} {g : Ghosts D} where
         → ((key : ℕ) → bucket ≤ key % bucket_count (chains_of old) → map.get before key ≡ None)
         → ((key : ℕ) (values : BucketMap) → Content pages old (bucket_at old which key) values → key % bucket_count (chains_of old) < bucket
         → map.get before key ≡ map.get values key)
-        → (key : ℕ) (values : BucketMap) → Content pages old (bucket_at old which key) values → key % bucket_count (chains_of old) < bucket + 1
+        → (key : ℕ) (values : BucketMap) → Content pages old (bucket_at old which key) values
+        → key % bucket_count (chains_of old) < bucket + 1
         → map.get after key ≡ map.get values key
     some_more pages opened none some =
         gathers_some (λ k values. Content pages old k values) (bucket_count (chains_of old)) which bucket n before after place

@@ -1,5 +1,6 @@
 -- What the chains of buckets are written with.
-use Rattle.std.proofs.Common.{◌≡◌, ℕ, Bool, true, false, not, cond, ◌||◌, ◌==◌, List, Option, Some, None, refl, sym, ap, ◌∙◌, inl, inr, eq-eqb}
+use Rattle.std.proofs.Common.{◌≡◌, ℕ, Bool, true, false, not, cond, ◌||◌, ◌==◌, List, Option, Some, None, refl, sym, ap, ◌∙◌, inl, inr}
+use Rattle.std.proofs.Common.{eq-eqb}
 use Rattle.std.proofs.lemmas.Bool.{ne_eqb}
 use Rattle.std.specs.Ordering.{nat_cmp, is_eq}
 use Rattle.std.specs.declared.cmp.Ordering.{Ordering}
@@ -14,7 +15,8 @@ use Rattle.bucket_store.specs.Committing.{after}
 use Rattle.bucket_store.specs.declared.cache.Cached.{Cached}
 use Rattle.bucket_store.proofs.Caches.{get_less}
 
-get_put : (old new : Lists) (n k : ℕ) (bytes : List ℕ) → new ≡ map.insert old n bytes → map.get new k ≡ cond (is_eq (nat_cmp k n)) (Some bytes) (map.get old k)
+get_put : (old new : Lists) (n k : ℕ) (bytes : List ℕ) → new ≡ map.insert old n bytes
+    → map.get new k ≡ cond (is_eq (nat_cmp k n)) (Some bytes) (map.get old k)
 get_put old new n k bytes is = ap (λ (m : Lists). map.get m k) is ∙ map.get-insert nat_cmp_total old n bytes k
 
 -- a changed bucket's chain is written with its bytes
@@ -45,7 +47,8 @@ written_none old n own unchanged k = elim (same_or k n) [
 ]
 
 -- a bucket that is taken out and stored is as good as one that is there
-pub after_same : (before rest : CacheMap) (old new : Lists) (n : ℕ) (own : Cached) → map.get before n ≡ Some own → rest ≡ map.remove before n
+pub after_same : (before rest : CacheMap) (old new : Lists) (n : ℕ) (own : Cached) → map.get before n ≡ Some own
+    → rest ≡ map.remove before n
     → ((k : ℕ) → map.get new k ≡ after (cond (k == n) (Some own) None) (map.get old k))
     → (k : ℕ) → after (map.get rest k) (map.get new k) ≡ after (map.get before k) (map.get old k)
 after_same before rest old new n own there less written k = elim (same_or k n) [
@@ -64,7 +67,8 @@ after_same before rest old new n own there less written k = elim (same_or k n) [
       (written k ∙ ap (λ (b : Bool). after (cond b (Some own) None) (map.get old k)) (ne_eqb k n apart))
 ]
 
-pub after_none : (cache : CacheMap) (written : Lists) (n : ℕ) → cache ≡ map.empty → after (map.get cache n) (map.get written n) ≡ map.get written n
+pub after_none : (cache : CacheMap) (written : Lists) (n : ℕ) → cache ≡ map.empty
+    → after (map.get cache n) (map.get written n) ≡ map.get written n
 after_none cache written n none =
     ap (λ (o : Option Cached). after o (map.get written n)) (ap (λ (m : CacheMap). map.get m n) none ∙ map.get-empty nat_cmp n)
 

@@ -44,7 +44,8 @@ TouchesNone old new result = LeavesStore (read_of (chains_of new) ≡ read_of (c
 -- what a call that gives a string its bytes leaves of the store, whatever it answers: all but that string
 pub record TouchesText {D T : Type 0} {g : Ghosts D} (n : ℕ) (old new : Buckets D g) (result : Result T StoreFault) : Type 0 where
   pub opens : (pages : List (List ℕ)) → IsOpenStore pages old → IsOpenStore pages new
-  pub content : (pages : List (List ℕ)) → IsOpenStore pages old → (other : ℕ) (values : BucketMap) → 16 ≤ other → Content pages old other values
+  pub content : (pages : List (List ℕ)) → IsOpenStore pages old → (other : ℕ) (values : BucketMap) → 16 ≤ other
+      → Content pages old other values
       → Content pages new other values
   pub cached : cached_of new ≡ cached_of old
   pub root : root_of (chains_of new) ≡ root_of (chains_of old)
@@ -74,7 +75,8 @@ abbrev pub BringsThere : {D : Type 0} {g : Ghosts D} → ℕ → ℕ → Buckets
 BringsThere which key old new result = BringsChain (bucket_at old which key) old new result
 
 -- what a call that gets the bytes of a key does
-pub record GetsBytes {D : Type 0} {g : Ghosts D} (which key : ℕ) (old new : Buckets D g) (result : Result (Option (List ℕ)) StoreFault) : Type 0 where
+pub record GetsBytes {D : Type 0} {g : Ghosts D} (which key : ℕ) (old new : Buckets D g)
+    (result : Result (Option (List ℕ)) StoreFault) : Type 0 where
   pub value : IfOk result (λ bytes. (pages : List (List ℕ)) → IsOpenStore pages old → (values : BucketMap)
       → Content pages old (bucket_at old which key) values → bytes ≡ map.get values key)
   pub found : IfOk result (λ bytes. (rest now : Image) → Has rest now old → bytes ≡ map.get (now.maps which) key)
@@ -110,7 +112,8 @@ pub record GetsText {D : Type 0} {g : Ghosts D} (n : ℕ) (old new : Buckets D g
   pub keeps : KeepsContent old new result
 
 -- what a call that gives a string these bytes does
-pub record SetsText {D : Type 0} {g : Ghosts D} (n : ℕ) (bytes : List ℕ) (old new : Buckets D g) (result : Result (Unit {0}) StoreFault) : Type 0 where
+pub record SetsText {D : Type 0} {g : Ghosts D} (n : ℕ) (bytes : List ℕ) (old new : Buckets D g)
+    (result : Result (Unit {0}) StoreFault) : Type 0 where
   pub written : OnOk result (written_of (chains_of new) ≡ map.insert (written_of (chains_of old)) n bytes)
   pub answers : (pages : List (List ℕ)) → IsOpenStore pages old
       → Brings pages n (first_of (chains_of old) n) (map.get (read_of (chains_of old)) n) result
@@ -121,7 +124,8 @@ pub record SetsText {D : Type 0} {g : Ghosts D} (n : ℕ) (bytes : List ℕ) (ol
 pub record SetsValue {D : Type 0} {g : Ghosts D} (which key : ℕ) (bytes : List ℕ) (old new : Buckets D g)
     (result : Result (Unit {0}) StoreFault) : Type 0 where
   pub answers : (pages : List (List ℕ)) → IsOpenStore pages old → BringsBucket pages old (bucket_at old which key) result
-  pub here : OnOk result ((pages : List (List ℕ)) → IsOpenStore pages old → (values : BucketMap) → Content pages old (bucket_at old which key) values
+  pub here : OnOk result ((pages : List (List ℕ)) → IsOpenStore pages old → (values : BucketMap)
+      → Content pages old (bucket_at old which key) values
       → Content pages new (bucket_at old which key) (map.insert values key bytes))
   pub others : OnOk result ((pages : List (List ℕ)) → IsOpenStore pages old → (other : ℕ) (values : BucketMap)
       → other ≢ bucket_at old which key → Content pages old other values → Content pages new other values)

@@ -45,7 +45,8 @@ pub record Fills {D : Type 0} {g : Ghosts D} (pages : List (List ℕ)) (chains :
   pub leaves : Leaves pages (kept_of chains) (root_of chains) written read before home
 
 -- a commit of buckets may give this answer, of a store with this limit, and has so many home pages then
-abbrev pub CommitsBuckets : {D : Type 0} {g : Ghosts D} → List (List ℕ) → Chains D g → CacheMap → ℕ → ℕ → Result (Unit {0}) StoreFault → Type 0
+abbrev pub CommitsBuckets : {D : Type 0} {g : Ghosts D} → List (List ℕ) → Chains D g → CacheMap → ℕ → ℕ → Result (Unit {0}) StoreFault
+    → Type 0
 CommitsBuckets pages chains cache limit home (Ok done) = Fills pages chains cache home × (home ≤ limit)
 CommitsBuckets pages chains cache limit home (Err (StoreFull many)) = Fills pages chains cache many × (limit < many)
 CommitsBuckets pages chains cache limit home (Err (BadStore at)) = (n : ℕ) × IsRefused pages n (first_of chains n) at

@@ -19,13 +19,15 @@ use Rattle.bucket_store.specs.declared.buckets.Buckets.{Buckets}
 -- by its strings: a crash leaves those that were or those that are given, and once it succeeds the store rests with these
 pub record CommitsStrings {D : Type 0} {g : Ghosts D} (old new : Buckets D g) (result : Result (Unit {0}) StoreFault) : Type 0 where
   pub any_moment : (root : Root) (strings : ℕ → List ℕ) (pages : List (List ℕ)) → IsOpenStore pages old → IsState root strings pages
-      → Goes (λ left. HasState root strings left ⊎ HasState (root_of (chains_of old)) (given strings (cached_of old) (written_of (chains_of old))) left)
+      → Goes (λ left. HasState root strings left
+      ⊎ HasState (root_of (chains_of old)) (given strings (cached_of old) (written_of (chains_of old))) left)
       (disk_of (chains_of old)).crashes (disk_of (chains_of new)).crashes
   pub done : OnOk result ((root : Root) (strings : ℕ → List ℕ) (pages : List (List ℕ)) → IsOpenStore pages old → IsState root strings pages
       → (later : List (List ℕ)) × IsOpenStore later new
       × IsState (root_of (chains_of old)) (given strings (cached_of old) (written_of (chains_of old))) later)
   pub answers : (pages : List (List ℕ)) → IsOpenStore pages old
-      → CommitsBuckets pages (chains_of old) (cached_of old) (page_limit (journal_of (chains_of old))) (home_count (journal_of (chains_of new))) result
+      → CommitsBuckets pages (chains_of old) (cached_of old) (page_limit (journal_of (chains_of old)))
+      (home_count (journal_of (chains_of new))) result
 
 -- by what it means: a crash leaves what it meant or what the transaction has, and once it succeeds it means the latter
 pub record CommitsImage {D : Type 0} {g : Ghosts D} (old new : Buckets D g) (result : Result (Unit {0}) StoreFault) : Type 0 where

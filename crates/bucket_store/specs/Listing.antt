@@ -19,7 +19,8 @@ use Rattle.bucket_store.specs.declared.buckets.Buckets.{Buckets}
 -- a call that lists the pages of a chain may give this answer: a bucket is refused also where it spells no records
 abbrev pub ListsChain : {D : Type 0} {g : Ghosts D} → List (List ℕ) → Buckets D g → ℕ → Result (List ℕ) StoreFault → Type 0
 ListsChain pages buckets n (Ok ns) = HasPages (page_in pages) (length pages + 1) n (first_of (chains_of buckets) n) ns
-ListsChain pages buckets n (Err (BadStore at)) = ((n < 16) × IsRefused pages n (first_of (chains_of buckets) n) at) ⊎ ((16 ≤ n) × IsBad pages buckets n at)
+ListsChain pages buckets n (Err (BadStore at)) =
+    ((n < 16) × IsRefused pages n (first_of (chains_of buckets) n) at) ⊎ ((16 ≤ n) × IsBad pages buckets n at)
 ListsChain pages buckets n (Err _) = Unit {0}
 
 -- what a call that tells the pages of a chain does
@@ -32,6 +33,7 @@ pub record ListsChainOf {D : Type 0} {g : Ghosts D} (n : ℕ) (old new : Buckets
 pub record ListsFree {D : Type 0} {g : Ghosts D} (old new : Buckets D g) (result : Result (List ℕ) StoreFault) : Type 0 where
   pub answers : (pages : List (List ℕ)) → IsOpenStore pages old → ListsPages pages FREE (first_of (chains_of old) FREE) result
   pub read : read_of (chains_of new) ≡ read_of (chains_of old)
-  pub reads : IfOk result (λ ns. ReadsAtMost (length ns) (PAGE_LEN * home_count (journal_of (chains_of old))) (disk_of (chains_of old)) (disk_of (chains_of new)))
+  pub reads : IfOk result (λ ns. ReadsAtMost (length ns) (PAGE_LEN * home_count (journal_of (chains_of old))) (disk_of (chains_of old))
+      (disk_of (chains_of new)))
   pub sound : (rest now : Image) → Has rest now old → IsSoundAnswer result
   pub keeps : KeepsContent old new result

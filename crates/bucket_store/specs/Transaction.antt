@@ -38,7 +38,8 @@ IsOpenStore pages buckets = IsOpenWith pages buckets.chains buckets.cache
 
 -- the transaction has these records in the bucket
 abbrev pub Content : {D : Type 0} {g : Ghosts D} → List (List ℕ) → Buckets D g → ℕ → BucketMap → Type 0
-Content pages buckets n values = MatchOption (map.get buckets.cache n) (Stored pages buckets.chains n values) (λ own. own.bucket.values ≡ values)
+Content pages buckets n values = MatchOption (map.get buckets.cache n) (Stored pages buckets.chains n values)
+    (λ own. own.bucket.values ≡ values)
 
 -- the bucket cannot be read, for this page
 abbrev pub IsBad : {D : Type 0} {g : Ghosts D} → List (List ℕ) → Buckets D g → ℕ → ℕ → Type 0

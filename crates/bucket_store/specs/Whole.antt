@@ -17,7 +17,8 @@ with_records (one ∷ records) whole = map.insert (with_records records whole) o
 
 -- the transaction has records in each bucket of a map before this one
 abbrev pub HasBucketsBefore : {D : Type 0} {g : Ghosts D} → List (List ℕ) → Buckets D g → ℕ → ℕ → Type 0
-HasBucketsBefore pages buckets which bucket = (k : ℕ) → k < bucket → (values : BucketMap) × Content pages buckets (bucket_chain which k) values
+HasBucketsBefore pages buckets which bucket =
+    (k : ℕ) → k < bucket → (values : BucketMap) × Content pages buckets (bucket_chain which k) values
 
 -- a call that reads all buckets of a map may give this answer: it is refused at the first that cannot be read
 abbrev pub BringsMap : {D T : Type 0} {g : Ghosts D} → List (List ℕ) → Buckets D g → ℕ → Result T StoreFault → Type 0
@@ -29,6 +30,8 @@ BringsMap pages buckets which (Err _) = Unit {0}
 -- the transaction has the same in all buckets, and the same of them cannot be read
 pub record SameContents {D : Type 0} {g : Ghosts D} (old new : Buckets D g) : Type 0 where
   pub opens : (pages : List (List ℕ)) → IsOpenStore pages old → IsOpenStore pages new
-  pub later : (pages : List (List ℕ)) → IsOpenStore pages old → (n : ℕ) (values : BucketMap) → Content pages old n values → Content pages new n values
-  pub before : (pages : List (List ℕ)) → IsOpenStore pages old → (n : ℕ) (values : BucketMap) → Content pages new n values → Content pages old n values
+  pub later : (pages : List (List ℕ)) → IsOpenStore pages old → (n : ℕ) (values : BucketMap) → Content pages old n values
+      → Content pages new n values
+  pub before : (pages : List (List ℕ)) → IsOpenStore pages old → (n : ℕ) (values : BucketMap) → Content pages new n values
+      → Content pages old n values
   pub bad : (pages : List (List ℕ)) (n at : ℕ) → IsBad pages new n at → IsBad pages old n at

@@ -1,11 +1,13 @@
 -- What is read of a store when it is opened.
-use Rattle.std.proofs.Common.{◌≡◌, inl, inr, ℕ, zero, suc, ◌+◌, ◌*◌, ◌<◌, ◌≤◌, List, [], ◌∷◌, ◌++◌, length, Ok, Err, refl, sym, ap, subst, ◌∙◌, arith}
+use Rattle.std.proofs.Common.{◌≡◌, inl, inr, ℕ, zero, suc, ◌+◌, ◌*◌, ◌<◌, ◌≤◌, List, [], ◌∷◌, ◌++◌, length, Ok, Err, refl, sym, ap, subst}
+use Rattle.std.proofs.Common.{◌∙◌, arith}
 use Rattle.std.proofs.lemmas.Bool.{cases_lt}
 use Rattle.outside.specs.Disk.{DiskView}
 use Rattle.page_journal.specs.Crash.{IsSettled}
 use Rattle.page_journal.specs.Pages.{page_from}
 use Rattle.page_journal.specs.declared.fault.StoreFault.{StoreFault}
-use Rattle.page_journal.specs.declared.fault.StoreFault.TheVariants.{NotFormatted, NotEmpty, BadStore, DiskFault, StoreFull, Broken, OutOfMemory}
+use Rattle.page_journal.specs.declared.fault.StoreFault.TheVariants.{NotFormatted, NotEmpty, BadStore, DiskFault, StoreFull, Broken}
+use Rattle.page_journal.specs.declared.fault.StoreFault.TheVariants.{OutOfMemory}
 use Rattle.chain_store.specs.Answers.{HaveRead, IsDirectory, ReadsDirectories, ReadsDirectory, ReadsKept}
 use Rattle.chain_store.specs.Chain.{HasPages, data_in}
 use Rattle.chain_store.specs.Directories.{directory_first, root_in}
@@ -68,7 +70,8 @@ module _ (pages : List (List ℕ)) where
   pub read_more : (directories : List Walked) (walked : Walked) (m : ℕ) → length directories ≡ m → HaveRead pages directories m
       → ReadsDirectory pages m (Ok walked) → HaveRead pages (directories ++ walked ∷ []) (m + 1)
   read_more directories walked m many read here = record {
-    has = more_of (λ k ns. HasPages (page_in pages) (length pages + 1) (8 + k) (directory_first (page_in pages 1) k) ns) pages_at directories
+    has = more_of (λ k ns. HasPages (page_in pages) (length pages + 1) (8 + k) (directory_first (page_in pages 1) k) ns) pages_at
+        directories
         (directories ++ walked ∷ []) m walked.pages.items
         (λ k below. pages_at-push directories walked k (omega (arith, below, many)))
         (pages_at-last directories walked m (sym many)) read.has here.0;

@@ -1,5 +1,6 @@
 -- Where chains begin once first pages are put.
-use Rattle.std.proofs.Common.{◌≡◌, ◌≢◌, ◌⊎◌, inl, inr, ⊎_elim, ℕ, ◌+◌, ◌-◌, ◌*◌, ◌^◌, ◌<◌, ◌≤◌, ◌==◌, Bool, true, false, cond, List, [], ◌∷◌, length, refl, sym, ap, subst, ◌∙◌, arith}
+use Rattle.std.proofs.Common.{◌≡◌, ◌≢◌, ◌⊎◌, inl, inr, ⊎_elim, ℕ, ◌+◌, ◌-◌, ◌*◌, ◌^◌, ◌<◌, ◌≤◌, ◌==◌, Bool, true, false, cond, List, []}
+use Rattle.std.proofs.Common.{◌∷◌, length, refl, sym, ap, subst, ◌∙◌, arith}
 use Rattle.std.proofs.lemmas.Bool.{cases_lt}
 use Rattle.std.proofs.lemmas.Bool.Decides.{nat_tests}
 use Rattle.std.specs.Int.{w64, to_le_bytes}
@@ -56,19 +57,22 @@ same_first at low count k one bytes fits below other = elim (cases_lt one.number
   | inl under ↦ ap (λ (l : List ℕ). number l (at + 8 * k)) (first_put-low at low count one bytes under)
   | inr above ↦ elim (cases_lt (one.number - low) count) [
     | inl there ↦
-        let apart : (at + 8 * k + 8 ≤ at + 8 * (one.number - low)) ⊎ (at + 8 * (one.number - low) + 8 ≤ at + 8 * k) = elim (cases_lt (one.number - low) k) [
+        let apart : (at + 8 * k + 8 ≤ at + 8 * (one.number - low)) ⊎ (at + 8 * (one.number - low) + 8 ≤ at + 8 * k) =
+        elim (cases_lt (one.number - low) k) [
           | inl less ↦ inr (omega (arith, less))
           | inr more ↦ inl (omega (arith, more, other, above))
         ] in
         ap (λ (l : List ℕ). number l (at + 8 * k)) (first_put-here at low count one bytes above there)
-        ∙ put_beside (at + 8 * (one.number - low)) (head_or one.pages 0) (at + 8 * k) bytes (omega (arith, there, fits)) (omega (arith, below, fits)) apart
+        ∙ put_beside (at + 8 * (one.number - low)) (head_or one.pages 0) (at + 8 * k) bytes (omega (arith, there, fits))
+        (omega (arith, below, fits)) apart
     | inr behind ↦ ap (λ (l : List ℕ). number l (at + 8 * k)) (first_put-behind at low count one bytes behind)
   ]
 ]
 
 -- a first page of a chain that is put, as it is seen at each place
 put_first : (at low count k : ℕ) (one : Laid) (bytes : List ℕ) → at + 8 * count ≤ length bytes → k < count → head_or one.pages 0 < 2 ^ 64
-    → number (first_put at low count one bytes) (at + 8 * k) ≡ cond (one.number == low + k) (head_or one.pages 0) (number bytes (at + 8 * k))
+    → number (first_put at low count one bytes) (at + 8 * k)
+    ≡ cond (one.number == low + k) (head_or one.pages 0) (number bytes (at + 8 * k))
 put_first at low count k one bytes fits below small = elim (same_or one.number (low + k)) [
   | inl here ↦
       let place : one.number - low ≡ k = omega (arith, here) in
@@ -84,7 +88,8 @@ put_first at low count k one bytes fits below small = elim (same_or one.number (
 ]
 
 pub firsts_at : (at low count k : ℕ) (laid : List Laid) (bytes : List ℕ) → at + 8 * count ≤ length bytes → k < count
-    → ((p : ℕ) → 1 ≤ times_new p laid → p < 2 ^ 64) → number (firsts_put at low count laid bytes) (at + 8 * k) ≡ begins_at laid (low + k) (number bytes (at + 8 * k))
+    → ((p : ℕ) → 1 ≤ times_new p laid → p < 2 ^ 64)
+    → number (firsts_put at low count laid bytes) (at + 8 * k) ≡ begins_at laid (low + k) (number bytes (at + 8 * k))
 firsts_at at low count k [] bytes fits below small = refl
 firsts_at at low count k (one ∷ others) bytes fits below small =
     let next : List ℕ = first_put at low count one bytes in
@@ -109,7 +114,8 @@ begins_none (one ∷ others) n other none =
     let test : (one.number == n) ≡ false = is_not one.number n (λ is. none.0 (sym is)) in
     ap (λ (b : Bool). begins_at others n (cond b (head_or one.pages 0) other)) test ∙ begins_none others n other none.1
 
-pub begins_part : (page : ℕ → List ℕ) (home : ℕ) (first : ℕ → ℕ) (laid : List Laid) (n other : ℕ) (pages bytes : List ℕ) → AreOld page home first laid
+pub begins_part : (page : ℕ → List ℕ) (home : ℕ) (first : ℕ → ℕ) (laid : List Laid) (n other : ℕ) (pages bytes : List ℕ)
+    → AreOld page home first laid
     → IsPart n pages bytes laid → begins_at laid n other ≡ head_or pages 0
 begins_part page home first [] n other pages bytes old part = absurd part
 begins_part page home first (one ∷ others) n other pages bytes old (inl here) =
@@ -121,7 +127,10 @@ begins_part page home first (one ∷ others) n other pages bytes old (inr there)
     begins_part page home first others n (cond (one.number == n) (head_or one.pages 0) other) pages bytes old.3 there
 
 -- begin, part by part
-pub begin_all : (first : ℕ → ℕ) (parts : List Laid) → ((n : ℕ) (pages bytes : List ℕ) → IsPart n pages bytes parts → first n ≡ head_or pages 0) → Begin first parts
+pub begin_all : (first : ℕ → ℕ) (parts : List Laid)
+    → ((n : ℕ) (pages bytes : List ℕ) → IsPart n pages bytes parts → first n ≡ head_or pages 0) → Begin first parts
 begin_all first [] each = tt
-begin_all first (one ∷ others) each =
-    (each one.number one.pages one.bytes (inl (refl, refl, refl)), begin_all first others (λ n pages bytes part. each n pages bytes (inr part)))
+begin_all first (one ∷ others) each = (
+  each one.number one.pages one.bytes (inl (refl, refl, refl)),
+  begin_all first others (λ n pages bytes part. each n pages bytes (inr part)),
+)

@@ -1,5 +1,6 @@
 -- The set of a commit may be committed, whatever the store is.
-use Rattle.std.proofs.Common.{◌≡◌, ◌≢◌, inl, inr, ℕ, ◌+◌, ◌-◌, ◌<◌, ◌≤◌, ◌==◌, ◌&&◌, Bool, true, false, cond, List, [], ◌∷◌, ◌++◌, length, drop, Option, None, refl, sym, ap, subst, ◌∙◌, arith}
+use Rattle.std.proofs.Common.{◌≡◌, ◌≢◌, inl, inr, ℕ, ◌+◌, ◌-◌, ◌<◌, ◌≤◌, ◌==◌, ◌&&◌, Bool, true, false, cond, List, [], ◌∷◌, ◌++◌, length}
+use Rattle.std.proofs.Common.{drop, Option, None, refl, sym, ap, subst, ◌∙◌, arith}
 use Rattle.std.proofs.lemmas.Bool.{cases_lt, eqb-true}
 use Rattle.std.specs.List.{All}
 use Rattle.std.specs.Option.{is_some, IsSome}
@@ -41,7 +42,8 @@ head_in p n [] same after other none is stays =
     let first = (both_true (0 == n) (0 == after) (both_true ((0 == n) && (0 == after)) (head_or same 0 == 1) stays).0).0 in
     other (sym (eqb-true 0 n first ∙ is))
 head_in p n (o ∷ os) same after other none is stays =
-    let first = (both_true (o == n) (head_or os 0 == after) (both_true ((o == n) && (head_or os 0 == after)) (head_or same 0 == 1) stays).0).0 in
+    let first = (both_true (o == n) (head_or os 0 == after)
+    (both_true ((o == n) && (head_or os 0 == after)) (head_or same 0 == 1) stays).0).0 in
     absurd (omega (arith, none, once-same p o (eqb-true o n first ∙ is)))
 
 times_behind : (p : ℕ) (old : List ℕ) → times p old ≡ 0 → times p (drop 1 old) ≡ 0
@@ -67,9 +69,11 @@ laid_put p (one ∷ others) other none =
       laid_put p others other (omega (arith, none)),
     )
 
-insert_keeps : (set : PageMap) (n : ℕ) (page : List ℕ) (p : ℕ) → IsSome (finite.get set p) → IsSome (finite.get (finite.insert set n page) p)
+insert_keeps : (set : PageMap) (n : ℕ) (page : List ℕ) (p : ℕ) → IsSome (finite.get set p)
+    → IsSome (finite.get (finite.insert set n page) p)
 insert_keeps set n page p some = elim (once-cases p n) [
-  | inl here ↦ subst (λ (k : ℕ). IsSome (finite.get (finite.insert set n page) k)) here.0 (ap (λ (o : Option (List ℕ)). is_some o) (insert_same set n page))
+  | inl here ↦ subst (λ (k : ℕ). IsSome (finite.get (finite.insert set n page) k)) here.0
+      (ap (λ (o : Option (List ℕ)). is_some o) (insert_same set n page))
   | inr there ↦ ap (λ (o : Option (List ℕ)). is_some o) (insert_other set n page p (λ is. there.0 (sym is))) ∙ some
 ]
 
@@ -81,7 +85,8 @@ puts_has : (set : PageMap) (pairs : List (ℕ × List ℕ)) (p : ℕ) → 1 ≤ 
 puts_has set [] p some = absurd (omega arith)
 puts_has set (pair ∷ pairs) p some = elim (once-cases p pair.0) [
   | inl here ↦ puts_keeps (finite.insert set pair.0 pair.1) pairs p
-      (subst (λ (k : ℕ). IsSome (finite.get (finite.insert set pair.0 pair.1) k)) here.0 (ap (λ (o : Option (List ℕ)). is_some o) (insert_same set pair.0 pair.1)))
+      (subst (λ (k : ℕ). IsSome (finite.get (finite.insert set pair.0 pair.1) k)) here.0
+      (ap (λ (o : Option (List ℕ)). is_some o) (insert_same set pair.0 pair.1)))
   | inr there ↦ puts_has (finite.insert set pair.0 pair.1) pairs p (omega (arith, some, there.1))
 ]
 
@@ -98,12 +103,14 @@ old_behind home p (one ∷ others) behind some = elim (cases_lt 0 (times p one.o
 ]
 
 module _ (home : ℕ) (parts bases : List Part) (count : ℕ) (free : List ℕ) (dealt : Dealt) (may : All (MayFill count) bases)
-    (is : IsDealt parts bases count free home dealt) (some : 2 ≤ home) (old : AreOldBehind home (dealt.chains.items ++ dealt.directories.items))
+    (is : IsDealt parts bases count free home dealt) (some : 2 ≤ home)
+    (old : AreOldBehind home (dealt.chains.items ++ dealt.directories.items))
     (free_behind : AreBehindRoot home free) where
   all : List Laid
   all = dealt.chains.items ++ dealt.directories.items
 
-  pub dealt_within : (p : ℕ) → 1 ≤ times_new p (dealt.chains.items ++ dealt.directories.items) + times p dealt.left.items → (2 ≤ p) × (p < home + more_of parts bases free)
+  pub dealt_within : (p : ℕ) → 1 ≤ times_new p (dealt.chains.items ++ dealt.directories.items) + times p dealt.left.items
+      → (2 ≤ p) × (p < home + more_of parts bases free)
   dealt_within p there =
       let law = covers home parts bases count free dealt may is p in
       let whole = ap (λ (l : List ℕ). times p l) (whole_free home parts bases count free dealt may is) in
@@ -112,7 +119,8 @@ module _ (home : ℕ) (parts bases : List Part) (count : ℕ) (free : List ℕ) 
             let behind = old_behind home p (dealt.chains.items ++ dealt.directories.items) old (omega (arith, was)) in
             (behind.0, omega (arith, behind.1))
         | inr none ↦ elim (cases_lt 0 (times p free)) [
-          | inl spare ↦ let behind = all_times (IsBehindRoot home) free p free_behind (omega (arith, spare)) in (behind.0, omega (arith, behind.1))
+          | inl spare ↦ let behind = all_times (IsBehindRoot home) free p free_behind (omega (arith, spare)) in
+              (behind.0, omega (arith, behind.1))
           | inr nothing ↦ elim (times-up_from p home (more_of parts bases free)) [
             | inl fresh ↦ (omega (arith, fresh.0, some), fresh.1)
             | inr without ↦ absurd (omega (arith, there, law, whole, none, nothing, without))
@@ -164,11 +172,13 @@ module _ (home : ℕ) (parts bases : List Part) (count : ℕ) (free : List ℕ) 
         let fresh = times-fresh n home (more_of parts bases free) from to in
         let not_old : times_old n (dealt.chains.items ++ dealt.directories.items) ≡ 0 =
         elim (cases_lt 0 (times_old n (dealt.chains.items ++ dealt.directories.items))) [
-          | inl was ↦ let behind = old_behind home n (dealt.chains.items ++ dealt.directories.items) old (omega (arith, was)) in absurd (omega (arith, behind.1, from))
+          | inl was ↦ let behind = old_behind home n (dealt.chains.items ++ dealt.directories.items) old (omega (arith, was)) in
+              absurd (omega (arith, behind.1, from))
           | inr none ↦ omega (arith, none)
         ] in
         let not_free : times n free ≡ 0 = elim (cases_lt 0 (times n free)) [
-          | inl spare ↦ let behind = all_times (IsBehindRoot home) free n free_behind (omega (arith, spare)) in absurd (omega (arith, behind.1, from))
+          | inl spare ↦ let behind = all_times (IsBehindRoot home) free n free_behind (omega (arith, spare)) in
+              absurd (omega (arith, behind.1, from))
           | inr none ↦ omega (arith, none)
         ] in
         let not_kept : times n (kept_free parts bases free) ≡ 0 =
@@ -182,7 +192,8 @@ module _ (home : ℕ) (parts bases : List Part) (count : ℕ) (free : List ℕ) 
               (omega (arith, law, whole, fresh, none, not_kept, chain_put n FREE dealt.tail dealt.left.items [] [] [] other refl))
         ])
 
-    pub can_commit : CanCommit (set_of dealt.chains.items dealt.directories.items dealt.left.items dealt.tail front) home (home + more_of parts bases free)
+    pub can_commit : CanCommit (set_of dealt.chains.items dealt.directories.items dealt.left.items dealt.tail front) home
+        (home + more_of parts bases free)
     can_commit = subst (λ (s : PageMap). CanCommit s home (home + more_of parts bases free)) (sym set_is) (record {
       more = omega arith;
       within = within;

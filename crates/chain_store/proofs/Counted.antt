@@ -21,14 +21,16 @@ page_sum-put : (n : ℕ) (ns : List ℕ) (chains : List (ℕ × List ℕ)) → f
 page_sum-put n ns [] none = omega arith
 page_sum-put n ns (chain ∷ chains) none =
     elim (nat_cmp n chain.0) as (λ (r : Ordering). cond (is_eq r) (Some chain.1) (find nat_cmp n chains) ≡ None
-    → page_sum (by_order r ((n, ns) ∷ chain ∷ chains) ((chain.0, ns) ∷ chains) (chain ∷ put nat_cmp n ns chains)) ≡ length ns + page_sum (chain ∷ chains)) [
+    → page_sum (by_order r ((n, ns) ∷ chain ∷ chains) ((chain.0, ns) ∷ chains) (chain ∷ put nat_cmp n ns chains)) ≡ length ns
+    + page_sum (chain ∷ chains)) [
       | Less ↦ λ apart. omega arith
       | Equal ↦ λ same. absurd (cc)
       | Greater ↦ λ apart. omega (arith, page_sum-put n ns chains apart)
     ] none
 
 -- a chain that is new adds its pages
-pages_read-insert : (read : Lists) (n : ℕ) (ns : List ℕ) → map.get read n ≡ None → pages_read (map.insert read n ns) ≡ length ns + pages_read read
+pages_read-insert : (read : Lists) (n : ℕ) (ns : List ℕ) → map.get read n ≡ None
+    → pages_read (map.insert read n ns) ≡ length ns + pages_read read
 unfolding pages_read
 pages_read-insert read n ns none =
     ap page_sum (map.entries-insert nat_cmp_total read n ns)
@@ -44,7 +46,8 @@ pages_read-empty =
     no_pages (map.entries (map.empty {X = List ℕ} {R = nat_cmp}))
     (sym (map.len-entries (map.empty {X = List ℕ} {R = nat_cmp})) ∙ map.len-empty nat_cmp (List ℕ))
 
-pub within_on : (old mid new : Lists) (before between after : DiskView) → ReadsWithin old mid before between → ReadsWithin mid new between after
+pub within_on : (old mid new : Lists) (before between after : DiskView) → ReadsWithin old mid before between
+    → ReadsWithin mid new between after
     → ReadsWithin old new before after
 within_on old mid new before between after earlier later first told =
     let one = earlier first told in
@@ -52,7 +55,8 @@ within_on old mid new before between after earlier later first told =
     (two.0, two.1, omega (arith, one.2, two.2))
 
 -- a call that reads one chain at most
-pub within_call : (end n : ℕ) (old new : Lists) (before after : DiskView) → MayRead end n old new before after → ReadsWithin old new before after
+pub within_call : (end n : ℕ) (old new : Lists) (before after : DiskView) → MayRead end n old new before after
+    → ReadsWithin old new before after
 within_call end n old new before after (inl same) first told =
     let now = same.1 first told in
     (now.0, now.1, omega (arith, now.2, ap pages_read same.0))
@@ -63,10 +67,12 @@ within_call end n old new before after (inr (none, chain)) first told =
 each_call : (end n : ℕ) (old new : Lists) (before after : DiskView) → MayRead end n old new before after → (k : ℕ) → IsSome (map.get new k)
     → IsSome (map.get old k) ⊎ (k ≡ n)
 each_call end n old new before after (inl same) k some = inl (subst (λ (l : Lists). IsSome (map.get l k)) same.0 some)
-each_call end n old new before after (inr (none, chain)) k some = got_some old n chain.0 k (subst (λ (l : Lists). IsSome (map.get l k)) chain.1 some)
+each_call end n old new before after (inr (none, chain)) k some =
+    got_some old n chain.0 k (subst (λ (l : Lists). IsSome (map.get l k)) chain.1 some)
 
 module _ {D : Type 0} {g : Ghosts D} where
-  pub reads_call : (end n : ℕ) (old new : Chains D g) → MayRead end n (read_of old) (read_of new) (disk_of old) (disk_of new) → ReadsOnly (λ k. k ≡ n) old new
+  pub reads_call : (end n : ℕ) (old new : Chains D g) → MayRead end n (read_of old) (read_of new) (disk_of old) (disk_of new)
+      → ReadsOnly (λ k. k ≡ n) old new
   reads_call end n old new may = record {
     within = within_call end n (read_of old) (read_of new) (disk_of old) (disk_of new) may;
     each = each_call end n (read_of old) (read_of new) (disk_of old) (disk_of new) may;
@@ -75,7 +81,8 @@ module _ {D : Type 0} {g : Ghosts D} where
   pub reads_nothing : (P : ℕ → Type 0) (chains : Chains D g) → ReadsOnly P chains chains
   reads_nothing P chains = record { within = λ first told. (first, told, omega arith); each = λ n some. inl some }
 
-  pub reads_on : (P Q : ℕ → Type 0) (old mid new : Chains D g) → ReadsOnly P old mid → ReadsOnly Q mid new → ReadsOnly (λ n. P n ⊎ Q n) old new
+  pub reads_on : (P Q : ℕ → Type 0) (old mid new : Chains D g) → ReadsOnly P old mid → ReadsOnly Q mid new
+      → ReadsOnly (λ n. P n ⊎ Q n) old new
   reads_on P Q old mid new earlier later = record {
     within = within_on (read_of old) (read_of mid) (read_of new) (disk_of old) (disk_of mid) (disk_of new) earlier.within later.within;
     each = λ n some. elim (later.each n some) [

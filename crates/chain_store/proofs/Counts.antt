@@ -1,5 +1,6 @@
 -- The pages of a sound store are counted: each behind the root page is one of just one chain, or free.
-use Rattle.std.proofs.Common.{◌≡◌, ◌⊎◌, inl, inr, ℕ, ◌+◌, ◌-◌, ◌*◌, ◌%◌, ◌<◌, ◌≤◌, List, [], ◌++◌, length, sym, ap, subst, ◌∙◌, arith, length-append}
+use Rattle.std.proofs.Common.{◌≡◌, ◌⊎◌, inl, inr, ℕ, ◌+◌, ◌-◌, ◌*◌, ◌%◌, ◌<◌, ◌≤◌, List, [], ◌++◌, length, sym, ap, subst, ◌∙◌, arith}
+use Rattle.std.proofs.Common.{length-append}
 use Rattle.std.proofs.lemmas.Bool.{cases_lt}
 use Rattle.chain_store.specs.Chain.{HasPages, Holds, IsGood}
 use Rattle.chain_store.specs.Directories.{IsChain}
@@ -8,7 +9,8 @@ use Rattle.chain_store.specs.Parts.{pages_for, times}
 use Rattle.chain_store.specs.State.{IsSound}
 use Rattle.chain_store.specs.declared.layout.TheConstants.{CHAIN_END, FREE}
 use Rattle.chain_store.proofs.Times.{length-few, length-many, times-append, times_at}
-use Rattle.chain_store.proofs.Totals.{gathered, length-gathered, times-gathered, total-add, total-blocks, total-cases, total-none, total-one, total-same, total-some}
+use Rattle.chain_store.proofs.Totals.{gathered, length-gathered, times-gathered, total-add, total-blocks, total-cases, total-none}
+use Rattle.chain_store.proofs.Totals.{total-one, total-same, total-some}
 use Rattle.chain_store.proofs.Unique.{pages_one, path_good, path_once}
 
 -- each chain has as many pages as its bytes need
@@ -17,11 +19,13 @@ AreCounted page home first = (n : ℕ) (bytes : List ℕ) → IsChain n → Hold
     → (ns : List ℕ) × HasPages page home n (first n) ns × (length ns ≡ pages_for (length bytes))
 
 -- the pages of each chain; behind the last chain there are none
-abbrev list_of : (page : ℕ → List ℕ) (home : ℕ) (first : ℕ → ℕ) → IsSound page home first → (n : ℕ) → (n < CHAIN_END) ⊎ (CHAIN_END ≤ n) → List ℕ
+abbrev list_of : (page : ℕ → List ℕ) (home : ℕ) (first : ℕ → ℕ) → IsSound page home first → (n : ℕ) → (n < CHAIN_END) ⊎ (CHAIN_END ≤ n)
+    → List ℕ
 list_of page home first sound n (inl chain) = (sound.chains n (inr chain)).0
 list_of page home first sound n (inr past) = []
 
-list_has : (page : ℕ → List ℕ) (home : ℕ) (first : ℕ → ℕ) (sound : IsSound page home first) (n : ℕ) (c : (n < CHAIN_END) ⊎ (CHAIN_END ≤ n)) → IsChain n
+list_has : (page : ℕ → List ℕ) (home : ℕ) (first : ℕ → ℕ) (sound : IsSound page home first) (n : ℕ) (c : (n < CHAIN_END) ⊎ (CHAIN_END ≤ n))
+    → IsChain n
     → HasPages page home n (first n) (list_of page home first sound n c)
 list_has page home first sound n (inl chain) is = (sound.chains n (inr chain)).1
 list_has page home first sound n (inr past) is = absurd (omega (arith, past, is))
@@ -102,7 +106,8 @@ module _ (page : ℕ → List ℕ) (home : ℕ) (first : ℕ → ℕ) (sound : I
 
   counted : total (λ n. length (pages_of n)) CHAIN_END + length free + 2 ≡ home
   counted =
-      let few = length-few all_pages 2 home (λ p. omega (arith, times_all p, page_once p)) (λ p there. page_inside p (omega (arith, times_all p, there))) in
+      let few = length-few all_pages 2 home (λ p. omega (arith, times_all p, page_once p))
+      (λ p there. page_inside p (omega (arith, times_all p, there))) in
       let many = length-many all_pages 2 home (λ p above below. omega (arith, times_all p, page_there p above below))
       (λ p there. (page_inside p (omega (arith, times_all p, there))).1) in
       omega (arith, some, few, many, length-append (gathered pages_of CHAIN_END) free, length-gathered pages_of CHAIN_END)
@@ -118,7 +123,8 @@ module _ (page : ℕ → List ℕ) (home : ℕ) (first : ℕ → ℕ) (sound : I
 
     none_of : (n : ℕ) → IsChain n → first n ≡ 0 → length (pages_of n) ≡ 0
     none_of n chain none =
-        ap (λ (l : List ℕ). length l) (pages_one page home n (first n) (pages_of n) [] (has n chain) (record { path = none; few = omega arith }))
+        ap (λ (l : List ℕ). length l) (pages_one page home n (first n) (pages_of n) [] (has n chain)
+        (record { path = none; few = omega arith }))
 
     texts_are : total (λ n. length (pages_of n)) 8 ≡ total (λ n. pages_for (length (strings n))) 8
     texts_are = total-same (λ n. length (pages_of n)) (λ n. pages_for (length (strings n))) 8 (λ n below.
@@ -134,7 +140,8 @@ module _ (page : ℕ → List ℕ) (home : ℕ) (first : ℕ → ℕ) (sound : I
         ≡ total (λ b. pages_for (length (strings (16 + 65536 * m + b)))) buckets
     map_are m below =
         let whole : 65536 ≡ buckets + (65536 - buckets) = omega (arith, few) in
-        let inner = total-same (λ b. length (pages_of (16 + (65536 * m + b)))) (λ b. pages_for (length (strings (16 + 65536 * m + b)))) buckets (λ b under.
+        let inner = total-same (λ b. length (pages_of (16 + (65536 * m + b))))
+        (λ b. pages_for (length (strings (16 + 65536 * m + b)))) buckets (λ b under.
         let place : 16 + (65536 * m + b) ≡ 16 + 65536 * m + b = omega arith in
         let chain : 16 + 65536 * m + b < CHAIN_END = omega (arith, below, under, few) in
         ap (λ (n : ℕ). length (pages_of n)) place

@@ -1,5 +1,6 @@
 -- Pages are dealt.
-use Rattle.std.proofs.Common.{◌≡◌, ℕ, zero, suc, ◌+◌, ◌-◌, ◌≤◌, List, [], ◌∷◌, ◌++◌, length, take, drop, sym, ap, ◌∙◌, arith, append_assoc, length-take, length-drop}
+use Rattle.std.proofs.Common.{◌≡◌, ℕ, zero, suc, ◌+◌, ◌-◌, ◌≤◌, List, [], ◌∷◌, ◌++◌, length, take, drop, sym, ap, ◌∙◌, arith, append_assoc}
+use Rattle.std.proofs.Common.{length-take, length-drop}
 use Rattle.std.proofs.lemmas.List.{drop-drop, take_all}
 use Rattle.chain_store.specs.Parts.{dealt, given, given_by, growth, growth_of, laid_all, laid_of, pages_for, times, times_new, times_old}
 use Rattle.chain_store.specs.declared.parts.Part.{Part}
@@ -41,7 +42,8 @@ laid-more front one part rest here pool after taken many is behind laid =
 
 -- the pages of the parts and what is left of the pool are the old ones and the pool, without those that are given up
 pub dealt-times : (p : ℕ) (parts : List Part) (pool : List ℕ) → growth parts ≤ length pool
-    → times_new p (laid_all parts pool) + times p (drop (growth parts) pool) + times p (given parts) ≡ times_old p (laid_all parts pool) + times p pool
+    → times_new p (laid_all parts pool) + times p (drop (growth parts) pool) + times p (given parts) ≡ times_old p (laid_all parts pool)
+    + times p pool
 dealt-times p [] pool enough = omega arith
 dealt-times p (part ∷ parts) pool enough =
     let need : ℕ = pages_for (length part.bytes) in

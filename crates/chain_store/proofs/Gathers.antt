@@ -1,5 +1,6 @@
 -- What was written is gathered, chain by chain.
-use Rattle.std.proofs.Common.{◌≡◌, ◌≢◌, ◌⊎◌, inl, inr, ℕ, ◌-◌, ◌<◌, Bool, true, cond, List, [], ◌∷◌, ◌++◌, Option, Some, None, refl, sym, ap, subst, ◌∙◌, arith}
+use Rattle.std.proofs.Common.{◌≡◌, ◌≢◌, ◌⊎◌, inl, inr, ℕ, ◌-◌, ◌<◌, Bool, true, cond, List, [], ◌∷◌, ◌++◌, Option, Some, None, refl, sym}
+use Rattle.std.proofs.Common.{ap, subst, ◌∙◌, arith}
 use Rattle.std.specs.Option.{is_some, IsSome, unwrap_or}
 use Rattle.std.specs.Ordering.{nat_cmp, eq_by_cmp}
 use Rattle.std.specs.Cmp.{nat_cmp_total, eq_by_cmp_equiv}
@@ -17,15 +18,18 @@ pub removed-here : (lists : Lists) (n q : ℕ) → q ≡ n → map.get (map.remo
 removed-here lists n q is = map.get-remove nat_cmp_total lists n q ∙ ap (λ (b : Bool). cond b None (map.get lists q)) (equal_here q n is)
 
 pub removed-there : (lists : Lists) (n q : ℕ) → q ≢ n → map.get (map.remove lists n) q ≡ map.get lists q
-removed-there lists n q other = map.get-remove nat_cmp_total lists n q ∙ ap (λ (b : Bool). cond b None (map.get lists q)) (not_equal q n other)
+removed-there lists n q other = map.get-remove nat_cmp_total lists n q
+    ∙ ap (λ (b : Bool). cond b None (map.get lists q)) (not_equal q n other)
 
 pub len-less : {X : Type 0} (m : map.FinMap nat_cmp X) (n : ℕ) (value : X) → map.get m n ≡ Some value → map.len (map.remove m n) < map.len m
 len-less {X} m n value is =
     let has : map.contains_key m n ≡ true = ap (λ (o : Option X). is_some o) is in
-    let less : map.len (map.remove m n) ≡ map.len m - 1 = map.len-remove nat_cmp_total m n ∙ ap (λ (b : Bool). cond b (map.len m - 1) (map.len m)) has in
+    let less : map.len (map.remove m n) ≡ map.len m - 1 =
+    map.len-remove nat_cmp_total m n ∙ ap (λ (b : Bool). cond b (map.len m - 1) (map.len m)) has in
     elim (same_or (map.len m) 0) [
       | inl none ↦
-          let nothing : map.get m n ≡ None = ap (λ (l : map.FinMap nat_cmp X). map.get l n) (map.empty_of_len m none) ∙ map.get-empty nat_cmp n in
+          let nothing : map.get m n ≡ None = ap (λ (l : map.FinMap nat_cmp X). map.get l n) (map.empty_of_len m none)
+          ∙ map.get-empty nat_cmp n in
           absurd (cc (nothing, is))
       | inr some ↦ omega (arith, less, some)
     ]
@@ -71,7 +75,8 @@ module _ (written read before : Lists) where
   gather_none = record { each = tt; apart = tt; others = λ n none. (refl, refl, refl); gone = λ n some. absurd (some tt) }
 
   pub gather_more : (parts : List Part) (part : Part) (left known had left_now known_now had_now : Lists)
-      → IsGathering written read before parts left known had → map.get left part.number ≡ Some part.bytes → ((n : ℕ) (bytes : List ℕ) → map.get written n ≡ Some bytes → IsSome (map.get read n))
+      → IsGathering written read before parts left known had → map.get left part.number ≡ Some part.bytes
+      → ((n : ℕ) (bytes : List ℕ) → map.get written n ≡ Some bytes → IsSome (map.get read n))
       → part.old ≡ unwrap_or (map.get known part.number) [] → part.same ≡ unwrap_or (map.get had part.number) []
       → left_now ≡ map.remove left part.number → known_now ≡ map.remove known part.number → had_now ≡ map.remove had part.number
       → IsGathering written read before (parts ++ part ∷ []) left_now known_now had_now
@@ -85,7 +90,8 @@ module _ (written read before : Lists) where
       record {
         each = each-push written read before parts part so_far.each (
           sym same.0 ∙ here,
-          some_or (map.get read n) part.old (some n part.bytes (sym same.0 ∙ here)) (old ∙ ap (λ (o : Option (List ℕ)). unwrap_or o []) same.1),
+          some_or (map.get read n) part.old (some n part.bytes (sym same.0 ∙ here))
+              (old ∙ ap (λ (o : Option (List ℕ)). unwrap_or o []) same.1),
           none_or (map.get before n) part.same (was ∙ ap (λ (o : Option (List ℕ)). unwrap_or o []) same.2),
         );
         apart = apart-push parts part so_far.apart new;

@@ -1,16 +1,19 @@
 -- Parts, one by one.
-use Rattle.std.proofs.Common.{◌≡◌, ◌≢◌, ◌⊎◌, inl, inr, ℕ, ◌+◌, ◌<◌, ◌≤◌, List, [], ◌∷◌, ◌++◌, length, refl, sym, ap, subst, ◌∙◌, arith, length-take, length-drop}
+use Rattle.std.proofs.Common.{◌≡◌, ◌≢◌, ◌⊎◌, inl, inr, ℕ, ◌+◌, ◌<◌, ◌≤◌, List, [], ◌∷◌, ◌++◌, length, refl, sym, ap, subst, ◌∙◌, arith}
+use Rattle.std.proofs.Common.{length-take, length-drop}
 use Rattle.std.proofs.lemmas.Bool.{cases_lt}
 use Rattle.std.proofs.lemmas.List.{take-append-drop}
 use Rattle.chain_store.specs.Chain.{HasPages, IsGood, Path, data_in}
 use Rattle.chain_store.specs.Links.{IsLink, next_of}
-use Rattle.chain_store.specs.Parts.{AreFreed, AreLaid, AreOld, AreWritten, Begin, IsNoPart, IsPart, first_held, head_or, later_held, times, times_new, times_old}
+use Rattle.chain_store.specs.Parts.{AreFreed, AreLaid, AreOld, AreWritten, Begin, IsNoPart, IsPart, first_held, head_or, later_held, times}
+use Rattle.chain_store.specs.Parts.{times_new, times_old}
 use Rattle.chain_store.specs.declared.layout.TheConstants.{CHAIN_END, FREE}
 use Rattle.chain_store.specs.declared.parts.Laid.{Laid}
 use Rattle.chain_store.proofs.Times.{once-cases, same_or}
 use Rattle.chain_store.proofs.Unique.{path_good, path_once}
 
-held_long : (bytes : List ℕ) → (length (first_held bytes) ≤ 4080) × (length (first_held bytes) ≤ length bytes) × (length (first_held bytes) + length (later_held bytes) ≡ length bytes)
+held_long : (bytes : List ℕ) → (length (first_held bytes) ≤ 4080) × (length (first_held bytes) ≤ length bytes)
+    × (length (first_held bytes) + length (later_held bytes) ≡ length bytes)
 unfolding first_held later_held
 held_long bytes = (
   omega (arith, length-take 4080 bytes),
@@ -71,7 +74,8 @@ head_along (n ∷ left) kept = refl
 
 -- free pages, and then a path of them
 pub freed_path : (new : ℕ → List ℕ) (home : ℕ) (left kept : List ℕ) → ((p : ℕ) → 1 ≤ times p left → (2 ≤ p) × (p < home))
-    → AreFreed new (head_or kept 0) left → Path new home FREE (head_or kept 0) kept 0 → Path new home FREE (head_or (left ++ kept) 0) (left ++ kept) 0
+    → AreFreed new (head_or kept 0) left → Path new home FREE (head_or kept 0) kept 0
+    → Path new home FREE (head_or (left ++ kept) 0) (left ++ kept) 0
 freed_path new home [] kept inside freed path = path
 freed_path new home (n ∷ left) kept inside freed path =
     let here = inside n (elim (once-cases n n) [ inl same ↦ omega (arith, same.1) | inr not ↦ absurd (not.0 refl) ]) in (
@@ -113,7 +117,8 @@ pub record Known (page new : ℕ → List ℕ) (home : ℕ) (first next : ℕ �
   pub among_new : (p : ℕ) → times p pages ≤ times_new p parts
 
 module _ (page new : ℕ → List ℕ) (home : ℕ) (first next : ℕ → ℕ) where
-  pub part_known : (parts : List Laid) (n : ℕ) (pages bytes : List ℕ) → IsPart n pages bytes parts → AreOld page home first parts → AreLaid new parts
+  pub part_known : (parts : List Laid) (n : ℕ) (pages bytes : List ℕ) → IsPart n pages bytes parts → AreOld page home first parts
+      → AreLaid new parts
       → Begin next parts → Known page new home first next parts n pages bytes
   part_known [] n pages bytes part old laid begins = absurd part
   part_known (one ∷ others) n pages bytes (inl here) old laid begins =
@@ -145,7 +150,12 @@ module _ (page new : ℕ → List ℕ) (home : ℕ) (first next : ℕ → ℕ) w
       → (n : ℕ) × (n < CHAIN_END) × (IsNoPart n parts → ⊥) × IsGood page home n p
   old_owner [] p old some = absurd (omega arith)
   old_owner (one ∷ others) p old some = elim (cases_lt 0 (times p one.old)) [
-    | inl here ↦ (one.number, old.0, λ none. none.0 refl, path_good page home one.number (first one.number) one.old 0 p old.1.path (omega (arith, here)))
+    | inl here ↦ (
+      one.number,
+      old.0,
+      λ none. none.0 refl,
+      path_good page home one.number (first one.number) one.old 0 p old.1.path (omega (arith, here)),
+    )
     | inr none ↦
         let later = old_owner others p old.3 (omega (arith, some, none)) in
         (later.0, later.1, λ without. later.2 without.1, later.3)

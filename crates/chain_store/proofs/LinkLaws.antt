@@ -1,5 +1,6 @@
 -- What a page of a chain tells that was written.
-use Rattle.std.proofs.Common.{◌≡◌, ◌≢◌, ℕ, ◌-◌, ◌^◌, ◌<◌, ◌≤◌, List, ◌++◌, length, take, drop, replicate, refl, sym, ap, ◌∙◌, arith, append_assoc}
+use Rattle.std.proofs.Common.{◌≡◌, ◌≢◌, ℕ, ◌-◌, ◌^◌, ◌<◌, ◌≤◌, List, ◌++◌, length, take, drop, replicate, refl, sym, ap, ◌∙◌, arith}
+use Rattle.std.proofs.Common.{append_assoc}
 use Rattle.std.proofs.Math.Seq.{drop-append_seam, take-append_seam}
 use Rattle.std.proofs.lemmas.Nat.{from_le_bytes-to_le_bytes_4, from_le_bytes-to_le_bytes_8}
 use Rattle.std.specs.Int.{w32, w64, from_le_bytes, to_le_bytes}
@@ -32,7 +33,8 @@ module _ (next owner : ℕ) (held : List ℕ) where
   zeros : List ℕ
   zeros = replicate (4096 - length (link_front next owner held)) 0
 
-  pages_as : link_page next owner held ≡ to_le_bytes w64 next ++ (to_le_bytes w32 (length held) ++ (to_le_bytes w32 owner ++ (held ++ zeros)))
+  pages_as : link_page next owner held ≡ to_le_bytes w64 next
+      ++ (to_le_bytes w32 (length held) ++ (to_le_bytes w32 owner ++ (held ++ zeros)))
   unfolding link_page zeros
   pages_as =
       append_assoc (to_le_bytes w64 next) (to_le_bytes w32 (length held) ++ (to_le_bytes w32 owner ++ held)) zeros
@@ -40,7 +42,8 @@ module _ (next owner : ℕ) (held : List ℕ) where
       ∙ ap (λ (l : List ℕ). to_le_bytes w32 (length held) ++ l) (append_assoc (to_le_bytes w32 owner) held zeros))
 
   pub next_of-link_page : next < 2 ^ 64 → next_of (link_page next owner held) ≡ next
-  next_of-link_page small = ap (λ (l : List ℕ). next_of l) pages_as ∙ number_first (to_le_bytes w32 (length held) ++ (to_le_bytes w32 owner ++ (held ++ zeros))) next small
+  next_of-link_page small = ap (λ (l : List ℕ). next_of l) pages_as
+      ∙ number_first (to_le_bytes w32 (length held) ++ (to_le_bytes w32 owner ++ (held ++ zeros))) next small
 
   pub many_of-link_page : length held ≤ 4080 → many_of (link_page next owner held) ≡ length held
   many_of-link_page few =
@@ -52,7 +55,8 @@ module _ (next owner : ℕ) (held : List ℕ) where
   owner_of-link_page small =
       let front : List ℕ = to_le_bytes w64 next ++ to_le_bytes w32 (length held) in
       let twelve : 12 ≡ length front = refl in
-      ap (λ (l : List ℕ). owner_of l) (pages_as ∙ sym (append_assoc (to_le_bytes w64 next) (to_le_bytes w32 (length held)) (to_le_bytes w32 owner ++ (held ++ zeros))))
+      ap (λ (l : List ℕ). owner_of l) (pages_as
+      ∙ sym (append_assoc (to_le_bytes w64 next) (to_le_bytes w32 (length held)) (to_le_bytes w32 owner ++ (held ++ zeros))))
       ∙ half_behind front (held ++ zeros) owner 12 twelve small
 
   held_behind : held_in (length held) (link_page next owner held) ≡ held

@@ -1,5 +1,6 @@
 -- What a set of pages makes of the pages of chains.
-use Rattle.std.proofs.Common.{◌≡◌, ◌≢◌, inl, inr, ℕ, ◌+◌, ◌≤◌, Bool, true, false, cond, List, [], ◌∷◌, ◌++◌, drop, map, Option, Some, None, refl, sym, ap, subst, ◌∙◌, arith}
+use Rattle.std.proofs.Common.{◌≡◌, ◌≢◌, inl, inr, ℕ, ◌+◌, ◌≤◌, Bool, true, false, cond, List, [], ◌∷◌, ◌++◌, drop, map, Option, Some, None}
+use Rattle.std.proofs.Common.{refl, sym, ap, subst, ◌∙◌, arith}
 use Rattle.std.specs.Cmp.{nat_cmp_total, eq_by_cmp_equiv}
 use Rattle.std.specs.FinMap as finite
 use Rattle.page_journal.specs.PageSet.{PageMap, page_or}
@@ -23,7 +24,8 @@ cond_numbers p true pair rest = omega arith
 cond_numbers p false pair rest = omega arith
 
 -- only the pages of the chain are put
-pub chain_numbers : (p owner tail : ℕ) (ns bytes old same : List ℕ) → times p (numbers (chain_pairs owner tail ns bytes old same)) ≤ times p ns
+pub chain_numbers : (p owner tail : ℕ) (ns bytes old same : List ℕ)
+    → times p (numbers (chain_pairs owner tail ns bytes old same)) ≤ times p ns
 chain_numbers p owner tail [] bytes old same = omega arith
 chain_numbers p owner tail (n ∷ ns) bytes old same =
     omega (
@@ -49,7 +51,8 @@ insert_there set n page p other =
 
 insert_here : (set : PageMap) (n : ℕ) (page : List ℕ) → finite.get (finite.insert set n page) n ≡ Some page
 insert_here set n page =
-    finite.get-insert nat_cmp_total set n page n ∙ ap (λ (b : Bool). cond b (Some page) (finite.get set n)) ((eq_by_cmp_equiv nat_cmp_total).refl n)
+    finite.get-insert nat_cmp_total set n page n
+    ∙ ap (λ (b : Bool). cond b (Some page) (finite.get set n)) ((eq_by_cmp_equiv nat_cmp_total).refl n)
 
 pub insert_other : (set : PageMap) (n : ℕ) (page : List ℕ) (p : ℕ) → p ≢ n → finite.get (finite.insert set n page) p ≡ finite.get set p
 insert_other = insert_there
@@ -58,7 +61,8 @@ pub insert_same : (set : PageMap) (n : ℕ) (page : List ℕ) → finite.get (fi
 insert_same = insert_here
 
 -- a page that is not put stays in the set as it is
-pub puts_other : (p : ℕ) (set : PageMap) (pairs : List (ℕ × List ℕ)) → times p (numbers pairs) ≡ 0 → finite.get (puts set pairs) p ≡ finite.get set p
+pub puts_other : (p : ℕ) (set : PageMap) (pairs : List (ℕ × List ℕ)) → times p (numbers pairs) ≡ 0
+    → finite.get (puts set pairs) p ≡ finite.get set p
 puts_other p set [] none = refl
 puts_other p set (pair ∷ pairs) none = elim (once-cases p pair.0) [
   | inl here ↦ absurd (omega (arith, none, here.1))
@@ -99,8 +103,10 @@ module _ (page : ℕ → List ℕ) where
       let link : List ℕ = link_page (head_or ns tail) owner (first_held bytes) in
       let rest : List (ℕ × List ℕ) = chain_pairs owner tail ns (later_held bytes) (drop 1 old) (drop 1 same) in
       let own : times n ns ≡ 0 = elim (once-cases n n) [ inl is ↦ omega (arith, is.1, few n) | inr not ↦ absurd (not.0 refl) ] in
-      let out : times n (numbers rest) ≡ 0 = omega (arith, chain_numbers n owner tail ns (later_held bytes) (drop 1 old) (drop 1 same), own) in
-      let here : finite.get set n ≡ None = none n (elim (once-cases n n) [ inl is ↦ omega (arith, is.1) | inr not ↦ absurd (not.0 refl) ]) in
+      let out : times n (numbers rest) ≡ 0 = omega
+      (arith, chain_numbers n owner tail ns (later_held bytes) (drop 1 old) (drop 1 same), own) in
+      let here : finite.get set n ≡ None = none n
+      (elim (once-cases n n) [ inl is ↦ omega (arith, is.1) | inr not ↦ absurd (not.0 refl) ]) in
       let fewer : (p : ℕ) → times p ns ≤ 1 = λ p. omega (arith, few p) in
       let none_set : (p : ℕ) → 1 ≤ times p ns → finite.get set p ≡ None = λ p some. none p (omega (arith, some)) in
       let none_put : (p : ℕ) → 1 ≤ times p ns → finite.get (finite.insert set n link) p ≡ None = λ p some.
@@ -126,11 +132,14 @@ module _ (page : ℕ → List ℕ) where
       let mid : PageMap = puts set pairs in
       let last : PageMap = puts mid (laid_pairs others) in
       let same : puts set (pairs ++ laid_pairs others) ≡ last = puts-append set pairs (laid_pairs others) in
-      let mine = looks_chain set one.number 0 one.pages one.bytes one.old one.same (λ p. omega (arith, few p)) (λ p some. none p (omega (arith, some))) in
+      let mine = looks_chain set one.number 0 one.pages one.bytes one.old one.same (λ p. omega (arith, few p))
+      (λ p some. none p (omega (arith, some))) in
       let stay : (p : ℕ) → 1 ≤ times p one.pages → look last p ≡ look mid p = λ p some.
-      ap (λ (o : Option (List ℕ)). page_or o (page p)) (puts_other p mid (laid_pairs others) (omega (arith, some, few p, laid_numbers p others))) in
+      ap (λ (o : Option (List ℕ)). page_or o (page p))
+      (puts_other p mid (laid_pairs others) (omega (arith, some, few p, laid_numbers p others))) in
       let theirs = looks_parts mid others (λ p. omega (arith, few p)) (λ p some.
-      puts_other p set pairs (omega (arith, some, few p, chain_numbers p one.number 0 one.pages one.bytes one.old one.same)) ∙ none p (omega (arith, some))) in
+      puts_other p set pairs (omega (arith, some, few p, chain_numbers p one.number 0 one.pages one.bytes one.old one.same))
+      ∙ none p (omega (arith, some))) in
       subst (λ (s : PageMap). AllLook (look s) (one ∷ others)) (sym same) (
         looks_same (look mid) (look last) one.number 0 one.pages one.bytes one.old one.same stay mine,
         theirs,

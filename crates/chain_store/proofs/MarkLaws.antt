@@ -1,5 +1,6 @@
 -- Marks for the pages that keep their bytes.
-use Rattle.std.proofs.Common.{◌≡◌, inr, ℕ, zero, suc, Bool, true, false, cond, List, [], ◌∷◌, ◌++◌, length, refl, sym, ap, subst, ◌∙◌, arith, append_assoc}
+use Rattle.std.proofs.Common.{◌≡◌, inr, ℕ, zero, suc, Bool, true, false, cond, List, [], ◌∷◌, ◌++◌, length, refl, sym, ap, subst, ◌∙◌}
+use Rattle.std.proofs.Common.{arith, append_assoc}
 use Rattle.std.proofs.lemmas.Slice.Eq.{bytes_eq-Decides}
 use Rattle.std.specs.Str.{bytes_eq}
 use Rattle.chain_store.specs.Chains.{IsMarked}
@@ -25,14 +26,16 @@ unfolding same_pages
 same_pages-are before bytes = same_from-are (pages_for (length bytes)) before bytes
 
 -- marks that were made of the bytes that a chain has in the store
-pub marked_by : (pages : List (List ℕ)) (n first : ℕ) (old bytes same old_read bytes_read : List ℕ) → HasBytes pages n first old → old_read ≡ old
+pub marked_by : (pages : List (List ℕ)) (n first : ℕ) (old bytes same old_read bytes_read : List ℕ) → HasBytes pages n first old
+    → old_read ≡ old
     → bytes_read ≡ bytes → same ≡ same_pages old_read bytes_read → IsMarked pages n first same bytes
 marked_by pages n first old bytes same old_read bytes_read has is_old is_bytes is =
     inr (
       old,
       has,
       subst (λ (l : List ℕ). AreSame l old bytes)
-          (sym (is ∙ ap (λ (l : List ℕ). same_pages l bytes_read) is_old ∙ ap (λ (l : List ℕ). same_pages old l) is_bytes)) (same_pages-are old bytes),
+          (sym (is ∙ ap (λ (l : List ℕ). same_pages l bytes_read) is_old ∙ ap (λ (l : List ℕ). same_pages old l) is_bytes))
+          (same_pages-are old bytes),
     )
 
 -- one mark more

@@ -1,8 +1,10 @@
 -- A commit leaves just the home pages that are needed.
-use Rattle.std.proofs.Common.{◌≡◌, ◌⊎◌, ℕ, ◌+◌, ◌-◌, ◌*◌, ◌%◌, ◌<◌, ◌≤◌, max, Bool, List, ◌++◌, length, drop, Err, ap, ◌∙◌, arith, length-append, length-drop}
+use Rattle.std.proofs.Common.{◌≡◌, ◌⊎◌, ℕ, ◌+◌, ◌-◌, ◌*◌, ◌%◌, ◌<◌, ◌≤◌, max, Bool, List, ◌++◌, length, drop, Err, ap, ◌∙◌, arith}
+use Rattle.std.proofs.Common.{length-append, length-drop}
 use Rattle.page_journal.specs.Answers.{Commits}
 use Rattle.page_journal.specs.declared.fault.StoreFault.{StoreFault}
-use Rattle.page_journal.specs.declared.fault.StoreFault.TheVariants.{NotFormatted, NotEmpty, BadStore, DiskFault, StoreFull, Broken, OutOfMemory}
+use Rattle.page_journal.specs.declared.fault.StoreFault.TheVariants.{NotFormatted, NotEmpty, BadStore, DiskFault, StoreFull, Broken}
+use Rattle.page_journal.specs.declared.fault.StoreFault.TheVariants.{OutOfMemory}
 use Rattle.chain_store.specs.Chain.{Holds}
 use Rattle.chain_store.specs.Directories.{IsChain}
 use Rattle.chain_store.specs.Needed.{FitsNeeded, chain_pages}
@@ -22,7 +24,8 @@ pub planned_counted : (page new : ℕ → List ℕ) (home more : ℕ) (first nex
     (beyond : (n : ℕ) → 16 ≤ n → IsChain n → buckets ≤ (n - 16) % 65536 → next n ≡ 0)
     → chain_pages buckets strings + (length left + length kept) + 2 ≡ home + more
 planned_counted page new home more first next parts used left kept plan long buckets strings few each directories beyond =
-    let all = strings_counted new (home + more) next (new_sound page new home more first next parts used left kept plan) (omega (arith, plan.covered.some))
+    let all = strings_counted new (home + more) next (new_sound page new home more first next parts used left kept plan)
+    (omega (arith, plan.covered.some))
     (left ++ kept) (free_pages page new home more first next parts used left kept plan) buckets strings few
     (new_counted page new home more first next parts used left kept plan long) each directories beyond in
     omega (arith, all, length-append left kept)
@@ -41,7 +44,8 @@ needed_from parts bases free left home chains left_is all =
     )
 
 -- a refusal of the journal tells just the pages that are needed
-pub fits_refused : (fault : StoreFault) (broken : Bool) (limit before home now need : ℕ) → Commits broken limit home (Err fault) → limit ≡ before → home ≡ need
+pub fits_refused : (fault : StoreFault) (broken : Bool) (limit before home now need : ℕ) → Commits broken limit home (Err fault)
+    → limit ≡ before → home ≡ need
     → FitsNeeded need before now (Err fault)
 fits_refused NotFormatted broken limit before home now need is same enough = tt
 fits_refused NotEmpty broken limit before home now need is same enough = tt

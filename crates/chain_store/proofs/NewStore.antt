@@ -1,5 +1,6 @@
 -- The store once the plan of a commit is carried out.
-use Rattle.std.proofs.Common.{◌≡◌, ◌≢◌, ◌⊎◌, inl, inr, ℕ, ◌+◌, ◌-◌, ◌*◌, ◌/◌, ◌%◌, ◌<◌, ◌≤◌, List, [], ◌∷◌, ◌++◌, length, take, drop, Some, refl, sym, ap, subst, ◌∙◌, arith}
+use Rattle.std.proofs.Common.{◌≡◌, ◌≢◌, ◌⊎◌, inl, inr, ℕ, ◌+◌, ◌-◌, ◌*◌, ◌/◌, ◌%◌, ◌<◌, ◌≤◌, List, [], ◌∷◌, ◌++◌, length, take, drop, Some}
+use Rattle.std.proofs.Common.{refl, sym, ap, subst, ◌∙◌, arith}
 use Rattle.std.proofs.lemmas.Bool.{cases_lt}
 use Rattle.std.specs.FinMap as finite
 use Rattle.page_journal.specs.Crash.{IsSettled}
@@ -26,7 +27,8 @@ use Rattle.chain_store.proofs.Unique.{pages_one}
 use Rattle.chain_store.proofs.WrittenLaws.{WasMarked, was_written}
 
 -- home pages have their length
-pub pages_long : (pages : List (List ℕ)) (bytes : List ℕ) (view : DiskView) → IsSettled pages bytes view → (n : ℕ) → 2 ≤ n → n < length pages + 1
+pub pages_long : (pages : List (List ℕ)) (bytes : List ℕ) (view : DiskView) → IsSettled pages bytes view → (n : ℕ) → 2 ≤ n
+    → n < length pages + 1
     → length (page_in pages n) ≡ 4096
 pages_long pages bytes view settled n above below =
     let here = home_page pages bytes view n settled (omega (arith, above)) (omega (arith, below)) in
@@ -67,8 +69,11 @@ pub sound_agree : (page new : ℕ → List ℕ) (home : ℕ) (first next : ℕ �
     → ((n : ℕ) → IsOwner n → next n ≡ first n) → IsSound page home first → IsSound new home next
 sound_agree page new home first next agree same sound = record {
   chains = λ n owner.
-      let old = sound.chains n owner in
-      (old.0, subst (λ (k : ℕ). HasPages new home n k old.0) (sym (same n owner)) (pages_agree page new home n agree (first n) old.0 old.1));
+      let old = sound.chains n owner in (
+        old.0,
+        subst (λ (k : ℕ). HasPages new home n k old.0) (sym (same n owner))
+            (pages_agree page new home n agree (first n) old.0 old.1),
+      );
   owned = λ p from to.
       let old = sound.owned p from to in (
         old.0,
@@ -117,12 +122,14 @@ module _ (pages : List (List ℕ)) (kept : Kept) (written read before : Lists) (
         are,
       )
 
-  was_of : (part : Part) → part.number < CHAIN_END → HasPages (page_in pages) (length pages + 1) part.number (kept_first kept part.number) part.old
+  was_of : (part : Part) → part.number < CHAIN_END
+      → HasPages (page_in pages) (length pages + 1) part.number (kept_first kept part.number) part.old
       → finite.get written part.number ≡ Some part.bytes → (part.same ≡ []) ⊎ (finite.get before part.number ≡ Some part.same)
       → WasMarked (page_in pages) part.number part.old part.same part.bytes
   was_of part chain has here (inl none) = inl none
   was_of part chain has here (inr is) =
-      was_marked part.number (kept_first kept part.number) part.old part.same part.bytes chain has (marked part.number part.same part.bytes is here)
+      was_marked part.number (kept_first kept part.number) part.old part.same part.bytes chain has
+      (marked part.number part.same part.bytes is here)
 
   pub gathered_are : (parts : List Part) → EachGathered written read before parts → AreApart parts
       → AreParts (page_in pages) (length pages + 1) (kept_first kept) parts
@@ -133,7 +140,8 @@ module _ (pages : List (List ℕ)) (kept : Kept) (written read before : Lists) (
       (is.1, has, was_of part is.1 has each.0.0 each.0.2, apart.0, gathered_are parts each.1 apart.1)
 
 -- what is known of a part that was gathered
-pub laid_part : (written read before : Lists) (parts : List Part) (pool : List ℕ) (n : ℕ) (pages bytes : List ℕ) → EachGathered written read before parts
+pub laid_part : (written read before : Lists) (parts : List Part) (pool : List ℕ) (n : ℕ) (pages bytes : List ℕ)
+    → EachGathered written read before parts
     → IsPart n pages bytes (laid_all parts pool) → finite.get written n ≡ Some bytes
 laid_part written read before [] pool n pages bytes each part = absurd part
 laid_part written read before (part ∷ parts) pool n pages bytes each (inl here) =
@@ -142,7 +150,8 @@ laid_part written read before (part ∷ parts) pool n pages bytes each (inr ther
     laid_part written read before parts (drop (growth_of part) pool) n pages bytes each.1 there
 
 -- no bytes have no pages
-pub part_none : (parts : List Part) (pool : List ℕ) (n : ℕ) (pages bytes : List ℕ) → IsPart n pages bytes (laid_all parts pool) → bytes ≡ [] → pages ≡ []
+pub part_none : (parts : List Part) (pool : List ℕ) (n : ℕ) (pages bytes : List ℕ) → IsPart n pages bytes (laid_all parts pool) → bytes ≡ []
+    → pages ≡ []
 part_none [] pool n pages bytes part none = absurd part
 part_none (part ∷ parts) pool n pages bytes (inl here) none =
     here.1 ∙ ap (λ (l : List ℕ). take (pages_for (length l)) (part.old ++ pool)) (sym here.2 ∙ none)
@@ -153,11 +162,14 @@ no_number_of n [] pool none = tt
 no_number_of n (part ∷ parts) pool none = (none.0, no_number_of n parts (drop (growth_of part) pool) none.1)
 
 -- no chain that was gathered has the number of a directory
-pub clear_of : (written read before : Lists) (buckets : ℕ) (parts : List Part) (pool : List ℕ) (others : List Laid) → EachGathered written read before parts
+pub clear_of : (written read before : Lists) (buckets : ℕ) (parts : List Part) (pool : List ℕ) (others : List Laid)
+    → EachGathered written read before parts
     → AreStored buckets read written → ((n : ℕ) → (n < 16 → n < 8) → IsNoPart n others) → AreClear (laid_all parts pool) others
 clear_of written read before buckets [] pool others each stored none = tt
-clear_of written read before buckets (part ∷ parts) pool others each stored none =
-    (none part.number (stored part.number part.bytes each.0.0).2, clear_of written read before buckets parts (drop (growth_of part) pool) others each.1 stored none)
+clear_of written read before buckets (part ∷ parts) pool others each stored none = (
+  none part.number (stored part.number part.bytes each.0.0).2,
+  clear_of written read before buckets parts (drop (growth_of part) pool) others each.1 stored none,
+)
 
 -- bytes are none, or some
 pub none_or : (bytes : List ℕ) → (bytes ≡ []) ⊎ (bytes ≢ [])

@@ -1,5 +1,6 @@
 -- What the plan of a commit makes of a store.
-use Rattle.std.proofs.Common.{◌≡◌, ℕ, ◌+◌, ◌-◌, ◌^◌, ◌<◌, ◌≤◌, List, [], ◌∷◌, ◌++◌, length, take, drop, map, Option, None, refl, sym, ap, subst, ◌∙◌, arith, length-drop}
+use Rattle.std.proofs.Common.{◌≡◌, ℕ, ◌+◌, ◌-◌, ◌^◌, ◌<◌, ◌≤◌, List, [], ◌∷◌, ◌++◌, length, take, drop, map, Option, None, refl, sym, ap}
+use Rattle.std.proofs.Common.{subst, ◌∙◌, arith, length-drop}
 use Rattle.std.proofs.lemmas.List.{take-append-drop}
 use Rattle.std.specs.List.{All}
 use Rattle.std.specs.FinMap as finite
@@ -9,7 +10,8 @@ use Rattle.chain_store.specs.Chain.{HasPages}
 use Rattle.chain_store.specs.Directories.{IsChain}
 use Rattle.chain_store.specs.Firsts.{MayFill, filled}
 use Rattle.chain_store.specs.Pairs.{chain_pairs, laid_pairs, puts}
-use Rattle.chain_store.specs.Parts.{AreFreed, AreLaid, AreOld, Begin, IsNoPart, given, growth, head_or, times, times_new, times_old, up_from}
+use Rattle.chain_store.specs.Parts.{AreFreed, AreLaid, AreOld, Begin, IsNoPart, given, growth, head_or, times, times_new, times_old}
+use Rattle.chain_store.specs.Parts.{up_from}
 use Rattle.chain_store.specs.Plan.{IsDealt, kept_free, more_of, set_of, spare_of, wanted, whole_pool}
 use Rattle.chain_store.specs.Planned.{Covered, Planned}
 use Rattle.chain_store.specs.State.{IsSound}
@@ -18,9 +20,11 @@ use Rattle.chain_store.specs.declared.parts.Laid.{Laid}
 use Rattle.chain_store.specs.declared.parts.Part.{Part}
 use Rattle.chain_store.specs.declared.planning.Dealt.{Dealt}
 use Rattle.chain_store.proofs.Deals.{dealt-times, drop-add}
-use Rattle.chain_store.proofs.Looked.{AllLook, chain_numbers, insert_other, laid_numbers, look, looks_chain, looks_parts, looks_same, puts_other}
+use Rattle.chain_store.proofs.Looked.{AllLook, chain_numbers, insert_other, laid_numbers, look, looks_chain, looks_parts, looks_same}
+use Rattle.chain_store.proofs.Looked.{puts_other}
 use Rattle.chain_store.proofs.PairLaws.{puts-append}
-use Rattle.chain_store.proofs.Parting.{AreClear, AreParts, fine-append, laid_fine, laid_old, laid_pairs-append, old-append, times_new-append, times_old-append}
+use Rattle.chain_store.proofs.Parting.{AreClear, AreParts, fine-append, laid_fine, laid_old, laid_pairs-append, old-append}
+use Rattle.chain_store.proofs.Parting.{times_new-append, times_old-append}
 use Rattle.chain_store.proofs.Pools.{given-filled, growth-filled, pool_enough, pool_left}
 use Rattle.chain_store.proofs.LaidParts.{head_along}
 use Rattle.chain_store.proofs.Times.{once-same, times-append}
@@ -28,7 +32,8 @@ use Rattle.chain_store.proofs.Whole.{dealt_inside, new_once}
 use Rattle.chain_store.proofs.WrittenLaws.{AreFine, all_written, freed_looks}
 
 -- all parts look so where they do in pages that are the same
-pub all_same : (page f g : ℕ → List ℕ) (parts : List Laid) → ((p : ℕ) → 1 ≤ times_new p parts → g p ≡ f p) → AllLook page f parts → AllLook page g parts
+pub all_same : (page f g : ℕ → List ℕ) (parts : List Laid) → ((p : ℕ) → 1 ≤ times_new p parts → g p ≡ f p) → AllLook page f parts
+    → AllLook page g parts
 all_same page f g [] same looks = tt
 all_same page f g (one ∷ others) same looks = (
   looks_same page f g one.number 0 one.pages one.bytes one.old one.same (λ p some. same p (omega (arith, some))) looks.0,
@@ -69,20 +74,25 @@ module _ (home : ℕ) (parts bases : List Part) (count : ℕ) (free : List ℕ) 
       ≡ times_old p (chains ++ directories) + times p (used ++ kept) + times p (up_from home (more_of parts bases free))
   covers p =
       let mine : times_new p chains + times p (drop (growth parts) pool) + times p (given parts) ≡ times_old p chains + times p pool =
-      subst (λ (l : List Laid). times_new p l + times p (drop (growth parts) pool) + times p (given parts) ≡ times_old p l + times p pool) (sym is.chains)
+      subst (λ (l : List Laid). times_new p l + times p (drop (growth parts) pool) + times p (given parts) ≡ times_old p l + times p pool)
+      (sym is.chains)
       (dealt-times p parts pool (omega (arith, pool_enough parts bases free home))) in
       let filled_parts : List Part = map (filled count chains) bases in
       let rest : List ℕ = drop (growth parts) pool in
-      let others : times_new p directories + times p (drop (growth filled_parts) rest) + times p (given filled_parts) ≡ times_old p directories + times p rest =
-      subst (λ (l : List Laid). times_new p l + times p (drop (growth filled_parts) rest) + times p (given filled_parts) ≡ times_old p l + times p rest)
+      let others : times_new p directories + times p (drop (growth filled_parts) rest) + times p (given filled_parts)
+      ≡ times_old p directories + times p rest =
+      subst (λ (l : List Laid). times_new p l + times p (drop (growth filled_parts) rest) + times p (given filled_parts) ≡ times_old p l
+      + times p rest)
       (sym is.directories) (dealt-times p filled_parts rest rest_enough) in
       let behind : times p (drop (growth filled_parts) rest) ≡ times p left + times p kept =
       ap (λ (n : ℕ). times p (drop n rest)) growth_is
       ∙ ap (λ (l : List ℕ). times p l) (sym (drop-add (growth parts) (growth bases) pool) ∙ pool_left parts bases free home)
       ∙ times-append p (drop (wanted parts bases) (spare_of parts bases)) kept
       ∙ ap (λ (l : List ℕ). times p l + times p kept) (sym is.left) in
-      let given_is : times p (given filled_parts) ≡ times p (given bases) = ap (λ (l : List ℕ). times p l) (given-filled count chains bases may) in
-      let all : times p pool ≡ times p (given parts) + times p (given bases) + times p free + times p (up_from home (more_of parts bases free)) =
+      let given_is : times p (given filled_parts) ≡ times p (given bases) =
+      ap (λ (l : List ℕ). times p l) (given-filled count chains bases may) in
+      let all : times p pool ≡ times p (given parts) + times p (given bases) + times p free
+      + times p (up_from home (more_of parts bases free)) =
       omega (
         arith,
         times-append p (spare_of parts bases ++ free) (up_from home (more_of parts bases free)),
@@ -110,17 +120,21 @@ module _ (page : ℕ → List ℕ) (home : ℕ) (first : ℕ → ℕ) (parts bas
     (clear : AreClear dealt.chains.items dealt.directories.items) where
   pub old_all : AreOld page home first (dealt.chains.items ++ dealt.directories.items)
   old_all = old-append page home first dealt.chains.items dealt.directories.items
-      (subst (λ (l : List Laid). AreOld page home first l) (sym is.chains) (laid_old page home first parts (whole_pool parts bases free home) own))
+      (subst (λ (l : List Laid). AreOld page home first l) (sym is.chains)
+      (laid_old page home first parts (whole_pool parts bases free home) own))
       (subst (λ (l : List Laid). AreOld page home first l) (sym is.directories)
-      (laid_old page home first (map (filled count dealt.chains.items) bases) (drop (growth parts) (whole_pool parts bases free home)) theirs))
+      (laid_old page home first (map (filled count dealt.chains.items) bases)
+      (drop (growth parts) (whole_pool parts bases free home)) theirs))
       clear
 
-  pub covered : Covered page home (more_of parts bases free) first (dealt.chains.items ++ dealt.directories.items) (take (wanted parts bases - length (spare_of parts bases)) free) dealt.left.items (kept_free parts bases free)
+  pub covered : Covered page home (more_of parts bases free) first (dealt.chains.items ++ dealt.directories.items)
+      (take (wanted parts bases - length (spare_of parts bases)) free) dealt.left.items (kept_free parts bases free)
   covered = record {
     sound = sound;
     some = some;
     old = old_all;
-    free_is = subst (λ (l : List ℕ). HasPages page home FREE (first FREE) l) (sym (whole_free home parts bases count free dealt may is)) free_is;
+    free_is = subst (λ (l : List ℕ). HasPages page home FREE (first FREE) l)
+        (sym (whole_free home parts bases count free dealt may is)) free_is;
     covers = covers home parts bases count free dealt may is;
   }
 
@@ -129,13 +143,18 @@ module _ (page : ℕ → List ℕ) (home : ℕ) (first : ℕ → ℕ) (parts bas
       (subst (λ (l : List Laid). AreFine page l) (sym is.chains)
       (laid_fine page home first parts (whole_pool parts bases free home) own (omega (arith, pool_enough parts bases free home))))
       (subst (λ (l : List Laid). AreFine page l) (sym is.directories)
-      (laid_fine page home first (map (filled count dealt.chains.items) bases) (drop (growth parts) (whole_pool parts bases free home)) theirs (rest_enough home parts bases count free dealt may is)))
+      (laid_fine page home first (map (filled count dealt.chains.items) bases)
+      (drop (growth parts) (whole_pool parts bases free home)) theirs (rest_enough home parts bases count free dealt may is)))
 
-  once_all : (p : ℕ) → times_new p (dealt.chains.items ++ dealt.directories.items) + (times p dealt.left.items + times p (kept_free parts bases free)) ≤ 1
-  once_all p = new_once page home (more_of parts bases free) first (dealt.chains.items ++ dealt.directories.items) (take (wanted parts bases - length (spare_of parts bases)) free) dealt.left.items (kept_free parts bases free) covered p
+  once_all : (p : ℕ) → times_new p (dealt.chains.items ++ dealt.directories.items)
+      + (times p dealt.left.items + times p (kept_free parts bases free)) ≤ 1
+  once_all p = new_once page home (more_of parts bases free) first (dealt.chains.items ++ dealt.directories.items)
+      (take (wanted parts bases - length (spare_of parts bases)) free) dealt.left.items (kept_free parts bases free) covered p
 
-  inside_all : (p : ℕ) → 1 ≤ times_new p (dealt.chains.items ++ dealt.directories.items) + (times p dealt.left.items + times p (kept_free parts bases free)) → (2 ≤ p) × (p < home + more_of parts bases free)
-  inside_all p there = dealt_inside page home (more_of parts bases free) first (dealt.chains.items ++ dealt.directories.items) (take (wanted parts bases - length (spare_of parts bases)) free) dealt.left.items (kept_free parts bases free) covered p there
+  inside_all : (p : ℕ) → 1 ≤ times_new p (dealt.chains.items ++ dealt.directories.items)
+      + (times p dealt.left.items + times p (kept_free parts bases free)) → (2 ≤ p) × (p < home + more_of parts bases free)
+  inside_all p there = dealt_inside page home (more_of parts bases free) first (dealt.chains.items ++ dealt.directories.items)
+      (take (wanted parts bases - length (spare_of parts bases)) free) dealt.left.items (kept_free parts bases free) covered p there
 
   module _ (front : List ℕ) (small : home + more_of parts bases free ≤ 2 ^ 64) where
     abbrev set_all : PageMap
@@ -146,7 +165,8 @@ module _ (page : ℕ → List ℕ) (home : ℕ) (first : ℕ → ℕ) (parts bas
 
     pub set_is : set_of dealt.chains.items dealt.directories.items dealt.left.items dealt.tail front ≡ finite.insert set_free 1 front
     set_is = ap (λ (s : PageMap). finite.insert (puts s (chain_pairs FREE dealt.tail dealt.left.items [] [] [])) 1 front)
-        (sym (ap (λ l. puts finite.empty l) (laid_pairs-append dealt.chains.items dealt.directories.items) ∙ puts-append finite.empty (laid_pairs dealt.chains.items) (laid_pairs dealt.directories.items)))
+        (sym (ap (λ l. puts finite.empty l) (laid_pairs-append dealt.chains.items dealt.directories.items)
+        ∙ puts-append finite.empty (laid_pairs dealt.chains.items) (laid_pairs dealt.directories.items)))
 
     abbrev set_whole : PageMap
     set_whole = finite.insert set_free 1 front
@@ -166,7 +186,8 @@ module _ (page : ℕ → List ℕ) (home : ℕ) (first : ℕ → ℕ) (parts bas
         insert_other set_free 1 front p (λ is_root. absurd (omega (arith, is_root, (small_new p there).0)))
         ∙ puts_other p set_all (chain_pairs FREE dealt.tail dealt.left.items [] [] [])
         (omega (arith, there, once_all p, chain_numbers p FREE dealt.tail dealt.left.items [] [] []))))
-        (looks_parts page finite.empty (dealt.chains.items ++ dealt.directories.items) (λ p. omega (arith, once_all p)) (λ p there. none_yet p)))
+        (looks_parts page finite.empty (dealt.chains.items ++ dealt.directories.items) (λ p. omega (arith, once_all p))
+        (λ p there. none_yet p)))
 
     kept_small : (l : List ℕ) → ((p : ℕ) → 1 ≤ times p l → p < 2 ^ 64) → head_or l 0 < 2 ^ 64
     kept_small [] low = omega arith
@@ -189,22 +210,28 @@ module _ (page : ℕ → List ℕ) (home : ℕ) (first : ℕ → ℕ) (parts bas
         (omega (arith, there, once_all p, laid_numbers p (dealt.chains.items ++ dealt.directories.items))) ∙ none_yet p)))
 
     -- other pages stay
-    pub others_stay : (p : ℕ) → 2 ≤ p → times_new p (dealt.chains.items ++ dealt.directories.items) ≡ 0 → times p dealt.left.items ≡ 0 → look page set_whole p ≡ page p
+    pub others_stay : (p : ℕ) → 2 ≤ p → times_new p (dealt.chains.items ++ dealt.directories.items) ≡ 0 → times p dealt.left.items ≡ 0
+        → look page set_whole p ≡ page p
     others_stay p above none none_left = ap (λ (o : Option (List ℕ)). page_or o (page p)) (
         insert_other set_free 1 front p (λ is_root. absurd (omega (arith, is_root, above)))
-        ∙ puts_other p set_all (chain_pairs FREE dealt.tail dealt.left.items [] [] []) (omega (arith, none_left, chain_numbers p FREE dealt.tail dealt.left.items [] [] []))
-        ∙ puts_other p finite.empty (laid_pairs (dealt.chains.items ++ dealt.directories.items)) (omega (arith, none, laid_numbers p (dealt.chains.items ++ dealt.directories.items)))
+        ∙ puts_other p set_all (chain_pairs FREE dealt.tail dealt.left.items [] [] [])
+        (omega (arith, none_left, chain_numbers p FREE dealt.tail dealt.left.items [] [] []))
+        ∙ puts_other p finite.empty (laid_pairs (dealt.chains.items ++ dealt.directories.items))
+        (omega (arith, none, laid_numbers p (dealt.chains.items ++ dealt.directories.items)))
         ∙ none_yet p)
 
-    pub planned : (next : ℕ → ℕ) → Begin next (dealt.chains.items ++ dealt.directories.items) → next FREE ≡ head_or dealt.left.items dealt.tail
+    pub planned : (next : ℕ → ℕ) → Begin next (dealt.chains.items ++ dealt.directories.items)
+        → next FREE ≡ head_or dealt.left.items dealt.tail
         → ((n : ℕ) → IsChain n → IsNoPart n (dealt.chains.items ++ dealt.directories.items) → next n ≡ first n)
-        → Planned page (look page set_whole) home (more_of parts bases free) first next (dealt.chains.items ++ dealt.directories.items) (take (wanted parts bases - length (spare_of parts bases)) free) dealt.left.items (kept_free parts bases free)
+        → Planned page (look page set_whole) home (more_of parts bases free) first next (dealt.chains.items ++ dealt.directories.items)
+        (take (wanted parts bases - length (spare_of parts bases)) free) dealt.left.items (kept_free parts bases free)
     planned next begins free_begins others = record {
       covered = covered;
       laid = parts_written;
       freed = subst (λ (t : ℕ). AreFreed (look page set_whole) t dealt.left.items) is.tail left_freed;
       stays = λ p above below none none_left. others_stay p above none none_left;
       begins = begins;
-      free_begins = free_begins ∙ ap (λ (t : ℕ). head_or dealt.left.items t) is.tail ∙ head_along dealt.left.items (kept_free parts bases free);
+      free_begins = free_begins ∙ ap (λ (t : ℕ). head_or dealt.left.items t) is.tail
+          ∙ head_along dealt.left.items (kept_free parts bases free);
       others_begin = others;
     }

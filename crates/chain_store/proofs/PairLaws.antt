@@ -1,5 +1,6 @@
 -- Pages are put into a set, one after another.
-use Rattle.std.proofs.Common.{◌≡◌, inl, inr, ℕ, ◌+◌, ◌-◌, ◌<◌, ◌≤◌, ◌==◌, ◌&&◌, min, Bool, true, false, cond, List, [], ◌∷◌, ◌++◌, length, take, drop, replicate, get_or, refl, sym, ap, ◌∙◌, arith, append_assoc, length-append, add-one, drop-cons}
+use Rattle.std.proofs.Common.{◌≡◌, inl, inr, ℕ, ◌+◌, ◌-◌, ◌<◌, ◌≤◌, ◌==◌, ◌&&◌, min, Bool, true, false, cond, List, [], ◌∷◌, ◌++◌, length}
+use Rattle.std.proofs.Common.{take, drop, replicate, get_or, refl, sym, ap, ◌∙◌, arith, append_assoc, length-append, add-one, drop-cons}
 use Rattle.std.proofs.lemmas.Bool.{cases_lt}
 use Rattle.std.proofs.lemmas.List.{drop-drop, drop_all, take_all}
 use Rattle.std.specs.Int.{w32, w64, to_le_bytes}
@@ -31,7 +32,8 @@ pub link_made : (next owner n len : ℕ) (held one two three four : List ℕ) �
 unfolding link_page
 link_made next owner n len held one two three four is1 many is2 is3 is4 long few =
     let whole : four ≡ link_front next owner held =
-    is4 ∙ ap (λ (l : List ℕ). l ++ held) (is3 ∙ ap (λ (l : List ℕ). l ++ to_le_bytes w32 owner) (is2 ∙ ap (λ (l : List ℕ). l ++ to_le_bytes w32 n) is1))
+    is4 ∙ ap (λ (l : List ℕ). l ++ held) (is3
+    ∙ ap (λ (l : List ℕ). l ++ to_le_bytes w32 owner) (is2 ∙ ap (λ (l : List ℕ). l ++ to_le_bytes w32 n) is1))
     ∙ ap (λ (k : ℕ). ((to_le_bytes w64 next ++ to_le_bytes w32 k) ++ to_le_bytes w32 owner) ++ held) many
     ∙ simp append_assoc in
     let size : length (link_front next owner held) ≡ 16 + length held =
@@ -74,7 +76,8 @@ chain-more set next owner tail pages old same rest held later i below is behind 
     let n : ℕ = get_or pages i 0 in
     let after : ℕ = head_or (drop (i + 1) pages) tail in
     let stays : Bool = stays_so n after (drop i old) (drop i same) in
-    let pairs : List (ℕ × List ℕ) = chain_pairs owner tail (drop (i + 1) pages) (later_held rest) (drop 1 (drop i old)) (drop 1 (drop i same)) in
+    let pairs : List (ℕ × List ℕ) = chain_pairs owner tail (drop (i + 1) pages) (later_held rest) (drop 1 (drop i old))
+    (drop 1 (drop i same)) in
     ap (λ (s : PageMap). puts s (chain_pairs owner tail (drop (i + 1) pages) later (drop (i + 1) old) (drop (i + 1) same))) step
     ∙ ap (λ (l : List ℕ). puts (cond stays set (finite.insert set n (link_page after owner l)))
     (chain_pairs owner tail (drop (i + 1) pages) later (drop (i + 1) old) (drop (i + 1) same))) is
@@ -87,7 +90,8 @@ chain-more set next owner tail pages old same rest held later i below is behind 
     ∙ puts-cond stays set (n, link_page after owner (first_held rest)) pairs
     ∙ ap (λ (ns : List ℕ). puts set (chain_pairs owner tail ns rest (drop i old) (drop i same))) (sym (drop-at pages i 0 below))
 
-pub kept_is : (n next place : ℕ) (old same : List ℕ) (found : Bool) → found ≡ ((head_or (drop place old) 0 == n) && (head_or (drop (place + 1) old) 0 == next))
+pub kept_is : (n next place : ℕ) (old same : List ℕ) (found : Bool)
+    → found ≡ ((head_or (drop place old) 0 == n) && (head_or (drop (place + 1) old) 0 == next))
     → stays_so n next (drop place old) same ≡ (found && (head_or same 0 == 1))
 kept_is n next place old same found is =
     ap (λ (l : List ℕ). ((head_or (drop place old) 0 == n) && (head_or l 0 == next)) && (head_or same 0 == 1)) (drop-drop 1 place old)

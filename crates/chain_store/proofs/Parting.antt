@@ -1,5 +1,6 @@
 -- Parts, before and after pages are dealt to them.
-use Rattle.std.proofs.Common.{◌≡◌, ◌⊎◌, inl, inr, ℕ, ◌+◌, ◌<◌, ◌≤◌, List, [], ◌∷◌, ◌++◌, length, drop, refl, sym, ap, ◌∙◌, arith, append_assoc, length-take, length-drop, length-append}
+use Rattle.std.proofs.Common.{◌≡◌, ◌⊎◌, inl, inr, ℕ, ◌+◌, ◌<◌, ◌≤◌, List, [], ◌∷◌, ◌++◌, length, drop, refl, sym, ap, ◌∙◌, arith}
+use Rattle.std.proofs.Common.{append_assoc, length-take, length-drop, length-append}
 use Rattle.chain_store.specs.Chain.{HasPages}
 use Rattle.chain_store.specs.Gathered.{IsNoNumber}
 use Rattle.chain_store.specs.Pairs.{chain_pairs, laid_pairs}
@@ -22,8 +23,12 @@ no_part n (part ∷ parts) pool none = (none.0, no_part n parts (drop (growth_of
 pub laid_old : (page : ℕ → List ℕ) (home : ℕ) (first : ℕ → ℕ) (parts : List Part) (pool : List ℕ) → AreParts page home first parts
     → AreOld page home first (laid_all parts pool)
 laid_old page home first [] pool are = tt
-laid_old page home first (part ∷ parts) pool are =
-    (are.0, are.1, no_part part.number parts (drop (growth_of part) pool) are.3, laid_old page home first parts (drop (growth_of part) pool) are.4)
+laid_old page home first (part ∷ parts) pool are = (
+  are.0,
+  are.1,
+  no_part part.number parts (drop (growth_of part) pool) are.3,
+  laid_old page home first parts (drop (growth_of part) pool) are.4,
+)
 
 dealt_long : (part : Part) (pool : List ℕ) → growth_of part ≤ length pool → length (dealt part pool) ≡ pages_for (length part.bytes)
 dealt_long part pool enough =
@@ -65,7 +70,8 @@ abbrev pub AreClear : List Laid → List Laid → Type 0
 AreClear [] ys = Unit {0}
 AreClear (x ∷ xs) ys = IsNoPart x.number ys × AreClear xs ys
 
-pub old-append : (page : ℕ → List ℕ) (home : ℕ) (first : ℕ → ℕ) (xs ys : List Laid) → AreOld page home first xs → AreOld page home first ys → AreClear xs ys
+pub old-append : (page : ℕ → List ℕ) (home : ℕ) (first : ℕ → ℕ) (xs ys : List Laid) → AreOld page home first xs → AreOld page home first ys
+    → AreClear xs ys
     → AreOld page home first (xs ++ ys)
 old-append page home first [] ys one two clear = two
 old-append page home first (x ∷ xs) ys one two clear =
@@ -86,7 +92,9 @@ pub part_right : (n : ℕ) (pages bytes : List ℕ) (xs ys : List Laid) → IsPa
 part_right n pages bytes [] ys part = part
 part_right n pages bytes (x ∷ xs) ys part = inr (part_right n pages bytes xs ys part)
 
-pub part_cases : (n : ℕ) (pages bytes : List ℕ) (xs ys : List Laid) → IsPart n pages bytes (xs ++ ys) → IsPart n pages bytes xs ⊎ IsPart n pages bytes ys
+pub part_cases : (n : ℕ) (pages bytes : List ℕ) (xs ys : List Laid) → IsPart n pages bytes (xs ++ ys)
+    → IsPart n pages bytes xs ⊎ IsPart n pages bytes ys
 part_cases n pages bytes [] ys part = inr part
 part_cases n pages bytes (x ∷ xs) ys (inl here) = inl (inl here)
-part_cases n pages bytes (x ∷ xs) ys (inr there) = elim (part_cases n pages bytes xs ys there) [ inl one ↦ inl (inr one) | inr two ↦ inr two ]
+part_cases n pages bytes (x ∷ xs) ys (inr there) =
+    elim (part_cases n pages bytes xs ys there) [ inl one ↦ inl (inr one) | inr two ↦ inr two ]

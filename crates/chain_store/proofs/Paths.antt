@@ -28,4 +28,5 @@ module _ (page : ℕ → List ℕ) (home chain : ℕ) where
 
   pub data_push : (ns : List ℕ) (at : ℕ) → data_in page (ns ++ at ∷ []) ≡ data_in page ns ++ data_of (page at)
   data_push [] at = append-nil (data_of (page at))
-  data_push (n ∷ ns) at = ap (λ l. data_of (page n) ++ l) (data_push ns at) ∙ sym (append_assoc (data_of (page n)) (data_in page ns) (data_of (page at)))
+  data_push (n ∷ ns) at = ap (λ l. data_of (page n) ++ l) (data_push ns at)
+      ∙ sym (append_assoc (data_of (page n)) (data_in page ns) (data_of (page at)))

@@ -1,5 +1,6 @@
 -- The pool of pages that may be dealt.
-use Rattle.std.proofs.Common.{◌≡◌, inl, inr, ℕ, zero, suc, ◌+◌, ◌-◌, ◌*◌, ◌≤◌, List, [], ◌∷◌, ◌++◌, length, drop, map, refl, ap, ◌∙◌, arith, length-append}
+use Rattle.std.proofs.Common.{◌≡◌, inl, inr, ℕ, zero, suc, ◌+◌, ◌-◌, ◌*◌, ◌≤◌, List, [], ◌∷◌, ◌++◌, length, drop, map, refl, ap, ◌∙◌, arith}
+use Rattle.std.proofs.Common.{length-append}
 use Rattle.std.proofs.lemmas.Bool.{cases_lt}
 use Rattle.std.proofs.lemmas.List.{append-nil, drop_all}
 use Rattle.std.proofs.lemmas.List.Elements.{All-head, All-tail}
@@ -37,7 +38,8 @@ length-put at value bytes fits =
     let eight : length (to_le_bytes w64 value) ≡ 8 = refl in
     omega (arith, length-overlaid at (to_le_bytes w64 value) bytes, eight, fits)
 
-length-first_put : (at low count : ℕ) (one : Laid) (bytes : List ℕ) → at + 8 * count ≤ length bytes → length (first_put at low count one bytes) ≡ length bytes
+length-first_put : (at low count : ℕ) (one : Laid) (bytes : List ℕ) → at + 8 * count ≤ length bytes
+    → length (first_put at low count one bytes) ≡ length bytes
 length-first_put at low count one bytes fits = elim (cases_lt one.number low) [
   | inl below ↦ ap (λ (l : List ℕ). length l) (first_put-low at low count one bytes below)
   | inr above ↦ elim (cases_lt (one.number - low) count) [
@@ -55,21 +57,26 @@ length-firsts_put at low count (one ∷ others) bytes fits =
     let here = length-first_put at low count one bytes fits in
     length-firsts_put at low count others (first_put at low count one bytes) (omega (arith, here, fits)) ∙ here
 
-pub length-filled : (count : ℕ) (laid : List Laid) (part : Part) → MayFill count part → length (filled count laid part).bytes ≡ length part.bytes
+pub length-filled : (count : ℕ) (laid : List Laid) (part : Part) → MayFill count part
+    → length (filled count laid part).bytes ≡ length part.bytes
 length-filled count laid part may = length-firsts_put 0 (16 + 65536 * (part.number - 8)) count laid part.bytes (omega (arith, may.2))
 
 -- directories need as many pages with first pages in them
-pub growth-filled : (count : ℕ) (laid : List Laid) (parts : List Part) → All (MayFill count) parts → growth (map (filled count laid) parts) ≡ growth parts
+pub growth-filled : (count : ℕ) (laid : List Laid) (parts : List Part) → All (MayFill count) parts
+    → growth (map (filled count laid) parts) ≡ growth parts
 growth-filled count laid [] may = refl
 growth-filled count laid (part ∷ parts) may =
-    let long : length (filled count laid part).bytes ≡ length part.bytes = length-filled count laid part (All-head (MayFill count) part parts may) in
+    let long : length (filled count laid part).bytes ≡ length part.bytes =
+    length-filled count laid part (All-head (MayFill count) part parts may) in
     let here : growth_of (filled count laid part) ≡ growth_of part = ap (λ (n : ℕ). pages_for n - length part.old) long in
     omega (arith, here, growth-filled count laid parts (All-tail (MayFill count) part parts may))
 
-pub given-filled : (count : ℕ) (laid : List Laid) (parts : List Part) → All (MayFill count) parts → given (map (filled count laid) parts) ≡ given parts
+pub given-filled : (count : ℕ) (laid : List Laid) (parts : List Part) → All (MayFill count) parts
+    → given (map (filled count laid) parts) ≡ given parts
 given-filled count laid [] may = refl
 given-filled count laid (part ∷ parts) may =
-    let long : length (filled count laid part).bytes ≡ length part.bytes = length-filled count laid part (All-head (MayFill count) part parts may) in
+    let long : length (filled count laid part).bytes ≡ length part.bytes =
+    length-filled count laid part (All-head (MayFill count) part parts may) in
     ap (λ (n : ℕ). drop (pages_for n) part.old ++ given (map (filled count laid) parts)) long
     ∙ ap (λ (l : List ℕ). given_by part ++ l) (given-filled count laid parts (All-tail (MayFill count) part parts may))
 
@@ -90,7 +97,8 @@ none_fresh n spare free home =
 
 -- what is left of the pool: what was given up and not taken, and then free pages that stay
 pub pool_left : (parts bases : List Part) (free : List ℕ) (home : ℕ)
-    → drop (wanted parts bases) (whole_pool parts bases free home) ≡ drop (wanted parts bases) (spare_of parts bases) ++ kept_free parts bases free
+    → drop (wanted parts bases) (whole_pool parts bases free home) ≡ drop (wanted parts bases) (spare_of parts bases)
+    ++ kept_free parts bases free
 pool_left parts bases free home =
     let spare : List ℕ = spare_of parts bases in
     let n : ℕ = wanted parts bases in

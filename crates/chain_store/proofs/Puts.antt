@@ -1,5 +1,6 @@
 -- What a transaction knows, with one chain more.
-use Rattle.std.proofs.Common.{◌≡◌, ◌≢◌, ◌⊎◌, inl, inr, ℕ, ◌+◌, ◌-◌, ◌%◌, ◌<◌, ◌≤◌, Bool, true, cond, List, [], length, Option, Some, None, Result, Ok, Err, sym, ap, subst, ◌∙◌, arith}
+use Rattle.std.proofs.Common.{◌≡◌, ◌≢◌, ◌⊎◌, inl, inr, ℕ, ◌+◌, ◌-◌, ◌%◌, ◌<◌, ◌≤◌, Bool, true, cond, List, [], length, Option, Some, None}
+use Rattle.std.proofs.Common.{Result, Ok, Err, sym, ap, subst, ◌∙◌, arith}
 use Rattle.std.specs.Option.{is_some, IsSome}
 use Rattle.std.specs.Result.{OnOk, OnErr}
 use Rattle.std.specs.Ordering.{nat_cmp, eq_by_cmp}
@@ -43,9 +44,11 @@ module _ (lists : Lists) (n : ℕ) (list : List ℕ) where
   get-here q is = map.get-insert nat_cmp_total lists n list q ∙ ap (λ (b : Bool). cond b (Some list) (map.get lists q)) (equal_here q n is)
 
   pub get-there : (q : ℕ) → q ≢ n → map.get (map.insert lists n list) q ≡ map.get lists q
-  get-there q other = map.get-insert nat_cmp_total lists n list q ∙ ap (λ (b : Bool). cond b (Some list) (map.get lists q)) (not_equal q n other)
+  get-there q other = map.get-insert nat_cmp_total lists n list q
+      ∙ ap (λ (b : Bool). cond b (Some list) (map.get lists q)) (not_equal q n other)
 
-  pub got : (q : ℕ) (found : List ℕ) → map.get (map.insert lists n list) q ≡ Some found → ((q ≡ n) × (list ≡ found)) ⊎ (map.get lists q ≡ Some found)
+  pub got : (q : ℕ) (found : List ℕ) → map.get (map.insert lists n list) q ≡ Some found
+      → ((q ≡ n) × (list ≡ found)) ⊎ (map.get lists q ≡ Some found)
   got q found is = elim (same_or q n) [
     | inl same ↦ inl (same, (let here = get-here q same in cc))
     | inr other ↦ inr (sym (get-there q other) ∙ is)
@@ -89,16 +92,19 @@ module _ (lists : Lists) (n : ℕ) (list : List ℕ) where
       let before = stored q bytes is in
       (some_more q before.0, before.1, before.2, before.3)
 
-  pub stored_more : (buckets : ℕ) (read : Lists) → AreStored buckets read lists → IsSome (map.get read n) → IsString buckets n → buckets ≤ 65536
+  pub stored_more : (buckets : ℕ) (read : Lists) → AreStored buckets read lists → IsSome (map.get read n) → IsString buckets n
+      → buckets ≤ 65536
       → AreStored buckets read (map.insert lists n list)
   stored_more buckets read stored some string few q bytes is = elim (got q bytes is) [
     | inl same ↦
-        subst (λ (k : ℕ). IsSome (map.get read k) × IsChain k × (k < 16 → k < 8) × (16 ≤ k → bytes ≢ [] → (k - 16) % 65536 < buckets)) (sym same.0)
+        subst (λ (k : ℕ). IsSome (map.get read k) × IsChain k × (k < 16 → k < 8) × (16 ≤ k → bytes ≢ [] → (k - 16) % 65536 < buckets))
+        (sym same.0)
         (some, chain_of buckets n string few, low_of buckets n string few, λ above full. high_of buckets n string few above)
     | inr before ↦ stored q bytes before
   ]
 
-  pub gone_more : (before buckets : ℕ) (first : ℕ → ℕ) → AreGone before buckets first lists → AreGone before buckets first (map.insert lists n list)
+  pub gone_more : (before buckets : ℕ) (first : ℕ → ℕ) → AreGone before buckets first lists
+      → AreGone before buckets first (map.insert lists n list)
   gone_more before buckets first gone other q above chain none = gone other q above chain (none_less q none)
 
 -- nothing is known at the beginning
@@ -119,7 +125,8 @@ pub stored_none : (read lists : Lists) (buckets : ℕ) → lists ≡ map.empty �
 stored_none read lists buckets none n bytes is = absurd (nothing lists n bytes none is)
 
 -- what was walked over is what the chain has
-pub held_bytes : (pages : List (List ℕ)) (n at first : ℕ) (ns walked bytes : List ℕ) → at ≡ first → HasPages (page_in pages) (length pages + 1) n at ns
+pub held_bytes : (pages : List (List ℕ)) (n at first : ℕ) (ns walked bytes : List ℕ) → at ≡ first
+    → HasPages (page_in pages) (length pages + 1) n at ns
     → data_in (page_in pages) ns ≡ walked → bytes ≡ walked → HasBytes pages n first bytes
 held_bytes pages n at first ns walked bytes begins has held is = record {
   ns = ns;
@@ -128,19 +135,22 @@ held_bytes pages n at first ns walked bytes begins has held is = record {
 }
 
 -- bytes of one chain more are known, or not
-pub held_put : (read before after : Lists) (n : ℕ) (bytes : List ℕ) → (after ≡ map.insert before n bytes) ⊎ (after ≡ before) → AreHeld read before
+pub held_put : (read before after : Lists) (n : ℕ) (bytes : List ℕ) → (after ≡ map.insert before n bytes) ⊎ (after ≡ before)
+    → AreHeld read before
     → AreHeld read after
 held_put read before after n bytes (inl put) held = subst (λ (l : Lists). AreHeld read l) (sym put) (held_more before n bytes read held)
 held_put read before after n bytes (inr same) held = subst (λ (l : Lists). AreHeld read l) (sym same) held
 
 -- a put was made, or nothing has changed
-pub put_cases : {E : Type 0} (result : Result (Unit {0}) E) (old new : Lists) (n : ℕ) (list : List ℕ) → OnOk result (new ≡ map.insert old n list)
+pub put_cases : {E : Type 0} (result : Result (Unit {0}) E) (old new : Lists) (n : ℕ) (list : List ℕ)
+    → OnOk result (new ≡ map.insert old n list)
     → OnErr result (new ≡ old) → (new ≡ map.insert old n list) ⊎ (new ≡ old)
 put_cases (Ok done) old new n list ok err = inl ok
 put_cases (Err fault) old new n list ok err = inr err
 
 module _ {D : Type 0} {g : Ghosts D} (pages : List (List ℕ)) (old new : Journal D g) (kept : Kept) (read texts written before : Lists) where
-  pub open_looked : IsOpenStore pages old kept read texts written before → Looked old new → IsOpenStore pages new kept read texts written before
+  pub open_looked : IsOpenStore pages old kept read texts written before → Looked old new
+      → IsOpenStore pages new kept read texts written before
   open_looked opened looked = record {
     rests = rests_looked pages old new opened.rests looked;
     keeps = opened.keeps;
@@ -150,7 +160,8 @@ module _ {D : Type 0} {g : Ghosts D} (pages : List (List ℕ)) (old new : Journa
   }
 
   pub open_more : (n : ℕ) (ns : List ℕ) → IsOpenStore pages old kept read texts written before → Looked old new
-      → HasPages (page_in pages) (length pages + 1) n (kept_first kept n) ns → IsOpenStore pages new kept (map.insert read n ns) texts written before
+      → HasPages (page_in pages) (length pages + 1) n (kept_first kept n) ns
+      → IsOpenStore pages new kept (map.insert read n ns) texts written before
   open_more n ns opened looked has = record {
     rests = rests_looked pages old new opened.rests looked;
     keeps = opened.keeps;
@@ -188,7 +199,8 @@ module _ {D : Type 0} {g : Ghosts D} (pages : List (List ℕ)) (old new : Journa
       subst (λ (lists : Lists). IsOpenStore pages new kept read lists written before) (sym same) (open_looked opened looked)
 
 -- a chain is written, with its marks
-module _ {D : Type 0} {g : Ghosts D} (pages : List (List ℕ)) (journal : Journal D g) (kept : Kept) (read texts written before : Lists) (n : ℕ)
+module _ {D : Type 0} {g : Ghosts D} (pages : List (List ℕ)) (journal : Journal D g) (kept : Kept) (read texts written before : Lists)
+    (n : ℕ)
     (same bytes : List ℕ) (opened : IsOpenStore pages journal kept read texts written before) where
   pub open_written : IsMarked pages n (kept_first kept n) same bytes
       → IsOpenStore pages journal kept read texts (map.insert written n bytes) (map.insert before n same)
@@ -204,7 +216,8 @@ module _ {D : Type 0} {g : Ghosts D} (pages : List (List ℕ)) (journal : Journa
           subst (λ (k : ℕ). IsMarked pages k (kept_first kept k) marks found) (sym here)
           (subst (λ (l : List ℕ). IsMarked pages n (kept_first kept n) l found) marks_here
           (subst (λ (l : List ℕ). IsMarked pages n (kept_first kept n) same l) bytes_here marked))
-      | inr other ↦ opened.marked q marks found (sym (get-there before n same q other) ∙ marks_are) (sym (get-there written n bytes q other) ∙ found_is)
+      | inr other ↦ opened.marked q marks found (sym (get-there before n same q other) ∙ marks_are)
+          (sym (get-there written n bytes q other) ∙ found_is)
     ];
   }
 
@@ -217,6 +230,7 @@ module _ {D : Type 0} {g : Ghosts D} (pages : List (List ℕ)) (journal : Journa
     had = opened.had;
     marked = λ q marks found marks_are found_is. elim (same_or q n) [
       | inl here ↦ (let gone = removed-here (map.insert before n same) n q here in absurd (cc))
-      | inr other ↦ opened.marked q marks found (sym (removed-there (map.insert before n same) n q other ∙ get-there before n same q other) ∙ marks_are) found_is
+      | inr other ↦ opened.marked q marks found
+          (sym (removed-there (map.insert before n same) n q other ∙ get-there before n same q other) ∙ marks_are) found_is
     ];
   }

@@ -147,7 +147,8 @@ module _ (front : List ℕ) (root : Root) (home free : ℕ) (chains directories 
   }
 
   -- and the first pages
-  pub root_firsts : ((p : ℕ) → 1 ≤ times_new p chains → p < 2 ^ 64) → ((p : ℕ) → 1 ≤ times_new p directories → p < 2 ^ 64) → (n : ℕ) → n < 16 → number (root_bytes front root home free chains directories) (48 + 8 * n)
+  pub root_firsts : ((p : ℕ) → 1 ≤ times_new p chains → p < 2 ^ 64) → ((p : ℕ) → 1 ≤ times_new p directories → p < 2 ^ 64) → (n : ℕ)
+      → n < 16 → number (root_bytes front root home free chains directories) (48 + 8 * n)
       ≡ begins_at directories n (begins_at chains n (number front (48 + 8 * n)))
   unfolding one two three four five six seven
   root_firsts new_small old_small n below =

@@ -38,7 +38,8 @@ begun pages journal kept read texts written before rests keeps none_read none_te
 }
 
 module _ {D : Type 0} {g : Ghosts D} (pages : List (List ℕ)) (journal taken : Journal D g) (kept taken_kept : Kept)
-    (read texts written before taken_read taken_texts taken_written taken_before : Lists) (same_journal : taken ≡ journal) (same_kept : taken_kept ≡ kept)
+    (read texts written before taken_read taken_texts taken_written taken_before : Lists) (same_journal : taken ≡ journal)
+    (same_kept : taken_kept ≡ kept)
     (none_texts : taken_texts ≡ finite.empty) (opened : IsOpenStore pages journal kept read texts written before) where
   pub opened_taken : taken_read ≡ read → taken_written ≡ written → taken_before ≡ before
       → IsOpenStore pages taken taken_kept taken_read taken_texts taken_written taken_before
@@ -61,7 +62,8 @@ module _ {D : Type 0} {g : Ghosts D} (pages : List (List ℕ)) (journal taken : 
   opened_anew none_read none_before =
       subst (λ (j : Journal D g). IsOpenStore pages j taken_kept taken_read taken_texts taken_written taken_before) (sym same_journal)
       (subst (λ (k : Kept). IsOpenStore pages journal k taken_read taken_texts taken_written taken_before) (sym same_kept)
-      (begun pages journal kept taken_read taken_texts taken_written taken_before opened.rests opened.keeps none_read none_texts none_before))
+      (begun pages journal kept taken_read taken_texts taken_written taken_before opened.rests opened.keeps none_read none_texts
+      none_before))
 
 module _ (root old new : Root) (strings : ℕ → List ℕ) (written taken : Lists) (same_root : old ≡ new) (same_written : taken ≡ written) where
   pub state_taken : (pages : List (List ℕ)) → IsState old (changed strings taken) pages → IsState new (changed strings written) pages
@@ -69,14 +71,17 @@ module _ (root old new : Root) (strings : ℕ → List ℕ) (written taken : Lis
       subst (λ (r : Root). IsState r (changed strings written) pages) same_root
       (subst (λ (l : Lists). IsState old (changed strings l) pages) same_written state)
 
-  pub moment_taken : (before mid after : Crashes) → Goes (λ left. HasState root strings left ⊎ HasState old (changed strings taken) left) before after
+  pub moment_taken : (before mid after : Crashes)
+      → Goes (λ left. HasState root strings left ⊎ HasState old (changed strings taken) left) before after
       → Goes (λ left. HasState root strings left ⊎ HasState new (changed strings written) left) before after
   moment_taken before mid after goes =
       subst (λ (r : Root). Goes (λ left. HasState root strings left ⊎ HasState r (changed strings written) left) before after) same_root
-      (subst (λ (l : Lists). Goes (λ left. HasState root strings left ⊎ HasState old (changed strings l) left) before after) same_written goes)
+      (subst (λ (l : Lists). Goes (λ left. HasState root strings left ⊎ HasState old (changed strings l) left) before after) same_written
+      goes)
 
 -- what is needed then
-pub needs_taken : (old new : Root) (strings : ℕ → List ℕ) (written taken : Lists) (before home limit now : ℕ) (result : Result (Unit {0}) StoreFault)
+pub needs_taken : (old new : Root) (strings : ℕ → List ℕ) (written taken : Lists) (before home limit now : ℕ)
+    (result : Result (Unit {0}) StoreFault)
     → old ≡ new → taken ≡ written → before ≡ home → FitsNeeded (needed before old.buckets (changed strings taken)) limit now result
     → FitsNeeded (needed home new.buckets (changed strings written)) limit now result
 needs_taken old new strings written taken before home limit now result same_root same_written same_home fits =
@@ -85,18 +90,22 @@ needs_taken old new strings written taken before home limit now result same_root
     (subst (λ (l : Lists). FitsNeeded (needed before old.buckets (changed strings l)) limit now result) same_written fits))
 
 -- an open store with the pages that were committed
-pub opened_new : {D : Type 0} {g : Ghosts D} (pages : List (List ℕ)) (journal : Journal D g) (kept : Kept) (read texts written before : Lists)
-    → IsAtRest pages (view_of journal) → length pages + 1 ≡ home_count journal → Keeps pages kept → read ≡ finite.empty → texts ≡ finite.empty
+pub opened_new : {D : Type 0} {g : Ghosts D} (pages : List (List ℕ)) (journal : Journal D g) (kept : Kept)
+    (read texts written before : Lists)
+    → IsAtRest pages (view_of journal) → length pages + 1 ≡ home_count journal → Keeps pages kept → read ≡ finite.empty
+    → texts ≡ finite.empty
     → before ≡ finite.empty → IsOpenStore pages journal kept read texts written before
 opened_new pages journal kept read texts written before rests many keeps none_read none_texts none_before =
     begun pages journal kept read texts written before (rests, many) keeps none_read none_texts none_before
 
 -- the root page of a plan has the fields
-pub plan_root : (kept : Kept) (root : Root) (parts : List Part) (free : List ℕ) (home : ℕ) (plan : Plan) → IsPlan kept root parts free home plan
+pub plan_root : (kept : Kept) (root : Root) (parts : List Part) (free : List ℕ) (home : ℕ) (plan : Plan)
+    → IsPlan kept root parts free home plan
     → root ≡ root_in plan.kept.front.items
 plan_root kept root parts free home plan is =
     sym (ap (λ (l : List ℕ). root_in l) is.front_is
-    ∙ root_fields kept.front.items root is.dealt.«end» (head_or is.dealt.left.items is.dealt.tail) is.dealt.chains.items is.dealt.directories.items kept.page is.small)
+    ∙ root_fields kept.front.items root is.dealt.«end»
+    (head_or is.dealt.left.items is.dealt.tail) is.dealt.chains.items is.dealt.directories.items kept.page is.small)
 
 pub on_ok : {E : Type 0} (A B : Type 0) (result : Result (Unit {0}) E) → (A → B) → OnOk result A → OnOk result B
 on_ok A B (Ok done) f a = f a
@@ -108,7 +117,8 @@ pub ends_taken : (pages : List (List ℕ)) (kept taken_kept : Kept) (root taken_
     → taken_kept ≡ kept → taken_root ≡ root → taken_written ≡ written → taken_read ≡ read → taken_before ≡ before → taken_limit ≡ limit
     → Ends pages taken_kept taken_root taken_written taken_read taken_before taken_limit home result
     → Ends pages kept root written read before limit home result
-ends_taken pages kept taken_kept root taken_root written taken_written read taken_read before taken_before limit taken_limit home result same_kept same_root
+ends_taken pages kept taken_kept root taken_root written taken_written read taken_read before taken_before limit taken_limit home result
+    same_kept same_root
     same_written same_read same_before same_limit ends =
     subst (λ (k : Kept). Ends pages k root written read before limit home result) same_kept
     (subst (λ (r : Root). Ends pages taken_kept r written read before limit home result) same_root

@@ -1,5 +1,6 @@
 -- How often a number stands in a list.
-use Rattle.std.proofs.Common.{◌≡◌, ◌≢◌, ◌⊎◌, inl, inr, ℕ, zero, suc, ◌+◌, ◌-◌, ◌<◌, ◌≤◌, List, [], ◌∷◌, ◌++◌, length, take, drop, get_or, refl, sym, ap, ◌∙◌, arith}
+use Rattle.std.proofs.Common.{◌≡◌, ◌≢◌, ◌⊎◌, inl, inr, ℕ, zero, suc, ◌+◌, ◌-◌, ◌<◌, ◌≤◌, List, [], ◌∷◌, ◌++◌, length, take, drop, get_or}
+use Rattle.std.proofs.Common.{refl, sym, ap, ◌∙◌, arith}
 use Rattle.std.proofs.lemmas.Bool.{cases_lt}
 use Rattle.std.proofs.lemmas.Bool.Decides.{nat_tests}
 use Rattle.std.proofs.lemmas.List.{take-append-drop}
@@ -75,7 +76,8 @@ once_below : (x high : ℕ) → (x < high) ⊎ (high ≤ x) → ℕ
 once_below x high (inl below) = 1
 once_below x high (inr above) = 0
 
-sum_below-cons : (x : ℕ) (xs : List ℕ) (high : ℕ) → ((x < high) × (sum_below (x ∷ xs) high ≡ sum_below xs high + 1)) ⊎ ((high ≤ x) × (sum_below (x ∷ xs) high ≡ sum_below xs high))
+sum_below-cons : (x : ℕ) (xs : List ℕ) (high : ℕ)
+    → ((x < high) × (sum_below (x ∷ xs) high ≡ sum_below xs high + 1)) ⊎ ((high ≤ x) × (sum_below (x ∷ xs) high ≡ sum_below xs high))
 sum_below-cons x xs zero = inr (omega arith, refl)
 sum_below-cons x xs (suc high) = elim (sum_below-cons x xs high) [
   | inl before ↦ elim (once-cases high x) [
@@ -98,7 +100,8 @@ sum_below-length (x ∷ xs) high below =
       | inr not ↦ absurd (omega (arith, here, not.0))
     ]
 
-sum_below-few : (xs : List ℕ) (low high : ℕ) → ((p : ℕ) → times p xs ≤ 1) → ((p : ℕ) → 1 ≤ times p xs → low ≤ p) → sum_below xs high ≤ high - low
+sum_below-few : (xs : List ℕ) (low high : ℕ) → ((p : ℕ) → times p xs ≤ 1) → ((p : ℕ) → 1 ≤ times p xs → low ≤ p)
+    → sum_below xs high ≤ high - low
 sum_below-few xs low zero few above = omega arith
 sum_below-few xs low (suc high) few above =
     let before = sum_below-few xs low high few above in

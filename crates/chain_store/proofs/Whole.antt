@@ -9,7 +9,8 @@ use Rattle.chain_store.specs.State.{IsIn, IsOwner, IsSound}
 use Rattle.chain_store.specs.declared.layout.TheConstants.{FREE}
 use Rattle.chain_store.specs.declared.parts.Laid.{Laid}
 use Rattle.chain_store.proofs.Counts.{AreCounted}
-use Rattle.chain_store.proofs.LaidParts.{Known, freed_path, new_part, old_once, old_owner, part_known, part_or, path_behind, written_data, written_path}
+use Rattle.chain_store.proofs.LaidParts.{Known, freed_path, new_part, old_once, old_owner, part_known, part_or, path_behind, written_data}
+use Rattle.chain_store.proofs.LaidParts.{written_path}
 use Rattle.chain_store.proofs.Times.{length-few, place_of, times-append, times-fresh, times-up_from, times_at}
 use Rattle.chain_store.proofs.Unique.{bytes_one, data_same, pages_one, path_good, path_once, path_same}
 use Rattle.chain_store.proofs.WrittenLaws.{was_written, written_long}
@@ -80,11 +81,14 @@ module _ (page new : ℕ → List ℕ) (home more : ℕ) (first next : ℕ → �
   pub part_pages : (n : ℕ) (pages bytes : List ℕ) → IsPart n pages bytes parts → HasPages new (home + more) n (next n) pages
   part_pages n pages bytes part =
       let is = known n pages bytes part in
-      let inside : (p : ℕ) → 1 ≤ times p pages → (2 ≤ p) × (p < home + more) = λ p some. dealt_inside page home more first parts used left kept plan.covered p (omega (arith, some, is.among_new p)) in
+      let inside : (p : ℕ) → 1 ≤ times p pages → (2 ≤ p) × (p < home + more) =
+      λ p some. dealt_inside page home more first parts used left kept plan.covered p (omega (arith, some, is.among_new p)) in
       let own : n ≢ FREE = λ same. absurd (omega (arith, same, is.chain)) in
       record {
-        path = subst (λ (k : ℕ). Path new (home + more) n k pages 0) (sym is.begins) (written_path new (home + more) n own pages bytes inside is.written);
-        few = length-few pages 2 (home + more) (λ p. omega (arith, is.among_new p, new_once page home more first parts used left kept plan.covered p)) inside;
+        path = subst (λ (k : ℕ). Path new (home + more) n k pages 0) (sym is.begins)
+            (written_path new (home + more) n own pages bytes inside is.written);
+        few = length-few pages 2 (home + more) (λ p.
+            omega (arith, is.among_new p, new_once page home more first parts used left kept plan.covered p)) inside;
       }
 
   pub part_holds : (n : ℕ) (pages bytes : List ℕ) → IsPart n pages bytes parts → Holds new (home + more) n (next n) bytes
@@ -100,7 +104,8 @@ module _ (page new : ℕ → List ℕ) (home more : ℕ) (first next : ℕ → �
       written_data new (home + more) n own pages bytes is.written
 
   -- the pages of another chain stay
-  other_stays : (n : ℕ) (ns : List ℕ) → IsChain n → IsNoPart n parts → HasPages page home n (first n) ns → (p : ℕ) → 1 ≤ times p ns → new p ≡ page p
+  other_stays : (n : ℕ) (ns : List ℕ) → IsChain n → IsNoPart n parts → HasPages page home n (first n) ns → (p : ℕ) → 1 ≤ times p ns
+      → new p ≡ page p
   other_stays n ns chain none has p some =
       let good = path_good page home n (first n) ns 0 p has.path some in
       let not_old : times_old p parts ≡ 0 = elim (cases_lt 0 (times_old p parts)) [
@@ -121,16 +126,19 @@ module _ (page new : ℕ → List ℕ) (home more : ℕ) (first next : ℕ → �
         | inl fresh ↦ absurd (omega (arith, fresh.0, good.below))
         | inr without ↦ without
       ] in
-      plan.stays p good.above good.below (omega (arith, plan.covered.covers p, not_old, not_free, not_fresh)) (omega (arith, plan.covered.covers p, not_old, not_free, not_fresh))
+      plan.stays p good.above good.below (omega (arith, plan.covered.covers p, not_old, not_free, not_fresh))
+      (omega (arith, plan.covered.covers p, not_old, not_free, not_fresh))
 
-  pub other_pages : (n : ℕ) (ns : List ℕ) → IsChain n → IsNoPart n parts → HasPages page home n (first n) ns → HasPages new (home + more) n (next n) ns
+  pub other_pages : (n : ℕ) (ns : List ℕ) → IsChain n → IsNoPart n parts → HasPages page home n (first n) ns
+      → HasPages new (home + more) n (next n) ns
   other_pages n ns chain none has = record {
     path = subst (λ (k : ℕ). Path new (home + more) n k ns 0) (sym (plan.others_begin n chain none))
         (path_same page new home more n (first n) ns 0 (other_stays n ns chain none has) has.path);
     few = omega (arith, has.few);
   }
 
-  pub other_holds : (n : ℕ) (bytes : List ℕ) → IsChain n → IsNoPart n parts → Holds page home n (first n) bytes → Holds new (home + more) n (next n) bytes
+  pub other_holds : (n : ℕ) (bytes : List ℕ) → IsChain n → IsNoPart n parts → Holds page home n (first n) bytes
+      → Holds new (home + more) n (next n) bytes
   other_holds n bytes chain none holds = record {
     ns = holds.ns;
     has = other_pages n holds.ns chain none holds.has;
@@ -142,15 +150,20 @@ module _ (page new : ℕ → List ℕ) (home more : ℕ) (first next : ℕ → �
   free_pages =
       let stays : (p : ℕ) → 1 ≤ times p kept → new p ≡ page p = λ p some.
       let spare = free_good page home more first parts used left kept plan.covered p (omega (arith, some, times-append p used kept)) in
-      plan.stays p spare.above spare.below (omega (arith, new_once page home more first parts used left kept plan.covered p, some)) (omega (arith, new_once page home more first parts used left kept plan.covered p, some)) in
-      let inside : (p : ℕ) → 1 ≤ times p left → (2 ≤ p) × (p < home + more) = λ p some. dealt_inside page home more first parts used left kept plan.covered p (omega (arith, some)) in
+      plan.stays p spare.above spare.below (omega (arith, new_once page home more first parts used left kept plan.covered p, some))
+      (omega (arith, new_once page home more first parts used left kept plan.covered p, some)) in
+      let inside : (p : ℕ) → 1 ≤ times p left → (2 ≤ p) × (p < home + more) =
+      λ p some. dealt_inside page home more first parts used left kept plan.covered p (omega (arith, some)) in
       let path : Path new (home + more) FREE (head_or kept 0) kept 0 =
-      path_same page new home more FREE (head_or kept 0) kept 0 stays (path_behind page home FREE (first FREE) used kept plan.covered.free_is.path) in
+      path_same page new home more FREE (head_or kept 0) kept 0 stays
+      (path_behind page home FREE (first FREE) used kept plan.covered.free_is.path) in
       record {
         path = subst (λ (k : ℕ). Path new (home + more) FREE k (left ++ kept) 0) (sym plan.free_begins)
             (freed_path new (home + more) left kept inside plan.freed path);
-        few = length-few (left ++ kept) 2 (home + more) (λ p. omega (arith, times-append p left kept, new_once page home more first parts used left kept plan.covered p))
-            (λ p some. dealt_inside page home more first parts used left kept plan.covered p (omega (arith, some, times-append p left kept)));
+        few = length-few (left ++ kept) 2 (home + more)
+            (λ p. omega (arith, times-append p left kept, new_once page home more first parts used left kept plan.covered p))
+            (λ p some. dealt_inside page home more first parts used left kept plan.covered p
+            (omega (arith, some, times-append p left kept)));
       }
 
   in_part : (p : ℕ) → 1 ≤ times_new p parts → (n : ℕ) × IsOwner n × IsIn new (home + more) next n p
@@ -181,8 +194,18 @@ module _ (page new : ℕ → List ℕ) (home more : ℕ) (first next : ℕ → �
       let same : is.ns ≡ used ++ kept = pages_one page home FREE (first FREE) is.ns (used ++ kept) has plan.covered.free_is in
       in_dealt p (omega (arith, ap (λ (l : List ℕ). times p l) same, times_at p is.ns is.place is.below is.here))
   old_in p n (inr chain) is = elim (part_or n parts) [
-    | inl none ↦
-        (n, inr chain, record { ns = is.ns; has = other_pages n is.ns chain none is.has; place = is.place; below = is.below; here = is.here })
+    | inl none ↦ (
+      n,
+      inr chain,
+      record {
+        ns = is.ns;
+        has = other_pages n is.ns chain none is.has;
+        place = is.place;
+        below = is.below;
+        here =
+            is.here;
+      },
+    )
     | inr some ↦
         let part = known n some.0 some.1 some.2 in
         let same : is.ns ≡ part.old = pages_one page home n (first n) is.ns part.old is.has part.had in
@@ -213,10 +236,18 @@ module _ (page new : ℕ → List ℕ) (home more : ℕ) (first next : ℕ → �
             let old = plan.covered.sound.chains n (inr chain) in
             let was = was_written page home n own long (first n) old.0 (data_in page old.0) old.1.path refl in
             let there = other_holds n (data_in page old.0) chain none (record { ns = old.0; has = old.1; held = refl }) in
-            let same : data_in page old.0 ≡ bytes = bytes_one new (home + more) n (next n) (data_in page old.0) bytes there holds in
-            (old.0, other_pages n old.0 chain none old.1, written_long page n 0 old.0 (data_in page old.0) was ∙ ap (λ (l : List ℕ). pages_for (length l)) same)
+            let same : data_in page old.0 ≡ bytes = bytes_one new (home + more) n (next n) (data_in page old.0) bytes there holds in (
+              old.0,
+              other_pages n old.0 chain none old.1,
+              written_long page n 0 old.0 (data_in page old.0) was
+                  ∙ ap (λ (l : List ℕ). pages_for (length l)) same,
+            )
         | inr some ↦
             let part = known n some.0 some.1 some.2 in
-            let same : some.1 ≡ bytes = bytes_one new (home + more) n (next n) some.1 bytes (part_holds n some.0 some.1 some.2) holds in
-            (some.0, part_pages n some.0 some.1 some.2, written_long new n 0 some.0 some.1 part.written ∙ ap (λ (l : List ℕ). pages_for (length l)) same)
+            let same : some.1 ≡ bytes = bytes_one new (home + more) n (next n) some.1 bytes (part_holds n some.0 some.1 some.2) holds in (
+              some.0,
+              part_pages n some.0 some.1 some.2,
+              written_long new n 0 some.0 some.1 part.written
+                  ∙ ap (λ (l : List ℕ). pages_for (length l)) same,
+            )
       ]

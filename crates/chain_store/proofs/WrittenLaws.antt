@@ -1,5 +1,6 @@
 -- Pages of chains that were written, or stay.
-use Rattle.std.proofs.Common.{◌≡◌, ◌≢◌, ◌⊎◌, inl, inr, ℕ, ◌-◌, ◌^◌, ◌<◌, ◌≤◌, ◌==◌, ◌&&◌, Bool, true, false, cond, List, [], ◌∷◌, ◌++◌, length, take, drop, refl, sym, ap, subst, ◌∙◌, arith, length-take, length-drop, length-append}
+use Rattle.std.proofs.Common.{◌≡◌, ◌≢◌, ◌⊎◌, inl, inr, ℕ, ◌-◌, ◌^◌, ◌<◌, ◌≤◌, ◌==◌, ◌&&◌, Bool, true, false, cond, List, [], ◌∷◌, ◌++◌}
+use Rattle.std.proofs.Common.{length, take, drop, refl, sym, ap, subst, ◌∙◌, arith, length-take, length-drop, length-append}
 use Rattle.std.proofs.lemmas.Bool.{eqb-true}
 use Rattle.std.proofs.lemmas.Bool.Decides.{nat_tests}
 use Rattle.std.proofs.lemmas.List.{append-nil, take_all, drop_all}
@@ -55,7 +56,8 @@ data_long page long own few =
 
 module _ (page : ℕ → List ℕ) (home chain : ℕ) (own : chain ≢ FREE) (long : (n : ℕ) → 2 ≤ n → n < home → length (page n) ≡ 4096) where
   -- a chain of the store is written so
-  pub was_written : (first : ℕ) (ns bytes : List ℕ) → Path page home chain first ns 0 → data_in page ns ≡ bytes → AreWritten page chain 0 ns bytes
+  pub was_written : (first : ℕ) (ns bytes : List ℕ) → Path page home chain first ns 0 → data_in page ns ≡ bytes
+      → AreWritten page chain 0 ns bytes
   was_written first [] bytes path held = sym held
   was_written first (n ∷ []) bytes path held =
       let link = path.1.link in
@@ -91,7 +93,8 @@ module _ (page : ℕ → List ℕ) (home chain : ℕ) (own : chain ≢ FREE) (lo
       )
 
 -- a chain has as many pages as its bytes need
-pub written_long : (page : ℕ → List ℕ) (chain tail : ℕ) (ns bytes : List ℕ) → AreWritten page chain tail ns bytes → length ns ≡ pages_for (length bytes)
+pub written_long : (page : ℕ → List ℕ) (chain tail : ℕ) (ns bytes : List ℕ) → AreWritten page chain tail ns bytes
+    → length ns ≡ pages_for (length bytes)
 written_long page chain tail [] bytes is = omega (arith, ap (λ (l : List ℕ). length l) is)
 written_long page chain tail (n ∷ ns) bytes is =
     omega (arith, written_long page chain tail ns (later_held bytes) is.5, later_long bytes, is.0)
@@ -149,7 +152,8 @@ stayed page chain n after (o ∷ os) same bytes above (inr (before, was, are)) s
       held_is = was.4 ∙ kept;
     })
 
-made : (chain after : ℕ) (held : List ℕ) → chain < CHAIN_END → after < 2 ^ 64 → length held ≤ 4080 → IsPage (link_page after chain held) chain after held
+made : (chain after : ℕ) (held : List ℕ) → chain < CHAIN_END → after < 2 ^ 64 → length held ≤ 4080
+    → IsPage (link_page after chain held) chain after held
 made chain after held own small few = record {
   owner = owner_of-link_page after chain held (omega (arith, own));
   next = next_of-link_page after chain held small;
@@ -157,7 +161,8 @@ made chain after held own small few = record {
   held_is = data_of-link_page after chain held few (omega (arith, own)) (λ is. absurd (omega (arith, own, is)));
 }
 
-either : (b : Bool) (stay new : List ℕ) (f : List ℕ) (chain after : ℕ) (held : List ℕ) → f ≡ cond b stay new → (b ≡ true → IsPage stay chain after held)
+either : (b : Bool) (stay new : List ℕ) (f : List ℕ) (chain after : ℕ) (held : List ℕ) → f ≡ cond b stay new
+    → (b ≡ true → IsPage stay chain after held)
     → IsPage new chain after held → IsPage f chain after held
 either true stay new f chain after held is old made = subst (λ (l : List ℕ). IsPage l chain after held) (sym is) (old refl)
 either false stay new f chain after held is old made = subst (λ (l : List ℕ). IsPage l chain after held) (sym is) made
@@ -201,14 +206,16 @@ module _ (page f : ℕ → List ℕ) where
             (omega (arith, many, later_long bytes)) (was_later page chain old same bytes was) looks.1,
       )
 
-  pub freed_looks : (tail : ℕ) (ns : List ℕ) → tail < 2 ^ 64 → ((p : ℕ) → 1 ≤ times p ns → (2 ≤ p) × (p < 2 ^ 64)) → Looks page f FREE tail ns [] [] []
+  pub freed_looks : (tail : ℕ) (ns : List ℕ) → tail < 2 ^ 64 → ((p : ℕ) → 1 ≤ times p ns → (2 ≤ p) × (p < 2 ^ 64))
+      → Looks page f FREE tail ns [] [] []
       → AreFreed f tail ns
   freed_looks tail [] small inside looks = tt
   freed_looks tail (n ∷ ns) small inside looks =
       let here = inside n (elim (once-cases n n) [ inl is ↦ omega (arith, is.1) | inr not ↦ absurd (not.0 refl) ]) in
       let after : ℕ = head_or ns tail in
       let low : after < 2 ^ 64 = head_tail ns tail small (λ p there. inside p (omega (arith, there))) in
-      let put : f n ≡ link_page after FREE (first_held []) = looks.0 ∙ not_kept n after here.0 (page n) (link_page after FREE (first_held [])) in (
+      let put : f n ≡ link_page after FREE (first_held []) =
+      looks.0 ∙ not_kept n after here.0 (page n) (link_page after FREE (first_held [])) in (
         ap (λ (l : List ℕ). owner_of l) put ∙ owner_of-link_page after FREE (first_held []) (omega arith),
         ap (λ (l : List ℕ). next_of l) put ∙ next_of-link_page after FREE (first_held []) low,
         freed_looks tail ns small (λ p there. inside p (omega (arith, there)))
@@ -221,10 +228,12 @@ AreFine page [] = Unit {0}
 AreFine page (one ∷ others) = (one.number < CHAIN_END) × (length one.pages ≡ pages_for (length one.bytes))
     × WasMarked page one.number one.old one.same one.bytes × AreFine page others
 
-pub all_written : (page f : ℕ → List ℕ) (parts : List Laid) → AreFine page parts → ((p : ℕ) → 1 ≤ times_new p parts → (2 ≤ p) × (p < 2 ^ 64))
+pub all_written : (page f : ℕ → List ℕ) (parts : List Laid) → AreFine page parts
+    → ((p : ℕ) → 1 ≤ times_new p parts → (2 ≤ p) × (p < 2 ^ 64))
     → AllLook page f parts → AreLaid f parts
 all_written page f [] fine inside looks = tt
 all_written page f (one ∷ others) fine inside looks = (
-  written_looks page f one.number one.pages one.bytes one.old one.same fine.0 (λ p some. inside p (omega (arith, some))) fine.1 fine.2 looks.0,
+  written_looks page f one.number one.pages one.bytes one.old one.same fine.0
+      (λ p some. inside p (omega (arith, some))) fine.1 fine.2 looks.0,
   all_written page f others fine.3 (λ p some. inside p (omega (arith, some))) looks.1,
 )

@@ -60,7 +60,8 @@ abbrev pub IsMarked : List (List ℕ) → ℕ → ℕ → List ℕ → List ℕ 
 IsMarked pages n first same bytes = (same ≡ []) ⊎ ((old : List ℕ) × HasBytes pages n first old × AreSame same old bytes)
 
 -- the store is at rest with these home pages, and what is kept of it, was read, and is marked, is so there
-pub record IsOpenStore {D : Type 0} {g : Ghosts D} (pages : List (List ℕ)) (journal : Journal D g) (kept : Kept) (read texts written before : Lists) : Type 0 where
+pub record IsOpenStore {D : Type 0} {g : Ghosts D} (pages : List (List ℕ)) (journal : Journal D g) (kept : Kept)
+    (read texts written before : Lists) : Type 0 where
   pub rests : RestsWith pages journal
   pub keeps : Keeps pages kept
   pub known : (n : ℕ) (ns : List ℕ) → map.get read n ≡ Some ns

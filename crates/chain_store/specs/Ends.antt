@@ -27,12 +27,14 @@ pub record Leaves (pages : List (List ℕ)) (kept : Kept) (root : Root) (written
   pub gathered : AreGathered written read before parts
   pub free : List ℕ
   pub has : HasPages (page_in pages) (length pages + 1) FREE (kept_first kept FREE) free
-  pub is : home ≡ (length pages + 1) + more_of parts (base_parts (root.buckets == buckets_in kept.front.items) root.buckets 8 kept.directories.items) free
+  pub is : home ≡ (length pages + 1) + more_of parts
+      (base_parts (root.buckets == buckets_in kept.front.items) root.buckets 8 kept.directories.items) free
 
 -- a commit may give this answer, and has so many home pages then
 abbrev pub Ends : List (List ℕ) → Kept → Root → Lists → Lists → Lists → ℕ → ℕ → Result (Unit {0}) StoreFault → Type 0
 Ends pages kept root written read before limit home (Ok done) = Leaves pages kept root written read before home × (home ≤ limit)
-Ends pages kept root written read before limit home (Err (StoreFull many)) = Leaves pages kept root written read before many × (limit < many)
+Ends pages kept root written read before limit home (Err (StoreFull many)) =
+    Leaves pages kept root written read before many × (limit < many)
 Ends pages kept root written read before limit home (Err (BadStore at)) =
     Refused (page_in pages) (length pages + 1) FREE (kept_first kept FREE) at
 Ends pages kept root written read before limit home (Err _) = Unit {0}

@@ -11,7 +11,8 @@ use Rattle.chain_store.specs.declared.parts.Laid.{Laid}
 -- `low` on
 unfoldable pub first_put : ℕ → ℕ → ℕ → Laid → List ℕ → List ℕ
 first_put at low count one bytes =
-    if nat_le low one.number && nat_lt (one.number - low) count then overlaid (at + 8 * (one.number - low)) (to_le_bytes w64 (head_or one.pages 0)) bytes else bytes
+    if nat_le low one.number && nat_lt (one.number - low) count
+    then overlaid (at + 8 * (one.number - low)) (to_le_bytes w64 (head_or one.pages 0)) bytes else bytes
 
 abbrev pub firsts_put : ℕ → ℕ → ℕ → List Laid → List ℕ → List ℕ
 firsts_put at low count [] bytes = bytes

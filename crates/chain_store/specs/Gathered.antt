@@ -33,7 +33,8 @@ pub record AreGathered (written read before : Lists) (parts : List Part) : Type 
 pub record IsGathering (written read before : Lists) (parts : List Part) (left known had : Lists) : Type 0 where
   pub each : EachGathered written read before parts
   pub apart : AreApart parts
-  pub others : (n : ℕ) → IsNoNumber n parts → (map.get left n ≡ map.get written n) × (map.get known n ≡ map.get read n) × (map.get had n ≡ map.get before n)
+  pub others : (n : ℕ) → IsNoNumber n parts
+      → (map.get left n ≡ map.get written n) × (map.get known n ≡ map.get read n) × (map.get had n ≡ map.get before n)
   pub gone : (n : ℕ) → (IsNoNumber n parts → ⊥) → map.get left n ≡ None
 
 -- the directories as parts, before first pages are put into them: as they are where each map has as many buckets as

@@ -19,4 +19,5 @@ same_pages before bytes = same_from (pages_for (length bytes)) before bytes
 -- only pages that keep their bytes are marked
 abbrev pub AreSame : List ℕ → List ℕ → List ℕ → Type 0
 AreSame [] before bytes = Unit {0}
-AreSame (mark ∷ marks) before bytes = (mark ≡ 1 → first_held before ≡ first_held bytes) × AreSame marks (later_held before) (later_held bytes)
+AreSame (mark ∷ marks) before bytes = (mark ≡ 1 → first_held before ≡ first_held bytes)
+    × AreSame marks (later_held before) (later_held bytes)

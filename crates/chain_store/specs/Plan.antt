@@ -7,7 +7,8 @@ use Rattle.page_journal.specs.PageSet.{PageMap}
 use Rattle.chain_store.specs.Firsts.{filled, firsts_put}
 use Rattle.chain_store.specs.Pairs.{chain_pairs, laid_pairs, puts}
 use Rattle.chain_store.specs.Parts.{given, growth, head_or, laid_all, up_from}
-use Rattle.chain_store.specs.declared.layout.TheConstants.{BUCKETS_AT, CHANGES_AT, FIRSTS_AT, FORMAT_AT, FREE, FREE_AT, HOME_AT, PAGE, STATE_AT}
+use Rattle.chain_store.specs.declared.layout.TheConstants.{BUCKETS_AT, CHANGES_AT, FIRSTS_AT, FORMAT_AT, FREE, FREE_AT, HOME_AT, PAGE}
+use Rattle.chain_store.specs.declared.layout.TheConstants.{STATE_AT}
 use Rattle.chain_store.specs.declared.parts.Laid.{Laid}
 use Rattle.chain_store.specs.declared.parts.Part.{Part}
 use Rattle.chain_store.specs.declared.planning.Dealt.{Dealt}
@@ -73,7 +74,8 @@ root_bytes front root home free chains directories =
 -- the set of a commit
 abbrev pub set_of : List Laid → List Laid → List ℕ → ℕ → List ℕ → PageMap
 set_of chains directories left tail front =
-    finite.insert (puts (puts (puts finite.empty (laid_pairs chains)) (laid_pairs directories)) (chain_pairs FREE tail left [] [] [])) 1 front
+    finite.insert (puts (puts (puts finite.empty (laid_pairs chains)) (laid_pairs directories)) (chain_pairs FREE tail left [] [] [])) 1
+    front
 
 -- the fields of a root are numbers of eight bytes
 pub record IsSmall (root : Root) : Type 0 where
@@ -85,7 +87,8 @@ pub record IsSmall (root : Root) : Type 0 where
 -- what a commit writes
 pub record IsPlan (kept : Kept) (root : Root) (parts : List Part) (free : List ℕ) (home : ℕ) (plan : Plan) : Type 0 where
   pub dealt : Dealt
-  pub is : IsDealt parts (base_parts (root.buckets == buckets_in kept.front.items) root.buckets 8 kept.directories.items) root.buckets free home dealt
+  pub is : IsDealt parts (base_parts (root.buckets == buckets_in kept.front.items) root.buckets 8 kept.directories.items) root.buckets free
+      home dealt
   pub set_is : plan.set ≡ set_of dealt.chains.items dealt.directories.items dealt.left.items dealt.tail plan.kept.front.items
   pub front_is : plan.kept.front.items
       ≡ root_bytes kept.front.items root dealt.«end» (head_or dealt.left.items dealt.tail) dealt.chains.items dealt.directories.items

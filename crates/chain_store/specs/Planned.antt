@@ -14,7 +14,8 @@ pub record Covered (page : ℕ → List ℕ) (home more : ℕ) (first : ℕ → 
   pub some : 2 ≤ home
   pub old : AreOld page home first parts
   pub free_is : HasPages page home FREE (first FREE) (used ++ kept)
-  pub covers : (p : ℕ) → times_new p parts + (times p left + times p kept) ≡ times_old p parts + times p (used ++ kept) + times p (up_from home more)
+  pub covers : (p : ℕ) → times_new p parts + (times p left + times p kept) ≡ times_old p parts + times p (used ++ kept)
+      + times p (up_from home more)
 
 -- and the pages are written so
 pub record Planned (page new : ℕ → List ℕ) (home more : ℕ) (first next : ℕ → ℕ) (parts : List Laid) (used left kept : List ℕ) : Type 0 where

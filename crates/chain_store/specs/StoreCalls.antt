@@ -8,14 +8,16 @@ use Rattle.page_journal.specs.Journal.{home_count, is_broken, loan_of, page_limi
 use Rattle.page_journal.specs.JournalCalls.{Looked}
 use Rattle.page_journal.specs.declared.fault.StoreFault.{StoreFault}
 use Rattle.page_journal.specs.declared.layout.TheConstants.{PAGE_LEN}
-use Rattle.chain_store.specs.Chains.{Brings, IsOpen, Loads, OnlyRead, before_of, disk_of, first_of, is_refused, journal_of, kept_of, read_of, root_of, texts_of, written_of}
+use Rattle.chain_store.specs.Chains.{Brings, IsOpen, Loads, OnlyRead, before_of, disk_of, first_of, is_refused, journal_of, kept_of}
+use Rattle.chain_store.specs.Chains.{read_of, root_of, texts_of, written_of}
 use Rattle.chain_store.specs.Directories.{root_in}
 use Rattle.chain_store.specs.Ends.{IsCommitAnswer}
 use Rattle.chain_store.specs.Known.{MayRead, MayReadAgain}
 use Rattle.chain_store.specs.declared.chains.Chains.{Chains}
 
 -- a call that only looks at the store, after which the transaction has refused a call or has not
-pub record LooksAtStore {D T : Type 0} {g : Ghosts D} (has_refused : Bool) (old new : Chains D g) (result : Result T StoreFault) : Type 0 where
+pub record LooksAtStore {D T : Type 0} {g : Ghosts D} (has_refused : Bool) (old new : Chains D g)
+    (result : Result T StoreFault) : Type 0 where
   pub opens : (pages : List (List ℕ)) → IsOpen pages old → IsOpen pages new
   pub alone : IsReadAnswer (is_broken (journal_of old)) result
   pub stays : OnlyRead old new
@@ -45,7 +47,8 @@ pub record CommitsStore {D T : Type 0} {g : Ghosts D} (old new : Chains D g) (re
   pub cause : HasDiskCause (disk_of old).faults (disk_of new).faults result
 
 -- the transaction has a string more; or where the call refuses, those that it had
-pub record PutsString {D E : Type 0} {g : Ghosts D} (n : ℕ) (bytes : List ℕ) (old new : Chains D g) (result : Result (Unit {0}) E) : Type 0 where
+pub record PutsString {D E : Type 0} {g : Ghosts D} (n : ℕ) (bytes : List ℕ) (old new : Chains D g)
+    (result : Result (Unit {0}) E) : Type 0 where
   pub written : OnOk result (written_of new ≡ map.insert (written_of old) n bytes)
   pub err : OnErr result (written_of new ≡ written_of old)
 

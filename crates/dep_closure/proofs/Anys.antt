@@ -1,5 +1,6 @@
 -- Whether some of a list pass: two tests that agree, a test by two, two lists that meet, and a test that none passes.
-use Rattle.std.proofs.Common.{◌≡◌, ℕ, Bool, true, false, ◌||◌, List, [], ◌∷◌, Option, length, take, get_or, ◌+◌, ◌<◌, refl, sym, ap, ◌∙◌, nat_eq, arith}
+use Rattle.std.proofs.Common.{◌≡◌, ℕ, Bool, true, false, ◌||◌, List, [], ◌∷◌, Option, length, take, get_or, ◌+◌, ◌<◌, refl, sym, ap, ◌∙◌}
+use Rattle.std.proofs.Common.{nat_eq, arith}
 use Rattle.std.proofs.lemmas.List.Folds.{list_any_more}
 use mathlib.Core.Bool.{false≢true}
 use Rattle.std.specs.List.{AllByRecursion, list_any, filter_map}
@@ -27,7 +28,8 @@ pub list_any-same : {A : Type 0} (one other : A → Bool) (xs : List A) → ((x 
 list_any-same one other [] same = refl
 list_any-same one other (x ∷ xs) same = λ i. same x i || list_any-same one other xs same i
 
-pub list_any-same_there : {A : Type 0} (one other : A → Bool) (xs : List A) → AllByRecursion (λ x. one x ≡ other x) xs → list_any one xs ≡ list_any other xs
+pub list_any-same_there : {A : Type 0} (one other : A → Bool) (xs : List A) → AllByRecursion (λ x. one x ≡ other x) xs
+    → list_any one xs ≡ list_any other xs
 list_any-same_there one other [] same = refl
 list_any-same_there one other (x ∷ xs) same = λ i. same.0 i || list_any-same_there one other xs same.1 i
 
@@ -35,9 +37,11 @@ list_any-none : {A : Type 0} (xs : List A) → list_any (λ _. false) xs ≡ fal
 list_any-none [] = refl
 list_any-none (x ∷ xs) = list_any-none xs
 
-list_any-or : {A : Type 0} (one other : A → Bool) (xs : List A) → list_any (λ x. one x || other x) xs ≡ (list_any one xs || list_any other xs)
+list_any-or : {A : Type 0} (one other : A → Bool) (xs : List A)
+    → list_any (λ x. one x || other x) xs ≡ (list_any one xs || list_any other xs)
 list_any-or one other [] = refl
-list_any-or one other (x ∷ xs) = ap (λ b. (one x || other x) || b) (list_any-or one other xs) ∙ or-pairs (one x) (other x) (list_any one xs) (list_any other xs)
+list_any-or one other (x ∷ xs) = ap (λ b. (one x || other x) || b) (list_any-or one other xs)
+    ∙ or-pairs (one x) (other x) (list_any one xs) (list_any other xs)
 
 -- one of the first ids is among the second ones where one of the second is among the first
 pub has-swap : (ids others : List ℕ) → list_any (has others) ids ≡ list_any (has ids) others
@@ -60,7 +64,10 @@ none_of a b is = (left_false a b is, right_false a b is)
 
 pub none_passes : {A : Type 0} (test : A → Bool) (xs : List A) → list_any test xs ≡ false → AllByRecursion (λ x. test x ≡ false) xs
 none_passes test [] none = tt
-none_passes test (x ∷ xs) none = (left_false (test x) (list_any test xs) none, none_passes test xs (right_false (test x) (list_any test xs) none))
+none_passes test (x ∷ xs) none = (
+  left_false (test x) (list_any test xs) none,
+  none_passes test xs (right_false (test x) (list_any test xs) none),
+)
 
 pub each : {A : Type 0} {P Q : A → Type 0} → ((x : A) → P x → Q x) → (xs : List A) → AllByRecursion P xs → AllByRecursion Q xs
 each f [] all = tt
@@ -73,7 +80,8 @@ or-true false b is = is
 pub tied_self : (id : ℕ) → nat_eq id id ≡ true
 tied_self id = grind (arith, nat_tests)
 
-pub filter_map-same : {B : Type 0} (one other : ℕ → Option B) (ids : List ℕ) → ((id : ℕ) → has ids id ≡ true → one id ≡ other id) → filter_map one ids ≡ filter_map other ids
+pub filter_map-same : {B : Type 0} (one other : ℕ → Option B) (ids : List ℕ) → ((id : ℕ) → has ids id ≡ true → one id ≡ other id)
+    → filter_map one ids ≡ filter_map other ids
 filter_map-same one other [] same = refl
 filter_map-same one other (id ∷ ids) same =
     let rest = filter_map-same one other ids (λ own there. same own (or-true (nat_eq id own) (has ids own) there)) in

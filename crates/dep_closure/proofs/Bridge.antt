@@ -45,12 +45,14 @@ module _ (objects : ObjectSet) (change : List Entry) where
   pub is_due-is_moved : (way : ℕ) → is_due index change way ≡ is_moved after change (way_key way)
   is_due-is_moved way =
       list_any-same (makes_due index way) (moves after (way_key way)) change
-      (λ entry. ap (λ b. eq_by_cmp key_cmp (way_key way) entry.key || (is_kind kinds.Node entry.key.kind && b)) (has-ids_of after kinds.Way kinds.Node entry.key.id way))
+      (λ entry. ap (λ b. eq_by_cmp key_cmp (way_key way) entry.key || (is_kind kinds.Node entry.key.kind && b))
+      (has-ids_of after kinds.Way kinds.Node entry.key.id way))
 
   makes_relation-is_moved : (id : ℕ) → list_any (makes_relation index id) change ≡ is_moved after change (relation_key id)
   makes_relation-is_moved id =
       list_any-same (makes_relation index id) (moves after (relation_key id)) change
-      (λ entry. ap (λ b. eq_by_cmp key_cmp (relation_key id) entry.key || (is_kind kinds.Node entry.key.kind && b)) (has-ids_of after kinds.Relation kinds.Node entry.key.id id))
+      (λ entry. ap (λ b. eq_by_cmp key_cmp (relation_key id) entry.key || (is_kind kinds.Node entry.key.kind && b))
+      (has-ids_of after kinds.Relation kinds.Node entry.key.id id))
 
   is_along-ways_in : (moved : List ℕ) → ((way : ℕ) → has moved way ≡ is_due index change way) → (id : ℕ)
       → is_along index moved id ≡ list_any (λ way. is_moved after change (way_key way)) (ways_in (finite.get after (relation_key id)))
@@ -58,11 +60,13 @@ module _ (objects : ObjectSet) (change : List Entry) where
       list_any-same (λ way. has (index.relations_of_way way) id) (has (ways_in (finite.get after (relation_key id)))) moved
       (λ way. has-ids_of after kinds.Relation kinds.Way way id ∙ has-ways_in way (finite.get after (relation_key id)))
       ∙ has-swap moved (ways_in (finite.get after (relation_key id)))
-      ∙ list_any-same (has moved) (λ way. is_moved after change (way_key way)) (ways_in (finite.get after (relation_key id))) (λ way. are way ∙ is_due-is_moved way)
+      ∙ list_any-same (has moved) (λ way. is_moved after change (way_key way)) (ways_in (finite.get after (relation_key id)))
+      (λ way. are way ∙ is_due-is_moved way)
 
   module _ (style : StyleOf) (old : ObjectSet) (kind : Kind) (id : ℕ) where
     abbrev again : Entry → Bool
-    again entry = is_kind kinds.Relation entry.key.kind && reselects style kind id (finite.get objects entry.key) (finite.get after entry.key)
+    again entry = is_kind kinds.Relation entry.key.kind && reselects style kind id (finite.get objects entry.key)
+        (finite.get after entry.key)
 
     again-there : (entries : List Entry) → AllByRecursion (λ (entry : Entry). finite.get after entry.key ≡ entry.object) entries
         → HasOldForms old objects entries → AllByRecursion (λ (entry : Entry). selects_again style old kind id entry ≡ again entry) entries
@@ -72,12 +76,17 @@ module _ (objects : ObjectSet) (change : List Entry) where
       again-there entries forms.1 has_old.1,
     )
 
-    selects_again-is_reselected : IsChange change → HasOldForms old objects change → list_any (selects_again style old kind id) change ≡ is_reselected style objects change kind id
-    selects_again-is_reselected rise has_old = list_any-same_there (selects_again style old kind id) again change (again-there change (forms-after objects None change rise) has_old)
+    selects_again-is_reselected : IsChange change → HasOldForms old objects change
+        → list_any (selects_again style old kind id) change ≡ is_reselected style objects change kind id
+    selects_again-is_reselected rise has_old =
+        list_any-same_there (selects_again style old kind id) again change
+        (again-there change (forms-after objects None change rise) has_old)
 
-  pub gathered-pending : (style : StyleOf) (old : ObjectSet) (set : PendingOf) → IsChange change → HasOldForms old objects change → IsGathered style old index change set → IsPendingOf style objects change set
+  pub gathered-pending : (style : StyleOf) (old : ObjectSet) (set : PendingOf) → IsChange change → HasOldForms old objects change
+      → IsGathered style old index change set → IsPendingOf style objects change set
   gathered-pending style old set rise has_old gathered = record {
-    nodes = λ id. gathered.nodes id ∙ ap (λ b. is_named change (node_key id) || (reaches_nodes style && b)) (selects_again-is_reselected style old kinds.Node id rise has_old);
+    nodes = λ id. gathered.nodes id ∙ ap (λ b. is_named change (node_key id) || (reaches_nodes style && b))
+        (selects_again-is_reselected style old kinds.Node id rise has_old);
     ways = λ id.
         gathered.ways id
         ∙ or-swap (list_any (selects_again style old kinds.Way id) change) (is_due index change id)

@@ -1,5 +1,6 @@
 -- What was asked of the first entries of a change, or of the first ways, is a front of what is asked of all.
-use Rattle.std.proofs.Common.{◌≡◌, ℕ, suc, zero, ◌<◌, List, [], ◌∷◌, ◌++◌, length, map, take, drop, get_or, append_assoc, Result, Ok, Err, IfOk, IfErr, OnErr, refl, sym, ◌∙◌, ap, arith}
+use Rattle.std.proofs.Common.{◌≡◌, ℕ, suc, zero, ◌<◌, List, [], ◌∷◌, ◌++◌, length, map, take, drop, get_or, append_assoc, Result, Ok, Err}
+use Rattle.std.proofs.Common.{IfOk, IfErr, OnErr, refl, sym, ◌∙◌, ap, arith}
 use Rattle.std.specs.Prelude.{flat_map}
 
 -- what a list gives is what the items before one give, what that one gives, and what those after it give

@@ -25,10 +25,12 @@ apart Equal e = absurd (cc)
 apart Greater e = refl
 
 below_all : (first second third : KeyOf) → is_below first second ≡ true → is_below second third ≡ true → is_below first third ≡ true
-below_all first second third one other = ap is_lt (key_cmp_total.trans first second third (less_is (key_cmp first second) one) (less_is (key_cmp second third) other))
+below_all first second third one other =
+    ap is_lt (key_cmp_total.trans first second third (less_is (key_cmp first second) one) (less_is (key_cmp second third) other))
 
 -- no entry behind a key that rises from there has a key below it
-lower-untouched : (key last : KeyOf) (entries : List Entry) → is_below key last ≡ true → RiseFrom (Some last) entries → Untouched key entries
+lower-untouched : (key last : KeyOf) (entries : List Entry) → is_below key last ≡ true → RiseFrom (Some last) entries
+    → Untouched key entries
 lower-untouched key last [] below rise = tt
 lower-untouched key last (entry ∷ entries) below rise =
     let here : is_below key entry.key ≡ true = below_all key last entry.key below rise.1 in
@@ -38,7 +40,8 @@ last-untouched : (key : KeyOf) (entries : List Entry) → RiseFrom (Some key) en
 last-untouched key [] rise = tt
 last-untouched key (entry ∷ entries) rise = (apart (key_cmp key entry.key) rise.1, lower-untouched key entry.key entries rise.1 rise.2)
 
-form-after : (objects : ObjectSet) (entry : Entry) (entries : List Entry) → RiseFrom (Some entry.key) entries → finite.get (folded_all (folded objects entry) entries) entry.key ≡ entry.object
+form-after : (objects : ObjectSet) (entry : Entry) (entries : List Entry) → RiseFrom (Some entry.key) entries
+    → finite.get (folded_all (folded objects entry) entries) entry.key ≡ entry.object
 form-after objects entry entries rise =
     get-untouched (folded objects entry) entries entry.key (last-untouched entry.key entries rise)
     ∙ get-with_object objects entry.key entry.object entry.key
@@ -47,4 +50,5 @@ form-after objects entry entries rise =
 pub forms-after : (objects : ObjectSet) (last : Option KeyOf) (change : List Entry) → RiseFrom last change
     → AllByRecursion (λ (entry : Entry). finite.get (folded_all objects change) entry.key ≡ entry.object) change
 forms-after objects last [] rise = tt
-forms-after objects last (entry ∷ entries) rise = (form-after objects entry entries rise.2, forms-after (folded objects entry) (Some entry.key) entries rise.2)
+forms-after objects last (entry ∷ entries) rise =
+    (form-after objects entry entries rise.2, forms-after (folded objects entry) (Some entry.key) entries rise.2)

@@ -20,11 +20,13 @@ use Rattle.dep_closure.proofs.Anys.{filter_map-same, or-true, tied_self}
 use Rattle.dep_closure.proofs.Bridge.{is_due-is_moved}
 use Rattle.dep_closure.proofs.Stays.{object-stays, place-stays}
 
-module _ (objects : ObjectSet) (change : List Entry) (way : ℕ) (not_moved : is_moved (folded_all objects change) change (way_key way) ≡ false) where
+module _ (objects : ObjectSet) (change : List Entry) (way : ℕ)
+    (not_moved : is_moved (folded_all objects change) change (way_key way) ≡ false) where
   abbrev after : ObjectSet
   after = folded_all objects change
 
-  line-left : (object : Option Object) → finite.get after (way_key way) ≡ object → line_of (known_of after).place object ≡ line_of (known_of objects).place object
+  line-left : (object : Option Object) → finite.get after (way_key way) ≡ object
+      → line_of (known_of after).place object ≡ line_of (known_of objects).place object
   line-left None is = refl
   line-left (Some (Node place tags)) is = refl
   line-left (Some (Relation members tags)) is = refl
@@ -35,10 +37,12 @@ module _ (objects : ObjectSet) (change : List Entry) (way : ℕ) (not_moved : is
   leaves : Leaves change objects way
   leaves = record {
     object = object-stays objects change (way_key way) not_moved;
-    line = line-left (finite.get after (way_key way)) refl ∙ ap (line_of (known_of objects).place) (object-stays objects change (way_key way) not_moved);
+    line = line-left (finite.get after (way_key way)) refl
+        ∙ ap (line_of (known_of objects).place) (object-stays objects change (way_key way) not_moved);
   }
 
-pub left : (objects : ObjectSet) (change : List Entry) (way : ℕ) → is_due (index_of (folded_all objects change)) change way ≡ false → Leaves change objects way
+pub left : (objects : ObjectSet) (change : List Entry) (way : ℕ) → is_due (index_of (folded_all objects change)) change way ≡ false
+    → Leaves change objects way
 left objects change way not_due = leaves objects change way (sym (is_due-is_moved objects change way) ∙ not_due)
 
 -- ids among ids
@@ -58,4 +62,7 @@ same-ids ids others same all = from_each others (λ id there. is_id ids all id (
   where
     from_each : (others : List ℕ) → ((id : ℕ) → has others id ≡ true → IsId id) → AllByRecursion IsId others
     from_each [] each = tt
-    from_each (first ∷ others) each = (each first (ap (λ b. b || has others first) (tied_self first)), from_each others (λ id there. each id (or-true (nat_eq first id) (has others id) there)))
+    from_each (first ∷ others) each = (
+      each first (ap (λ b. b || has others first) (tied_self first)),
+      from_each others (λ id there. each id (or-true (nat_eq first id) (has others id) there)),
+    )

@@ -22,10 +22,13 @@ pub same_key : (key other : KeyOf) → eq_by_cmp key_cmp key other ≡ true → 
 same_key key other same = key_cmp-IsAntisymmetric key other ((Equal-is (key_cmp key other)).0 same)
 
 -- what no entry names is as it was
-pub unnamed-stays : (objects : ObjectSet) (change : List Entry) (key : KeyOf) → is_named change key ≡ false → finite.get (folded_all objects change) key ≡ finite.get objects key
-unnamed-stays objects change key not_named = get-untouched objects change key (none_passes (λ (entry : Entry). eq_by_cmp key_cmp key entry.key) change not_named)
+pub unnamed-stays : (objects : ObjectSet) (change : List Entry) (key : KeyOf) → is_named change key ≡ false
+    → finite.get (folded_all objects change) key ≡ finite.get objects key
+unnamed-stays objects change key not_named =
+    get-untouched objects change key (none_passes (λ (entry : Entry). eq_by_cmp key_cmp key entry.key) change not_named)
 
-module _ (objects : ObjectSet) (change : List Entry) (key : KeyOf) (not_moved : is_moved (folded_all objects change) change key ≡ false) where
+module _ (objects : ObjectSet) (change : List Entry) (key : KeyOf)
+    (not_moved : is_moved (folded_all objects change) change key ≡ false) where
   abbrev after : ObjectSet
   after = folded_all objects change
 
@@ -33,7 +36,9 @@ module _ (objects : ObjectSet) (change : List Entry) (key : KeyOf) (not_moved : 
   not_made = none_passes (moves after key) change not_moved
 
   pub object-stays : finite.get after key ≡ finite.get objects key
-  object-stays = get-untouched objects change key (each (λ (entry : Entry) not. (none_of (eq_by_cmp key_cmp key entry.key) (is_kind kinds.Node entry.key.kind && lists kinds.Node entry.key.id (finite.get after key)) not).0) change not_made)
+  object-stays = get-untouched objects change key
+      (each (λ (entry : Entry) not. (none_of (eq_by_cmp key_cmp key entry.key)
+      (is_kind kinds.Node entry.key.kind && lists kinds.Node entry.key.id (finite.get after key)) not).0) change not_made)
 
   -- a node that it lists is in no entry
   node-untouched : (id : ℕ) → lists kinds.Node id (finite.get after key) ≡ true → Untouched (node_key id) change
@@ -43,13 +48,18 @@ module _ (objects : ObjectSet) (change : List Entry) (key : KeyOf) (not_moved : 
       not_node entry not =
           elim (eq_by_cmp key_cmp (node_key id) entry.key) as (λ b. eq_by_cmp key_cmp (node_key id) entry.key ≡ b → b ≡ false) [
             | true ↦ λ same.
-                let none : (is_kind kinds.Node entry.key.kind && lists kinds.Node entry.key.id (finite.get after key)) ≡ false = (none_of (eq_by_cmp key_cmp key entry.key) (is_kind kinds.Node entry.key.kind && lists kinds.Node entry.key.id (finite.get after key)) not).1 in
-                let none_at : lists kinds.Node id (finite.get after key) ≡ false = subst (λ (own : KeyOf). (is_kind kinds.Node own.kind && lists kinds.Node own.id (finite.get after key)) ≡ false) (sym (same_key (node_key id) entry.key same)) none in
+                let none : (is_kind kinds.Node entry.key.kind && lists kinds.Node entry.key.id (finite.get after key)) ≡ false =
+                (none_of (eq_by_cmp key_cmp key entry.key)
+                (is_kind kinds.Node entry.key.kind && lists kinds.Node entry.key.id (finite.get after key)) not).1 in
+                let none_at : lists kinds.Node id (finite.get after key) ≡ false =
+                subst (λ (own : KeyOf). (is_kind kinds.Node own.kind && lists kinds.Node own.id (finite.get after key)) ≡ false)
+                (sym (same_key (node_key id) entry.key same)) none in
                 absurd (false≢true (sym none_at ∙ listed))
             | false ↦ λ differs. refl
           ] refl
 
-  pub place-stays : (id : ℕ) → lists kinds.Node id (finite.get after key) ≡ true → place_in (finite.get after (node_key id)) ≡ place_in (finite.get objects (node_key id))
+  pub place-stays : (id : ℕ) → lists kinds.Node id (finite.get after key) ≡ true
+      → place_in (finite.get after (node_key id)) ≡ place_in (finite.get objects (node_key id))
   place-stays id listed = ap place_in (get-untouched objects change (node_key id) (node-untouched id listed))
 
 tied-itself : (key : KeyOf) → eq_by_cmp key_cmp key key ≡ true
@@ -61,18 +71,28 @@ module _ (after : ObjectSet) (key : KeyOf) where
   moves-not a true c not none = ap (λ d. d || c) not ∙ none refl
   moves-not a false c not none = ap (λ d. d || false) not
 
-  pub not-moved : (change : List Entry) → is_named change key ≡ false → ((id : ℕ) → lists kinds.Node id (finite.get after key) ≡ true → is_named change (node_key id) ≡ false) → is_moved after change key ≡ false
+  pub not-moved : (change : List Entry) → is_named change key ≡ false
+      → ((id : ℕ) → lists kinds.Node id (finite.get after key) ≡ true → is_named change (node_key id) ≡ false)
+      → is_moved after change key ≡ false
   not-moved [] not_named none = refl
   not-moved (entry ∷ entries) not_named none =
       let here = none_of (eq_by_cmp key_cmp key entry.key) (is_named entries key) not_named in
-      ap (λ b. b || is_moved after entries key) (moves-not (eq_by_cmp key_cmp key entry.key) (is_kind kinds.Node entry.key.kind) (lists kinds.Node entry.key.id (finite.get after key)) here.0 (λ of_node. unlisted of_node (lists kinds.Node entry.key.id (finite.get after key)) refl))
-      ∙ not-moved entries here.1 (λ id listed. (none_of (eq_by_cmp key_cmp (node_key id) entry.key) (is_named entries (node_key id)) (none id listed)).1)
+      ap (λ b. b || is_moved after entries key)
+      (moves-not (eq_by_cmp key_cmp key entry.key) (is_kind kinds.Node entry.key.kind)
+      (lists kinds.Node entry.key.id (finite.get after key)) here.0
+      (λ of_node. unlisted of_node (lists kinds.Node entry.key.id (finite.get after key)) refl))
+      ∙ not-moved entries here.1 (λ id listed.
+      (none_of (eq_by_cmp key_cmp (node_key id) entry.key) (is_named entries (node_key id)) (none id listed)).1)
     where
       node-key-is : is_kind kinds.Node entry.key.kind ≡ true → node_key entry.key.id ≡ entry.key
       node-key-is of_node = ap (λ kind. record { kind = kind; id = entry.key.id }) (kind_same kinds.Node entry.key.kind of_node)
 
-      unlisted : is_kind kinds.Node entry.key.kind ≡ true → (listed : Bool) → lists kinds.Node entry.key.id (finite.get after key) ≡ listed → listed ≡ false
+      unlisted : is_kind kinds.Node entry.key.kind ≡ true → (listed : Bool) → lists kinds.Node entry.key.id (finite.get after key) ≡ listed
+          → listed ≡ false
       unlisted of_node false is = refl
       unlisted of_node true is =
-          let apart : eq_by_cmp key_cmp (node_key entry.key.id) entry.key ≡ false = (none_of (eq_by_cmp key_cmp (node_key entry.key.id) entry.key) (is_named entries (node_key entry.key.id)) (none entry.key.id is)).0 in
-          sym (tied-itself (node_key entry.key.id)) ∙ ap (λ (own : KeyOf). eq_by_cmp key_cmp (node_key entry.key.id) own) (node-key-is of_node) ∙ apart
+          let apart : eq_by_cmp key_cmp (node_key entry.key.id) entry.key ≡ false =
+          (none_of (eq_by_cmp key_cmp (node_key entry.key.id) entry.key) (is_named entries (node_key entry.key.id))
+          (none entry.key.id is)).0 in
+          sym (tied-itself (node_key entry.key.id))
+          ∙ ap (λ (own : KeyOf). eq_by_cmp key_cmp (node_key entry.key.id) own) (node-key-is of_node) ∙ apart

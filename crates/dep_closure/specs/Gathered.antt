@@ -22,7 +22,8 @@ AreMoved index change ways = (way : ℕ) → has ways way ≡ is_due index chang
 
 -- the rising ids of what an index tells, and of what the old forms and the change select
 pub record IsGathered (style : StyleOf) (old : ObjectSet) (index : Index) (change : List Entry) (set : PendingOf) : Type 0 where
-  pub nodes : (id : ℕ) → has set.nodes id ≡ (is_named change (node_key id) || (reaches_nodes style && list_any (selects_again style old kinds.Node id) change))
+  pub nodes : (id : ℕ) → has set.nodes id ≡
+      (is_named change (node_key id) || (reaches_nodes style && list_any (selects_again style old kinds.Node id) change))
   pub ways : (id : ℕ) → has set.ways id ≡ (list_any (selects_again style old kinds.Way id) change || is_due index change id)
   pub relations : (moved : List ℕ) × AreMoved index change moved × ((id : ℕ) → has set.relations id ≡ is_due_relation index change moved id)
   pub rising : AreRisingIds set.nodes × AreRisingIds set.ways × AreRisingIds set.relations

@@ -28,7 +28,8 @@ of_members change = flat_map of_member change
 abbrev pub of_ways : List ℕ → List Question
 of_ways ways = map RelationsOfWay ways
 
--- first of each node of a change which ways list it, then of each which relations it is a member of, and then the same of each of these ways
+-- first of each node of a change which ways list it, then of each which relations it is a member of, and then the same of each of these
+-- ways
 abbrev pub of_all : List Entry → List ℕ → List Question
 of_all change ways = of_nodes change ++ (of_members change ++ of_ways ways)
 

@@ -12,7 +12,8 @@ use Rattle.osm_base.specs.values.Ids.{has}
 
 -- an entry makes a relation due where it is of the relation, or of a node that is a member of it
 abbrev pub makes_relation : Index → ℕ → Entry → Bool
-makes_relation index id entry = eq_by_cmp key_cmp (relation_key id) entry.key || (is_kind kinds.Node entry.key.kind && has (index.relations_of_node entry.key.id) id)
+makes_relation index id entry = eq_by_cmp key_cmp (relation_key id) entry.key ||
+    (is_kind kinds.Node entry.key.kind && has (index.relations_of_node entry.key.id) id)
 
 -- one of these ways is a member of the relation
 abbrev pub is_along : Index → List ℕ → ℕ → Bool

@@ -29,11 +29,13 @@ has_member kind id _ = false
 
 -- one of two forms of a relation meets a selection, and the object is a member of one of the two
 abbrev pub reselects : StyleOf → Kind → ℕ → Option Object → Option Object → Bool
-reselects style kind id before after = (selects style before || selects style after) && (has_member kind id before || has_member kind id after)
+reselects style kind id before after = (selects style before || selects style after) &&
+    (has_member kind id before || has_member kind id after)
 
 -- an entry does so to an object, where the objects before it are these: it is of a relation
 abbrev pub selects_again : StyleOf → ObjectSet → Kind → ℕ → Entry → Bool
-selects_again style before kind id entry = is_kind kinds.Relation entry.key.kind && reselects style kind id (finite.get before entry.key) entry.object
+selects_again style before kind id entry =
+    is_kind kinds.Relation entry.key.kind && reselects style kind id (finite.get before entry.key) entry.object
 
 -- the tags that a form of a relation hands to the object of this kind and this id by the selection with a number: its own, where it meets
 -- the selection and has the object as a member

@@ -1,5 +1,6 @@
 -- A set of tiles has one list of runs.
-use Rattle.std.proofs.Common.{◌≡◌, ℕ, ◌+◌, ◌*◌, ◌<◌, ◌≤◌, ◌^◌, ◌==◌, nat_le, zero, suc, length, take, refl, sym, ap, subst, arith, Bool, true, false, ◌&&◌, ◌||◌, ◌⊎◌, inl, inr, List, [], ◌∷◌, ◌∙◌}
+use Rattle.std.proofs.Common.{◌≡◌, ℕ, ◌+◌, ◌*◌, ◌<◌, ◌≤◌, ◌^◌, ◌==◌, nat_le, zero, suc, length, take, refl, sym, ap, subst, arith, Bool}
+use Rattle.std.proofs.Common.{true, false, ◌&&◌, ◌||◌, ◌⊎◌, inl, inr, List, [], ◌∷◌, ◌∙◌}
 use Rattle.std.specs.List.{AllByRecursion}
 use Rattle.std.proofs.Math.Nat.{pow-le-pow_right}
 use Rattle.std.proofs.lemmas.Bool.Decides.{nat_tests}
@@ -59,14 +60,16 @@ all_missed zoom x y (run ∷ runs) e = rw (missed zoom x y run e.0, all_missed z
 holds_own : (zoom x y : ℕ) (run : Run) → run.zoom ≡ zoom → run.y ≡ y → run.first ≤ x → x ≤ run.last → holds zoom x y run ≡ true
 holds_own zoom x y run e f g h = grind (arith, nat_tests)
 
-pub has_own : (zoom x y : ℕ) (run : Run) (runs : List Run) → run.zoom ≡ zoom → run.y ≡ y → run.first ≤ x → x ≤ run.last → has (run ∷ runs) zoom x y ≡ true
+pub has_own : (zoom x y : ℕ) (run : Run) (runs : List Run) → run.zoom ≡ zoom → run.y ≡ y → run.first ≤ x → x ≤ run.last
+    → has (run ∷ runs) zoom x y ≡ true
 has_own zoom x y run runs e f g h = rw (holds_own zoom x y run e f g h) refl
 
 -- the first of two sets with the same tiles
 abbrev SameTiles : List Run → List Run → Type 0
 SameTiles left right = (zoom x y : ℕ) → has left zoom x y ≡ has right zoom x y
 
-not_earlier : (run other : Run) (runs others : List Run) → IsTileSet (run ∷ runs) → IsTileSet (other ∷ others) → SameTiles (run ∷ runs) (other ∷ others)
+not_earlier : (run other : Run) (runs others : List Run) → IsTileSet (run ∷ runs) → IsTileSet (other ∷ others)
+    → SameTiles (run ∷ runs) (other ∷ others)
     → start_of run < start_of other → ⊥
 not_earlier run other runs others set other_set same earlier =
     let ordered = set.each.0.ordered in
@@ -77,12 +80,15 @@ not_earlier run other runs others set other_set same earlier =
     let both : true ≡ false = sym here ∙ same run.zoom run.first run.y ∙ none in
     cc
 
-not_longer : (run other : Run) (runs others : List Run) → IsTileSet (run ∷ runs) → IsTileSet (other ∷ others) → SameTiles (run ∷ runs) (other ∷ others)
+not_longer : (run other : Run) (runs others : List Run) → IsTileSet (run ∷ runs) → IsTileSet (other ∷ others)
+    → SameTiles (run ∷ runs) (other ∷ others)
     → run.zoom ≡ other.zoom → run.y ≡ other.y → run.first ≡ other.first → run.last < other.last → ⊥
 not_longer run other runs others set other_set same zoom row first longer =
     let ordered = set.each.0.ordered in
-    let here = has_own run.zoom (run.last + 1) run.y other others (sym zoom) (sym row) (omega (arith, first, ordered)) (omega (arith, longer)) in
-    let none = all_missed run.zoom (run.last + 1) run.y (run ∷ runs) (inr (omega arith), each runs (λ later follows. inl (omega (arith, follows))) set.apart.0) in
+    let here = has_own run.zoom (run.last + 1) run.y other others (sym zoom) (sym row) (omega (arith, first, ordered))
+    (omega (arith, longer)) in
+    let none = all_missed run.zoom (run.last + 1) run.y (run ∷ runs)
+    (inr (omega arith), each runs (λ later follows. inl (omega (arith, follows))) set.apart.0) in
     let both : true ≡ false = sym here ∙ sym (same run.zoom (run.last + 1) run.y) ∙ none in
     cc
 
@@ -110,16 +116,19 @@ level : (m n : ℕ) → (m < n → ⊥) → (n < m → ⊥) → m ≡ n
 level m n e f = omega (arith, e, f)
 
 same_run : (run other : Run) → run.zoom ≡ other.zoom → run.y ≡ other.y → run.first ≡ other.first → run.last ≡ other.last → run ≡ other
-same_run run other zoom row first last = rebuilt run.zoom other.zoom run.y other.y run.first other.first run.last other.last zoom row first last
+same_run run other zoom row first last =
+    rebuilt run.zoom other.zoom run.y other.y run.first other.first run.last other.last zoom row first last
   where
     rebuilt : (a b c d e f g h : ℕ) → a ≡ b → c ≡ d → e ≡ f → g ≡ h
         → ◌≡◌ {A = Run} (record { zoom = a; y = c; first = e; last = g }) (record { zoom = b; y = d; first = f; last = h })
     rebuilt a b c d e f g h i j k l = rw (i, j, k, l) refl
 
-first_same : (run other : Run) (runs others : List Run) → IsTileSet (run ∷ runs) → IsTileSet (other ∷ others) → SameTiles (run ∷ runs) (other ∷ others) → run ≡ other
+first_same : (run other : Run) (runs others : List Run) → IsTileSet (run ∷ runs) → IsTileSet (other ∷ others)
+    → SameTiles (run ∷ runs) (other ∷ others) → run ≡ other
 first_same run other runs others set other_set same =
     let turned : SameTiles (other ∷ others) (run ∷ runs) = λ zoom x y. sym (same zoom x y) in
-    let starts = level (start_of run) (start_of other) (not_earlier run other runs others set other_set same) (not_earlier other run others runs other_set set turned) in
+    let starts = level (start_of run) (start_of other) (not_earlier run other runs others set other_set same)
+    (not_earlier other run others runs other_set set turned) in
     let one = fits run set.each.0 in
     let two = fits other other_set.each.0 in
     let parts = parts_of run.zoom other.zoom run.y other.y run.first other.first one.row two.row one.first two.first starts in
@@ -129,7 +138,8 @@ first_same run other runs others set other_set same =
     same_run run other parts.0 parts.1 parts.2 lasts
 
 -- and those behind it
-behind_missed : (zoom x y : ℕ) (run : Run) (runs : List Run) → IsTileSet (run ∷ runs) → holds zoom x y run ≡ true → has runs zoom x y ≡ false
+behind_missed : (zoom x y : ℕ) (run : Run) (runs : List Run) → IsTileSet (run ∷ runs) → holds zoom x y run ≡ true
+    → has runs zoom x y ≡ false
 behind_missed zoom x y run runs set e =
     let here = reaches zoom x y run e in
     let same_zoom = here.same_zoom in
@@ -137,14 +147,17 @@ behind_missed zoom x y run runs set e =
     let ended = here.ended in
     all_missed zoom x y runs (each runs (λ later follows. inl (omega (arith, same_zoom, same_row, ended, follows))) set.apart.0)
 
-rest_same : (run : Run) (runs others : List Run) → IsTileSet (run ∷ runs) → IsTileSet (run ∷ others) → SameTiles (run ∷ runs) (run ∷ others) → SameTiles runs others
+rest_same : (run : Run) (runs others : List Run) → IsTileSet (run ∷ runs) → IsTileSet (run ∷ others) → SameTiles (run ∷ runs) (run ∷ others)
+    → SameTiles runs others
 rest_same run runs others set other_set same zoom x y = go (holds zoom x y run) refl (same zoom x y)
   where
-    go : (here : Bool) → here ≡ holds zoom x y run → (here || has runs zoom x y) ≡ (here || has others zoom x y) → has runs zoom x y ≡ has others zoom x y
+    go : (here : Bool) → here ≡ holds zoom x y run → (here || has runs zoom x y) ≡ (here || has others zoom x y)
+        → has runs zoom x y ≡ has others zoom x y
     go true e f = behind_missed zoom x y run runs set (sym e) ∙ sym (behind_missed zoom x y run others other_set (sym e))
     go false e f = f
 
-pub one_list : (left right : List Run) → IsTileSet left → IsTileSet right → ((zoom x y : ℕ) → has left zoom x y ≡ has right zoom x y) → left ≡ right
+pub one_list : (left right : List Run) → IsTileSet left → IsTileSet right → ((zoom x y : ℕ) → has left zoom x y ≡ has right zoom x y)
+    → left ≡ right
 one_list [] [] left_set right_set same = refl
 one_list [] (run ∷ runs) left_set right_set same =
     let here = has_own run.zoom run.first run.y run runs refl refl (omega arith) right_set.each.0.ordered in
@@ -158,12 +171,14 @@ one_list (run ∷ runs) (other ∷ others) left_set right_set same =
     let first : run ≡ other = first_same run other runs others left_set right_set same in
     rest (one_list runs others) first left_set right_set same
   where
-    rest : (IsTileSet runs → IsTileSet others → SameTiles runs others → runs ≡ others) → run ≡ other → IsTileSet (run ∷ runs) → IsTileSet (other ∷ others)
+    rest : (IsTileSet runs → IsTileSet others → SameTiles runs others → runs ≡ others) → run ≡ other → IsTileSet (run ∷ runs)
+        → IsTileSet (other ∷ others)
         → SameTiles (run ∷ runs) (other ∷ others) → run ∷ runs ≡ other ∷ others
     rest again first left_set right_set same =
         let right : IsTileSet (run ∷ others) = rw first right_set in
         let tiles : SameTiles (run ∷ runs) (run ∷ others) = subst (λ own. SameTiles (run ∷ runs) (own ∷ others)) (sym first) same in
-        let behind : runs ≡ others = again (rest_set run runs left_set) (rest_set run others right) (rest_same run runs others left_set right tiles) in
+        let behind : runs ≡ others = again (rest_set run runs left_set) (rest_set run others right)
+        (rest_same run runs others left_set right tiles) in
         rw (first, behind) refl
 
 pub all_taken_runs : (runs : List Run) (n : ℕ) → length runs ≤ n → take n runs ≡ runs

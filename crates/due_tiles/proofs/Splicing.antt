@@ -1,5 +1,6 @@
 -- A set of tiles with the runs of another one put between its own.
-use Rattle.std.proofs.Common.{◌≡◌, ℕ, ◌+◌, ◌<◌, ◌≤◌, suc, zero, refl, sym, ap, subst, ◌∙◌, arith, Bool, true, false, ◌||◌, ◌⊎◌, inl, inr, List, [], ◌∷◌, ◌++◌, length, take, drop, get_or, nat_le, nat_lt}
+use Rattle.std.proofs.Common.{◌≡◌, ℕ, ◌+◌, ◌<◌, ◌≤◌, suc, zero, refl, sym, ap, subst, ◌∙◌, arith, Bool, true, false, ◌||◌, ◌⊎◌, inl, inr}
+use Rattle.std.proofs.Common.{List, [], ◌∷◌, ◌++◌, length, take, drop, get_or, nat_le, nat_lt}
 use Rattle.std.specs.List.{AllByRecursion, splice}
 use Rattle.std.specs.List.Sorted.{IsPartitionedBy}
 use Rattle.std.proofs.lemmas.Bool.Decides.{nat_tests}
@@ -59,7 +60,11 @@ less_again : (m n : ℕ) → (n ≤ m → ⊥) → m < n
 less_again m n e = omega (arith, e)
 
 rest_together : (run : Run) (both left right : List Run) → AreTogether (run ∷ both) left right → AreTogether both left right
-rest_together run both left right e = record { each = e.each.1; tiles = λ zoom x y f. e.tiles zoom x y (or_true (holds zoom x y run) (has both zoom x y) f) }
+rest_together run both left right e = record {
+  each = e.each.1;
+  tiles =
+      λ zoom x y f. e.tiles zoom x y (or_true (holds zoom x y run) (has both zoom x y) f);
+}
   where
     or_true : (p q : Bool) → q ≡ true → (p || q) ≡ true
     or_true true q f = refl
@@ -70,7 +75,8 @@ neither true q e f g = cc
 neither false true e f g = cc
 neither false false e f g = cc
 
-starts_after : (bound : ℕ) (both left right : List Run) → AreTogether both left right → AllByRecursion (λ own. bound < start_of own) left → AllByRecursion (λ own. bound < start_of own) right
+starts_after : (bound : ℕ) (both left right : List Run) → AreTogether both left right → AllByRecursion (λ own. bound < start_of own) left
+    → AllByRecursion (λ own. bound < start_of own) right
     → AllByRecursion (λ own. bound < start_of own) both
 starts_after bound [] left right e f g = tt
 starts_after bound (run ∷ both) left right e f g = (
@@ -81,7 +87,8 @@ starts_after bound (run ∷ both) left right e f g = (
   starts_after bound both left right (rest_together run both left right e) f g,
 )
 
-ends_before : (bound : ℕ) (both left right : List Run) → AreTogether both left right → AllByRecursion (λ own. end_of own + 1 < bound) left → AllByRecursion (λ own. end_of own + 1 < bound) right
+ends_before : (bound : ℕ) (both left right : List Run) → AreTogether both left right → AllByRecursion (λ own. end_of own + 1 < bound) left
+    → AllByRecursion (λ own. end_of own + 1 < bound) right
     → AllByRecursion (λ own. end_of own + 1 < bound) both
 ends_before bound [] left right e f g = tt
 ends_before bound (run ∷ both) left right e f g = (
@@ -93,9 +100,11 @@ ends_before bound (run ∷ both) left right e f g = (
 )
 
 -- those before all, and those behind all
-precede_both : (front both left right : List Run) → AreTogether both left right → Precede front left → Precede front right → Precede front both
+precede_both : (front both left right : List Run) → AreTogether both left right → Precede front left → Precede front right
+    → Precede front both
 precede_both [] both left right e f g = tt
-precede_both (run ∷ front) both left right e f g = (starts_after (end_of run + 1) both left right e f.0 g.0, precede_both front both left right e f.1 g.1)
+precede_both (run ∷ front) both left right e f g =
+    (starts_after (end_of run + 1) both left right e f.0 g.0, precede_both front both left right e f.1 g.1)
 
 -- each of another list is behind each of one
 abbrev Behind : List Run → List Run → Type 0
@@ -103,7 +112,8 @@ Behind xs ys = AllByRecursion (λ y. AllByRecursion (λ x. Follows x y) xs) ys
 
 behind_both : (both left right tail : List Run) → AreTogether both left right → Behind left tail → Behind right tail → Behind both tail
 behind_both both left right [] e f g = tt
-behind_both both left right (run ∷ tail) e f g = (ends_before (start_of run) both left right e f.0 g.0, behind_both both left right tail e f.1 g.1)
+behind_both both left right (run ∷ tail) e f g =
+    (ends_before (start_of run) both left right e f.0 g.0, behind_both both left right tail e f.1 g.1)
 
 none_behind : (ys : List Run) → Behind [] ys
 none_behind [] = tt
@@ -130,14 +140,16 @@ turned_back xs [] e = none_precede xs
 turned_back xs (y ∷ ys) e = back_one y xs ys e.0 (turned_back xs ys e.1)
 
 -- what is before the first of a set is before all of it, and what is behind the last behind all
-before_set : (front : List Run) (first : Run) (others : List Run) → IsTileSet (first ∷ others) → AllByRecursion (λ own. Follows own first) front → Precede front (first ∷ others)
+before_set : (front : List Run) (first : Run) (others : List Run) → IsTileSet (first ∷ others)
+    → AllByRecursion (λ own. Follows own first) front → Precede front (first ∷ others)
 before_set [] first others set e = tt
 before_set (run ∷ front) first others set e = (
   (e.0, let ordered = set.each.0.ordered in each others (λ later follows. omega (arith, e.0, follows, ordered)) set.apart.0),
   before_set front first others set e.1,
 )
 
-behind_last : (tail others : List Run) (last : Run) (i : ℕ) → IsTileSet others → i + 1 ≡ length others → last ≡ get_or others i last → AllByRecursion (Follows last) tail → Precede others tail
+behind_last : (tail others : List Run) (last : Run) (i : ℕ) → IsTileSet others → i + 1 ≡ length others → last ≡ get_or others i last
+    → AllByRecursion (Follows last) tail → Precede others tail
 behind_last tail [] last i set e f g = tt
 behind_last tail (other ∷ []) last zero set e f g = (rw (← f) g, tt)
 behind_last tail (other ∷ []) last (suc i) set e f g = absurd (omega (arith, e))
@@ -149,19 +161,25 @@ behind_last tail (other ∷ next ∷ others) last (suc i) set e f g =
     (each tail (λ later behind. omega (arith, follows, ordered, behind)) rest.0, rest)
 
 -- the whole
-pub spliced_set : (front between tail both : List Run) (first : Run) (others : List Run) (last : Run) (i : ℕ) → IsTileSet (front ++ (between ++ tail)) → IsTileSet (first ∷ others) → IsTileSet both
+pub spliced_set : (front between tail both : List Run) (first : Run) (others : List Run) (last : Run) (i : ℕ)
+    → IsTileSet (front ++ (between ++ tail)) → IsTileSet (first ∷ others) → IsTileSet both
     → ((zoom x y : ℕ) → has both zoom x y ≡ (has between zoom x y || has (first ∷ others) zoom x y))
-    → AllByRecursion (λ own. Follows own first) front → i + 1 ≡ length (first ∷ others) → last ≡ get_or (first ∷ others) i last → AllByRecursion (Follows last) tail
+    → AllByRecursion (λ own. Follows own first) front → i + 1 ≡ length (first ∷ others) → last ≡ get_or (first ∷ others) i last
+    → AllByRecursion (Follows last) tail
     → IsTileSet (front ++ (both ++ tail))
 spliced_set front between tail both first others last i set other_set both_set tiles before count is_last behind =
     let rest = back_set front (between ++ tail) set in
-    let together : AreTogether both between (first ∷ others) = record { each = both_set.each; tiles = λ zoom x y e. sym (tiles zoom x y) ∙ e } in
+    let together : AreTogether both between (first ∷ others) =
+    record { each = both_set.each; tiles = λ zoom x y e. sym (tiles zoom x y) ∙ e } in
     let all_before = apart_between front (between ++ tail) set.apart in
-    let front_both = precede_both front both between (first ∷ others) together (parted front all_before).0 (before_set front first others other_set before) in
-    let both_tail = turned_back both tail (behind_both both between (first ∷ others) tail together (turned between tail (apart_between between tail rest.apart))
+    let front_both = precede_both front both between (first ∷ others) together (parted front all_before).0
+    (before_set front first others other_set before) in
+    let both_tail = turned_back both tail (behind_both both between (first ∷ others) tail together
+    (turned between tail (apart_between between tail rest.apart))
     (turned (first ∷ others) tail (behind_last tail (first ∷ others) last i other_set count is_last behind))) in
     record {
-      each = all_append IsRun front (both ++ tail) (all_front IsRun front (between ++ tail) set.each) (all_append IsRun both tail both_set.each (all_back IsRun between tail rest.each));
+      each = all_append IsRun front (both ++ tail) (all_front IsRun front (between ++ tail) set.each)
+          (all_append IsRun both tail both_set.each (all_back IsRun between tail rest.each));
       apart = apart_append front (both ++ tail) (apart_front front (between ++ tail) set.apart)
           (apart_append both tail both_set.apart (apart_back between tail rest.apart) both_tail)
           (joined_rows front front_both (parted front all_before).1);
@@ -169,13 +187,15 @@ spliced_set front between tail both first others last i set other_set both_set t
   where
     parted : (xs : List Run) → Precede xs (between ++ tail) → Precede xs between × Precede xs tail
     parted [] e = (tt, tt)
-    parted (x ∷ xs) e = let more = parted xs e.1 in ((all_front (Follows x) between tail e.0, more.0), (all_back (Follows x) between tail e.0, more.1))
+    parted (x ∷ xs) e = let more = parted xs e.1 in
+        ((all_front (Follows x) between tail e.0, more.0), (all_back (Follows x) between tail e.0, more.1))
 
     joined_rows : (xs : List Run) → Precede xs both → Precede xs tail → Precede xs (both ++ tail)
     joined_rows [] e f = tt
     joined_rows (x ∷ xs) e f = (all_append (Follows x) both tail e.0 f.0, joined_rows xs e.1 f.1)
 
-pub spliced_tiles : (front between tail both others : List Run) → ((zoom x y : ℕ) → has both zoom x y ≡ (has between zoom x y || has others zoom x y))
+pub spliced_tiles : (front between tail both others : List Run)
+    → ((zoom x y : ℕ) → has both zoom x y ≡ (has between zoom x y || has others zoom x y))
     → (zoom x y : ℕ) → has (front ++ (both ++ tail)) zoom x y ≡ (has (front ++ (between ++ tail)) zoom x y || has others zoom x y)
 spliced_tiles front between tail both others tiles zoom x y =
     rw (
@@ -215,7 +235,8 @@ after_front runs from set = back_set (take from runs) (drop from runs) (subst Is
 
 pub between_set : (runs : List Run) (from count : ℕ) → IsTileSet runs → IsTileSet (take count (drop from runs))
 between_set runs from count set =
-    front_set (take count (drop from runs)) (drop count (drop from runs)) (subst IsTileSet (sym (take-append-drop count (drop from runs))) (after_front runs from set))
+    front_set (take count (drop from runs)) (drop count (drop from runs))
+    (subst IsTileSet (sym (take-append-drop count (drop from runs))) (after_front runs from set))
 
 pub first_is : (runs : List Run) (first : Run) (rest : List Run) → runs ≡ first ∷ rest → first ≡ get_or runs 0 first
 first_is runs first rest e = sym (ap (λ own. get_or own 0 first) e)
@@ -229,14 +250,18 @@ pub spliced : (runs others both : List Run) (from count i : ℕ) (first last : R
     → i + 1 ≡ length others → first ≡ get_or others 0 first → last ≡ get_or others i last
     → AllByRecursion (λ own. Follows own first) (take from runs) → AllByRecursion (Follows last) (drop count (drop from runs))
     → IsSpliced runs others (splice runs from (from + count) both)
-spliced runs [] both from count i first last set other_set both_set tiles length_is first_is last_is before behind = absurd (omega (arith, length_is))
+spliced runs [] both from count i first last set other_set both_set tiles length_is first_is last_is before behind =
+    absurd (omega (arith, length_is))
 spliced runs (other ∷ others) both from count i first last set other_set both_set tiles length_is first_is last_is before behind =
     let whole = parts_of_list runs from count in
-    let front : AllByRecursion (λ own. Follows own other) (take from runs) = subst (λ it. AllByRecursion (λ own. Follows own it) (take from runs)) first_is before in
+    let front : AllByRecursion (λ own. Follows own other) (take from runs) =
+    subst (λ it. AllByRecursion (λ own. Follows own it) (take from runs)) first_is before in
     record {
-      set = rw (drop_more runs from count) (spliced_set (take from runs) (take count (drop from runs)) (drop count (drop from runs)) both other others last i
+      set = rw (drop_more runs from count) (spliced_set (take from runs) (take count (drop from runs))
+          (drop count (drop from runs)) both other others last i
           (subst IsTileSet (sym whole) set) other_set both_set tiles front length_is last_is behind);
-      tiles = λ zoom x y. rw (drop_more runs from count) (spliced_tiles (take from runs) (take count (drop from runs)) (drop count (drop from runs)) both (other ∷ others) tiles zoom x y)
+      tiles = λ zoom x y. rw (drop_more runs from count)
+          (spliced_tiles (take from runs) (take count (drop from runs)) (drop count (drop from runs)) both (other ∷ others) tiles zoom x y)
           ∙ ap (λ own. has own zoom x y || has (other ∷ others) zoom x y) whole;
     }
 
@@ -246,11 +271,13 @@ all_at P [] i d e h = absurd (omega (arith, h))
 all_at P (run ∷ runs) zero d e h = e.0
 all_at P (run ∷ runs) (suc i) d e h = all_at P runs i d e.1 (omega (arith, h))
 
-rising : (runs : List Run) (i j : ℕ) (d : Run) → IsTileSet runs → i < j → j < length runs → end_of (get_or runs i d) + 1 < start_of (get_or runs j d)
+rising : (runs : List Run) (i j : ℕ) (d : Run) → IsTileSet runs → i < j → j < length runs
+    → end_of (get_or runs i d) + 1 < start_of (get_or runs j d)
 rising [] i j d set less within = absurd (omega (arith, within))
 rising (run ∷ runs) i zero d set less within = absurd (omega (arith, less))
 rising (run ∷ runs) zero (suc j) d set less within = all_at (Follows run) runs j d set.apart.0 (omega (arith, within))
-rising (run ∷ runs) (suc i) (suc j) d set less within = rising runs i j d (record { each = set.each.1; apart = set.apart.1 }) (omega (arith, less)) (omega (arith, within))
+rising (run ∷ runs) (suc i) (suc j) d set less within =
+    rising runs i j d (record { each = set.each.1; apart = set.apart.1 }) (omega (arith, less)) (omega (arith, within))
 
 abbrev pub is_before : ℕ → Run → Bool
 is_before start own = nat_lt (end_of own + 1) start
@@ -262,7 +289,8 @@ position_or : (i j : ℕ) → i ≤ j → (i ≡ j) ⊎ (i < j)
 position_or zero zero e = inl refl
 position_or zero (suc j) e = inr (omega arith)
 position_or (suc i) zero e = absurd (omega (arith, e))
-position_or (suc i) (suc j) e = elim (position_or i j (omega (arith, e))) [ inl f ↦ inl (omega (arith, f)) | inr f ↦ inr (omega (arith, f)) ]
+position_or (suc i) (suc j) e = elim (position_or i j (omega (arith, e)))
+    [ inl f ↦ inl (omega (arith, f)) | inr f ↦ inr (omega (arith, f)) ]
 
 pub before_first : (runs : List Run) (start : ℕ) → IsTileSet runs → IsPartitionedBy (is_before start) runs
 before_first runs start set i j d ordered within e = elim (position_or i j ordered) [
@@ -288,16 +316,24 @@ begun_first runs end set i j d ordered within e = elim (position_or i j ordered)
     earlier : (a b c end : ℕ) → a ≤ b → b + 1 < c → nat_le c (end + 1) ≡ true → nat_le a (end + 1) ≡ true
     earlier a b c end e f g = grind (arith, nat_tests)
 
-pub all_taken : (P : Run → Type 0) (runs : List Run) (n : ℕ) (d : Run) → ((k : ℕ) → k < length runs → k < n → P (get_or runs k d)) → AllByRecursion P (take n runs)
+pub all_taken : (P : Run → Type 0) (runs : List Run) (n : ℕ) (d : Run) → ((k : ℕ) → k < length runs → k < n → P (get_or runs k d))
+    → AllByRecursion P (take n runs)
 all_taken P [] zero d e = tt
 all_taken P [] (suc n) d e = tt
 all_taken P (run ∷ runs) zero d e = tt
-all_taken P (run ∷ runs) (suc n) d e = (e 0 (omega arith) (omega arith), all_taken P runs n d (λ k h i. e (suc k) (omega (arith, h)) (omega (arith, i))))
+all_taken P (run ∷ runs) (suc n) d e = (
+  e 0 (omega arith) (omega arith),
+  all_taken P runs n d (λ k h i. e (suc k) (omega (arith, h)) (omega (arith, i))),
+)
 
-pub all_left : (P : Run → Type 0) (runs : List Run) (n : ℕ) (d : Run) → ((k : ℕ) → n ≤ k → k < length runs → P (get_or runs k d)) → AllByRecursion P (drop n runs)
+pub all_left : (P : Run → Type 0) (runs : List Run) (n : ℕ) (d : Run) → ((k : ℕ) → n ≤ k → k < length runs → P (get_or runs k d))
+    → AllByRecursion P (drop n runs)
 all_left P [] zero d e = tt
 all_left P [] (suc n) d e = tt
-all_left P (run ∷ runs) zero d e = (e 0 (omega arith) (omega arith), all_left P runs zero d (λ k h i. e (suc k) (omega arith) (omega (arith, i))))
+all_left P (run ∷ runs) zero d e = (
+  e 0 (omega arith) (omega arith),
+  all_left P runs zero d (λ k h i. e (suc k) (omega arith) (omega (arith, i))),
+)
 all_left P (run ∷ runs) (suc n) d e = all_left P runs n d (λ k h i. e (suc k) (omega (arith, h)) (omega (arith, i)))
 
 pub before_is : (start : ℕ) (own : Run) → is_before start own ≡ true → end_of own + 1 < start

@@ -34,7 +34,8 @@ set_bytes runs = all_bytes run_bytes runs
 
 -- these are the bytes of each set that has the tiles of these runs, and no other
 abbrev pub IsSpelling : List Run → List ℕ → Type 0
-IsSpelling runs bytes = (other : List Run) → IsTileSet other → ((zoom x y : ℕ) → has other zoom x y ≡ has runs zoom x y) → set_bytes other ≡ bytes
+IsSpelling runs bytes = (other : List Run) → IsTileSet other → ((zoom x y : ℕ) → has other zoom x y ≡ has runs zoom x y)
+    → set_bytes other ≡ bytes
 
 -- that no set is spelled comes only with this fact
 abbrev pub NeedsFor : Type 0 → DueFault → Type 0
@@ -55,4 +56,5 @@ IsRead runs bytes = (run : Run) (later : List Run) → IsTileSet (runs ++ run �
 -- so far the bytes are those of these runs, and each set with these bytes goes on behind them with those that are left
 pub record HasRead (bytes : List ℕ) (runs : List Run) (rest : List ℕ) : Type 0 where
   pub bytes_are : bytes ≡ set_bytes runs ++ rest
-  pub goes_on : (all : List Run) → IsTileSet all → bytes ≡ set_bytes all → (later : List Run) × (all ≡ runs ++ later) × (rest ≡ set_bytes later)
+  pub goes_on : (all : List Run) → IsTileSet all → bytes ≡ set_bytes all
+      → (later : List Run) × (all ≡ runs ++ later) × (rest ≡ set_bytes later)

@@ -13,7 +13,8 @@ width deeper zoom = 2 ^ (deeper - zoom)
 -- a tile is above one of a run, or is one of it: row and columns are halved from zoom to zoom, and rounded down
 abbrev pub is_above : ℕ → ℕ → ℕ → Run → Bool
 is_above zoom x y run =
-    nat_le zoom run.zoom && ((run.y / width run.zoom zoom) == y && (nat_le (run.first / width run.zoom zoom) x && nat_le x (run.last / width run.zoom zoom)))
+    nat_le zoom run.zoom && ((run.y / width run.zoom zoom) == y &&
+    (nat_le (run.first / width run.zoom zoom) x && nat_le x (run.last / width run.zoom zoom)))
 
 -- the tiles of a zoom are numbered column by column
 abbrev pub column_of : ℕ → ℕ → ℕ

@@ -8,9 +8,11 @@ use Rattle.row_map.proofs.Locality.{row_from-suffices}
 use Rattle.row_map.specs.Rows.{rows_below, rows_in, rows_known}
 use Rattle.geom_workers.specs.Rows.{RowsAgree, SufficesFor}
 
-same_rows : (style : StyleOf) (known : Known) (objects : ObjectSet) (key : KeyOf) → SufficesFor style known objects key → rows_known style known key ≡ rows_in style objects key
+same_rows : (style : StyleOf) (known : Known) (objects : ObjectSet) (key : KeyOf) → SufficesFor style known objects key
+    → rows_known style known key ≡ rows_in style objects key
 unfolding rows_known rows_in
-same_rows style known objects key suffices = λ i. rows_below (λ table. row_from-suffices style table key known objects (suffices table) i) (length style.tables)
+same_rows style known objects key suffices =
+    λ i. rows_below (λ table. row_from-suffices style table key known objects (suffices table) i) (length style.tables)
 
 pub agree : (style : StyleOf) (known : Known) (keys : List KeyOf) → RowsAgree style known keys
 agree style known [] objects all = refl

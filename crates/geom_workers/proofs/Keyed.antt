@@ -6,4 +6,5 @@ use Rattle.std.proofs.lemmas.List.FromFn.{fill_by_all}
 
 -- what a function makes of a list is what it makes of each place of the list
 pub by_number : {A B : Type 0} (f : A → B) (xs : List A) (d : A) → map (λ i. f (get_or xs i d)) (range_with_len 0 (length xs)) ≡ map f xs
-by_number f xs d = sym (fill_by_all (λ i. f (get_or xs i d)) (map f xs) (length xs) (f d) (length-map xs f) (λ k less. get_or-map f xs k d (f d) less))
+by_number f xs d = sym (fill_by_all (λ i. f (get_or xs i d)) (map f xs) (length xs) (f d) (length-map xs f)
+    (λ k less. get_or-map f xs k d (f d) less))

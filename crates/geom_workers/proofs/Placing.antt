@@ -1,5 +1,6 @@
 -- Values put where their tickets say, from the last one back.
-use Rattle.std.proofs.Common.{◌≡◌, ℕ, suc, ◌+◌, ◌<◌, List, [], ◌∷◌, ◌++◌, false, eqb, get_or, length, length-append, length-set, map, set, take, refl, ap, sym, ◌∙◌, append_assoc, ne_eqb, arith}
+use Rattle.std.proofs.Common.{◌≡◌, ℕ, suc, ◌+◌, ◌<◌, List, [], ◌∷◌, ◌++◌, false, eqb, get_or, length, length-append, length-set, map, set}
+use Rattle.std.proofs.Common.{take, refl, ap, sym, ◌∙◌, append_assoc, ne_eqb, arith}
 use native.Mathlib.Decide.{ℕ_discrete}
 use Rattle.std.specs.List.{range_with_len}
 use Rattle.std.proofs.lemmas.Bool.{lt-ltb}
@@ -14,7 +15,8 @@ module _ {A : Type 0} (d : A) (count : ℕ) (tickets : List ℕ) (values : List 
   pub record Placed (left all : List A) : Type 0 where
     pub whole : length all ≡ count
     pub front : (more : List A) × (values ≡ left ++ more)
-    pub placed : (of : ℕ → A) → values ≡ map of tickets → (k : ℕ) → k < count → times k (take (length left) tickets) ≡ 0 → get_or all k d ≡ of k
+    pub placed : (of : ℕ → A) → values ≡ map of tickets → (k : ℕ) → k < count → times k (take (length left) tickets) ≡ 0
+        → get_or all k d ≡ of k
 
   pub starts : (all : List A) → length all ≡ count → IsOnce tickets count → length values ≡ length tickets → Placed values all
   starts all whole once same = record {
@@ -33,7 +35,8 @@ module _ {A : Type 0} (d : A) (count : ℕ) (tickets : List ℕ) (values : List 
   at_seam [] value more = refl
   at_seam (x ∷ xs) value more = at_seam xs value more
 
-  place_by : (rest all : List A) (value : A) → Placed (rest ++ value ∷ []) all → (of : ℕ → A) → values ≡ map of tickets → (k : ℕ) → k < count
+  place_by : (rest all : List A) (value : A) → Placed (rest ++ value ∷ []) all → (of : ℕ → A) → values ≡ map of tickets → (k : ℕ)
+      → k < count
       → times k (take (length rest) tickets) ≡ 0 → length rest < length tickets → get_or tickets (length rest) 0 < length all
       → value ≡ of (get_or tickets (length rest) 0) → Dec (k ≡ get_or tickets (length rest) 0)
       → get_or (set all (get_or tickets (length rest) 0) value) k d ≡ of k
@@ -48,11 +51,13 @@ module _ {A : Type 0} (d : A) (count : ℕ) (tickets : List ℕ) (values : List 
       get_or-set_other all ticket k value d apart ∙ before.placed of e k less still
 
   -- there is a place for the next value
-  pub place_within : (rest all : List A) (value : A) → IsOnce tickets count → length values ≡ length tickets → Placed (rest ++ value ∷ []) all
+  pub place_within : (rest all : List A) (value : A) → IsOnce tickets count → length values ≡ length tickets
+      → Placed (rest ++ value ∷ []) all
       → get_or tickets (length rest) 0 < length all
   place_within rest all value once same before =
       let lengths = ap length before.front.1 in
-      let short : length rest < length tickets = omega (arith, length-append (rest ++ value ∷ []) before.front.0, length-append rest (value ∷ [])) in
+      let short : length rest < length tickets =
+      omega (arith, length-append (rest ++ value ∷ []) before.front.0, length-append rest (value ∷ [])) in
       let within = all_below tickets count (λ x. let e = once x in omega arith) (length rest) 0 short in
       let size = before.whole in
       omega arith
@@ -69,9 +74,12 @@ module _ {A : Type 0} (d : A) (count : ℕ) (tickets : List ℕ) (values : List 
         whole = length-set all ticket value ∙ before.whole;
         front = (value ∷ more, joined);
         placed = λ of e k less none.
-            (let here : get_or values (length rest) d ≡ value = ap (λ (xs : List A). get_or xs (length rest) d) joined ∙ at_seam rest value more in
-            let there : get_or values (length rest) d ≡ of ticket = ap (λ (xs : List A). get_or xs (length rest) d) e ∙ get_or-map of tickets (length rest) 0 d short in
-            place_by rest all value before of e k less none short (place_within rest all value once same before) (sym here ∙ there) (ℕ_discrete k ticket));
+            (let here : get_or values (length rest) d ≡ value =
+            ap (λ (xs : List A). get_or xs (length rest) d) joined ∙ at_seam rest value more in
+            let there : get_or values (length rest) d ≡ of ticket =
+            ap (λ (xs : List A). get_or xs (length rest) d) e ∙ get_or-map of tickets (length rest) 0 d short in
+            place_by rest all value before of e k less none short (place_within rest all value once same before) (sym here ∙ there)
+            (ℕ_discrete k ticket));
       }
 
   -- where none is left

@@ -15,4 +15,5 @@ SufficesFor style known objects key = (table : ℕ) → Suffices style table key
 -- where what is known suffices for each of these keys, their rows are those of the map
 abbrev pub RowsAgree : StyleOf → Known → List KeyOf → Type 0
 RowsAgree style known keys =
-    (objects : ObjectSet) → AllByRecursion (SufficesFor style known objects) keys → map (rows_known style known) keys ≡ map (rows_in style objects) keys
+    (objects : ObjectSet) → AllByRecursion (SufficesFor style known objects) keys
+    → map (rows_known style known) keys ≡ map (rows_in style objects) keys

@@ -1,5 +1,6 @@
 -- The level of a box, and the parts that hold it.
-use Rattle.std.proofs.Common.{◌≡◌, ℕ, zero, suc, ◌+◌, ◌-◌, ◌/◌, ◌^◌, ◌<◌, ◌≤◌, Bool, true, false, cond, ◌&&◌, ◌||◌, refl, ◌∙◌, ap, inl, inr, arith}
+use Rattle.std.proofs.Common.{◌≡◌, ℕ, zero, suc, ◌+◌, ◌-◌, ◌/◌, ◌^◌, ◌<◌, ◌≤◌, Bool, true, false, cond, ◌&&◌, ◌||◌, refl, ◌∙◌, ap, inl, inr}
+use Rattle.std.proofs.Common.{arith}
 use Rattle.std.specs.Prelude.{nat_le, nat_lt, ◌⊎◌}
 use Rattle.std.proofs.Math.Nat.{div-mul-le_self}
 use Rattle.std.proofs.lemmas.Bool.{eqb-true}
@@ -12,7 +13,8 @@ one_less : (levels : ℕ) (level : ℕ) → level < levels → levels - level �
 one_less levels level h = omega arith
 
 -- a level that does not hold all the cells is passed over
-pub level_next : (cells : Cells) (level : ℕ) → level < 11 → is_within level cells ≡ false → level_from (11 - level) level cells ≡ level_from (11 - (level + 1)) (level + 1) cells
+pub level_next : (cells : Cells) (level : ℕ) → level < 11 → is_within level cells ≡ false
+    → level_from (11 - level) level cells ≡ level_from (11 - (level + 1)) (level + 1) cells
 unfolding level_from
 level_next cells level h e = ap (λ levels. level_from levels level cells) (one_less 11 level h) ∙ rw e refl
 
@@ -29,31 +31,37 @@ level_end cells level e = rw e refl
 small_from : (levels level : ℕ) (cells : Cells) → level_from levels level cells ≤ levels + level
 unfolding level_from
 small_from zero level cells = omega arith
-small_from (suc levels) level cells = elim (is_within level cells) as (λ b. cond b level (level_from levels (level + 1) cells) ≤ suc levels + level) [
-  | true ↦ omega arith
-  | false ↦ omega (arith, small_from levels (level + 1) cells)
-]
+small_from (suc levels) level cells = elim (is_within level cells) as
+    (λ b. cond b level (level_from levels (level + 1) cells) ≤ suc levels + level) [
+      | true ↦ omega arith
+      | false ↦ omega (arith, small_from levels (level + 1) cells)
+    ]
 
 -- the level found is one of which one part holds all the cells, or it is the last
-held_from : (levels level : ℕ) (cells : Cells) → (level_from levels level cells ≡ levels + level) ⊎ (is_within (level_from levels level cells) cells ≡ true)
+held_from : (levels level : ℕ) (cells : Cells)
+    → (level_from levels level cells ≡ levels + level) ⊎ (is_within (level_from levels level cells) cells ≡ true)
 unfolding level_from
 held_from zero level cells = inl (omega arith)
 held_from (suc levels) level cells =
-    elim (is_within level cells) as (λ b. is_within level cells ≡ b → (cond b level (level_from levels (level + 1) cells) ≡ suc levels + level) ⊎ (is_within (cond b level (level_from levels (level + 1) cells)) cells ≡ true)) [
+    elim (is_within level cells) as (λ b. is_within level cells ≡ b
+    → (cond b level (level_from levels (level + 1) cells) ≡ suc levels + level)
+    ⊎ (is_within (cond b level (level_from levels (level + 1) cells)) cells ≡ true)) [
       | true ↦ λ e. inr e
       | false ↦ λ e. elim (held_from levels (level + 1) cells) [ inl last ↦ inl (omega (arith, last)) | inr held ↦ inr held ]
     ] refl
 
 pub level_of-small : (cells : Cells) → level_of cells ≤ 11
 unfolding level_of
-level_of-small cells = elim (is_wide_of cells) as (λ b. cond b 11 (level_from 11 0 cells) ≤ 11) [ true ↦ omega arith | false ↦ omega (arith, small_from 11 0 cells) ]
+level_of-small cells = elim (is_wide_of cells) as
+    (λ b. cond b 11 (level_from 11 0 cells) ≤ 11) [ true ↦ omega arith | false ↦ omega (arith, small_from 11 0 cells) ]
 
 pub level_of-holds : (cells : Cells) → (level_of cells ≡ 11) ⊎ (is_within (level_of cells) cells ≡ true)
 unfolding level_of
-level_of-holds cells = elim (is_wide_of cells) as (λ b. (cond b 11 (level_from 11 0 cells) ≡ 11) ⊎ (is_within (cond b 11 (level_from 11 0 cells)) cells ≡ true)) [
-  | true ↦ inl refl
-  | false ↦ elim (held_from 11 0 cells) [ inl last ↦ inl (omega (arith, last)) | inr held ↦ inr held ]
-]
+level_of-holds cells = elim (is_wide_of cells) as
+    (λ b. (cond b 11 (level_from 11 0 cells) ≡ 11) ⊎ (is_within (cond b 11 (level_from 11 0 cells)) cells ≡ true)) [
+      | true ↦ inl refl
+      | false ↦ elim (held_from 11 0 cells) [ inl last ↦ inl (omega (arith, last)) | inr held ↦ inr held ]
+    ]
 
 pub level_of-wide : (cells : Cells) → is_wide_of cells ≡ true → level_of cells ≡ 11
 unfolding level_of
@@ -114,4 +122,5 @@ reached asked cells near = go (is_wide_of cells) refl near
   where
     go : (b : Bool) → is_wide_of cells ≡ b → (b || share asked cells) ≡ true → IsReached asked cells (level_of cells)
     go true wide e = reached_last asked cells (level_of cells) (level_of-wide cells wide)
-    go false wide shared = elim (level_of-holds cells) [ inl last ↦ reached_last asked cells (level_of cells) last | inr held ↦ reached_held asked cells (level_of cells) held shared ]
+    go false wide shared = elim (level_of-holds cells)
+        [ inl last ↦ reached_last asked cells (level_of cells) last | inr held ↦ reached_held asked cells (level_of cells) held shared ]

@@ -57,7 +57,8 @@ more_marked mark old new boxes adds before at = go (finite.get boxes at) (before
     go (Some box) h = kept mark old new adds (mark_of at box) h
 
 -- a box that is put in has the mark that was added
-pub put_marked : (old new : List Mark) (boxes : BoxMap) (spot : SpotOf) (box : GeoBox) → Adds (mark_of spot box) old new → AreMarked old boxes → AreMarked new (finite.insert boxes spot box)
+pub put_marked : (old new : List Mark) (boxes : BoxMap) (spot : SpotOf) (box : GeoBox) → Adds (mark_of spot box) old new
+    → AreMarked old boxes → AreMarked new (finite.insert boxes spot box)
 put_marked old new boxes spot box adds before at =
     subst (IsMarked new at) (sym (finite.get-insert spot_cmp_total boxes spot box at)) (go (eq_by_cmp spot_cmp at spot) refl)
   where
@@ -78,7 +79,8 @@ less_marked marks boxes spot before at =
     go false = before at
 
 -- a mark that no box has may go
-pub dropped_marked : (mark : Mark) (old new : List Mark) (boxes : BoxMap) → Drops mark old new → ((at : SpotOf) (box : GeoBox) → finite.get boxes at ≡ Some box → mark ≢ mark_of at box)
+pub dropped_marked : (mark : Mark) (old new : List Mark) (boxes : BoxMap) → Drops mark old new
+    → ((at : SpotOf) (box : GeoBox) → finite.get boxes at ≡ Some box → mark ≢ mark_of at box)
     → AreMarked old boxes → AreMarked new boxes
 dropped_marked mark old new boxes drops free before at = go (finite.get boxes at) refl (before at)
   where
@@ -99,22 +101,27 @@ pub put_free : (boxes : BoxMap) (spot : SpotOf) (box before : GeoBox) → part_o
 put_free boxes spot box before moved at other e same =
     let here : spot ≡ at = of_one_spot spot at before other same in
     let tied : eq_by_cmp spot_cmp at spot ≡ true = subst (λ one. eq_by_cmp spot_cmp one spot ≡ true) here (spot_itself spot) in
-    let new : Some box ≡ Some other = sym (finite.get-insert spot_cmp_total boxes spot box at ∙ ap (λ b. cond b (Some box) (finite.get boxes at)) tied) ∙ e in
+    let new : Some box ≡ Some other = sym (finite.get-insert spot_cmp_total boxes spot box at
+    ∙ ap (λ b. cond b (Some box) (finite.get boxes at)) tied) ∙ e in
     moved (ap (λ mark. mark.part) same ∙ ap part_of (sym (some_is box other new)))
   where
     some_is : (x y : GeoBox) → Some x ≡ Some y → x ≡ y
     some_is x y e = cc
 
-pub gone_free : (boxes : BoxMap) (spot : SpotOf) (before : GeoBox) (at : SpotOf) (other : GeoBox) → finite.get (finite.remove boxes spot) at ≡ Some other → mark_of spot before ≢ mark_of at other
+pub gone_free : (boxes : BoxMap) (spot : SpotOf) (before : GeoBox) (at : SpotOf) (other : GeoBox)
+    → finite.get (finite.remove boxes spot) at ≡ Some other → mark_of spot before ≢ mark_of at other
 gone_free boxes spot before at other e same =
     let here : spot ≡ at = of_one_spot spot at before other same in
     let tied : eq_by_cmp spot_cmp at spot ≡ true = subst (λ one. eq_by_cmp spot_cmp one spot ≡ true) here (spot_itself spot) in
-    let none : None ≡ Some other = sym (finite.get-remove spot_cmp_total boxes spot at ∙ ap (λ b. cond b None (finite.get boxes at)) tied) ∙ e in
+    let none : None ≡ Some other = sym (finite.get-remove spot_cmp_total boxes spot at ∙ ap (λ b. cond b None (finite.get boxes at)) tied)
+    ∙ e in
     absurd (cc)
 
 -- a box that moves leaves no mark, and has one where it is now
-pub moved_marked : (old mid new : List Mark) (boxes : BoxMap) (spot : SpotOf) (box before : GeoBox) → Adds (mark_of spot box) old mid → AreMarked old boxes
-    → (part_of before ≢ part_of box → Drops (mark_of spot before) mid new) → (part_of before ≡ part_of box → new ≡ mid) → AreMarked new (finite.insert boxes spot box)
+pub moved_marked : (old mid new : List Mark) (boxes : BoxMap) (spot : SpotOf) (box before : GeoBox) → Adds (mark_of spot box) old mid
+    → AreMarked old boxes
+    → (part_of before ≢ part_of box → Drops (mark_of spot before) mid new) → (part_of before ≡ part_of box → new ≡ mid)
+    → AreMarked new (finite.insert boxes spot box)
 moved_marked old mid new boxes spot box before adds marked moved same = go (part_of before == part_of box) refl
   where
     put : AreMarked mid (finite.insert boxes spot box)

@@ -1,5 +1,6 @@
 -- A search finds all that is wanted.
-use Rattle.std.proofs.Common.{◌≡◌, ℕ, ◌/◌, ◌≤◌, ◌==◌, ℤ, Bool, true, false, cond, ◌&&◌, ◌||◌, List, Option, Some, None, refl, sym, ◌∙◌, ap, subst, inl, inr, arith}
+use Rattle.std.proofs.Common.{◌≡◌, ℕ, ◌/◌, ◌≤◌, ◌==◌, ℤ, Bool, true, false, cond, ◌&&◌, ◌||◌, List, Option, Some, None, refl, sym, ◌∙◌, ap}
+use Rattle.std.proofs.Common.{subst, inl, inr, arith}
 use Rattle.std.specs.Prelude.{nat_le, int_le}
 use Rattle.std.specs.Option.{option_map_or}
 use Rattle.std.specs.FinMap as finite
@@ -31,7 +32,8 @@ pole_mono one other h = grind (arith, ints)
 
 cell_mono : (one other : ℕ) → one ≤ other → nat_le (one / 4194304) (other / 4194304) ≡ true
 cell_mono one other h =
-    let below : one / 4194304 ≤ other / 4194304 = le-div (one / 4194304) other 4194304 (omega arith) (omega (arith, h, div-mul-le_self one 4194304)) in
+    let below : one / 4194304 ≤ other / 4194304 =
+    le-div (one / 4194304) other 4194304 (omega arith) (omega (arith, h, div-mul-le_self one 4194304)) in
     grind (arith, nat_tests)
 
 column_mono : (one other : ℤ) → int_le one other ≡ true → nat_le (column one) (column other) ≡ true
@@ -57,7 +59,8 @@ met_shares asked box h =
     let a = both_true _ _ h in
     let b = both_true _ _ a.0 in
     let c = both_true _ _ a.1 in
-    and_true _ _ (and_true _ _ (column_mono box.west asked.east b.0) (column_mono asked.west box.east b.1)) (and_true _ _ (row_mono box.south asked.north c.0) (row_mono asked.south box.north c.1))
+    and_true _ _ (and_true _ _ (column_mono box.west asked.east b.0) (column_mono asked.west box.east b.1))
+    (and_true _ _ (row_mono box.south asked.north c.0) (row_mono asked.south box.north c.1))
 
 near_of : (exact : Bool) (asked box : GeoBox) → passes exact asked box ≡ true → is_candidate asked box ≡ true
 near_of true asked box h = or_true (is_wide box) (share (cells_of asked) (cells_of box)) (met_shares asked box h)
@@ -69,8 +72,10 @@ number_mono : (level column one other : ℕ) → one ≤ other → number_of lev
 unfolding number_of
 number_mono level column one other h = omega (arith, h)
 
-covered_box : (exact : Bool) (asked : GeoBox) (marks : List Mark) (W found : BoxMap) (spot : SpotOf) (box : GeoBox) → has marks (mark_of spot box) ≡ true
-    → ((level : ℕ) → level ≤ 11 → CoversLevel marks spot.table W found level (cells_of asked)) → passes exact asked box ≡ true → IsDone W found spot
+covered_box : (exact : Bool) (asked : GeoBox) (marks : List Mark) (W found : BoxMap) (spot : SpotOf) (box : GeoBox)
+    → has marks (mark_of spot box) ≡ true
+    → ((level : ℕ) → level ≤ 11 → CoversLevel marks spot.table W found level (cells_of asked)) → passes exact asked box ≡ true
+    → IsDone W found spot
 covered_box exact asked marks W found spot box marked covers passed =
     let r = reached (cells_of asked) (cells_of box) (near_of exact asked box passed) in
     let level = level_of (cells_of box) in
@@ -78,17 +83,23 @@ covered_box exact asked marks W found spot box marked covers passed =
     (number_mono level (part level (cells_of box).west) (part level (cells_of asked).south) (part level (cells_of box).south) r.south)
     (number_mono level (part level (cells_of box).west) (part level (cells_of box).south) (part level (cells_of asked).north) r.north)
 
-pub whole : (exact : Bool) (asked : GeoBox) (marks : List Mark) (boxes found : BoxMap) (table : ℕ) → AreMarked marks boxes → IsPart (wanted (passes exact asked) boxes table) found
-    → ((level : ℕ) → level ≤ 11 → CoversLevel marks table (wanted (passes exact asked) boxes table) found level (cells_of asked)) → found ≡ wanted (passes exact asked) boxes table
-whole exact asked marks boxes found table marked part covers = finite.same_map spot_cmp_total spot_cmp-IsAntisymmetric found W (λ spot. elim (part spot) [ inl none ↦ at spot none | inr done ↦ done ])
+pub whole : (exact : Bool) (asked : GeoBox) (marks : List Mark) (boxes found : BoxMap) (table : ℕ) → AreMarked marks boxes
+    → IsPart (wanted (passes exact asked) boxes table) found
+    → ((level : ℕ) → level ≤ 11 → CoversLevel marks table (wanted (passes exact asked) boxes table) found level (cells_of asked))
+    → found ≡ wanted (passes exact asked) boxes table
+whole exact asked marks boxes found table marked part covers =
+    finite.same_map spot_cmp_total spot_cmp-IsAntisymmetric found W (λ spot. elim (part spot) [ inl none ↦ at spot none | inr done ↦ done ])
   where
     W : BoxMap
     W = wanted (passes exact asked) boxes table
 
-    boxed : (spot : SpotOf) (box : Option GeoBox) → finite.get boxes spot ≡ box → IsMarked marks spot box → (spot.table == table) ≡ true → option_map_or (passes exact asked) box false ≡ true → IsDone W found spot
+    boxed : (spot : SpotOf) (box : Option GeoBox) → finite.get boxes spot ≡ box → IsMarked marks spot box → (spot.table == table) ≡ true
+        → option_map_or (passes exact asked) box false ≡ true → IsDone W found spot
     boxed spot None e m same passed = absurd (cc)
     boxed spot (Some box) e m same passed =
-        covered_box exact asked marks W found spot box m (λ level small. subst (λ table. CoversLevel marks table W found level (cells_of asked)) (sym (eqb-true _ _ same)) (covers level small)) passed
+        covered_box exact asked marks W found spot box m
+        (λ level small. subst (λ table. CoversLevel marks table W found level (cells_of asked)) (sym (eqb-true _ _ same))
+        (covers level small)) passed
 
     at : (spot : SpotOf) → finite.get found spot ≡ None → IsDone W found spot
     at spot none = go (is_wanted (passes exact asked) boxes table spot) refl

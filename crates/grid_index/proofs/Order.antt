@@ -18,7 +18,8 @@ tree_cmp = cmp-value.it
 abbrev mark : ℕ → ℕ → Kind → ℕ → Mark
 mark table part kind id = record { table = table; part = part; key = record { kind = kind; id = id } }
 
-same_order : (table part own place : ℕ) (kind other : Kind) (id else : ℕ) → tree_cmp (mark table part kind id) (mark own place other else) ≡ mark_cmp (mark table part kind id) (mark own place other else)
+same_order : (table part own place : ℕ) (kind other : Kind) (id else : ℕ)
+    → tree_cmp (mark table part kind id) (mark own place other else) ≡ mark_cmp (mark table part kind id) (mark own place other else)
 same_order table part own place Node Node id else = refl
 same_order table part own place Node Way id else = refl
 same_order table part own place Node Relation id else = refl
@@ -30,10 +31,12 @@ same_order table part own place Relation Way id else = refl
 same_order table part own place Relation Relation id else = refl
 
 pub tree_cmp-mark_cmp : tree_cmp ≡ mark_cmp
-tree_cmp-mark_cmp = λ i one other. same_order one.table one.part other.table other.part one.key.kind other.key.kind one.key.id other.key.id i
+tree_cmp-mark_cmp = λ i one other. same_order one.table one.part other.table other.part one.key.kind other.key.kind one.key.id other.key.id
+    i
 
 pub mark_cmp_total : IsTotalOrder mark_cmp
-mark_cmp_total = then_total (on_total (λ mark. mark.table) nat_cmp_total) (then_total (on_total (λ mark. mark.part) nat_cmp_total) (on_total (λ mark. mark.key) key_cmp_total))
+mark_cmp_total = then_total (on_total (λ mark. mark.table) nat_cmp_total)
+    (then_total (on_total (λ mark. mark.part) nat_cmp_total) (on_total (λ mark. mark.key) key_cmp_total))
 
 pub mark_cmp-IsAntisymmetric : IsAntisymmetric mark_cmp
 mark_cmp-IsAntisymmetric one other e =

@@ -2,7 +2,8 @@
 -- This repository's own: the cell of a place is ((lon + 1800000000) / 4194304, (lat + 900000000) / 4194304), rounded down. What
 -- lies beyond the west or the south of the earth counts as its edge. A box has the cells from its south west corner to its
 -- north east one, and is wide where they are more than 64.
-use Rattle.std.specs.Prelude.{ℕ, zero, suc, ◌+◌, ◌-◌, ◌*◌, ◌/◌, ◌^◌, ◌<◌, ◌==◌, nat_lt, nat_le, ℤ, pos, ◌+ℤ◌, unsigned_abs, Bool, ◌&&◌, ◌||◌, if◌then◌else◌}
+use Rattle.std.specs.Prelude.{ℕ, zero, suc, ◌+◌, ◌-◌, ◌*◌, ◌/◌, ◌^◌, ◌<◌, ◌==◌, nat_lt, nat_le, ℤ, pos, ◌+ℤ◌, unsigned_abs, Bool, ◌&&◌}
+use Rattle.std.specs.Prelude.{◌||◌, if◌then◌else◌}
 use Rattle.std.specs.Int.{int_max}
 use Rattle.osm_base.specs.declared.values.place.GeoBox.{GeoBox}
 use Rattle.grid_index.specs.declared.cells.TheConstants.{CELL_UNITS, MOST_CELLS, LAST_LEVEL}

@@ -15,7 +15,8 @@ number_of level column row = ((level * 1024 + column) * 1024 + row) + 1
 
 -- the part that holds a box
 abbrev pub part_of : GeoBox → ℕ
-part_of box = number_of (level_of (cells_of box)) (part (level_of (cells_of box)) (cells_of box).west) (part (level_of (cells_of box)) (cells_of box).south)
+part_of box = number_of (level_of (cells_of box)) (part (level_of (cells_of box)) (cells_of box).west)
+    (part (level_of (cells_of box)) (cells_of box).south)
 
 -- the mark of the box at a spot
 abbrev pub mark_of : SpotOf → GeoBox → Mark

@@ -46,4 +46,5 @@ CoversParts marks table wanted found first last =
 abbrev pub CoversLevel : List Mark → (table : ℕ) → (wanted found : BoxMap) → (level : ℕ) → Cells → Type 0
 CoversLevel marks table wanted found level cells =
     (column : ℕ) → part level cells.west ≤ column → column ≤ part level cells.east
-    → CoversParts marks table wanted found (number_of level column (part level cells.south)) (number_of level column (part level cells.north))
+    → CoversParts marks table wanted found (number_of level column (part level cells.south))
+    (number_of level column (part level cells.north))

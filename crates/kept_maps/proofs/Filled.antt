@@ -28,7 +28,8 @@ pub fill_sound : (result : Result (Unit {0}) StoreFault) → IfErr result (Refus
 fill_sound (Ok done) stops = tt
 fill_sound (Err fault) stops = sound_none (Unit {0}) fault stops
 
-module _ (definitions : List TableDef) (entries : List Entry) (now after : Image) (maps : Maps) (none : HasNoLists maps) (held : HoldsMaps definitions now.maps maps) where
+module _ (definitions : List TableDef) (entries : List Entry) (now after : Image) (maps : Maps) (none : HasNoLists maps)
+    (held : HoldsMaps definitions now.maps maps) where
   no_index : HasNoIndex now
   no_index = record {
     ways_of_blocks = void_held (now.maps 3) maps.ways_of_blocks held.ways_of_blocks none.ways_of_blocks;
@@ -39,23 +40,34 @@ module _ (definitions : List TableDef) (entries : List Entry) (now after : Image
   -- the index is filled, and all else stays
   fills_kept : Fills entries now after → HoldsMaps definitions after.maps (all_listed_on maps entries)
   fills_kept fills =
-      let beside : (m : ℕ) → m ≢ 3 → m ≢ 4 → m ≢ 5 → now.maps m ≡ after.maps m = λ m blocks nodes ways. sym (fills.maps m blocks nodes ways) in
+      let beside : (m : ℕ) → m ≢ 3 → m ≢ 4 → m ≢ 5 → now.maps m ≡ after.maps m =
+      λ m blocks nodes ways. sym (fills.maps m blocks nodes ways) in
       subst (λ (m : Maps). HoldsMaps definitions after.maps m) (sym (lists_apart entries maps))
       (record {
-        nodes = subst (λ (b : BucketMap). HoldsMap record_bytes IsRecord b maps.nodes) (beside 0 (omega arith) (omega arith) (omega arith)) held.nodes;
-        ways = subst (λ (b : BucketMap). HoldsMap object_bytes (IsStored kinds.Way) b maps.ways) (beside 1 (omega arith) (omega arith) (omega arith)) held.ways;
-        relations = subst (λ (b : BucketMap). HoldsMap object_bytes (IsStored kinds.Relation) b maps.relations) (beside 2 (omega arith) (omega arith) (omega arith)) held.relations;
-        ways_of_blocks = told_held (entries_tell kinds.Way blocks_in entries) (after.maps 3) (filled_listing kinds.Way blocks_in maps.ways_of_blocks entries)
+        nodes = subst (λ (b : BucketMap). HoldsMap record_bytes IsRecord b maps.nodes)
+            (beside 0 (omega arith) (omega arith) (omega arith)) held.nodes;
+        ways = subst (λ (b : BucketMap). HoldsMap object_bytes (IsStored kinds.Way) b maps.ways)
+            (beside 1 (omega arith) (omega arith) (omega arith)) held.ways;
+        relations = subst (λ (b : BucketMap). HoldsMap object_bytes (IsStored kinds.Relation) b maps.relations)
+            (beside 2 (omega arith) (omega arith) (omega arith)) held.relations;
+        ways_of_blocks = told_held (entries_tell kinds.Way blocks_in entries) (after.maps 3)
+            (filled_listing kinds.Way blocks_in maps.ways_of_blocks entries)
             fills.ways_of_blocks (filled_lists kinds.Way blocks_in entries maps.ways_of_blocks none.ways_of_blocks);
-        relations_of_nodes = told_held (entries_tell kinds.Relation (listed kinds.Node) entries) (after.maps 4) (filled_listing kinds.Relation (listed kinds.Node) maps.relations_of_nodes entries)
-            fills.relations_of_nodes (filled_lists kinds.Relation (listed kinds.Node) entries maps.relations_of_nodes none.relations_of_nodes);
-        relations_of_ways = told_held (entries_tell kinds.Relation (listed kinds.Way) entries) (after.maps 5) (filled_listing kinds.Relation (listed kinds.Way) maps.relations_of_ways entries)
+        relations_of_nodes = told_held (entries_tell kinds.Relation (listed kinds.Node) entries) (after.maps 4)
+            (filled_listing kinds.Relation (listed kinds.Node) maps.relations_of_nodes entries)
+            fills.relations_of_nodes (filled_lists kinds.Relation
+            (listed kinds.Node) entries maps.relations_of_nodes none.relations_of_nodes);
+        relations_of_ways = told_held (entries_tell kinds.Relation (listed kinds.Way) entries) (after.maps 5)
+            (filled_listing kinds.Relation (listed kinds.Way) maps.relations_of_ways entries)
             fills.relations_of_ways (filled_lists kinds.Relation (listed kinds.Way) entries maps.relations_of_ways none.relations_of_ways);
-        node_rows = subst (λ (b : BucketMap). HoldsMap rows_bytes (AreRows definitions) b maps.node_rows) (beside 6 (omega arith) (omega arith) (omega arith)) held.node_rows;
-        other_rows = subst (λ (b : BucketMap). HoldsMap rows_bytes (AreRows definitions) b maps.other_rows) (beside 7 (omega arith) (omega arith) (omega arith)) held.other_rows;
+        node_rows = subst (λ (b : BucketMap). HoldsMap rows_bytes (AreRows definitions) b maps.node_rows)
+            (beside 6 (omega arith) (omega arith) (omega arith)) held.node_rows;
+        other_rows = subst (λ (b : BucketMap). HoldsMap rows_bytes (AreRows definitions) b maps.other_rows)
+            (beside 7 (omega arith) (omega arith) (omega arith)) held.other_rows;
       })
 
-pub fills_set : {D : Type 0} {g : Ghosts D} (old new : Buckets D g) (definitions : List TableDef) (entries : List Entry) (under : Beside) (maps : Maps)
+pub fills_set : {D : Type 0} {g : Ghosts D} (old new : Buckets D g) (definitions : List TableDef) (entries : List Entry) (under : Beside)
+    (maps : Maps)
     → ((rest now : Image) → Has rest now old → HasNoIndex now → (after : Image) × Has rest after new × Fills entries now after)
     → HasMaps definitions under maps old → HasNoLists maps → HasMaps definitions under (all_listed_on maps entries) new
 fills_set old new definitions entries under maps fills had none =

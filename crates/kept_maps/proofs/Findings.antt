@@ -1,5 +1,6 @@
 -- What is found in the buckets of a store is what the maps have that these hold.
-use Rattle.std.proofs.Common.{◌≡◌, ℕ, Bool, List, Option, None, Result, Ok, Err, IfOk, OnOk, refl, sym, ap, subst, ◌∙◌, ◌||◌, true, false, arith}
+use Rattle.std.proofs.Common.{◌≡◌, ℕ, Bool, List, Option, None, Result, Ok, Err, IfOk, OnOk, refl, sym, ap, subst, ◌∙◌, ◌||◌, true, false}
+use Rattle.std.proofs.Common.{arith}
 use Rattle.std.specs.FinMap as finite
 use Rattle.std.specs.Result.{IsErrOf}
 use Rattle.osm_base.specs.declared.values.key.Kind.{Kind}
@@ -8,7 +9,8 @@ use Rattle.osm_base.specs.declared.values.object.Object.{Object}
 use Rattle.osm_base.specs.declared.values.row.TableRow.{TableRow}
 use Rattle.outside.specs.declared.disk.Disk.{Ghosts}
 use Rattle.page_journal.specs.declared.fault.StoreFault.{StoreFault}
-use Rattle.page_journal.specs.declared.fault.StoreFault.TheVariants.{NotFormatted, NotEmpty, BadStore, DiskFault, StoreFull, Broken, OutOfMemory}
+use Rattle.page_journal.specs.declared.fault.StoreFault.TheVariants.{NotFormatted, NotEmpty, BadStore, DiskFault, StoreFull, Broken}
+use Rattle.page_journal.specs.declared.fault.StoreFault.TheVariants.{OutOfMemory}
 use Rattle.page_journal.specs.Journal.{is_broken}
 use Rattle.chain_store.specs.Answers.{IsReadAnswer}
 use Rattle.chain_store.specs.Chains.{disk_of, journal_of}
@@ -54,7 +56,8 @@ sound_of T U (StoreFull pages) is = is
 sound_of T U Broken is = is
 sound_of T U OutOfMemory is = is
 
-alone_of : (T U : Type 0) (broken : Bool) (fault : StoreFault) → IsReadAnswer {T = T} broken (Err fault) → IsReadAnswer {T = U} broken (Err fault)
+alone_of : (T U : Type 0) (broken : Bool) (fault : StoreFault) → IsReadAnswer {T = T} broken (Err fault)
+    → IsReadAnswer {T = U} broken (Err fault)
 alone_of T U broken NotFormatted is = is
 alone_of T U broken NotEmpty is = is
 alone_of T U broken (BadStore page) is = is
@@ -85,14 +88,17 @@ module _ (now : Image) (which id : ℕ) (listing : ListingOf) (held : HoldsMap i
   pub list_found : (ids : List ℕ) → ReadsIds (finite.get (now.maps which) id) ids → ids ≡ listers listing id
   list_found ids reads = reads_one (finite.get (now.maps which) id) ids (finite.get listing id) reads (held id)
 
-  pub list_allowed : (page : ℕ) (fault : StoreFault) → Refuses (λ at. IsUnread (finite.get (now.maps which) id) × (at ≡ page)) fault → IsAllowed fault
+  pub list_allowed : (page : ℕ) (fault : StoreFault) → Refuses (λ at. IsUnread (finite.get (now.maps which) id) × (at ≡ page)) fault
+      → IsAllowed fault
   list_allowed page fault refuses =
       let none : (at : ℕ) → IsUnread (finite.get (now.maps which) id) × (at ≡ page) → ⊥ = λ at bad.
-      unread_not (finite.get (now.maps which) id) (listers listing id) bad.0 (decoded_reads (finite.get (now.maps which) id) (finite.get listing id) (held id)) in
+      unread_not (finite.get (now.maps which) id) (listers listing id) bad.0
+      (decoded_reads (finite.get (now.maps which) id) (finite.get listing id) (held id)) in
       allowed_of fault (refuses_more (λ at. IsUnread (finite.get (now.maps which) id) × (at ≡ page)) (λ at. ⊥) none fault refuses)
 
 -- nothing was asked
-pub touched_none : {D T : Type 0} {g : Ghosts D} (buckets : Buckets D g) (value : T) → has_refused buckets ≡ false → Touched buckets buckets (Ok value)
+pub touched_none : {D T : Type 0} {g : Ghosts D} (buckets : Buckets D g) (value : T) → has_refused buckets ≡ false
+    → Touched buckets buckets (Ok value)
 touched_none buckets value going = record {
   stays = read_same buckets buckets refl;
   alone = tt;
@@ -115,7 +121,8 @@ module _ {D : Type 0} {g : Ghosts D} (old new : Buckets D g) where
   }
 
   -- a call on the index
-  pub touched_index : {T : Type 0} (result : Result T StoreFault) → Answers old new result → OnOk result (ReadsBuckets old new) → Touched old new result
+  pub touched_index : {T : Type 0} (result : Result T StoreFault) → Answers old new result → OnOk result (ReadsBuckets old new)
+      → Touched old new result
   touched_index result does reads = record {
     stays = does.stays;
     alone = does.alone;
@@ -126,7 +133,14 @@ module _ {D : Type 0} {g : Ghosts D} (old new : Buckets D g) where
   }
 
   pub answers_of : {T : Type 0} (result : Result T StoreFault) → Touched old new result → Answers old new result
-  answers_of result does = record { stays = does.stays; alone = does.alone; broken = does.broken; refused = does.refused; cause = does.cause }
+  answers_of result does = record {
+    stays = does.stays;
+    alone = does.alone;
+    broken = does.broken;
+    refused = does.refused;
+    cause =
+        does.cause;
+  }
 
   -- an answer of a call, told as one of another
   pub told_ok : {T U : Type 0} (value : T) (other : U) → Touched old new (Ok value) → Touched old new (Ok other)
@@ -176,7 +190,8 @@ module _ {D : Type 0} {g : Ghosts D} (old new : Buckets D g) where
   }
 
   -- the way or the relation of a key
-  pub form_finds : (definitions : List TableDef) (kind : Kind) (id : ℕ) (result : Result (Option Object) StoreFault) → (kind ≡ kinds.Node → ⊥)
+  pub form_finds : (definitions : List TableDef) (kind : Kind) (id : ℕ) (result : Result (Option Object) StoreFault)
+      → (kind ≡ kinds.Node → ⊥)
       → GetsValue object_bytes (IsStored kind) (map_of kind) id old new result → Finds definitions (λ maps. form_in maps kind id) old result
   form_finds definitions kinds.Node id result apart gets = absurd (apart refl)
   form_finds definitions kinds.Way id (Ok found) apart gets = record {
@@ -202,7 +217,8 @@ module _ {D : Type 0} {g : Ghosts D} (old new : Buckets D g) where
   record_found id found gets definitions under maps had = gets.value under.rest had.now maps.nodes had.has had.kept.nodes
 
   pub record_sound : (T : Type 0) (id : ℕ) (fault : StoreFault) → GetsValue record_bytes IsRecord 0 id old new (Err fault)
-      → (definitions : List TableDef) (under : Beside) (maps : Maps) → HasMaps definitions under maps old → IsSoundAnswer {T = T} (Err fault)
+      → (definitions : List TableDef) (under : Beside) (maps : Maps) → HasMaps definitions under maps old
+      → IsSoundAnswer {T = T} (Err fault)
   record_sound T id fault gets definitions under maps had =
       sound_of (Option NodeRecord) T fault (gets.sound under.rest had.now maps.nodes had.has had.kept.nodes)
 
@@ -214,7 +230,8 @@ module _ {D : Type 0} {g : Ghosts D} (old new : Buckets D g) where
     rows_found kind id (Err fault) gets = tt
     rows_found kinds.Node id (Ok found) gets = λ under maps had. gets.value under.rest had.now maps.node_rows had.has had.kept.node_rows
     rows_found kinds.Way id (Ok found) gets = λ under maps had. gets.value under.rest had.now maps.other_rows had.has had.kept.other_rows
-    rows_found kinds.Relation id (Ok found) gets = λ under maps had. gets.value under.rest had.now maps.other_rows had.has had.kept.other_rows
+    rows_found kinds.Relation id (Ok found) gets =
+        λ under maps had. gets.value under.rest had.now maps.other_rows had.has had.kept.other_rows
 
     rows_sound : (kind : Kind) (id : ℕ) (result : Result (Option (List TableRow)) StoreFault)
         → GetsValue rows_bytes (AreRows definitions) (rows_map_of kind) (number_of kind id) old new result

@@ -5,7 +5,8 @@ use Rattle.std.specs.Prelude.{is_some}
 use Rattle.osm_base.specs.map.Known.{Question}
 use Rattle.outside.specs.declared.disk.Disk.{Ghosts}
 use Rattle.page_journal.specs.declared.fault.StoreFault.{StoreFault}
-use Rattle.page_journal.specs.declared.fault.StoreFault.TheVariants.{NotFormatted, NotEmpty, BadStore, DiskFault, StoreFull, Broken, OutOfMemory}
+use Rattle.page_journal.specs.declared.fault.StoreFault.TheVariants.{NotFormatted, NotEmpty, BadStore, DiskFault, StoreFull, Broken}
+use Rattle.page_journal.specs.declared.fault.StoreFault.TheVariants.{OutOfMemory}
 use Rattle.style_read.specs.Style.{StyleOf}
 use Rattle.bucket_store.specs.Image.{Has, Image, IsSoundAnswer}
 use Rattle.bucket_store.specs.declared.buckets.Buckets.{Buckets}
@@ -40,11 +41,14 @@ over_live kept fresh = record { some = over_some kept fresh; going = over_going 
 -- what a call leaves of the maps, by what that on the buckets leaves of these: of maps that were not answered the last refusal is kept
 module _ {D : Type 0} {g : Ghosts D} (old new : KeptMaps D g) (fresh : is_over old ≡ false) (same : style_in new ≡ style_in old) where
   later_touched : {T : Type 0} (result : Result T StoreFault) → Touched (buckets_of old) (buckets_of new) result
-      → (has_refused (buckets_of new) ≡ false → ReadsBuckets (buckets_of old) (buckets_of new)) → (first : KeptMaps D g) → IsLater first old → IsLater first new
+      → (has_refused (buckets_of new) ≡ false → ReadsBuckets (buckets_of old) (buckets_of new)) → (first : KeptMaps D g) → IsLater first old
+      → IsLater first new
   later_touched result does reads first later = record {
-    looks = looks_then (buckets_of first) (buckets_of old) (buckets_of new) later.looks (looks_read (buckets_of old) (buckets_of new) does.stays does.cause.later);
+    looks = looks_then (buckets_of first) (buckets_of old) (buckets_of new) later.looks
+        (looks_read (buckets_of old) (buckets_of new) does.stays does.cause.later);
     reads = λ going.
-        reads_more (buckets_of first) (buckets_of old) (buckets_of new) (later.reads (spent_going (buckets_of old) (over_spent old fresh))) (reads going);
+        reads_more (buckets_of first) (buckets_of old) (buckets_of new) (later.reads (spent_going (buckets_of old) (over_spent old fresh)))
+        (reads going);
     same_style = same ∙ later.same_style;
   }
 
@@ -53,7 +57,8 @@ module _ {D : Type 0} {g : Ghosts D} (old new : KeptMaps D g) (fresh : is_over o
     fresh_still : is_over new ≡ false
     fresh_still =
         over_none (stop_of new) (is_spent (buckets_of new)) (stop ∙ over_stop old fresh)
-        (fresh_after (buckets_of old) (buckets_of new) (over_spent old fresh) value (answers_of (buckets_of old) (buckets_of new) (Ok value) does))
+        (fresh_after (buckets_of old) (buckets_of new) (over_spent old fresh) value
+        (answers_of (buckets_of old) (buckets_of new) (Ok value) does))
 
     pub sets_done : Sets IsLater is_over WasRefused faults_of old new (Ok value)
     sets_done = record { looked = later_touched (Ok value) does (λ going. does.reads); spent = fresh_still; refused = tt }
@@ -70,7 +75,8 @@ module _ {D : Type 0} {g : Ghosts D} (old new : KeptMaps D g) (fresh : is_over o
       allowed = λ under maps had. tt;
     }
 
-  module _ (T : Type 0) (fault : StoreFault) (stop : stop_of new ≡ Some fault) (does : Touched {T = T} (buckets_of old) (buckets_of new) (Err fault)) where
+  module _ (T : Type 0) (fault : StoreFault) (stop : stop_of new ≡ Some fault)
+      (does : Touched {T = T} (buckets_of old) (buckets_of new) (Err fault)) where
     later_stopped : (first : KeptMaps D g) → IsLater first old → IsLater first new
     later_stopped = later_touched {T = T} (Err fault) does (λ going. absurd (true≢false (sym does.refused ∙ going)))
 
@@ -79,7 +85,8 @@ module _ {D : Type 0} {g : Ghosts D} (old new : KeptMaps D g) (fresh : is_over o
     bears_still first later =
         subst (λ (o : Option StoreFault). Bears (buckets_of new) o (faults_of first) fault) (sym stop)
         (bears_fewer (buckets_of new) (Some fault) (faults_of first) (faults_of old) fault later.looks.later
-        (borne (buckets_of old) (buckets_of new) (over_spent old fresh) fault (answers_of (buckets_of old) (buckets_of new) {T = T} (Err fault) does)))
+        (borne (buckets_of old) (buckets_of new) (over_spent old fresh) fault
+        (answers_of (buckets_of old) (buckets_of new) {T = T} (Err fault) does)))
 
     pub sets_stopped : Sets {A = T} IsLater is_over WasRefused faults_of old new (Err fault)
     sets_stopped = record { looked = later_stopped; spent = tt; refused = bears_still }
@@ -90,6 +97,7 @@ module _ {D : Type 0} {g : Ghosts D} (old new : KeptMaps D g) (fresh : is_over o
 
 module _ {D : Type 0} {g : Ghosts D} (old : KeptMaps D g) (new : Buckets D g) where
   -- a question to the index that was answered leaves why the last one was refused
-  pub fresh_asked : (questions : List Question) (stopped : Option StoreFault) → is_over old ≡ false → Asked questions (buckets_of old) (stop_of old) new stopped → is_spent new ≡ false
+  pub fresh_asked : (questions : List Question) (stopped : Option StoreFault) → is_over old ≡ false
+      → Asked questions (buckets_of old) (stop_of old) new stopped → is_spent new ≡ false
       → (is_some stopped || is_spent new) ≡ false
   fresh_asked questions stopped fresh asked still = λ i. is_some ((asked.going (spent_going new still) ∙ over_stop old fresh) i) || still i

@@ -1,5 +1,7 @@
 -- Records of nodes are written anew, one after another.
-use Rattle.std.proofs.Common.{◌≡◌, ◌≢◌, ◌⊎◌, inl, inr, ◌<◌, ◌≤◌, ◌+◌, ◌%◌, ◌||◌, ◌&&◌, ℕ, zero, suc, Bool, true, false, cond, List, [], ◌∷◌, ◌++◌, length, take, get_or, Option, Some, None, Result, Ok, Err, IfErr, refl, sym, ap, subst, ◌∙◌, arith, mod-lt}
+use Rattle.std.proofs.Common.{◌≡◌, ◌≢◌, ◌⊎◌, inl, inr, ◌<◌, ◌≤◌, ◌+◌, ◌%◌, ◌||◌, ◌&&◌, ℕ, zero, suc, Bool, true, false, cond, List, [], ◌∷◌}
+use Rattle.std.proofs.Common.{◌++◌, length, take, get_or, Option, Some, None, Result, Ok, Err, IfErr, refl, sym, ap, subst, ◌∙◌, arith}
+use Rattle.std.proofs.Common.{mod-lt}
 use Rattle.std.specs.List.{AllByRecursion}
 use Rattle.std.specs.Option.{IsSome}
 use Rattle.std.specs.Prelude.{T}
@@ -81,11 +83,13 @@ right false b p = absurd p
 later : (a b : ℕ) → T (is_lt (nat_cmp a b)) → b ≢ a
 later a b less same = absurd (subst (λ (r : Ordering). T (is_lt r)) (equal_of a b (sym same)) less)
 
-shifted : (x : ℕ × List ℕ) (all es : List (ℕ × List ℕ)) → T (below_all nat_cmp x.0 es) → AllByRecursion (λ e. find nat_cmp e.0 all ≡ Some e.1) es
+shifted : (x : ℕ × List ℕ) (all es : List (ℕ × List ℕ)) → T (below_all nat_cmp x.0 es)
+    → AllByRecursion (λ e. find nat_cmp e.0 all ≡ Some e.1) es
     → AllByRecursion (λ e. find nat_cmp e.0 (x ∷ all) ≡ Some e.1) es
 shifted x all [] low each = tt
 shifted x all (e ∷ es) low each = (
-  ap (λ (b : Bool). cond b (Some x.1) (find nat_cmp e.0 all)) (apart_of e.0 x.0 (later x.0 e.0 (left (is_lt (nat_cmp x.0 e.0)) (below_all nat_cmp x.0 es) low))) ∙ each.0,
+  ap (λ (b : Bool). cond b (Some x.1) (find nat_cmp e.0 all))
+      (apart_of e.0 x.0 (later x.0 e.0 (left (is_lt (nat_cmp x.0 e.0)) (below_all nat_cmp x.0 es) low))) ∙ each.0,
   shifted x all es (right (is_lt (nat_cmp x.0 e.0)) (below_all nat_cmp x.0 es) low) each.1,
 )
 
@@ -93,10 +97,12 @@ entries_found : (es : List (ℕ × List ℕ)) → T (is_sorted nat_cmp es) → A
 entries_found [] sorted = tt
 entries_found (x ∷ es) sorted = (
   ap (λ (r : Ordering). cond (is_eq r) (Some x.1) (find nat_cmp x.0 es)) (equal_of x.0 x.0 refl),
-  shifted x es es (left (below_all nat_cmp x.0 es) (is_sorted nat_cmp es) sorted) (entries_found es (right (below_all nat_cmp x.0 es) (is_sorted nat_cmp es) sorted)),
+  shifted x es es (left (below_all nat_cmp x.0 es) (is_sorted nat_cmp es) sorted)
+      (entries_found es (right (below_all nat_cmp x.0 es) (is_sorted nat_cmp es) sorted)),
 )
 
-each_so : (One Two : ℕ × List ℕ → Type 0) (es : List (ℕ × List ℕ)) → ((e : ℕ × List ℕ) → One e → Two e) → AllByRecursion One es → AllByRecursion Two es
+each_so : (One Two : ℕ × List ℕ → Type 0) (es : List (ℕ × List ℕ)) → ((e : ℕ × List ℕ) → One e → Two e) → AllByRecursion One es
+    → AllByRecursion Two es
 each_so One Two [] leads each = tt
 each_so One Two (e ∷ es) leads each = (leads e each.0, each_so One Two es leads each.1)
 
@@ -108,7 +114,8 @@ entries_in values =
     each_so (λ e. find nat_cmp e.0 (finite.entries values) ≡ Some e.1) (λ e. finite.get values e.0 ≡ Some e.1) (finite.entries values)
     (λ e found. finite.get-entries values e.0 ∙ found) (entries_found (finite.entries values) (finite.entries_sorted values))
 
-among_in : (values : BucketMap) (records : List (ℕ × List ℕ)) (id : ℕ) → AreIn values records → Among records id → (bytes : List ℕ) × (finite.get values id ≡ Some bytes)
+among_in : (values : BucketMap) (records : List (ℕ × List ℕ)) (id : ℕ) → AreIn values records → Among records id
+    → (bytes : List ℕ) × (finite.get values id ≡ Some bytes)
 among_in values [] id each among = absurd among
 among_in values (one ∷ records) id each (inl same) = (one.1, subst (λ (k : ℕ). finite.get values k ≡ Some one.1) same each.0)
 among_in values (one ∷ records) id each (inr more) = among_in values records id each.1 more
@@ -127,7 +134,8 @@ module _ (now : Image) (bucket : ℕ) (records : List (ℕ × List ℕ)) (are : 
   pub records_there : AreThere now records
   records_there =
       each_so (λ one. finite.get are.own one.0 ≡ Some one.1) (λ one. finite.get (now.maps NODES) one.0 ≡ Some one.1) records
-      (λ one same. sym (part_gives now.root.buckets bucket (now.maps NODES) are.own one.0 are.part (of_bucket one.0 one.1 same)) ∙ same) own_are
+      (λ one same. sym (part_gives now.root.buckets bucket (now.maps NODES) are.own one.0 are.part (of_bucket one.0 one.1 same)) ∙ same)
+      own_are
 
   among_mine : (id : ℕ) → Among records id → id % now.root.buckets ≡ bucket
   among_mine id among = let found = among_in are.own records id own_are among in of_bucket id found.0 found.1
@@ -137,10 +145,12 @@ module _ (now : Image) (bucket : ℕ) (records : List (ℕ × List ℕ)) (are : 
     only = renews.only;
     here = λ id mine. elim (some_or_none (finite.get (now.maps NODES) id)) [
       | inl some ↦
-          renews.here id (all_among [] None NODES (λ spot. None) now bucket records are id (some_is (finite.get (now.maps NODES) id) some.0 some.1) mine)
+          renews.here id (all_among [] None NODES (λ spot. None) now bucket records are id
+          (some_is (finite.get (now.maps NODES) id) some.0 some.1) mine)
       | inr none ↦
           subst (λ (o : Option (List ℕ)). IsRenewed o (finite.get (after.maps NODES) id)) (sym none)
-          (renews.beside id (λ among. let found = among_in (now.maps NODES) records id records_there among in nothing found.0 (sym none ∙ found.1)) ∙ none)
+          (renews.beside id (λ among. let found = among_in (now.maps NODES) records id records_there among in
+          nothing found.0 (sym none ∙ found.1)) ∙ none)
     ];
     beside = λ id out. renews.beside id (λ among. out (among_mine id among));
   }
@@ -155,7 +165,8 @@ last_among : (front : List (ℕ × List ℕ)) (own : ℕ × List ℕ) → Among 
 last_among [] own = inl refl
 last_among (one ∷ front) own = inr (last_among front own)
 
-pub among_at : (records : List (ℕ × List ℕ)) (at : ℕ) (one : ℕ × List ℕ) → at < length records → one ≡ get_or records at one → Among records one.0
+pub among_at : (records : List (ℕ × List ℕ)) (at : ℕ) (one : ℕ × List ℕ) → at < length records → one ≡ get_or records at one
+    → Among records one.0
 among_at [] at one within is = absurd (omega (arith, within))
 among_at (first ∷ records) zero one within is = inl (ap (λ (e : ℕ × List ℕ). e.0) (sym is))
 among_at (first ∷ records) (suc at) one within is = inr (among_at records at one (omega (arith, within)) is)
@@ -163,8 +174,10 @@ among_at (first ∷ records) (suc at) one within is = inr (among_at records at o
 pub renews_none : (now : Image) → Renews (Among []) now now
 renews_none now = record { only = only_none NODES now; here = λ id none. absurd none; beside = λ id out. refl }
 
-renews_value : (One All : ℕ → Type 0) (now mid : Image) (own : ℕ) (bytes : List ℕ) (place : Option PlaceOf) → ((id : ℕ) → All id → One id ⊎ (own ≡ id))
-    → ((id : ℕ) → One id → All id) → All own → Renews One now mid → finite.get (now.maps NODES) own ≡ Some bytes → IsOldPlace place → bytes ≡ old_bytes place
+renews_value : (One All : ℕ → Type 0) (now mid : Image) (own : ℕ) (bytes : List ℕ) (place : Option PlaceOf)
+    → ((id : ℕ) → All id → One id ⊎ (own ≡ id))
+    → ((id : ℕ) → One id → All id) → All own → Renews One now mid → finite.get (now.maps NODES) own ≡ Some bytes → IsOldPlace place
+    → bytes ≡ old_bytes place
     → Renews All now (with_value NODES own (Some (record_bytes (unknown place))) mid)
 renews_value One All now mid own bytes place split leads mine before there is same =
     let after = with_value NODES own (Some (record_bytes (unknown place))) mid in
@@ -176,16 +189,20 @@ renews_value One All now mid own bytes place split leads mine before there is sa
             subst (λ (k : ℕ). IsRenewed (finite.get (now.maps NODES) k) (finite.get (after.maps NODES) k)) (sym this)
             (subst (λ (o : Option (List ℕ)). IsRenewed o (finite.get (after.maps NODES) own)) (sym there) (place, is, same, sets.here))
         | inr apart ↦ elim (split id all) [
-          | inl one ↦ subst (λ (o : Option (List ℕ)). IsRenewed (finite.get (now.maps NODES) id) o) (sym (sets.beside id apart)) (before.here id one)
+          | inl one ↦ subst (λ (o : Option (List ℕ)). IsRenewed (finite.get (now.maps NODES) id) o) (sym (sets.beside id apart))
+              (before.here id one)
           | inr this ↦ absurd (apart (sym this))
         ]
       ];
       beside = λ id out. sets.beside id (λ this. out (subst All (sym this) mine)) ∙ before.beside id (λ one. out (leads id one));
     }
 
-pub renews_more : (records : List (ℕ × List ℕ)) (at : ℕ) (one : ℕ × List ℕ) (now mid : Image) (bytes : List ℕ) (place : Option PlaceOf) → at < length records
-    → one ≡ get_or records at one → Renews (Among (take at records)) now mid → finite.get (now.maps NODES) one.0 ≡ Some bytes → IsOldPlace place
-    → bytes ≡ old_bytes place → Renews (Among (take (at + 1) records)) now (with_value NODES one.0 (Some (record_bytes (unknown place))) mid)
+pub renews_more : (records : List (ℕ × List ℕ)) (at : ℕ) (one : ℕ × List ℕ) (now mid : Image) (bytes : List ℕ) (place : Option PlaceOf)
+    → at < length records
+    → one ≡ get_or records at one → Renews (Among (take at records)) now mid → finite.get (now.maps NODES) one.0 ≡ Some bytes
+    → IsOldPlace place
+    → bytes ≡ old_bytes place → Renews (Among (take (at + 1) records)) now
+    (with_value NODES one.0 (Some (record_bytes (unknown place))) mid)
 renews_more records at one now mid bytes place within is before there spelled same =
     let more = take_more records at one within in
     let last : Among (take (at + 1) records) one.0 =
@@ -207,19 +224,23 @@ renews_next now mid after bucket low before second =
       only = only_then NODES now mid after before.only next.only;
       here = λ id below. elim (bucket_split id bucket now.root.buckets low below) [
         | inl less ↦
-            subst (λ (o : Option (List ℕ)). IsRenewed (finite.get (now.maps NODES) id) o) (sym (next.beside id (λ mine. omega (arith, mine, own, less))))
+            subst (λ (o : Option (List ℕ)). IsRenewed (finite.get (now.maps NODES) id) o)
+            (sym (next.beside id (λ mine. omega (arith, mine, own, less))))
             (before.here id less)
         | inr mine ↦
-            subst (λ (o : Option (List ℕ)). IsRenewed o (finite.get (after.maps NODES) id)) (before.beside id (λ less. omega (arith, mine, own, less))) (next.here id mine)
+            subst (λ (o : Option (List ℕ)). IsRenewed o (finite.get (after.maps NODES) id))
+            (before.beside id (λ less. omega (arith, mine, own, less))) (next.here id mine)
       ];
       beside = λ id out. next.beside id (λ mine. out (omega (arith, mine, own))) ∙ before.beside id (λ less. out (omega (arith, less)));
     }
 
-pub renews_all : (now after : Image) (bucket : ℕ) → 1 ≤ now.root.buckets → now.root.buckets ≤ bucket → Renews (λ id. id % now.root.buckets < bucket) now after
+pub renews_all : (now after : Image) (bucket : ℕ) → 1 ≤ now.root.buckets → now.root.buckets ≤ bucket
+    → Renews (λ id. id % now.root.buckets < bucket) now after
     → Renews Any now after
 renews_all now after bucket some past renews = record {
   only = renews.only;
-  here = λ id any. renews.here id (let low : id % now.root.buckets < now.root.buckets = mod-lt id (omega (arith, some)) in omega (arith, low, past));
+  here = λ id any. renews.here id (let low : id % now.root.buckets < now.root.buckets = mod-lt id (omega (arith, some)) in
+      omega (arith, low, past));
   beside = λ id out. absurd (out tt);
 }
 
@@ -253,38 +274,50 @@ renewed_one (Some bytes) new (Some node) is held =
     still_none : None ≡ node.tags → IsOption AreTags node.tags
     still_none none = subst (IsOption AreTags) none no_tags
 
-pub renewed_maps : (definitions : List TableDef) (now after : Image) (maps : Maps) → Renews Any now after → HoldsOldMaps definitions now.maps maps
+pub renewed_maps : (definitions : List TableDef) (now after : Image) (maps : Maps) → Renews Any now after
+    → HoldsOldMaps definitions now.maps maps
     → HoldsMaps definitions after.maps maps
 renewed_maps definitions now after maps renews held =
     let beside : (m : ℕ) → m ≢ 0 → now.maps m ≡ after.maps m = λ m apart. sym (renews.only.maps m apart) in
     record {
-      nodes = λ id. renewed_one (finite.get (now.maps NODES) id) (finite.get (after.maps NODES) id) (finite.get maps.nodes id) (renews.here id tt) (held.nodes id);
+      nodes = λ id. renewed_one (finite.get (now.maps NODES) id) (finite.get (after.maps NODES) id) (finite.get maps.nodes id)
+          (renews.here id tt) (held.nodes id);
       ways = subst (λ (b : BucketMap). HoldsMap object_bytes (IsStored kinds.Way) b maps.ways) (beside 1 (omega arith)) held.ways;
-      relations = subst (λ (b : BucketMap). HoldsMap object_bytes (IsStored kinds.Relation) b maps.relations) (beside 2 (omega arith)) held.relations;
-      ways_of_blocks = subst (λ (b : BucketMap). HoldsMap ids_bytes AreListed b maps.ways_of_blocks) (beside 3 (omega arith)) held.ways_of_blocks;
-      relations_of_nodes = subst (λ (b : BucketMap). HoldsMap ids_bytes AreListed b maps.relations_of_nodes) (beside 4 (omega arith)) held.relations_of_nodes;
-      relations_of_ways = subst (λ (b : BucketMap). HoldsMap ids_bytes AreListed b maps.relations_of_ways) (beside 5 (omega arith)) held.relations_of_ways;
-      node_rows = subst (λ (b : BucketMap). HoldsMap rows_bytes (AreRows definitions) b maps.node_rows) (beside 6 (omega arith)) held.node_rows;
-      other_rows = subst (λ (b : BucketMap). HoldsMap rows_bytes (AreRows definitions) b maps.other_rows) (beside 7 (omega arith)) held.other_rows;
+      relations = subst (λ (b : BucketMap). HoldsMap object_bytes (IsStored kinds.Relation) b maps.relations)
+          (beside 2 (omega arith)) held.relations;
+      ways_of_blocks = subst (λ (b : BucketMap). HoldsMap ids_bytes AreListed b maps.ways_of_blocks)
+          (beside 3 (omega arith)) held.ways_of_blocks;
+      relations_of_nodes = subst (λ (b : BucketMap). HoldsMap ids_bytes AreListed b maps.relations_of_nodes)
+          (beside 4 (omega arith)) held.relations_of_nodes;
+      relations_of_ways = subst (λ (b : BucketMap). HoldsMap ids_bytes AreListed b maps.relations_of_ways)
+          (beside 5 (omega arith)) held.relations_of_ways;
+      node_rows = subst (λ (b : BucketMap). HoldsMap rows_bytes (AreRows definitions) b maps.node_rows)
+          (beside 6 (omega arith)) held.node_rows;
+      other_rows = subst (λ (b : BucketMap). HoldsMap rows_bytes (AreRows definitions) b maps.other_rows)
+          (beside 7 (omega arith)) held.other_rows;
     }
 
 -- of old maps each record reads
-never_unread : (bytes : List ℕ) (node : Option NodeRecord) → IsNoValue old_bytes IsOldPlace bytes → Decodes old_record_bytes IsOldRecord (Some bytes) node → ⊥
+never_unread : (bytes : List ℕ) (node : Option NodeRecord) → IsNoValue old_bytes IsOldPlace bytes
+    → Decodes old_record_bytes IsOldRecord (Some bytes) node → ⊥
 never_unread bytes None none held = held
 never_unread bytes (Some node) none held = none node.place held.0.place held.1
 
 module _ {D : Type 0} {g : Ghosts D} where
-  pub old_sound : (definitions : List TableDef) (under : Beside) (maps : Maps) (old : Buckets D g) (had : HasOldMaps definitions under maps old) (fault : StoreFault)
+  pub old_sound : (definitions : List TableDef) (under : Beside) (maps : Maps) (old : Buckets D g)
+      (had : HasOldMaps definitions under maps old) (fault : StoreFault)
       → Refuses (HasOldUnread Any old had.now) fault → IsSoundAnswer {T = Unit {0}} (Err fault)
   old_sound definitions under maps old had fault refuses =
       sound_none (Unit {0}) fault
       (refuses_more (HasOldUnread Any old had.now) (λ at. ⊥)
       (λ at bad. never_unread bad.bytes (finite.get maps.nodes bad.id) bad.none
-      (subst (λ (o : Option (List ℕ)). Decodes old_record_bytes IsOldRecord o (finite.get maps.nodes bad.id)) bad.there (had.kept.nodes bad.id)))
+      (subst (λ (o : Option (List ℕ)). Decodes old_record_bytes IsOldRecord o (finite.get maps.nodes bad.id)) bad.there
+      (had.kept.nodes bad.id)))
       fault refuses)
 
   -- what does not read in the bucket that is next did not read before
-  pub unread_next : (old mid : Buckets D g) (now image : Image) (bucket : ℕ) (fault : StoreFault) → bucket < now.root.buckets → OnlyRead (chains_of old) (chains_of mid)
+  pub unread_next : (old mid : Buckets D g) (now image : Image) (bucket : ℕ) (fault : StoreFault) → bucket < now.root.buckets
+      → OnlyRead (chains_of old) (chains_of mid)
       → Renews (λ id. id % now.root.buckets < bucket) now image → Refuses (HasOldUnread (IsIn image.root.buckets bucket) mid image) fault
       → Refuses (HasOldUnread Any old now) fault
   unread_next old mid now image bucket fault low stays renews refuses =
@@ -302,8 +335,10 @@ module _ {D : Type 0} {g : Ghosts D} where
         page_is = bad.page_is ∙ page_same old mid NODES bad.id stays;
       }) fault refuses
 
-  pub unread_bucket : (old mid : Buckets D g) (now : Image) (bucket : ℕ) (records : List (ℕ × List ℕ)) → IsBucketOf now NODES (bucket % now.root.buckets) records
-      → (result : Result (Unit {0}) StoreFault) → OnlyRead (chains_of old) (chains_of mid) → IfErr result (Refuses (HasOldUnread (Among records) mid now))
+  pub unread_bucket : (old mid : Buckets D g) (now : Image) (bucket : ℕ) (records : List (ℕ × List ℕ))
+      → IsBucketOf now NODES (bucket % now.root.buckets) records
+      → (result : Result (Unit {0}) StoreFault) → OnlyRead (chains_of old) (chains_of mid)
+      → IfErr result (Refuses (HasOldUnread (Among records) mid now))
       → IfErr result (Refuses (HasOldUnread (IsIn now.root.buckets bucket) old now))
   unread_bucket old mid now bucket records are result stays refuses =
       refuses_result (Unit {0}) (HasOldUnread (Among records) mid now) (HasOldUnread (IsIn now.root.buckets bucket) old now) result
@@ -327,11 +362,13 @@ module _ {D : Type 0} {g : Ghosts D} where
     cause = record { later = omega arith; failed = λ is. absurd (cc) };
   }
 
-  looks_then : {T : Type 0} (old mid new : Buckets D g) (result : Result T StoreFault) → Looks {T = Unit {0}} old mid (Ok tt) → Looks mid new result
+  looks_then : {T : Type 0} (old mid new : Buckets D g) (result : Result T StoreFault) → Looks {T = Unit {0}} old mid (Ok tt)
+      → Looks mid new result
       → Looks old new result
   looks_then old mid new result first second = looks_on old mid new result first.same first.stays (still_whole old mid tt first) second
 
-  touched_looks : {T : Type 0} (which key : ℕ) (old new : Buckets D g) (result : Result T StoreFault) → Touches which key old new result → Looks old new result
+  touched_looks : {T : Type 0} (which key : ℕ) (old new : Buckets D g) (result : Result T StoreFault) → Touches which key old new result
+      → Looks old new result
   touched_looks which key old new result does = record {
     same = does.same;
     stays = does.stays;
@@ -345,7 +382,8 @@ module _ {D : Type 0} {g : Ghosts D} where
   pub once_none : (buckets : Buckets D g) → has_refused buckets ≡ false → LooksOnce {T = Unit {0}} buckets buckets (Ok tt)
   once_none buckets going = record { looks = looks_none buckets going; reads = reads_none buckets }
 
-  pub once_then : {T : Type 0} (old mid new : Buckets D g) (result : Result T StoreFault) → LooksOnce {T = Unit {0}} old mid (Ok tt) → LooksOnce mid new result
+  pub once_then : {T : Type 0} (old mid new : Buckets D g) (result : Result T StoreFault) → LooksOnce {T = Unit {0}} old mid (Ok tt)
+      → LooksOnce mid new result
       → LooksOnce old new result
   once_then old mid new result first second = record {
     looks = looks_then old mid new result first.looks second.looks;
@@ -359,7 +397,8 @@ module _ {D : Type 0} {g : Ghosts D} where
     reads = reads_result old new which key result does.reads;
   }
 
-  module _ (old new : Buckets D g) (page : ℕ) (chains : chains_of new ≡ chains_of old) (refused : has_refused new ≡ true) (same : OnlyLooks old new) where
+  module _ (old new : Buckets D g) (page : ℕ) (chains : chains_of new ≡ chains_of old) (refused : has_refused new ≡ true)
+      (same : OnlyLooks old new) where
     as_broken : is_broken (journal_of (chains_of new)) ≡ (is_broken (journal_of (chains_of old)) || false)
     as_broken = ap (λ (c : Chains D g). is_broken (journal_of c)) chains ∙ sym (or_none (is_broken (journal_of (chains_of old))))
 
@@ -381,14 +420,22 @@ module _ {D : Type 0} {g : Ghosts D} where
       cause = record { later = same.later; failed = λ is. absurd (cc) };
     }
 
-    pub value_once : (fault : ValueFault) (refusal : StoreFault) → refusal ≡ refusal_of fault page → LooksOnce {T = Unit {0}} old new (Err refusal)
-    value_once fault refusal is = record { looks = subst (λ (r : StoreFault). Looks {T = Unit {0}} old new (Err r)) (sym is) (refused_looks fault); reads = tt }
+    pub value_once : (fault : ValueFault) (refusal : StoreFault) → refusal ≡ refusal_of fault page
+        → LooksOnce {T = Unit {0}} old new (Err refusal)
+    value_once fault refusal is = record {
+      looks =
+          subst (λ (r : StoreFault). Looks {T = Unit {0}} old new (Err r)) (sym is) (refused_looks fault);
+      reads = tt;
+    }
 
 -- a value that does not read is refused so
-refuses_one : (Fact : Type 0) (page : ℕ) (fault : ValueFault) → NeedsFor Fact fault → Refuses (λ at. Fact × (at ≡ page)) (refusal_of fault page)
+refuses_one : (Fact : Type 0) (page : ℕ) (fault : ValueFault) → NeedsFor Fact fault
+    → Refuses (λ at. Fact × (at ≡ page)) (refusal_of fault page)
 refuses_one Fact page NotSpelled fact = (fact, refl)
 refuses_one Fact page OutOfMemory fact = tt
 
-pub refuses_value : (Fact : Type 0) (page : ℕ) (fault : ValueFault) (refusal : StoreFault) → refusal ≡ refusal_of fault page → NeedsFor Fact fault
+pub refuses_value : (Fact : Type 0) (page : ℕ) (fault : ValueFault) (refusal : StoreFault) → refusal ≡ refusal_of fault page
+    → NeedsFor Fact fault
     → Refuses (λ at. Fact × (at ≡ page)) refusal
-refuses_value Fact page fault refusal is fact = subst (λ (r : StoreFault). Refuses (λ at. Fact × (at ≡ page)) r) (sym is) (refuses_one Fact page fault fact)
+refuses_value Fact page fault refusal is fact =
+    subst (λ (r : StoreFault). Refuses (λ at. Fact × (at ≡ page)) r) (sym is) (refuses_one Fact page fault fact)

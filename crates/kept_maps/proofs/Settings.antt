@@ -1,10 +1,12 @@
 -- Values that are set in buckets are set in the maps that these have.
-use Rattle.std.proofs.Common.{◌≡◌, ◌≢◌, ◌+◌, ◌*◌, ℕ, suc, true, ◌==◌, List, [], ◌∷◌, length, Option, Some, None, Result, Ok, Err, IfErr, OnOk, refl, sym, ◌∙◌, subst, arith}
+use Rattle.std.proofs.Common.{◌≡◌, ◌≢◌, ◌+◌, ◌*◌, ℕ, suc, true, ◌==◌, List, [], ◌∷◌, length, Option, Some, None, Result, Ok, Err, IfErr}
+use Rattle.std.proofs.Common.{OnOk, refl, sym, ◌∙◌, subst, arith}
 use Rattle.std.specs.Option.{option_map}
 use Rattle.std.proofs.lemmas.Bool.{eqb-true}
 use Rattle.outside.specs.declared.disk.Disk.{Ghosts}
 use Rattle.page_journal.specs.declared.fault.StoreFault.{StoreFault}
-use Rattle.page_journal.specs.declared.fault.StoreFault.TheVariants.{NotFormatted, NotEmpty, BadStore, DiskFault, StoreFull, Broken, OutOfMemory}
+use Rattle.page_journal.specs.declared.fault.StoreFault.TheVariants.{NotFormatted, NotEmpty, BadStore, DiskFault, StoreFull, Broken}
+use Rattle.page_journal.specs.declared.fault.StoreFault.TheVariants.{OutOfMemory}
 use Rattle.osm_base.specs.declared.values.key.Kind.{Kind}
 use Rattle.osm_base.specs.declared.values.key.Kind.TheVariants as kinds
 use Rattle.osm_base.specs.declared.values.object.Object.{Object}
@@ -52,7 +54,8 @@ node_kind kinds.Node place tags is = refl
 node_kind kinds.Way place tags is = absurd is
 node_kind kinds.Relation place tags is = absurd is
 
-pub form_kept : (kind : Kind) (object : Object) → ((place : Option PlaceOf) (tags : TagMap) → object ≡ Node place tags → ⊥) → IsOfKind kind object
+pub form_kept : (kind : Kind) (object : Object) → ((place : Option PlaceOf) (tags : TagMap) → object ≡ Node place tags → ⊥)
+    → IsOfKind kind object
     → IsKept kind object
 form_kept kind (Node place tags) apart is = absurd (apart place tags refl)
 form_kept kinds.Node (Way nodes tags) apart is = absurd is
@@ -105,7 +108,8 @@ module _ {D : Type 0} {g : Ghosts D} (old new : Buckets D g) where
       set_in definitions under maps (record maps { nodes = set maps.nodes id value }) 0 id (option_map record_bytes value) sets had
       (node_kept definitions had.now maps id had.kept value is)
 
-  pub object_set : (definitions : List TableDef) (under : Beside) (maps : Maps) (id : ℕ) (object : Object) (kind : Kind) → IsStored kind object
+  pub object_set : (definitions : List TableDef) (under : Beside) (maps : Maps) (id : ℕ) (object : Object) (kind : Kind)
+      → IsStored kind object
       → Sets (map_of kind) id (Some (object_bytes object)) → HasMaps definitions under maps old
       → HasMaps definitions under (set_object maps kind id (Some object)) new
   unfolding IsStored
@@ -114,11 +118,13 @@ module _ {D : Type 0} {g : Ghosts D} (old new : Buckets D g) where
       set_in definitions under maps (record maps { ways = set maps.ways id (Some object) }) 1 id (Some (object_bytes object)) sets had
       (way_kept definitions had.now maps id had.kept (Some object) is)
   object_set definitions under maps id object kinds.Relation is sets had =
-      set_in definitions under maps (record maps { relations = set maps.relations id (Some object) }) 2 id (Some (object_bytes object)) sets had
+      set_in definitions under maps (record maps { relations = set maps.relations id (Some object) }) 2 id
+      (Some (object_bytes object)) sets had
       (relation_kept definitions had.now maps id had.kept (Some object) is)
 
   -- a node is set by what is kept of it
-  pub node_object : (definitions : List TableDef) (under : Beside) (maps : Maps) (key inside : KeyOf) (object : Object) (place : Option PlaceOf) (tags : TagMap)
+  pub node_object : (definitions : List TableDef) (under : Beside) (maps : Maps) (key inside : KeyOf) (object : Object)
+      (place : Option PlaceOf) (tags : TagMap)
       → inside ≡ key → object ≡ Node place tags → IsOfKind key.kind object
       → HasMaps definitions under (record maps { nodes = set maps.nodes inside.id (Some (record { place = place; tags = Some tags })) }) new
       → HasMaps definitions under (set_object maps key.kind key.id (Some object)) new
@@ -129,11 +135,13 @@ module _ {D : Type 0} {g : Ghosts D} (old new : Buckets D g) where
       λ i. set_object maps (kind_is i) (back i).id (Some (is i)) in
       subst (λ (m : Maps). HasMaps definitions under m new) (sym same) puts
 
-  pub node_taken : (definitions : List TableDef) (under : Beside) (maps : Maps) (key inside : KeyOf) → inside ≡ key → inside.kind ≡ kinds.Node
+  pub node_taken : (definitions : List TableDef) (under : Beside) (maps : Maps) (key inside : KeyOf) → inside ≡ key
+      → inside.kind ≡ kinds.Node
       → HasMaps definitions under (record maps { nodes = set maps.nodes inside.id None }) new
       → HasMaps definitions under (set_object maps key.kind key.id None) new
   node_taken definitions under maps key inside view is takes =
-      let same : set_object maps inside.kind inside.id None ≡ set_object maps kinds.Node inside.id None = λ i. set_object maps (is i) inside.id None in
+      let same : set_object maps inside.kind inside.id None ≡ set_object maps kinds.Node inside.id None =
+      λ i. set_object maps (is i) inside.id None in
       subst (λ (k : KeyOf). HasMaps definitions under (set_object maps k.kind k.id None) new) view
       (subst (λ (m : Maps). HasMaps definitions under m new) (sym same) takes)
 
@@ -141,13 +149,15 @@ module _ {D : Type 0} {g : Ghosts D} (old new : Buckets D g) where
       → Sets (map_of kind) id None → HasMaps definitions under maps old → HasMaps definitions under (set_object maps kind id None) new
   object_taken definitions under maps id kinds.Node apart sets had = absurd (apart refl)
   object_taken definitions under maps id kinds.Way apart sets had =
-      set_in definitions under maps (record maps { ways = set maps.ways id None }) 1 id None sets had (way_kept definitions had.now maps id had.kept None tt)
+      set_in definitions under maps (record maps { ways = set maps.ways id None }) 1 id None sets had
+      (way_kept definitions had.now maps id had.kept None tt)
   object_taken definitions under maps id kinds.Relation apart sets had =
       set_in definitions under maps (record maps { relations = set maps.relations id None }) 2 id None sets had
       (relation_kept definitions had.now maps id had.kept None tt)
 
   pub rows_set : (definitions : List TableDef) (under : Beside) (maps : Maps) (kind : Kind) (id : ℕ) (rows : List TableRow)
-      → IfIs (AreRows definitions) (unless_empty rows) → Sets (rows_map_of kind) (number_of kind id) (option_map rows_bytes (unless_empty rows))
+      → IfIs (AreRows definitions) (unless_empty rows)
+      → Sets (rows_map_of kind) (number_of kind id) (option_map rows_bytes (unless_empty rows))
       → HasMaps definitions under maps old → HasMaps definitions under (set_rows maps kind id rows) new
   rows_set definitions under maps kinds.Node id rows are sets had =
       set_in definitions under maps (set_rows maps kinds.Node id rows) 6 id (option_map rows_bytes (unless_empty rows)) sets had
@@ -156,10 +166,12 @@ module _ {D : Type 0} {g : Ghosts D} (old new : Buckets D g) where
       set_in definitions under maps (set_rows maps kinds.Way id rows) 7 (2 * id) (option_map rows_bytes (unless_empty rows)) sets had
       (other_rows_kept definitions had.now maps (2 * id) had.kept (unless_empty rows) are)
   rows_set definitions under maps kinds.Relation id rows are sets had =
-      set_in definitions under maps (set_rows maps kinds.Relation id rows) 7 (2 * id + 1) (option_map rows_bytes (unless_empty rows)) sets had
+      set_in definitions under maps (set_rows maps kinds.Relation id rows) 7 (2 * id + 1)
+      (option_map rows_bytes (unless_empty rows)) sets had
       (other_rows_kept definitions had.now maps (2 * id + 1) had.kept (unless_empty rows) are)
 
-  pub rows_put : (definitions : List TableDef) (under : Beside) (maps : Maps) (kind : Kind) (id : ℕ) (rows : List TableRow) → AreRows definitions rows
+  pub rows_put : (definitions : List TableDef) (under : Beside) (maps : Maps) (kind : Kind) (id : ℕ) (rows : List TableRow)
+      → AreRows definitions rows
       → Sets (rows_map_of kind) (number_of kind id) (Some (rows_bytes rows))
       → HasMaps definitions under maps old → HasMaps definitions under (set_rows maps kind id rows) new
   rows_put definitions under maps kind id [] are sets had = absurd (omega (arith, are.some))
@@ -170,18 +182,27 @@ module _ {D : Type 0} {g : Ghosts D} (old new : Buckets D g) where
     relists_kept : (now after : Image) (maps : Maps) → IsId key.id → Relists key was is now after → HoldsMaps definitions now.maps maps
         → HoldsMaps definitions after.maps (relisted_to maps key was is)
     relists_kept now after maps proper relists held =
-        let beside : (m : ℕ) → m ≢ 3 → m ≢ 4 → m ≢ 5 → now.maps m ≡ after.maps m = λ m blocks nodes ways. sym (relists.maps m blocks nodes ways) in
+        let beside : (m : ℕ) → m ≢ 3 → m ≢ 4 → m ≢ 5 → now.maps m ≡ after.maps m =
+        λ m blocks nodes ways. sym (relists.maps m blocks nodes ways) in
         record {
-          nodes = subst (λ (b : BucketMap). HoldsMap record_bytes IsRecord b maps.nodes) (beside 0 (omega arith) (omega arith) (omega arith)) held.nodes;
-          ways = subst (λ (b : BucketMap). HoldsMap object_bytes (IsStored kinds.Way) b maps.ways) (beside 1 (omega arith) (omega arith) (omega arith)) held.ways;
-          relations = subst (λ (b : BucketMap). HoldsMap object_bytes (IsStored kinds.Relation) b maps.relations) (beside 2 (omega arith) (omega arith) (omega arith)) held.relations;
-          ways_of_blocks = turned_held key.id (blocks_for key was) (blocks_for key is) (now.maps 3) (after.maps 3) maps.ways_of_blocks proper held.ways_of_blocks relists.ways_of_blocks;
+          nodes = subst (λ (b : BucketMap). HoldsMap record_bytes IsRecord b maps.nodes)
+              (beside 0 (omega arith) (omega arith) (omega arith)) held.nodes;
+          ways = subst (λ (b : BucketMap). HoldsMap object_bytes (IsStored kinds.Way) b maps.ways)
+              (beside 1 (omega arith) (omega arith) (omega arith)) held.ways;
+          relations = subst (λ (b : BucketMap). HoldsMap object_bytes (IsStored kinds.Relation) b maps.relations)
+              (beside 2 (omega arith) (omega arith) (omega arith)) held.relations;
+          ways_of_blocks = turned_held key.id (blocks_for key was) (blocks_for key is) (now.maps 3)
+              (after.maps 3) maps.ways_of_blocks proper held.ways_of_blocks relists.ways_of_blocks;
           relations_of_nodes =
-              turned_held key.id (nodes_for key was) (nodes_for key is) (now.maps 4) (after.maps 4) maps.relations_of_nodes proper held.relations_of_nodes relists.relations_of_nodes;
+              turned_held key.id (nodes_for key was) (nodes_for key is) (now.maps 4)
+              (after.maps 4) maps.relations_of_nodes proper held.relations_of_nodes relists.relations_of_nodes;
           relations_of_ways =
-              turned_held key.id (ways_for key was) (ways_for key is) (now.maps 5) (after.maps 5) maps.relations_of_ways proper held.relations_of_ways relists.relations_of_ways;
-          node_rows = subst (λ (b : BucketMap). HoldsMap rows_bytes (AreRows definitions) b maps.node_rows) (beside 6 (omega arith) (omega arith) (omega arith)) held.node_rows;
-          other_rows = subst (λ (b : BucketMap). HoldsMap rows_bytes (AreRows definitions) b maps.other_rows) (beside 7 (omega arith) (omega arith) (omega arith)) held.other_rows;
+              turned_held key.id (ways_for key was) (ways_for key is) (now.maps 5)
+              (after.maps 5) maps.relations_of_ways proper held.relations_of_ways relists.relations_of_ways;
+          node_rows = subst (λ (b : BucketMap). HoldsMap rows_bytes (AreRows definitions) b maps.node_rows)
+              (beside 6 (omega arith) (omega arith) (omega arith)) held.node_rows;
+          other_rows = subst (λ (b : BucketMap). HoldsMap rows_bytes (AreRows definitions) b maps.other_rows)
+              (beside 7 (omega arith) (omega arith) (omega arith)) held.other_rows;
         }
 
     pub relists_set : (under : Beside) (maps : Maps) → IsId key.id
@@ -198,9 +219,11 @@ module _ {D : Type 0} {g : Ghosts D} (old new : Buckets D g) where
         }
 
     pub relist_sound : (result : Result (Unit {0}) StoreFault)
-        → ((rest now : Image) → Has rest now old → IfErr result (Refuses (StopsAt (IsFine now key.id) (page_at old) (all_visits key was is))))
+        → ((rest now : Image) → Has rest now old
+        → IfErr result (Refuses (StopsAt (IsFine now key.id) (page_at old) (all_visits key was is))))
         → (under : Beside) (maps : Maps) → HasMaps definitions under maps old → AreTold maps key was → IsSoundAnswer result
     relist_sound (Ok done) stops under maps had told = tt
     relist_sound (Err fault) stops under maps had told =
         sound_none (Unit {0}) fault
-        (relist_allowed key was is had.now maps (page_at old) fault (index_held definitions had.now maps had.kept) told (stops under.rest had.now had.has))
+        (relist_allowed key was is had.now maps (page_at old) fault (index_held definitions had.now maps had.kept) told
+        (stops under.rest had.now had.has))

@@ -21,18 +21,21 @@ use Rattle.back_index.proofs.ReadKeys.{reads_key}
 use Rattle.store_maps.specs.Asked.{May, MayObject, MayRows}
 
 -- the maps have the numbers that the layers below give them
-pub object_allowed : (may : May) (kind : Kind) (id : ℕ) → (kind ≡ kinds.Node → ⊥) → MayObject may (record { kind = kind; id = id }) → may (map_of kind) id ≡ true
+pub object_allowed : (may : May) (kind : Kind) (id : ℕ) → (kind ≡ kinds.Node → ⊥) → MayObject may (record { kind = kind; id = id })
+    → may (map_of kind) id ≡ true
 object_allowed may kinds.Node id apart allowed = absurd (apart refl)
 object_allowed may kinds.Way id apart allowed = allowed
 object_allowed may kinds.Relation id apart allowed = allowed
 
-pub rows_allowed : (may : May) (kind : Kind) (id : ℕ) → MayRows may (record { kind = kind; id = id }) → may (rows_map_of kind) (number_of kind id) ≡ true
+pub rows_allowed : (may : May) (kind : Kind) (id : ℕ) → MayRows may (record { kind = kind; id = id })
+    → may (rows_map_of kind) (number_of kind id) ≡ true
 rows_allowed may kinds.Node id allowed = allowed
 rows_allowed may kinds.Way id allowed = allowed
 rows_allowed may kinds.Relation id allowed = allowed
 
 -- an object that is no node has no node's key
-pub no_node : (kind : Kind) (object : Object) → ((place : Option PlaceOf) (tags : TagMap) → object ≡ Node place tags → ⊥) → IsOfKind kind object → kind ≡ kinds.Node → ⊥
+pub no_node : (kind : Kind) (object : Object) → ((place : Option PlaceOf) (tags : TagMap) → object ≡ Node place tags → ⊥)
+    → IsOfKind kind object → kind ≡ kinds.Node → ⊥
 no_node kind (Node place tags) apart is node = apart place tags refl
 no_node kind (Way nodes tags) apart is node = subst (λ own. IsOfKind own (Way nodes tags)) node is
 no_node kind (Relation members tags) apart is node = subst (λ own. IsOfKind own (Relation members tags)) node is
@@ -43,5 +46,7 @@ node_allowed may own key same is allowed =
     subst (λ kind. MayObject may (record { kind = kind; id = own.id })) is (subst (MayObject may) (sym same) allowed)
 
 module _ {D : Type 0} {g : Ghosts D} (may : May) (old new : Buckets D g) (goes : has_refused old ≡ false) where
-  pub within_touched : {T : Type 0} (which key : ℕ) (result : Result T StoreFault) → may which key ≡ true → Touches which key old new result → HasReadOnly may old → HasReadOnly may new
-  within_touched which key result allowed does only = reads_key may old new which key goes allowed does.stays result does.reads does.refused only
+  pub within_touched : {T : Type 0} (which key : ℕ) (result : Result T StoreFault) → may which key ≡ true → Touches which key old new result
+      → HasReadOnly may old → HasReadOnly may new
+  within_touched which key result allowed does only =
+      reads_key may old new which key goes allowed does.stays result does.reads does.refused only

@@ -15,7 +15,8 @@ pub record Beside : Type 0 where
   pub texts : ℕ → List ℕ
 
 -- the transaction has these maps, over this
-pub record HasMaps {D : Type 0} {g : Ghosts D} (definitions : List TableDef) (under : Beside) (maps : Maps) (buckets : Buckets D g) : Type 0 where
+pub record HasMaps {D : Type 0} {g : Ghosts D} (definitions : List TableDef) (under : Beside) (maps : Maps)
+    (buckets : Buckets D g) : Type 0 where
   pub now : Image
   pub has : Has under.rest now buckets
   pub root : now.root ≡ under.root
@@ -23,7 +24,8 @@ pub record HasMaps {D : Type 0} {g : Ghosts D} (definitions : List TableDef) (un
   pub kept : HoldsMaps definitions now.maps maps
 
 -- it has them as a store of the old format does
-pub record HasOldMaps {D : Type 0} {g : Ghosts D} (definitions : List TableDef) (under : Beside) (maps : Maps) (buckets : Buckets D g) : Type 0 where
+pub record HasOldMaps {D : Type 0} {g : Ghosts D} (definitions : List TableDef) (under : Beside) (maps : Maps)
+    (buckets : Buckets D g) : Type 0 where
   pub now : Image
   pub has : Has under.rest now buckets
   pub root : now.root ≡ under.root

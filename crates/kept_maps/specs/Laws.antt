@@ -1,12 +1,14 @@
 -- Laws of the calls on the maps of a store, one call after another.
-use Rattle.std.proofs.Common.{◌≡◌, ◌≤◌, ◌||◌, ℕ, Bool, true, false, List, [], ◌++◌, Option, Some, None, refl, sym, ap, subst, ◌∙◌, true≢false}
+use Rattle.std.proofs.Common.{◌≡◌, ◌≤◌, ◌||◌, ℕ, Bool, true, false, List, [], ◌++◌, Option, Some, None, refl, sym, ap, subst, ◌∙◌}
+use Rattle.std.proofs.Common.{true≢false}
 use Rattle.std.specs.Prelude.{is_some}
 use Rattle.std.specs.List.{AllByRecursion}
 use Rattle.osm_base.specs.map.Known.{Question}
 use Rattle.outside.specs.declared.disk.Disk.{Ghosts}
 use Rattle.page_journal.specs.Journal.{is_broken}
 use Rattle.page_journal.specs.declared.fault.StoreFault.{StoreFault}
-use Rattle.page_journal.specs.declared.fault.StoreFault.TheVariants.{NotFormatted, NotEmpty, BadStore, DiskFault, StoreFull, Broken, OutOfMemory}
+use Rattle.page_journal.specs.declared.fault.StoreFault.TheVariants.{NotFormatted, NotEmpty, BadStore, DiskFault, StoreFull, Broken}
+use Rattle.page_journal.specs.declared.fault.StoreFault.TheVariants.{OutOfMemory}
 use Rattle.chain_store.specs.Chains.{OnlyRead, disk_of, journal_of}
 use Rattle.style_read.specs.Style.{StyleOf}
 use Rattle.style_read.specs.declared.style.TableDef.{TableDef}
@@ -100,11 +102,14 @@ module _ {D : Type 0} {g : Ghosts D} where
   pub later_same : (kept : KeptMaps D g) → IsLater kept kept
   later_same kept = record { looks = looks_same (buckets_of kept); reads = λ going. reads_none (buckets_of kept); same_style = refl }
 
-  pub later_then : (first old new : KeptMaps D g) → OnlyLooks (buckets_of old) (buckets_of new) → (has_refused (buckets_of old) ≡ true → has_refused (buckets_of new) ≡ true)
-      → (has_refused (buckets_of new) ≡ false → ReadsBuckets (buckets_of old) (buckets_of new)) → style_in new ≡ style_in old → IsLater first old → IsLater first new
+  pub later_then : (first old new : KeptMaps D g) → OnlyLooks (buckets_of old) (buckets_of new)
+      → (has_refused (buckets_of old) ≡ true → has_refused (buckets_of new) ≡ true)
+      → (has_refused (buckets_of new) ≡ false → ReadsBuckets (buckets_of old) (buckets_of new)) → style_in new ≡ style_in old
+      → IsLater first old → IsLater first new
   later_then first old new looks refused reads same later = record {
     looks = looks_then (buckets_of first) (buckets_of old) (buckets_of new) later.looks looks;
-    reads = λ going. reads_more (buckets_of first) (buckets_of old) (buckets_of new) (later.reads (still (has_refused (buckets_of old)) (has_refused (buckets_of new)) refused going)) (reads going);
+    reads = λ going. reads_more (buckets_of first) (buckets_of old) (buckets_of new)
+        (later.reads (still (has_refused (buckets_of old)) (has_refused (buckets_of new)) refused going)) (reads going);
     same_style = same ∙ later.same_style;
   }
 
@@ -112,13 +117,16 @@ module _ {D : Type 0} {g : Ghosts D} where
   pub are_asked_none : (kept : KeptMaps D g) → AreAsked [] kept kept
   are_asked_none kept = record { asked = asked_none (buckets_of kept) (stop_of kept); same_style = refl }
 
-  pub are_asked_then : (before after : List Question) (first second third : KeptMaps D g) → AreAsked before first second → AreAsked after second third → AreAsked (before ++ after) first third
+  pub are_asked_then : (before after : List Question) (first second third : KeptMaps D g) → AreAsked before first second
+      → AreAsked after second third → AreAsked (before ++ after) first third
   are_asked_then before after first second third once again = record {
-    asked = asked_then before after (buckets_of first) (buckets_of second) (buckets_of third) (stop_of first) (stop_of second) (stop_of third) once.asked again.asked;
+    asked = asked_then before after (buckets_of first) (buckets_of second) (buckets_of third) (stop_of first) (stop_of second)
+        (stop_of third) once.asked again.asked;
     same_style = again.same_style ∙ once.same_style;
   }
 
-  pub was_fewer : (kept : KeptMaps D g) (fewer more : ℕ) (fault : StoreFault) → fewer ≤ more → WasRefused kept more fault → WasRefused kept fewer fault
+  pub was_fewer : (kept : KeptMaps D g) (fewer more : ℕ) (fault : StoreFault) → fewer ≤ more → WasRefused kept more fault
+      → WasRefused kept fewer fault
   was_fewer kept fewer more fault le was = bears_fewer (buckets_of kept) (stop_of kept) fewer more fault le was
 
   -- the index is that of the maps
@@ -135,7 +143,9 @@ module _ {D : Type 0} {g : Ghosts D} where
 
   module _ (questions : List Question) (old new : KeptMaps D g) (are : AreAsked questions old new) where
     pub asked_later : (first : KeptMaps D g) → IsLater first old → IsLater first new
-    asked_later first later = later_then first old new (looks_read (buckets_of old) (buckets_of new) are.asked.stays are.asked.later) are.asked.refused are.asked.reads are.same_style later
+    asked_later first later = later_then first old new
+        (looks_read (buckets_of old) (buckets_of new) are.asked.stays are.asked.later) are.asked.refused are.asked.reads are.same_style
+        later
 
     pub asked_keeps : is_over new ≡ false → (under : Beside) (maps : Maps) → Keeps old under maps → Keeps new under maps
     asked_keeps fresh under maps had =
@@ -149,7 +159,8 @@ module _ {D : Type 0} {g : Ghosts D} where
     -- no more was read than answers the questions
     pub asked_within : (under : Beside) (maps : Maps) → Keeps old under maps → (may : May) → AllByRecursion (MayAnswer may maps) questions
         → HasReadOnly may (buckets_of old) → HasReadOnly may (buckets_of new)
-    asked_within under maps had may all only = are.asked.within under.rest had.now had.has maps (index_held (style_in old).tables had.now maps had.kept) may all only
+    asked_within under maps had may all only =
+        are.asked.within under.rest had.now had.has maps (index_held (style_in old).tables had.now maps had.kept) may all only
 
     -- maps refuse a question for the disk or for want of memory alone
     pub asked_allowed : is_over old ≡ false → (under : Beside) (maps : Maps) → Keeps old under maps → WaysAreThere maps
@@ -158,7 +169,8 @@ module _ {D : Type 0} {g : Ghosts D} where
         as (λ b. has_refused (buckets_of new) ≡ b → IsAllowed refusal) [
           | true ↦ λ refused.
               allowed_of refusal
-              (questions_allowed (buckets_of old) had.now maps (index_held (style_in old).tables had.now maps had.kept) had.kept.ways there refusal
+              (questions_allowed (buckets_of old) had.now maps
+              (index_held (style_in old).tables had.now maps had.kept) had.kept.ways there refusal
               (are.asked.why (over_going old fresh) refused refusal was.0 under.rest had.now had.has))
           | false ↦ λ going. absurd (none_some refusal (sym (over_stop old fresh) ∙ sym (are.asked.going going) ∙ was.0))
         ] refl

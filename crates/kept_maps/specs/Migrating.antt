@@ -20,7 +20,8 @@ use Rattle.back_index.specs.Visits.{OnlyMap}
 -- the bytes of a record are those of a place alone, and then those of this place and unknown tags; without a record there is none then
 abbrev pub IsRenewed : Option (List ℕ) → Option (List ℕ) → Type 0
 IsRenewed None new = new ≡ None
-IsRenewed (Some bytes) new = (place : Option PlaceOf) × IsOldPlace place × (bytes ≡ old_bytes place) × (new ≡ Some (record_bytes (unknown place)))
+IsRenewed (Some bytes) new = (place : Option PlaceOf) × IsOldPlace place × (bytes ≡ old_bytes place)
+    × (new ≡ Some (record_bytes (unknown place)))
 
 -- the records of these nodes are written anew, and all else in the store stays
 pub record Renews (Part : ℕ → Type 0) (now after : Image) : Type 0 where

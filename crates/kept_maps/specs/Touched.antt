@@ -38,11 +38,13 @@ pub record Asks {D T : Type 0} {g : Ghosts D} (Keys : May → Type 0) (old new :
   pub touched : Touched old new result
 
 -- what it finds is this value of the maps, and where there are maps it is refused for no fault of the store's
-pub record Finds {D A : Type 0} {g : Ghosts D} (definitions : List TableDef) (value : Maps → A) (old : Buckets D g) (result : Result A StoreFault) : Type 0 where
+pub record Finds {D A : Type 0} {g : Ghosts D} (definitions : List TableDef) (value : Maps → A) (old : Buckets D g)
+    (result : Result A StoreFault) : Type 0 where
   pub found : IfOk result (λ found. (under : Beside) (maps : Maps) → HasMaps definitions under maps old → found ≡ value maps)
   pub sound : (under : Beside) (maps : Maps) → HasMaps definitions under maps old → IsSoundAnswer result
 
--- a call that puts values or takes them out, of no keys but these: where the transaction has what it reads it is refused for no fault of the
+-- a call that puts values or takes them out, of no keys but these: where the transaction has what it reads it is refused for no fault of
+-- the
 -- store's
 pub record Puts {D T : Type 0} {g : Ghosts D} (Keys : May → Type 0) (old new : Buckets D g) (result : Result T StoreFault) : Type 0 where
   pub sound : (rest now : Image) → Has rest now old → IsSoundAnswer result

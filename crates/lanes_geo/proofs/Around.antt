@@ -21,11 +21,13 @@ norths p h = (shifted p.lat 900000000 h.south, low p.lat 900000000 h.south h.nor
 fits : (n most : ℕ) → n ≤ most → pos n ≤ℤ pos most
 fits n most h = omega (arith, ints)
 
-pub west_fits : (ps : List PlaceOf) (n : ℕ) → 0 < length ps → AllByRecursion IsPlace ps → n ≡ least_of (map east_of ps) → pos n ≤ℤ pos 3600000000
+pub west_fits : (ps : List PlaceOf) (n : ℕ) → 0 < length ps → AllByRecursion IsPlace ps → n ≡ least_of (map east_of ps)
+    → pos n ≤ℤ pos 3600000000
 west_fits [] n some on_earth e = absurd (omega arith)
 west_fits (p ∷ ps) n some on_earth e = fits n 3600000000 (rw e (least_bound (λ p. p.lon) east_of 1800000000 easts p ps on_earth))
 
-pub south_fits : (ps : List PlaceOf) (n : ℕ) → 0 < length ps → AllByRecursion IsPlace ps → n ≡ least_of (map north_of ps) → pos n ≤ℤ pos 1800000000
+pub south_fits : (ps : List PlaceOf) (n : ℕ) → 0 < length ps → AllByRecursion IsPlace ps → n ≡ least_of (map north_of ps)
+    → pos n ≤ℤ pos 1800000000
 south_fits [] n some on_earth e = absurd (omega arith)
 south_fits (p ∷ ps) n some on_earth e = fits n 1800000000 (rw e (least_bound (λ p. p.lat) north_of 900000000 norths p ps on_earth))
 
@@ -55,8 +57,10 @@ around_is (p ∷ ps) w s e n west south east north some on_earth e1 e2 e3 e4 e5 
       e2,
       e3,
       e4,
-      folds_min (λ p. p.lon) east_of 1800000000 easts p.lon (east_of p) ps on_earth.1 lon.0 (narrow (east_of p) 1800000000 lon.1 (omega arith)),
-      folds_min (λ p. p.lat) north_of 900000000 norths p.lat (north_of p) ps on_earth.1 lat.0 (narrow (north_of p) 900000000 lat.1 (omega arith)),
+      folds_min (λ p. p.lon) east_of 1800000000 easts p.lon (east_of p) ps on_earth.1 lon.0
+          (narrow (east_of p) 1800000000 lon.1 (omega arith)),
+      folds_min (λ p. p.lat) north_of 900000000 norths p.lat (north_of p) ps on_earth.1 lat.0
+          (narrow (north_of p) 900000000 lat.1 (omega arith)),
       folds_max (λ p. p.lon) east_of 1800000000 easts p.lon (east_of p) ps on_earth.1 lon.0,
       folds_max (λ p. p.lat) north_of 900000000 norths p.lat (north_of p) ps on_earth.1 lat.0,
     )
@@ -65,8 +69,10 @@ above : (least a b : ℕ) (y z : ℤ) → a ≤ b → y ≡ pos a -ℤ pos least
 above least a b y z h e f = omega (arith, ints)
 
 within_all : (box : GeoBox) (w s e n : ℕ) (ps : List PlaceOf)
-    → box.west ≡ pos w -ℤ pos 1800000000 → box.south ≡ pos s -ℤ pos 900000000 → box.east ≡ pos e -ℤ pos 1800000000 → box.north ≡ pos n -ℤ pos 900000000
-    → AllByRecursion IsPlace ps → w ≤ least_of (map east_of ps) → s ≤ least_of (map north_of ps) → greatest_of (map east_of ps) ≤ e → greatest_of (map north_of ps) ≤ n
+    → box.west ≡ pos w -ℤ pos 1800000000 → box.south ≡ pos s -ℤ pos 900000000 → box.east ≡ pos e -ℤ pos 1800000000
+    → box.north ≡ pos n -ℤ pos 900000000
+    → AllByRecursion IsPlace ps → w ≤ least_of (map east_of ps) → s ≤ least_of (map north_of ps) → greatest_of (map east_of ps) ≤ e
+    → greatest_of (map north_of ps) ≤ n
     → AllByRecursion (IsWithin box) ps
 within_all box w s e n [] e5 e6 e7 e8 on_earth a b c d = tt
 within_all box w s e n (p ∷ ps) e5 e6 e7 e8 on_earth a b c d =
@@ -86,4 +92,5 @@ pub around_holds : (ps : List PlaceOf) (w s e n : ℕ) (west south east north : 
     → west ≡ pos w -ℤ pos 1800000000 → south ≡ pos s -ℤ pos 900000000 → east ≡ pos e -ℤ pos 1800000000 → north ≡ pos n -ℤ pos 900000000
     → AllByRecursion (IsWithin (record { west = west; south = south; east = east; north = north })) ps
 around_holds ps w s e n west south east north on_earth e1 e2 e3 e4 e5 e6 e7 e8 =
-    within_all (record { west = west; south = south; east = east; north = north }) w s e n ps e5 e6 e7 e8 on_earth (omega arith) (omega arith) (omega arith) (omega arith)
+    within_all (record { west = west; south = south; east = east; north = north }) w s e n ps e5 e6 e7 e8 on_earth (omega arith)
+    (omega arith) (omega arith) (omega arith)

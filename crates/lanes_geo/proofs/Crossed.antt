@@ -21,9 +21,11 @@ west_sum place segment = east_of place * (apart (north_of place) (north_of segme
 
 abbrev pub east_sum : PlaceOf → Segment → ℕ
 east_sum place segment =
-    apart (north_of place) (north_of segment.start) * east_of segment.end + apart (north_of place) (north_of segment.end) * east_of segment.start
+    apart (north_of place) (north_of segment.start) * east_of segment.end
+    + apart (north_of place) (north_of segment.end) * east_of segment.start
 
-pick : (h a b : ℕ) (p q r x y z : Bool) → p ≡ nat_lt h a → q ≡ nat_lt h b → r ≡ nat_lt a b → (a ≤ h → h < b → x ≡ z) → (b ≤ h → h < a → y ≡ z)
+pick : (h a b : ℕ) (p q r x y z : Bool) → p ≡ nat_lt h a → q ≡ nat_lt h b → r ≡ nat_lt a b → (a ≤ h → h < b → x ≡ z)
+    → (b ≤ h → h < a → y ≡ z)
     → (if (differ p q) then (if r then x else y) else false) ≡ (differ p q && z)
 pick h a b true true r x y z e f g north south = refl
 pick h a b false false r x y z e f g north south = refl
@@ -72,12 +74,16 @@ crosses_is place segment here ends =
     let r : int_lt start.lat end.lat ≡ nat_lt a b = ordered _ _ 900000000 a b sh eh in
     rw (← p, ← q) (pick h a b (int_lt place.lat start.lat) (int_lt place.lat end.lat) (int_lt start.lat end.lat) _ _ _ p q r
     (λ l m. going_north _ _ _ _ (east_of place) (east_of start) (east_of end) h a b (apart h a) (apart h b)
-    (between _ _ 1800000000 _ _ pe se) (between _ _ 900000000 _ _ eh sh) (between _ _ 1800000000 _ _ ee se) (between _ _ 900000000 _ _ ph sh)
+    (between _ _ 1800000000 _ _ pe se) (between _ _ 900000000 _ _ eh sh) (between _ _ 1800000000 _ _ ee se)
+    (between _ _ 900000000 _ _ ph sh)
     (omega arith) (omega arith))
     (λ l m. going_south _ _ _ _ (east_of place) (east_of start) (east_of end) h a b (apart h a) (apart h b)
-    (between _ _ 1800000000 _ _ pe se) (between _ _ 900000000 _ _ eh sh) (between _ _ 1800000000 _ _ ee se) (between _ _ 900000000 _ _ ph sh)
+    (between _ _ 1800000000 _ _ pe se) (between _ _ 900000000 _ _ eh sh) (between _ _ 1800000000 _ _ ee se)
+    (between _ _ 900000000 _ _ ph sh)
     (omega arith) (omega arith)))
 
 -- the order of two latitudes
-pub south_is : (place other : PlaceOf) → IsPlace place → IsPlace other → int_lt place.lat other.lat ≡ nat_lt (north_of place) (north_of other)
-south_is place other e f = ordered _ _ 900000000 (north_of place) (north_of other) (shifted place.lat 900000000 e.south) (shifted other.lat 900000000 f.south)
+pub south_is : (place other : PlaceOf) → IsPlace place → IsPlace other
+    → int_lt place.lat other.lat ≡ nat_lt (north_of place) (north_of other)
+south_is place other e f = ordered _ _ 900000000 (north_of place) (north_of other) (shifted place.lat 900000000 e.south)
+    (shifted other.lat 900000000 f.south)

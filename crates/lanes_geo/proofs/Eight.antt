@@ -1,5 +1,7 @@
 -- The coordinates of eight places in a vector, and the test of four such vectors.
-use Rattle.std.proofs.Common.{◌≡◌, ℕ, ◌+◌, ◌*◌, ◌≤◌, ◌-◌, ◌^◌, ◌%◌, suc, zero, refl, sym, ap, ◌∙◌, arith, int_lt, Bool, true, false, cond, ◌&&◌, ◌||◌, List, [], ◌∷◌, map, length, get_or, slice_range, w32, of_z, to_z, bit_and, bit_or, ℤ, pos, negsuc, neg_ℤ, ◌≤ℤ◌, FitsSigned}
+use Rattle.std.proofs.Common.{◌≡◌, ℕ, ◌+◌, ◌*◌, ◌≤◌, ◌-◌, ◌^◌, ◌%◌, suc, zero, refl, sym, ap, ◌∙◌, arith, int_lt, Bool, true, false, cond}
+use Rattle.std.proofs.Common.{◌&&◌, ◌||◌, List, [], ◌∷◌, map, length, get_or, slice_range, w32, of_z, to_z, bit_and, bit_or, ℤ, pos, negsuc}
+use Rattle.std.proofs.Common.{neg_ℤ, ◌≤ℤ◌, FitsSigned}
 use lib.Lanes.{mask_l, top, zip2, chunk}
 use Rattle.std.specs.List.{AllByRecursion}
 use Rattle.std.proofs.lemmas.Int.{ints, to_z-of_z}
@@ -11,7 +13,8 @@ use Rattle.lanes_geo.proofs.Level.{IsOnSide, all_joined, none_level}
 use Rattle.lanes_geo.proofs.Segments.{next_place}
 
 pub eight : (xs : List PlaceOf) (i : ℕ) (a b c d e f g h : PlaceOf) → i + 8 ≤ length xs → a ≡ get_or xs i a → b ≡ get_or xs (i + 1) b
-    → c ≡ get_or xs (i + 2) c → d ≡ get_or xs (i + 3) d → e ≡ get_or xs (i + 4) e → f ≡ get_or xs (i + 5) f → g ≡ get_or xs (i + 6) g → h ≡ get_or xs (i + 7) h
+    → c ≡ get_or xs (i + 2) c → d ≡ get_or xs (i + 3) d → e ≡ get_or xs (i + 4) e → f ≡ get_or xs (i + 5) f → g ≡ get_or xs (i + 6) g
+    → h ≡ get_or xs (i + 7) h
     → chunk i 8 xs ≡ a ∷ b ∷ c ∷ d ∷ e ∷ f ∷ g ∷ h ∷ []
 eight xs i a b c d e f g h long ea eb ec ed ee ef eg eh =
     rw (
@@ -56,7 +59,8 @@ not_above z h = grind (arith, ints)
 lon_lane : (p : PlaceOf) → IsPlace p → below_signed (of_z w32 (pos 1800000000)) (of_z w32 p.lon) ≡ full false
 lon_lane p here = rw (to_z-of_z w32 p.lon (fits p.lon here.west here.east), not_above p.lon here.east)
 
-lat_lane : (place p : PlaceOf) → IsPlace place → IsPlace p → below_signed (of_z w32 place.lat) (of_z w32 p.lat) ≡ full (int_lt place.lat p.lat)
+lat_lane : (place p : PlaceOf) → IsPlace place → IsPlace p
+    → below_signed (of_z w32 place.lat) (of_z w32 p.lat) ≡ full (int_lt place.lat p.lat)
 lat_lane place p here there =
     rw (to_z-of_z w32 place.lat (lat_fits place.lat here.south here.north), to_z-of_z w32 p.lat (lat_fits p.lat there.south there.north))
 
@@ -125,7 +129,8 @@ second_bits side zero = 0
 second_bits true (suc n) = 2 + 4 * second_bits true n
 second_bits false (suc n) = 0
 
-next_bits : (side first test : Bool) (n bits : ℕ) → first ≡ false → cond first 1 0 + 2 * (cond test 1 0 + 2 * bits) ≡ second_bits side (suc n)
+next_bits : (side first test : Bool) (n bits : ℕ) → first ≡ false
+    → cond first 1 0 + 2 * (cond test 1 0 + 2 * bits) ≡ second_bits side (suc n)
     → (test ≡ side) × (bits ≡ second_bits side n)
 next_bits side true test n bits f e = absurd cc
 next_bits true false true n bits f e = (refl, omega arith)
@@ -134,7 +139,8 @@ next_bits false false true n bits f e = absurd (omega arith)
 next_bits false false false zero bits f e = (refl, omega arith)
 next_bits false false false (suc n) bits f e = (refl, omega arith)
 
-all_four : (side p q r s : Bool) → joined side (joined side (joined side p q) r) s ≡ side → (p ≡ side) × ((q ≡ side) × ((r ≡ side) × (s ≡ side)))
+all_four : (side p q r s : Bool) → joined side (joined side (joined side p q) r) s ≡ side
+    → (p ≡ side) × ((q ≡ side) × ((r ≡ side) × (s ≡ side)))
 all_four true true true true true e = (refl, (refl, (refl, refl)))
 all_four true true true true false e = absurd cc
 all_four true true true false s e = absurd cc
@@ -153,7 +159,8 @@ no_lon false = refl
 abbrev pub AllOnSide : PlaceOf → Bool → List PlaceOf → Type 0
 AllOnSide place side ps = AllByRecursion (IsOnSide place side) ps
 
-four_sides : (side : Bool) (place : PlaceOf) (n : ℕ) (ps qs rs ss : List PlaceOf) → length ps ≡ n → length qs ≡ n → length rs ≡ n → length ss ≡ n
+four_sides : (side : Bool) (place : PlaceOf) (n : ℕ) (ps qs rs ss : List PlaceOf) → length ps ≡ n → length qs ≡ n → length rs ≡ n
+    → length ss ≡ n
     → mask_l (four side (sides_of place ps) (sides_of place qs) (sides_of place rs) (sides_of place ss)) ≡ second_bits side n
     → AllOnSide place side ps × (AllOnSide place side qs × (AllOnSide place side rs × AllOnSide place side ss))
 four_sides side place zero [] [] [] [] ep eq er es e = (tt, (tt, (tt, tt)))
@@ -177,7 +184,8 @@ length-sides place zero (p ∷ ps) e = absurd (omega arith)
 length-sides place (suc n) [] e = absurd (omega arith)
 length-sides place (suc n) (p ∷ ps) e = let more = length-sides place n ps (omega arith) in omega (arith, more)
 
-length-four : (side : Bool) (ps qs rs ss : List Bool) → length ps ≡ 16 → length qs ≡ 16 → length rs ≡ 16 → length ss ≡ 16 → length (four side ps qs rs ss) ≡ 16
+length-four : (side : Bool) (ps qs rs ss : List Bool) → length ps ≡ 16 → length qs ≡ 16 → length rs ≡ 16 → length ss ≡ 16
+    → length (four side ps qs rs ss) ≡ 16
 length-four side ps qs rs ss ep eq er es =
     let two = length-zip2 (joined side) ps qs (ep ∙ sym eq) ∙ ep in
     let three = length-zip2 (joined side) (zip2 (joined side) ps qs) rs (two ∙ sym er) ∙ two in
@@ -192,26 +200,34 @@ pub record EightPlaces (numbers : List ℤ) (ps : List PlaceOf) : Type 0 where
   pub on_earth : AllByRecursion IsPlace ps
   pub is : numbers ≡ coordinates_of ps
 
-eight_lanes : (place : PlaceOf) (bounds numbers : List ℤ) (ps : List PlaceOf) → IsPlace place → bounds ≡ bounds_of place 8 → EightPlaces numbers ps
+eight_lanes : (place : PlaceOf) (bounds numbers : List ℤ) (ps : List PlaceOf) → IsPlace place → bounds ≡ bounds_of place 8
+    → EightPlaces numbers ps
     → above_in bounds numbers ≡ map full (sides_of place ps)
 eight_lanes place bounds numbers ps here e x = rw (e, x.is) (compared place 8 ps x.long here x.on_earth)
 
-from_bits : (side : Bool) (place : PlaceOf) (bounds ks bs cs ds : List ℤ) (ps qs rs ss : List PlaceOf) (tests : List Bool) → EightPlaces ks ps → EightPlaces bs qs
-    → EightPlaces cs rs → EightPlaces ds ss → tests ≡ four side (sides_of place ps) (sides_of place qs) (sides_of place rs) (sides_of place ss)
+from_bits : (side : Bool) (place : PlaceOf) (bounds ks bs cs ds : List ℤ) (ps qs rs ss : List PlaceOf) (tests : List Bool)
+    → EightPlaces ks ps → EightPlaces bs qs
+    → EightPlaces cs rs → EightPlaces ds ss → tests
+    ≡ four side (sides_of place ps) (sides_of place qs) (sides_of place rs) (sides_of place ss)
     → mask_l tests % 2 ^ 64 ≡ second_bits side 8
     → AllOnSide place side ps × (AllOnSide place side qs × (AllOnSide place side rs × AllOnSide place side ss))
 from_bits side place bounds ks bs cs ds ps qs rs ss tests a b c d is e =
     let sides = λ (xs : List PlaceOf). sides_of place xs in
     let long : length tests ≡ 16 =
-    rw is (length-four side (sides ps) (sides qs) (sides rs) (sides ss) (length-sides place 8 ps a.long) (length-sides place 8 qs b.long) (length-sides place 8 rs c.long) (length-sides place 8 ss d.long)) in
+    rw is (length-four side (sides ps) (sides qs) (sides rs) (sides ss) (length-sides place 8 ps a.long) (length-sides place 8 qs b.long)
+    (length-sides place 8 rs c.long) (length-sides place 8 ss d.long)) in
     let value = sym (mask_l-mod tests 64 (omega (arith, long))) ∙ e in
     four_sides side place 8 ps qs rs ss a.long b.long c.long d.long (ap mask_l (sym is) ∙ value)
 
 -- four vectors whose lanes, put together by a bit operation, are all on one side
-module _ (side : Bool) (op : ℕ → ℕ → ℕ) (lanes : (xs ys : List Bool) → zip2 (λ x y. op x y) (map full xs) (map full ys) ≡ map full (zip2 (joined side) xs ys)) where
-  all_side : (place : PlaceOf) (bounds ks bs cs ds : List ℤ) (ps qs rs ss : List PlaceOf) → IsPlace place → bounds ≡ bounds_of place 8 → EightPlaces ks ps
+module _ (side : Bool) (op : ℕ → ℕ → ℕ) (lanes : (xs ys : List Bool)
+    → zip2 (λ x y. op x y) (map full xs) (map full ys) ≡ map full (zip2 (joined side) xs ys)) where
+  all_side : (place : PlaceOf) (bounds ks bs cs ds : List ℤ) (ps qs rs ss : List PlaceOf) → IsPlace place → bounds ≡ bounds_of place 8
+      → EightPlaces ks ps
       → EightPlaces bs qs → EightPlaces cs rs → EightPlaces ds ss
-      → mask_l (map (top 31) (zip2 (λ x y. op x y) (zip2 (λ x y. op x y) (zip2 (λ x y. op x y) (above_in bounds ks) (above_in bounds bs)) (above_in bounds cs)) (above_in bounds ds))) % 2 ^ 64 ≡ second_bits side 8
+      → mask_l (map (top 31) (zip2 (λ x y. op x y)
+      (zip2 (λ x y. op x y) (zip2 (λ x y. op x y) (above_in bounds ks) (above_in bounds bs)) (above_in bounds cs))
+      (above_in bounds ds))) % 2 ^ 64 ≡ second_bits side 8
       → AllOnSide place side ps × (AllOnSide place side qs × (AllOnSide place side rs × AllOnSide place side ss))
   all_side place bounds ks bs cs ds ps qs rs ss here e a b c d bits =
       let xs = sides_of place ps in
@@ -230,21 +246,29 @@ module _ (side : Bool) (op : ℕ → ℕ → ℕ) (lanes : (xs ys : List Bool) �
       ) (tops (four side xs ys zs us)))
       bits
 
-pub north_level : (place : PlaceOf) (bounds ks bs cs ds : List ℤ) (ps qs rs ss : List PlaceOf) → IsPlace place → bounds ≡ bounds_of place 8 → EightPlaces ks ps
+pub north_level : (place : PlaceOf) (bounds ks bs cs ds : List ℤ) (ps qs rs ss : List PlaceOf) → IsPlace place → bounds ≡ bounds_of place 8
+    → EightPlaces ks ps
     → EightPlaces bs qs → EightPlaces cs rs → EightPlaces ds ss
-    → mask_l (map (top 31) (zip2 (λ x y. bit_and x y) (zip2 (λ x y. bit_and x y) (zip2 (λ x y. bit_and x y) (above_in bounds ks) (above_in bounds bs)) (above_in bounds cs)) (above_in bounds ds))) % 2 ^ 64 ≡ 43690
+    → mask_l (map (top 31) (zip2 (λ x y. bit_and x y)
+    (zip2 (λ x y. bit_and x y) (zip2 (λ x y. bit_and x y) (above_in bounds ks) (above_in bounds bs)) (above_in bounds cs))
+    (above_in bounds ds))) % 2 ^ 64 ≡ 43690
     → AllOnSide place true ps × (AllOnSide place true qs × (AllOnSide place true rs × AllOnSide place true ss))
 north_level = all_side true bit_and and_lanes
 
-pub south_level : (place : PlaceOf) (bounds ks bs cs ds : List ℤ) (ps qs rs ss : List PlaceOf) → IsPlace place → bounds ≡ bounds_of place 8 → EightPlaces ks ps
+pub south_level : (place : PlaceOf) (bounds ks bs cs ds : List ℤ) (ps qs rs ss : List PlaceOf) → IsPlace place → bounds ≡ bounds_of place 8
+    → EightPlaces ks ps
     → EightPlaces bs qs → EightPlaces cs rs → EightPlaces ds ss
-    → mask_l (map (top 31) (zip2 (λ x y. bit_or x y) (zip2 (λ x y. bit_or x y) (zip2 (λ x y. bit_or x y) (above_in bounds ks) (above_in bounds bs)) (above_in bounds cs)) (above_in bounds ds))) % 2 ^ 64 ≡ 0
+    → mask_l (map (top 31) (zip2 (λ x y. bit_or x y)
+    (zip2 (λ x y. bit_or x y) (zip2 (λ x y. bit_or x y) (above_in bounds ks) (above_in bounds bs)) (above_in bounds cs))
+    (above_in bounds ds))) % 2 ^ 64 ≡ 0
     → AllOnSide place false ps × (AllOnSide place false qs × (AllOnSide place false rs × AllOnSide place false ss))
 south_level = all_side false bit_or or_lanes
 
 -- the places of four vectors, and the one after them
 pub all_level : (side : Bool) (place last : PlaceOf) (ring : List PlaceOf) (at : ℕ) → at + 33 ≤ length ring
-    → AllOnSide place side (chunk at 8 ring) × (AllOnSide place side (chunk (at + 8) 8 ring) × (AllOnSide place side (chunk (at + 16) 8 ring) × AllOnSide place side (chunk (at + 24) 8 ring)))
+    → AllOnSide place side (chunk at 8 ring)
+    × (AllOnSide place side (chunk (at + 8) 8 ring)
+    × (AllOnSide place side (chunk (at + 16) 8 ring) × AllOnSide place side (chunk (at + 24) 8 ring)))
     → last ≡ get_or ring (at + 32) last → IsOnSide place side last → crossings (slice_range ring at (at + 33)) place ≡ 0
 all_level side place last ring at h all e one =
     let P = IsOnSide place side in

@@ -1,5 +1,6 @@
 -- The least and the greatest of lists.
-use Rattle.std.proofs.Common.{◌≡◌, ℕ, ◌+◌, ◌*◌, ◌<◌, ◌≤◌, ◌-◌, ◌^◌, refl, sym, ◌∙◌, arith, nat_lt, Bool, true, false, cond, List, [], ◌∷◌, ◌++◌, map, length, take, drop, get_or, min, max, ℤ, pos, ◌-ℤ◌}
+use Rattle.std.proofs.Common.{◌≡◌, ℕ, ◌+◌, ◌*◌, ◌<◌, ◌≤◌, ◌-◌, ◌^◌, refl, sym, ◌∙◌, arith, nat_lt, Bool, true, false, cond, List, [], ◌∷◌}
+use Rattle.std.proofs.Common.{◌++◌, map, length, take, drop, get_or, min, max, ℤ, pos, ◌-ℤ◌}
 use lib.Lanes.{top, zip2, sel_l, chunk}
 use Rattle.std.proofs.Math.Seq.{take-add}
 use Rattle.std.proofs.lemmas.List.{map-append, length-map, take-append-drop}
@@ -116,7 +117,8 @@ least_next xs i x h e =
     let first : drop i xs ≡ x ∷ drop (i + 1) xs = grind (arith, common_steps) in
     rw first
 
-pub greatest_next : (xs : List ℕ) (i x : ℕ) → i < length xs → x ≡ get_or xs i x → greatest_of (drop i xs) ≡ max x (greatest_of (drop (i + 1) xs))
+pub greatest_next : (xs : List ℕ) (i x : ℕ) → i < length xs → x ≡ get_or xs i x
+    → greatest_of (drop i xs) ≡ max x (greatest_of (drop (i + 1) xs))
 greatest_next xs i x h e =
     let first : drop i xs ≡ x ∷ drop (i + 1) xs = grind (arith, common_steps) in
     rw first
@@ -134,7 +136,15 @@ least_more f ps at lanes new block long room so_far e g =
     let block_long : length block ≡ 16 = rw e (length-map (chunk at 16 ps) f ∙ length-chunk at 16 ps room) in
     let same = long ∙ sym block_long in (
       rw g (length-zip2 min lanes block same ∙ long),
-      rw (g, least_zip2 lanes block same, so_far, e, take-add at 16 ps, map-append f (take at ps) (chunk at 16 ps), least-append (map f (take at ps)) (map f (chunk at 16 ps))),
+      rw (
+        g,
+        least_zip2 lanes block same,
+        so_far,
+        e,
+        take-add at 16 ps,
+        map-append f (take at ps) (chunk at 16 ps),
+        least-append (map f (take at ps)) (map f (chunk at 16 ps)),
+      ),
     )
 
 pub greatest_more : (f : PlaceOf → ℕ) (ps : List PlaceOf) (at : ℕ) (lanes new block : List ℕ) → length lanes ≡ 16 → at + 16 ≤ length ps
@@ -144,15 +154,35 @@ greatest_more f ps at lanes new block long room so_far e g =
     let block_long : length block ≡ 16 = rw e (length-map (chunk at 16 ps) f ∙ length-chunk at 16 ps room) in
     let same = long ∙ sym block_long in (
       rw g (length-zip2 max lanes block same ∙ long),
-      rw (g, greatest_zip2 lanes block same, so_far, e, take-add at 16 ps, map-append f (take at ps) (chunk at 16 ps), greatest-append (map f (take at ps)) (map f (chunk at 16 ps))),
+      rw (
+        g,
+        greatest_zip2 lanes block same,
+        so_far,
+        e,
+        take-add at 16 ps,
+        map-append f (take at ps) (chunk at 16 ps),
+        greatest-append (map f (take at ps)) (map f (chunk at 16 ps)),
+      ),
     )
 
 pub least_end : (f : PlaceOf → ℕ) (ps : List PlaceOf) (at low end : ℕ) (rest : List PlaceOf) → rest ≡ drop at ps
     → low ≡ least_of (map f (take at ps)) → end ≡ min low (least_of (map f rest)) → end ≡ least_of (map f ps)
 least_end f ps at low end rest e g h =
-    h ∙ (rw (e, g, ← least-append (map f (take at ps)) (map f (drop at ps)), ← map-append f (take at ps) (drop at ps), take-append-drop at ps))
+    h ∙ (rw (
+      e,
+      g,
+      ← least-append (map f (take at ps)) (map f (drop at ps)),
+      ← map-append f (take at ps) (drop at ps),
+      take-append-drop at ps,
+    ))
 
 pub greatest_end : (f : PlaceOf → ℕ) (ps : List PlaceOf) (at low end : ℕ) (rest : List PlaceOf) → rest ≡ drop at ps
     → low ≡ greatest_of (map f (take at ps)) → end ≡ max low (greatest_of (map f rest)) → end ≡ greatest_of (map f ps)
 greatest_end f ps at low end rest e g h =
-    h ∙ (rw (e, g, ← greatest-append (map f (take at ps)) (map f (drop at ps)), ← map-append f (take at ps) (drop at ps), take-append-drop at ps))
+    h ∙ (rw (
+      e,
+      g,
+      ← greatest-append (map f (take at ps)) (map f (drop at ps)),
+      ← map-append f (take at ps) (drop at ps),
+      take-append-drop at ps,
+    ))

@@ -1,5 +1,7 @@
 -- Vectors, lane by lane.
-use Rattle.std.proofs.Common.{◌≡◌, ℕ, ◌+◌, ◌*◌, ◌<◌, ◌≤◌, ◌-◌, ◌^◌, ◌%◌, refl, sym, ap, ◌∙◌, arith, nat_lt, Bool, true, false, cond, ◌&&◌, if◌then◌else◌, List, [], ◌∷◌, map, length, Fits, w32, bit_xor, ℤ, pos, neg_ℤ, ◌+ℤ◌, ◌≤ℤ◌, unsigned_abs, count_by, replicate}
+use Rattle.std.proofs.Common.{◌≡◌, ℕ, ◌+◌, ◌*◌, ◌<◌, ◌≤◌, ◌-◌, ◌^◌, ◌%◌, refl, sym, ap, ◌∙◌, arith, nat_lt, Bool, true, false, cond, ◌&&◌}
+use Rattle.std.proofs.Common.{if◌then◌else◌, List, [], ◌∷◌, map, length, Fits, w32, bit_xor, ℤ, pos, neg_ℤ, ◌+ℤ◌, ◌≤ℤ◌, unsigned_abs}
+use Rattle.std.proofs.Common.{count_by, replicate}
 use Rattle.std.proofs.lemmas.List.{length-map}
 use lib.Count.{ones as count_ones}
 use lib.Lanes.{zip2, sel_l, top, Each1, mask_l}
@@ -66,12 +68,15 @@ to_lanes h (x ∷ xs) (y ∷ ys) e =
 
 -- what the lanes give for the starts and the ends of segments
 abbrev pub apart_in : List ℕ → List ℕ → List ℕ
-apart_in hs xs = zip2 (λ a b. (a + (2 ^ 32 - b)) % 2 ^ 32) (sel_l (map (top 31) (zip2 below32 xs hs)) hs xs) (sel_l (map (top 31) (zip2 below32 xs hs)) xs hs)
+apart_in hs xs = zip2 (λ a b. (a + (2 ^ 32 - b)) % 2 ^ 32) (sel_l (map (top 31) (zip2 below32 xs hs)) hs xs)
+    (sel_l (map (top 31) (zip2 below32 xs hs)) xs hs)
 
 pub kept_lanes : (h : ℕ) (xs ys hs zs : List ℕ) → length xs ≡ 16 → length ys ≡ 16 → hs ≡ replicate 16 h → zs ≡ replicate 16 0
     → h < 2 ^ 32 → Each1 (Fits w32) xs → Each1 (Fits w32) ys
-    → (sel_l (map (top 31) (zip2 (λ a b. bit_xor a b) (zip2 below32 hs xs) (zip2 below32 hs ys))) (apart_in hs xs) zs ≡ zip2 (λ start end. kept h start end start) xs ys)
-    × (sel_l (map (top 31) (zip2 (λ a b. bit_xor a b) (zip2 below32 hs xs) (zip2 below32 hs ys))) (apart_in hs ys) zs ≡ zip2 (λ start end. kept h start end end) xs ys)
+    → (sel_l (map (top 31) (zip2 (λ a b. bit_xor a b) (zip2 below32 hs xs) (zip2 below32 hs ys))) (apart_in hs xs) zs
+    ≡ zip2 (λ start end. kept h start end start) xs ys)
+    × (sel_l (map (top 31) (zip2 (λ a b. bit_xor a b) (zip2 below32 hs xs) (zip2 below32 hs ys))) (apart_in hs ys) zs
+    ≡ zip2 (λ start end. kept h start end end) xs ys)
 kept_lanes h xs ys hs zs m n e f fits_h fits_xs fits_ys =
     let hs_x = e ∙ splat_is_map xs 16 h m in
     let hs_y = e ∙ splat_is_map ys 16 h n in
@@ -173,7 +178,8 @@ lane place segment here ends =
 crossed_lanes : (place : PlaceOf) (vs : List Segment) → IsPlace place → AllByRecursion EndsOnEarth vs
     → map (top 63) (zip2 below64
     (zip2 times64 (map (λ _. east_of place) vs) (map (kept_both place) vs))
-    (zip2 plus64 (zip2 times64 (map (kept_from place) vs) (map (λ s. east_of s.end) vs)) (zip2 times64 (map (kept_to place) vs) (map (λ s. east_of s.start) vs))))
+    (zip2 plus64 (zip2 times64 (map (kept_from place) vs) (map (λ s. east_of s.end) vs))
+    (zip2 times64 (map (kept_to place) vs) (map (λ s. east_of s.start) vs))))
     ≡ map (crosses place) vs
 crossed_lanes place [] here ends = refl
 crossed_lanes place (s ∷ vs) here ends =

@@ -1,5 +1,6 @@
 -- Places that are all north of a latitude, or all not, and what is left of a ring.
-use Rattle.std.proofs.Common.{◌≡◌, ℕ, ◌+◌, ◌<◌, ◌≤◌, ◌-◌, suc, zero, refl, ap, arith, int_lt, Bool, true, false, cond, List, [], ◌∷◌, ◌++◌, length, take, drop, get_or, length-drop, count_by, slice_range, add_comm}
+use Rattle.std.proofs.Common.{◌≡◌, ℕ, ◌+◌, ◌<◌, ◌≤◌, ◌-◌, suc, zero, refl, ap, arith, int_lt, Bool, true, false, cond, List, [], ◌∷◌, ◌++◌}
+use Rattle.std.proofs.Common.{length, take, drop, get_or, length-drop, count_by, slice_range, add_comm}
 use Rattle.std.specs.List.{AllByRecursion}
 use Rattle.std.proofs.Math.Seq.{take-add}
 use Rattle.std.proofs.lemmas.Grind.{common_steps}
@@ -13,7 +14,8 @@ use Rattle.lanes_geo.proofs.Segments.{rest_at, next_place, length-segments_from}
 abbrev pub IsOnSide : PlaceOf → Bool → PlaceOf → Type 0
 IsOnSide place side other = int_lt place.lat other.lat ≡ side
 
-same_side : (side : Bool) (place : PlaceOf) (s : Segment) → IsOnSide place side s.start → IsOnSide place side s.end → crosses place s ≡ false
+same_side : (side : Bool) (place : PlaceOf) (s : Segment) → IsOnSide place side s.start → IsOnSide place side s.end
+    → crosses place s ≡ false
 same_side true place s e f = rw (e, f)
 same_side false place s e f = rw (e, f)
 
@@ -26,7 +28,8 @@ none_crossed side place p (x ∷ xs) e f =
     rw (sum_by-cons, one, more)
 
 -- the segments up to a place, and from it on
-split_at : (n : ℕ) (p : PlaceOf) (xs : List PlaceOf) → n < length xs → segments_from p xs ≡ segments_from p (take (suc n) xs) ++ segments (drop n xs)
+split_at : (n : ℕ) (p : PlaceOf) (xs : List PlaceOf) → n < length xs
+    → segments_from p xs ≡ segments_from p (take (suc n) xs) ++ segments (drop n xs)
 split_at zero p [] h = absurd (omega arith)
 split_at zero p (x ∷ xs) h = refl
 split_at (suc n) p [] h = absurd (omega arith)
@@ -45,7 +48,13 @@ more_from n ring place at h =
     let r = rest_at at ring (omega arith) in
     let room : n < length (drop (at + 1) ring) = rw length-drop (omega arith) in
     let cut : (at + suc (suc n)) - at ≡ suc (suc n) = omega arith in
-    rw (cut, r.1, split_at n r.0 (drop (at + 1) ring) room, sum_by-append (one_if place) (segments_from r.0 (take (suc n) (drop (at + 1) ring))) (segments (drop n (drop (at + 1) ring))), drop_again n (at + 1) (at + suc n) ring (omega arith))
+    rw (
+      cut,
+      r.1,
+      split_at n r.0 (drop (at + 1) ring) room,
+      sum_by-append (one_if place) (segments_from r.0 (take (suc n) (drop (at + 1) ring))) (segments (drop n (drop (at + 1) ring))),
+      drop_again n (at + 1) (at + suc n) ring (omega arith),
+    )
 
 pub thirty_two_more : (ring : List PlaceOf) (place : PlaceOf) (at : ℕ) → at + 33 ≤ length ring
     → crossings (drop at ring) place ≡ crossings (slice_range ring at (at + 33)) place + crossings (drop (at + 32) ring) place
@@ -53,7 +62,8 @@ thirty_two_more ring place at h = more_from 31 ring place at h
 
 -- the crossings of thirty-three places, in two parts
 pub two_parts : (ring : List PlaceOf) (place : PlaceOf) (at : ℕ) → at + 33 ≤ length ring
-    → crossings (slice_range ring at (at + 17)) place + crossings (slice_range ring (at + 16) (at + 16 + 17)) place ≡ crossings (slice_range ring at (at + 33)) place
+    → crossings (slice_range ring at (at + 17)) place + crossings (slice_range ring (at + 16) (at + 16 + 17)) place
+    ≡ crossings (slice_range ring at (at + 33)) place
 two_parts ring place at h =
     let first = more_from 15 ring place at (omega arith) in
     let end : (at + 16) + 16 ≡ at + 32 = omega arith in
@@ -62,7 +72,8 @@ two_parts ring place at h =
     omega (arith, first, second, whole)
 
 -- the crossing of one segment, and those of what is left
-pub one_more : (ring : List PlaceOf) (place start end : PlaceOf) (at : ℕ) → at + 2 ≤ length ring → start ≡ get_or ring at start → end ≡ get_or ring (at + 1) end
+pub one_more : (ring : List PlaceOf) (place start end : PlaceOf) (at : ℕ) → at + 2 ≤ length ring → start ≡ get_or ring at start
+    → end ≡ get_or ring (at + 1) end
     → crossings (drop at ring) place ≡ cond (crosses place (record { start = start; end = end })) 1 0 + crossings (drop (at + 1) ring) place
 one_more ring place start end at h e f =
     let first : drop at ring ≡ start ∷ drop (at + 1) ring = grind (arith, common_steps) in
@@ -86,7 +97,8 @@ pub all_append : (P : PlaceOf → Type 0) (xs ys : List PlaceOf) → AllByRecurs
 all_append P [] ys e f = f
 all_append P (x ∷ xs) ys e f = (e.0, all_append P xs ys e.1 f)
 
-pub all_joined : (P : PlaceOf → Type 0) (m n at next : ℕ) (xs : List PlaceOf) → next ≡ m + at → AllByRecursion P (take m (drop at xs)) → AllByRecursion P (take n (drop next xs))
+pub all_joined : (P : PlaceOf → Type 0) (m n at next : ℕ) (xs : List PlaceOf) → next ≡ m + at → AllByRecursion P (take m (drop at xs))
+    → AllByRecursion P (take n (drop next xs))
     → AllByRecursion P (take (m + n) (drop at xs))
 all_joined P m n at next xs e f g =
     rw (take-add m n (drop at xs), drop_again m at next xs e) (all_append P _ _ f g)

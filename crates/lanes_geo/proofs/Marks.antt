@@ -1,5 +1,7 @@
 -- Marks of boxes, four at a time.
-use Rattle.std.proofs.Common.{◌≡◌, ℕ, ◌+◌, ◌*◌, ◌/◌, ◌<◌, ◌≤◌, ◌-◌, ◌^◌, ◌%◌, ◌==◌, refl, sym, ap, ◌∙◌, arith, nat_le, int_le, take-add, Bool, true, false, cond, ◌&&◌, List, [], ◌∷◌, ◌++◌, map, length, take, drop, get_or, set, bit_and, ℤ, w32, FitsSigned, to_z, of_z}
+use Rattle.std.proofs.Common.{◌≡◌, ℕ, ◌+◌, ◌*◌, ◌/◌, ◌<◌, ◌≤◌, ◌-◌, ◌^◌, ◌%◌, ◌==◌, refl, sym, ap, ◌∙◌, arith, nat_le, int_le, take-add}
+use Rattle.std.proofs.Common.{Bool, true, false, cond, ◌&&◌, List, [], ◌∷◌, ◌++◌, map, length, take, drop, get_or, set, bit_and, ℤ, w32}
+use Rattle.std.proofs.Common.{FitsSigned, to_z, of_z}
 use lib.Lanes.{mask_l, top, zip2, chunk}
 use Rattle.std.proofs.lemmas.Bool.Decides.{nat_tests}
 use Rattle.std.proofs.lemmas.Grind.{common_steps}
@@ -18,7 +20,8 @@ mask_and true false = refl
 mask_and false true = refl
 mask_and false false = refl
 
-pub between : (ls ss ms : List ℕ) → map (top 31) (zip2 (λ a b. bit_and a b) (zip2 at_most32 ls ss) (zip2 at_most32 ss ms)) ≡ zip2 (λ a b. a && b) (zip2 nat_le ls ss) (zip2 nat_le ss ms)
+pub between : (ls ss ms : List ℕ) → map (top 31) (zip2 (λ a b. bit_and a b) (zip2 at_most32 ls ss) (zip2 at_most32 ss ms))
+    ≡ zip2 (λ a b. a && b) (zip2 nat_le ls ss) (zip2 nat_le ss ms)
 between [] ss ms = refl
 between (l ∷ ls) [] ms = refl
 between (l ∷ ls) (s ∷ ss) [] = refl
@@ -28,7 +31,8 @@ between (l ∷ ls) (s ∷ ss) (m ∷ ms) =
     λ i. one i ∷ more i
 
 pub between_mask : (ls ss ms : List ℕ) → length ls ≡ 16 → length ss ≡ 16 → length ms ≡ 16
-    → mask_l (map (top 31) (zip2 (λ a b. bit_and a b) (zip2 at_most32 ls ss) (zip2 at_most32 ss ms))) % 2 ^ 64 ≡ mask_l (zip2 (λ a b. a && b) (zip2 nat_le ls ss) (zip2 nat_le ss ms))
+    → mask_l (map (top 31) (zip2 (λ a b. bit_and a b) (zip2 at_most32 ls ss) (zip2 at_most32 ss ms))) % 2 ^ 64
+    ≡ mask_l (zip2 (λ a b. a && b) (zip2 nat_le ls ss) (zip2 nat_le ss ms))
 between_mask ls ss ms l s m =
     let one : length (zip2 nat_le ls ss) ≡ 16 = length-zip2 nat_le ls ss (l ∙ sym s) ∙ l in
     let two : length (zip2 nat_le ss ms) ≡ 16 = length-zip2 nat_le ss ms (s ∙ sym m) ∙ s in
@@ -139,15 +143,18 @@ pub tests : GeoBox → List GeoBox → List Bool
 tests asked [] = []
 tests asked (box ∷ boxes) = west_of asked box ∷ (south_of asked box ∷ (east_of asked box ∷ (north_of asked box ∷ tests asked boxes)))
 
-pub bits_of : (asked one two three four : GeoBox) (bits : ℕ) (ls ss ms : List ℕ) → FitBox asked → FitBox one × FitBox two × FitBox three × FitBox four
+pub bits_of : (asked one two three four : GeoBox) (bits : ℕ) (ls ss ms : List ℕ) → FitBox asked
+    → FitBox one × FitBox two × FitBox three × FitBox four
     → ls ≡ sixteen (least_lanes asked) → ms ≡ sixteen (most_lanes asked)
     → ss ≡ side_lanes one ++ (side_lanes two ++ (side_lanes three ++ side_lanes four))
     → bits ≡ mask_l (zip2 (λ a b. a && b) (zip2 nat_le ls ss) (zip2 nat_le ss ms))
-    → ((bits % 16 == 15) ≡ meets asked one) × ((bits / 16 % 16 == 15) ≡ meets asked two) × ((bits / 16 / 16 % 16 == 15) ≡ meets asked three) × ((bits / 16 / 16 / 16 % 16 == 15) ≡ meets asked four)
+    → ((bits % 16 == 15) ≡ meets asked one) × ((bits / 16 % 16 == 15) ≡ meets asked two) × ((bits / 16 / 16 % 16 == 15) ≡ meets asked three)
+    × ((bits / 16 / 16 / 16 % 16 == 15) ≡ meets asked four)
 unfolding tests
 bits_of asked one two three four bits ls ss ms a f e1 e2 e3 e4 =
     let b0 : bits ≡ mask_l (tests asked (one ∷ (two ∷ (three ∷ (four ∷ []))))) = e4 ∙ (rw (e1, e2, e3)) in
-    let b1 : bits / 16 ≡ mask_l (tests asked (two ∷ (three ∷ (four ∷ [])))) = rw b0 (higher _ _ _ _ (tests asked (two ∷ (three ∷ (four ∷ []))))) in
+    let b1 : bits / 16 ≡ mask_l (tests asked (two ∷ (three ∷ (four ∷ [])))) =
+    rw b0 (higher _ _ _ _ (tests asked (two ∷ (three ∷ (four ∷ []))))) in
     let b2 : bits / 16 / 16 ≡ mask_l (tests asked (three ∷ (four ∷ []))) = rw b1 (higher _ _ _ _ (tests asked (three ∷ (four ∷ [])))) in
     let b3 : bits / 16 / 16 / 16 ≡ mask_l (tests asked (four ∷ [])) = rw b2 (higher _ _ _ _ (tests asked (four ∷ []))) in (
       rw b0 (one_box asked one (tests asked (two ∷ (three ∷ (four ∷ [])))) a f.0),
@@ -160,7 +167,8 @@ bits_of asked one two three four bits ls ss ms a f e1 e2 e3 e4 =
 pub one_set : (m : List Bool) (i next : ℕ) (v : Bool) → next ≡ i + 1 → i < length m → take next (set m i v) ≡ take i m ++ v ∷ []
 one_set m i next v e h = grind (arith, common_steps)
 
-pub four_at : (boxes : List GeoBox) (at : ℕ) (a b c d : GeoBox) → at + 4 ≤ length boxes → a ≡ get_or boxes at a → b ≡ get_or boxes (at + 1) b
+pub four_at : (boxes : List GeoBox) (at : ℕ) (a b c d : GeoBox) → at + 4 ≤ length boxes → a ≡ get_or boxes at a
+    → b ≡ get_or boxes (at + 1) b
     → c ≡ get_or boxes (at + 2) c → d ≡ get_or boxes (at + 3) d → chunk at 4 boxes ≡ a ∷ (b ∷ (c ∷ (d ∷ [])))
 four_at boxes at a b c d h e f g i =
     let first : drop at boxes ≡ a ∷ drop (at + 1) boxes = grind (arith, common_steps) in

@@ -1,5 +1,6 @@
 -- Segments, and the places that they join.
-use Rattle.std.proofs.Common.{◌≡◌, ℕ, ◌+◌, ◌<◌, ◌≤◌, ◌-◌, suc, pos, refl, ap, arith, List, [], ◌∷◌, map, length, take, drop, get_or, slice_range}
+use Rattle.std.proofs.Common.{◌≡◌, ℕ, ◌+◌, ◌<◌, ◌≤◌, ◌-◌, suc, pos, refl, ap, arith, List, [], ◌∷◌, map, length, take, drop, get_or}
+use Rattle.std.proofs.Common.{slice_range}
 use lib.Lanes.{chunk}
 use Rattle.std.specs.List.{AllByRecursion}
 use Rattle.std.proofs.lemmas.Grind.{common_steps}
@@ -12,7 +13,8 @@ pub length-segments_from : (p : PlaceOf) (xs : List PlaceOf) → length (segment
 length-segments_from p [] = refl
 length-segments_from p (x ∷ xs) = ap suc (length-segments_from x xs)
 
-pub starts_from : (f : PlaceOf → ℕ) (p : PlaceOf) (xs : List PlaceOf) → map f (take (length xs) (p ∷ xs)) ≡ map (λ s. f s.start) (segments_from p xs)
+pub starts_from : (f : PlaceOf → ℕ) (p : PlaceOf) (xs : List PlaceOf)
+    → map f (take (length xs) (p ∷ xs)) ≡ map (λ s. f s.start) (segments_from p xs)
 starts_from f p [] = refl
 starts_from f p (x ∷ xs) = ap (λ ys. f p ∷ ys) (starts_from f x xs)
 
@@ -20,7 +22,8 @@ pub ends_from : (f : PlaceOf → ℕ) (p : PlaceOf) (xs : List PlaceOf) → map 
 ends_from f p [] = refl
 ends_from f p (x ∷ xs) = ap (λ ys. f x ∷ ys) (ends_from f x xs)
 
-pub ends_on_earth : (p : PlaceOf) (xs : List PlaceOf) → IsPlace p → AllByRecursion IsPlace xs → AllByRecursion EndsOnEarth (segments_from p xs)
+pub ends_on_earth : (p : PlaceOf) (xs : List PlaceOf) → IsPlace p → AllByRecursion IsPlace xs
+    → AllByRecursion EndsOnEarth (segments_from p xs)
 ends_on_earth p [] e f = tt
 ends_on_earth p (x ∷ xs) e f = ((e, f.0), ends_on_earth x xs f.0 f.1)
 

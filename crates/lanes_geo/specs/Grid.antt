@@ -1,6 +1,7 @@
 -- Places counted from the south west corner of the world, so that both numbers are natural.
 use mir.Syntax.{w32}
-use Rattle.std.specs.Prelude.{ℕ, zero, suc, ℤ, pos, List, [], ◌∷◌, ◌++◌, FitsSigned, min, max, nat_lt, if◌then◌else◌, ◌+◌, ◌-◌, ◌+ℤ◌, unsigned_abs}
+use Rattle.std.specs.Prelude.{ℕ, zero, suc, ℤ, pos, List, [], ◌∷◌, ◌++◌, FitsSigned, min, max, nat_lt, if◌then◌else◌, ◌+◌, ◌-◌, ◌+ℤ◌}
+use Rattle.std.specs.Prelude.{unsigned_abs}
 use mathlib.Core.Bool.{beq}
 use Rattle.osm_base.specs.declared.values.place.GeoBox.{GeoBox}
 use Rattle.osm_base.specs.values.Place.{PlaceOf, IsOnEarth}

@@ -8,7 +8,8 @@ use Rattle.line_build.specs.Joins.{extended_at_first, line_begun}
 
 alone : (piece : Line) (unused : List Line) → is_closed piece ≡ true → line_begun piece unused ≡ found_of piece unused
 alone piece unused closed =
-    ap (λ (forward : Found). cond (is_closed forward.0) forward (extended_at_first forward.0 forward.1)) (extended-closed (length unused) piece unused closed)
+    ap (λ (forward : Found). cond (is_closed forward.0) forward (extended_at_first forward.0 forward.1))
+    (extended-closed (length unused) piece unused closed)
     ∙ ap (λ b. cond b (found_of piece unused) (extended_at_first piece unused)) closed
 
 fewer : (piece : Line) (unused : List Line) → length (line_begun piece unused).1 ≤ length unused

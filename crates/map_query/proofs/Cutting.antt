@@ -1,5 +1,6 @@
 -- The words of a text, one after the other.
-use Rattle.std.proofs.Common.{◌≡◌, ℕ, ◌<◌, ◌==◌, true, false, List, [], ◌∷◌, length, Option, Some, None, Ok, Err, refl, ◌∙◌, ap, arith, inl, inr}
+use Rattle.std.proofs.Common.{◌≡◌, ℕ, ◌<◌, ◌==◌, true, false, List, [], ◌∷◌, length, Option, Some, None, Ok, Err, refl, ◌∙◌, ap, arith, inl}
+use Rattle.std.proofs.Common.{inr}
 use Rattle.std.specs.Prelude.{MatchOption}
 use Rattle.std.specs.Borrow.{Bor}
 use Rattle.std.specs.List.{slice_split, position_or_len, before_first, after_first}
@@ -26,7 +27,8 @@ one_at_least x xs = ne_eqb _ _ (λ e. omega arith)
 some_words : (text : List ℕ) → (length (words_of text) == 0) ≡ false
 unfolding words_of
 some_words text = elim (cases_lt (position_or_len (is 32) text) (length text)) [
-  | inl lt ↦ ap (λ words. length words == 0) (split_first (is 32) text lt) ∙ one_at_least (before_first (is 32) text) (slice_split (is 32) (after_first (is 32) text))
+  | inl lt ↦ ap (λ words. length words == 0) (split_first (is 32) text lt)
+      ∙ one_at_least (before_first (is 32) text) (slice_split (is 32) (after_first (is 32) text))
   | inr le ↦ ap (λ words. length words == 0) (split_none (is 32) text (omega (arith, place_le (is 32) text))) ∙ one_at_least text []
 ]
 
@@ -34,11 +36,13 @@ pub next_alone : (text : List ℕ) → words_of text ≡ text ∷ [] → next_wo
 unfolding next_word
 next_alone text e = rw e refl
 
-pub next_empty : (text word rest : List ℕ) → words_of text ≡ word ∷ words_of rest → is_empty word ≡ true → next_word (words_of text) ≡ Err Form
+pub next_empty : (text word rest : List ℕ) → words_of text ≡ word ∷ words_of rest → is_empty word ≡ true
+    → next_word (words_of text) ≡ Err Form
 unfolding next_word
 next_empty text word rest e none = rw (e, some_words rest, none) refl
 
-pub next_some : (text word rest : List ℕ) → words_of text ≡ word ∷ words_of rest → is_empty word ≡ false → next_word (words_of text) ≡ Ok (word, words_of rest)
+pub next_some : (text word rest : List ℕ) → words_of text ≡ word ∷ words_of rest → is_empty word ≡ false
+    → next_word (words_of text) ≡ Ok (word, words_of rest)
 unfolding next_word
 next_some text word rest e some = rw (e, some_words rest, some) refl
 

@@ -1,5 +1,6 @@
 -- The box around several lines.
-use Rattle.std.proofs.Common.{◌≡◌, ℕ, ◌+◌, ◌<◌, ℤ, List, [], ◌∷◌, ◌++◌, map, length, take, get_or, append_assoc, Option, Some, refl, sym, ◌∙◌, ap, arith}
+use Rattle.std.proofs.Common.{◌≡◌, ℕ, ◌+◌, ◌<◌, ℤ, List, [], ◌∷◌, ◌++◌, map, length, take, get_or, append_assoc, Option, Some, refl, sym}
+use Rattle.std.proofs.Common.{◌∙◌, ap, arith}
 use Rattle.std.specs.Prelude.{flat_map}
 use Rattle.std.specs.List.{fold}
 use Rattle.std.specs.Int.{int_min, int_max}
@@ -49,14 +50,16 @@ flat_map_append f [] x = no_more (f x)
 flat_map_append f (y ∷ ys) x = ap (λ rest. f y ++ rest) (flat_map_append f ys x) ∙ sym (append_assoc (f y) (flat_map f ys) (f x))
 
 -- the box around those so far, and one more
-pub box_more : {A : Type 0} (f : A → List PlaceOf) (xs : List A) (i : ℕ) (x : A) (so_far : Option GeoBox) → i < length xs → x ≡ get_or xs i x → so_far ≡ box_of (flat_map f (take i xs))
+pub box_more : {A : Type 0} (f : A → List PlaceOf) (xs : List A) (i : ℕ) (x : A) (so_far : Option GeoBox) → i < length xs
+    → x ≡ get_or xs i x → so_far ≡ box_of (flat_map f (take i xs))
     → joined so_far (box_of (f x)) ≡ box_of (flat_map f (take (i + 1) xs))
 box_more f xs i x so_far h e before =
     ap (λ box. joined box (box_of (f x))) before ∙ sym (box_of-append (flat_map f (take i xs)) (f x))
     ∙ ap box_of (sym (ap (flat_map f) (one_more xs i x h e) ∙ flat_map_append f (take i xs) x))
 
 -- a box by its sides
-pub around_is : (one other : GeoBox) (west south east north : ℤ) → west ≡ int_min one.west other.west → south ≡ int_min one.south other.south
+pub around_is : (one other : GeoBox) (west south east north : ℤ) → west ≡ int_min one.west other.west
+    → south ≡ int_min one.south other.south
     → east ≡ int_max one.east other.east → north ≡ int_max one.north other.north
     → ◌≡◌ {A = GeoBox} (record { west = west; south = south; east = east; north = north }) (around one other)
 around_is one other west south east north a b c d = λ i. record { west = a i; south = b i; east = c i; north = d i }

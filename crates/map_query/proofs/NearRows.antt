@@ -1,5 +1,6 @@
 -- Rows that are found by their boxes are those that a filter of all rows leaves.
-use Rattle.std.proofs.Common.{◌≡◌, ℕ, Bool, true, false, cond, ◌&&◌, ◌||◌, ◌==◌, T, List, [], ◌∷◌, ◌++◌, map, Option, Some, None, is_some, refl, sym, ap, subst, ◌∙◌, arith}
+use Rattle.std.proofs.Common.{◌≡◌, ℕ, Bool, true, false, cond, ◌&&◌, ◌||◌, ◌==◌, T, List, [], ◌∷◌, ◌++◌, map, Option, Some, None, is_some}
+use Rattle.std.proofs.Common.{refl, sym, ap, subst, ◌∙◌, arith}
 use Rattle.std.proofs.lemmas.Bool.Decides.{nat_tests}
 use Rattle.std.proofs.lemmas.Cmp.{tied_itself}
 use Rattle.std.specs.Prelude.{filter}
@@ -46,16 +47,19 @@ module _ {K X : Type 0} (R : K → K → Ordering) (total : IsTotalOrder R) (sam
   abbrev kept : List (K × X) → List (K × X)
   kept pairs = filter (λ pair. test pair.1) pairs
 
-  none_tied : (pairs : List (K × X)) (key : K) → AllByRecursion (λ other. eq_by_cmp R key other ≡ false) (map (λ pair. pair.0) pairs) → find R key pairs ≡ None
+  none_tied : (pairs : List (K × X)) (key : K) → AllByRecursion (λ other. eq_by_cmp R key other ≡ false) (map (λ pair. pair.0) pairs)
+      → find R key pairs ≡ None
   none_tied [] key h = refl
   none_tied (pair ∷ pairs) key h = ap (λ b. cond b (Some pair.1) (find R key pairs)) h.0 ∙ none_tied pairs key h.1
 
-  find_kept : (pairs : List (K × X)) (key : K) → IsDistinct (eq_by_cmp R) (map (λ pair. pair.0) pairs) → find R key (kept pairs) ≡ keep test (find R key pairs)
+  find_kept : (pairs : List (K × X)) (key : K) → IsDistinct (eq_by_cmp R) (map (λ pair. pair.0) pairs)
+      → find R key (kept pairs) ≡ keep test (find R key pairs)
   unfolding IsDistinct
   find_kept [] key once = refl
   find_kept (pair ∷ pairs) key once = go (find_kept pairs key once.1) (eq_by_cmp R key pair.0) (test pair.1) refl refl
     where
-      go : (find R key (kept pairs) ≡ keep test (find R key pairs)) → (b c : Bool) → eq_by_cmp R key pair.0 ≡ b → test pair.1 ≡ c → find R key (cond c (pair ∷ kept pairs) (kept pairs)) ≡ keep test (cond b (Some pair.1) (find R key pairs))
+      go : (find R key (kept pairs) ≡ keep test (find R key pairs)) → (b c : Bool) → eq_by_cmp R key pair.0 ≡ b → test pair.1 ≡ c
+          → find R key (cond c (pair ∷ kept pairs) (kept pairs)) ≡ keep test (cond b (Some pair.1) (find R key pairs))
       go rest true true e f = ap (λ b. cond b (Some pair.1) (find R key (kept pairs))) e ∙ sym (ap (λ c. cond c (Some pair.1) None) f)
       go rest true false e f =
           let own : pair.0 ≡ key = sym (same key pair.0 (equal (R key pair.0) e)) in
@@ -68,13 +72,15 @@ module _ {K X : Type 0} (R : K → K → Ordering) (total : IsTotalOrder R) (sam
   below_kept key [] h = h
   below_kept key (pair ∷ pairs) h =
       let rest = below_kept key pairs (both_right _ _ h) in
-      elim (test pair.1) as (λ b. T (below_all R key (cond b (pair ∷ kept pairs) (kept pairs)))) [ true ↦ both _ _ (both_left _ _ h) rest | false ↦ rest ]
+      elim (test pair.1) as (λ b. T (below_all R key (cond b (pair ∷ kept pairs) (kept pairs))))
+      [ true ↦ both _ _ (both_left _ _ h) rest | false ↦ rest ]
 
   sorted_kept : (pairs : List (K × X)) → T (is_sorted R pairs) → T (is_sorted R (kept pairs))
   sorted_kept [] h = h
   sorted_kept (pair ∷ pairs) h =
       let rest = sorted_kept pairs (both_right _ _ h) in
-      elim (test pair.1) as (λ b. T (is_sorted R (cond b (pair ∷ kept pairs) (kept pairs)))) [ true ↦ both _ _ (below_kept pair.0 pairs (both_left _ _ h)) rest | false ↦ rest ]
+      elim (test pair.1) as (λ b. T (is_sorted R (cond b (pair ∷ kept pairs) (kept pairs))))
+      [ true ↦ both _ _ (below_kept pair.0 pairs (both_left _ _ h)) rest | false ↦ rest ]
 
   -- pairs are put into another order before they are kept, or after
   kept_in_order : (C : K → K → Ordering) → IsTotalOrder C → (pairs : List (K × X)) → T (is_sorted C pairs)
@@ -82,7 +88,8 @@ module _ {K X : Type 0} (R : K → K → Ordering) (total : IsTotalOrder R) (sam
   kept_in_order C whole pairs rises =
       let ordered : List (K × X) = finite.entries (finite.from_entries {R = R} pairs) in
       let up : T (is_sorted R ordered) = finite.entries_sorted (finite.from_entries {R = R} pairs) in
-      let each : (key : K) → finite.get (finite.from_entries {R = R} (kept pairs)) key ≡ finite.get (finite.from_entries {R = R} (kept ordered)) key = λ key.
+      let each : (key : K) → finite.get (finite.from_entries {R = R} (kept pairs)) key
+      ≡ finite.get (finite.from_entries {R = R} (kept ordered)) key = λ key.
       finite.get-from_entries total (kept pairs) key
       ∙ (find_kept pairs key (once-rising R total same C whole pairs rises)
       ∙ (ap (keep test) (sym (finite.get-from_entries total pairs key) ∙ finite.get-entries (finite.from_entries {R = R} pairs) key)
@@ -118,7 +125,8 @@ apart_tables table own o apart =
           absurd (cc)
     ] refl
 
-find_among : (table : ℕ) (key : KeyOf) (rows : List (SpotOf × Row)) → find key_cmp key (rows_among table rows) ≡ find spot_cmp (at table key) rows
+find_among : (table : ℕ) (key : KeyOf) (rows : List (SpotOf × Row))
+    → find key_cmp key (rows_among table rows) ≡ find spot_cmp (at table key) rows
 find_among table key [] = refl
 find_among table key (entry ∷ rows) = go (find_among table key rows) (entry.0.table == table) refl
   where
@@ -126,11 +134,15 @@ find_among table key (entry ∷ rows) = go (find_among table key rows) (entry.0.
     own = entry.0.key
 
     go : (find key_cmp key (rows_among table rows) ≡ find spot_cmp (at table key) rows) → (b : Bool) → (entry.0.table == table) ≡ b
-        → find key_cmp key (map (λ own. (own.0.key, own.1)) (cond b (entry ∷ filter (λ own. own.0.table == table) rows) (filter (λ own. own.0.table == table) rows))) ≡ find spot_cmp (at table key) (entry ∷ rows)
+        → find key_cmp key (map (λ own. (own.0.key, own.1))
+        (cond b (entry ∷ filter (λ own. own.0.table == table) rows) (filter (λ own. own.0.table == table) rows)))
+        ≡ find spot_cmp (at table key) (entry ∷ rows)
     go rest true e =
         ap (cond (is_eq (key_cmp key own)) (Some entry.1)) rest
-        ∙ ap (λ o. cond (is_eq o) (Some entry.1) (find spot_cmp (at table key) rows)) (sym (in_table table entry.0.table key own (same_number entry.0.table table e)))
-    go rest false e = rest ∙ ap (λ b. cond b (Some entry.1) (find spot_cmp (at table key) rows)) (sym (apart_tables table entry.0.table (key_cmp key own) e))
+        ∙ ap (λ o. cond (is_eq o) (Some entry.1) (find spot_cmp (at table key) rows))
+        (sym (in_table table entry.0.table key own (same_number entry.0.table table e)))
+    go rest false e = rest ∙ ap (λ b. cond b (Some entry.1) (find spot_cmp (at table key) rows))
+        (sym (apart_tables table entry.0.table (key_cmp key own) e))
 
 find_of : (tables : TableMap) (table : ℕ) (key : KeyOf) → find key_cmp key (rows_of tables table) ≡ finite.get tables (at table key)
 find_of tables table key = find_among table key (finite.entries tables) ∙ sym (finite.get-entries tables (at table key))
@@ -165,23 +177,29 @@ module _ (tables : TableMap) (table : ℕ) where
       far : Option GeoBox
       far = find spot_cmp (at table key) boxes
 
-      go : (find key_cmp key (found boxes) ≡ cond (is_some far) here None) → (b : Bool) (o : Option Row) → is_eq (key_cmp key own) ≡ b → finite.get tables (at table own) ≡ o
+      go : (find key_cmp key (found boxes) ≡ cond (is_some far) here None) → (b : Bool) (o : Option Row) → is_eq (key_cmp key own) ≡ b
+          → finite.get tables (at table own) ≡ o
           → find key_cmp key (only own o ++ found boxes) ≡ cond (is_some (cond b (Some entry.1) far)) here None
       go rest true None e got =
-          let none : here ≡ None = ap (λ k. finite.get tables (at table k)) (key_cmp-IsAntisymmetric key own (equal (key_cmp key own) e)) ∙ got in
+          let none : here ≡ None = ap (λ k. finite.get tables (at table k)) (key_cmp-IsAntisymmetric key own (equal (key_cmp key own) e))
+          ∙ got in
           rest ∙ (ap (λ o. cond (is_some far) o None) none ∙ (cond_none (is_some far) ∙ sym none))
       go rest true (Some row) e got =
-          let there : here ≡ Some row = ap (λ k. finite.get tables (at table k)) (key_cmp-IsAntisymmetric key own (equal (key_cmp key own) e)) ∙ got in
+          let there : here ≡ Some row = ap (λ k. finite.get tables (at table k))
+          (key_cmp-IsAntisymmetric key own (equal (key_cmp key own) e)) ∙ got in
           ap (λ b. cond b (Some row) (find key_cmp key (found boxes))) e ∙ sym there
       go rest false None e got = rest
       go rest false (Some row) e got = ap (λ b. cond b (Some row) (find key_cmp key (found boxes))) e ∙ rest
 
-  below_at : (key : KeyOf) (boxes : List (SpotOf × GeoBox)) → IsOf table boxes → T (below_all spot_cmp (at table key) boxes) → T (below_all key_cmp key (found boxes))
+  below_at : (key : KeyOf) (boxes : List (SpotOf × GeoBox)) → IsOf table boxes → T (below_all spot_cmp (at table key) boxes)
+      → T (below_all key_cmp key (found boxes))
   below_at key [] of h = tt
   below_at key (entry ∷ boxes) of h =
       let rest = below_at key boxes of.1 (both_right _ _ h) in
-      let first : T (is_lt (key_cmp key entry.0.key)) = subst (λ o. T (is_lt o)) (in_table table entry.0.table key entry.0.key of.0) (both_left _ _ h) in
-      elim (finite.get tables (at table entry.0.key)) as (λ o. T (below_all key_cmp key (only entry.0.key o ++ found boxes))) [ None ↦ rest | Some row ↦ both _ _ first rest ]
+      let first : T (is_lt (key_cmp key entry.0.key)) =
+      subst (λ o. T (is_lt o)) (in_table table entry.0.table key entry.0.key of.0) (both_left _ _ h) in
+      elim (finite.get tables (at table entry.0.key)) as
+      (λ o. T (below_all key_cmp key (only entry.0.key o ++ found boxes))) [ None ↦ rest | Some row ↦ both _ _ first rest ]
 
   sorted_at : (boxes : List (SpotOf × GeoBox)) → IsOf table boxes → T (is_sorted spot_cmp boxes) → T (is_sorted key_cmp (found boxes))
   sorted_at [] of h = tt
@@ -189,7 +207,8 @@ module _ (tables : TableMap) (table : ℕ) where
       let rest = sorted_at boxes of.1 (both_right _ _ h) in
       let spot : entry.0 ≡ at table entry.0.key = λ i. record { table = of.0 i; key = entry.0.key } in
       let below = below_at entry.0.key boxes of.1 (subst (λ own. T (below_all spot_cmp own boxes)) spot (both_left _ _ h)) in
-      elim (finite.get tables (at table entry.0.key)) as (λ o. T (is_sorted key_cmp (only entry.0.key o ++ found boxes))) [ None ↦ rest | Some row ↦ both _ _ below rest ]
+      elim (finite.get tables (at table entry.0.key)) as
+      (λ o. T (is_sorted key_cmp (only entry.0.key o ++ found boxes))) [ None ↦ rest | Some row ↦ both _ _ below rest ]
 
 -- ---- what the boxes tell
 
@@ -202,7 +221,8 @@ and_left true b e = refl
 and_left false b e = absurd (cc)
 
 -- what holds of each spot that is tied to one of these holds of all
-all_in : (P : SpotOf → Type 0) (spots : List SpotOf) → ((spot : SpotOf) → list_any (eq_by_cmp spot_cmp spot) spots ≡ true → P spot) → AllByRecursion P spots
+all_in : (P : SpotOf → Type 0) (spots : List SpotOf) → ((spot : SpotOf) → list_any (eq_by_cmp spot_cmp spot) spots ≡ true → P spot)
+    → AllByRecursion P spots
 all_in P [] h = tt
 all_in P (spot ∷ spots) h = (
   h spot (ap (λ o. is_eq o || list_any (eq_by_cmp spot_cmp spot) spots) (tied_itself spot_cmp_total spot)),
@@ -210,13 +230,16 @@ all_in P (spot ∷ spots) h = (
 )
 
 near_or_not : (asked : GeoBox) (found : Option Row) (b : Bool) → b ≡ true
-    → cond (is_some (cond (b && option_map_or (meets asked) (box_in found) false) (box_in found) None)) found None ≡ keep (is_in asked) found
+    → cond (is_some (cond (b && option_map_or (meets asked) (box_in found) false) (box_in found) None)) found None
+    ≡ keep (is_in asked) found
 near_or_not asked None true e = refl
 near_or_not asked (Some row) true e = go (box_of (places_of row.geometry))
   where
-    go : (around : Option GeoBox) → cond (is_some (cond (option_map_or (meets asked) around false) around None)) (Some row) None ≡ cond (option_map_or (meets asked) around false) (Some row) None
+    go : (around : Option GeoBox) → cond (is_some (cond (option_map_or (meets asked) around false) around None)) (Some row) None
+        ≡ cond (option_map_or (meets asked) around false) (Some row) None
     go None = refl
-    go (Some box) = elim (meets asked box) as (λ b. cond (is_some (cond b (Some box) None)) (Some row) None ≡ cond b (Some row) None) [ true ↦ refl | false ↦ refl ]
+    go (Some box) = elim (meets asked box) as
+        (λ b. cond (is_some (cond b (Some box) None)) (Some row) None ≡ cond b (Some row) None) [ true ↦ refl | false ↦ refl ]
 near_or_not asked found false e = absurd (cc)
 
 module _ (tables : TableMap) (boxes : BoxMap) (table : ℕ) (asked : GeoBox) (boxed : IsBoxed tables boxes) where
@@ -224,21 +247,25 @@ module _ (tables : TableMap) (boxes : BoxMap) (table : ℕ) (asked : GeoBox) (bo
   near = wanted (meets asked) boxes table
 
   near_at : (spot : SpotOf) → finite.get near spot ≡ cond (is_wanted (meets asked) boxes table spot) (finite.get boxes spot) None
-  near_at spot = finite.get-retain_keys boxes (is_wanted (meets asked) boxes table) spot (λ other tied. ap (is_wanted (meets asked) boxes table) (sym (spot_cmp-IsAntisymmetric spot other tied)))
+  near_at spot = finite.get-retain_keys boxes (is_wanted (meets asked) boxes table) spot
+      (λ other tied. ap (is_wanted (meets asked) boxes table) (sym (spot_cmp-IsAntisymmetric spot other tied)))
 
-  one_of : (spot : SpotOf) (b : Bool) → is_wanted (meets asked) boxes table spot ≡ b → is_some (finite.get near spot) ≡ true → spot.table ≡ table
+  one_of : (spot : SpotOf) (b : Bool) → is_wanted (meets asked) boxes table spot ≡ b → is_some (finite.get near spot) ≡ true
+      → spot.table ≡ table
   one_of spot true e there = same_number spot.table table (and_left _ _ e)
   one_of spot false e there =
       let none : is_some (finite.get near spot) ≡ false = ap is_some (near_at spot ∙ ap (λ b. cond b (finite.get boxes spot) None) e) in
       absurd (cc)
 
   near_of : IsOf table (finite.entries near)
-  near_of = all_in (λ spot. spot.table ≡ table) (finite.keys near) (λ spot any. one_of spot (is_wanted (meets asked) boxes table spot) refl (finite.contains_key-keys near spot ∙ any))
+  near_of = all_in (λ spot. spot.table ≡ table) (finite.keys near)
+      (λ spot any. one_of spot (is_wanted (meets asked) boxes table spot) refl (finite.contains_key-keys near spot ∙ any))
 
   pub rising : T (is_sorted key_cmp (rows_at tables table (found_in boxes table asked)))
   rising = sorted_at tables table (finite.entries near) near_of (finite.entries_sorted near)
 
-  near_get : (key : KeyOf) → cond (is_some (finite.get near (at table key))) (finite.get tables (at table key)) None ≡ keep (is_in asked) (finite.get tables (at table key))
+  near_get : (key : KeyOf) → cond (is_some (finite.get near (at table key))) (finite.get tables (at table key)) None
+      ≡ keep (is_in asked) (finite.get tables (at table key))
   near_get key =
       let spot : SpotOf = at table key in
       let all : Option GeoBox → Option GeoBox = λ box. cond ((table == table) && option_map_or (meets asked) box false) box None in
@@ -250,23 +277,30 @@ module _ (tables : TableMap) (boxes : BoxMap) (table : ℕ) (asked : GeoBox) (bo
   found_rows =
       let one : List (KeyOf × Row) = rows_at tables table (found_in boxes table asked) in
       let other : List (KeyOf × Row) = filter (λ own. is_in asked own.1) (rows_of tables table) in
-      let all : T (is_sorted key_cmp (rows_of tables table)) = rows_among-rising table (finite.entries tables) (finite.entries_sorted tables) in
-      let each : (key : KeyOf) → finite.get (finite.from_entries {R = key_cmp} one) key ≡ finite.get (finite.from_entries {R = key_cmp} other) key = λ key.
+      let all : T (is_sorted key_cmp (rows_of tables table)) =
+      rows_among-rising table (finite.entries tables) (finite.entries_sorted tables) in
+      let each : (key : KeyOf) → finite.get (finite.from_entries {R = key_cmp} one) key
+      ≡ finite.get (finite.from_entries {R = key_cmp} other) key = λ key.
       finite.get-from_entries key_cmp_total one key
       ∙ (find_at tables table key (finite.entries near) near_of
       ∙ (ap (λ box. cond (is_some box) (finite.get tables (at table key)) None) (sym (finite.get-entries near (at table key)))
       ∙ (near_get key
       ∙ (ap (keep (is_in asked)) (sym (find_of tables table key))
-      ∙ (sym (find_kept key_cmp key_cmp_total key_cmp-IsAntisymmetric (is_in asked) (rows_of tables table) key (once-rising key_cmp key_cmp_total key_cmp-IsAntisymmetric key_cmp key_cmp_total (rows_of tables table) all))
+      ∙ (sym (find_kept key_cmp key_cmp_total key_cmp-IsAntisymmetric (is_in asked) (rows_of tables table) key
+      (once-rising key_cmp key_cmp_total key_cmp-IsAntisymmetric key_cmp key_cmp_total (rows_of tables table) all))
       ∙ sym (finite.get-from_entries key_cmp_total other key)))))) in
       sym (entries-from_entries key_cmp key_cmp_total key_cmp-IsAntisymmetric one rising)
       ∙ (ap finite.entries (finite.same_map key_cmp_total key_cmp-IsAntisymmetric _ _ each)
-      ∙ entries-from_entries key_cmp key_cmp_total key_cmp-IsAntisymmetric other (sorted_kept key_cmp key_cmp_total key_cmp-IsAntisymmetric (is_in asked) (rows_of tables table) all))
+      ∙ entries-from_entries key_cmp key_cmp_total key_cmp-IsAntisymmetric other
+      (sorted_kept key_cmp key_cmp_total key_cmp-IsAntisymmetric (is_in asked) (rows_of tables table) all))
 
   -- and in the order of their numbers
-  pub found_in_order : (of_areas : Bool) → finite.entries (finite.from_entries {R = by_number of_areas} (rows_at tables table (found_in boxes table asked)))
+  pub found_in_order : (of_areas : Bool) → finite.entries
+      (finite.from_entries {R = by_number of_areas} (rows_at tables table (found_in boxes table asked)))
       ≡ filter (λ own. is_in asked own.1) (finite.entries (finite.from_entries {R = by_number of_areas} (rows_of tables table)))
   found_in_order of_areas =
-      let all : T (is_sorted key_cmp (rows_of tables table)) = rows_among-rising table (finite.entries tables) (finite.entries_sorted tables) in
+      let all : T (is_sorted key_cmp (rows_of tables table)) =
+      rows_among-rising table (finite.entries tables) (finite.entries_sorted tables) in
       ap (λ rows. finite.entries (finite.from_entries {R = by_number of_areas} rows)) found_rows
-      ∙ kept_in_order (by_number of_areas) (by_number_total of_areas) (by_number-IsAntisymmetric of_areas) (is_in asked) key_cmp key_cmp_total (rows_of tables table) all
+      ∙ kept_in_order (by_number of_areas) (by_number_total of_areas) (by_number-IsAntisymmetric of_areas)
+      (is_in asked) key_cmp key_cmp_total (rows_of tables table) all

@@ -8,6 +8,7 @@ use Rattle.std.specs.List.{position, position_or_len}
 pub position_within : {A : Type 0} (test : A → Bool) (xs : List A) (at : ℕ) → position test xs ≡ Some at → at < length xs
 position_within test xs at e = go (nat_lt (position_or_len test xs) (length xs)) refl e
   where
-    go : (b : Bool) → nat_lt (position_or_len test xs) (length xs) ≡ b → cond b (Some (position_or_len test xs)) None ≡ Some at → at < length xs
+    go : (b : Bool) → nat_lt (position_or_len test xs) (length xs) ≡ b → cond b (Some (position_or_len test xs)) None ≡ Some at
+        → at < length xs
     go true lt e = let same : position_or_len test xs ≡ at = cc in grind (arith, nat_tests)
     go false lt e = absurd (cc)

@@ -36,7 +36,8 @@ pub ways_made : AreMade way_parts AreWayParts object_bytes (IsStored kinds.Way) 
 unfolding object_bytes
 ways_made = record { parts = way_split; told = λ p. refl }
 
-pub way_stored : (nodes : List ℕ) (tags : TagMap) → IsList IsNumber nodes → AreTags tags → AllByRecursion IsId nodes → IsStored kinds.Way (Way nodes tags)
+pub way_stored : (nodes : List ℕ) (tags : TagMap) → IsList IsNumber nodes → AreTags tags → AllByRecursion IsId nodes
+    → IsStored kinds.Way (Way nodes tags)
 unfolding IsStored
 way_stored nodes tags few are ids = (record { few = few; ids = ids }, are)
 
@@ -53,7 +54,8 @@ AreRelationParts p = Both (IsList IsMember) AreTags p
 abbrev pub relation_of : List Member × TagMap → Object
 relation_of p = Relation p.0 p.1
 
-relation_split : (object : Object) → IsStored kinds.Relation object → (p : List Member × TagMap) × AreRelationParts p × (object ≡ relation_of p)
+relation_split : (object : Object) → IsStored kinds.Relation object
+    → (p : List Member × TagMap) × AreRelationParts p × (object ≡ relation_of p)
 unfolding IsStored
 relation_split (Node place tags) is = absurd is
 relation_split (Way nodes tags) is = absurd is
@@ -63,7 +65,8 @@ pub relations_made : AreMade relation_parts AreRelationParts object_bytes (IsSto
 unfolding object_bytes
 relations_made = record { parts = relation_split; told = λ p. refl }
 
-pub relation_stored : (members : List Member) (tags : TagMap) → IsList IsMember members → AreTags tags → IsStored kinds.Relation (Relation members tags)
+pub relation_stored : (members : List Member) (tags : TagMap) → IsList IsMember members → AreTags tags
+    → IsStored kinds.Relation (Relation members tags)
 unfolding IsStored
 relation_stored members tags are tagged = (are, tagged)
 
@@ -74,7 +77,8 @@ each_at (number ∷ numbers) zero each within = each.0
 each_at (number ∷ numbers) (suc place) each within = each_at numbers place each.1 (omega arith)
 
 -- what was put, of a kind that is kept
-pub way_put : (nodes : List ℕ) (tags : TagMap) (old : List ℕ) → old ++ (list_bytes number_bytes nodes ++ tags_bytes tags) ≡ old ++ object_bytes (Way nodes tags)
+pub way_put : (nodes : List ℕ) (tags : TagMap) (old : List ℕ)
+    → old ++ (list_bytes number_bytes nodes ++ tags_bytes tags) ≡ old ++ object_bytes (Way nodes tags)
 unfolding object_bytes
 way_put nodes tags old = refl
 
@@ -89,7 +93,8 @@ kept_way kinds.Node nodes tags kept few are = absurd kept
 kept_way kinds.Way nodes tags kept few are = way_stored nodes tags few are kept
 kept_way kinds.Relation nodes tags kept few are = absurd kept
 
-pub kept_relation : (kind : Kind) (members : List Member) (tags : TagMap) → IsKept kind (Relation members tags) → IsList IsMember members → AreTags tags
+pub kept_relation : (kind : Kind) (members : List Member) (tags : TagMap) → IsKept kind (Relation members tags) → IsList IsMember members
+    → AreTags tags
     → IsStored kind (Relation members tags)
 kept_relation kinds.Node members tags kept are tagged = absurd kept
 kept_relation kinds.Way members tags kept are tagged = absurd kept

@@ -1,5 +1,6 @@
 -- What a file has that has no fault.
-use Rattle.std.proofs.Common.{◌≡◌, ℕ, ◌+◌, ◌<◌, ◌≤◌, true, false, nat_lt, nat_le, if◌then◌else◌, Option, Some, None, List, [], ◌∷◌, length, IsTrue, IfSome, IsOk, refl, sym, ◌∙◌, ap, subst, arith}
+use Rattle.std.proofs.Common.{◌≡◌, ℕ, ◌+◌, ◌<◌, ◌≤◌, true, false, nat_lt, nat_le, if◌then◌else◌, Option, Some, None, List, [], ◌∷◌, length}
+use Rattle.std.proofs.Common.{IsTrue, IfSome, IsOk, refl, sym, ◌∙◌, ap, subst, arith}
 use Rattle.std.proofs.lemmas.Bool.{leb-true, ltb-true}
 use Rattle.std.specs.Prelude.{Result, Ok, Err}
 use Rattle.std.specs.List.{AllByRecursion, cons_option}
@@ -17,7 +18,8 @@ use Rattle.object_fold.specs.declared.fault.FileFault.TheVariants.{Malformed, Li
 use Rattle.object_fold.specs.declared.passed.Passed.{Passed}
 use Rattle.object_fold.specs.Change.{Follows, IsProper, RiseFrom}
 use Rattle.object_fold.specs.Entries.{unless, entries_of, IsAccepted}
-use Rattle.object_fold.specs.Passed.{entry_in, spelled, spelled_by, count_fault, order_fault, entry_fault, said_fault, text_fault, line_fault}
+use Rattle.object_fold.specs.Passed.{entry_in, spelled, spelled_by, count_fault, order_fault, entry_fault, said_fault, text_fault}
+use Rattle.object_fold.specs.Passed.{line_fault}
 use Rattle.object_fold.specs.Progress.{last_of, passed_line, in_front, entries_from}
 use Rattle.object_fold.specs.Reading.{HasEntries}
 use Rattle.object_fold.proofs.Proper.{reading-IsProper}
@@ -36,25 +38,30 @@ counted limits entries =
       | false ↦ λ less e. absurd (cc)
     ] refl
 
-entry_fits : (limits : LimitNumbers) (passed : Passed) (entry : Entry) → entry_fault limits passed entry.key ≡ None → Fits limits passed entry
+entry_fits : (limits : LimitNumbers) (passed : Passed) (entry : Entry) → entry_fault limits passed entry.key ≡ None
+    → Fits limits passed entry
 entry_fits limits passed entry =
-    elim passed.last as (λ last. option_or (order_fault passed.lines last entry.key) (count_fault limits passed.entries) ≡ None → Follows last entry.key × (passed.entries < limits.entries)) [
+    elim passed.last as (λ last. option_or (order_fault passed.lines last entry.key) (count_fault limits passed.entries) ≡ None
+    → Follows last entry.key × (passed.entries < limits.entries)) [
       | None ↦ λ e. (tt, counted limits passed.entries e)
       | Some earlier ↦
           elim (is_below earlier entry.key) as (λ test. is_below earlier entry.key ≡ test
-          → option_or (if test then None else Some (Malformed (passed.lines + 1) (Order earlier entry.key))) (count_fault limits passed.entries) ≡ None
+          → option_or (if test then None else Some (Malformed (passed.lines + 1) (Order earlier entry.key)))
+          (count_fault limits passed.entries) ≡ None
           → IsTrue (is_below earlier entry.key) × (passed.entries < limits.entries)) [
             | true ↦ λ below e. (below, counted limits passed.entries e)
             | false ↦ λ below e. absurd (cc)
           ] refl
     ]
 
-said_well : (limits : LimitNumbers) (passed : Passed) (said : Result (Option Entry) Why) → said_fault limits passed said ≡ None → IsOk said × IfSome (entry_in said) (Fits limits passed)
+said_well : (limits : LimitNumbers) (passed : Passed) (said : Result (Option Entry) Why) → said_fault limits passed said ≡ None
+    → IsOk said × IfSome (entry_in said) (Fits limits passed)
 said_well limits passed (Err why) e = absurd (cc)
 said_well limits passed (Ok None) e = (refl, tt)
 said_well limits passed (Ok (Some entry)) e = (refl, entry_fits limits passed entry e)
 
-read_well : (limits : LimitNumbers) (passed : Passed) (line : List ℕ) → text_fault limits passed line ≡ None → IsOk (reading line) × IfSome (spelled line) (Fits limits passed)
+read_well : (limits : LimitNumbers) (passed : Passed) (line : List ℕ) → text_fault limits passed line ≡ None
+    → IsOk (reading line) × IfSome (spelled line) (Fits limits passed)
 unfolding text_fault
 read_well limits passed line e = said_well limits passed (reading line) e
 
@@ -73,10 +80,16 @@ keeps limits passed line =
     else Some (Limit FileLines (limits.lines + 1))) None → Keeps limits passed line) [
       | true ↦ λ number.
           elim (nat_le (length line) limits.line_bytes) as (λ second. nat_le (length line) limits.line_bytes ≡ second
-          → ◌≡◌ {A = Option FileFault} (if second then text_fault limits passed line else Some (Limit LineBytes (limits.line_bytes + 1))) None → Keeps limits passed line) [
+          → ◌≡◌ {A = Option FileFault} (if second then text_fault limits passed line else Some (Limit LineBytes (limits.line_bytes + 1)))
+          None → Keeps limits passed line) [
             | true ↦ λ short e.
                 let well = read_well limits passed line e in
-                record { number = ltb-true passed.lines limits.lines number; line_bytes = leb-true (length line) limits.line_bytes short; read = well.0; entry = well.1 }
+                record {
+                  number = ltb-true passed.lines limits.lines number;
+                  line_bytes = leb-true (length line) limits.line_bytes short;
+                  read = well.0;
+                  entry = well.1;
+                }
             | false ↦ λ short e. absurd (cc)
           ] refl
       | false ↦ λ number e. absurd (cc)
@@ -103,11 +116,13 @@ record Rest (limits : LimitNumbers) (passed : Passed) (lines : List (List ℕ)) 
   counted : passed.entries ≤ limits.entries → passed.entries + length entries ≤ limits.entries
   rise : RiseFrom passed.last entries
 
-without_fault : (fault : Option FileFault) (value : Result (List Entry) FileFault) (entries : List Entry) → unless fault value ≡ Ok entries → (fault ≡ None) × (value ≡ Ok entries)
+without_fault : (fault : Option FileFault) (value : Result (List Entry) FileFault) (entries : List Entry) → unless fault value ≡ Ok entries
+    → (fault ≡ None) × (value ≡ Ok entries)
 without_fault None value entries e = (refl, e)
 without_fault (Some fault) value entries e = absurd (cc)
 
-in_front-ok : (entry : Option Entry) (left : Result (List Entry) FileFault) (entries : List Entry) → in_front entry left ≡ Ok entries → (own : List Entry) × (left ≡ Ok own) × (cons_option entry own ≡ entries)
+in_front-ok : (entry : Option Entry) (left : Result (List Entry) FileFault) (entries : List Entry) → in_front entry left ≡ Ok entries
+    → (own : List Entry) × (left ≡ Ok own) × (cons_option entry own ≡ entries)
 in_front-ok entry (Ok own) entries e = let same : cons_option entry own ≡ entries = cc in (own, refl, same)
 in_front-ok entry (Err fault) entries e = absurd (cc)
 
@@ -120,12 +135,14 @@ counted-more : (limits : LimitNumbers) (passed : Passed) (entry : Option Entry) 
 counted-more limits passed None fits own more within = omega (arith, more (omega arith))
 counted-more limits passed (Some entry) fits own more within = omega (arith, fits.1, more (omega (arith, fits.1)))
 
-rise-more : (limits : LimitNumbers) (passed : Passed) (entry : Option Entry) → IfSome entry (Fits limits passed) → IfSome entry IsProper → (own : List Entry)
+rise-more : (limits : LimitNumbers) (passed : Passed) (entry : Option Entry) → IfSome entry (Fits limits passed) → IfSome entry IsProper
+    → (own : List Entry)
     → RiseFrom (last_of passed.last entry) own → RiseFrom passed.last (cons_option entry own)
 rise-more limits passed None fits proper own rise = rise
 rise-more limits passed (Some entry) fits proper own rise = (proper, fits.0, rise)
 
-rest : (limits : LimitNumbers) (passed : Passed) (lines : List (List ℕ)) (entries : List Entry) → entries_from limits passed lines ≡ Ok entries → Rest limits passed lines entries
+rest : (limits : LimitNumbers) (passed : Passed) (lines : List (List ℕ)) (entries : List Entry)
+    → entries_from limits passed lines ≡ Ok entries → Rest limits passed lines entries
 unfolding entries_from
 rest limits passed [] entries e =
     subst (Rest limits passed []) (same_ok [] entries e) (record {
@@ -153,7 +170,8 @@ rest limits passed (line ∷ lines) entries e =
       rise = rise-more limits passed entry kept.entry (spelled-IsProper line) own later.rise;
     })
 
-pub accepted : (limits : LimitNumbers) (bytes : List ℕ) (entries : List Entry) → entries_of limits bytes ≡ Ok entries → IsAccepted limits bytes entries
+pub accepted : (limits : LimitNumbers) (bytes : List ℕ) (entries : List Entry) → entries_of limits bytes ≡ Ok entries
+    → IsAccepted limits bytes entries
 accepted limits bytes entries e =
     let start : Passed = record { lines = 0; entries = 0; last = None } in
     let all = rest limits start (lines_of bytes) entries (entries_of-start limits start bytes refl ∙ e) in
@@ -166,7 +184,8 @@ accepted limits bytes entries e =
       rise = all.rise;
     }
 
-pub HasEntries-IsAccepted : (limits : LimitNumbers) (entries : List Entry) (left rest : Option (List ℕ)) → HasEntries limits entries left rest
+pub HasEntries-IsAccepted : (limits : LimitNumbers) (entries : List Entry) (left rest : Option (List ℕ))
+    → HasEntries limits entries left rest
     → (bytes : List ℕ) → left ≡ Some bytes → IsAccepted limits bytes entries
 HasEntries-IsAccepted limits entries None rest has bytes told = absurd (cc)
 HasEntries-IsAccepted limits entries (Some own) None has bytes told = absurd has

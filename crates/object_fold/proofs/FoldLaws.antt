@@ -14,11 +14,13 @@ use Rattle.osm_base.specs.map.Objects.{ObjectSet, with_object, folded, folded_al
 abbrev pub Untouched : KeyOf → List Entry → Type 0
 Untouched key entries = AllByRecursion (λ (entry : Entry). eq_by_cmp key_cmp key entry.key ≡ false) entries
 
-pub get-with_object : (objects : ObjectSet) (key : KeyOf) (object : Option Object) (own : KeyOf) → finite.get (with_object objects key object) own ≡ cond (eq_by_cmp key_cmp own key) object (finite.get objects own)
+pub get-with_object : (objects : ObjectSet) (key : KeyOf) (object : Option Object) (own : KeyOf)
+    → finite.get (with_object objects key object) own ≡ cond (eq_by_cmp key_cmp own key) object (finite.get objects own)
 get-with_object objects key None own = finite.get-remove key_cmp_total objects key own
 get-with_object objects key (Some object) own = finite.get-insert key_cmp_total objects key object own
 
-pub get-untouched : (objects : ObjectSet) (entries : List Entry) (key : KeyOf) → Untouched key entries → finite.get (folded_all objects entries) key ≡ finite.get objects key
+pub get-untouched : (objects : ObjectSet) (entries : List Entry) (key : KeyOf) → Untouched key entries
+    → finite.get (folded_all objects entries) key ≡ finite.get objects key
 get-untouched objects [] key untouched = refl
 get-untouched objects (entry ∷ entries) key untouched =
     get-untouched (folded objects entry) entries key untouched.1

@@ -1,5 +1,6 @@
 -- The ids in the definition of the index rise.
-use Rattle.std.proofs.Common.{◌≡◌, ℕ, Bool, true, false, ◌&&◌, ◌||◌, cond, T, List, [], ◌∷◌, map, Option, Some, None, refl, sym, ap, subst, ◌∙◌, nat_eq, arith}
+use Rattle.std.proofs.Common.{◌≡◌, ℕ, Bool, true, false, ◌&&◌, ◌||◌, cond, T, List, [], ◌∷◌, map, Option, Some, None, refl, sym, ap, subst}
+use Rattle.std.proofs.Common.{◌∙◌, nat_eq, arith}
 use mathlib.Core.Bool.{false≢true}
 use Rattle.std.proofs.lemmas.Bool.Decides.{nat_tests}
 use Rattle.std.specs.declared.cmp.Ordering.{Ordering}
@@ -53,7 +54,8 @@ module _ (objects : ObjectSet) (by kind : Kind) (id : ℕ) where
   first_true true b both = tt
   first_true false b both = absurd both
 
-  less_ids : (own other : KeyOf) → is_kind by own.kind ≡ true → is_kind by other.kind ≡ true → T (is_lt (key_cmp own other)) → nat_cmp own.id other.id ≡ Less
+  less_ids : (own other : KeyOf) → is_kind by own.kind ≡ true → is_kind by other.kind ≡ true → T (is_lt (key_cmp own other))
+      → nat_cmp own.id other.id ≡ Less
   less_ids own other kinds other_kinds lt =
       is_less _ (subst (λ order. T (is_lt order)) (same_kind_order by own.id other.id)
       (subst (λ kind. T (is_lt (key_cmp (key by own.id) (key kind other.id)))) (sym (kind_same by other.kind other_kinds))
@@ -62,17 +64,22 @@ module _ (objects : ObjectSet) (by kind : Kind) (id : ℕ) where
   abbrev first_keys : List (KeyOf × Object) → List KeyOf
   first_keys entries = map (λ entry. entry.0) entries
 
-  below_ids : (first : KeyOf) (entries : List (KeyOf × Object)) → T (finite.Entries.below_all key_cmp first entries) → is_kind by first.kind ≡ true
+  below_ids : (first : KeyOf) (entries : List (KeyOf × Object)) → T (finite.Entries.below_all key_cmp first entries)
+      → is_kind by first.kind ≡ true
       → AllByRecursion (λ own. nat_cmp first.id own ≡ Less) (passing passes (first_keys entries))
   below_ids first [] below kinds = tt
   below_ids first (entry ∷ entries) below kinds =
       let rest = below_ids first entries (second_true _ _ below) kinds in
       elim (is_kind by entry.0.kind) as (λ b. is_kind by entry.0.kind ≡ b
-      → AllByRecursion (λ own. nat_cmp first.id own ≡ Less) (map (λ own. own.id) (cond (b && lists kind id (finite.get objects entry.0)) (entry.0 ∷ filter passes (first_keys entries)) (filter passes (first_keys entries))))) [
-        | true ↦ λ same. elim (lists kind id (finite.get objects entry.0)) as (λ b. AllByRecursion (λ own. nat_cmp first.id own ≡ Less) (map (λ own. own.id) (cond b (entry.0 ∷ filter passes (first_keys entries)) (filter passes (first_keys entries))))) [
-          | true ↦ (less_ids first entry.0 kinds same (first_true _ _ below), rest)
-          | false ↦ rest
-        ]
+      → AllByRecursion (λ own. nat_cmp first.id own ≡ Less)
+      (map (λ own. own.id) (cond (b && lists kind id (finite.get objects entry.0)) (entry.0 ∷ filter passes (first_keys entries))
+      (filter passes (first_keys entries))))) [
+        | true ↦ λ same. elim (lists kind id (finite.get objects entry.0)) as
+            (λ b. AllByRecursion (λ own. nat_cmp first.id own ≡ Less)
+            (map (λ own. own.id) (cond b (entry.0 ∷ filter passes (first_keys entries)) (filter passes (first_keys entries))))) [
+              | true ↦ (less_ids first entry.0 kinds same (first_true _ _ below), rest)
+              | false ↦ rest
+            ]
         | false ↦ λ differs. rest
       ] refl
 
@@ -82,11 +89,14 @@ module _ (objects : ObjectSet) (by kind : Kind) (id : ℕ) where
   rise-passing (entry ∷ entries) sorted =
       let rest = rise-passing entries (second_true _ _ sorted) in
       elim (is_kind by entry.0.kind) as (λ b. is_kind by entry.0.kind ≡ b
-      → IsRising (map (λ own. own.id) (cond (b && lists kind id (finite.get objects entry.0)) (entry.0 ∷ filter passes (first_keys entries)) (filter passes (first_keys entries))))) [
-        | true ↦ λ same. elim (lists kind id (finite.get objects entry.0)) as (λ b. IsRising (map (λ own. own.id) (cond b (entry.0 ∷ filter passes (first_keys entries)) (filter passes (first_keys entries))))) [
-          | true ↦ (below_ids entry.0 entries (first_true _ _ sorted) same, rest)
-          | false ↦ rest
-        ]
+      → IsRising (map (λ own. own.id) (cond (b && lists kind id (finite.get objects entry.0)) (entry.0 ∷ filter passes (first_keys entries))
+      (filter passes (first_keys entries))))) [
+        | true ↦ λ same. elim (lists kind id (finite.get objects entry.0)) as
+            (λ b. IsRising (map (λ own. own.id) (cond b (entry.0 ∷ filter passes (first_keys entries))
+            (filter passes (first_keys entries))))) [
+              | true ↦ (below_ids entry.0 entries (first_true _ _ sorted) same, rest)
+              | false ↦ rest
+            ]
         | false ↦ λ differs. rest
       ] refl
 
@@ -94,13 +104,17 @@ module _ (objects : ObjectSet) (by kind : Kind) (id : ℕ) where
   ids_of-rise = rise-passing (finite.entries objects) (finite.entries_sorted objects)
 
   -- rising ids that are told are those of the definition
-  pub listers-are : (ids : List ℕ) → IsRising ids → ((own : ℕ) → has ids own ≡ told_of objects (key by own) kind id) → ids ≡ ids_of by kind id objects
-  listers-are ids rise same = same_rising ids (ids_of by kind id objects) rise ids_of-rise (λ own. same own ∙ sym (has-ids_of objects by kind id own))
+  pub listers-are : (ids : List ℕ) → IsRising ids → ((own : ℕ) → has ids own ≡ told_of objects (key by own) kind id)
+      → ids ≡ ids_of by kind id objects
+  listers-are ids rise same = same_rising ids (ids_of by kind id objects) rise ids_of-rise
+      (λ own. same own ∙ sym (has-ids_of objects by kind id own))
 
 all_ids : (ids : List ℕ) → ((own : ℕ) → has ids own ≡ true → IsId own) → AllByRecursion IsId ids
 all_ids [] each = tt
-all_ids (first ∷ ids) each =
-    (each first (ap (λ b. b || has ids first) (tied_self first)), all_ids ids (λ own there. each own (ap (λ b. nat_eq first own || b) there ∙ or-true (nat_eq first own))))
+all_ids (first ∷ ids) each = (
+  each first (ap (λ b. b || has ids first) (tied_self first)),
+  all_ids ids (λ own there. each own (ap (λ b. nat_eq first own || b) there ∙ or-true (nat_eq first own))),
+)
 
 there_listed : (kind : Kind) (id : ℕ) (object : Option Object) → lists kind id object ≡ true → IsSome object
 there_listed kind id None lists = absurd (false≢true lists)
@@ -110,5 +124,6 @@ module _ (objects : ObjectSet) (ids : (own : KeyOf) → IsSome (finite.get objec
   pub ids_of-ids : AreRisingIds (ids_of by kind id objects)
   ids_of-ids = (
     ids_of-rise objects by kind id,
-    all_ids (ids_of by kind id objects) (λ own there. ids (key by own) (there_listed kind id (finite.get objects (key by own)) (sym (has-ids_of objects by kind id own) ∙ there))),
+    all_ids (ids_of by kind id objects) (λ own there.
+        ids (key by own) (there_listed kind id (finite.get objects (key by own)) (sym (has-ids_of objects by kind id own) ∙ there))),
   )

@@ -1,5 +1,6 @@
 -- One id of a listing gets other listers.
-use Rattle.std.proofs.Common.{◌≡◌, ℕ, Bool, true, false, not, ◌&&◌, ◌||◌, cond, List, [], ◌∷◌, Option, Some, None, Result, Ok, Err, OnErr, refl, sym, ap, subst, ◌∙◌, arith, nat_eq}
+use Rattle.std.proofs.Common.{◌≡◌, ℕ, Bool, true, false, not, ◌&&◌, ◌||◌, cond, List, [], ◌∷◌, Option, Some, None, Result, Ok, Err, OnErr}
+use Rattle.std.proofs.Common.{refl, sym, ap, subst, ◌∙◌, arith, nat_eq}
 use Rattle.std.specs.Option.{unwrap_or, IsSome}
 use Rattle.std.specs.Ordering.{nat_cmp, eq_by_cmp}
 use Rattle.std.specs.BTreeMap.{BTreeMap, Updates, get_by}
@@ -50,7 +51,8 @@ module _ (old new : ListingOf) (id lister : ℕ) (ids : List ℕ) (sets : Sets i
   pub lists-set : Joins lister (listers old id) ids → Lists (id ∷ []) lister old new
   lists-set joins other by =
       ap (λ own. has own by) (sets other)
-      ∙ elim (nat_eq id other) as (λ b. nat_eq id other ≡ b → has (cond b ids (listers old other)) by ≡ (((b || false) && nat_eq lister by) || has (listers old other) by)) [
+      ∙ elim (nat_eq id other) as (λ b. nat_eq id other ≡ b
+      → has (cond b ids (listers old other)) by ≡ (((b || false) && nat_eq lister by) || has (listers old other) by)) [
         | true ↦ λ same. joins by ∙ ap (λ own. nat_eq lister by || has (listers old own) by) (same_as id other same)
         | false ↦ λ differs. refl
       ] refl
@@ -58,7 +60,8 @@ module _ (old new : ListingOf) (id lister : ℕ) (ids : List ℕ) (sets : Sets i
   pub unlists-set : Leaves lister (listers old id) ids → Unlists (id ∷ []) [] lister old new
   unlists-set leaves other by =
       ap (λ own. has own by) (sets other)
-      ∙ elim (nat_eq id other) as (λ b. nat_eq id other ≡ b → has (cond b ids (listers old other)) by ≡ (not (((b || false) && true) && nat_eq lister by) && has (listers old other) by)) [
+      ∙ elim (nat_eq id other) as (λ b. nat_eq id other ≡ b
+      → has (cond b ids (listers old other)) by ≡ (not (((b || false) && true) && nat_eq lister by) && has (listers old other) by)) [
         | true ↦ λ same. leaves by ∙ ap (λ own. not (nat_eq lister by) && has (listers old own) by) (same_as id other same)
         | false ↦ λ differs. refl
       ] refl
@@ -78,9 +81,11 @@ in_tree tree = finite.from_entries tree.entries
 module _ (old new : BTreeMap ℕ (List ℕ)) (id : ℕ) where
   pub written-sets : (ids : List ℕ) → Updates nat_cmp old new id (Some ids) → Sets id ids (in_tree old) (in_tree new)
   written-sets ids updates =
-      subst (Sets id ids (in_tree old)) (sym (inserted nat_cmp nat_cmp_total nat_cmp-IsAntisymmetric old new id ids updates)) (inserted-sets (in_tree old) id ids)
+      subst (Sets id ids (in_tree old)) (sym (inserted nat_cmp nat_cmp_total nat_cmp-IsAntisymmetric old new id ids updates))
+      (inserted-sets (in_tree old) id ids)
 
-  pub taken-sets : (last : BTreeMap ℕ (List ℕ)) (ids : List ℕ) → Updates nat_cmp old new id (Some ids) → Updates nat_cmp new last id None → Sets id [] (in_tree old) (in_tree last)
+  pub taken-sets : (last : BTreeMap ℕ (List ℕ)) (ids : List ℕ) → Updates nat_cmp old new id (Some ids) → Updates nat_cmp new last id None
+      → Sets id [] (in_tree old) (in_tree last)
   taken-sets last ids updates taken =
       subst (Sets id [] (in_tree old))
       (ap (λ (own : ListingOf). finite.remove own id) (sym (inserted nat_cmp nat_cmp_total nat_cmp-IsAntisymmetric old new id ids updates))
@@ -90,7 +95,8 @@ module _ (old new : BTreeMap ℕ (List ℕ)) (id : ℕ) where
 pub listers_in : (tree : BTreeMap ℕ (List ℕ)) (id : ℕ) → listers (in_tree tree) id ≡ unwrap_or (get_by (nat_cmp id) tree) []
 listers_in tree id = ap (λ found. unwrap_or found []) (sym (found nat_cmp nat_cmp_total nat_cmp-IsAntisymmetric id tree.entries))
 
-pub some_found : (tree : BTreeMap ℕ (List ℕ)) (id : ℕ) (ids : List ℕ) → Some ids ≡ get_by (nat_cmp id) tree → IsSome (get_by (nat_cmp id) tree)
+pub some_found : (tree : BTreeMap ℕ (List ℕ)) (id : ℕ) (ids : List ℕ) → Some ids ≡ get_by (nat_cmp id) tree
+    → IsSome (get_by (nat_cmp id) tree)
 some_found tree id ids is = subst IsSome is refl
 
 pub on_err : {A E : Type 0} (result : Result A E) {P : Type 0} → P → OnErr result P
@@ -100,7 +106,8 @@ on_err (Err error) p = p
 -- an id that nobody lists stays so
 pub unlists-none : (old : ListingOf) (id lister : ℕ) → listers old id ≡ [] → Unlists (id ∷ []) [] lister old old
 unlists-none old id lister none other by =
-    elim (nat_eq id other) as (λ b. nat_eq id other ≡ b → has (listers old other) by ≡ (not (((b || false) && true) && nat_eq lister by) && has (listers old other) by)) [
+    elim (nat_eq id other) as (λ b. nat_eq id other ≡ b
+    → has (listers old other) by ≡ (not (((b || false) && true) && nat_eq lister by) && has (listers old other) by)) [
       | true ↦ λ same.
           let empty : has (listers old other) by ≡ false = ap (λ own. has own by) (ap (listers old) (sym (same_as id other same)) ∙ none) in
           empty ∙ sym (ap (λ b. not (nat_eq lister by) && b) empty ∙ and-false (not (nat_eq lister by)))

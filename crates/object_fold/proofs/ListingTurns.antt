@@ -29,13 +29,15 @@ same_id id by = unsigned_tied by id ∙ nat_eq_equiv.symm by id
 
 module _ (key : KeyOf) where
   is_key-way : key.kind ≡ Way → (by : ℕ) → is_key key (way by) ≡ nat_eq key.id by
-  is_key-way is by = subst (λ kind. is_eq (ordering_then (nat_cmp 1 (rank kind)) (nat_cmp by key.id)) ≡ nat_eq key.id by) (sym is) (same_id key.id by)
+  is_key-way is by = subst (λ kind. is_eq (ordering_then (nat_cmp 1 (rank kind)) (nat_cmp by key.id)) ≡ nat_eq key.id by) (sym is)
+      (same_id key.id by)
 
   is_key-no_relation : key.kind ≡ Way → (by : ℕ) → is_key key (relation by) ≡ false
   is_key-no_relation is by = subst (λ kind. is_eq (ordering_then (nat_cmp 2 (rank kind)) (nat_cmp by key.id)) ≡ false) (sym is) refl
 
   is_key-relation : key.kind ≡ Relation → (by : ℕ) → is_key key (relation by) ≡ nat_eq key.id by
-  is_key-relation is by = subst (λ kind. is_eq (ordering_then (nat_cmp 2 (rank kind)) (nat_cmp by key.id)) ≡ nat_eq key.id by) (sym is) (same_id key.id by)
+  is_key-relation is by = subst (λ kind. is_eq (ordering_then (nat_cmp 2 (rank kind)) (nat_cmp by key.id)) ≡ nat_eq key.id by) (sym is)
+      (same_id key.id by)
 
   is_key-no_way : key.kind ≡ Relation → (by : ℕ) → is_key key (way by) ≡ false
   is_key-no_way is by = subst (λ kind. is_eq (ordering_then (nat_cmp 1 (rank kind)) (nat_cmp by key.id)) ≡ false) (sym is) refl
@@ -53,12 +55,14 @@ module _ (key : KeyOf) (ids : Listed) (old : Listings) where
   abbrev nodes_only : List ℕ → Listed
   nodes_only nodes = record { nodes = nodes; ways = [] }
 
-  within_nodes : (front rest : List ℕ) → ids.nodes ≡ front ++ rest → (kind : Kind) (id : ℕ) → has (ids_in kind (nodes_only front)) id ≡ true → has (ids_in kind ids) id ≡ true
+  within_nodes : (front rest : List ℕ) → ids.nodes ≡ front ++ rest → (kind : Kind) (id : ℕ) → has (ids_in kind (nodes_only front)) id ≡ true
+      → has (ids_in kind ids) id ≡ true
   within_nodes front rest is Node id there = front_has front rest ids.nodes is id there
   within_nodes front rest is Way id there = absurd (cc)
   within_nodes front rest is Relation id there = absurd (cc)
 
-  pub some_of_way : key.kind ≡ Way → (new : ListingOf) → ListsFront ids.nodes key.id old.ways_of_nodes new → AddsSome key ids old (record old { ways_of_nodes = new })
+  pub some_of_way : key.kind ≡ Way → (new : ListingOf) → ListsFront ids.nodes key.id old.ways_of_nodes new
+      → AddsSome key ids old (record old { ways_of_nodes = new })
   some_of_way is new (front, rest, parts, lists) = (
     nodes_only front,
     within_nodes front rest parts,
@@ -66,17 +70,21 @@ module _ (key : KeyOf) (ids : Listed) (old : Listings) where
       ways_of_nodes = λ id by.
           lists id by ∙ and_swap (has front id) (nat_eq key.id by) (is_listed old.ways_of_nodes id by)
           ∙ (λ i. (sym (is_key-way key is by) i && has front id) || answer.ways_of_nodes id by i);
-      relations_of_nodes = λ id by. answer.relations_of_nodes id by ∙ ap (λ b. (b && has front id) || told (relation by) Node id) (sym (is_key-no_relation key is by));
-      relations_of_ways = λ id by. answer.relations_of_ways id by ∙ ap (λ b. (b && false) || told (relation by) Way id) (sym (is_key-no_relation key is by));
+      relations_of_nodes = λ id by. answer.relations_of_nodes id by
+          ∙ ap (λ b. (b && has front id) || told (relation by) Node id) (sym (is_key-no_relation key is by));
+      relations_of_ways = λ id by. answer.relations_of_ways id by
+          ∙ ap (λ b. (b && false) || told (relation by) Way id) (sym (is_key-no_relation key is by));
     },
   )
 
-  pub some_nodes : key.kind ≡ Relation → (new : ListingOf) → ListsFront ids.nodes key.id old.relations_of_nodes new → AddsSome key ids old (record old { relations_of_nodes = new })
+  pub some_nodes : key.kind ≡ Relation → (new : ListingOf) → ListsFront ids.nodes key.id old.relations_of_nodes new
+      → AddsSome key ids old (record old { relations_of_nodes = new })
   some_nodes is new (front, rest, parts, lists) = (
     nodes_only front,
     within_nodes front rest parts,
     λ told answer. record {
-      ways_of_nodes = λ id by. answer.ways_of_nodes id by ∙ ap (λ b. (b && has front id) || told (way by) Node id) (sym (is_key-no_way key is by));
+      ways_of_nodes = λ id by. answer.ways_of_nodes id by
+          ∙ ap (λ b. (b && has front id) || told (way by) Node id) (sym (is_key-no_way key is by));
       relations_of_nodes = λ id by.
           lists id by ∙ and_swap (has front id) (nat_eq key.id by) (is_listed old.relations_of_nodes id by)
           ∙ (λ i. (sym (is_key-relation key is by) i && has front id) || answer.relations_of_nodes id by i);
@@ -84,18 +92,21 @@ module _ (key : KeyOf) (ids : Listed) (old : Listings) where
     },
   )
 
-  within_ways : (front rest : List ℕ) → ids.ways ≡ front ++ rest → (kind : Kind) (id : ℕ) → has (ids_in kind (record ids { ways = front })) id ≡ true → has (ids_in kind ids) id ≡ true
+  within_ways : (front rest : List ℕ) → ids.ways ≡ front ++ rest → (kind : Kind) (id : ℕ)
+      → has (ids_in kind (record ids { ways = front })) id ≡ true → has (ids_in kind ids) id ≡ true
   within_ways front rest is Node id there = there
   within_ways front rest is Way id there = front_has front rest ids.ways is id there
   within_ways front rest is Relation id there = there
 
-  pub some_ways : key.kind ≡ Relation → (nodes ways : ListingOf) → Lists ids.nodes key.id old.relations_of_nodes nodes → ListsFront ids.ways key.id old.relations_of_ways ways
+  pub some_ways : key.kind ≡ Relation → (nodes ways : ListingOf) → Lists ids.nodes key.id old.relations_of_nodes nodes
+      → ListsFront ids.ways key.id old.relations_of_ways ways
       → AddsSome key ids old (record old { relations_of_nodes = nodes; relations_of_ways = ways })
   some_ways is nodes ways all (front, rest, parts, lists) = (
     record ids { ways = front },
     within_ways front rest parts,
     λ told answer. record {
-      ways_of_nodes = λ id by. answer.ways_of_nodes id by ∙ ap (λ b. (b && has ids.nodes id) || told (way by) Node id) (sym (is_key-no_way key is by));
+      ways_of_nodes = λ id by. answer.ways_of_nodes id by
+          ∙ ap (λ b. (b && has ids.nodes id) || told (way by) Node id) (sym (is_key-no_way key is by));
       relations_of_nodes = λ id by.
           all id by ∙ and_swap (has ids.nodes id) (nat_eq key.id by) (is_listed old.relations_of_nodes id by)
           ∙ (λ i. (sym (is_key-relation key is by) i && has ids.nodes id) || answer.relations_of_nodes id by i);

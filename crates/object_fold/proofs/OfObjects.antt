@@ -23,13 +23,15 @@ use Rattle.object_fold.specs.Listings.{AreListed, AreListedBy, AreListingsOf}
 use Rattle.osm_base.proofs.Found.{found}
 use Rattle.object_fold.proofs.IndexOf.{listers-are, ids_of-ids}
 
-module _ (tree : BTreeMap KeyOf Object) (listings : Listings) (own : ObjectSet) (view : objects_in tree ≡ own) (are : AreListingsOf (objects_in tree) listings) (id : ℕ) where
+module _ (tree : BTreeMap KeyOf Object) (listings : Listings) (own : ObjectSet) (view : objects_in tree ≡ own)
+    (are : AreListingsOf (objects_in tree) listings) (id : ℕ) where
   pub ways_of_nodes-are : (ids : List ℕ) → ids ≡ listers listings.ways_of_nodes id → IsRising ids → ids ≡ ids_of Way Node id own
   ways_of_nodes-are ids is rise =
       subst (λ (objects : ObjectSet). ids ≡ ids_of Way Node id objects) view
       (listers-are (objects_in tree) Way Node id ids rise (λ by. ap (λ ids. has ids by) is ∙ are.told.ways_of_nodes id by))
 
-  pub relations_of_nodes-are : (ids : List ℕ) → ids ≡ listers listings.relations_of_nodes id → IsRising ids → ids ≡ ids_of Relation Node id own
+  pub relations_of_nodes-are : (ids : List ℕ) → ids ≡ listers listings.relations_of_nodes id → IsRising ids
+      → ids ≡ ids_of Relation Node id own
   relations_of_nodes-are ids is rise =
       subst (λ (objects : ObjectSet). ids ≡ ids_of Relation Node id objects) view
       (listers-are (objects_in tree) Relation Node id ids rise (λ by. ap (λ ids. has ids by) is ∙ are.told.relations_of_nodes id by))
@@ -40,20 +42,25 @@ module _ (tree : BTreeMap KeyOf Object) (listings : Listings) (own : ObjectSet) 
       (listers-are (objects_in tree) Relation Way id ids rise (λ by. ap (λ ids. has ids by) is ∙ are.told.relations_of_ways id by))
 
   pub ways_of_nodes-ids : AreRisingIds (ids_of Way Node id own)
-  ways_of_nodes-ids = subst (λ (objects : ObjectSet). AreRisingIds (ids_of Way Node id objects)) view (ids_of-ids (objects_in tree) are.ids Way Node id)
+  ways_of_nodes-ids = subst (λ (objects : ObjectSet). AreRisingIds (ids_of Way Node id objects)) view
+      (ids_of-ids (objects_in tree) are.ids Way Node id)
 
   pub relations_of_nodes-ids : AreRisingIds (ids_of Relation Node id own)
-  relations_of_nodes-ids = subst (λ (objects : ObjectSet). AreRisingIds (ids_of Relation Node id objects)) view (ids_of-ids (objects_in tree) are.ids Relation Node id)
+  relations_of_nodes-ids = subst (λ (objects : ObjectSet). AreRisingIds (ids_of Relation Node id objects)) view
+      (ids_of-ids (objects_in tree) are.ids Relation Node id)
 
   pub relations_of_ways-ids : AreRisingIds (ids_of Relation Way id own)
-  relations_of_ways-ids = subst (λ (objects : ObjectSet). AreRisingIds (ids_of Relation Way id objects)) view (ids_of-ids (objects_in tree) are.ids Relation Way id)
+  relations_of_ways-ids = subst (λ (objects : ObjectSet). AreRisingIds (ids_of Relation Way id objects)) view
+      (ids_of-ids (objects_in tree) are.ids Relation Way id)
 
 -- a copy of them
-pub copy-ids : (copy : Result (List ℕ) OutOfMemory) (ids : List ℕ) {all : List ℕ} → IfOk copy (λ own. own ≡ ids) → ids ≡ all → IfOk copy (λ own. own ≡ all)
+pub copy-ids : (copy : Result (List ℕ) OutOfMemory) (ids : List ℕ) {all : List ℕ} → IfOk copy (λ own. own ≡ ids) → ids ≡ all
+    → IfOk copy (λ own. own ≡ all)
 copy-ids (Ok own) ids same is = same ∙ is
 copy-ids (Err why) ids same is = tt
 
-pub copy-rising : (copy : Result (List ℕ) OutOfMemory) (ids : List ℕ) {all : List ℕ} → IfOk copy (λ own. own ≡ ids) → ids ≡ all → AreRisingIds all → IfOk copy AreRisingIds
+pub copy-rising : (copy : Result (List ℕ) OutOfMemory) (ids : List ℕ) {all : List ℕ} → IfOk copy (λ own. own ≡ ids) → ids ≡ all
+    → AreRisingIds all → IfOk copy AreRisingIds
 copy-rising (Ok own) ids same is rising = subst AreRisingIds (sym (same ∙ is)) rising
 copy-rising (Err why) ids same is rising = tt
 
@@ -69,26 +76,31 @@ pub listed_by : (tree : BTreeMap KeyOf Object) (key : KeyOf) (object : Object) �
     → (ids : Listed) → AreListed object ids → AreListedBy (finite.get (objects_in tree) key) ids
 listed_by tree key object is ids are = subst (λ own. AreListedBy own ids) is (record { nodes = are.nodes; ways = are.ways })
 
-pub listed-none : (tree : BTreeMap KeyOf Object) (key : KeyOf) (ids : Listed) → None ≡ finite.get (objects_in tree) key → ids.nodes ≡ [] → ids.ways ≡ []
+pub listed-none : (tree : BTreeMap KeyOf Object) (key : KeyOf) (ids : Listed) → None ≡ finite.get (objects_in tree) key → ids.nodes ≡ []
+    → ids.ways ≡ []
     → AreListedBy (finite.get (objects_in tree) key) ids
 listed-none tree key ids is nodes ways =
     subst (λ own. AreListedBy own ids) is (record { nodes = λ id. ap (λ own. has own id) nodes; ways = λ id. ap (λ own. has own id) ways })
 
 -- no object and no listing
-pub none-listed : (tree : BTreeMap KeyOf Object) (listings : Listings) → objects_in tree ≡ finite.empty → listings.ways_of_nodes ≡ finite.empty
+pub none-listed : (tree : BTreeMap KeyOf Object) (listings : Listings) → objects_in tree ≡ finite.empty
+    → listings.ways_of_nodes ≡ finite.empty
     → listings.relations_of_nodes ≡ finite.empty → listings.relations_of_ways ≡ finite.empty → AreListingsOf (objects_in tree) listings
 none-listed tree listings none ways nodes relations =
     subst (λ (objects : ObjectSet). AreListingsOf objects listings) (sym none) (record {
       told = record {
         ways_of_nodes = λ id by. unlisted listings.ways_of_nodes ways id by ∙ sym (unknown Node id (record { kind = Way; id = by }));
-        relations_of_nodes = λ id by. unlisted listings.relations_of_nodes nodes id by ∙ sym (unknown Node id (record { kind = Relation; id = by }));
-        relations_of_ways = λ id by. unlisted listings.relations_of_ways relations id by ∙ sym (unknown Way id (record { kind = Relation; id = by }));
+        relations_of_nodes = λ id by. unlisted listings.relations_of_nodes nodes id by
+            ∙ sym (unknown Node id (record { kind = Relation; id = by }));
+        relations_of_ways = λ id by. unlisted listings.relations_of_ways relations id by
+            ∙ sym (unknown Way id (record { kind = Relation; id = by }));
       };
       ids = λ key some. absurd (false≢true (ap is_some (sym (finite.get-empty key_cmp key)) ∙ some));
     })
   where
     unlisted : (listing : ListingOf) → listing ≡ finite.empty → (id by : ℕ) → is_listed listing id by ≡ false
-    unlisted listing is id by = ap (λ (own : ListingOf). is_listed own id by) is ∙ ap (λ found. has (unwrap_or found []) by) (finite.get-empty nat_cmp id)
+    unlisted listing is id by = ap (λ (own : ListingOf). is_listed own id by) is
+        ∙ ap (λ found. has (unwrap_or found []) by) (finite.get-empty nat_cmp id)
 
     unknown : (kind : Kind) (id : ℕ) (key : KeyOf) → lists kind id (finite.get {R = key_cmp} finite.empty key) ≡ false
     unknown kind id key = ap (lists kind id) (finite.get-empty key_cmp key)

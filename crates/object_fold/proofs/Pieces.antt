@@ -1,5 +1,6 @@
 -- How far a file was read, from one read to the next.
-use Rattle.std.proofs.Common.{◌≡◌, ℕ, suc, zero, ◌+◌, ◌≤◌, Bool, Option, Some, None, Result, Ok, Err, OnErr, List, [], ◌∷◌, ◌++◌, length, replicate, length-append, append_assoc, refl, sym, ◌∙◌, ap, subst, arith}
+use Rattle.std.proofs.Common.{◌≡◌, ℕ, suc, zero, ◌+◌, ◌≤◌, Bool, Option, Some, None, Result, Ok, Err, OnErr, List, [], ◌∷◌, ◌++◌, length}
+use Rattle.std.proofs.Common.{replicate, length-append, append_assoc, refl, sym, ◌∙◌, ap, subst, arith}
 use Rattle.std.specs.Io.KnownBytes.{Consumes, Keeps}
 use Rattle.outside.specs.Bytes.{BothKnown}
 use Rattle.osm_base.specs.declared.bounds.limits.LimitNumbers.{LimitNumbers}
@@ -25,7 +26,8 @@ reads_none count None rest kept = tt
 reads_none count (Some bytes) None kept = kept
 reads_none count (Some bytes) (Some later) kept = ([], sym kept, omega arith)
 
-pub reads_some : (count : ℕ) (left rest : Option (List ℕ)) (piece : List ℕ) → Consumes left rest piece → length piece ≤ count → ReadsAtMost count left rest
+pub reads_some : (count : ℕ) (left rest : Option (List ℕ)) (piece : List ℕ) → Consumes left rest piece → length piece ≤ count
+    → ReadsAtMost count left rest
 reads_some count None rest piece read few = tt
 reads_some count (Some bytes) None piece read few = read
 reads_some count (Some bytes) (Some later) piece read few = (piece, read, few)
@@ -35,7 +37,8 @@ reads_nothing count None = tt
 reads_nothing count (Some bytes) = ([], refl, omega arith)
 
 -- one behind bytes that are kept
-pub reads_behind : (max count : ℕ) (kept : List ℕ) (start left rest : Option (List ℕ)) → length kept ≤ max → BothKnown start left (λ before after. before ≡ kept ++ after)
+pub reads_behind : (max count : ℕ) (kept : List ℕ) (start left rest : Option (List ℕ)) → length kept ≤ max
+    → BothKnown start left (λ before after. before ≡ kept ++ after)
     → ReadsAtMost count left rest → ReadsAtMost (max + count) start rest
 reads_behind max count kept None left rest within whole read = tt
 reads_behind max count kept (Some all) None rest within whole read = absurd whole
@@ -53,8 +56,10 @@ reads_within count more (Some bytes) None few read = read
 reads_within count more (Some bytes) (Some later) few read = (read.0, read.1, omega (arith, few, read.2))
 
 module _ {K : Type 0} (after : K → Entry → K) (limits : LimitNumbers) where
-  pub read_piece : (old : Progress) (before : K) (new : Progress) (now : K) (left rest : Option (List ℕ)) (piece : List ℕ) → Consumes left rest piece
-      → ((later : List ℕ) → kept_all after before (entries_left limits old (piece ++ later)) ≡ kept_all after now (entries_left limits new later))
+  pub read_piece : (old : Progress) (before : K) (new : Progress) (now : K) (left rest : Option (List ℕ)) (piece : List ℕ)
+      → Consumes left rest piece
+      → ((later : List ℕ) → kept_all after before (entries_left limits old (piece ++ later))
+      ≡ kept_all after now (entries_left limits new later))
       → ReadsPiece after limits old before new now left rest
   read_piece old before new now None rest piece read same = tt
   read_piece old before new now (Some bytes) None piece read same = read
@@ -65,10 +70,12 @@ module _ {K : Type 0} (after : K → Entry → K) (limits : LimitNumbers) where
   pub read_nothing : (before : K) (progress : Progress) → ((bytes : List ℕ) → entries_left limits progress bytes ≡ entries_of limits bytes)
       → (left : Option (List ℕ)) → HasRead after limits before progress before left left
   read_nothing before progress start None = tt
-  read_nothing before progress start (Some bytes) = record { front = []; parts = refl; same = λ rest. ap (kept_all after before) (sym (start rest)) }
+  read_nothing before progress start (Some bytes) =
+      record { front = []; parts = refl; same = λ rest. ap (kept_all after before) (sym (start rest)) }
 
   pub read_more : (first : K) (old : Progress) (before : K) (new : Progress) (now : K) (start left rest : Option (List ℕ))
-      → HasRead after limits first old before start left → ReadsPiece after limits old before new now left rest → HasRead after limits first new now start rest
+      → HasRead after limits first old before start left → ReadsPiece after limits old before new now left rest
+      → HasRead after limits first new now start rest
   read_more first old before new now None left rest so_far more = tt
   read_more first old before new now (Some all) None rest so_far more = absurd so_far
   read_more first old before new now (Some all) (Some bytes) None so_far more = more
@@ -79,11 +86,14 @@ module _ {K : Type 0} (after : K → Entry → K) (limits : LimitNumbers) where
         ∙ so_far.same (more.front ++ rest) ∙ more.same rest;
   }
 
-  pub read_comes_to : (first : K) (progress : Progress) (now : K) (start left : Option (List ℕ)) → HasRead after limits first progress now start left
-      → BothKnown start left (λ bytes rest. kept_all after first (entries_of limits bytes) ≡ kept_all after now (entries_left limits progress rest))
+  pub read_comes_to : (first : K) (progress : Progress) (now : K) (start left : Option (List ℕ))
+      → HasRead after limits first progress now start left
+      → BothKnown start left (λ bytes rest. kept_all after first (entries_of limits bytes)
+      ≡ kept_all after now (entries_left limits progress rest))
   read_comes_to first progress now None left so_far = tt
   read_comes_to first progress now (Some all) None so_far = so_far
-  read_comes_to first progress now (Some all) (Some bytes) so_far = ap (λ own. kept_all after first (entries_of limits own)) so_far.parts ∙ so_far.same bytes
+  read_comes_to first progress now (Some all) (Some bytes) so_far =
+      ap (λ own. kept_all after first (entries_of limits own)) so_far.parts ∙ so_far.same bytes
 
   -- where they end before the end of the file
 
@@ -102,7 +112,14 @@ module _ {K : Type 0} (after : K → Entry → K) (limits : LimitNumbers) where
 
 pub stops_at_start : (limits : LimitNumbers) (left : Option (List ℕ)) → ReadsNoFurther limits left left
 stops_at_start limits None = tt
-stops_at_start limits (Some bytes) = record { before = []; last = []; parts = refl; undecided = LeavesOpen-none limits; one_read = omega arith }
+stops_at_start limits (Some bytes) = record {
+  before = [];
+  last = [];
+  parts = refl;
+  undecided = LeavesOpen-none limits;
+  one_read =
+      omega arith;
+}
 
 -- which file was read
 
@@ -111,10 +128,15 @@ replicate-more zero file = refl
 replicate-more (suc count) file = ap (λ files. file ∷ files) (replicate-more count file)
 
 pub read_again : {I : Type 0} (reads : I → List ℕ → I → Type 0)
-    (law : (first second third : I) (before after : List ℕ) → reads first before second → reads second after third → reads first (before ++ after) third)
-    (file : ℕ) (old now new : I) → ((count : ℕ) × reads old (replicate count file) now) → reads now (file ∷ []) new → ((count : ℕ) × reads old (replicate count file) new)
-read_again reads law file old now new so_far again =
-    (suc so_far.0, subst (λ files. reads old files new) (replicate-more so_far.0 file) (law old now new (replicate so_far.0 file) (file ∷ []) so_far.1 again))
+    (law : (first second third : I) (before after : List ℕ) → reads first before second → reads second after third
+    → reads first (before ++ after) third)
+    (file : ℕ) (old now new : I) → ((count : ℕ) × reads old (replicate count file) now) → reads now (file ∷ []) new
+    → ((count : ℕ) × reads old (replicate count file) new)
+read_again reads law file old now new so_far again = (
+  suc so_far.0,
+  subst (λ files. reads old files new) (replicate-more so_far.0 file)
+      (law old now new (replicate so_far.0 file) (file ∷ []) so_far.1 again),
+)
 
 -- the bytes of a file that are kept
 
@@ -122,7 +144,8 @@ pub whole_none : (kept : List ℕ) → kept ≡ [] → (left : Option (List ℕ)
 whole_none kept none None = tt
 whole_none kept none (Some bytes) = ap (λ own. own ++ bytes) (sym none)
 
-pub whole_more : (kept new : List ℕ) (more : Bool) (start left rest : Option (List ℕ)) → BothKnown start left (λ before after. before ≡ kept ++ after)
+pub whole_more : (kept new : List ℕ) (more : Bool) (start left rest : Option (List ℕ))
+    → BothKnown start left (λ before after. before ≡ kept ++ after)
     → MovesBytes kept new more left rest → BothKnown start rest (λ before after. before ≡ new ++ after)
 whole_more kept new more None left rest whole moves = tt
 whole_more kept new more (Some all) None rest whole moves = absurd whole

@@ -1,5 +1,6 @@
 -- The entry that a line is read as has an object of its key's kind.
-use Rattle.std.proofs.Common.{◌≡◌, ℕ, Bool, true, false, cond, ◌&&◌, nat_le, nat_eq, Some, None, List, [], ◌∷◌, ◌++◌, take, drop, refl, ap, subst}
+use Rattle.std.proofs.Common.{◌≡◌, ℕ, Bool, true, false, cond, ◌&&◌, nat_le, nat_eq, Some, None, List, [], ◌∷◌, ◌++◌, take, drop, refl, ap}
+use Rattle.std.proofs.Common.{subst}
 use Rattle.std.proofs.lemmas.Bool.{leb-true}
 use Rattle.std.specs.Prelude.{Result, Ok, Err}
 use Rattle.std.specs.List.{AllByRecursion, slice_split}
@@ -12,7 +13,8 @@ use Rattle.osm_base.specs.declared.values.object.Object.{Object}
 use Rattle.osm_base.specs.declared.values.object.Object.TheVariants as objects
 use Rattle.osm_base.specs.values.Key.{KeyOf, IsId}
 use Rattle.opl_object.specs.declared.letter.Letter.{Letter}
-use Rattle.opl_object.specs.declared.letter.Letter.TheVariants.{Version, Visible, Changeset, Time, UserId, User, Tags, Lon, Lat, Nodes, Members}
+use Rattle.opl_object.specs.declared.letter.Letter.TheVariants.{Version, Visible, Changeset, Time, UserId, User, Tags, Lon, Lat, Nodes}
+use Rattle.opl_object.specs.declared.letter.Letter.TheVariants.{Members}
 use Rattle.opl_object.specs.declared.parts.Parts.{Parts}
 use Rattle.opl_object.specs.declared.why.Why.{Why}
 use Rattle.opl_object.specs.declared.why.Why.TheVariants as causes
@@ -31,7 +33,8 @@ use Rattle.object_fold.specs.Change.{IsOfKind, IsProper}
 
 -- steps of a reading
 
-two_steps : {A B : Type 0} (first : Result A Why) (next : A → Result B Why) (end : B) → (first >>= next) ≡ Ok end → (middle : A) × (first ≡ Ok middle) × (next middle ≡ Ok end)
+two_steps : {A B : Type 0} (first : Result A Why) (next : A → Result B Why) (end : B) → (first >>= next) ≡ Ok end
+    → (middle : A) × (first ≡ Ok middle) × (next middle ≡ Ok end)
 two_steps (Ok middle) next end e = (middle, refl, e)
 two_steps (Err why) next end e = absurd (cc)
 
@@ -74,7 +77,8 @@ numbered-IsId text found e =
 node_of-IsId : (piece : List ℕ) (id : ℕ) → node_of piece ≡ Ok id → IsId id
 unfolding node_of
 node_of-IsId piece id e =
-    let a = two_steps (given causes.Member (behind 110 piece)) (λ rest. numbered rest >>= λ found. placed found.1 >>= λ _. Ok found.0) id e in
+    let a = two_steps (given causes.Member (behind 110 piece))
+    (λ rest. numbered rest >>= λ found. placed found.1 >>= λ _. Ok found.0) id e in
     let b = two_steps (numbered a.0) (λ found. placed found.1 >>= λ _. Ok found.0) id a.2 in
     let d = two_steps (placed b.0.1) (λ _. Ok b.0.0) id b.2 in
     subst IsId (same_ok b.0.0 id d.2) (numbered-IsId a.0 b.0 b.1)
@@ -83,7 +87,8 @@ all_pushed : (ids : List ℕ) (id : ℕ) → AllByRecursion IsId ids → IsId id
 all_pushed [] id h p = (p, tt)
 all_pushed (first ∷ ids) id h p = (h.0, all_pushed ids id h.1 p)
 
-nodes_from : (front : List ℕ) (pieces : List (List ℕ)) (nodes : List ℕ) → AllByRecursion IsId front → each_piece with_node front pieces ≡ Ok nodes → AllByRecursion IsId nodes
+nodes_from : (front : List ℕ) (pieces : List (List ℕ)) (nodes : List ℕ) → AllByRecursion IsId front
+    → each_piece with_node front pieces ≡ Ok nodes → AllByRecursion IsId nodes
 unfolding each_piece
 nodes_from front [] nodes h e = subst (AllByRecursion IsId) (same_ok front nodes e) h
 nodes_from front (piece ∷ pieces) nodes h e =
@@ -94,7 +99,8 @@ nodes_from front (piece ∷ pieces) nodes h e =
 nodes_of-IsId : (text nodes : List ℕ) → nodes_of text ≡ Ok nodes → AllByRecursion IsId nodes
 unfolding nodes_of
 nodes_of-IsId text nodes e =
-    elim (is_empty text) as (λ b. cond b (Ok []) (each_piece with_node [] (slice_split (is 44) text)) ≡ Ok nodes → AllByRecursion IsId nodes) [
+    elim (is_empty text) as (λ b. cond b (Ok []) (each_piece with_node [] (slice_split (is 44) text)) ≡ Ok nodes
+    → AllByRecursion IsId nodes) [
       | true ↦ λ same. subst (AllByRecursion IsId) (same_ok [] nodes same) tt
       | false ↦ nodes_from [] (slice_split (is 44) text) nodes tt
     ] e
@@ -113,7 +119,8 @@ like_if b old new why e h = subst Nodes_are_ids (chosen b old new why e).1 h
 visible : (value : List ℕ) (old new : Parts) → with_visible value old ≡ Ok new → Nodes_are_ids old → Nodes_are_ids new
 visible [] old new e h = absurd (cc)
 visible (byte ∷ []) old new e h =
-    elim (nat_eq byte 86) as (λ b. cond b (Ok old) (cond (nat_eq byte 68) (Ok (record old { deleted = true })) (Err causes.Field)) ≡ Ok new → Nodes_are_ids new) [
+    elim (nat_eq byte 86) as (λ b. cond b (Ok old) (cond (nat_eq byte 68) (Ok (record old { deleted = true })) (Err causes.Field)) ≡ Ok new
+    → Nodes_are_ids new) [
       | true ↦ λ same. like old new same h
       | false ↦ λ same. like_if (nat_eq byte 68) (record old { deleted = true }) new causes.Field same h
     ] e
@@ -121,19 +128,22 @@ visible (byte ∷ other ∷ rest) old new e h = absurd (cc)
 
 lon : (value : List ℕ) (old new : Parts) → with_lon value old ≡ Ok new → Nodes_are_ids old → Nodes_are_ids new
 lon value old new e h =
-    elim (is_empty value) as (λ b. cond b (Ok old) (coordinate 1800000000 value >>= λ lon. Ok (record old { lon = Some lon })) ≡ Ok new → Nodes_are_ids new) [
+    elim (is_empty value) as (λ b. cond b (Ok old) (coordinate 1800000000 value >>= λ lon. Ok (record old { lon = Some lon })) ≡ Ok new
+    → Nodes_are_ids new) [
       | true ↦ λ same. like old new same h
       | false ↦ λ same. let p = two_steps (coordinate 1800000000 value) _ new same in like (record old { lon = Some p.0 }) new p.2 h
     ] e
 
 lat : (value : List ℕ) (old new : Parts) → with_lat value old ≡ Ok new → Nodes_are_ids old → Nodes_are_ids new
 lat value old new e h =
-    elim (is_empty value) as (λ b. cond b (Ok old) (coordinate 900000000 value >>= λ lat. Ok (record old { lat = Some lat })) ≡ Ok new → Nodes_are_ids new) [
+    elim (is_empty value) as (λ b. cond b (Ok old) (coordinate 900000000 value >>= λ lat. Ok (record old { lat = Some lat })) ≡ Ok new
+    → Nodes_are_ids new) [
       | true ↦ λ same. like old new same h
       | false ↦ λ same. let p = two_steps (coordinate 900000000 value) _ new same in like (record old { lat = Some p.0 }) new p.2 h
     ] e
 
-value_of : (letter : Letter) (value : List ℕ) (old new : Parts) → with_value letter value old ≡ Ok new → Nodes_are_ids old → Nodes_are_ids new
+value_of : (letter : Letter) (value : List ℕ) (old new : Parts) → with_value letter value old ≡ Ok new → Nodes_are_ids old
+    → Nodes_are_ids new
 unfolding with_value
 value_of Version value old new e h = like_if _ old new _ e h
 value_of Visible value old new e h = visible value old new e h
@@ -141,23 +151,29 @@ value_of Changeset value old new e h = like_if _ old new _ e h
 value_of Time value old new e h = like_if _ old new _ e h
 value_of UserId value old new e h = like_if _ old new _ e h
 value_of User value old new e h = let p = two_steps (text_of value) (λ _. Ok old) new e in like old new p.2 h
-value_of Tags value old new e h = let p = two_steps (tags_of value) (λ tags. Ok (record old { tags = tags })) new e in like (record old { tags = p.0 }) new p.2 h
+value_of Tags value old new e h = let p = two_steps (tags_of value) (λ tags. Ok (record old { tags = tags })) new e in
+    like (record old { tags = p.0 }) new p.2 h
 value_of Lon value old new e h = lon value old new e h
 value_of Lat value old new e h = lat value old new e h
-value_of Nodes value old new e h = let p = two_steps (nodes_of value) (λ nodes. Ok (record old { nodes = nodes })) new e in like (record old { nodes = p.0 }) new p.2 (nodes_of-IsId value p.0 p.1)
-value_of Members value old new e h = let p = two_steps (members_of value) (λ members. Ok (record old { members = members })) new e in like (record old { members = p.0 }) new p.2 h
+value_of Nodes value old new e h = let p = two_steps (nodes_of value) (λ nodes. Ok (record old { nodes = nodes })) new e in
+    like (record old { nodes = p.0 }) new p.2 (nodes_of-IsId value p.0 p.1)
+value_of Members value old new e h = let p = two_steps (members_of value) (λ members. Ok (record old { members = members })) new e in
+    like (record old { members = p.0 }) new p.2 h
 
 abbrev Stood : Type 0
 Stood = (Letter → Bool) × Parts
 
 field_of : (kind : Kind) (old new : Stood) (field : List ℕ) → with_field kind old field ≡ Ok new → Nodes_are_ids old.1 → Nodes_are_ids new.1
 field_of kind old new field e h =
-    let a = two_steps (given causes.Field (letter_at kind field)) (λ front. new_field old.0 front >>= λ found. with_value found.0 found.1 old.1 >>= λ parts. Ok (also old.0 found.0, parts)) new e in
-    let b = two_steps (new_field old.0 a.0) (λ found. with_value found.0 found.1 old.1 >>= λ parts. Ok (also old.0 found.0, parts)) new a.2 in
+    let a = two_steps (given causes.Field (letter_at kind field))
+    (λ front. new_field old.0 front >>= λ found. with_value found.0 found.1 old.1 >>= λ parts. Ok (also old.0 found.0, parts)) new e in
+    let b = two_steps (new_field old.0 a.0) (λ found. with_value found.0 found.1 old.1 >>= λ parts. Ok (also old.0 found.0, parts)) new
+    a.2 in
     let c = two_steps (with_value b.0.0 b.0.1 old.1) (λ parts. Ok (also old.0 b.0.0, parts)) new b.2 in
     subst Nodes_are_ids (ap (λ (stood : Stood). stood.1) (same_ok (also old.0 b.0.0, c.0) new c.2)) (value_of b.0.0 b.0.1 old.1 c.0 c.1 h)
 
-fields_from : (kind : Kind) (old new : Stood) (fields : List (List ℕ)) → each_piece (with_field kind) old fields ≡ Ok new → Nodes_are_ids old.1 → Nodes_are_ids new.1
+fields_from : (kind : Kind) (old new : Stood) (fields : List (List ℕ)) → each_piece (with_field kind) old fields ≡ Ok new
+    → Nodes_are_ids old.1 → Nodes_are_ids new.1
 unfolding each_piece
 fields_from kind old new [] e h = subst (λ (stood : Stood). Nodes_are_ids stood.1) (same_ok old new e) h
 fields_from kind old new (field ∷ fields) e h =
@@ -172,14 +188,17 @@ parts_of-nodes kind fields parts e =
 
 -- the object and the entry
 
-object_of-IsOfKind : (kind : Kind) (parts : Parts) (object : Object) → object_of kind parts ≡ Ok object → Nodes_are_ids parts → IsOfKind kind object
+object_of-IsOfKind : (kind : Kind) (parts : Parts) (object : Object) → object_of kind parts ≡ Ok object → Nodes_are_ids parts
+    → IsOfKind kind object
 object_of-IsOfKind kinds.Node parts object e h =
     let a = two_steps (place_of parts.lon parts.lat) (λ place. Ok (objects.Node place parts.tags)) object e in
     subst (IsOfKind kinds.Node) (same_ok (objects.Node a.0 parts.tags) object a.2) tt
 object_of-IsOfKind kinds.Way parts object e h = subst (IsOfKind kinds.Way) (same_ok (objects.Way parts.nodes parts.tags) object e) h
-object_of-IsOfKind kinds.Relation parts object e h = subst (IsOfKind kinds.Relation) (same_ok (objects.Relation parts.members parts.tags) object e) tt
+object_of-IsOfKind kinds.Relation parts object e h =
+    subst (IsOfKind kinds.Relation) (same_ok (objects.Relation parts.members parts.tags) object e) tt
 
-proper_if : (key : KeyOf) (b : Bool) (object : Object) → IsOfKind key.kind object → IsProper (record { key = key; object = cond b None (Some object) })
+proper_if : (key : KeyOf) (b : Bool) (object : Object) → IsOfKind key.kind object
+    → IsProper (record { key = key; object = cond b None (Some object) })
 proper_if key true object h = tt
 proper_if key false object h = h
 
@@ -200,7 +219,8 @@ entry_from-IsProper (first ∷ fields) entry e =
 pub reading-IsProper : (line : List ℕ) (entry : Entry) → reading line ≡ Ok (Some entry) → IsProper entry
 unfolding reading
 reading-IsProper line entry e =
-    elim (is_skipped line) as (λ b. cond b (Ok None) (utf8_of line >>= λ text. entry_from (fields_of text) >>= λ entry. Ok (Some entry)) ≡ Ok (Some entry) → IsProper entry) [
+    elim (is_skipped line) as (λ b. cond b (Ok None) (utf8_of line >>= λ text. entry_from (fields_of text) >>= λ entry. Ok (Some entry))
+    ≡ Ok (Some entry) → IsProper entry) [
       | true ↦ λ same. absurd (cc)
       | false ↦ λ same.
           let a = two_steps (utf8_of line) _ (Some entry) same in

@@ -1,5 +1,6 @@
 -- Rising ids, one more and one less.
-use Rattle.std.proofs.Common.{◌≡◌, ◌<◌, ℕ, suc, zero, Bool, true, false, not, ◌&&◌, ◌||◌, T, List, [], ◌∷◌, map, length, get_or, Result, Ok, Err, IfOk, IfErr, is_ok, refl, sym, ap, subst, ◌∙◌, arith, nat_eq, Option, Some, None, if◌then◌else◌, cond}
+use Rattle.std.proofs.Common.{◌≡◌, ◌<◌, ℕ, suc, zero, Bool, true, false, not, ◌&&◌, ◌||◌, T, List, [], ◌∷◌, map, length, get_or, Result, Ok}
+use Rattle.std.proofs.Common.{Err, IfOk, IfErr, is_ok, refl, sym, ap, subst, ◌∙◌, arith, nat_eq, Option, Some, None, if◌then◌else◌, cond}
 use Rattle.std.specs.declared.cmp.Ordering.TheVariants.{Less}
 use Rattle.std.specs.Ordering.{nat_cmp, is_lt}
 use Rattle.std.specs.Cmp.{nat_cmp_total, unsigned_tied}
@@ -17,7 +18,8 @@ use Rattle.osm_base.specs.values.Ids.{IsRising, has}
 use Rattle.object_fold.specs.RisingIds.{StandsAt, IsGapAt, Joins, Leaves}
 
 -- what a binary search among rising ids answers
-pub search_gap : (ids : List ℕ) (id : ℕ) (r : Result ℕ ℕ) → IsRising ids → IsBinarySearchResult (λ other. nat_cmp other id) ids r → IfErr r (IsGapAt ids id)
+pub search_gap : (ids : List ℕ) (id : ℕ) (r : Result ℕ ℕ) → IsRising ids → IsBinarySearchResult (λ other. nat_cmp other id) ids r
+    → IfErr r (IsGapAt ids id)
 search_gap ids id (Ok at) rise found = tt
 search_gap ids id (Err at) rise found =
     let gap = searched ids id (Err at) found (λ i j le within. non_decreasing_from_sorted ids rise i j 0 le within) in
@@ -56,7 +58,8 @@ all_above-at id (first ∷ ids) (suc at) above within = all_above-at id ids at a
 
 all_above-from : (id : ℕ) (ids : List ℕ) → ((place : ℕ) → place < length ids → id < get_or ids place 0) → AllAbove id ids
 all_above-from id [] greater = tt
-all_above-from id (first ∷ ids) greater = (less_of id first (greater 0 (omega arith)), all_above-from id ids (λ place within. greater (suc place) (omega (arith, within))))
+all_above-from id (first ∷ ids) greater =
+    (less_of id first (greater 0 (omega arith)), all_above-from id ids (λ place within. greater (suc place) (omega (arith, within))))
 
 -- an id in its gap
 pub insert-rise : (ids : List ℕ) (id at : ℕ) → IsRising ids → IsGapAt ids id at → IsRising (insert ids at id)
@@ -76,10 +79,12 @@ pub remove-rise : (ids : List ℕ) (at : ℕ) → at < length ids → IsRising i
 unfolding IsStrictlySortedBy
 remove-rise [] at within rise = absurd (omega (arith, within))
 remove-rise (first ∷ ids) zero within rise = rise.1
-remove-rise (first ∷ ids) (suc at) within rise = (all_above-remove first ids at (omega (arith, within)) rise.0, remove-rise ids at (omega (arith, within)) rise.1)
+remove-rise (first ∷ ids) (suc at) within rise =
+    (all_above-remove first ids at (omega (arith, within)) rise.0, remove-rise ids at (omega (arith, within)) rise.1)
 
 pub has-insert : (ids : List ℕ) (at id : ℕ) → Joins id ids (insert ids at id)
-has-insert ids at id other = sym (list_any-IsPermutation (λ own. nat_eq own other) (id ∷ ids) (insert ids at id) (IsPermutation-insert ids at id))
+has-insert ids at id other = sym (list_any-IsPermutation (λ own. nat_eq own other) (id ∷ ids) (insert ids at id)
+    (IsPermutation-insert ids at id))
 
 has-removed : (ids : List ℕ) (at : ℕ) → IsRising ids → at < length ids → has (remove ids at) (get_or ids at 0) ≡ false
 unfolding IsStrictlySortedBy
@@ -92,9 +97,12 @@ has-removed (first ∷ ids) (suc at) rise within =
 
 pub has-remove : (ids : List ℕ) (at id : ℕ) → IsRising ids → StandsAt ids id at → Leaves id ids (remove ids at)
 has-remove ids at id rise stands other =
-    let all = list_any-IsPermutation (λ own. nat_eq own other) ids (id ∷ remove ids at) (IsPermutation-remove ids at id stands.within (sym stands.there ∙ get_or_default ids at 0 id stands.within)) in
-    elim (nat_eq id other) as (λ b. nat_eq id other ≡ b → has ids other ≡ (b || has (remove ids at) other) → has (remove ids at) other ≡ (not b && has ids other)) [
-      | true ↦ λ same _. subst (λ own. has (remove ids at) own ≡ false) (stands.there ∙ grind (arith, nat_tests)) (has-removed ids at rise stands.within)
+    let all = list_any-IsPermutation (λ own. nat_eq own other) ids (id ∷ remove ids at)
+    (IsPermutation-remove ids at id stands.within (sym stands.there ∙ get_or_default ids at 0 id stands.within)) in
+    elim (nat_eq id other) as (λ b. nat_eq id other ≡ b → has ids other ≡ (b || has (remove ids at) other)
+    → has (remove ids at) other ≡ (not b && has ids other)) [
+      | true ↦ λ same _. subst (λ own. has (remove ids at) own ≡ false) (stands.there ∙ grind (arith, nat_tests))
+          (has-removed ids at rise stands.within)
       | false ↦ λ differs is. sym is
     ] refl all
 
@@ -110,11 +118,22 @@ not_has_gap [] at id gap = refl
 not_has_gap (first ∷ ids) zero id gap =
     let lt = gap.greater 0 (omega arith) (omega arith) in
     let differs : nat_eq first id ≡ false = grind (arith, nat_tests) in
-    rw differs (not_has_gap ids 0 id (record { within = omega arith; less = λ place before. absurd (omega (arith, before)); greater = λ place le within. gap.greater (suc place) (omega arith) (omega (arith, within)) }))
+    rw differs (not_has_gap ids 0 id (record {
+      within = omega arith;
+      less = λ place before. absurd (omega (arith, before));
+      greater =
+          λ place le within. gap.greater (suc place) (omega arith) (omega (arith, within));
+    }))
 not_has_gap (first ∷ ids) (suc at) id gap =
     let lt = gap.less 0 (omega arith) in
     let differs : nat_eq first id ≡ false = grind (arith, nat_tests) in
-    rw differs (not_has_gap ids at id (record { within = omega (arith, gap.within); less = λ place before. gap.less (suc place) (omega (arith, before)); greater = λ place le within. gap.greater (suc place) (omega (arith, le)) (omega (arith, within)) }))
+    rw differs (not_has_gap ids at id (record {
+      within = omega (arith, gap.within);
+      less =
+          λ place before. gap.less (suc place) (omega (arith, before));
+      greater =
+          λ place le within. gap.greater (suc place) (omega (arith, le)) (omega (arith, within));
+    }))
 
 -- Rising ids that are the same set are the same list.
 abbrev marks : List ℕ → List (ℕ × Unit {0})
@@ -144,7 +163,8 @@ find-marks : (id : ℕ) (ids : List ℕ) → finite.find nat_cmp id (marks ids) 
 find-marks id [] = refl
 find-marks id (other ∷ ids) =
     rw (unsigned_tied id other ∙ nat_eq_equiv.symm id other)
-    (elim (nat_eq other id) as (λ b. (if b then Some tt else finite.find nat_cmp id (marks ids)) ≡ mark_if (b || has ids id)) [ true ↦ refl | false ↦ find-marks id ids ])
+    (elim (nat_eq other id) as (λ b. (if b then Some tt else finite.find nat_cmp id (marks ids)) ≡ mark_if (b || has ids id))
+    [ true ↦ refl | false ↦ find-marks id ids ])
 
 pub same_rising : (one other : List ℕ) → IsRising one → IsRising other → ((id : ℕ) → has one id ≡ has other id) → one ≡ other
 same_rising one other rise rise_other same =
@@ -152,7 +172,8 @@ same_rising one other rise rise_other same =
     let sorted_other = sorted_marks other rise_other in
     sym (first_marks one)
     ∙ ap (map (λ (e : ℕ × Unit {0}). e.0)) (sym (finite.entries-from_sorted nat_cmp (marks one) sorted))
-    ∙ ap finite.keys (finite.same_map nat_cmp_total nat_cmp-IsAntisymmetric (finite.from_sorted {R = nat_cmp} (marks one)) (finite.from_sorted (marks other))
+    ∙ ap finite.keys (finite.same_map nat_cmp_total nat_cmp-IsAntisymmetric (finite.from_sorted {R = nat_cmp} (marks one))
+    (finite.from_sorted (marks other))
     (λ id. finite.get-from_sorted nat_cmp (marks one) id sorted ∙ find-marks id one ∙ ap mark_if (same id)
     ∙ sym (find-marks id other) ∙ sym (finite.get-from_sorted nat_cmp (marks other) id sorted_other)))
     ∙ ap (map (λ (e : ℕ × Unit {0}). e.0)) (finite.entries-from_sorted nat_cmp (marks other) sorted_other)
@@ -193,8 +214,11 @@ or-again false b = refl
 has-dedup_from : (first : ℕ) (ids : List ℕ) (id : ℕ) → has (dedup_from nat_eq first ids) id ≡ (nat_eq first id || has ids id)
 has-dedup_from first [] id = refl
 has-dedup_from first (next ∷ ids) id =
-    elim (nat_eq next first) as (λ b. nat_eq next first ≡ b → has (cond b (dedup_from nat_eq first ids) (first ∷ dedup_from nat_eq next ids)) id ≡ (nat_eq first id || (nat_eq next id || has ids id))) [
-      | true ↦ λ same. has-dedup_from first ids id ∙ or-again (nat_eq first id) (has ids id) ∙ ap (λ own. nat_eq first id || (nat_eq own id || has ids id)) {x = first} {y = next} (grind (arith, nat_tests))
+    elim (nat_eq next first) as (λ b. nat_eq next first ≡ b
+    → has (cond b (dedup_from nat_eq first ids) (first ∷ dedup_from nat_eq next ids)) id
+    ≡ (nat_eq first id || (nat_eq next id || has ids id))) [
+      | true ↦ λ same. has-dedup_from first ids id ∙ or-again (nat_eq first id) (has ids id)
+          ∙ ap (λ own. nat_eq first id || (nat_eq own id || has ids id)) {x = first} {y = next} (grind (arith, nat_tests))
       | false ↦ λ differs. ap (λ b. nat_eq first id || b) (has-dedup_from next ids id)
     ] refl
 

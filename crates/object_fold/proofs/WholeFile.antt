@@ -1,5 +1,6 @@
 -- Judged line by line, a file comes to what it is as a whole.
-use Rattle.std.proofs.Common.{◌≡◌, ℕ, ◌+◌, Option, Some, None, List, [], ◌∷◌, ◌++◌, length, length-append, append_assoc, refl, sym, ◌∙◌, ap, arith}
+use Rattle.std.proofs.Common.{◌≡◌, ℕ, ◌+◌, Option, Some, None, List, [], ◌∷◌, ◌++◌, length, length-append, append_assoc, refl, sym, ◌∙◌, ap}
+use Rattle.std.proofs.Common.{arith}
 use Rattle.std.proofs.lemmas.List.Elements.{filter_map-append}
 use Rattle.std.proofs.lemmas.List.{append-nil}
 use Rattle.std.specs.Prelude.{Result, Ok, Err, fold}
@@ -20,7 +21,8 @@ use Rattle.object_fold.specs.Reading.{ReadsAll, HasEntries}
 
 -- one line more
 
-last_key-more : (before : Option KeyOf) (entries : List Entry) (entry : Option Entry) → last_key before (entries ++ cons_option entry []) ≡ last_of (last_key before entries) entry
+last_key-more : (before : Option KeyOf) (entries : List Entry) (entry : Option Entry)
+    → last_key before (entries ++ cons_option entry []) ≡ last_of (last_key before entries) entry
 last_key-more before [] None = refl
 last_key-more before [] (Some entry) = refl
 last_key-more before (first ∷ entries) entry = last_key-more (Some first.key) entries entry
@@ -36,7 +38,8 @@ same_passed lines other entries counted last own p q r = λ i. record { lines = 
 passed_by-more : (before : List (List ℕ)) (line : List ℕ) → passed_by (before ++ line ∷ []) ≡ passed_line (passed_by before) (spelled line)
 unfolding passed_by
 passed_by-more before line =
-    let spells : spelled_by (before ++ line ∷ []) ≡ spelled_by before ++ cons_option (spelled line) [] = filter_map-append spelled before (line ∷ []) in
+    let spells : spelled_by (before ++ line ∷ []) ≡ spelled_by before ++ cons_option (spelled line) [] =
+    filter_map-append spelled before (line ∷ []) in
     same_passed _ _ _ _ _ _
     (length-append before (line ∷ []))
     (ap length spells ∙ length-more (spelled_by before) (spelled line))
@@ -44,11 +47,13 @@ passed_by-more before line =
 
 -- all lines
 
-in_front-unless : (entry : Option Entry) (fault : Option FileFault) (entries : List Entry) → in_front entry (unless fault (Ok entries)) ≡ unless fault (Ok (cons_option entry entries))
+in_front-unless : (entry : Option Entry) (fault : Option FileFault) (entries : List Entry)
+    → in_front entry (unless fault (Ok entries)) ≡ unless fault (Ok (cons_option entry entries))
 in_front-unless entry None entries = refl
 in_front-unless entry (Some fault) entries = refl
 
-entries_from-is : (limits : LimitNumbers) (before lines : List (List ℕ)) → entries_from limits (passed_by before) lines ≡ unless (first_fault limits before lines) (Ok (spelled_by lines))
+entries_from-is : (limits : LimitNumbers) (before lines : List (List ℕ))
+    → entries_from limits (passed_by before) lines ≡ unless (first_fault limits before lines) (Ok (spelled_by lines))
 unfolding entries_from first_fault
 entries_from-is limits before [] = refl
 entries_from-is limits before (line ∷ lines) =
@@ -71,7 +76,8 @@ entries_of-start limits passed bytes e = ap (λ own. entries_from limits own (li
 
 -- what a keeper makes of a fault, and of entries that it adds to a list
 
-pub kept_all-err : {K : Type 0} (after : K → Entry → K) (keeper : K) (entries : Result (List Entry) FileFault) (fault : FileFault) → kept_all after keeper entries ≡ Err fault → entries ≡ Err fault
+pub kept_all-err : {K : Type 0} (after : K → Entry → K) (keeper : K) (entries : Result (List Entry) FileFault) (fault : FileFault)
+    → kept_all after keeper entries ≡ Err fault → entries ≡ Err fault
 kept_all-err after keeper (Ok entries) fault e = absurd (cc)
 kept_all-err after keeper (Err own) fault e = let same : own ≡ fault = cc in ap Err same
 
@@ -79,11 +85,13 @@ fold-pushed : (front entries : List Entry) → fold pushed front entries ≡ fro
 fold-pushed front [] = sym (append-nil front)
 fold-pushed front (entry ∷ entries) = fold-pushed (front ++ entry ∷ []) entries ∙ simp (append_assoc) refl
 
-pub kept_all-pushed : (read : Result (List Entry) FileFault) (entries : List Entry) → kept_all pushed [] read ≡ Ok entries → read ≡ Ok entries
+pub kept_all-pushed : (read : Result (List Entry) FileFault) (entries : List Entry) → kept_all pushed [] read ≡ Ok entries
+    → read ≡ Ok entries
 kept_all-pushed (Ok own) entries e = let same : fold pushed [] own ≡ entries = cc in ap Ok (sym (fold-pushed [] own) ∙ same)
 kept_all-pushed (Err fault) entries e = absurd (cc)
 
-pub ReadsAll-HasEntries : (limits : LimitNumbers) (before now : List Entry) (left rest : Option (List ℕ)) → before ≡ [] → ReadsAll pushed limits before now left rest → HasEntries limits now left rest
+pub ReadsAll-HasEntries : (limits : LimitNumbers) (before now : List Entry) (left rest : Option (List ℕ)) → before ≡ []
+    → ReadsAll pushed limits before now left rest → HasEntries limits now left rest
 ReadsAll-HasEntries limits before now None rest none h = tt
 ReadsAll-HasEntries limits before now (Some bytes) None none h = h
 ReadsAll-HasEntries limits before now (Some bytes) (Some later) none h =

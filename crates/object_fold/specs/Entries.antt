@@ -13,7 +13,8 @@ use Rattle.object_fold.specs.Passed.{spelled_by, passed_by, line_fault}
 -- the fault of the first of these lines that has one, each judged by all the lines before it
 unfoldable pub first_fault : LimitNumbers → List (List ℕ) → List (List ℕ) → Option FileFault
 first_fault limits before [] = None
-first_fault limits before (line ∷ lines) = option_or (line_fault limits (passed_by before) line) (first_fault limits (before ++ line ∷ []) lines)
+first_fault limits before (line ∷ lines) =
+    option_or (line_fault limits (passed_by before) line) (first_fault limits (before ++ line ∷ []) lines)
 
 -- this, unless there is a fault
 abbrev pub unless : {A : Type 0} → Option FileFault → Result A FileFault → Result A FileFault

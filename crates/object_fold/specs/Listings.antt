@@ -83,4 +83,5 @@ Turns turn old new = (told : WhoLists) → Answer old told → Answer new (turn 
 
 -- some of these ids are listed by the object of this key too
 abbrev pub AddsSome : KeyOf → Listed → Listings → Listings → Type 0
-AddsSome key ids old new = (some : Listed) × ((kind : Kind) (id : ℕ) → has (ids_in kind some) id ≡ true → has (ids_in kind ids) id ≡ true) × Turns (added key some) old new
+AddsSome key ids old new = (some : Listed) × ((kind : Kind) (id : ℕ) → has (ids_in kind some) id ≡ true → has (ids_in kind ids) id ≡ true)
+    × Turns (added key some) old new

@@ -25,7 +25,12 @@ last_of last (Some entry) = Some entry.key
 
 -- with one line more, which spells this
 abbrev pub passed_line : Passed → Option Entry → Passed
-passed_line passed entry = record { lines = passed.lines + 1; entries = passed.entries + option_len entry; last = last_of passed.last entry }
+passed_line passed entry = record {
+  lines = passed.lines + 1;
+  entries = passed.entries + option_len entry;
+  last =
+      last_of passed.last entry;
+}
 
 -- an entry in front of others
 abbrev pub in_front : Option Entry → Result (List Entry) FileFault → Result (List Entry) FileFault
@@ -53,7 +58,8 @@ pub record IsReady (limits : LimitNumbers) (progress : Progress) : Type 0 where
   pub keeps : KeepsLimits progress.reader
 
 -- from the front of the bytes some were read: whatever follows them, they and it come to what it comes to now
-pub record Reads {K : Type 0} (after : K → Entry → K) (limits : LimitNumbers) (whole : List ℕ → Result (List Entry) FileFault) (before : K) (progress : Progress) (now : K)
+pub record Reads {K : Type 0} (after : K → Entry → K) (limits : LimitNumbers) (whole : List ℕ → Result (List Entry) FileFault) (before : K)
+    (progress : Progress) (now : K)
     (bytes later : List ℕ) : Type 0 where
   pub front : List ℕ
   pub parts : bytes ≡ front ++ later
@@ -61,18 +67,24 @@ pub record Reads {K : Type 0} (after : K → Entry → K) (limits : LimitNumbers
 
 -- so far was read since the start of the file
 abbrev pub HasRead : {K : Type 0} → (K → Entry → K) → LimitNumbers → K → Progress → K → Option (List ℕ) → Option (List ℕ) → Type 0
-HasRead after limits before progress now left rest = BothKnown left rest (λ bytes later. Reads after limits (entries_of limits) before progress now bytes later)
+HasRead after limits before progress now left rest =
+    BothKnown left rest (λ bytes later. Reads after limits (entries_of limits) before progress now bytes later)
 
 -- so far by one read
-abbrev pub ReadsPiece : {K : Type 0} → (K → Entry → K) → LimitNumbers → Progress → K → Progress → K → Option (List ℕ) → Option (List ℕ) → Type 0
-ReadsPiece after limits old before new now left rest = BothKnown left rest (λ bytes later. Reads after limits (entries_left limits old) before new now bytes later)
+abbrev pub ReadsPiece : {K : Type 0} → (K → Entry → K) → LimitNumbers → Progress → K → Progress → K → Option (List ℕ) → Option (List ℕ)
+    → Type 0
+ReadsPiece after limits old before new now left rest =
+    BothKnown left rest (λ bytes later. Reads after limits (entries_left limits old) before new now bytes later)
 
 -- one read, and what was made of it: what is left makes the same of the keeper as what was left, and at the end of the file none is
-abbrev pub ReadsOn : {K : Type 0} → (K → Entry → K) → LimitNumbers → Progress → K → Progress → K → Bool → Option (List ℕ) → Option (List ℕ) → Type 0
+abbrev pub ReadsOn : {K : Type 0} → (K → Entry → K) → LimitNumbers → Progress → K → Progress → K → Bool → Option (List ℕ) → Option (List ℕ)
+    → Type 0
 ReadsOn after limits old before new now more left rest =
-    BothKnown left rest (λ bytes later. (kept_all after before (entries_left limits old bytes) ≡ kept_all after now (entries_left limits new later))
+    BothKnown left rest (λ bytes later. (kept_all after before (entries_left limits old bytes)
+    ≡ kept_all after now (entries_left limits new later))
     × (more ≡ false → later ≡ []))
 
 -- this is the fault of a file of which these bytes are left
 abbrev pub IsKeptFault : {K : Type 0} → (K → Entry → K) → LimitNumbers → Progress → K → Option (List ℕ) → FileFault → Type 0
-IsKeptFault after limits progress keeper left fault = IfSome left (λ bytes. kept_all after keeper (entries_left limits progress bytes) ≡ Err fault)
+IsKeptFault after limits progress keeper left fault =
+    IfSome left (λ bytes. kept_all after keeper (entries_left limits progress bytes) ≡ Err fault)

@@ -1,5 +1,6 @@
 -- The lines of bytes that are put together, and the manual's rules on examples.
-use Rattle.std.proofs.Common.{◌≡◌, ◌≢◌, ℕ, zero, suc, ◌+◌, ◌<◌, true, false, List, [], ◌∷◌, ◌++◌, ◌==◌, cond, length, take, drop, refl, sym, ◌∙◌, ap, arith}
+use Rattle.std.proofs.Common.{◌≡◌, ◌≢◌, ℕ, zero, suc, ◌+◌, ◌<◌, true, false, List, [], ◌∷◌, ◌++◌, ◌==◌, cond, length, take, drop, refl, sym}
+use Rattle.std.proofs.Common.{◌∙◌, ap, arith}
 use Rattle.std.proofs.lemmas.Bool.{ne_eqb}
 use Rattle.std.proofs.lemmas.List.Elements.{All-nil, All-cons, All-head, All-tail}
 use Rattle.std.specs.List.{onto_first, slice_index}
@@ -42,7 +43,8 @@ pub first_line-within : (bytes rest : List ℕ) → IsWithinLine bytes → first
 unfolding lines_of
 first_line-within [] rest h = refl
 first_line-within (byte ∷ bytes) rest h =
-    rw (head_is_other byte bytes h, first_of-onto_first) (ap (λ line. byte ∷ line) (first_line-within bytes rest (tail_is_within byte bytes h)))
+    rw (head_is_other byte bytes h, first_of-onto_first)
+    (ap (λ line. byte ∷ line) (first_line-within bytes rest (tail_is_within byte bytes h)))
 
 pub first_line-newline : (rest : List ℕ) → first_line (NEWLINE ∷ rest) ≡ []
 unfolding lines_of
@@ -67,7 +69,8 @@ lines_of-some (byte ∷ bytes) some =
     ]
 
 -- what stands before the first newline of a piece
-pub front_ended : (piece : List ℕ) (end : ℕ) → ((k : ℕ) → k < end → slice_index piece k ≢ NEWLINE) → end < length piece → slice_index piece end ≡ NEWLINE → IsFront piece (take end piece) true
+pub front_ended : (piece : List ℕ) (end : ℕ) → ((k : ℕ) → k < end → slice_index piece k ≢ NEWLINE) → end < length piece
+    → slice_index piece end ≡ NEWLINE → IsFront piece (take end piece) true
 front_ended [] end before high here = absurd (omega arith)
 front_ended (byte ∷ piece) zero before high here = record { within_line = All-nil (λ b. b ≢ NEWLINE); parts = ap (λ b. b ∷ piece) here }
 front_ended (byte ∷ piece) (suc end) before high here =

@@ -30,7 +30,9 @@ unfolding lines_of
 returns = refl
 
 -- one object a line: two nodes with their metadata and tags, as osmium writes them
-objects : lines_of (codes "n1 v3 dV c101 t2024-05-01T10:00:00Z i7 uanna Tamenity=cafe x13.3777 y52.5163\nn2 v1 dV c100 t2024-05-01T09:00:00Z i7 uanna T x13.378 y52.5163\n")
-    ≡ codes "n1 v3 dV c101 t2024-05-01T10:00:00Z i7 uanna Tamenity=cafe x13.3777 y52.5163" ∷ codes "n2 v1 dV c100 t2024-05-01T09:00:00Z i7 uanna T x13.378 y52.5163" ∷ []
+objects : lines_of
+    (codes "n1 v3 dV c101 t2024-05-01T10:00:00Z i7 uanna Tamenity=cafe x13.3777 y52.5163\nn2 v1 dV c100 t2024-05-01T09:00:00Z i7 uanna T x13.378 y52.5163\n")
+    ≡ codes "n1 v3 dV c101 t2024-05-01T10:00:00Z i7 uanna Tamenity=cafe x13.3777 y52.5163"
+    ∷ codes "n2 v1 dV c100 t2024-05-01T09:00:00Z i7 uanna T x13.378 y52.5163" ∷ []
 unfolding lines_of
 objects = refl

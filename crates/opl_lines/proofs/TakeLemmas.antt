@@ -1,5 +1,6 @@
 -- What a piece does to the lines, by its bytes before the first newline.
-use Rattle.std.proofs.Common.{◌≡◌, ◌≢◌, ℕ, suc, ◌+◌, ◌-◌, ◌*◌, ◌<◌, ◌≤◌, Bool, true, false, cond, None, Some, List, [], ◌∷◌, ◌++◌, length, take, drop, Contains, MatchOption, refl, sym, ◌∙◌, ap, subst, append_assoc, arith, length-append}
+use Rattle.std.proofs.Common.{◌≡◌, ◌≢◌, ℕ, suc, ◌+◌, ◌-◌, ◌*◌, ◌<◌, ◌≤◌, Bool, true, false, cond, None, Some, List, [], ◌∷◌, ◌++◌, length}
+use Rattle.std.proofs.Common.{take, drop, Contains, MatchOption, refl, sym, ◌∙◌, ap, subst, append_assoc, arith, length-append}
 use Rattle.std.proofs.lemmas.List.{append-nil, take_at, drop_all}
 use Rattle.std.proofs.lemmas.List.Elements.{All-append, All-contains, Contains-append_right}
 use mir.Val.{bool_byte}
@@ -22,7 +23,8 @@ first_line-behind piece front false = first_line-none
 
 module _ (old piece front : List ℕ) (ends : Bool) (within : IsWithinLine old) (h : IsFront piece front ends) where
   -- the first line goes on with the front
-  first_line-goes_on : (later : List ℕ) → first_line (old ++ (piece ++ later)) ≡ old ++ (front ++ first_line (behind piece front ends ++ later))
+  first_line-goes_on : (later : List ℕ) → first_line (old ++ (piece ++ later)) ≡ old
+      ++ (front ++ first_line (behind piece front ends ++ later))
   first_line-goes_on later =
       ap (λ bytes. first_line (old ++ (bytes ++ later))) h.parts
       ∙ ap (λ bytes. first_line (old ++ bytes)) (append_assoc front (behind piece front ends) later)
@@ -47,10 +49,12 @@ module _ (old piece front : List ℕ) (ends : Bool) (within : IsWithinLine old) 
 
 -- so the limit of a line is passed by the piece exactly where it is by the front
 pub passes_as_grows : (reading : Reading) (piece front : List ℕ) (ends : Bool) → IsWithinLine (begun reading) → IsFront piece front ends
-    → (PassesLineBytes reading piece → GrowsTooLong reading (length front)) × (GrowsTooLong reading (length front) → PassesLineBytes reading piece)
+    → (PassesLineBytes reading piece → GrowsTooLong reading (length front))
+    × (GrowsTooLong reading (length front) → PassesLineBytes reading piece)
 passes_as_grows reading piece front ends within h =
     let far = first_line-so_far (begun reading) piece front ends within h in
-    elim reading.failed as (λ failed. let Limit : ℕ → Type 0 = λ size. MatchOption failed ((reading.number < reading.lines) × (reading.line_bytes < size)) (λ fault. fault ≡ LineBytes) in
+    elim reading.failed as (λ failed. let Limit : ℕ → Type 0 =
+    λ size. MatchOption failed ((reading.number < reading.lines) × (reading.line_bytes < size)) (λ fault. fault ≡ LineBytes) in
     (Limit (length (first_line (begun reading ++ piece))) → Limit (length (begun reading) + length front))
     × (Limit (length (begun reading) + length front) → Limit (length (first_line (begun reading ++ piece))))) [
       | None ↦ (λ p. (p.0, omega (arith, far, p.1)), λ p. (p.0, omega (arith, far, p.1)))
@@ -98,7 +102,8 @@ module _ (old new : Reading) (piece front : List ℕ) (keeps : KeepsLimits old) 
         ap (take (length front + 1)) (h.parts ∙ sym (append_assoc front (NEWLINE ∷ []) (drop (length front + 1) piece)))
         ∙ take_at (front ++ NEWLINE ∷ []) (drop (length front + 1) piece) (length front + 1) (length-append front (NEWLINE ∷ []))
 
-    lines_ended : (later : List ℕ) → lines_of (begun old ++ (piece ++ later)) ≡ (begun old ++ front) ∷ lines_of (begun new ++ (drop (length front + 1) piece ++ later))
+    lines_ended : (later : List ℕ) → lines_of (begun old ++ (piece ++ later)) ≡ (begun old ++ front)
+        ∷ lines_of (begun new ++ (drop (length front + 1) piece ++ later))
     lines_ended later =
         ap (λ bytes. lines_of (begun old ++ (bytes ++ later))) h.parts
         ∙ ap (λ bytes. lines_of (begun old ++ bytes)) (append_assoc front (NEWLINE ∷ drop (length front + 1) piece) later)
@@ -111,10 +116,16 @@ module _ (old new : Reading) (piece front : List ℕ) (keeps : KeepsLimits old) 
     takes_ended = record {
       lines_of_rest = lines_ended;
       ends_at_newline = (
-        λ _. subst (λ bytes. Contains bytes NEWLINE) (sym h.parts) (Contains-append_right front (NEWLINE ∷ drop (length front + 1) piece) NEWLINE (0, omega arith, refl)),
+        λ _. subst (λ bytes. Contains bytes NEWLINE) (sym h.parts)
+            (Contains-append_right front (NEWLINE ∷ drop (length front + 1) piece) NEWLINE (0, omega arith, refl)),
         λ _. refl,
       );
-      line_taken = (line_within, ap (λ bytes. begun old ++ bytes) used_part ∙ sym (append_assoc (begun old) front (NEWLINE ∷ [])), follows.begun_now);
+      line_taken = (
+        line_within,
+        ap (λ bytes. begun old ++ bytes) used_part
+            ∙ sym (append_assoc (begun old) front (NEWLINE ∷ [])),
+        follows.begun_now,
+      );
       all_taken = tt;
       takes_some = omega arith;
       within_piece = omega (arith, ap length h.parts, length-append front (NEWLINE ∷ drop (length front + 1) piece));
@@ -133,14 +144,16 @@ module _ (old new : Reading) (piece front : List ℕ) (keeps : KeepsLimits old) 
     front_is_all = h.parts ∙ append-nil front
 
     no_newline : Contains piece NEWLINE → ⊥
-    no_newline here = All-contains (λ byte. byte ≢ NEWLINE) front NEWLINE h.within_line (subst (λ bytes. Contains bytes NEWLINE) front_is_all here) refl
+    no_newline here = All-contains (λ byte. byte ≢ NEWLINE) front NEWLINE h.within_line
+        (subst (λ bytes. Contains bytes NEWLINE) front_is_all here) refl
 
     lines_open : (later : List ℕ) → lines_of (begun old ++ (piece ++ later)) ≡ lines_of (begun new ++ (drop (length front) piece ++ later))
     lines_open later =
         ap (λ bytes. lines_of (begun old ++ (bytes ++ later))) front_is_all
         ∙ ap lines_of (sym (append_assoc (begun old) front later))
         ∙ ap (λ bytes. lines_of (bytes ++ later)) (sym follows.begun_now)
-        ∙ ap (λ bytes. lines_of (begun new ++ (bytes ++ later))) (sym (drop_all (length front) piece (omega (arith, ap length front_is_all))))
+        ∙ ap (λ bytes. lines_of (begun new ++ (bytes ++ later)))
+        (sym (drop_all (length front) piece (omega (arith, ap length front_is_all))))
 
     pub takes_open : Takes old new piece (length front) None
     unfolding room
@@ -164,7 +177,8 @@ module _ (old new : Reading) (piece front : List ℕ) (keeps : KeepsLimits old) 
     }
 
 -- a line that grows by the front of a piece
-pub takes_grown : (old : Reading) (piece front : List ℕ) (ends : Bool) → 0 < length piece → KeepsLimits old → Admits old (length front) → IsFront piece front ends
+pub takes_grown : (old : Reading) (piece front : List ℕ) (ends : Bool) → 0 < length piece → KeepsLimits old → Admits old (length front)
+    → IsFront piece front ends
     → Takes old (grown old front ends) piece (length front + bool_byte ends) (cond ends (Some (begun old ++ front)) None)
 takes_grown old piece front true some keeps admits h =
     takes_ended old (grown old front true) piece front keeps admits h
@@ -176,7 +190,8 @@ takes_grown old piece front false some keeps admits h =
     (record { begun_now = refl; number_now = refl; line_bytes_same = refl; lines_same = refl; failed_same = refl }))
 
 -- a line that lies whole in the piece
-pub takes_lent : (old : Reading) (piece front : List ℕ) → old.whole ≡ true → KeepsLimits old → Admits old (length front) → IsFront piece front true
+pub takes_lent : (old : Reading) (piece front : List ℕ) → old.whole ≡ true → KeepsLimits old → Admits old (length front)
+    → IsFront piece front true
     → Takes old (record old { number = old.number + 1 }) piece (length front + 1) (Some front)
 takes_lent old piece front whole keeps admits h =
     let nothing : begun old ≡ [] = ap (λ whole. cond whole [] old.line) whole in
@@ -192,23 +207,29 @@ remembered old FileLines h = refl
 remembered old OutOfMemory h = absurd (h refl)
 
 -- a piece whose front passes a limit
-pub refuses : (old view : Reading) (piece front : List ℕ) (ends : Bool) (fault : LineFault) → view ≡ old → KeepsLimits old → 0 < length piece
-    → IsFront piece front ends → (Some fault ≡ Some LineBytes → GrowsTooLong old (length front)) → (Some fault ≡ Some FileLines → PassesFileLines old)
+pub refuses : (old view : Reading) (piece front : List ℕ) (ends : Bool) (fault : LineFault) → view ≡ old → KeepsLimits old
+    → 0 < length piece
+    → IsFront piece front ends → (Some fault ≡ Some LineBytes → GrowsTooLong old (length front))
+    → (Some fault ≡ Some FileLines → PassesFileLines old)
     → Some fault ≢ Some OutOfMemory → Refuses old (record view { failed = Some fault }) piece fault
 refuses old view piece front ends fault same keeps some h too_long too_many memory = record {
   state = ap (λ view. let new : Reading = record view { failed = Some fault } in new) same ∙ remembered old fault memory;
   too_long = λ is none later.
-      let passed = subst (λ failed. MatchOption failed ((old.number < old.lines) × (old.line_bytes < length (begun old) + length front)) (λ fault. fault ≡ LineBytes)) none (too_long (ap Some is)) in
+      let passed = subst (λ failed. MatchOption failed ((old.number < old.lines) × (old.line_bytes < length (begun old) + length front))
+      (λ fault. fault ≡ LineBytes)) none (too_long (ap Some is)) in
       let far = first_line-at_least (begun old) piece front ends keeps.within_line h later in
       (passed.0, omega (arith, passed.1, far));
   too_many = λ is none later.
-      let passed = subst (λ failed. MatchOption failed (old.number ≡ old.lines) (λ fault. fault ≡ FileLines)) none (too_many (ap Some is)) in
-      let longer : 0 < length (begun old ++ (piece ++ later)) = omega (arith, some, length-append (begun old) (piece ++ later), length-append piece later) in
+      let passed = subst (λ failed. MatchOption failed (old.number ≡ old.lines) (λ fault. fault ≡ FileLines)) none
+      (too_many (ap Some is)) in
+      let longer : 0 < length (begun old ++ (piece ++ later)) =
+      omega (arith, some, length-append (begun old) (piece ++ later), length-append piece later) in
       (passed, lines_of-some (begun old ++ (piece ++ later)) longer);
 }
 
 -- the same by way of a reader that is equal to the old one
-pub takes_as_grown : (old mid new : Reading) (piece front : List ℕ) (ends : Bool) (newline : ℕ) → mid ≡ old → new ≡ grown mid front ends → newline ≡ bool_byte ends
+pub takes_as_grown : (old mid new : Reading) (piece front : List ℕ) (ends : Bool) (newline : ℕ) → mid ≡ old → new ≡ grown mid front ends
+    → newline ≡ bool_byte ends
     → 0 < length piece → KeepsLimits mid → Admits old (length front) → IsFront piece front ends
     → Takes old new piece (length front + newline) (cond ends (Some new.line) None)
 takes_as_grown old mid new piece front ends newline same is newline_is some keeps admits h =
@@ -217,12 +238,15 @@ takes_as_grown old mid new piece front ends newline same is newline_is some keep
     subst (λ newline. Takes old new piece (length front + newline) (cond ends (Some new.line) None)) (sym newline_is)
     (subst (λ new. Takes old new piece (length front + bool_byte ends) (cond ends (Some new.line) None)) now grows)
 
-pub takes_as_lent : (old mid view : Reading) (piece front : List ℕ) (ends : Bool) (newline : ℕ) → mid ≡ old → view ≡ mid → view.whole ≡ true → ends ≡ true → newline ≡ bool_byte ends
+pub takes_as_lent : (old mid view : Reading) (piece front : List ℕ) (ends : Bool) (newline : ℕ) → mid ≡ old → view ≡ mid → view.whole ≡ true
+    → ends ≡ true → newline ≡ bool_byte ends
     → KeepsLimits mid → Admits old (length front) → IsFront piece front ends
     → Takes old (record view { number = view.number + 1 }) piece (length front + newline) (Some front)
 takes_as_lent old mid view piece front ends newline same is whole ended newline_is keeps admits h =
     let one : 1 ≡ newline = sym (newline_is ∙ ap (λ ends. bool_byte ends) ended) in
     let at_old : old ≡ view = sym (is ∙ same) in
-    let lends = takes_lent old piece front (ap (λ reading. let r : Reading = reading in r.whole) at_old ∙ whole) (subst KeepsLimits same keeps) admits (subst (IsFront piece front) ended h) in
+    let lends = takes_lent old piece front (ap (λ reading. let r : Reading = reading in r.whole) at_old ∙ whole)
+    (subst KeepsLimits same keeps) admits (subst (IsFront piece front) ended h) in
     subst (λ newline. Takes old (record view { number = view.number + 1 }) piece (length front + newline) (Some front)) one
-    (subst (λ reading. Takes old (let r : Reading = reading in record r { number = r.number + 1 }) piece (length front + 1) (Some front)) at_old lends)
+    (subst (λ reading. Takes old (let r : Reading = reading in record r { number = r.number + 1 }) piece (length front + 1) (Some front))
+    at_old lends)

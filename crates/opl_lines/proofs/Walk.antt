@@ -1,5 +1,6 @@
 -- A walk over a piece, take by take.
-use Rattle.std.proofs.Common.{◌≡◌, ◌≢◌, ℕ, suc, ◌+◌, ◌-◌, ◌<◌, ◌≤◌, cond, Bool, true, false, Option, None, Some, List, [], ◌∷◌, ◌++◌, length, drop, refl, sym, ◌∙◌, ap, arith, append_assoc, Vec, Global}
+use Rattle.std.proofs.Common.{◌≡◌, ◌≢◌, ℕ, suc, ◌+◌, ◌-◌, ◌<◌, ◌≤◌, cond, Bool, true, false, Option, None, Some, List, [], ◌∷◌, ◌++◌}
+use Rattle.std.proofs.Common.{length, drop, refl, sym, ◌∙◌, ap, arith, append_assoc, Vec, Global}
 use Rattle.std.proofs.lemmas.Bool.{lt-ltb, le-ltb}
 use Rattle.std.proofs.lemmas.List.{append-nil, map-append}
 use Rattle.std.specs.Bool.{OnTrue}
@@ -31,7 +32,8 @@ limit_passed-many line_bytes [] some = absurd (omega arith)
 limit_passed-many line_bytes (line ∷ later) some = refl
 
 -- a limit that stops a reader is the one that the lines pass
-pub refused_limit : (old new : Reading) (piece : List ℕ) (fault : LineFault) → Refuses old new piece fault → old.failed ≡ None → fault ≢ OutOfMemory
+pub refused_limit : (old new : Reading) (piece : List ℕ) (fault : LineFault) → Refuses old new piece fault → old.failed ≡ None
+    → fault ≢ OutOfMemory
     → (later : List ℕ) → limit_left old (piece ++ later) ≡ Some fault
 refused_limit old new piece LineBytes refuses none memory later =
     let long = refuses.too_long refl none later in
@@ -48,7 +50,8 @@ pub limit_left-end : (old new : Reading) (ends : Bool) → lines_of (begun old) 
     → OnTrue ends (length new.line ≤ old.line_bytes) → KeepsLimits new → limit_left old [] ≡ None
 unfolding limit_passed
 limit_left-end old new true line end fits keeps =
-    let left : old.lines - old.number ≡ suc (old.lines - (old.number + 1)) = omega (arith, keeps.counted, ap (λ (r : Reading). r.number) end, ap (λ (r : Reading). r.lines) end) in
+    let left : old.lines - old.number ≡ suc (old.lines - (old.number + 1)) =
+    omega (arith, keeps.counted, ap (λ (r : Reading). r.number) end, ap (λ (r : Reading). r.lines) end) in
     rw left (ap (limit_passed old.line_bytes (suc (old.lines - (old.number + 1)))) (ap lines_of (append-nil (begun old)) ∙ line)
     ∙ limit_passed-short old.line_bytes (old.lines - (old.number + 1)) new.line [] fits)
 limit_left-end old new false line end fits keeps =
@@ -58,28 +61,34 @@ limit_left-end old new false line end fits keeps =
 
 -- a reader has taken the piece but for this rest
 pub record Walks (first now : Reading) (before after : List (List ℕ)) (piece rest : List ℕ) : Type 0 where
-  pub lines_kept : (later : List ℕ) → after ++ lines_of (begun now ++ (rest ++ later)) ≡ before ++ lines_of (begun first ++ (piece ++ later))
+  pub lines_kept : (later : List ℕ) → after ++ lines_of (begun now ++ (rest ++ later)) ≡ before
+      ++ lines_of (begun first ++ (piece ++ later))
   pub limit_kept : (later : List ℕ) → limit_left now (rest ++ later) ≡ limit_left first (piece ++ later)
   pub no_fault : now.failed ≡ None
 
-pub walks_none : (first : Reading) (before : List (List ℕ)) (piece : List ℕ) → first.failed ≡ None → Walks first first before before piece piece
+pub walks_none : (first : Reading) (before : List (List ℕ)) (piece : List ℕ) → first.failed ≡ None
+    → Walks first first before before piece piece
 walks_none first before piece none = record { lines_kept = λ later. refl; limit_kept = λ later. refl; no_fault = none }
 
-pub walks_all : (first now : Reading) (before after : List (List ℕ)) (piece rest : List ℕ) → length rest ≡ 0 → Walks first now before after piece rest → GoesOn first now before after piece
+pub walks_all : (first now : Reading) (before after : List (List ℕ)) (piece rest : List ℕ) → length rest ≡ 0
+    → Walks first now before after piece rest → GoesOn first now before after piece
 walks_all first now before after piece [] none walks =
     record { lines_kept = λ later. walks.lines_kept later; limit_kept = λ later. walks.limit_kept later; no_fault = walks.no_fault }
 walks_all first now before after piece (byte ∷ rest) none walks = absurd (omega arith)
 
 module _ (old mid : Reading) (rest : List ℕ) (used : ℕ) where
   -- the limit that the lines pass, after a take
-  limit_after : (line : Option (List ℕ)) → Takes old mid rest used line → (later : List ℕ) → limit_left mid (drop used rest ++ later) ≡ limit_left old (rest ++ later)
+  limit_after : (line : Option (List ℕ)) → Takes old mid rest used line → (later : List ℕ)
+      → limit_left mid (drop used rest ++ later) ≡ limit_left old (rest ++ later)
   limit_after None takes later =
       let left : mid.lines - mid.number ≡ old.lines - old.number = omega (arith, takes.counted, takes.same_limits.1) in
       rw (takes.same_limits.0, left) (ap (limit_passed old.line_bytes (old.lines - old.number)) (sym (takes.lines_of_rest later)))
   limit_after (Some line) takes later =
-      let left : old.lines - old.number ≡ suc (mid.lines - mid.number) = omega (arith, takes.counted, takes.number_kept, takes.same_limits.1) in
+      let left : old.lines - old.number ≡ suc (mid.lines - mid.number) =
+      omega (arith, takes.counted, takes.number_kept, takes.same_limits.1) in
       rw (takes.same_limits.0, left)
-      (sym (limit_passed-short old.line_bytes (mid.lines - mid.number) line (lines_of (begun mid ++ (drop used rest ++ later))) takes.length_kept)
+      (sym (limit_passed-short old.line_bytes (mid.lines - mid.number) line
+      (lines_of (begun mid ++ (drop used rest ++ later))) takes.length_kept)
       ∙ ap (limit_passed old.line_bytes (suc (mid.lines - mid.number))) (sym (takes.lines_of_rest later)))
 
   -- one take more
@@ -98,6 +107,7 @@ module _ (old mid : Reading) (rest : List ℕ) (used : ℕ) where
   }
 
 -- a copy of the line that ended
-pub texts-push : (old new : List (Vec ℕ Global)) (copy : Vec ℕ Global) (line : List ℕ) → new ≡ old ++ copy ∷ [] → copy.items ≡ line → texts new ≡ texts old ++ line ∷ []
+pub texts-push : (old new : List (Vec ℕ Global)) (copy : Vec ℕ Global) (line : List ℕ) → new ≡ old ++ copy ∷ [] → copy.items ≡ line
+    → texts new ≡ texts old ++ line ∷ []
 texts-push old new copy line new_is copy_is =
     ap texts new_is ∙ map-append (λ (v : Vec ℕ Global). v.items) old (copy ∷ []) ∙ ap (λ line. texts old ++ line ∷ []) copy_is

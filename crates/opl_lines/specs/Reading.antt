@@ -1,5 +1,6 @@
 -- How far a reader of lines has come.
-use Rattle.std.specs.Prelude.{◌≡◌, ◌≢◌, ℕ, ◌+◌, ◌-◌, ◌*◌, ◌<◌, ◌≤◌, Bool, true, false, Option, None, Some, List, [], ◌++◌, length, MatchOption, if◌then◌else◌}
+use Rattle.std.specs.Prelude.{◌≡◌, ◌≢◌, ℕ, ◌+◌, ◌-◌, ◌*◌, ◌<◌, ◌≤◌, Bool, true, false, Option, None, Some, List, [], ◌++◌, length}
+use Rattle.std.specs.Prelude.{MatchOption, if◌then◌else◌}
 use Rattle.opl_lines.specs.declared.fault.LineFault.{LineFault}
 use Rattle.opl_lines.specs.declared.fault.LineFault.TheVariants.{LineBytes, FileLines, OutOfMemory}
 use Rattle.opl_lines.specs.Lines.{first_line, IsWithinLine}

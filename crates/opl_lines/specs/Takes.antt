@@ -1,5 +1,6 @@
 -- What a reader does with a piece of a file.
-use Rattle.std.specs.Prelude.{◌≡◌, ◌↔◌, ℕ, ◌+◌, ◌<◌, ◌≤◌, Option, None, Some, List, [], ◌∷◌, ◌++◌, length, take, drop, IfSome, IfNone, IsSome, Contains}
+use Rattle.std.specs.Prelude.{◌≡◌, ◌↔◌, ℕ, ◌+◌, ◌<◌, ◌≤◌, Option, None, Some, List, [], ◌∷◌, ◌++◌, length, take, drop, IfSome, IfNone}
+use Rattle.std.specs.Prelude.{IsSome, Contains}
 use Rattle.std.specs.Option.{option_to_list}
 use Rattle.opl_lines.specs.declared.reader.TheConstants.{NEWLINE}
 use Rattle.opl_lines.specs.declared.fault.LineFault.{LineFault}

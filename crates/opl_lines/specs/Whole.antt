@@ -14,7 +14,8 @@ texts lines = map (λ (line : Vec ℕ Global). line.items) lines
 unfoldable pub limit_passed : ℕ → ℕ → List (List ℕ) → Option LineFault
 limit_passed line_bytes lines [] = None
 limit_passed line_bytes zero (line ∷ later) = Some FileLines
-limit_passed line_bytes (suc lines) (line ∷ later) = if nat_lt line_bytes (length line) then Some LineBytes else limit_passed line_bytes lines later
+limit_passed line_bytes (suc lines) (line ∷ later) =
+    if nat_lt line_bytes (length line) then Some LineBytes else limit_passed line_bytes lines later
 
 -- the limit that is passed where these bytes are left to a reader
 abbrev pub limit_left : Reading → List ℕ → Option LineFault

@@ -11,7 +11,8 @@ use Rattle.osm_base.specs.declared.values.place.TheConstants.{MAX_LON, MAX_LAT}
 use Rattle.osm_base.specs.values.Key.{KeyOf}
 use Rattle.osm_base.specs.values.Tags.{TagMap}
 use Rattle.opl_object.specs.declared.letter.Letter.{Letter}
-use Rattle.opl_object.specs.declared.letter.Letter.TheVariants.{Version, Visible, Changeset, Time, UserId, User, Tags, Lon, Lat, Nodes, Members}
+use Rattle.opl_object.specs.declared.letter.Letter.TheVariants.{Version, Visible, Changeset, Time, UserId, User, Tags, Lon, Lat, Nodes}
+use Rattle.opl_object.specs.declared.letter.Letter.TheVariants.{Members}
 use Rattle.opl_object.specs.declared.parts.Parts.{Parts}
 use Rattle.opl_object.specs.declared.why.Why.{Why}
 use Rattle.opl_object.specs.declared.why.Why.TheVariants as causes
@@ -46,7 +47,8 @@ good = record { own = tt }
 bad : {A : Type 0} (why : Why) → IsOwn why → HasOwnCause {A = A} (Err why)
 bad why own = record { own = own }
 
-own_then : {A B : Type 0} {read : Result A Why} {next : A → Result B Why} → HasOwnCause read → ((x : A) → HasOwnCause (next x)) → HasOwnCause (read >>= next)
+own_then : {A B : Type 0} {read : Result A Why} {next : A → Result B Why} → HasOwnCause read → ((x : A) → HasOwnCause (next x))
+    → HasOwnCause (read >>= next)
 own_then {A} {B} {read} {next} own later = go read own where
   go : (r : Result A Why) → HasOwnCause r → HasOwnCause (r >>= next)
   go (Ok x) o = later x
@@ -60,7 +62,8 @@ own_given : {A : Type 0} (why : Why) (found : Option A) → IsOwn why → HasOwn
 own_given why None own = bad why own
 own_given why (Some x) own = good
 
-own_pieces : {A : Type 0} (step : A → List ℕ → Result A Why) → ((front : A) (piece : List ℕ) → HasOwnCause (step front piece)) → (front : A) (pieces : List (List ℕ)) → HasOwnCause (each_piece step front pieces)
+own_pieces : {A : Type 0} (step : A → List ℕ → Result A Why) → ((front : A) (piece : List ℕ) → HasOwnCause (step front piece))
+    → (front : A) (pieces : List (List ℕ)) → HasOwnCause (each_piece step front pieces)
 unfolding each_piece
 own_pieces step own front [] = good
 own_pieces step own front (piece ∷ pieces) = own_then (own front piece) (λ next. own_pieces step own next pieces)
@@ -81,7 +84,8 @@ own_resolved : (text : List ℕ) (pieces : List (List ℕ)) → HasOwnCause (res
 unfolding resolved
 own_resolved text [] = bad causes.Escape tt
 own_resolved text (plain ∷ []) = own_choice _ good (bad causes.Escape tt)
-own_resolved text (plain ∷ digits ∷ pieces) = own_choice _ (own_then (own_escaped digits) (λ code. own_resolved ((text ++ plain) ++ encode_utf8 code) pieces)) (bad causes.Escape tt)
+own_resolved text (plain ∷ digits ∷ pieces) =
+    own_choice _ (own_then (own_escaped digits) (λ code. own_resolved ((text ++ plain) ++ encode_utf8 code) pieces)) (bad causes.Escape tt)
 
 own_text : (spelled : List ℕ) → HasOwnCause (text_of spelled)
 unfolding text_of bytes_of
@@ -89,11 +93,13 @@ own_text spelled = own_then (own_resolved [] (slice_split (is 37) spelled)) (λ 
 
 own_pair : (tags : TagMap) (parts : List ℕ × Option (List ℕ)) → HasOwnCause (with_pair tags parts)
 own_pair tags (key, None) = bad causes.Tag tt
-own_pair tags (key, Some value) = own_then (own_text key) (λ key. own_then (own_text value) (λ value. own_choice _ (bad causes.RepeatedKey tt) good))
+own_pair tags (key, Some value) = own_then (own_text key)
+    (λ key. own_then (own_text value) (λ value. own_choice _ (bad causes.RepeatedKey tt) good))
 
 own_tags : (text : List ℕ) → HasOwnCause (tags_of text)
 unfolding tags_of with_piece
-own_tags text = own_choice _ good (own_pieces with_piece (λ tags piece. own_pair tags (cut_at (is 61) piece)) map.empty (slice_split (is 44) text))
+own_tags text = own_choice _ good (own_pieces with_piece (λ tags piece. own_pair tags (cut_at (is 61) piece)) map.empty
+    (slice_split (is 44) text))
 
 own_numbered : (text : List ℕ) → HasOwnCause (numbered text)
 unfolding numbered
@@ -110,26 +116,31 @@ own_place_parts (lon, Some lat) = own_place_pair lon lat
 
 own_placed : (text : List ℕ) → HasOwnCause (placed text)
 unfolding placed
-own_placed text = own_choice _ good (own_then (own_given causes.Member (behind 120 text) tt) (λ place. own_place_parts (cut_at (is 121) place)))
+own_placed text = own_choice _ good (own_then (own_given causes.Member (behind 120 text) tt)
+    (λ place. own_place_parts (cut_at (is 121) place)))
 
 own_node : (piece : List ℕ) → HasOwnCause (node_of piece)
 unfolding node_of
-own_node piece = own_then (own_given causes.Member (behind 110 piece) tt) (λ rest. own_then (own_numbered rest) (λ found. own_then (own_placed found.1) (λ last. good)))
+own_node piece = own_then (own_given causes.Member (behind 110 piece) tt)
+    (λ rest. own_then (own_numbered rest) (λ found. own_then (own_placed found.1) (λ last. good)))
 
 own_nodes : (text : List ℕ) → HasOwnCause (nodes_of text)
 unfolding nodes_of
-own_nodes text = own_choice _ good (own_pieces with_node (λ nodes piece. own_then (own_node piece) (λ id. good)) [] (slice_split (is 44) text))
+own_nodes text = own_choice _ good (own_pieces with_node (λ nodes piece. own_then (own_node piece) (λ id. good)) []
+    (slice_split (is 44) text))
 
 own_role : (key : KeyOf) (text : List ℕ) → HasOwnCause (with_role key text)
 own_role key text = own_then (own_given causes.Member (behind 64 text) tt) (λ spelled. own_then (own_text spelled) (λ role. good))
 
 own_member : (piece : List ℕ) → HasOwnCause (member_of piece)
 unfolding member_of
-own_member piece = own_then (own_given causes.Member (kind_at piece) tt) (λ front. own_then (own_numbered front.1) (λ found. own_role (record { kind = front.0; id = found.0 }) found.1))
+own_member piece = own_then (own_given causes.Member (kind_at piece) tt)
+    (λ front. own_then (own_numbered front.1) (λ found. own_role (record { kind = front.0; id = found.0 }) found.1))
 
 own_members : (text : List ℕ) → HasOwnCause (members_of text)
 unfolding members_of
-own_members text = own_choice _ good (own_pieces with_member (λ members piece. own_then (own_member piece) (λ member. good)) [] (slice_split (is 44) text))
+own_members text = own_choice _ good (own_pieces with_member (λ members piece. own_then (own_member piece) (λ member. good)) []
+    (slice_split (is 44) text))
 
 own_visible : (value : List ℕ) (parts : Parts) → HasOwnCause (with_visible value parts)
 own_visible [] parts = bad causes.Field tt
@@ -154,7 +165,8 @@ own_value Members value parts = own_then (own_members value) (λ members. good)
 
 own_field : (kind : Kind) (so_far : (Letter → Bool) × Parts) (field : List ℕ) → HasOwnCause (with_field kind so_far field)
 own_field kind so_far field = own_then (own_given causes.Field (letter_at kind field) tt) (λ front.
-    own_then (own_choice (so_far.0 front.0) (bad causes.Repeated tt) good) (λ found. own_then (own_value found.0 found.1 so_far.1) (λ parts. good)))
+    own_then (own_choice (so_far.0 front.0) (bad causes.Repeated tt) good)
+    (λ found. own_then (own_value found.0 found.1 so_far.1) (λ parts. good)))
 
 own_parts : (kind : Kind) (fields : List (List ℕ)) → HasOwnCause (parts_of kind fields)
 unfolding parts_of
@@ -186,7 +198,8 @@ own_entry (first ∷ fields) = own_then (own_key first) (λ key. own_then (own_p
 
 own_reading : (line : List ℕ) → HasOwnCause (reading line)
 unfolding reading
-own_reading line = own_choice _ good (own_then (own_choice (is_utf8 line) good (bad causes.Utf8 tt)) (λ text. own_then (own_entry (fields_of text)) (λ entry. good)))
+own_reading line = own_choice _ good (own_then (own_choice (is_utf8 line) good (bad causes.Utf8 tt))
+    (λ text. own_then (own_entry (fields_of text)) (λ entry. good)))
 
 -- so one line never has the order of lines as its cause
 pub no_order : (line : List ℕ) (earlier later : KeyOf) → reading line ≡ Err (causes.Order earlier later) → ⊥

@@ -1,5 +1,6 @@
 -- Where a text is cut, and what the parts are.
-use Rattle.std.proofs.Common.{◌≡◌, ℕ, zero, suc, ◌+◌, ◌<◌, ◌≤◌, Bool, true, false, cond, not, eqb, List, [], ◌∷◌, length, get_or, take, drop, refl, sym, ◌∙◌, ap, subst, arith, inl, inr, add-one}
+use Rattle.std.proofs.Common.{◌≡◌, ℕ, zero, suc, ◌+◌, ◌<◌, ◌≤◌, Bool, true, false, cond, not, eqb, List, [], ◌∷◌, length, get_or, take}
+use Rattle.std.proofs.Common.{drop, refl, sym, ◌∙◌, ap, subst, arith, inl, inr, add-one}
 use Rattle.std.specs.List.{slice_split, onto_first, filter, position_or_len, before_first, after_first}
 use Rattle.std.specs.Char.{is_ascii_digit}
 use Rattle.std.specs.Str.{IsUtf8, IsCharBoundary}
@@ -13,7 +14,8 @@ use Rattle.opl_object.specs.Fields.{is, is_blank, is_empty, fields_of}
 
 pub place_le : {X : Type 0} (p : X → Bool) (xs : List X) → position_or_len p xs ≤ length xs
 place_le p [] = omega arith
-place_le p (x ∷ xs) = elim (p x) as (λ b. cond (not b) (1 + position_or_len p xs) 0 ≤ length (x ∷ xs)) [ true ↦ omega arith | false ↦ omega (arith, place_le p xs) ]
+place_le p (x ∷ xs) = elim (p x) as (λ b. cond (not b) (1 + position_or_len p xs) 0 ≤ length (x ∷ xs))
+    [ true ↦ omega arith | false ↦ omega (arith, place_le p xs) ]
 
 -- a test that only ASCII bytes pass
 abbrev pub IsAsciiTest : (ℕ → Bool) → Type 0
@@ -32,14 +34,17 @@ blank-ascii byte passes = elim (cases_Bool (eqb byte 32)) [
 pub boundary_before : (ends : ℕ → Bool) (text : List ℕ) → IsAsciiTest ends → IsCharBoundary text (position_or_len ends text)
 boundary_before ends text ascii = elim (cases_lt (position_or_len ends text) (length text)) [
   | inl lt ↦ IsCharBoundary-before_ascii text _ lt (ascii _ (passes_at_first ends text 0 lt))
-  | inr le ↦ (let e : length text ≡ position_or_len ends text = omega (arith, place_le ends text) in subst (IsCharBoundary text) e (IsCharBoundary-end text))
+  | inr le ↦ (let e : length text ≡ position_or_len ends text = omega (arith, place_le ends text) in
+      subst (IsCharBoundary text) e (IsCharBoundary-end text))
 ]
 
-pub boundary_after : (ends : ℕ → Bool) (text : List ℕ) → IsAsciiTest ends → IsUtf8 text → position_or_len ends text < length text → IsCharBoundary text (position_or_len ends text + 1)
+pub boundary_after : (ends : ℕ → Bool) (text : List ℕ) → IsAsciiTest ends → IsUtf8 text → position_or_len ends text < length text
+    → IsCharBoundary text (position_or_len ends text + 1)
 boundary_after ends text ascii utf8 lt = IsCharBoundary-after_ascii text _ utf8 lt (ascii _ (passes_at_first ends text 0 lt))
 
 -- and behind a run of ASCII bytes
-after_run : (runs : ℕ → Bool) (text : List ℕ) (n : ℕ) → IsAsciiTest runs → IsUtf8 text → position_or_len (λ byte. not (runs byte)) text ≡ n → IsCharBoundary text n
+after_run : (runs : ℕ → Bool) (text : List ℕ) (n : ℕ) → IsAsciiTest runs → IsUtf8 text → position_or_len (λ byte. not (runs byte)) text ≡ n
+    → IsCharBoundary text n
 after_run runs text zero ascii utf8 e = IsCharBoundary-start text utf8
 after_run runs text (suc n) ascii utf8 e =
     let here : n < position_or_len (λ byte. not (runs byte)) text = omega arith in
@@ -47,14 +52,16 @@ after_run runs text (suc n) ascii utf8 e =
     let passes : runs (get_or text n 0) ≡ true = not-false _ (fails_before_first (λ byte. not (runs byte)) text n 0 here) in
     subst (IsCharBoundary text) (add-one n) (IsCharBoundary-after_ascii text n utf8 within (ascii _ passes))
 
-pub boundary_behind : (runs : ℕ → Bool) (text : List ℕ) → IsAsciiTest runs → IsUtf8 text → IsCharBoundary text (position_or_len (λ byte. not (runs byte)) text)
+pub boundary_behind : (runs : ℕ → Bool) (text : List ℕ) → IsAsciiTest runs → IsUtf8 text
+    → IsCharBoundary text (position_or_len (λ byte. not (runs byte)) text)
 boundary_behind runs text ascii utf8 = after_run runs text _ ascii utf8 refl
 
 -- the pieces are what a cut leaves in front and the pieces of what follows
 pub split_none : (ends : ℕ → Bool) (text : List ℕ) → position_or_len ends text ≡ length text → slice_split ends text ≡ text ∷ []
 split_none ends text e = slice_split_none ends text (λ k d lt. fails_before_first ends text k d (omega arith))
 
-pub split_first : (ends : ℕ → Bool) (text : List ℕ) → position_or_len ends text < length text → slice_split ends text ≡ before_first ends text ∷ slice_split ends (after_first ends text)
+pub split_first : (ends : ℕ → Bool) (text : List ℕ) → position_or_len ends text < length text
+    → slice_split ends text ≡ before_first ends text ∷ slice_split ends (after_first ends text)
 split_first ends text lt = slice_split_first ends text 0 lt
 
 -- a blank in front does not count
@@ -67,7 +74,8 @@ pub fields_of-blanks : (text : List ℕ) → fields_of text ≡ fields_of (drop 
 fields_of-blanks [] = refl
 fields_of-blanks (byte ∷ rest) = elim (cases_Bool (is_blank byte)) [
   | inl passed ↦ (
-      let more : position_or_len (λ byte. not (is_blank byte)) (byte ∷ rest) ≡ suc (position_or_len (λ byte. not (is_blank byte)) rest) = rw passed (omega arith) in
+      let more : position_or_len (λ byte. not (is_blank byte)) (byte ∷ rest) ≡ suc (position_or_len (λ byte. not (is_blank byte)) rest) =
+      rw passed (omega arith) in
       fields_of-blank byte rest passed ∙ rw more (fields_of-blanks rest))
   | inr failed ↦ rw failed refl
 ]
@@ -83,25 +91,32 @@ pub is_empty-cons : (byte : ℕ) (rest : List ℕ) → is_empty (byte ∷ rest) 
 is_empty-cons byte rest = ne_eqb _ _ (λ e. omega arith)
 
 -- a piece that is not empty counts
-filter-some : (byte : ℕ) (front : List ℕ) (pieces : List (List ℕ)) → filter (λ piece. not (is_empty piece)) ((byte ∷ front) ∷ pieces) ≡ (byte ∷ front) ∷ filter (λ piece. not (is_empty piece)) pieces
+filter-some : (byte : ℕ) (front : List ℕ) (pieces : List (List ℕ))
+    → filter (λ piece. not (is_empty piece)) ((byte ∷ front) ∷ pieces) ≡ (byte ∷ front) ∷ filter (λ piece. not (is_empty piece)) pieces
 filter-some byte front pieces = rw (is_empty-cons byte front) refl
 
 -- a text that begins with no blank begins with a field
 pub fields_first : (byte : ℕ) (rest : List ℕ) → is_blank byte ≡ false
-    → fields_of (byte ∷ rest) ≡ take (position_or_len is_blank (byte ∷ rest)) (byte ∷ rest) ∷ fields_of (drop (position_or_len is_blank (byte ∷ rest)) (byte ∷ rest))
+    → fields_of (byte ∷ rest) ≡ take (position_or_len is_blank (byte ∷ rest)) (byte ∷ rest)
+    ∷ fields_of (drop (position_or_len is_blank (byte ∷ rest)) (byte ∷ rest))
 unfolding fields_of
 fields_first byte rest plain =
     let place : ℕ = position_or_len is_blank rest in
     let some : position_or_len is_blank (byte ∷ rest) ≡ suc place = rw plain (omega arith) in
     elim (cases_lt place (length rest)) [
       | inl lt ↦ (
-          let cut : slice_split is_blank (byte ∷ rest) ≡ (byte ∷ take place rest) ∷ slice_split is_blank (drop (place + 1) rest) = rw plain (ap (onto_first byte) (split_first is_blank rest lt)) in
+          let cut : slice_split is_blank (byte ∷ rest) ≡ (byte ∷ take place rest) ∷ slice_split is_blank (drop (place + 1) rest) =
+          rw plain (ap (onto_first byte) (split_first is_blank rest lt)) in
           let blank : is_blank (get_or rest place 0) ≡ true = passes_at_first is_blank rest 0 lt in
-          let later : fields_of (drop place rest) ≡ fields_of (drop (place + 1) rest) = ap fields_of (drop_more rest place 0 lt) ∙ fields_of-blank (get_or rest place 0) (drop (place + 1) rest) blank in
-          ap (filter (λ piece. not (is_empty piece))) cut ∙ filter-some byte (take place rest) (slice_split is_blank (drop (place + 1) rest)) ∙ rw some (ap (λ fields. (byte ∷ take place rest) ∷ fields) (sym later)))
+          let later : fields_of (drop place rest) ≡ fields_of (drop (place + 1) rest) =
+          ap fields_of (drop_more rest place 0 lt) ∙ fields_of-blank (get_or rest place 0) (drop (place + 1) rest) blank in
+          ap (filter (λ piece. not (is_empty piece))) cut
+          ∙ filter-some byte (take place rest) (slice_split is_blank (drop (place + 1) rest))
+          ∙ rw some (ap (λ fields. (byte ∷ take place rest) ∷ fields) (sym later)))
       | inr le ↦ (
           let full : position_or_len is_blank rest ≡ length rest = omega (arith, place_le is_blank rest) in
-          let cut : slice_split is_blank (byte ∷ rest) ≡ (byte ∷ rest) ∷ [] = rw plain (ap (onto_first byte) (split_none is_blank rest full)) in
+          let cut : slice_split is_blank (byte ∷ rest) ≡ (byte ∷ rest) ∷ [] =
+          rw plain (ap (onto_first byte) (split_none is_blank rest full)) in
           let front : take place rest ≡ rest = take_all place rest (omega arith) in
           let back : drop place rest ≡ [] = drop_all place rest (omega arith) in
           ap (filter (λ piece. not (is_empty piece))) cut ∙ filter-some byte rest [] ∙ rw (some, front, back) refl)
@@ -117,7 +132,8 @@ begins text byte rest e plain =
     let some : 0 < position_or_len is_blank (byte ∷ rest) = rw plain (omega arith) in
     subst Begins (sym e) (record { first = fields_first byte rest plain; some = some })
 
-pub begins_behind : (text : List ℕ) → position_or_len (λ byte. not (is_blank byte)) text < length text → Begins (drop (position_or_len (λ byte. not (is_blank byte)) text) text)
+pub begins_behind : (text : List ℕ) → position_or_len (λ byte. not (is_blank byte)) text < length text
+    → Begins (drop (position_or_len (λ byte. not (is_blank byte)) text) text)
 begins_behind text lt =
     begins _ _ _ (drop_more text _ 0 lt) (not-true _ (passes_at_first (λ byte. not (is_blank byte)) text 0 lt))
 

@@ -1,5 +1,6 @@
 -- The numbers that digits write, and how great they are.
-use Rattle.std.proofs.Common.{◌≡◌, ℕ, ◌+◌, ◌*◌, ◌-◌, ◌^◌, ◌<◌, ◌≤◌, Bool, true, false, ◌&&◌, ◌||◌, List, [], ◌∷◌, ◌++◌, length, get_or, take, refl, ◌∙◌, ap, arith, min, ◌⊎◌, inl, inr}
+use Rattle.std.proofs.Common.{◌≡◌, ℕ, ◌+◌, ◌*◌, ◌-◌, ◌^◌, ◌<◌, ◌≤◌, Bool, true, false, ◌&&◌, ◌||◌, List, [], ◌∷◌, ◌++◌, length, get_or}
+use Rattle.std.proofs.Common.{take, refl, ◌∙◌, ap, arith, min, ◌⊎◌, inl, inr}
 use Rattle.std.specs.Int.{is_in_range}
 use Rattle.std.specs.List.{list_all}
 use Rattle.std.specs.Char.{is_ascii_digit, is_ascii_hexdigit, digit_value}
@@ -22,7 +23,8 @@ digit_range byte e = let parts = both _ _ e in (leb-true _ _ parts.0, leb-true _
 pub digit_value-digit : (byte : ℕ) → 48 ≤ byte → byte ≤ 57 → digit_value byte ≡ byte - 48
 digit_value-digit byte low high = rw (le-ltb byte 48 low, lt-ltb byte 58 (omega arith)) refl
 
-pub digit_at : (digits : List ℕ) (i : ℕ) → list_all is_ascii_digit digits ≡ true → i < length digits → (48 ≤ get_or digits i 0) × (get_or digits i 0 ≤ 57)
+pub digit_at : (digits : List ℕ) (i : ℕ) → list_all is_ascii_digit digits ≡ true → i < length digits
+    → (48 ≤ get_or digits i 0) × (get_or digits i 0 ≤ 57)
 digit_at digits i all lt = digit_range _ (AllPass-from_list_all is_ascii_digit digits all i 0 lt)
 
 pub all_digits : (digits : List ℕ) → list_all is_ascii_digit digits ≡ true → AllDigits 10 digits
@@ -40,14 +42,16 @@ value_more digits i all lt =
     digits_value_more 10 digits i lt ∙ ap (λ d. digits_value 10 (take i digits) * 10 + d) (digit_value-digit _ range.0 range.1)
 
 -- so many digits write a number below that power of ten
-pub value_below : (digits : List ℕ) (most : ℕ) → list_all is_ascii_digit digits ≡ true → length digits ≤ most → digits_value 10 digits < 10 ^ most
+pub value_below : (digits : List ℕ) (most : ℕ) → list_all is_ascii_digit digits ≡ true → length digits ≤ most
+    → digits_value 10 digits < 10 ^ most
 value_below digits most all le =
     let below = digits_value-lt 10 digits (all_digits digits all) in
     let power : 10 ^ length digits ≤ 10 ^ most = pow-le-pow_right (omega arith) le in
     omega (arith, below, power)
 
 -- and so do fewer of them
-pub value_front_below : (digits : List ℕ) (most i : ℕ) → list_all is_ascii_digit digits ≡ true → length digits ≤ most → digits_value 10 (take i digits) < 10 ^ most
+pub value_front_below : (digits : List ℕ) (most i : ℕ) → list_all is_ascii_digit digits ≡ true → length digits ≤ most
+    → digits_value 10 (take i digits) < 10 ^ most
 value_front_below digits most i all le =
     let front = digits_value-take-le 10 digits i (omega arith) in
     omega (arith, front, value_below digits most all le)
@@ -60,10 +64,22 @@ range : (low high byte : ℕ) → is_in_range low high byte ≡ true → (low �
 range low high byte e = let parts = both _ _ e in (leb-true _ _ parts.0, leb-true _ _ parts.1)
 
 upper_below : (byte : ℕ) → 65 ≤ byte → byte ≤ 70 → digit_value byte < 16
-upper_below byte low high = rw (le-ltb byte 48 (omega arith), le-ltb byte 58 (omega arith), le-ltb byte 65 low, lt-ltb byte 91 (omega arith)) (omega arith)
+upper_below byte low high = rw (
+  le-ltb byte 48 (omega arith),
+  le-ltb byte 58 (omega arith),
+  le-ltb byte 65 low,
+  lt-ltb byte 91 (omega arith),
+) (omega arith)
 
 lower_below : (byte : ℕ) → 97 ≤ byte → byte ≤ 102 → digit_value byte < 16
-lower_below byte low high = rw (le-ltb byte 48 (omega arith), le-ltb byte 58 (omega arith), le-ltb byte 65 (omega arith), le-ltb byte 91 (omega arith), le-ltb byte 97 low, lt-ltb byte 123 (omega arith)) (omega arith)
+lower_below byte low high = rw (
+  le-ltb byte 48 (omega arith),
+  le-ltb byte 58 (omega arith),
+  le-ltb byte 65 (omega arith),
+  le-ltb byte 91 (omega arith),
+  le-ltb byte 97 low,
+  lt-ltb byte 123 (omega arith),
+) (omega arith)
 
 -- the value of a hexadecimal digit
 pub hex_below : (byte : ℕ) → is_ascii_hexdigit byte ≡ true → digit_value byte < 16
@@ -79,7 +95,8 @@ pub all_hex : (digits : List ℕ) → list_all is_ascii_hexdigit digits ≡ true
 all_hex [] all = tt
 all_hex (byte ∷ digits) all = let parts = both _ _ all in (hex_below byte parts.0, all_hex digits parts.1)
 
-pub hex_front_below : (digits : List ℕ) (most i : ℕ) → list_all is_ascii_hexdigit digits ≡ true → length digits ≤ most → digits_value 16 (take i digits) < 16 ^ most
+pub hex_front_below : (digits : List ℕ) (most i : ℕ) → list_all is_ascii_hexdigit digits ≡ true → length digits ≤ most
+    → digits_value 16 (take i digits) < 16 ^ most
 hex_front_below digits most i all le =
     let front = digits_value-take-le 16 digits i (omega arith) in
     let below = digits_value-lt 16 digits (all_hex digits all) in
@@ -87,7 +104,8 @@ hex_front_below digits most i all le =
     omega (arith, front, below, power)
 
 -- digits that follow others
-pub digits_value_after-append : (radix n : ℕ) (front back : List ℕ) → digits_value_after radix n (front ++ back) ≡ digits_value_after radix (digits_value_after radix n front) back
+pub digits_value_after-append : (radix n : ℕ) (front back : List ℕ)
+    → digits_value_after radix n (front ++ back) ≡ digits_value_after radix (digits_value_after radix n front) back
 digits_value_after-append radix n [] back = refl
 digits_value_after-append radix n (byte ∷ front) back = digits_value_after-append radix (n * radix + digit_value byte) front back
 
@@ -97,8 +115,10 @@ digits_value_after-ge n [] = omega arith
 digits_value_after-ge n (byte ∷ digits) = omega (arith, digits_value_after-ge (n * 10 + digit_value byte) digits)
 
 -- what passes a cap passes it with more digits too
-pub capped_after : (cap n : ℕ) (digits : List ℕ) → min (digits_value_after 10 (min n cap) digits) cap ≡ min (digits_value_after 10 n digits) cap
+pub capped_after : (cap n : ℕ) (digits : List ℕ)
+    → min (digits_value_after 10 (min n cap) digits) cap ≡ min (digits_value_after 10 n digits) cap
 capped_after cap n digits = elim (cases_lt cap n) [
-  | inl above ↦ (let e : min n cap ≡ cap = omega arith in rw e (omega (arith, digits_value_after-ge cap digits, digits_value_after-ge n digits)))
+  | inl above ↦ (let e : min n cap ≡ cap = omega arith in
+      rw e (omega (arith, digits_value_after-ge cap digits, digits_value_after-ge n digits)))
   | inr within ↦ (let e : min n cap ≡ n = omega arith in rw e refl)
 ]

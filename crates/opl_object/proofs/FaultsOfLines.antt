@@ -1,5 +1,6 @@
 -- The faults of lines: what reading refuses has this fault, and what has it is refused so.
-use Rattle.std.proofs.Common.{◌≡◌, ℕ, true, false, cond, ◌⊎◌, inl, inr, List, [], ◌∷◌, Option, None, Some, Result, Ok, Err, refl, sym, ◌∙◌, ap}
+use Rattle.std.proofs.Common.{◌≡◌, ℕ, true, false, cond, ◌⊎◌, inl, inr, List, [], ◌∷◌, Option, None, Some, Result, Ok, Err, refl, sym, ◌∙◌}
+use Rattle.std.proofs.Common.{ap}
 use Rattle.std.specs.List.{AllByRecursion}
 use Rattle.std.specs.Str.{IsUtf8, is_utf8}
 use Rattle.std.proofs.lemmas.Bool.{cases_Bool, false_from_ne_true}
@@ -26,13 +27,22 @@ use Rattle.opl_object.proofs.SpelledLines.{fields_utf8}
 abbrev with_object : KeyOf → Parts → Object → Entry
 with_object key parts object = record { key = key; object = cond parts.deleted None (Some object) }
 
-parts_fault : (key : KeyOf) (fields : List (List ℕ)) (why : Why) (read : Result Parts Why) → parts_of key.kind fields ≡ read → AllByRecursion IsUtf8 fields
+parts_fault : (key : KeyOf) (fields : List (List ℕ)) (why : Why) (read : Result Parts Why) → parts_of key.kind fields ≡ read
+    → AllByRecursion IsUtf8 fields
     → (read >>= λ parts. entry_of key parts) ≡ Err why → FieldsFault key.kind fields why ⊎ PlaceFault key.kind fields why
 unfolding entry_of
-parts_fault key fields why (Err cause) read_is all e = inl (fields_fault key.kind fields why all (read_is ∙ ap (λ cause. Err cause) (sym (err_is {A = Entry} cause why e))))
+parts_fault key fields why (Err cause) read_is all e =
+    inl (fields_fault key.kind fields why all (read_is ∙ ap (λ cause. Err cause) (sym (err_is {A = Entry} cause why e))))
 parts_fault key fields why (Ok parts) read_is all e =
     let said = parts_said key.kind fields parts all read_is in
-    inr (record { pairs = said.pairs; parts = parts; form = said.form; say = said.say; fault = then_err (object_of key.kind parts) (with_object key parts) why e })
+    inr (record {
+      pairs = said.pairs;
+      parts = parts;
+      form = said.form;
+      say = said.say;
+      fault =
+          then_err (object_of key.kind parts) (with_object key parts) why e;
+    })
 
 key_fault : (fields : List (List ℕ)) (why : Why) (key : Result KeyOf Why) → AllByRecursion IsUtf8 fields
     → (key >>= λ key. parts_of key.kind fields >>= λ parts. entry_of key parts) ≡ Err why → KeyFault key fields why
@@ -81,17 +91,21 @@ key_fault_again fields why (Ok key) all (inr f) =
     ∙ ap (λ r. r >>= λ parts. entry_of key parts) (parts_again key.kind f.pairs f.parts f.say)
     ∙ ap (λ r. r >>= λ object. Ok (with_object key f.parts object)) f.fault
 
-entry_fault_again : (fields : List (List ℕ)) (why : Why) → AllByRecursion IsUtf8 fields → EntryFault fields why → entry_from fields ≡ Err why
+entry_fault_again : (fields : List (List ℕ)) (why : Why) → AllByRecursion IsUtf8 fields → EntryFault fields why
+    → entry_from fields ≡ Err why
 unfolding entry_from
 entry_fault_again [] why all f = ap (λ cause. Err cause) (sym f)
 entry_fault_again (first ∷ fields) why all f = key_fault_again fields why (key_of first) all.1 f
 
-counted_fault : (line : List ℕ) (why : Why) → ((IsUtf8 line → ⊥) × (why ≡ causes.Utf8)) ⊎ (IsUtf8 line × EntryFault (fields_of line) why) → counted line ≡ Err why
+counted_fault : (line : List ℕ) (why : Why) → ((IsUtf8 line → ⊥) × (why ≡ causes.Utf8)) ⊎ (IsUtf8 line × EntryFault (fields_of line) why)
+    → counted line ≡ Err why
 counted_fault line why (inl broken) =
     let invalid : is_utf8 line ≡ false = false_from_ne_true _ (λ valid. broken.0 (IsUtf8-from_is_utf8 line valid)) in
-    ap (λ test. cond test (Ok line) (Err causes.Utf8) >>= λ text. entry_from (fields_of text) >>= λ entry. Ok (there entry)) invalid ∙ ap (λ cause. Err cause) (sym broken.1)
+    ap (λ test. cond test (Ok line) (Err causes.Utf8) >>= λ text. entry_from (fields_of text) >>= λ entry. Ok (there entry)) invalid
+    ∙ ap (λ cause. Err cause) (sym broken.1)
 counted_fault line why (inr fault) =
-    ap (λ test. cond test (Ok line) (Err causes.Utf8) >>= λ text. entry_from (fields_of text) >>= λ entry. Ok (there entry)) (is_utf8-from_IsUtf8 line fault.0)
+    ap (λ test. cond test (Ok line) (Err causes.Utf8) >>= λ text. entry_from (fields_of text) >>= λ entry. Ok (there entry))
+    (is_utf8-from_IsUtf8 line fault.0)
     ∙ ap (λ r. r >>= λ entry. Ok (there entry)) (entry_fault_again (fields_of line) why (fields_utf8 line fault.0) fault.1)
 
 pub line_fault_again : (line : List ℕ) (why : Why) → HasFault line why → reading line ≡ Err why

@@ -24,12 +24,14 @@ pub then_err : {A B : Type 0} (read : Result A Why) (made : A → B) (why : Why)
 then_err (Ok x) made why e = absurd (no_err (made x) why e)
 then_err (Err cause) made why e = cc
 
-pub chosen_err : {A : Type 0} (test : Bool) (x : A) (cause why : Why) → cond test (Ok x) (Err cause) ≡ Err why → (test ≡ false) × (why ≡ cause)
+pub chosen_err : {A : Type 0} (test : Bool) (x : A) (cause why : Why) → cond test (Ok x) (Err cause) ≡ Err why
+    → (test ≡ false) × (why ≡ cause)
 chosen_err true x cause why e = absurd (no_err x why e)
 chosen_err false x cause why e = (refl, err_is cause why e)
 
 -- a reading that is begun by a choice
-pub taken_err : {A : Type 0} (test : Bool) (x : A) (read : Result A Why) (why : Why) → cond test (Ok x) read ≡ Err why → (test ≡ false) × (read ≡ Err why)
+pub taken_err : {A : Type 0} (test : Bool) (x : A) (read : Result A Why) (why : Why) → cond test (Ok x) read ≡ Err why
+    → (test ≡ false) × (read ≡ Err why)
 taken_err true x read why e = absurd (no_err x why e)
 taken_err false x read why e = (refl, e)
 

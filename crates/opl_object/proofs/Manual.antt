@@ -66,7 +66,8 @@ written = refl
 
 a_tag : tags_of (codes "highway=residential") ≡ Ok (map.insert map.empty (codes "highway") (codes "residential"))
 unfolding tags_of with_piece each_piece text_of bytes_of resolved chars
-a_tag = ap (λ found. cond (is_some found) (Err causes.RepeatedKey) (Ok (map.insert map.empty (codes "highway") (codes "residential"))) >>= λ tags. Ok tags)
+a_tag = ap (λ found. cond (is_some found) (Err causes.RepeatedKey)
+    (Ok (map.insert map.empty (codes "highway") (codes "residential"))) >>= λ tags. Ok tags)
     (map.get-empty (slice_cmp nat_cmp) (codes "highway"))
 
 no_tag : tags_of (codes "highway") ≡ Err causes.Tag
@@ -119,31 +120,39 @@ abbrev bare : TagMap
 bare = map.empty
 
 abbrev node : Entry
-node = record { key = record { kind = kinds.Node; id = 2 }; object = Some (objects.Node (Some (record { lon = pos 133780000; lat = pos 525163000 })) bare) }
+node = record {
+  key = record { kind = kinds.Node; id = 2 };
+  object =
+      Some (objects.Node (Some (record { lon = pos 133780000; lat = pos 525163000 })) bare);
+}
 
 a_node : reading (codes "n2 v1 dV c100 t2024-05-01T09:00:00Z i7 uanna T x13.378 y52.5163") ≡ Ok (Some node)
-unfolding reading fields_of entry_from key_of kind_of id_of parts_of each_piece letter_of with_value text_of bytes_of resolved tags_of coordinate entry_of chars is_utf8 encode
+unfolding reading fields_of entry_from key_of kind_of id_of parts_of each_piece letter_of with_value text_of bytes_of resolved tags_of
+    coordinate entry_of chars is_utf8 encode
 a_node = refl
 
 abbrev way : Entry
 way = record { key = record { kind = kinds.Way; id = 11 }; object = Some (objects.Way (1 ∷ 2 ∷ 3 ∷ 1 ∷ []) bare) }
 
 a_way : reading (codes "w11 v1 dV c102 t2024-05-01T11:00:00Z i8 u T Nn1,n2,n3,n1") ≡ Ok (Some way)
-unfolding reading fields_of entry_from key_of kind_of id_of parts_of each_piece letter_of with_value text_of bytes_of resolved tags_of nodes_of node_of numbered placed entry_of chars is_utf8 encode
+unfolding reading fields_of entry_from key_of kind_of id_of parts_of each_piece letter_of with_value text_of bytes_of resolved tags_of
+    nodes_of node_of numbered placed entry_of chars is_utf8 encode
 a_way = refl
 
 abbrev relation : Entry
 relation = record { key = record { kind = kinds.Relation; id = 20 }; object = Some (objects.Relation (outer ∷ stop ∷ []) bare) }
 
 a_relation : reading (codes "r20 v1 dV c103 t2024-05-01T12:00:00Z i8 u T Mw10@outer,n7@") ≡ Ok (Some relation)
-unfolding reading fields_of entry_from key_of kind_of id_of parts_of each_piece letter_of with_value text_of bytes_of resolved tags_of members_of member_of numbered entry_of chars is_utf8 encode
+unfolding reading fields_of entry_from key_of kind_of id_of parts_of each_piece letter_of with_value text_of bytes_of resolved tags_of
+    members_of member_of numbered entry_of chars is_utf8 encode
 a_relation = refl
 
 abbrev gone : Entry
 gone = record { key = record { kind = kinds.Way; id = 11 }; object = None }
 
 a_deletion : reading (codes "w11 v2 dD c110 t2024-05-02T10:00:00Z i7 uanna T N") ≡ Ok (Some gone)
-unfolding reading fields_of entry_from key_of kind_of id_of parts_of each_piece letter_of with_value text_of bytes_of resolved tags_of nodes_of entry_of chars is_utf8 encode
+unfolding reading fields_of entry_from key_of kind_of id_of parts_of each_piece letter_of with_value text_of bytes_of resolved tags_of
+    nodes_of entry_of chars is_utf8 encode
 a_deletion = refl
 
 a_comment : reading (codes "# n1") ≡ Ok None
@@ -193,7 +202,8 @@ unfolding reading fields_of entry_from key_of kind_of id_of parts_of each_piece 
 off_the_earth = refl
 
 empty_escape : reading (codes "n1 Ta=%%") ≡ Err causes.Escape
-unfolding reading fields_of entry_from key_of kind_of id_of parts_of each_piece letter_of with_value tags_of with_piece text_of bytes_of resolved escaped chars is_utf8 encode
+unfolding reading fields_of entry_from key_of kind_of id_of parts_of each_piece letter_of with_value tags_of with_piece text_of bytes_of
+    resolved escaped chars is_utf8 encode
 empty_escape = refl
 
 key_alone : reading (codes "n1 Ta") ≡ Err causes.Tag
@@ -205,9 +215,11 @@ unfolding reading fields_of entry_from key_of kind_of id_of parts_of each_piece 
 reference_to_a_way = refl
 
 no_role : reading (codes "r1 Mn1") ≡ Err causes.Member
-unfolding reading fields_of entry_from key_of kind_of id_of parts_of each_piece letter_of with_value members_of member_of numbered chars is_utf8 encode
+unfolding reading fields_of entry_from key_of kind_of id_of parts_of each_piece letter_of with_value members_of member_of numbered chars
+    is_utf8 encode
 no_role = refl
 
 half_a_place : reading (codes "n1 x1") ≡ Err causes.HalfPlace
-unfolding reading fields_of entry_from key_of kind_of id_of parts_of each_piece letter_of with_value coordinate entry_of chars is_utf8 encode
+unfolding reading fields_of entry_from key_of kind_of id_of parts_of each_piece letter_of with_value coordinate entry_of chars is_utf8
+    encode
 half_a_place = refl

@@ -22,7 +22,8 @@ pub listed-tag : (pairs : TagPairs) (piece : List ℕ) (tag : List ℕ × List �
 unfolding listed
 listed-tag pairs piece tag e = ap (λ found. found >>= λ tag. Ok (pairs ++ tag ∷ [])) e
 
-pub listed-none : (pairs : TagPairs) (piece : List ℕ) (why : Why) → tag_in (cut_at (is EQUALS) piece) ≡ Err why → listed pairs piece ≡ Err why
+pub listed-none : (pairs : TagPairs) (piece : List ℕ) (why : Why) → tag_in (cut_at (is EQUALS) piece) ≡ Err why
+    → listed pairs piece ≡ Err why
 unfolding listed
 listed-none pairs piece why e = ap (λ found. found >>= λ tag. Ok (pairs ++ tag ∷ [])) e
 
@@ -30,7 +31,8 @@ listed-none pairs piece why e = ap (λ found. found >>= λ tag. Ok (pairs ++ tag
 pub tag-listed : (pairs : TagPairs) (piece : List ℕ) (next : TagPairs) → listed pairs piece ≡ Ok next → next ≡ pairs ++ tag_of piece ∷ []
 unfolding listed tag_of
 tag-listed pairs piece next e =
-    elim (tag_in (cut_at (is EQUALS) piece)) as (λ tag. (tag >>= λ tag. Ok (pairs ++ tag ∷ [])) ≡ Ok next → next ≡ pairs ++ tag_or_none tag ∷ []) [
+    elim (tag_in (cut_at (is EQUALS) piece)) as
+    (λ tag. (tag >>= λ tag. Ok (pairs ++ tag ∷ [])) ≡ Ok next → next ≡ pairs ++ tag_or_none tag ∷ []) [
       | Ok tag ↦ λ e. cc
       | Err why ↦ λ e. absurd (cc)
     ] e
@@ -39,7 +41,8 @@ pub tags_in-push : (pieces : List Piece) (piece : Piece) → tags_in (pieces ++ 
 tags_in-push pieces piece = map-append (λ own. tag_of own.text.now) pieces (piece ∷ [])
 
 -- one piece more of those that are added
-pub found_more : (found : List Piece) (place : ℕ) (past : Piece) (list next : TagPairs) → place < length found → list ≡ tags_in (take place found)
+pub found_more : (found : List Piece) (place : ℕ) (past : Piece) (list next : TagPairs) → place < length found
+    → list ≡ tags_in (take place found)
     → listed list (get_or found place past).text.now ≡ Ok next → next ≡ tags_in (take (place + 1) found)
 found_more found place past list next below so_far e =
     tag-listed list (get_or found place past).text.now next e
@@ -65,7 +68,8 @@ checks read = read >>= λ _. Ok tt
 checked-text : (spelled : List ℕ) → checked_text spelled ≡ checks (text_of spelled)
 unfolding checked_text text_of
 checked-text spelled =
-    elim (bytes_of spelled) as (λ read. (read >>= λ _. Ok tt) ≡ checks (read >>= λ bytes. Ok (chars bytes))) [ Ok bytes ↦ refl | Err why ↦ refl ]
+    elim (bytes_of spelled) as (λ read. (read >>= λ _. Ok tt) ≡ checks (read >>= λ bytes. Ok (chars bytes)))
+    [ Ok bytes ↦ refl | Err why ↦ refl ]
 
 no_key : (key value : List ℕ) (why : Why) → checks (text_of key) ≡ Err why → tag_in (key, Some value) ≡ Err why
 no_key key value why e =
@@ -74,7 +78,8 @@ no_key key value why e =
       | Err own ↦ λ e. let same : own ≡ why = cc in ap Err same
     ] e
 
-no_value : (key value : List ℕ) (why : Why) (some : Unit {0}) → checks (text_of key) ≡ Ok some → checks (text_of value) ≡ Err why → tag_in (key, Some value) ≡ Err why
+no_value : (key value : List ℕ) (why : Why) (some : Unit {0}) → checks (text_of key) ≡ Ok some → checks (text_of value) ≡ Err why
+    → tag_in (key, Some value) ≡ Err why
 no_value key value why some e f =
     elim (text_of key) as (λ first. checks first ≡ Ok some → (first >>= λ key. text_of value >>= λ value. as_tag key value) ≡ Err why) [
       | Err own ↦ λ e. absurd (cc)
@@ -92,7 +97,8 @@ both_there key value some also e f =
     ≡ Ok (tag_or_none (first >>= λ key. text_of value >>= λ value. as_tag key value))) [
       | Err own ↦ λ e. absurd (cc)
       | Ok key ↦ λ e.
-          elim (text_of value) as (λ second. checks second ≡ Ok also → (second >>= λ value. as_tag key value) ≡ Ok (tag_or_none (second >>= λ value. as_tag key value))) [
+          elim (text_of value) as (λ second. checks second ≡ Ok also
+          → (second >>= λ value. as_tag key value) ≡ Ok (tag_or_none (second >>= λ value. as_tag key value))) [
             | Ok value ↦ λ f. refl
             | Err own ↦ λ f. absurd (cc)
           ] f
@@ -102,10 +108,13 @@ module _ (piece key value : List ℕ) (cut : (key, Some value) ≡ cut_at (is EQ
   pub key_fails : (why : Why) → Err why ≡ checked_text key → tag_in (cut_at (is EQUALS) piece) ≡ Err why
   key_fails why e = ap tag_in (sym cut) ∙ no_key key value why (sym (checked-text key) ∙ sym e)
 
-  pub value_fails : (why : Why) (some : Unit {0}) → Ok some ≡ checked_text key → Err why ≡ checked_text value → tag_in (cut_at (is EQUALS) piece) ≡ Err why
-  value_fails why some e f = ap tag_in (sym cut) ∙ no_value key value why some (sym (checked-text key) ∙ sym e) (sym (checked-text value) ∙ sym f)
+  pub value_fails : (why : Why) (some : Unit {0}) → Ok some ≡ checked_text key → Err why ≡ checked_text value
+      → tag_in (cut_at (is EQUALS) piece) ≡ Err why
+  value_fails why some e f = ap tag_in (sym cut)
+      ∙ no_value key value why some (sym (checked-text key) ∙ sym e) (sym (checked-text value) ∙ sym f)
 
-  pub is_tag : (some also : Unit {0}) → Ok some ≡ checked_text key → Ok also ≡ checked_text value → tag_in (cut_at (is EQUALS) piece) ≡ Ok (tag_of piece)
+  pub is_tag : (some also : Unit {0}) → Ok some ≡ checked_text key → Ok also ≡ checked_text value
+      → tag_in (cut_at (is EQUALS) piece) ≡ Ok (tag_of piece)
   unfolding tag_of
   is_tag some also e f =
       ap tag_in (sym cut) ∙ both_there key value some also (sym (checked-text key) ∙ sym e) (sym (checked-text value) ∙ sym f)

@@ -33,7 +33,8 @@ none_skipped line e = elim (cases_Bool (is_skipped line)) [
 abbrev outcome : Result (Option Entry) Why → Result (Option Entry) Why
 outcome r = r
 
-meaning : (line : List ℕ) (read : Result (Option Entry) Why) → reading line ≡ read → IsSkipped line ⊎ (((entry : Entry) × Spells line entry) ⊎ ((why : Why) × HasFault line why))
+meaning : (line : List ℕ) (read : Result (Option Entry) Why) → reading line ≡ read
+    → IsSkipped line ⊎ (((entry : Entry) × Spells line entry) ⊎ ((why : Why) × HasFault line why))
 meaning line (Ok None) e = inl (none_skipped line e)
 meaning line (Ok (Some entry)) e = inr (inl (entry, line_spells line entry e))
 meaning line (Err why) e = inr (inr (why, line_fault line why e))

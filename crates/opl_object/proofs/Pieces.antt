@@ -17,16 +17,19 @@ module _ {A : Type 0} (step : A → List ℕ → Result A Why) (front : A) (piec
   fault_at why so_far read = sym so_far ∙ ap (λ r. r >>= λ x. each_piece step x pieces) read
 
   -- it is refused
-  pub refused_at : (refused : LineRefused) → each_piece step front (piece ∷ pieces) ≡ all → Refuses refused (step front piece) → Refuses refused all
+  pub refused_at : (refused : LineRefused) → each_piece step front (piece ∷ pieces) ≡ all → Refuses refused (step front piece)
+      → Refuses refused all
   refused_at (Bad why) so_far read = fault_at why so_far read
   refused_at OutOfMemory so_far read = tt
 
 -- no piece is left
-pub none_left : {A : Type 0} (step : A → List ℕ → Result A Why) (front : A) (all : Result A Why) → each_piece step front [] ≡ all → all ≡ Ok front
+pub none_left : {A : Type 0} (step : A → List ℕ → Result A Why) (front : A) (all : Result A Why) → each_piece step front [] ≡ all
+    → all ≡ Ok front
 unfolding each_piece
 none_left step front all so_far = sym so_far
 
 -- what was refused is refused in what follows from it
-pub refused_then : {A B : Type 0} (refused : LineRefused) (read : Result A Why) (next : A → Result B Why) → Refuses refused read → Refuses refused (read >>= next)
+pub refused_then : {A B : Type 0} (refused : LineRefused) (read : Result A Why) (next : A → Result B Why) → Refuses refused read
+    → Refuses refused (read >>= next)
 refused_then (Bad why) read next e = ap (λ r. r >>= next) e
 refused_then OutOfMemory read next e = tt

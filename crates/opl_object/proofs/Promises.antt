@@ -16,23 +16,31 @@ use Rattle.opl_object.proofs.Causes.{no_order}
 use Rattle.opl_object.proofs.FaultsOfLines.{line_fault, line_fault_again}
 use Rattle.opl_object.proofs.SpelledLines.{line_spells, line_again}
 
-pub found_spells : (line : List ℕ) (result : Result (Option Entry) LineRefused) → Gives (λ entry. entry) result (reading line) → IfOk result (λ found. IfSome found (λ entry. Spells line entry))
+pub found_spells : (line : List ℕ) (result : Result (Option Entry) LineRefused) → Gives (λ entry. entry) result (reading line)
+    → IfOk result (λ found. IfSome found (λ entry. Spells line entry))
 found_spells line (Ok None) exact = tt
 found_spells line (Ok (Some entry)) exact = line_spells line entry exact
 found_spells line (Err refused) exact = tt
 
-pub again_gives : (line : List ℕ) (entry : Entry) (result : Result (Option Entry) LineRefused) → Spells line entry → Gives (λ entry. entry) result (reading line)
+pub again_gives : (line : List ℕ) (entry : Entry) (result : Result (Option Entry) LineRefused) → Spells line entry
+    → Gives (λ entry. entry) result (reading line)
     → Gives {X = Option Entry} {Y = Option Entry} (λ found. found) result (Ok (Some entry))
-again_gives line entry result s exact = subst (λ read. Gives {X = Option Entry} {Y = Option Entry} (λ found. found) result read) (line_again line entry s) exact
+again_gives line entry result s exact = subst (λ read. Gives {X = Option Entry} {Y = Option Entry} (λ found. found) result read)
+    (line_again line entry s) exact
 
-pub never_order : (line : List ℕ) (earlier later : KeyOf) (result : Result (Option Entry) LineRefused) → Gives (λ entry. entry) result (reading line) → result ≡ Err (Bad (Order earlier later)) → ⊥
-never_order line earlier later result exact e = no_order line earlier later (subst (λ r. Gives {X = Option Entry} {Y = Option Entry} (λ entry. entry) r (reading line)) e exact)
+pub never_order : (line : List ℕ) (earlier later : KeyOf) (result : Result (Option Entry) LineRefused)
+    → Gives (λ entry. entry) result (reading line) → result ≡ Err (Bad (Order earlier later)) → ⊥
+never_order line earlier later result exact e =
+    no_order line earlier later (subst (λ r. Gives {X = Option Entry} {Y = Option Entry} (λ entry. entry) r (reading line)) e exact)
 
-pub found_fault : (line : List ℕ) (result : Result (Option Entry) LineRefused) → Gives (λ entry. entry) result (reading line) → IfErr result (λ refused. TellsFault line refused)
+pub found_fault : (line : List ℕ) (result : Result (Option Entry) LineRefused) → Gives (λ entry. entry) result (reading line)
+    → IfErr result (λ refused. TellsFault line refused)
 found_fault line (Ok found) exact = tt
 found_fault line (Err (Bad why)) exact = line_fault line why exact
 found_fault line (Err OutOfMemory) exact = tt
 
-pub fault_gives : (line : List ℕ) (why : Why) (result : Result (Option Entry) LineRefused) → HasFault line why → Gives (λ entry. entry) result (reading line)
+pub fault_gives : (line : List ℕ) (why : Why) (result : Result (Option Entry) LineRefused) → HasFault line why
+    → Gives (λ entry. entry) result (reading line)
     → Gives {X = Option Entry} {Y = Option Entry} (λ found. found) result (Err why)
-fault_gives line why result f exact = subst (λ read. Gives {X = Option Entry} {Y = Option Entry} (λ found. found) result read) (line_fault_again line why f) exact
+fault_gives line why result f exact = subst (λ read. Gives {X = Option Entry} {Y = Option Entry} (λ found. found) result read)
+    (line_fault_again line why f) exact

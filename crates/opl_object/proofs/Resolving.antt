@@ -1,5 +1,6 @@
 -- Resolving the escapes of a text, piece by piece.
-use Rattle.std.proofs.Common.{◌≡◌, ℕ, Bool, true, false, cond, not, List, [], ◌∷◌, ◌++◌, length, get_or, Ok, Err, refl, ◌∙◌, ap, subst, ◌⊎◌, inl, inr, ◌&&◌, nat_le, nat_lt, Result}
+use Rattle.std.proofs.Common.{◌≡◌, ℕ, Bool, true, false, cond, not, List, [], ◌∷◌, ◌++◌, length, get_or, Ok, Err, refl, ◌∙◌, ap, subst, ◌⊎◌}
+use Rattle.std.proofs.Common.{inl, inr, ◌&&◌, nat_le, nat_lt, Result}
 use Rattle.std.specs.List.{list_all, slice_split}
 use Rattle.std.specs.Char.{encode_utf8, is_ascii_hexdigit}
 use lib.Utf8.{scalar}
@@ -16,16 +17,19 @@ use Rattle.opl_object.specs.Text.{is_reserved, is_plain, escaped, resolved, byte
 -- a byte that is not reserved is no percent sign
 not_percent : (byte : ℕ) → is_reserved byte ≡ false → is 37 byte ≡ false
 not_percent byte e = elim (cases_Bool (is 37 byte)) [
-  | inl same ↦ absurd (let at : byte ≡ 37 = eqb-true byte 37 same in let no : is_reserved 37 ≡ false = subst (λ b. is_reserved b ≡ false) at e in cc)
+  | inl same ↦ absurd (let at : byte ≡ 37 = eqb-true byte 37 same in let no : is_reserved 37 ≡ false =
+      subst (λ b. is_reserved b ≡ false) at e in cc)
   | inr apart ↦ apart
 ]
 
 -- a plain text has one piece
 pub plain_pieces : (text : List ℕ) → is_plain text ≡ true → slice_split (is 37) text ≡ text ∷ []
-plain_pieces text plain = slice_split_none (is 37) text (λ k d lt. not_percent _ (not_reserved (is_reserved (get_or text k d)) (AllPass-from_list_all (λ byte. not (is_reserved byte)) text plain k d lt))) where
-  not_reserved : (b : Bool) → not b ≡ true → b ≡ false
-  not_reserved true e = absurd cc
-  not_reserved false e = refl
+plain_pieces text plain = slice_split_none (is 37) text
+    (λ k d lt. not_percent _ (not_reserved (is_reserved (get_or text k d))
+    (AllPass-from_list_all (λ byte. not (is_reserved byte)) text plain k d lt))) where
+      not_reserved : (b : Bool) → not b ≡ true → b ≡ false
+      not_reserved true e = absurd cc
+      not_reserved false e = refl
 
 -- and stands for itself
 pub bytes_of-plain : (text : List ℕ) → is_plain text ≡ true → bytes_of text ≡ Ok text
@@ -37,7 +41,8 @@ pub escaped_cases : (digits : List ℕ) → (escaped digits ≡ Err Escape) ⊎ 
 unfolding escaped
 escaped_cases digits = cases (((nat_le 1 (length digits) && nat_le (length digits) 6) && list_all is_ascii_hexdigit digits)
     && (scalar (digits_value 16 digits) && nat_lt 0 (digits_value 16 digits))) (digits_value 16 digits) where
-      cases : (fits : Bool) (code : ℕ) → (cond fits (Ok code) (Err Escape) ≡ Err Escape) ⊎ ((c : ℕ) × (cond fits (Ok code) (Err Escape) ≡ Ok c))
+      cases : (fits : Bool) (code : ℕ) → (cond fits (Ok code) (Err Escape) ≡ Err Escape)
+          ⊎ ((c : ℕ) × (cond fits (Ok code) (Err Escape) ≡ Ok c))
       cases true code = inr (code, refl)
       cases false code = inl refl
 
@@ -62,12 +67,14 @@ module _ (text plain : List ℕ) where
   ]
 
   -- an escape
-  pub resolved-escape : (digits : List ℕ) (pieces : List (List ℕ)) (code : ℕ) → is_plain plain ≡ true → escaped digits ≡ Ok code → resolved text (plain ∷ digits ∷ pieces) ≡ resolved ((text ++ plain) ++ encode_utf8 code) pieces
+  pub resolved-escape : (digits : List ℕ) (pieces : List (List ℕ)) (code : ℕ) → is_plain plain ≡ true → escaped digits ≡ Ok code
+      → resolved text (plain ∷ digits ∷ pieces) ≡ resolved ((text ++ plain) ++ encode_utf8 code) pieces
   unfolding resolved
   resolved-escape digits pieces code holds e = rw (holds, e) refl
 
   -- an escape that is none
-  pub resolved-no_escape : (digits : List ℕ) (pieces : List (List ℕ)) (why : Why) → is_plain plain ≡ true → escaped digits ≡ Err why → resolved text (plain ∷ digits ∷ pieces) ≡ Err why
+  pub resolved-no_escape : (digits : List ℕ) (pieces : List (List ℕ)) (why : Why) → is_plain plain ≡ true → escaped digits ≡ Err why
+      → resolved text (plain ∷ digits ∷ pieces) ≡ Err why
   unfolding resolved
   resolved-no_escape digits pieces why holds e = rw (holds, e) refl
 
@@ -84,7 +91,8 @@ resolved-any text other (plain ∷ []) = elim (cases_Bool (is_plain plain)) [ in
 resolved-any text other (plain ∷ digits ∷ pieces) = elim (cases_Bool (is_plain plain)) [
   | inl holds ↦ elim (escaped_cases digits) [
     | inl none ↦ rw (holds, none) refl
-    | inr found ↦ rw (holds, found.1) (resolved-any ((text ++ plain) ++ encode_utf8 found.0) ((other ++ plain) ++ encode_utf8 found.0) pieces)
+    | inr found ↦ rw (holds, found.1) (resolved-any ((text ++ plain) ++ encode_utf8 found.0)
+        ((other ++ plain) ++ encode_utf8 found.0) pieces)
   ]
   | inr fails ↦ rw fails refl
 ]

@@ -1,5 +1,6 @@
 -- Fields: what is read is spelled so, and what is spelled so is read.
-use Rattle.std.proofs.Common.{◌≡◌, ◌≢◌, ℕ, Bool, true, false, cond, ◌⊎◌, inl, inr, eqb, eq-eqb, List, [], ◌∷◌, Option, None, Some, Result, Ok, Err, refl, sym, ◌∙◌, ap, subst, arith, map}
+use Rattle.std.proofs.Common.{◌≡◌, ◌≢◌, ℕ, Bool, true, false, cond, ◌⊎◌, inl, inr, eqb, eq-eqb, List, [], ◌∷◌, Option, None, Some, Result}
+use Rattle.std.proofs.Common.{Ok, Err, refl, sym, ◌∙◌, ap, subst, arith, map}
 use Rattle.std.specs.Prelude.{ℤ, nat_abs}
 use Rattle.std.specs.List.{AllByRecursion}
 use Rattle.std.specs.Option.{option_map}
@@ -11,7 +12,8 @@ use Rattle.osm_base.specs.declared.values.object.Member.{Member}
 use Rattle.osm_base.specs.declared.values.place.TheConstants.{MAX_LON, MAX_LAT}
 use Rattle.osm_base.specs.values.Tags.{TagMap}
 use Rattle.opl_object.specs.declared.letter.Letter.{Letter}
-use Rattle.opl_object.specs.declared.letter.Letter.TheVariants.{Version, Visible, Changeset, Time, UserId, User, Tags, Lon, Lat, Nodes, Members}
+use Rattle.opl_object.specs.declared.letter.Letter.TheVariants.{Version, Visible, Changeset, Time, UserId, User, Tags, Lon, Lat, Nodes}
+use Rattle.opl_object.specs.declared.letter.Letter.TheVariants.{Members}
 use Rattle.opl_object.specs.declared.parts.Parts.{Parts}
 use Rattle.opl_object.specs.declared.why.Why.{Why}
 use Rattle.opl_object.specs.declared.why.Why.TheVariants as causes
@@ -71,12 +73,17 @@ same_letter a b e = sym (letter_back-byte_of a) ∙ ap letter_back e ∙ letter_
 also_apart : (stood : Letter → Bool) (letter other : Letter) → also stood letter other ≡ false → (letter ≢ other) × (stood other ≡ false)
 also_apart stood letter other e = elim (cases_Bool (eqb (byte_of other) (byte_of letter))) [
   | inl same ↦ absurd (let wrong : true ≡ false = rw same at e in cc)
-  | inr apart ↦ (λ is_same. let again : eqb (byte_of other) (byte_of letter) ≡ true = eq-eqb _ _ (ap byte_of (sym is_same)) in let wrong : true ≡ false = sym again ∙ apart in cc, rw apart at e)
+  | inr apart ↦ (
+    λ is_same. let again : eqb (byte_of other) (byte_of letter) ≡ true = eq-eqb _ _ (ap byte_of (sym is_same)) in
+        let wrong : true ≡ false = sym again ∙ apart in cc,
+    rw apart at e,
+  )
 ]
 
 also_again : (stood : Letter → Bool) (letter other : Letter) → letter ≢ other → stood other ≡ false → also stood letter other ≡ false
 also_again stood letter other apart e =
-    let differs : eqb (byte_of other) (byte_of letter) ≡ false = false_from_ne_true _ (λ same. apart (same_letter letter other (sym (eqb-true _ _ same)))) in
+    let differs : eqb (byte_of other) (byte_of letter) ≡ false =
+    false_from_ne_true _ (λ same. apart (same_letter letter other (sym (eqb-true _ _ same)))) in
     rw differs e
 
 -- what a byte is in a line of a kind
@@ -84,7 +91,8 @@ record IsLetter (kind : Kind) (byte : ℕ) (letter : Letter) : Type 0 where
   pub byte_is : byte ≡ byte_of letter
   pub belongs : Belongs kind letter
 
-is_letter : (kind : Kind) (byte : ℕ) (found letter : Letter) → byte ≡ byte_of found → Belongs kind found → found ≡ letter → IsLetter kind byte letter
+is_letter : (kind : Kind) (byte : ℕ) (found letter : Letter) → byte ≡ byte_of found → Belongs kind found → found ≡ letter
+    → IsLetter kind byte letter
 is_letter kind byte found letter here belongs e = subst (IsLetter kind byte) e (record { byte_is = here; belongs = belongs })
 
 own_letter_is : (kind : Kind) (byte : ℕ) (letter : Letter) → own_letter kind byte ≡ Some letter → IsLetter kind byte letter
@@ -111,7 +119,8 @@ own_letter_is kinds.Relation byte letter e = elim (cases_Bool (eqb byte 77)) [
   none_of = None
 
 -- one test of a byte
-tested : (kind : Kind) (byte code : ℕ) (found letter : Letter) (others : Option Letter) → code ≡ byte_of found → Belongs kind found → cond (eqb byte code) (Some found) others ≡ Some letter
+tested : (kind : Kind) (byte code : ℕ) (found letter : Letter) (others : Option Letter) → code ≡ byte_of found → Belongs kind found
+    → cond (eqb byte code) (Some found) others ≡ Some letter
     → IsLetter kind byte letter ⊎ (others ≡ Some letter)
 tested kind byte code found letter others code_is belongs e = elim (cases_Bool (eqb byte code)) [
   | inl same ↦ inl (is_letter kind byte found letter (eqb-true byte code same ∙ code_is) belongs (some_is found letter (rw same at e)))
@@ -121,19 +130,29 @@ tested kind byte code found letter others code_is belongs e = elim (cases_Bool (
 letter_of_is : (kind : Kind) (byte : ℕ) (letter : Letter) → letter_of kind byte ≡ Some letter → IsLetter kind byte letter
 unfolding letter_of
 letter_of_is kind byte letter e =
-    elim (tested kind byte 118 Version letter (cond (eqb byte 100) (Some Visible) (cond (eqb byte 99) (Some Changeset) (cond (eqb byte 116) (Some Time) (cond (eqb byte 105) (Some UserId) (cond (eqb byte 117) (Some User) (cond (eqb byte 84) (Some Tags) (own_letter kind byte))))))) refl tt e) [
+    elim (tested kind byte 118 Version letter
+    (cond (eqb byte 100) (Some Visible) (cond (eqb byte 99) (Some Changeset)
+    (cond (eqb byte 116) (Some Time) (cond (eqb byte 105) (Some UserId)
+    (cond (eqb byte 117) (Some User) (cond (eqb byte 84) (Some Tags) (own_letter kind byte))))))) refl tt e) [
       | inl found ↦ found
       | inr e1 ↦
-          elim (tested kind byte 100 Visible letter (cond (eqb byte 99) (Some Changeset) (cond (eqb byte 116) (Some Time) (cond (eqb byte 105) (Some UserId) (cond (eqb byte 117) (Some User) (cond (eqb byte 84) (Some Tags) (own_letter kind byte)))))) refl tt e1) [
+          elim (tested kind byte 100 Visible letter
+          (cond (eqb byte 99) (Some Changeset) (cond (eqb byte 116) (Some Time)
+          (cond (eqb byte 105) (Some UserId) (cond (eqb byte 117) (Some User)
+          (cond (eqb byte 84) (Some Tags) (own_letter kind byte)))))) refl tt e1) [
             | inl found ↦ found
             | inr e2 ↦
-                elim (tested kind byte 99 Changeset letter (cond (eqb byte 116) (Some Time) (cond (eqb byte 105) (Some UserId) (cond (eqb byte 117) (Some User) (cond (eqb byte 84) (Some Tags) (own_letter kind byte))))) refl tt e2) [
+                elim (tested kind byte 99 Changeset letter
+                (cond (eqb byte 116) (Some Time) (cond (eqb byte 105) (Some UserId)
+                (cond (eqb byte 117) (Some User) (cond (eqb byte 84) (Some Tags) (own_letter kind byte))))) refl tt e2) [
                   | inl found ↦ found
                   | inr e3 ↦
-                      elim (tested kind byte 116 Time letter (cond (eqb byte 105) (Some UserId) (cond (eqb byte 117) (Some User) (cond (eqb byte 84) (Some Tags) (own_letter kind byte)))) refl tt e3) [
+                      elim (tested kind byte 116 Time letter (cond (eqb byte 105) (Some UserId)
+                      (cond (eqb byte 117) (Some User) (cond (eqb byte 84) (Some Tags) (own_letter kind byte)))) refl tt e3) [
                         | inl found ↦ found
                         | inr e4 ↦
-                            elim (tested kind byte 105 UserId letter (cond (eqb byte 117) (Some User) (cond (eqb byte 84) (Some Tags) (own_letter kind byte))) refl tt e4) [
+                            elim (tested kind byte 105 UserId letter
+                            (cond (eqb byte 117) (Some User) (cond (eqb byte 84) (Some Tags) (own_letter kind byte))) refl tt e4) [
                               | inl found ↦ found
                               | inr e5 ↦
                                   elim (tested kind byte 117 User letter (cond (eqb byte 84) (Some Tags) (own_letter kind byte)) refl tt e5) [
@@ -165,18 +184,34 @@ letter_of_again kind Lat b = subst (λ k. letter_of k 121 ≡ Some Lat) (sym b) 
 letter_of_again kind Nodes b = subst (λ k. letter_of k 78 ≡ Some Nodes) (sym b) refl
 letter_of_again kind Members b = subst (λ k. letter_of k 77 ≡ Some Members) (sym b) refl
 
-mapped : (found : Option Letter) (rest : List ℕ) (front : Letter × List ℕ) → option_map (λ letter. (letter, rest)) found ≡ Some front → (found ≡ Some front.0) × (rest ≡ front.1)
+mapped : (found : Option Letter) (rest : List ℕ) (front : Letter × List ℕ) → option_map (λ letter. (letter, rest)) found ≡ Some front
+    → (found ≡ Some front.0) × (rest ≡ front.1)
 mapped None rest front e = absurd cc
-mapped (Some letter) rest front e = let p : pair letter rest ≡ front = some_is (pair letter rest) front e in (ap (λ (q : Letter × List ℕ). Some q.0) p, ap (λ (q : Letter × List ℕ). q.1) p) where
-  pair : Letter → List ℕ → Letter × List ℕ
-  pair l r = (l, r)
+mapped (Some letter) rest front e = let p : pair letter rest ≡ front = some_is (pair letter rest) front e in
+    (ap (λ (q : Letter × List ℕ). Some q.0) p, ap (λ (q : Letter × List ℕ). q.1) p) where
+      pair : Letter → List ℕ → Letter × List ℕ
+      pair l r = (l, r)
 
 pub record IsField (kind : Kind) (field : List ℕ) (front : Letter × List ℕ) : Type 0 where
   pub form : field ≡ field_text front
   pub belongs : Belongs kind front.0
 
 no_zero : (letter : Letter) → 0 ≡ byte_of letter → ⊥
-no_zero letter e = elim letter as (λ l. 0 ≡ byte_of l → ⊥) [ Version ↦ λ z. omega arith | Visible ↦ λ z. omega arith | Changeset ↦ λ z. omega arith | Time ↦ λ z. omega arith | UserId ↦ λ z. omega arith | User ↦ λ z. omega arith | Tags ↦ λ z. omega arith | Lon ↦ λ z. omega arith | Lat ↦ λ z. omega arith | Nodes ↦ λ z. omega arith | Members ↦ λ z. omega arith ] e
+no_zero letter e = elim letter as (λ l. 0 ≡ byte_of l → ⊥) [
+  | Version ↦ λ z. omega arith
+  | Visible ↦ λ z. omega arith
+  | Changeset ↦ λ z. omega arith
+  | Time ↦ λ z. omega arith
+  | UserId ↦ λ z.
+      omega arith
+  | User ↦ λ z. omega arith
+  | Tags ↦ λ z. omega arith
+  | Lon ↦ λ z. omega arith
+  | Lat ↦ λ z. omega arith
+  | Nodes ↦ λ z.
+      omega arith
+  | Members ↦ λ z. omega arith
+] e
 
 pub letter_at_is : (kind : Kind) (field : List ℕ) (front : Letter × List ℕ) → letter_at kind field ≡ Some front → IsField kind field front
 letter_at_is kind [] front e =
@@ -321,7 +356,11 @@ visible_told (byte ∷ []) p q lacks e = elim (cases_Bool (eqb byte 86)) [
   | inl there ↦ (
       let same : p ≡ q = ok_is p q (rw there at e) in
       let spelled : SpellsVisible (byte ∷ []) false = ap (λ b. b ∷ []) (eqb-true byte 86 there) in
-      record { says = subst (SpellsVisible (byte ∷ [])) (sym lacks ∙ ap (λ (r : Parts). r.deleted) same) spelled; keeps = λ other apart. keeps_same other p q same })
+      record {
+        says = subst (SpellsVisible (byte ∷ [])) (sym lacks ∙ ap (λ (r : Parts). r.deleted) same) spelled;
+        keeps =
+            λ other apart. keeps_same other p q same;
+      })
   | inr not_there ↦ elim (cases_Bool (eqb byte 68)) [
     | inl gone ↦ (
         let same : record p { deleted = true } ≡ q = ok_is (record p { deleted = true }) q (rw (not_there, gone) at e) in
@@ -338,12 +377,20 @@ lon_told value p q lacks e = elim (cases_Bool (is_empty value)) [
   | inl none ↦ (
       let same : p ≡ q = ok_is p q (rw none at e) in
       let spelled : SpellsDegrees (nat_abs MAX_LON) value None = nil_is value none in
-      record { says = subst (SpellsDegrees (nat_abs MAX_LON) value) (sym lacks ∙ ap (λ (r : Parts). r.lon) same) spelled; keeps = λ other apart. keeps_same other p q same })
+      record {
+        says = subst (SpellsDegrees (nat_abs MAX_LON) value) (sym lacks ∙ ap (λ (r : Parts). r.lon) same) spelled;
+        keeps =
+            λ other apart. keeps_same other p q same;
+      })
   | inr some ↦ (
       let read : (coordinate (nat_abs MAX_LON) value >>= λ lon. Ok (record p { lon = Some lon })) ≡ Ok q = rw some at e in
       let lon = bind_ok (coordinate (nat_abs MAX_LON) value) (λ lon. Ok (record p { lon = Some lon })) q read in
       let same : record p { lon = Some lon.0 } ≡ q = ok_is (record p { lon = Some lon.0 }) q lon.2 in
-      subst (Told Lon value p) same (record { says = coordinate_spells (nat_abs MAX_LON) value lon.0 lon.1; keeps = λ other apart. keeps_lon p (Some lon.0) other apart }))
+      subst (Told Lon value p) same (record {
+        says = coordinate_spells (nat_abs MAX_LON) value lon.0 lon.1;
+        keeps =
+            λ other apart. keeps_lon p (Some lon.0) other apart;
+      }))
 ]
 
 lat_told : (value : List ℕ) (p q : Parts) → p.lat ≡ None → with_lat value p ≡ Ok q → Told Lat value p q
@@ -351,15 +398,24 @@ lat_told value p q lacks e = elim (cases_Bool (is_empty value)) [
   | inl none ↦ (
       let same : p ≡ q = ok_is p q (rw none at e) in
       let spelled : SpellsDegrees (nat_abs MAX_LAT) value None = nil_is value none in
-      record { says = subst (SpellsDegrees (nat_abs MAX_LAT) value) (sym lacks ∙ ap (λ (r : Parts). r.lat) same) spelled; keeps = λ other apart. keeps_same other p q same })
+      record {
+        says = subst (SpellsDegrees (nat_abs MAX_LAT) value) (sym lacks ∙ ap (λ (r : Parts). r.lat) same) spelled;
+        keeps =
+            λ other apart. keeps_same other p q same;
+      })
   | inr some ↦ (
       let read : (coordinate (nat_abs MAX_LAT) value >>= λ lat. Ok (record p { lat = Some lat })) ≡ Ok q = rw some at e in
       let lat = bind_ok (coordinate (nat_abs MAX_LAT) value) (λ lat. Ok (record p { lat = Some lat })) q read in
       let same : record p { lat = Some lat.0 } ≡ q = ok_is (record p { lat = Some lat.0 }) q lat.2 in
-      subst (Told Lat value p) same (record { says = coordinate_spells (nat_abs MAX_LAT) value lat.0 lat.1; keeps = λ other apart. keeps_lat p (Some lat.0) other apart }))
+      subst (Told Lat value p) same (record {
+        says = coordinate_spells (nat_abs MAX_LAT) value lat.0 lat.1;
+        keeps =
+            λ other apart. keeps_lat p (Some lat.0) other apart;
+      }))
 ]
 
-value_told : (letter : Letter) (value : List ℕ) (p q : Parts) → IsUtf8 value → Lacks letter p → with_value letter value p ≡ Ok q → Told letter value p q
+value_told : (letter : Letter) (value : List ℕ) (p q : Parts) → IsUtf8 value → Lacks letter p → with_value letter value p ≡ Ok q
+    → Told letter value p q
 unfolding with_value
 value_told Visible value p q utf8 lacks e = visible_told value p q lacks e
 value_told User value p q utf8 lacks e =
@@ -369,17 +425,29 @@ value_told User value p q utf8 lacks e =
 value_told Tags value p q utf8 lacks e =
     let tags = bind_ok (tags_of value) (λ tags. Ok (record p { tags = tags })) q e in
     let same : record p { tags = tags.0 } ≡ q = ok_is (record p { tags = tags.0 }) q tags.2 in
-    subst (Told Tags value p) same (record { says = tags_spell value tags.0 utf8 tags.1; keeps = λ other apart. keeps_tags p tags.0 other apart })
+    subst (Told Tags value p) same (record {
+      says = tags_spell value tags.0 utf8 tags.1;
+      keeps =
+          λ other apart. keeps_tags p tags.0 other apart;
+    })
 value_told Lon value p q utf8 lacks e = lon_told value p q lacks e
 value_told Lat value p q utf8 lacks e = lat_told value p q lacks e
 value_told Nodes value p q utf8 lacks e =
     let nodes = bind_ok (nodes_of value) (λ nodes. Ok (record p { nodes = nodes })) q e in
     let same : record p { nodes = nodes.0 } ≡ q = ok_is (record p { nodes = nodes.0 }) q nodes.2 in
-    subst (Told Nodes value p) same (record { says = nodes_spell value nodes.0 utf8 nodes.1; keeps = λ other apart. keeps_nodes p nodes.0 other apart })
+    subst (Told Nodes value p) same (record {
+      says = nodes_spell value nodes.0 utf8 nodes.1;
+      keeps =
+          λ other apart. keeps_nodes p nodes.0 other apart;
+    })
 value_told Members value p q utf8 lacks e =
     let members = bind_ok (members_of value) (λ members. Ok (record p { members = members })) q e in
     let same : record p { members = members.0 } ≡ q = ok_is (record p { members = members.0 }) q members.2 in
-    subst (Told Members value p) same (record { says = members_spell value members.0 utf8 members.1; keeps = λ other apart. keeps_members p members.0 other apart })
+    subst (Told Members value p) same (record {
+      says = members_spell value members.0 utf8 members.1;
+      keeps =
+          λ other apart. keeps_members p members.0 other apart;
+    })
 value_told Version value p q utf8 lacks e =
     let found = told_checked causes.Number (is_whole value) p q e in
     record { says = found.0; keeps = λ other apart. keeps_same other p q found.1 }
@@ -400,24 +468,36 @@ record Gained (letter : Letter) (value : List ℕ) (p parts : Parts) : Type 0 wh
   pub has : Keeps letter next parts
   pub keeps : (other : Letter) → letter ≢ other → Keeps other p next
 
-visible_gained : (value : List ℕ) (p parts : Parts) (deleted : Bool) → parts.deleted ≡ deleted → p.deleted ≡ false → SpellsVisible value deleted
+visible_gained : (value : List ℕ) (p parts : Parts) (deleted : Bool) → parts.deleted ≡ deleted → p.deleted ≡ false
+    → SpellsVisible value deleted
     → (q : Parts) × (with_visible value p ≡ Ok q) × (parts.deleted ≡ q.deleted) × ((other : Letter) → Visible ≢ other → Keeps other p q)
 visible_gained value p parts false is lacks s = (p, ap (λ t. with_visible t p) s, is ∙ sym lacks, λ other apart. keeps_same other p p refl)
-visible_gained value p parts true is lacks s = (record p { deleted = true }, ap (λ t. with_visible t p) s, is, λ other apart. keeps_deleted p true other apart)
+visible_gained value p parts true is lacks s =
+    (record p { deleted = true }, ap (λ t. with_visible t p) s, is, λ other apart. keeps_deleted p true other apart)
 
-lon_gained : (value : List ℕ) (p parts : Parts) (lon : Option ℤ) → parts.lon ≡ lon → p.lon ≡ None → SpellsDegrees (nat_abs MAX_LON) value lon
+lon_gained : (value : List ℕ) (p parts : Parts) (lon : Option ℤ) → parts.lon ≡ lon → p.lon ≡ None
+    → SpellsDegrees (nat_abs MAX_LON) value lon
     → (q : Parts) × (with_lon value p ≡ Ok q) × (parts.lon ≡ q.lon) × ((other : Letter) → Lon ≢ other → Keeps other p q)
 lon_gained value p parts None is lacks s = (p, ap (λ t. with_lon t p) s, is ∙ sym lacks, λ other apart. keeps_same other p p refl)
 lon_gained value p parts (Some lon) is lacks s =
-    let some = some_is_not value (coordinate_nonempty (nat_abs MAX_LON) value lon s) in
-    (record p { lon = Some lon }, rw (some, coordinate_again (nat_abs MAX_LON) value lon s) refl, is, λ other apart. keeps_lon p (Some lon) other apart)
+    let some = some_is_not value (coordinate_nonempty (nat_abs MAX_LON) value lon s) in (
+      record p { lon = Some lon },
+      rw (some, coordinate_again (nat_abs MAX_LON) value lon s) refl,
+      is,
+      λ other apart. keeps_lon p (Some lon) other apart,
+    )
 
-lat_gained : (value : List ℕ) (p parts : Parts) (lat : Option ℤ) → parts.lat ≡ lat → p.lat ≡ None → SpellsDegrees (nat_abs MAX_LAT) value lat
+lat_gained : (value : List ℕ) (p parts : Parts) (lat : Option ℤ) → parts.lat ≡ lat → p.lat ≡ None
+    → SpellsDegrees (nat_abs MAX_LAT) value lat
     → (q : Parts) × (with_lat value p ≡ Ok q) × (parts.lat ≡ q.lat) × ((other : Letter) → Lat ≢ other → Keeps other p q)
 lat_gained value p parts None is lacks s = (p, ap (λ t. with_lat t p) s, is ∙ sym lacks, λ other apart. keeps_same other p p refl)
 lat_gained value p parts (Some lat) is lacks s =
-    let some = some_is_not value (coordinate_nonempty (nat_abs MAX_LAT) value lat s) in
-    (record p { lat = Some lat }, rw (some, coordinate_again (nat_abs MAX_LAT) value lat s) refl, is, λ other apart. keeps_lat p (Some lat) other apart)
+    let some = some_is_not value (coordinate_nonempty (nat_abs MAX_LAT) value lat s) in (
+      record p { lat = Some lat },
+      rw (some, coordinate_again (nat_abs MAX_LAT) value lat s) refl,
+      is,
+      λ other apart. keeps_lat p (Some lat) other apart,
+    )
 
 value_gained : (letter : Letter) (value : List ℕ) (p parts : Parts) → Lacks letter p → Says letter value parts → Gained letter value p parts
 unfolding with_value
@@ -431,13 +511,40 @@ value_gained Lat value p parts lacks s =
     let g = lat_gained value p parts parts.lat refl lacks s in
     record { next = g.0; read = g.1; has = g.2; keeps = g.3 }
 value_gained User value p parts lacks s =
-    record { next = p; read = ap (λ r. r >>= λ _. Ok p) (text_again value s.0 s.1); has = tt; keeps = λ other apart. keeps_same other p p refl }
+    record {
+      next = p;
+      read = ap (λ r. r >>= λ _. Ok p) (text_again value s.0 s.1);
+      has = tt;
+      keeps =
+          λ other apart. keeps_same other p p refl;
+    }
 value_gained Tags value p parts lacks s =
-    record { next = record p { tags = parts.tags }; read = ap (λ r. r >>= λ tags. Ok (record p { tags = tags })) (tags_again value parts.tags s); has = refl; keeps = λ other apart. keeps_tags p parts.tags other apart }
+    record {
+      next = record p { tags = parts.tags };
+      read =
+          ap (λ r. r >>= λ tags. Ok (record p { tags = tags })) (tags_again value parts.tags s);
+      has = refl;
+      keeps =
+          λ other apart. keeps_tags p parts.tags other apart;
+    }
 value_gained Nodes value p parts lacks s =
-    record { next = record p { nodes = parts.nodes }; read = ap (λ r. r >>= λ nodes. Ok (record p { nodes = nodes })) (nodes_again value parts.nodes s); has = refl; keeps = λ other apart. keeps_nodes p parts.nodes other apart }
+    record {
+      next = record p { nodes = parts.nodes };
+      read =
+          ap (λ r. r >>= λ nodes. Ok (record p { nodes = nodes })) (nodes_again value parts.nodes s);
+      has = refl;
+      keeps =
+          λ other apart. keeps_nodes p parts.nodes other apart;
+    }
 value_gained Members value p parts lacks s =
-    record { next = record p { members = parts.members }; read = ap (λ r. r >>= λ members. Ok (record p { members = members })) (members_again value parts.members s); has = refl; keeps = λ other apart. keeps_members p parts.members other apart }
+    record {
+      next = record p { members = parts.members };
+      read =
+          ap (λ r. r >>= λ members. Ok (record p { members = members })) (members_again value parts.members s);
+      has = refl;
+      keeps =
+          λ other apart. keeps_members p parts.members other apart;
+    }
 value_gained Version value p parts lacks s =
     record { next = p; read = ap (λ b. checked causes.Number b p) s; has = tt; keeps = λ other apart. keeps_same other p p refl }
 value_gained Changeset value p parts lacks s =
@@ -463,14 +570,16 @@ record Fresh (stood : Letter → Bool) (letter : Letter) (pairs : List (Letter �
   pub letters : AllByRecursion (λ other. letter ≢ other) (map (λ field. field.0) pairs)
   pub before : AllByRecursion (λ field. stood field.0 ≡ false) pairs
 
-fresh_parts : (stood : Letter → Bool) (letter : Letter) (pairs : List (Letter × List ℕ)) → AllByRecursion (λ field. also stood letter field.0 ≡ false) pairs → Fresh stood letter pairs
+fresh_parts : (stood : Letter → Bool) (letter : Letter) (pairs : List (Letter × List ℕ))
+    → AllByRecursion (λ field. also stood letter field.0 ≡ false) pairs → Fresh stood letter pairs
 fresh_parts stood letter [] h = record { apart = tt; letters = tt; before = tt }
 fresh_parts stood letter (field ∷ pairs) h =
     let here = also_apart stood letter field.0 h.0 in
     let rest = fresh_parts stood letter pairs h.1 in
     record { apart = (here.0, rest.apart); letters = (here.0, rest.letters); before = (here.1, rest.before) }
 
-pub not_stood : (stood : Letter → Bool) (front found : Letter × List ℕ) → new_field stood front ≡ Ok found → (stood front.0 ≡ false) × (front ≡ found)
+pub not_stood : (stood : Letter → Bool) (front found : Letter × List ℕ) → new_field stood front ≡ Ok found
+    → (stood front.0 ≡ false) × (front ≡ found)
 not_stood stood front found e = elim (cases_Bool (stood front.0)) [
   | inl held ↦ absurd (let wrong : refused ≡ Ok found = rw held at e in cc)
   | inr clear ↦ (clear, ok_is front found (rw clear at e))
@@ -480,7 +589,8 @@ not_stood stood front found e = elim (cases_Bool (stood front.0)) [
 
 -- one field and those behind it
 said_more : (kind : Kind) (stood : Letter → Bool) (p q last : Parts) (field : List ℕ) (fields : List (List ℕ)) (found : Letter × List ℕ)
-    → field ≡ field_text found → Belongs kind found.0 → stood found.0 ≡ false → Told found.0 found.1 p q → Said kind (also stood found.0) q fields last → Said kind stood p (field ∷ fields) last
+    → field ≡ field_text found → Belongs kind found.0 → stood found.0 ≡ false → Told found.0 found.1 p q
+    → Said kind (also stood found.0) q fields last → Said kind stood p (field ∷ fields) last
 said_more kind stood p q last field fields found form belongs clear told rest =
     let fresh = fresh_parts stood found.0 rest.pairs rest.fresh in
     record {
@@ -493,29 +603,48 @@ said_more kind stood p q last field fields found form belongs clear told rest =
       keeps = λ letter apart. keeps_then letter p q last (told.keeps letter (λ e. apart.0 (sym e))) (rest.keeps letter apart.1);
     }
 
-fields_said : (kind : Kind) (stood : Letter → Bool) (p : Parts) (fields : List (List ℕ)) (last : (Letter → Bool) × Parts) → AllByRecursion IsUtf8 fields
-    → ((letter : Letter) → stood letter ≡ false → Lacks letter p) → each_piece (with_field kind) (stood, p) fields ≡ Ok last → Said kind stood p fields last.1
+fields_said : (kind : Kind) (stood : Letter → Bool) (p : Parts) (fields : List (List ℕ)) (last : (Letter → Bool) × Parts)
+    → AllByRecursion IsUtf8 fields
+    → ((letter : Letter) → stood letter ≡ false → Lacks letter p) → each_piece (with_field kind) (stood, p) fields ≡ Ok last
+    → Said kind stood p fields last.1
 unfolding each_piece
 fields_said kind stood p [] last utf8 lacks e =
     let same : p ≡ last.1 = ap (λ (l : (Letter → Bool) × Parts). l.1) (ok_is (state stood p) last e) in
-    record { pairs = []; form = refl; belong = tt; fresh = tt; distinct = tt; says = tt; keeps = λ letter apart. keeps_same letter p last.1 same } where
+    record {
+      pairs = [];
+      form = refl;
+      belong = tt;
+      fresh = tt;
+      distinct = tt;
+      says = tt;
+      keeps =
+          λ letter apart. keeps_same letter p last.1 same;
+    } where
       state : (Letter → Bool) → Parts → (Letter → Bool) × Parts
       state s q = (s, q)
 fields_said kind stood p (field ∷ fields) last utf8 lacks e =
     let next = bind_ok (with_field kind (stood, p) field) (λ so_far. each_piece (with_field kind) so_far fields) last e in
-    let front = bind_ok (given causes.Field (letter_at kind field)) (λ front. new_field stood front >>= λ found. with_value found.0 found.1 p >>= λ parts. Ok (also stood found.0, parts)) next.0 next.1 in
-    let found = bind_ok (new_field stood front.0) (λ found. with_value found.0 found.1 p >>= λ parts. Ok (also stood found.0, parts)) next.0 front.2 in
+    let front = bind_ok (given causes.Field (letter_at kind field))
+    (λ front. new_field stood front >>= λ found. with_value found.0 found.1 p >>= λ parts. Ok (also stood found.0, parts)) next.0
+    next.1 in
+    let found = bind_ok (new_field stood front.0)
+    (λ found. with_value found.0 found.1 p >>= λ parts. Ok (also stood found.0, parts)) next.0 front.2 in
     let clear = not_stood stood front.0 found.0 found.1 in
-    let it = subst (IsField kind field) clear.1 (letter_at_is kind field front.0 (given_ok causes.Field (letter_at kind field) front.0 front.1)) in
+    let it = subst (IsField kind field) clear.1
+    (letter_at_is kind field front.0 (given_ok causes.Field (letter_at kind field) front.0 front.1)) in
     let free : stood found.0.0 ≡ false = subst (λ (f : Letter × List ℕ). stood f.0 ≡ false) clear.1 clear.0 in
     let parts = bind_ok (with_value found.0.0 found.0.1 p) (λ parts. Ok (also stood found.0.0, parts)) next.0 found.2 in
-    let value_utf8 : IsUtf8 found.0.1 = (utf8_sides [] found.0.1 (byte_of found.0.0) (byte_of_small found.0.0) (subst IsUtf8 it.form utf8.0)).1 in
+    let value_utf8 : IsUtf8 found.0.1 = (utf8_sides [] found.0.1 (byte_of found.0.0) (byte_of_small found.0.0)
+    (subst IsUtf8 it.form utf8.0)).1 in
     let told = value_told found.0.0 found.0.1 p parts.0 value_utf8 (lacks found.0.0 free) parts.1 in
     let made : (Letter → Bool) × Parts = (also stood found.0.0, parts.0) in
-    let read : each_piece (with_field kind) (also stood found.0.0, parts.0) fields ≡ Ok last = ap (λ so_far. each_piece (with_field kind) so_far fields) (ok_is made next.0 parts.2) ∙ next.2 in
+    let read : each_piece (with_field kind) (also stood found.0.0, parts.0) fields ≡ Ok last =
+    ap (λ so_far. each_piece (with_field kind) so_far fields) (ok_is made next.0 parts.2) ∙ next.2 in
     let still : (letter : Letter) → also stood found.0.0 letter ≡ false → Lacks letter parts.0
-    = λ letter clear_. (let apart = also_apart stood found.0.0 letter clear_ in lacks_kept letter p parts.0 (lacks letter apart.1) (told.keeps letter apart.0)) in
-    said_more kind stood p parts.0 last.1 field fields found.0 it.form it.belongs free told (fields_said kind (also stood found.0.0) parts.0 fields last utf8.1 still read)
+    = λ letter clear_. (let apart = also_apart stood found.0.0 letter clear_ in
+    lacks_kept letter p parts.0 (lacks letter apart.1) (told.keeps letter apart.0)) in
+    said_more kind stood p parts.0 last.1 field fields found.0 it.form it.belongs free told
+    (fields_said kind (also stood found.0.0) parts.0 fields last utf8.1 still read)
 
 lacks_nothing : (letter : Letter) → Lacks letter nothing
 lacks_nothing Visible = refl
@@ -532,7 +661,8 @@ pub record SaidParts (kind : Kind) (fields : List (List ℕ)) (parts : Parts) : 
   pub form : fields ≡ map field_text pairs
   pub say : SayParts kind pairs parts
 
-pub parts_said : (kind : Kind) (fields : List (List ℕ)) (parts : Parts) → AllByRecursion IsUtf8 fields → parts_of kind fields ≡ Ok parts → SaidParts kind fields parts
+pub parts_said : (kind : Kind) (fields : List (List ℕ)) (parts : Parts) → AllByRecursion IsUtf8 fields → parts_of kind fields ≡ Ok parts
+    → SaidParts kind fields parts
 unfolding parts_of
 parts_said kind fields parts utf8 e =
     let last = bind_ok (each_piece (with_field kind) (none_stood, nothing) fields) (λ last. Ok last.1) parts e in
@@ -561,18 +691,23 @@ parts_same p q keeps =
     let members : p.members ≡ q.members = sym (keeps Members) in
     λ i. record { deleted = deleted i; lon = lon i; lat = lat i; tags = tags i; nodes = nodes i; members = members i }
 
-also_all : (stood : Letter → Bool) (letter : Letter) (pairs : List (Letter × List ℕ)) → AllByRecursion (λ other. letter ≢ other) (map (λ field. field.0) pairs) → AllByRecursion (λ field. stood field.0 ≡ false) pairs
+also_all : (stood : Letter → Bool) (letter : Letter) (pairs : List (Letter × List ℕ))
+    → AllByRecursion (λ other. letter ≢ other) (map (λ field. field.0) pairs) → AllByRecursion (λ field. stood field.0 ≡ false) pairs
     → AllByRecursion (λ field. also stood letter field.0 ≡ false) pairs
 also_all stood letter [] apart clear = tt
-also_all stood letter (field ∷ pairs) apart clear = (also_again stood letter field.0 apart.0 clear.0, also_all stood letter pairs apart.1 clear.1)
+also_all stood letter (field ∷ pairs) apart clear =
+    (also_again stood letter field.0 apart.0 clear.0, also_all stood letter pairs apart.1 clear.1)
 
-lacks_all : (letter : Letter) (p q : Parts) (pairs : List (Letter × List ℕ)) → ((other : Letter) → letter ≢ other → Keeps other p q) → AllByRecursion (λ other. letter ≢ other) (map (λ field. field.0) pairs)
+lacks_all : (letter : Letter) (p q : Parts) (pairs : List (Letter × List ℕ)) → ((other : Letter) → letter ≢ other → Keeps other p q)
+    → AllByRecursion (λ other. letter ≢ other) (map (λ field. field.0) pairs)
     → AllByRecursion (λ field. Lacks field.0 p) pairs → AllByRecursion (λ field. Lacks field.0 q) pairs
 lacks_all letter p q [] keeps apart lacks = tt
-lacks_all letter p q (field ∷ pairs) keeps apart lacks = (lacks_kept field.0 p q lacks.0 (keeps field.0 apart.0), lacks_all letter p q pairs keeps apart.1 lacks.1)
+lacks_all letter p q (field ∷ pairs) keeps apart lacks =
+    (lacks_kept field.0 p q lacks.0 (keeps field.0 apart.0), lacks_all letter p q pairs keeps apart.1 lacks.1)
 
 fields_again : (kind : Kind) (stood : Letter → Bool) (p parts : Parts) (pairs : List (Letter × List ℕ))
-    → AllByRecursion (λ field. Belongs kind field.0) pairs → AreDistinct (map (λ field. field.0) pairs) → AllByRecursion (λ field. stood field.0 ≡ false) pairs
+    → AllByRecursion (λ field. Belongs kind field.0) pairs → AreDistinct (map (λ field. field.0) pairs)
+    → AllByRecursion (λ field. stood field.0 ≡ false) pairs
     → AllByRecursion (λ field. Says field.0 field.1 parts) pairs → AllByRecursion (λ field. Lacks field.0 p) pairs
     → ((letter : Letter) → AllByRecursion (λ field. letter ≢ field.0) pairs → Keeps letter p parts)
     → (each_piece (with_field kind) (stood, p) (map field_text pairs) >>= λ last. Ok last.1) ≡ Ok parts
@@ -582,18 +717,23 @@ fields_again kind stood p parts (field ∷ pairs) belong distinct clear says lac
     let gained = value_gained field.0 field.1 p parts lacks.0 says.0 in
     let q = gained.next in
     let read : with_field kind (stood, p) (field_text field) ≡ Ok (also stood field.0, gained.next)
-    = ap (λ o. given causes.Field o >>= λ front. new_field stood front >>= λ found. with_value found.0 found.1 p >>= λ parts. Ok (also stood found.0, parts)) (letter_at_again kind field belong.0)
-    ∙ ap (λ b. cond b (Err causes.Repeated) (Ok field) >>= λ found. with_value found.0 found.1 p >>= λ parts. Ok (also stood found.0, parts)) clear.0
+    = ap (λ o. given causes.Field o >>= λ front. new_field stood front >>= λ found. with_value found.0 found.1 p >>= λ parts.
+    Ok (also stood found.0, parts)) (letter_at_again kind field belong.0)
+    ∙ ap (λ b. cond b (Err causes.Repeated) (Ok field) >>= λ found. with_value found.0 found.1 p >>= λ parts.
+    Ok (also stood found.0, parts)) clear.0
     ∙ ap (λ r. r >>= λ parts. Ok (also stood field.0, parts)) gained.read in
     let keeps_q : (letter : Letter) → AllByRecursion (λ other. letter ≢ other.0) pairs → Keeps letter gained.next parts
     = λ letter apart. elim (cases_Bool (eqb (byte_of letter) (byte_of field.0))) [
-      | inl same ↦ (let e : field.0 ≡ letter = sym (same_letter letter field.0 (eqb-true _ _ same)) in subst (λ l. Keeps l gained.next parts) e gained.has)
+      | inl same ↦ (let e : field.0 ≡ letter = sym (same_letter letter field.0 (eqb-true _ _ same)) in
+          subst (λ l. Keeps l gained.next parts) e gained.has)
       | inr other ↦ (
-          let differs : letter ≢ field.0 = λ e. (let again : eqb (byte_of letter) (byte_of field.0) ≡ true = eq-eqb _ _ (ap byte_of e) in let wrong : true ≡ false = sym again ∙ other in cc) in
+          let differs : letter ≢ field.0 = λ e. (let again : eqb (byte_of letter) (byte_of field.0) ≡ true = eq-eqb _ _ (ap byte_of e) in
+          let wrong : true ≡ false = sym again ∙ other in cc) in
           keeps_back letter p gained.next parts (keeps letter (differs, apart)) (gained.keeps letter (λ e. differs (sym e))))
     ] in
     ap (λ r. (r >>= λ so_far. each_piece (with_field kind) so_far (map field_text pairs)) >>= λ last. Ok last.1) read
-    ∙ fields_again kind (also stood field.0) gained.next parts pairs belong.1 distinct.1 (also_all stood field.0 pairs distinct.0 clear.1) says.1
+    ∙ fields_again kind (also stood field.0) gained.next parts pairs belong.1 distinct.1
+    (also_all stood field.0 pairs distinct.0 clear.1) says.1
     (lacks_all field.0 p gained.next pairs gained.keeps distinct.0 lacks.1) keeps_q
 
 none_stand : (pairs : List (Letter × List ℕ)) → AllByRecursion (λ field. none_stood field.0 ≡ false) pairs
@@ -613,7 +753,9 @@ keeps_nothing Nodes parts l = l
 keeps_nothing Members parts l = l
 keeps_nothing _ parts l = tt
 
-pub parts_again : (kind : Kind) (pairs : List (Letter × List ℕ)) (parts : Parts) → SayParts kind pairs parts → parts_of kind (map field_text pairs) ≡ Ok parts
+pub parts_again : (kind : Kind) (pairs : List (Letter × List ℕ)) (parts : Parts) → SayParts kind pairs parts
+    → parts_of kind (map field_text pairs) ≡ Ok parts
 unfolding parts_of
 parts_again kind pairs parts s =
-    fields_again kind none_stood nothing parts pairs s.belong s.distinct (none_stand pairs) s.says (nothing_lacks pairs) (λ letter apart. keeps_nothing letter parts (s.lacks letter apart))
+    fields_again kind none_stood nothing parts pairs s.belong s.distinct (none_stand pairs) s.says (nothing_lacks pairs)
+    (λ letter apart. keeps_nothing letter parts (s.lacks letter apart))

@@ -1,5 +1,6 @@
 -- Lines: what is read is spelled so, what is spelled so is read, and each line has one meaning.
-use Rattle.std.proofs.Common.{◌≡◌, ℕ, Bool, true, false, cond, not, inl, inr, List, [], ◌∷◌, Option, None, Some, Result, Ok, Err, refl, sym, ◌∙◌, ap, subst, map}
+use Rattle.std.proofs.Common.{◌≡◌, ℕ, Bool, true, false, cond, not, inl, inr, List, [], ◌∷◌, Option, None, Some, Result, Ok, Err, refl, sym}
+use Rattle.std.proofs.Common.{◌∙◌, ap, subst, map}
 use Rattle.std.specs.Prelude.{ℤ}
 use Rattle.std.specs.List.{AllByRecursion, filter, slice_split}
 use Rattle.std.specs.Str.{IsUtf8, is_utf8}
@@ -51,10 +52,17 @@ pub record IsKey (field : List ℕ) (key : KeyOf) : Type 0 where
 pub key_spells : (field : List ℕ) (key : KeyOf) → key_of field ≡ Ok key → IsKey field key
 unfolding key_of
 key_spells field key e =
-    let front = bind_ok (given causes.Kind (kind_at field)) (λ front. id_of front.1 >>= λ id. Ok (record { kind = front.0; id = id })) key e in
+    let front = bind_ok (given causes.Kind (kind_at field))
+    (λ front. id_of front.1 >>= λ id. Ok (record { kind = front.0; id = id })) key e in
     let id = bind_ok (id_of front.0.1) (λ id. Ok (record { kind = front.0.0; id = id })) key front.2 in
     let made : KeyOf = record { kind = front.0.0; id = id.0 } in
-    subst (IsKey field) (ok_is made key id.2) (record { digits = front.0.1; form = kind_at_is field front.0 (given_ok causes.Kind (kind_at field) front.0 front.1); number = id_spells front.0.1 id.0 id.1 })
+    subst (IsKey field) (ok_is made key id.2)
+    (record {
+      digits = front.0.1;
+      form = kind_at_is field front.0 (given_ok causes.Kind (kind_at field) front.0 front.1);
+      number =
+          id_spells front.0.1 id.0 id.1;
+    })
 
 place_is : (lon lat : Option ℤ) (place : Option PlaceOf) → place_of lon lat ≡ Ok place → IsPlace lon lat place
 place_is None None place e = sym (ok_is None place e)
@@ -74,13 +82,15 @@ deleted_is true object = refl
 deleted_is false object = refl
 
 module _ (line : List ℕ) (counts : IsSkipped line → ⊥) (utf8 : IsUtf8 line) where
-  fields_spell : (fields : List (List ℕ)) (entry : Entry) → fields_of line ≡ fields → AllByRecursion IsUtf8 fields → entry_from fields ≡ Ok entry → Spells line entry
+  fields_spell : (fields : List (List ℕ)) (entry : Entry) → fields_of line ≡ fields → AllByRecursion IsUtf8 fields
+      → entry_from fields ≡ Ok entry → Spells line entry
   unfolding entry_from entry_of
   fields_spell [] entry cut all e = absurd cc
   fields_spell (first ∷ fields) entry cut all e =
       let key = bind_ok (key_of first) (λ key. parts_of key.kind fields >>= λ parts. entry_of key parts) entry e in
       let parts = bind_ok (parts_of key.0.kind fields) (λ parts. entry_of key.0 parts) entry key.2 in
-      let object = bind_ok (object_of key.0.kind parts.0) (λ object. Ok (record { key = key.0; object = cond parts.0.deleted None (Some object) })) entry parts.2 in
+      let object = bind_ok (object_of key.0.kind parts.0)
+      (λ object. Ok (record { key = key.0; object = cond parts.0.deleted None (Some object) })) entry parts.2 in
       let k = key_spells first key.0 key.1 in
       let said = parts_said key.0.kind fields parts.0 all.1 parts.1 in
       let made : Entry = record { key = key.0; object = cond parts.0.deleted None (Some object.0) } in
@@ -123,7 +133,8 @@ line_spells line entry e = elim (cases_Bool (is_skipped line)) [
 key_again : (digits : List ℕ) (key : KeyOf) → SpellsId digits key.id → key_of (kind_byte key.kind ∷ digits) ≡ Ok key
 unfolding key_of
 key_again digits key s =
-    ap (λ o. given causes.Kind o >>= λ front. id_of front.1 >>= λ id. Ok (record { kind = front.0; id = id })) (kind_at_again key.kind digits)
+    ap (λ o. given causes.Kind o >>= λ front. id_of front.1 >>= λ id. Ok (record { kind = front.0; id = id }))
+    (kind_at_again key.kind digits)
     ∙ ap (λ r. r >>= λ id. Ok (record { kind = key.kind; id = id })) (id_again digits key.id s)
 
 place_again : (lon lat : Option ℤ) (place : Option PlaceOf) → IsPlace lon lat place → place_of lon lat ≡ Ok place
@@ -138,7 +149,8 @@ object_again kinds.Node parts object s =
 object_again kinds.Way parts object s = ap (λ o. Ok o) (sym s)
 object_again kinds.Relation parts object s = ap (λ o. Ok o) (sym s)
 
-deleted_again : (deleted : Bool) (object : Object) (found : Option Object) → IsObjectOf deleted object found → cond deleted None (Some object) ≡ found
+deleted_again : (deleted : Bool) (object : Object) (found : Option Object) → IsObjectOf deleted object found
+    → cond deleted None (Some object) ≡ found
 deleted_again true object found s = sym s
 deleted_again false object found s = sym s
 
@@ -149,11 +161,13 @@ line_again line entry s =
     let valid : utf8_of line ≡ Ok line = ap (λ b. cond b (Ok line) (Err causes.Utf8)) (is_utf8-from_IsUtf8 line s.utf8) in
     let key : KeyOf = entry.key in
     let made : entry_of entry.key s.parts ≡ Ok entry
-    = ap (λ r. r >>= λ object. Ok (record { key = entry.key; object = cond s.parts.deleted None (Some object) })) (object_again entry.key.kind s.parts s.object s.made)
+    = ap (λ r. r >>= λ object. Ok (record { key = entry.key; object = cond s.parts.deleted None (Some object) }))
+    (object_again entry.key.kind s.parts s.object s.made)
     ∙ ap (λ o. Ok (record { key = entry.key; object = o })) (deleted_again s.parts.deleted s.object entry.object s.is) in
     let own : entry_from (fields_of line) ≡ Ok entry
     = ap entry_from s.form
-    ∙ ap (λ r. r >>= λ key. parts_of key.kind (map field_text s.fields) >>= λ parts. entry_of key parts) (key_again s.digits entry.key s.number)
+    ∙ ap (λ r. r >>= λ key. parts_of key.kind (map field_text s.fields) >>= λ parts. entry_of key parts)
+    (key_again s.digits entry.key s.number)
     ∙ ap (λ r. r >>= λ parts. entry_of entry.key parts) (parts_again entry.key.kind s.fields s.parts s.say)
     ∙ made in
     ap (λ b. cond b (Ok None) (utf8_of line >>= λ text. entry_from (fields_of text) >>= λ entry. Ok (Some entry))) counts

@@ -1,5 +1,7 @@
 -- Ids and coordinates: what is read is spelled so, and what is spelled so is read.
-use Rattle.std.proofs.Common.{◌≡◌, ℕ, ◌+◌, ◌<◌, ◌≤◌, Bool, true, false, cond, ◌&&◌, ◌⊎◌, inl, inr, eqb, eq-eqb, List, [], ◌∷◌, ◌++◌, length, get_or, take, drop, Option, None, Some, Result, Ok, Err, refl, sym, ◌∙◌, ap, subst, arith, append_assoc, leb, ltb}
+use Rattle.std.proofs.Common.{◌≡◌, ℕ, ◌+◌, ◌<◌, ◌≤◌, Bool, true, false, cond, ◌&&◌, ◌⊎◌, inl, inr, eqb, eq-eqb, List, [], ◌∷◌, ◌++◌, length}
+use Rattle.std.proofs.Common.{get_or, take, drop, Option, None, Some, Result, Ok, Err, refl, sym, ◌∙◌, ap, subst, arith, append_assoc, leb}
+use Rattle.std.proofs.Common.{ltb}
 use Rattle.std.specs.Prelude.{ℤ, pos, neg_ℤ}
 use Rattle.std.specs.List.{list_all, position_or_len}
 use Rattle.std.specs.Char.{is_ascii_digit}
@@ -40,8 +42,10 @@ cut_some end front rest free =
     let place = place-free end front rest free in
     let within : ltb (length front) (length (front ++ end ∷ rest)) ≡ true = lt-ltb _ _ (omega (arith, length-append front (end ∷ rest))) in
     let back : drop (length front + 1) (front ++ end ∷ rest) ≡ rest
-    = ap (drop (length front + 1)) (sym (append_assoc front (end ∷ []) rest)) ∙ drop_at (front ++ end ∷ []) rest (length front + 1) (omega (arith, length-append front (end ∷ []))) in
-    ap (λ n. (take n (front ++ end ∷ rest), cond (ltb n (length (front ++ end ∷ rest))) (Some (drop (n + 1) (front ++ end ∷ rest))) None)) place
+    = ap (drop (length front + 1)) (sym (append_assoc front (end ∷ []) rest))
+    ∙ drop_at (front ++ end ∷ []) rest (length front + 1) (omega (arith, length-append front (end ∷ []))) in
+    ap (λ n. (take n (front ++ end ∷ rest), cond (ltb n (length (front ++ end ∷ rest))) (Some (drop (n + 1) (front ++ end ∷ rest))) None))
+    place
     ∙ ap (λ b. (take (length front) (front ++ end ∷ rest), cond b (Some (drop (length front + 1) (front ++ end ∷ rest))) None)) within
     ∙ ap (λ t. (t, Some (drop (length front + 1) (front ++ end ∷ rest)))) (take_at front (end ∷ rest) (length front) refl)
     ∙ ap (λ t. (front, Some t)) back
@@ -59,13 +63,15 @@ pub record Cut (end : ℕ) (text front rest : List ℕ) : Type 0 where
   pub is : cut_at (is end) text ≡ (front, Some rest)
   pub form : text ≡ front ++ end ∷ rest
 
-pub cut_cases : (end : ℕ) (text : List ℕ) → (cut_at (is end) text ≡ (text, None)) ⊎ ((front : List ℕ) × (rest : List ℕ) × Cut end text front rest)
+pub cut_cases : (end : ℕ) (text : List ℕ)
+    → (cut_at (is end) text ≡ (text, None)) ⊎ ((front : List ℕ) × (rest : List ℕ) × Cut end text front rest)
 cut_cases end text = elim (cases_lt (position_or_len (is end) text) (length text)) [
   | inl lt ↦ (
       let place = position_or_len (is end) text in
       let byte : get_or text place 0 ≡ end = eqb-true (get_or text place 0) end (passes_at_first (is end) text 0 lt) in
       let parts : text ≡ take place text ++ end ∷ drop (place + 1) text
-      = sym (take-append-drop place text) ∙ ap (λ t. take place text ++ t) (drop_more text place 0 lt ∙ ap (λ b. b ∷ drop (place + 1) text) byte) in
+      = sym (take-append-drop place text) ∙ ap (λ t. take place text ++ t)
+      (drop_more text place 0 lt ∙ ap (λ b. b ∷ drop (place + 1) text) byte) in
       inr (take place text, drop (place + 1) text, record { is = rw (lt-ltb _ _ lt) refl; form = parts }))
   | inr le ↦ inl (rw (le-ltb _ _ le) (ap (λ t. (t, None)) (take_all _ text le)))
 ]
@@ -105,7 +111,8 @@ abbrev pub NoDigit : List ℕ → Type 0
 NoDigit [] = Unit {0}
 NoDigit (byte ∷ rest) = is_ascii_digit byte ≡ false
 
-digits_len-front : (digits rest : List ℕ) → list_all is_ascii_digit digits ≡ true → NoDigit rest → digits_len (digits ++ rest) ≡ length digits
+digits_len-front : (digits rest : List ℕ) → list_all is_ascii_digit digits ≡ true → NoDigit rest
+    → digits_len (digits ++ rest) ≡ length digits
 digits_len-front [] [] all none = refl
 digits_len-front [] (byte ∷ rest) all none = rw none refl
 digits_len-front (digit ∷ digits) rest all none =
@@ -150,12 +157,15 @@ sign_parts (byte ∷ text) = elim (cases_Bool (eqb byte 45)) [
 
 -- a coordinate whose digits stand so
 module _ (greatest : ℕ) (text whole decimals : List ℕ) (value : ℤ) where
-  coordinate_made : text ≡ sign_text (is_negative text) ++ (whole ++ decimals_text decimals) → 1 ≤ length whole → length whole + length decimals ≤ 20
+  coordinate_made : text ≡ sign_text (is_negative text) ++ (whole ++ decimals_text decimals) → 1 ≤ length whole
+      → length whole + length decimals ≤ 20
       → list_all is_ascii_digit whole ≡ true → list_all is_ascii_digit decimals ≡ true
-      → cond (leb (units whole decimals) greatest) (Ok (cond (is_negative text) (neg_ℤ (pos (units whole decimals))) (pos (units whole decimals)))) (Err causes.Range) ≡ Ok value
+      → cond (leb (units whole decimals) greatest)
+      (Ok (cond (is_negative text) (neg_ℤ (pos (units whole decimals))) (pos (units whole decimals)))) (Err causes.Range) ≡ Ok value
       → SpellsCoordinate greatest text value
   coordinate_made form some few whole_digits decimal_digits e =
-      let found = chosen (leb (units whole decimals) greatest) causes.Range (cond (is_negative text) (neg_ℤ (pos (units whole decimals))) (pos (units whole decimals))) value e in
+      let found = chosen (leb (units whole decimals) greatest) causes.Range
+      (cond (is_negative text) (neg_ℤ (pos (units whole decimals))) (pos (units whole decimals))) value e in
       record {
         minus = is_negative text;
         whole = whole;
@@ -175,34 +185,46 @@ decimals_some (digit ∷ decimals) some = refl
 
 abbrev parts_read : ℕ → List ℕ → List ℕ × Option (List ℕ) → Result ℤ Why
 parts_read greatest text parts = cond (is_decimal parts)
-    (cond (leb (units parts.0 (decimals_of parts.1)) greatest) (Ok (cond (is_negative text) (neg_ℤ (pos (units parts.0 (decimals_of parts.1)))) (pos (units parts.0 (decimals_of parts.1))))) (Err causes.Range))
+    (cond (leb (units parts.0 (decimals_of parts.1)) greatest)
+    (Ok (cond (is_negative text) (neg_ℤ (pos (units parts.0 (decimals_of parts.1)))) (pos (units parts.0 (decimals_of parts.1)))))
+    (Err causes.Range))
     (Err causes.Number)
 
 coordinate-parts : (greatest : ℕ) (text : List ℕ) → coordinate greatest text ≡ parts_read greatest text (cut_at (is 46) (unsigned text))
 unfolding coordinate
 coordinate-parts greatest text = refl
 
-pub coordinate_spells : (greatest : ℕ) (text : List ℕ) (value : ℤ) → coordinate greatest text ≡ Ok value → SpellsCoordinate greatest text value
+pub coordinate_spells : (greatest : ℕ) (text : List ℕ) (value : ℤ) → coordinate greatest text ≡ Ok value
+    → SpellsCoordinate greatest text value
 coordinate_spells greatest text value e =
     let read : parts_read greatest text (cut_at (is 46) (unsigned text)) ≡ Ok value = sym (coordinate-parts greatest text) ∙ e in
     elim (cut_cases 46 (unsigned text)) [
       | inl none ↦ (
           let whole : parts_read greatest text (unsigned text, None) ≡ Ok value = ap (parts_read greatest text) (sym none) ∙ read in
-          let found = taken (are_digits 20 (unsigned text)) causes.Number (cond (leb (units (unsigned text) []) greatest) (Ok (cond (is_negative text) (neg_ℤ (pos (units (unsigned text) []))) (pos (units (unsigned text) [])))) (Err causes.Range)) value whole in
+          let found = taken (are_digits 20 (unsigned text)) causes.Number
+          (cond (leb (units (unsigned text) []) greatest)
+          (Ok (cond (is_negative text) (neg_ℤ (pos (units (unsigned text) []))) (pos (units (unsigned text) []))))
+          (Err causes.Range)) value whole in
           let d = digits_are 20 (unsigned text) found.0 in
           let few : length (unsigned text) + 0 ≤ 20 = omega (arith, d.few) in
-          coordinate_made greatest text (unsigned text) [] value (sign_parts text ∙ ap (λ t. sign_text (is_negative text) ++ t) (sym (append-nil (unsigned text)))) d.some few d.digits refl found.1)
+          coordinate_made greatest text (unsigned text) [] value
+          (sign_parts text ∙ ap (λ t. sign_text (is_negative text) ++ t) (sym (append-nil (unsigned text)))) d.some few d.digits refl
+          found.1)
       | inr cut ↦ (
           let whole = cut.0 in
           let decimals = cut.1 in
           let both_read : parts_read greatest text (cut.0, Some cut.1) ≡ Ok value = ap (parts_read greatest text) (sym cut.2.is) ∙ read in
-          let found = taken ((are_digits 20 cut.0 && are_digits 20 cut.1) && leb (length cut.0 + length cut.1) 20) causes.Number (cond (leb (units cut.0 cut.1) greatest) (Ok (cond (is_negative text) (neg_ℤ (pos (units cut.0 cut.1))) (pos (units cut.0 cut.1)))) (Err causes.Range)) value both_read in
+          let found = taken ((are_digits 20 cut.0 && are_digits 20 cut.1) && leb (length cut.0 + length cut.1) 20) causes.Number
+          (cond (leb (units cut.0 cut.1) greatest)
+          (Ok (cond (is_negative text) (neg_ℤ (pos (units cut.0 cut.1))) (pos (units cut.0 cut.1)))) (Err causes.Range)) value
+          both_read in
           let parts = both _ _ found.0 in
           let digits = both _ _ parts.0 in
           let w = digits_are 20 cut.0 digits.0 in
           let d = digits_are 20 cut.1 digits.1 in
           let form : text ≡ sign_text (is_negative text) ++ (cut.0 ++ decimals_text cut.1)
-          = sign_parts text ∙ ap (λ t. sign_text (is_negative text) ++ t) (cut.2.form ∙ ap (λ t. cut.0 ++ t) (sym (decimals_some cut.1 d.some))) in
+          = sign_parts text ∙ ap (λ t. sign_text (is_negative text) ++ t)
+          (cut.2.form ∙ ap (λ t. cut.0 ++ t) (sym (decimals_some cut.1 d.some))) in
           coordinate_made greatest text cut.0 cut.1 value form w.some (leb-true _ _ parts.1) w.digits d.digits found.1)
     ]
 
@@ -218,8 +240,10 @@ pub sign_again : (minus : Bool) (whole rest : List ℕ) → 1 ≤ length whole �
 sign_again true whole rest some all = (refl, refl)
 sign_again false whole rest some all = let e = digit_front whole rest some all in (e, rw e refl)
 
-decimal_parts : (whole decimals : List ℕ) → 1 ≤ length whole → length whole + length decimals ≤ 20 → list_all is_ascii_digit whole ≡ true → list_all is_ascii_digit decimals ≡ true
-    → (rest : Option (List ℕ)) × (cut_at (is 46) (whole ++ decimals_text decimals) ≡ (whole, rest)) × (is_decimal (whole, rest) ≡ true) × (decimals_of rest ≡ decimals)
+decimal_parts : (whole decimals : List ℕ) → 1 ≤ length whole → length whole + length decimals ≤ 20 → list_all is_ascii_digit whole ≡ true
+    → list_all is_ascii_digit decimals ≡ true
+    → (rest : Option (List ℕ)) × (cut_at (is 46) (whole ++ decimals_text decimals) ≡ (whole, rest)) × (is_decimal (whole, rest) ≡ true)
+    × (decimals_of rest ≡ decimals)
 decimal_parts whole [] some few all none =
     let free = free_digits is_ascii_digit 46 whole refl all in
     let digits = are_digits_again 20 whole (record { some = some; few = omega arith; digits = all }) in
@@ -230,24 +254,30 @@ decimal_parts whole (digit ∷ decimals) some few all rest =
     let d = are_digits_again 20 (digit ∷ decimals) (record { some = omega arith; few = omega arith; digits = rest }) in
     let sum : leb (length whole + length (digit ∷ decimals)) 20 ≡ true = le-leb _ _ few in
     (Some (digit ∷ decimals), cut_some 46 whole (digit ∷ decimals) free, decimal_is w d sum, refl) where
-      decimal_is : are_digits 20 whole ≡ true → are_digits 20 (digit ∷ decimals) ≡ true → leb (length whole + length (digit ∷ decimals)) 20 ≡ true → is_decimal (whole, Some (digit ∷ decimals)) ≡ true
-      decimal_is w d sum = ap (λ b. (b && are_digits 20 (digit ∷ decimals)) && leb (length whole + length (digit ∷ decimals)) 20) w ∙ ap (λ b. b && leb (length whole + length (digit ∷ decimals)) 20) d ∙ sum
+      decimal_is : are_digits 20 whole ≡ true → are_digits 20 (digit ∷ decimals) ≡ true
+          → leb (length whole + length (digit ∷ decimals)) 20 ≡ true → is_decimal (whole, Some (digit ∷ decimals)) ≡ true
+      decimal_is w d sum = ap (λ b. (b && are_digits 20 (digit ∷ decimals)) && leb (length whole + length (digit ∷ decimals)) 20) w
+          ∙ ap (λ b. b && leb (length whole + length (digit ∷ decimals)) 20) d ∙ sum
 
-pub coordinate_again : (greatest : ℕ) (text : List ℕ) (value : ℤ) → SpellsCoordinate greatest text value → coordinate greatest text ≡ Ok value
+pub coordinate_again : (greatest : ℕ) (text : List ℕ) (value : ℤ) → SpellsCoordinate greatest text value
+    → coordinate greatest text ≡ Ok value
 coordinate_again greatest text value s =
     let body = s.whole ++ decimals_text s.decimals in
     let sign = sign_again s.minus s.whole (decimals_text s.decimals) s.some s.whole_digits in
     let parts = decimal_parts s.whole s.decimals s.some s.few s.whole_digits s.decimal_digits in
-    let cut : (s.whole, parts.0) ≡ cut_at (is 46) (unsigned text) = sym (ap (λ t. cut_at (is 46) (unsigned t)) s.form ∙ ap (cut_at (is 46)) sign.1 ∙ parts.1) in
+    let cut : (s.whole, parts.0) ≡ cut_at (is 46) (unsigned text) =
+    sym (ap (λ t. cut_at (is 46) (unsigned t)) s.form ∙ ap (cut_at (is 46)) sign.1 ∙ parts.1) in
     let read = coordinate_some greatest text s.whole parts.0 (units s.whole s.decimals) cut parts.2 (ap (units s.whole) parts.3) s.near in
     let minus : is_negative text ≡ s.minus = ap is_negative s.form ∙ sign.0 in
     read ∙ ap (λ b. Ok (cond b (neg_ℤ (pos (units s.whole s.decimals))) (pos (units s.whole s.decimals)))) minus ∙ ap (λ v. Ok v) s.is
 
 -- a coordinate is free of a byte that is no digit, no minus and no point
-pub coordinate_free : (end greatest : ℕ) (text : List ℕ) (value : ℤ) → is_ascii_digit end ≡ false → eqb 45 end ≡ false → eqb 46 end ≡ false → SpellsCoordinate greatest text value → IsFree (is end) text
+pub coordinate_free : (end greatest : ℕ) (text : List ℕ) (value : ℤ) → is_ascii_digit end ≡ false → eqb 45 end ≡ false → eqb 46 end ≡ false
+    → SpellsCoordinate greatest text value → IsFree (is end) text
 coordinate_free end greatest text value none no_minus no_point s =
     subst (IsFree (is end)) (sym s.form) (free_append (is end) (sign_text s.minus) (s.whole ++ decimals_text s.decimals) (sign_free s.minus)
-    (free_append (is end) s.whole (decimals_text s.decimals) (free_digits is_ascii_digit end s.whole none s.whole_digits) (decimals_free s.decimals s.decimal_digits))) where
+    (free_append (is end) s.whole (decimals_text s.decimals) (free_digits is_ascii_digit end s.whole none s.whole_digits)
+    (decimals_free s.decimals s.decimal_digits))) where
       sign_free : (minus : Bool) → IsFree (is end) (sign_text minus)
       sign_free true = (no_minus, tt)
       sign_free false = tt
@@ -259,4 +289,9 @@ coordinate_free end greatest text value none no_minus no_point s =
 -- and not empty
 pub coordinate_nonempty : (greatest : ℕ) (text : List ℕ) (value : ℤ) → SpellsCoordinate greatest text value → 0 < length text
 coordinate_nonempty greatest text value s =
-    rw s.form (omega (arith, length-append (sign_text s.minus) (s.whole ++ decimals_text s.decimals), length-append s.whole (decimals_text s.decimals), s.some))
+    rw s.form (omega (
+      arith,
+      length-append (sign_text s.minus) (s.whole ++ decimals_text s.decimals),
+      length-append s.whole (decimals_text s.decimals),
+      s.some,
+    ))

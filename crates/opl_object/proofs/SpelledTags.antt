@@ -1,5 +1,6 @@
 -- Tags: what is read is spelled so, and what is spelled so is read.
-use Rattle.std.proofs.Common.{◌≡◌, ◌≢◌, ℕ, ◌<◌, true, false, cond, inl, inr, List, [], ◌∷◌, ◌++◌, length, Option, None, Some, Result, Ok, Err, refl, sym, ◌∙◌, ap, subst, arith, append_assoc, map}
+use Rattle.std.proofs.Common.{◌≡◌, ◌≢◌, ℕ, ◌<◌, true, false, cond, inl, inr, List, [], ◌∷◌, ◌++◌, length, Option, None, Some, Result, Ok}
+use Rattle.std.proofs.Common.{Err, refl, sym, ◌∙◌, ap, subst, arith, append_assoc, map}
 use Rattle.std.specs.List.{slice_split, join_with_byte, AllByRecursion}
 use Rattle.std.specs.Option.{is_some}
 use Rattle.std.specs.Str.{IsUtf8}
@@ -46,9 +47,12 @@ new_again tags key value other apart new =
 
 new_before : (tags : TagMap) (key value other : List ℕ) → IsNew (finite.insert tags key value) other → (key ≢ other) × IsNew tags other
 new_before tags key value other new =
-    let read : cond (eq_by_cmp (slice_cmp nat_cmp) other key) (Some value) (finite.get tags other) ≡ None = sym (finite.get-insert nat_list_cmp_total tags key value other) ∙ new in
-    let differs : eq_by_cmp (slice_cmp nat_cmp) other key ≡ false = false_from_ne_true _ (λ e. let wrong : Some value ≡ None = rw e at read in cc) in (
-      λ same. let again : eq_by_cmp (slice_cmp nat_cmp) other key ≡ true = ap (λ k. eq_by_cmp (slice_cmp nat_cmp) other k) same ∙ key_itself other in let wrong : true ≡ false = sym again ∙ differs in cc,
+    let read : cond (eq_by_cmp (slice_cmp nat_cmp) other key) (Some value) (finite.get tags other) ≡ None =
+    sym (finite.get-insert nat_list_cmp_total tags key value other) ∙ new in
+    let differs : eq_by_cmp (slice_cmp nat_cmp) other key ≡ false =
+    false_from_ne_true _ (λ e. let wrong : Some value ≡ None = rw e at read in cc) in (
+      λ same. let again : eq_by_cmp (slice_cmp nat_cmp) other key ≡ true =
+          ap (λ k. eq_by_cmp (slice_cmp nat_cmp) other k) same ∙ key_itself other in let wrong : true ≡ false = sym again ∙ differs in cc,
       rw differs at read,
     )
 
@@ -64,7 +68,8 @@ not_some : {A : Type 0} (o : Option A) → is_some o ≡ false → o ≡ None
 not_some None e = refl
 not_some (Some x) e = absurd cc
 
-tag_added : (tags : TagMap) (key value : List ℕ) (next : TagMap) → with_tag tags key value ≡ Ok next → (finite.get tags key ≡ None) × (next ≡ finite.insert tags key value)
+tag_added : (tags : TagMap) (key value : List ℕ) (next : TagMap) → with_tag tags key value ≡ Ok next
+    → (finite.get tags key ≡ None) × (next ≡ finite.insert tags key value)
 tag_added tags key value next e = elim (cases_Bool (is_some (finite.get tags key))) [
   | inl there ↦ absurd (let wrong : refused ≡ Ok next = rw there at e in cc)
   | inr absent ↦ (not_some _ absent, sym (ok_is (finite.insert tags key value) next (rw absent at e)))
@@ -77,20 +82,29 @@ unfolding with_piece
 piece_adds tags piece next utf8 e = elim (cut_cases 61 piece) [
   | inl whole ↦ absurd (let wrong : with_pair tags (piece, None) ≡ Ok next = ap (with_pair tags) (sym whole) ∙ e in cc)
   | inr cut ↦ (
-      let read : (text_of cut.0 >>= λ key. text_of cut.1 >>= λ value. with_tag tags key value) ≡ Ok next = ap (with_pair tags) (sym cut.2.is) ∙ e in
+      let read : (text_of cut.0 >>= λ key. text_of cut.1 >>= λ value. with_tag tags key value) ≡ Ok next =
+      ap (with_pair tags) (sym cut.2.is) ∙ e in
       let key = bind_ok (text_of cut.0) (λ key. text_of cut.1 >>= λ value. with_tag tags key value) next read in
       let value = bind_ok (text_of cut.1) (λ value. with_tag tags key.0 value) next key.2 in
       let sides = utf8_sides cut.0 cut.1 61 (omega arith) (subst IsUtf8 cut.2.form utf8) in
       let added = tag_added tags key.0 value.0 next value.2 in
       record {
         tag = (key.0, value.0);
-        spelled = record { key = cut.0; value = cut.1; form = cut.2.form; key_text = text_spells cut.0 key.0 sides.0 key.1; value_text = text_spells cut.1 value.0 sides.1 value.1 };
+        spelled = record {
+          key = cut.0;
+          value = cut.1;
+          form = cut.2.form;
+          key_text = text_spells cut.0 key.0 sides.0 key.1;
+          value_text =
+              text_spells cut.1 value.0 sides.1 value.1;
+        };
         new = added.0;
         is = added.1;
       })
 ]
 
-piece_again : (tags : TagMap) (piece : List ℕ) (tag : Tag) → SpellsTag piece tag → IsNew tags tag.0 → with_piece tags piece ≡ Ok (finite.insert tags tag.0 tag.1)
+piece_again : (tags : TagMap) (piece : List ℕ) (tag : Tag) → SpellsTag piece tag → IsNew tags tag.0
+    → with_piece tags piece ≡ Ok (finite.insert tags tag.0 tag.1)
 unfolding with_piece
 piece_again tags piece tag s new =
     let absent : is_some (finite.get tags tag.0) ≡ false = ap is_some new in
@@ -116,7 +130,8 @@ pub record Added (tags : TagMap) (pieces : List (List ℕ)) (last : TagMap) : Ty
   pub distinct : AreDistinct (map (λ pair. pair.0) pairs)
   pub is : last ≡ inserted tags pairs
 
-all_before : (tags : TagMap) (key value : List ℕ) (keys : List (List ℕ)) → AllByRecursion (λ other. finite.get (finite.insert tags key value) other ≡ None) keys
+all_before : (tags : TagMap) (key value : List ℕ) (keys : List (List ℕ))
+    → AllByRecursion (λ other. finite.get (finite.insert tags key value) other ≡ None) keys
     → AllByRecursion (λ other. key ≢ other) keys × AllByRecursion (λ other. finite.get tags other ≡ None) keys
 all_before tags key value [] h = (tt, tt)
 all_before tags key value (other ∷ keys) h =
@@ -124,18 +139,22 @@ all_before tags key value (other ∷ keys) h =
     let rest = all_before tags key value keys h.1 in
     ((here.0, rest.0), (here.1, rest.1))
 
-all_again : (tags : TagMap) (key value : List ℕ) (keys : List (List ℕ)) → AllByRecursion (λ other. key ≢ other) keys → AllByRecursion (λ other. finite.get tags other ≡ None) keys
+all_again : (tags : TagMap) (key value : List ℕ) (keys : List (List ℕ)) → AllByRecursion (λ other. key ≢ other) keys
+    → AllByRecursion (λ other. finite.get tags other ≡ None) keys
     → AllByRecursion (λ other. finite.get (finite.insert tags key value) other ≡ None) keys
 all_again tags key value [] apart new = tt
-all_again tags key value (other ∷ keys) apart new = (new_again tags key value other apart.0 new.0, all_again tags key value keys apart.1 new.1)
+all_again tags key value (other ∷ keys) apart new =
+    (new_again tags key value other apart.0 new.0, all_again tags key value keys apart.1 new.1)
 
-pub pieces_add : (tags : TagMap) (pieces : List (List ℕ)) (last : TagMap) → AllByRecursion IsUtf8 pieces → each_piece with_piece tags pieces ≡ Ok last → Added tags pieces last
+pub pieces_add : (tags : TagMap) (pieces : List (List ℕ)) (last : TagMap) → AllByRecursion IsUtf8 pieces
+    → each_piece with_piece tags pieces ≡ Ok last → Added tags pieces last
 unfolding each_piece
 pieces_add tags [] last utf8 e = record { pairs = []; spelled = tt; new = tt; distinct = tt; is = sym (ok_is tags last e) }
 pieces_add tags (piece ∷ pieces) last utf8 e =
     let next = bind_ok (with_piece tags piece) (λ tags. each_piece with_piece tags pieces) last e in
     let one = piece_adds tags piece next.0 utf8.0 next.1 in
-    let rest = pieces_add (finite.insert tags one.tag.0 one.tag.1) pieces last utf8.1 (ap (λ t. each_piece with_piece t pieces) (sym one.is) ∙ next.2) in
+    let rest = pieces_add (finite.insert tags one.tag.0 one.tag.1) pieces last utf8.1
+    (ap (λ t. each_piece with_piece t pieces) (sym one.is) ∙ next.2) in
     let before = all_before tags one.tag.0 one.tag.1 (map (λ pair. pair.0) rest.pairs) rest.new in
     record {
       pairs = one.tag ∷ rest.pairs;
@@ -145,7 +164,8 @@ pieces_add tags (piece ∷ pieces) last utf8 e =
       is = rest.is;
     }
 
-pub pieces_again : (tags : TagMap) (pieces : List (List ℕ)) (pairs : List Tag) → SpellEach SpellsTag pieces pairs → AllNew tags pairs → AreDistinct (map (λ pair. pair.0) pairs)
+pub pieces_again : (tags : TagMap) (pieces : List (List ℕ)) (pairs : List Tag) → SpellEach SpellsTag pieces pairs → AllNew tags pairs
+    → AreDistinct (map (λ pair. pair.0) pairs)
     → each_piece with_piece tags pieces ≡ Ok (inserted tags pairs)
 unfolding each_piece
 pieces_again tags [] [] s new distinct = refl
@@ -153,10 +173,12 @@ pieces_again tags [] (pair ∷ pairs) s new distinct = absurd s
 pieces_again tags (piece ∷ pieces) [] s new distinct = absurd s
 pieces_again tags (piece ∷ pieces) (pair ∷ pairs) s new distinct =
     ap (λ r. r >>= λ tags. each_piece with_piece tags pieces) (piece_again tags piece pair s.0 new.0)
-    ∙ pieces_again (finite.insert tags pair.0 pair.1) pieces pairs s.1 (all_again tags pair.0 pair.1 (map (λ pair. pair.0) pairs) distinct.0 new.1) distinct.1
+    ∙ pieces_again (finite.insert tags pair.0 pair.1) pieces pairs s.1
+    (all_again tags pair.0 pair.1 (map (λ pair. pair.0) pairs) distinct.0 new.1) distinct.1
 
 -- adding tags one by one makes the map of them all
-inserted-entries : (front pairs : List Tag) → AllNew (finite.from_entries front) pairs → AreDistinct (map (λ pair. pair.0) pairs) → inserted (finite.from_entries front) pairs ≡ finite.from_entries (front ++ pairs)
+inserted-entries : (front pairs : List Tag) → AllNew (finite.from_entries front) pairs → AreDistinct (map (λ pair. pair.0) pairs)
+    → inserted (finite.from_entries front) pairs ≡ finite.from_entries (front ++ pairs)
 inserted-entries front [] new distinct = ap finite.from_entries (sym (append-nil front))
 inserted-entries front (pair ∷ pairs) new distinct =
     let absent = sym (finite.get-from_entries nat_list_cmp_total front pair.0) ∙ new.0 in
@@ -167,7 +189,8 @@ inserted-entries front (pair ∷ pairs) new distinct =
     ∙ inserted-entries (front ++ pair ∷ []) pairs (subst (λ t. AllNew t pairs) (sym push) later) distinct.1
     ∙ ap finite.from_entries (append_assoc front (pair ∷ []) pairs)
 
-pub empty_new : (keys : List (List ℕ)) → AllByRecursion (λ other. finite.get {X = List ℕ} {R = slice_cmp nat_cmp} finite.empty other ≡ None) keys
+pub empty_new : (keys : List (List ℕ)) → AllByRecursion
+    (λ other. finite.get {X = List ℕ} {R = slice_cmp nat_cmp} finite.empty other ≡ None) keys
 empty_new [] = tt
 empty_new (key ∷ keys) = (finite.get-empty (slice_cmp nat_cmp) key, empty_new keys)
 
@@ -181,7 +204,13 @@ tags_spell text tags utf8 e = elim (cases_Bool (is_empty text)) [
       let p = split_pieces (is 44) text in
       record {
         pairs = found.pairs;
-        list = inr (p.0, p.1, sym (join_with_byte-slice_split 44 text) ∙ ap (join_with_byte 44) p.2, subst (λ pieces. SpellEach SpellsTag pieces found.pairs) p.2 found.spelled);
+        list = inr (
+          p.0,
+          p.1,
+          sym (join_with_byte-slice_split 44 text)
+              ∙ ap (join_with_byte 44) p.2,
+          subst (λ pieces. SpellEach SpellsTag pieces found.pairs) p.2 found.spelled,
+        );
         distinct = found.distinct;
         is = found.is ∙ inserted-entries [] found.pairs found.new found.distinct;
       })
@@ -189,18 +218,22 @@ tags_spell text tags utf8 e = elim (cases_Bool (is_empty text)) [
 
 tag_stands : (piece : List ℕ) (tag : Tag) → SpellsTag piece tag → IsFree (is 44) piece × (0 < length piece)
 tag_stands piece tag s = (
-  subst (IsFree (is 44)) (sym s.form) (free_append (is 44) s.key (61 ∷ s.value) (text_free 44 s.key tag.0 refl refl refl s.key_text) (refl, text_free 44 s.value tag.1 refl refl refl s.value_text)),
+  subst (IsFree (is 44)) (sym s.form) (free_append (is 44) s.key (61 ∷ s.value) (text_free 44 s.key tag.0 refl refl refl s.key_text)
+      (refl, text_free 44 s.value tag.1 refl refl refl s.value_text)),
   subst (λ t. 0 < length t) (sym s.form) (omega (arith, length-append s.key (61 ∷ s.value))),
 )
 
-listed : (text : List ℕ) (pairs : List Tag) → SpellsList SpellsTag text pairs → AreDistinct (map (λ pair. pair.0) pairs) → tags_of text ≡ Ok (finite.from_entries pairs)
+listed : (text : List ℕ) (pairs : List Tag) → SpellsList SpellsTag text pairs → AreDistinct (map (λ pair. pair.0) pairs)
+    → tags_of text ≡ Ok (finite.from_entries pairs)
 unfolding tags_of
 listed text pairs (inl none) distinct =
-    ap (λ t. cond (is_empty t) (Ok finite.empty) (each_piece with_piece finite.empty (slice_split (is 44) t))) none.0 ∙ ap (λ p. Ok (finite.from_entries p)) (sym none.1)
+    ap (λ t. cond (is_empty t) (Ok finite.empty) (each_piece with_piece finite.empty (slice_split (is 44) t))) none.0
+    ∙ ap (λ p. Ok (finite.from_entries p)) (sym none.1)
 listed text pairs (inr some) distinct =
     let parts = list_pieces SpellsTag reads tag_stands some.0 some.1 pairs text some.2 some.3 in
     let new = empty_new (map (λ pair. pair.0) pairs) in
-    rw (parts.0, parts.1) (pieces_again finite.empty (some.0 ∷ some.1) pairs some.3 new distinct ∙ ap (λ t. Ok t) (inserted-entries [] pairs new distinct)) where
+    rw (parts.0, parts.1) (pieces_again finite.empty (some.0 ∷ some.1) pairs some.3 new distinct
+    ∙ ap (λ t. Ok t) (inserted-entries [] pairs new distinct)) where
       reads : List ℕ → Result Tag Why
       reads piece = Err causes.Tag
 

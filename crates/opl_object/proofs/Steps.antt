@@ -3,7 +3,8 @@ use Rattle.std.proofs.Common.{◌≡◌, Bool, true, false, cond, Option, None, 
 use Rattle.opl_object.specs.declared.why.Why.{Why}
 use Rattle.opl_object.specs.Why.{◌>>=◌, given}
 
-pub bind_ok : {A B : Type 0} (read : Result A Why) (next : A → Result B Why) (y : B) → (read >>= next) ≡ Ok y → (x : A) × (read ≡ Ok x) × (next x ≡ Ok y)
+pub bind_ok : {A B : Type 0} (read : Result A Why) (next : A → Result B Why) (y : B) → (read >>= next) ≡ Ok y
+    → (x : A) × (read ≡ Ok x) × (next x ≡ Ok y)
 bind_ok (Ok x) next y e = (x, refl, e)
 bind_ok (Err why) next y e = absurd cc
 
@@ -27,6 +28,7 @@ there x = Some x
 pub some_is : {A : Type 0} (x y : A) → there x ≡ there y → x ≡ y
 some_is x y e = cc
 
-pub taken : {A : Type 0} (test : Bool) (why : Why) (read : Result A Why) (y : A) → cond test read (Err why) ≡ Ok y → (test ≡ true) × (read ≡ Ok y)
+pub taken : {A : Type 0} (test : Bool) (why : Why) (read : Result A Why) (y : A) → cond test read (Err why) ≡ Ok y
+    → (test ≡ true) × (read ≡ Ok y)
 taken true why read y e = (refl, e)
 taken false why read y e = absurd cc

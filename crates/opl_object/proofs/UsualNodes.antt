@@ -44,12 +44,15 @@ module _ (text rest digits behind_digits : List ℕ) (len id : ℕ) (first : tex
   no_comma = (refl, free_digits is_ascii_digit COMMA digits refl are_digits)
 
   form : text ≡ (SMALL_N ∷ digits) ++ behind_digits
-  form = first ∙ ap (λ own. SMALL_N ∷ own) (sym (take-append-drop len rest) ∙ ap (λ own. own ++ drop len rest) (sym front) ∙ ap (λ own. digits ++ own) (sym back))
+  form = first ∙ ap (λ own. SMALL_N ∷ own)
+      (sym (take-append-drop len rest) ∙ ap (λ own. own ++ drop len rest) (sym front) ∙ ap (λ own. digits ++ own) (sym back))
 
   pub usual_node-last : behind_digits ≡ [] → slice_split (is COMMA) text ≡ (SMALL_N ∷ digits) ∷ []
   usual_node-last none =
-      ap (slice_split (is COMMA)) (form ∙ ap (λ own. (SMALL_N ∷ digits) ++ own) none ∙ append-nil (SMALL_N ∷ digits)) ∙ split_free (is COMMA) (SMALL_N ∷ digits) no_comma
+      ap (slice_split (is COMMA)) (form ∙ ap (λ own. (SMALL_N ∷ digits) ++ own) none ∙ append-nil (SMALL_N ∷ digits))
+      ∙ split_free (is COMMA) (SMALL_N ∷ digits) no_comma
 
-  pub usual_node-more : (later : List ℕ) → behind_digits ≡ COMMA ∷ later → slice_split (is COMMA) text ≡ (SMALL_N ∷ digits) ∷ slice_split (is COMMA) later
+  pub usual_node-more : (later : List ℕ) → behind_digits ≡ COMMA ∷ later
+      → slice_split (is COMMA) text ≡ (SMALL_N ∷ digits) ∷ slice_split (is COMMA) later
   usual_node-more later comma =
       ap (slice_split (is COMMA)) (form ∙ ap (λ own. (SMALL_N ∷ digits) ++ own) comma) ∙ split_at COMMA (SMALL_N ∷ digits) later no_comma

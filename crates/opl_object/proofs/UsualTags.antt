@@ -1,5 +1,6 @@
 -- A tag without escapes in front of a text.
-use Rattle.std.proofs.Common.{◌≡◌, ℕ, ◌<◌, not, true, false, inl, inr, eqb, List, [], ◌∷◌, ◌++◌, Option, None, Some, Result, Ok, refl, sym, ◌∙◌, ap, arith, append_assoc}
+use Rattle.std.proofs.Common.{◌≡◌, ℕ, ◌<◌, not, true, false, inl, inr, eqb, List, [], ◌∷◌, ◌++◌, Option, None, Some, Result, Ok, refl, sym}
+use Rattle.std.proofs.Common.{◌∙◌, ap, arith, append_assoc}
 use Rattle.std.specs.List.{slice_split}
 use Rattle.std.proofs.lemmas.List.{append-nil}
 use Rattle.std.specs.Str.{chars}
@@ -51,7 +52,8 @@ module _ (key value : List ℕ) (key_plain : is_plain key ≡ true) (value_plain
       free_append (is COMMA) key (EQUALS ∷ value) (free_digits (λ byte. not (is_reserved byte)) COMMA key refl key_plain)
       (refl, free_digits (λ byte. not (is_reserved byte)) COMMA value refl value_plain)
 
-  module _ (text rest behind_key behind_value : List ℕ) (front : text ≡ key ++ rest) (equals : rest ≡ EQUALS ∷ behind_key) (back : behind_key ≡ value ++ behind_value) where
+  module _ (text rest behind_key behind_value : List ℕ) (front : text ≡ key ++ rest) (equals : rest ≡ EQUALS ∷ behind_key)
+      (back : behind_key ≡ value ++ behind_value) where
     form : text ≡ (key ++ EQUALS ∷ value) ++ behind_value
     form =
         front ∙ ap (λ own. key ++ own) (equals ∙ ap (λ own. EQUALS ∷ own) back)
@@ -62,7 +64,8 @@ module _ (key value : List ℕ) (key_plain : is_plain key ≡ true) (value_plain
         ap (slice_split (is COMMA)) (form ∙ ap (λ own. (key ++ EQUALS ∷ value) ++ own) none ∙ append-nil (key ++ EQUALS ∷ value))
         ∙ split_free (is COMMA) (key ++ EQUALS ∷ value) no_comma
 
-    pub usual-more : (later : List ℕ) → behind_value ≡ COMMA ∷ later → slice_split (is COMMA) text ≡ (key ++ EQUALS ∷ value) ∷ slice_split (is COMMA) later
+    pub usual-more : (later : List ℕ) → behind_value ≡ COMMA ∷ later
+        → slice_split (is COMMA) text ≡ (key ++ EQUALS ∷ value) ∷ slice_split (is COMMA) later
     usual-more later comma =
         ap (slice_split (is COMMA)) (form ∙ ap (λ own. (key ++ EQUALS ∷ value) ++ own) comma)
         ∙ split_at COMMA (key ++ EQUALS ∷ value) later no_comma

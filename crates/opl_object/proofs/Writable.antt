@@ -1,5 +1,6 @@
 -- What a line spells can be written.
-use Rattle.std.proofs.Common.{◌≡◌, ◌≢◌, ℕ, ◌<◌, Bool, true, false, eqb, eq-eqb, List, [], ◌∷◌, ◌⊎◌, inl, inr, Option, Some, None, Result, Ok, Err, refl, sym, ◌∙◌, ap, subst, arith}
+use Rattle.std.proofs.Common.{◌≡◌, ◌≢◌, ℕ, ◌<◌, Bool, true, false, eqb, eq-eqb, List, [], ◌∷◌, ◌⊎◌, inl, inr, Option, Some, None, Result}
+use Rattle.std.proofs.Common.{Ok, Err, refl, sym, ◌∙◌, ap, subst, arith}
 use Rattle.std.specs.Prelude.{IfOk, IfSome}
 use Rattle.std.specs.FinMap as map
 use Rattle.std.specs.FinMap.{put}
@@ -57,10 +58,13 @@ module _ {A : Type 0} (Spell : List ℕ → A → Type 0) (P : A → Type 0) (ho
 -- ---- what holds of each tag that was added holds of each tag
 
 module _ (P : List ℕ → Type 0) where
-  put_holds : (key value : List ℕ) (pairs : List (List ℕ × List ℕ)) → P key → P value → AllByRecursion (OfTag P) pairs → AllByRecursion (OfTag P) (put (slice_cmp nat_cmp) key value pairs)
+  put_holds : (key value : List ℕ) (pairs : List (List ℕ × List ℕ)) → P key → P value → AllByRecursion (OfTag P) pairs
+      → AllByRecursion (OfTag P) (put (slice_cmp nat_cmp) key value pairs)
   put_holds key value [] k v all = ((k, v), tt)
   put_holds key value (pair ∷ pairs) k v all =
-      elim (slice_cmp nat_cmp key pair.0) as (λ order. AllByRecursion (OfTag P) (by_order order ((key, value) ∷ pair ∷ pairs) ((pair.0, value) ∷ pairs) (pair ∷ put (slice_cmp nat_cmp) key value pairs))) [
+      elim (slice_cmp nat_cmp key pair.0) as (λ order.
+      AllByRecursion (OfTag P) (by_order order ((key, value) ∷ pair ∷ pairs) ((pair.0, value) ∷ pairs)
+      (pair ∷ put (slice_cmp nat_cmp) key value pairs))) [
         | Less ↦ ((k, v), all)
         | Equal ↦ ((all.0.0, v), all.1)
         | Greater ↦ (all.0, put_holds key value pairs k v all.1)
@@ -92,7 +96,9 @@ module _ (kind : Kind) (fields : List (Letter × List ℕ)) (parts : Parts) (say
   tags_no_zero : OfTags IsWithoutZero parts.tags
   tags_no_zero = elim (found Tags fields say.says) [
     | inl here ↦ subst (OfTags IsWithoutZero) (sym here.1.is) (entries_hold IsWithoutZero here.1.pairs
-        (list_holds SpellsTag (OfTag IsWithoutZero) (λ piece tag s. (text_no_zero s.key tag.0 s.key_text, text_no_zero s.value tag.1 s.value_text)) here.0 here.1.pairs here.1.list))
+        (list_holds SpellsTag (OfTag IsWithoutZero)
+        (λ piece tag s. (text_no_zero s.key tag.0 s.key_text, text_no_zero s.value tag.1 s.value_text)) here.0 here.1.pairs
+        here.1.list))
     | inr none ↦ subst (OfTags IsWithoutZero) (sym (say.lacks Tags none)) (entries_hold IsWithoutZero [] tt)
   ]
 
@@ -104,7 +110,8 @@ module _ (kind : Kind) (fields : List (Letter × List ℕ)) (parts : Parts) (say
 
   roles_no_zero : AllByRecursion (λ member. IsWithoutZero member.role) parts.members
   roles_no_zero = elim (found Members fields say.says) [
-    | inl here ↦ list_holds SpellsMember (λ member. IsWithoutZero member.role) (λ piece member s. text_no_zero s.role member.role s.role_text) here.0 parts.members here.1
+    | inl here ↦ list_holds SpellsMember (λ member. IsWithoutZero member.role)
+        (λ piece member s. text_no_zero s.role member.role s.role_text) here.0 parts.members here.1
     | inr none ↦ subst (AllByRecursion (λ member. IsWithoutZero member.role)) (sym (say.lacks Members none)) tt
   ]
 
@@ -124,19 +131,24 @@ module _ (kind : Kind) (fields : List (Letter × List ℕ)) (parts : Parts) (say
   object_no_zero kinds.Relation object made = subst HasNoZero (sym made) (tags_no_zero, roles_no_zero)
 
 -- what holds of an object holds of that of the entry, where it has one
-kept : (P : Object → Type 0) (deleted : Bool) (object : Object) (own : Option Object) → IsObjectOf deleted object own → P object → IfSome own P
+kept : (P : Object → Type 0) (deleted : Bool) (object : Object) (own : Option Object) → IsObjectOf deleted object own → P object
+    → IfSome own P
 kept P true object own e p = subst (λ o. IfSome o P) (sym e) tt
 kept P false object own e p = subst (λ o. IfSome o P) (sym e) p
 
 pub spelled_writable : (line : List ℕ) (entry : Entry) → Spells line entry → IsWritable entry
 spelled_writable line entry s = record {
-  kind = kept (IsOfKind entry.key.kind) s.parts.deleted s.object entry.object s.is (object_of_kind entry.key.kind s.fields s.parts s.say entry.key.kind s.object s.made);
-  ids = kept HasIds s.parts.deleted s.object entry.object s.is (object_ids entry.key.kind s.fields s.parts s.say entry.key.kind s.object s.made);
-  no_zero = kept HasNoZero s.parts.deleted s.object entry.object s.is (object_no_zero entry.key.kind s.fields s.parts s.say entry.key.kind s.object s.made);
+  kind = kept (IsOfKind entry.key.kind) s.parts.deleted s.object entry.object s.is
+      (object_of_kind entry.key.kind s.fields s.parts s.say entry.key.kind s.object s.made);
+  ids = kept HasIds s.parts.deleted s.object entry.object s.is
+      (object_ids entry.key.kind s.fields s.parts s.say entry.key.kind s.object s.made);
+  no_zero = kept HasNoZero s.parts.deleted s.object entry.object s.is
+      (object_no_zero entry.key.kind s.fields s.parts s.say entry.key.kind s.object s.made);
 }
 
 -- so what was read can be
-pub found_writable : (line : List ℕ) (result : Result (Option Entry) LineRefused) → IfOk result (λ found. IfSome found (λ entry. Spells line entry)) → IfOk result (λ found. IfSome found IsWritable)
+pub found_writable : (line : List ℕ) (result : Result (Option Entry) LineRefused)
+    → IfOk result (λ found. IfSome found (λ entry. Spells line entry)) → IfOk result (λ found. IfSome found IsWritable)
 found_writable line (Ok None) spelled = tt
 found_writable line (Ok (Some entry)) spelled = spelled_writable line entry spelled
 found_writable line (Err refused) spelled = tt

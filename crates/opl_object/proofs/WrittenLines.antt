@@ -1,5 +1,6 @@
 -- The line that is written spells its entry.
-use Rattle.std.proofs.Common.{◌≡◌, ◌≢◌, ℕ, zero, suc, ◌^◌, ◌<◌, ◌≤◌, Bool, true, false, not, ◌&&◌, T, List, [], ◌∷◌, ◌++◌, Option, Some, None, refl, sym, ◌∙◌, ap, subst, arith, inl, inr}
+use Rattle.std.proofs.Common.{◌≡◌, ◌≢◌, ℕ, zero, suc, ◌^◌, ◌<◌, ◌≤◌, Bool, true, false, not, ◌&&◌, T, List, [], ◌∷◌, ◌++◌, Option, Some}
+use Rattle.std.proofs.Common.{None, refl, sym, ◌∙◌, ap, subst, arith, inl, inr}
 use Rattle.std.proofs.Common.{map as each}
 use Rattle.std.specs.Prelude.{codes, decimal, flat_map, ℤ, nat_abs, IfSome}
 use Rattle.std.specs.FinMap as map
@@ -28,7 +29,8 @@ use Rattle.osm_base.specs.values.Place.{PlaceOf}
 use Rattle.osm_base.specs.values.Tags.{TagMap}
 use Rattle.osm_base.proofs.TagPlaces.{entries-from_entries}
 use Rattle.opl_object.specs.declared.letter.Letter.{Letter}
-use Rattle.opl_object.specs.declared.letter.Letter.TheVariants.{Version, Visible, Changeset, Time, UserId, User, Tags, Lon, Lat, Nodes, Members}
+use Rattle.opl_object.specs.declared.letter.Letter.TheVariants.{Version, Visible, Changeset, Time, UserId, User, Tags, Lon, Lat, Nodes}
+use Rattle.opl_object.specs.declared.letter.Letter.TheVariants.{Members}
 use Rattle.opl_object.specs.declared.parts.Parts.{Parts}
 use Rattle.opl_object.specs.Escapes.{written_text, IsText, IsWithoutZero}
 use Rattle.opl_object.specs.Fields.{is_blank, is_empty, fields_of}
@@ -52,7 +54,8 @@ free [] all = tt
 free (byte ∷ text) all = (not_blank byte all.0.least, free text all.1)
 
 -- a field, and then a space and others
-pub field-then : (byte : ℕ) (text rest : List ℕ) → AreVisible (byte ∷ text) → fields_of ((byte ∷ text) ++ 32 ∷ rest) ≡ (byte ∷ text) ∷ fields_of rest
+pub field-then : (byte : ℕ) (text rest : List ℕ) → AreVisible (byte ∷ text)
+    → fields_of ((byte ∷ text) ++ 32 ∷ rest) ≡ (byte ∷ text) ∷ fields_of rest
 unfolding fields_of
 field-then byte text rest all =
     let cut : slice_split is_blank ((byte ∷ text) ++ 32 ∷ rest) ≡ (byte ∷ text) ∷ slice_split is_blank rest =
@@ -64,7 +67,8 @@ field-then byte text rest all =
 -- the last field
 pub field-last : (byte : ℕ) (text : List ℕ) → AreVisible (byte ∷ text) → fields_of (byte ∷ text) ≡ (byte ∷ text) ∷ []
 unfolding fields_of
-field-last byte text all = ap (filter (λ piece. not (is_empty piece))) (split_free is_blank (byte ∷ text) (free (byte ∷ text) all)) ∙ rw (is_empty-cons byte text) refl
+field-last byte text all = ap (filter (λ piece. not (is_empty piece))) (split_free is_blank (byte ∷ text) (free (byte ∷ text) all))
+    ∙ rw (is_empty-cons byte text) refl
 
 -- ---- lists
 
@@ -73,17 +77,22 @@ module _ {X : Type 0} (f : X → List ℕ) where
   commas item [] = append-nil (f item)
   commas item (next ∷ items) = ap (λ rest. f item ++ 44 ∷ rest) (commas next items)
 
-  each_spelled : (Spell : List ℕ → X → Type 0) (items : List X) → AllByRecursion (λ item. Spell (f item) item) items → SpellEach Spell (each f items) items
+  each_spelled : (Spell : List ℕ → X → Type 0) (items : List X) → AllByRecursion (λ item. Spell (f item) item) items
+      → SpellEach Spell (each f items) items
   each_spelled Spell [] all = tt
   each_spelled Spell (item ∷ items) all = (all.0, each_spelled Spell items all.1)
 
-  pub list_spelled : (Spell : List ℕ → X → Type 0) (items : List X) → AllByRecursion (λ item. Spell (f item) item) items → SpellsList Spell (join_by f (44 ∷ []) items) items
+  pub list_spelled : (Spell : List ℕ → X → Type 0) (items : List X) → AllByRecursion (λ item. Spell (f item) item) items
+      → SpellsList Spell (join_by f (44 ∷ []) items) items
   list_spelled Spell [] all = inl (refl, refl)
   list_spelled Spell (item ∷ items) all = inr (f item, each f items, commas item items, each_spelled Spell (item ∷ items) all)
 
   later_visible : (items : List X) → AllByRecursion (λ item. AreVisible (f item)) items → AreVisible (flat_map (λ x. 44 ∷ [] ++ f x) items)
   later_visible [] all = tt
-  later_visible (item ∷ items) all = (visible 44 (omega arith) (omega arith), visible-append (f item) (flat_map (λ x. 44 ∷ [] ++ f x) items) all.0 (later_visible items all.1))
+  later_visible (item ∷ items) all = (
+    visible 44 (omega arith) (omega arith),
+    visible-append (f item) (flat_map (λ x. 44 ∷ [] ++ f x) items) all.0 (later_visible items all.1),
+  )
 
   pub list_visible : (items : List X) → AllByRecursion (λ item. AreVisible (f item)) items → AreVisible (join_by f (44 ∷ []) items)
   list_visible [] all = tt
@@ -103,7 +112,8 @@ tag_spelled tag all some = record {
   join [] value = refl
   join (byte ∷ key) value = ap (λ rest. byte ∷ rest) (join key value)
 
-tags_spelled_each : (pairs : List (List ℕ × List ℕ)) → AllByRecursion (OfTag IsText) pairs → AllByRecursion (OfTag IsWithoutZero) pairs → AllByRecursion (λ tag. SpellsTag (tag_text tag) tag) pairs
+tags_spelled_each : (pairs : List (List ℕ × List ℕ)) → AllByRecursion (OfTag IsText) pairs → AllByRecursion (OfTag IsWithoutZero) pairs
+    → AllByRecursion (λ tag. SpellsTag (tag_text tag) tag) pairs
 tags_spelled_each [] all some = tt
 tags_spelled_each (tag ∷ pairs) all some = (tag_spelled tag all.0 some.0, tags_spelled_each pairs all.1 some.1)
 
@@ -111,7 +121,8 @@ tag_visible : (pairs : List (List ℕ × List ℕ)) → AllByRecursion (λ tag. 
 tag_visible [] = tt
 tag_visible (tag ∷ pairs) = (
   visible-append (written_text tag.0 ++ 61 ∷ []) (written_text tag.1)
-      (visible-append (written_text tag.0) (61 ∷ []) (written_visible tag.0) (visible 61 (omega arith) (omega arith), tt)) (written_visible tag.1),
+      (visible-append (written_text tag.0) (61 ∷ []) (written_visible tag.0) (visible 61 (omega arith) (omega arith), tt))
+      (written_visible tag.1),
   tag_visible pairs,
 )
 
@@ -132,11 +143,14 @@ not_itself key other less same =
     let tied : slice_cmp nat_cmp key other ≡ Equal = ap (slice_cmp nat_cmp key) (sym same) ∙ tied_itself nat_list_cmp_total key in
     subst (λ order. T (is_lt order)) tied less
 
-apart : (key : List ℕ) (pairs : List (List ℕ × List ℕ)) → T (below_all (slice_cmp nat_cmp) key pairs) → AllByRecursion (λ other. key ≢ other) (each (λ pair. pair.0) pairs)
+apart : (key : List ℕ) (pairs : List (List ℕ × List ℕ)) → T (below_all (slice_cmp nat_cmp) key pairs)
+    → AllByRecursion (λ other. key ≢ other) (each (λ pair. pair.0) pairs)
 apart key [] t = tt
 apart key (pair ∷ pairs) t =
-    let later = below_all (slice_cmp nat_cmp) key pairs in
-    (not_itself key pair.0 (both_left (is_lt (slice_cmp nat_cmp key pair.0)) later t), apart key pairs (both_right (is_lt (slice_cmp nat_cmp key pair.0)) later t))
+    let later = below_all (slice_cmp nat_cmp) key pairs in (
+      not_itself key pair.0 (both_left (is_lt (slice_cmp nat_cmp key pair.0)) later t),
+      apart key pairs (both_right (is_lt (slice_cmp nat_cmp key pair.0)) later t),
+    )
 
 keys_distinct : (pairs : List (List ℕ × List ℕ)) → T (is_sorted (slice_cmp nat_cmp) pairs) → AreDistinct (each (λ pair. pair.0) pairs)
 keys_distinct [] t = tt
@@ -151,7 +165,8 @@ tags_spelled tags all some = record {
   pairs = map.entries tags;
   list = list_spelled tag_text SpellsTag (map.entries tags) (tags_spelled_each (map.entries tags) all some);
   distinct = keys_distinct (map.entries tags) (map.entries_sorted tags);
-  is = map.same_entries_map tags (map.from_entries (map.entries tags)) (sym (entries-from_entries (map.entries tags) (map.entries_sorted tags)));
+  is = map.same_entries_map tags (map.from_entries (map.entries tags))
+      (sym (entries-from_entries (map.entries tags) (map.entries_sorted tags)));
 }
 
 -- ---- nodes and members
@@ -203,10 +218,12 @@ member_spelled member is_member some = record {
   role_text = written_spells member.role is_member.1 some;
 }
 
-pub members_spelled : (members : List Member) → AllByRecursion IsMember members → AllByRecursion (λ member. IsWithoutZero member.role) members → SpellsList SpellsMember (members_text members) members
+pub members_spelled : (members : List Member) → AllByRecursion IsMember members
+    → AllByRecursion (λ member. IsWithoutZero member.role) members → SpellsList SpellsMember (members_text members) members
 unfolding members_text
 members_spelled members all some = list_spelled member_text SpellsMember members (spelled members all some) where
-  spelled : (members : List Member) → AllByRecursion IsMember members → AllByRecursion (λ member. IsWithoutZero member.role) members → AllByRecursion (λ member. SpellsMember (member_text member) member) members
+  spelled : (members : List Member) → AllByRecursion IsMember members → AllByRecursion (λ member. IsWithoutZero member.role) members
+      → AllByRecursion (λ member. SpellsMember (member_text member) member) members
   spelled [] all some = tt
   spelled (member ∷ members) all some = (member_spelled member all.0 some.0, spelled members all.1 some.1)
 
@@ -217,7 +234,8 @@ members_visible members all = list_visible member_text members (seen members all
   seen [] all = tt
   seen (member ∷ members) all = (
     visible-append (key_text member.key ++ 64 ∷ []) (written_text member.role)
-        (visible-append (key_text member.key) (64 ∷ []) (key_visible member.key all.0.0) (visible 64 (omega arith) (omega arith), tt)) (written_visible member.role),
+        (visible-append (key_text member.key) (64 ∷ []) (key_visible member.key all.0.0) (visible 64 (omega arith) (omega arith), tt))
+        (written_visible member.role),
     seen members all.1,
   )
 
@@ -250,7 +268,8 @@ counted kinds.Relation rest skipped = absurd (cc)
 gone : Parts
 gone = record { deleted = true; lon = None; lat = None; tags = map.empty; nodes = []; members = [] }
 
-lacks_gone : (letter : Letter) → AllByRecursion {X = Letter × List ℕ} (λ field. letter ≢ field.0) ((Visible, 68 ∷ []) ∷ []) → Lacks letter gone
+lacks_gone : (letter : Letter) → AllByRecursion {X = Letter × List ℕ} (λ field. letter ≢ field.0) ((Visible, 68 ∷ []) ∷ [])
+    → Lacks letter gone
 unfolding gone
 lacks_gone Version h = tt
 lacks_gone Visible h = absurd (h.0 refl)
@@ -268,7 +287,8 @@ module _ (key : KeyOf) (is_id : IsId key.id) where
   fields_gone : fields_of (key_text key ++ codes " dD") ≡ key_text key ∷ (100 ∷ 68 ∷ []) ∷ []
   fields_gone =
       field-then (kind_byte key.kind) (decimal key.id) (100 ∷ 68 ∷ []) (key_visible key is_id)
-      ∙ ap (λ fields. key_text key ∷ fields) (field-last 100 (68 ∷ []) (visible 100 (omega arith) (omega arith), (visible 68 (omega arith) (omega arith), tt)))
+      ∙ ap (λ fields. key_text key ∷ fields) (field-last 100 (68 ∷ [])
+      (visible 100 (omega arith) (omega arith), (visible 68 (omega arith) (omega arith), tt)))
 
   made_gone : (kind : Kind) → (object : Object) × IsObject kind gone object
   unfolding gone
@@ -284,7 +304,9 @@ module _ (key : KeyOf) (is_id : IsId key.id) where
     parts = gone;
     object = (made_gone key.kind).0;
     counts = counted key.kind (decimal key.id ++ codes " dD");
-    utf8 = ascii_utf8 (key_text key ++ codes " dD") (ascii-append (key_text key) (codes " dD") (ascii_of (key_text key) (key_visible key is_id)) (omega arith, (omega arith, (omega arith, tt))));
+    utf8 = ascii_utf8 (key_text key ++ codes " dD")
+        (ascii-append (key_text key) (codes " dD") (ascii_of (key_text key) (key_visible key is_id))
+        (omega arith, (omega arith, (omega arith, tt))));
     form = fields_gone;
     number = id_spelled key.id is_id;
     say = record { belong = (tt, tt); distinct = (tt, tt); says = (refl, tt); lacks = lacks_gone };
@@ -317,7 +339,8 @@ module _ (key : KeyOf) (is_id : IsId key.id) where
     lacks_node Nodes h = refl
     lacks_node Members h = refl
 
-    node_spelled_so : key.kind ≡ kinds.Node → SpellsTags (tags_text tags) tags → AreVisible east → AreVisible north → SpellsDegrees (nat_abs MAX_LON) east lon → SpellsDegrees (nat_abs MAX_LAT) north lat
+    node_spelled_so : key.kind ≡ kinds.Node → SpellsTags (tags_text tags) tags → AreVisible east → AreVisible north
+        → SpellsDegrees (nat_abs MAX_LON) east lon → SpellsDegrees (nat_abs MAX_LAT) north lat
         → IsPlace lon lat place → Spells node_line (record { key = key; object = Some (objects.Node place tags) })
     unfolding node_parts node_fields node_line
     node_spelled_so kind tagged seen_east seen_north is_lon is_lat is_place =
@@ -328,8 +351,11 @@ module _ (key : KeyOf) (is_id : IsId key.id) where
         let rest : List ℕ = codes " T" ++ tags_text tags ++ (codes " x" ++ east ++ (codes " y" ++ north)) in
         let ascii : AreAscii rest = (
           omega arith,
-          ascii-append (84 ∷ tags_text tags) (codes " x" ++ east ++ (codes " y" ++ north)) (ascii_of (84 ∷ tags_text tags) t)
-              (omega arith, ascii-append (120 ∷ east) (codes " y" ++ north) (ascii_of (120 ∷ east) x) (omega arith, ascii_of (121 ∷ north) y)),
+          ascii-append (84 ∷ tags_text tags) (codes " x" ++ east ++ (codes " y" ++ north)) (ascii_of (84 ∷ tags_text tags) t) (
+            omega arith,
+            ascii-append (120 ∷ east) (codes " y" ++ north) (ascii_of (120 ∷ east) x)
+                (omega arith, ascii_of (121 ∷ north) y),
+          ),
         ) in
         record {
           digits = decimal key.id;
@@ -337,8 +363,10 @@ module _ (key : KeyOf) (is_id : IsId key.id) where
           parts = node_parts;
           object = objects.Node place tags;
           counts = counted key.kind (decimal key.id ++ rest);
-          utf8 = ascii_utf8 (key_text key ++ rest) (ascii-append (key_text key) rest (ascii_of (key_text key) (key_visible key is_id)) ascii);
-          form = field-then (kind_byte key.kind) (decimal key.id) ((84 ∷ tags_text tags) ++ 32 ∷ ((120 ∷ east) ++ 32 ∷ (121 ∷ north))) (key_visible key is_id)
+          utf8 = ascii_utf8 (key_text key ++ rest)
+              (ascii-append (key_text key) rest (ascii_of (key_text key) (key_visible key is_id)) ascii);
+          form = field-then (kind_byte key.kind) (decimal key.id) ((84 ∷ tags_text tags) ++ 32 ∷ ((120 ∷ east) ++ 32 ∷ (121 ∷ north)))
+              (key_visible key is_id)
               ∙ ap (λ fields. key_text key ∷ fields) (field-then 84 (tags_text tags) ((120 ∷ east) ++ 32 ∷ (121 ∷ north)) t
               ∙ ap (λ fields. (84 ∷ tags_text tags) ∷ fields) (field-then 120 east (121 ∷ north) x
               ∙ ap (λ fields. (120 ∷ east) ∷ fields) (field-last 121 north y)));
@@ -375,23 +403,31 @@ module _ (key : KeyOf) (is_id : IsId key.id) where
     lacks_way Nodes h = absurd (h.1.0 refl)
     lacks_way Members h = refl
 
-    way_spelled_so : key.kind ≡ kinds.Way → SpellsTags (tags_text tags) tags → SpellsList SpellsNode (nodes_text nodes) nodes → AreVisible (nodes_text nodes)
-        → Spells (key_text key ++ (codes " T" ++ tags_text tags ++ (codes " N" ++ nodes_text nodes))) (record { key = key; object = Some (objects.Way nodes tags) })
+    way_spelled_so : key.kind ≡ kinds.Way → SpellsTags (tags_text tags) tags → SpellsList SpellsNode (nodes_text nodes) nodes
+        → AreVisible (nodes_text nodes)
+        → Spells (key_text key ++ (codes " T" ++ tags_text tags ++ (codes " N" ++ nodes_text nodes)))
+        (record { key = key; object = Some (objects.Way nodes tags) })
     unfolding way_parts way_fields
     way_spelled_so kind tagged listed seen =
         let tags_seen = tags_visible tags in
         let t : AreVisible (84 ∷ tags_text tags) = (visible 84 (omega arith) (omega arith), tags_seen) in
         let n : AreVisible (78 ∷ nodes_text nodes) = (visible 78 (omega arith) (omega arith), seen) in
         let rest : List ℕ = codes " T" ++ tags_text tags ++ (codes " N" ++ nodes_text nodes) in
-        let ascii : AreAscii rest = (omega arith, ascii-append (84 ∷ tags_text tags) (codes " N" ++ nodes_text nodes) (ascii_of (84 ∷ tags_text tags) t) (omega arith, ascii_of (78 ∷ nodes_text nodes) n)) in
+        let ascii : AreAscii rest = (
+          omega arith,
+          ascii-append (84 ∷ tags_text tags) (codes " N" ++ nodes_text nodes) (ascii_of (84 ∷ tags_text tags) t)
+              (omega arith, ascii_of (78 ∷ nodes_text nodes) n),
+        ) in
         record {
           digits = decimal key.id;
           fields = way_fields;
           parts = way_parts;
           object = objects.Way nodes tags;
           counts = counted key.kind (decimal key.id ++ rest);
-          utf8 = ascii_utf8 (key_text key ++ rest) (ascii-append (key_text key) rest (ascii_of (key_text key) (key_visible key is_id)) ascii);
-          form = field-then (kind_byte key.kind) (decimal key.id) ((84 ∷ tags_text tags) ++ 32 ∷ (78 ∷ nodes_text nodes)) (key_visible key is_id)
+          utf8 = ascii_utf8 (key_text key ++ rest)
+              (ascii-append (key_text key) rest (ascii_of (key_text key) (key_visible key is_id)) ascii);
+          form = field-then (kind_byte key.kind) (decimal key.id) ((84 ∷ tags_text tags) ++ 32 ∷ (78 ∷ nodes_text nodes))
+              (key_visible key is_id)
               ∙ ap (λ fields. key_text key ∷ fields) (field-then 84 (tags_text tags) (78 ∷ nodes_text nodes) t
               ∙ ap (λ fields. (84 ∷ tags_text tags) ∷ fields) (field-last 78 (nodes_text nodes) n));
           number = id_spelled key.id is_id;
@@ -427,23 +463,31 @@ module _ (key : KeyOf) (is_id : IsId key.id) where
     lacks_relation Nodes h = refl
     lacks_relation Members h = absurd (h.1.0 refl)
 
-    relation_spelled_so : key.kind ≡ kinds.Relation → SpellsTags (tags_text tags) tags → SpellsList SpellsMember (members_text members) members → AreVisible (members_text members)
-        → Spells (key_text key ++ (codes " T" ++ tags_text tags ++ (codes " M" ++ members_text members))) (record { key = key; object = Some (objects.Relation members tags) })
+    relation_spelled_so : key.kind ≡ kinds.Relation → SpellsTags (tags_text tags) tags
+        → SpellsList SpellsMember (members_text members) members → AreVisible (members_text members)
+        → Spells (key_text key ++ (codes " T" ++ tags_text tags ++ (codes " M" ++ members_text members)))
+        (record { key = key; object = Some (objects.Relation members tags) })
     unfolding relation_parts relation_fields
     relation_spelled_so kind tagged listed seen =
         let tags_seen = tags_visible tags in
         let t : AreVisible (84 ∷ tags_text tags) = (visible 84 (omega arith) (omega arith), tags_seen) in
         let n : AreVisible (77 ∷ members_text members) = (visible 77 (omega arith) (omega arith), seen) in
         let rest : List ℕ = codes " T" ++ tags_text tags ++ (codes " M" ++ members_text members) in
-        let ascii : AreAscii rest = (omega arith, ascii-append (84 ∷ tags_text tags) (codes " M" ++ members_text members) (ascii_of (84 ∷ tags_text tags) t) (omega arith, ascii_of (77 ∷ members_text members) n)) in
+        let ascii : AreAscii rest = (
+          omega arith,
+          ascii-append (84 ∷ tags_text tags) (codes " M" ++ members_text members) (ascii_of (84 ∷ tags_text tags) t)
+              (omega arith, ascii_of (77 ∷ members_text members) n),
+        ) in
         record {
           digits = decimal key.id;
           fields = relation_fields;
           parts = relation_parts;
           object = objects.Relation members tags;
           counts = counted key.kind (decimal key.id ++ rest);
-          utf8 = ascii_utf8 (key_text key ++ rest) (ascii-append (key_text key) rest (ascii_of (key_text key) (key_visible key is_id)) ascii);
-          form = field-then (kind_byte key.kind) (decimal key.id) ((84 ∷ tags_text tags) ++ 32 ∷ (77 ∷ members_text members)) (key_visible key is_id)
+          utf8 = ascii_utf8 (key_text key ++ rest)
+              (ascii-append (key_text key) rest (ascii_of (key_text key) (key_visible key is_id)) ascii);
+          form = field-then (kind_byte key.kind) (decimal key.id) ((84 ∷ tags_text tags) ++ 32 ∷ (77 ∷ members_text members))
+              (key_visible key is_id)
               ∙ ap (λ fields. key_text key ∷ fields) (field-then 84 (tags_text tags) (77 ∷ members_text members) t
               ∙ ap (λ fields. (84 ∷ tags_text tags) ∷ fields) (field-last 77 (members_text members) n));
           number = id_spelled key.id is_id;
@@ -458,7 +502,8 @@ module _ (key : KeyOf) (is_id : IsId key.id) where
         }
 
   -- the line of an entry
-  fields_spelled : (object : Option Object) → IfSome object (IsOfKind key.kind) → IfSome object HasIds → IfSome object HasNoZero → IfSome object IsSound
+  fields_spelled : (object : Option Object) → IfSome object (IsOfKind key.kind) → IfSome object HasIds → IfSome object HasNoZero
+      → IfSome object IsSound
       → Spells (line_text (record { key = key; object = object })) (record { key = key; object = object })
   unfolding line_text node_line
   fields_spelled None kind ids some sound = gone_spelled
@@ -467,12 +512,15 @@ module _ (key : KeyOf) (is_id : IsId key.id) where
   fields_spelled (Some (objects.Node (Some place) tags)) kind ids some sound =
       let lon = coordinate_spelled (nat_abs MAX_LON) place.lon (lon_near place.lon sound.0.east sound.0.west) (omega arith) in
       let lat = coordinate_spelled (nat_abs MAX_LAT) place.lat (lat_near place.lat sound.0.north sound.0.south) (omega arith) in
-      node_spelled_so tags (Some place) (Some place.lon) (Some place.lat) (degrees place.lon) (degrees place.lat) kind (tags_spelled tags sound.1 some)
-      (coordinate_visible (nat_abs MAX_LON) (degrees place.lon) place.lon lon) (coordinate_visible (nat_abs MAX_LAT) (degrees place.lat) place.lat lat) lon lat refl
+      node_spelled_so tags (Some place) (Some place.lon) (Some place.lat) (degrees place.lon) (degrees place.lat) kind
+      (tags_spelled tags sound.1 some)
+      (coordinate_visible (nat_abs MAX_LON) (degrees place.lon) place.lon lon)
+      (coordinate_visible (nat_abs MAX_LAT) (degrees place.lat) place.lat lat) lon lat refl
   fields_spelled (Some (objects.Way nodes tags)) kind ids some sound =
       way_spelled_so tags nodes kind (tags_spelled tags sound some) (nodes_spelled nodes ids) (nodes_visible nodes ids)
   fields_spelled (Some (objects.Relation members tags)) kind ids some sound =
-      relation_spelled_so tags members kind (tags_spelled tags sound.0 some.0) (members_spelled members sound.1 some.1) (members_visible members sound.1)
+      relation_spelled_so tags members kind (tags_spelled tags sound.0 some.0) (members_spelled members sound.1 some.1)
+      (members_visible members sound.1)
 
 pub line_spelled : (entry : Entry) → IsWritable entry → IsId entry.key.id → IfSome entry.object IsSound → Spells (line_text entry) entry
 line_spelled entry writable is_id sound = fields_spelled entry.key is_id entry.object writable.kind writable.ids writable.no_zero sound

@@ -1,5 +1,7 @@
 -- What is written of ids and coordinates is visible and spells them.
-use Rattle.std.proofs.Common.{◌≡◌, ℕ, zero, suc, ◌+◌, ◌-◌, ◌*◌, ◌/◌, ◌%◌, ◌^◌, ◌<◌, ◌≤◌, Bool, true, false, cond, eqb, leb, ltb, List, [], ◌∷◌, ◌++◌, length, length-append, take, drop, get_or, refl, sym, ◌∙◌, ap, subst, append_assoc, add-one, add-zero, arith, inl, inr}
+use Rattle.std.proofs.Common.{◌≡◌, ℕ, zero, suc, ◌+◌, ◌-◌, ◌*◌, ◌/◌, ◌%◌, ◌^◌, ◌<◌, ◌≤◌, Bool, true, false, cond, eqb, leb, ltb, List, []}
+use Rattle.std.proofs.Common.{◌∷◌, ◌++◌, length, length-append, take, drop, get_or, refl, sym, ◌∙◌, ap, subst, append_assoc, add-one}
+use Rattle.std.proofs.Common.{add-zero, arith, inl, inr}
 use Rattle.std.specs.Prelude.{decimal, reverse, replicate, ℤ, pos, negsuc, neg_ℤ, unsigned_abs, ◌≤ℤ◌, nat_abs}
 use Rattle.std.specs.Int.{is_negative}
 use Rattle.std.specs.Char.{is_ascii_digit, digit_value}
@@ -9,7 +11,8 @@ use Rattle.std.proofs.Math.Nat.{pow-succ', add-mul, mul_assoc}
 use Rattle.std.proofs.lemmas.Bool.{cases_Bool, cases_lt, eqb-true, le-leb}
 use Rattle.std.proofs.lemmas.Bool.Decides.{nat_tests}
 use Rattle.std.proofs.lemmas.Fmt.{decimal_digit, decimal_is_IsNumeral, decimal_nonempty, length-decimal-le}
-use Rattle.std.proofs.lemmas.List.{take-append-drop, reverse-append, reverse-reverse, take_all, length-replicate, get_or_past, replicate-append-replicate}
+use Rattle.std.proofs.lemmas.List.{take-append-drop, reverse-append, reverse-reverse, take_all, length-replicate, get_or_past}
+use Rattle.std.proofs.lemmas.List.{replicate-append-replicate}
 use Rattle.std.proofs.lemmas.Int.{ints}
 use Rattle.std.proofs.lemmas.List.Folds.{list_all-append}
 use Rattle.std.proofs.lemmas.Str.Parse.{digit_from_value}
@@ -62,7 +65,8 @@ id_spelled id is_id =
 
 -- ---- the value of digits behind others
 
-value_after-append : (n : ℕ) (front back : List ℕ) → digits_value_after 10 n (front ++ back) ≡ digits_value_after 10 (digits_value_after 10 n front) back
+value_after-append : (n : ℕ) (front back : List ℕ)
+    → digits_value_after 10 n (front ++ back) ≡ digits_value_after 10 (digits_value_after 10 n front) back
 value_after-append n [] back = refl
 value_after-append n (digit ∷ front) back = value_after-append (n * 10 + digit_value digit) front back
 
@@ -72,7 +76,9 @@ value_after-shift n (digit ∷ digits) =
     let power : 10 ^ suc (length digits) ≡ 10 * 10 ^ length digits = pow-succ' 10 (length digits) in
     let here = value_after-shift (n * 10 + digit_value digit) digits in
     let alone = value_after-shift (0 * 10 + digit_value digit) digits in
-    shifted n (digit_value digit) (10 ^ length digits) (10 ^ suc (length digits)) (digits_value_after 10 (n * 10 + digit_value digit) digits) (digits_value_after 10 (0 * 10 + digit_value digit) digits) (digits_value_after 10 0 digits) power here alone where
+    shifted n (digit_value digit) (10 ^ length digits) (10 ^ suc (length digits))
+    (digits_value_after 10 (n * 10 + digit_value digit) digits) (digits_value_after 10 (0 * 10 + digit_value digit) digits)
+    (digits_value_after 10 0 digits) power here alone where
       shifted : (n d p q a b c : ℕ) → q ≡ 10 * p → a ≡ (n * 10 + d) * p + c → b ≡ (0 * 10 + d) * p + c → a ≡ n * q + b
       shifted n d p q a b c eq ea eb =
           let one : (n * 10 + d) * p ≡ n * 10 * p + d * p = add-mul (n * 10) d p in
@@ -85,7 +91,8 @@ value_after-shift n (digit ∷ digits) =
 length-padded : (n : ℕ) → n < 10000000 → length (padded 7 (decimal n)) ≡ 7
 length-padded n small =
     let most = length-decimal-le 7 n (omega arith) small (omega arith) in
-    length-append (replicate (7 - length (decimal n)) 48) (decimal n) ∙ ap (λ k. k + length (decimal n)) (length-replicate (7 - length (decimal n))) ∙ omega arith where
+    length-append (replicate (7 - length (decimal n)) 48) (decimal n)
+    ∙ ap (λ k. k + length (decimal n)) (length-replicate (7 - length (decimal n))) ∙ omega arith where
       length-replicate : (k : ℕ) → length {A = ℕ} (replicate k 48) ≡ k
       length-replicate zero = refl
       length-replicate (suc k) = ap suc (length-replicate k)
@@ -101,12 +108,15 @@ padded_digits n small =
 value-padded : (n : ℕ) → n < 10000000 → digits_value_after 10 0 (padded 7 (decimal n)) ≡ n
 value-padded n small =
     let whole : digits_value 10 (decimal (10 ^ 7 + n)) ≡ 10 ^ 7 + n = (decimal_is_IsNumeral (10 ^ 7 + n) (omega arith)).1 in
-    let one : digits_value_after 10 1 (padded 7 (decimal n)) ≡ 10 ^ 7 + n = ap (digits_value 10) (sym (decimal-behind_one 6 n small (omega arith))) ∙ whole in
-    let shift : digits_value_after 10 1 (padded 7 (decimal n)) ≡ 1 * 10 ^ length (padded 7 (decimal n)) + digits_value_after 10 0 (padded 7 (decimal n)) = value_after-shift 1 (padded 7 (decimal n)) in
+    let one : digits_value_after 10 1 (padded 7 (decimal n)) ≡ 10 ^ 7 + n =
+    ap (digits_value 10) (sym (decimal-behind_one 6 n small (omega arith))) ∙ whole in
+    let shift : digits_value_after 10 1 (padded 7 (decimal n)) ≡ 1 * 10 ^ length (padded 7 (decimal n))
+    + digits_value_after 10 0 (padded 7 (decimal n)) = value_after-shift 1 (padded 7 (decimal n)) in
     let power : 10 ^ length (padded 7 (decimal n)) ≡ 10 ^ 7 = ap (λ k. 10 ^ k) (length-padded n small) in
     omega (arith, one, shift, power)
 
-value-joined : (whole rest : ℕ) → whole < 2 ^ 64 → rest < 10000000 → digits_value 10 (decimal whole ++ padded 7 (decimal rest)) ≡ whole * 10000000 + rest
+value-joined : (whole rest : ℕ) → whole < 2 ^ 64 → rest < 10000000
+    → digits_value 10 (decimal whole ++ padded 7 (decimal rest)) ≡ whole * 10000000 + rest
 value-joined whole rest small below =
     let front : digits_value_after 10 0 (decimal whole) ≡ whole = (decimal_is_IsNumeral whole small).1 in
     let power : 10 ^ length (padded 7 (decimal rest)) ≡ 10 ^ 7 = ap (λ k. 10 ^ k) (length-padded rest below) in
@@ -123,14 +133,16 @@ zeros_front [] = refl
 zeros_front (digit ∷ digits) = elim (cases_Bool (is_zero digit)) [
   | inl zero_ ↦ (
       let more : prefix_len is_zero (digit ∷ digits) ≡ suc (prefix_len is_zero digits) = rw zero_ (omega arith) in
-      rw more (ap (λ d. d ∷ take (prefix_len is_zero digits) digits) (eqb-true digit 48 zero_) ∙ ap (λ rest. 48 ∷ rest) (zeros_front digits)))
+      rw more (ap (λ d. d ∷ take (prefix_len is_zero digits) digits) (eqb-true digit 48 zero_)
+      ∙ ap (λ rest. 48 ∷ rest) (zeros_front digits)))
   | inr other ↦ rw other refl
 ]
 
 zeros_turned : (k : ℕ) → reverse {A = ℕ} (replicate k 48) ≡ replicate k 48
 zeros_turned zero = refl
 zeros_turned (suc k) =
-    reverse-append (48 ∷ []) (replicate k 48) ∙ ap (λ front. front ++ 48 ∷ []) (zeros_turned k) ∙ replicate-append-replicate k 1 48 ∙ ap (λ n. replicate n 48) (add-one k)
+    reverse-append (48 ∷ []) (replicate k 48) ∙ ap (λ front. front ++ 48 ∷ []) (zeros_turned k) ∙ replicate-append-replicate k 1 48
+    ∙ ap (λ n. replicate n 48) (add-one k)
 
 -- the zeros that are left out
 trimmed_whole : (digits : List ℕ) → digits ≡ trimmed digits ++ replicate (length digits - length (trimmed digits)) 48
@@ -140,7 +152,8 @@ trimmed_whole digits =
     let whole : digits ≡ trimmed digits ++ replicate p 48 =
     sym (reverse-reverse digits) ∙ ap reverse (sym (take-append-drop p turned)) ∙ reverse-append (take p turned) (drop p turned)
     ∙ ap (λ back. reverse (drop p turned) ++ back) (ap reverse (zeros_front turned) ∙ zeros_turned p) in
-    let count : p ≡ length digits - length (trimmed digits) = omega (arith, ap length whole, length-append (trimmed digits) (replicate p 48), length-replicate {A = ℕ} p 48) in
+    let count : p ≡ length digits - length (trimmed digits) =
+    omega (arith, ap length whole, length-append (trimmed digits) (replicate p 48), length-replicate {A = ℕ} p 48) in
     whole ∙ ap (λ k. trimmed digits ++ replicate k 48) count
 
 pub value_zeros : (k : ℕ) → digits_value_after 10 0 (replicate k 48) ≡ 0
@@ -157,7 +170,8 @@ module _ (rest : ℕ) (small : rest < 10000000) where
     arith,
     ap length (trimmed_whole (padded 7 (decimal rest))),
     length-padded rest small,
-    length-append (trimmed (padded 7 (decimal rest))) (replicate (length (padded 7 (decimal rest)) - length (trimmed (padded 7 (decimal rest)))) 48),
+    length-append (trimmed (padded 7 (decimal rest)))
+        (replicate (length (padded 7 (decimal rest)) - length (trimmed (padded 7 (decimal rest)))) 48),
   )
 
   length-decimals : length (decimals_of rest) ≤ 7
@@ -170,8 +184,10 @@ module _ (rest : ℕ) (small : rest < 10000000) where
   seven_decimals = elim (cases_Bool (eqb rest 0)) [
     | inl none ↦ rw none (sym (ap (λ n. padded 7 (decimal n)) (eqb-true rest 0 none) ∙ ap (padded 7) (decimal_digit 0 (omega arith))))
     | inr some ↦ rw some (
-        ap (λ front. front ++ replicate (7 - length (trimmed (padded 7 (decimal rest)))) 48) (take_all 7 (trimmed (padded 7 (decimal rest))) length-trimmed)
-        ∙ ap (λ n. trimmed (padded 7 (decimal rest)) ++ replicate (n - length (trimmed (padded 7 (decimal rest)))) 48) (sym (length-padded rest small))
+        ap (λ front. front ++ replicate (7 - length (trimmed (padded 7 (decimal rest)))) 48)
+        (take_all 7 (trimmed (padded 7 (decimal rest))) length-trimmed)
+        ∙ ap (λ n. trimmed (padded 7 (decimal rest)) ++ replicate (n - length (trimmed (padded 7 (decimal rest)))) 48)
+        (sym (length-padded rest small))
         ∙ sym (trimmed_whole (padded 7 (decimal rest))))
   ]
 
@@ -179,7 +195,8 @@ module _ (rest : ℕ) (small : rest < 10000000) where
   digits_decimals = elim (cases_Bool (eqb rest 0)) [
     | inl none ↦ rw none refl
     | inr some ↦ rw some (both (list_all is_ascii_digit (trimmed (padded 7 (decimal rest)))) _ (
-        sym (list_all-append is_ascii_digit (trimmed (padded 7 (decimal rest))) (replicate (length (padded 7 (decimal rest)) - length (trimmed (padded 7 (decimal rest)))) 48))
+        sym (list_all-append is_ascii_digit (trimmed (padded 7 (decimal rest)))
+        (replicate (length (padded 7 (decimal rest)) - length (trimmed (padded 7 (decimal rest)))) 48))
         ∙ ap (list_all is_ascii_digit) (sym (trimmed_whole (padded 7 (decimal rest)))) ∙ padded_digits rest small)).0
   ]
 
@@ -188,8 +205,10 @@ module _ (rest : ℕ) (small : rest < 10000000) where
     | inl none ↦ (
         let nothing : trimmed (padded 7 (decimal rest)) ≡ [] = no_digits (trimmed (padded 7 (decimal rest))) (omega arith) in
         let zeros : padded 7 (decimal rest) ≡ replicate (length (padded 7 (decimal rest)) - length (trimmed (padded 7 (decimal rest)))) 48 =
-        trimmed_whole (padded 7 (decimal rest)) ∙ ap (λ front. front ++ replicate (length (padded 7 (decimal rest)) - length (trimmed (padded 7 (decimal rest)))) 48) nothing in
-        let value : rest ≡ 0 = sym (value-padded rest small) ∙ ap (digits_value_after 10 0) zeros ∙ value_zeros (length (padded 7 (decimal rest)) - length (trimmed (padded 7 (decimal rest)))) in
+        trimmed_whole (padded 7 (decimal rest)) ∙ ap
+        (λ front. front ++ replicate (length (padded 7 (decimal rest)) - length (trimmed (padded 7 (decimal rest)))) 48) nothing in
+        let value : rest ≡ 0 = sym (value-padded rest small) ∙ ap (digits_value_after 10 0) zeros
+        ∙ value_zeros (length (padded 7 (decimal rest)) - length (trimmed (padded 7 (decimal rest)))) in
         absurd (grind (arith, nat_tests)))
     | inr least ↦ least
   ] where
@@ -221,7 +240,8 @@ signed (negsuc n) = refl
 
 -- ---- coordinates
 
-pub coordinate_spelled : (greatest : ℕ) (value : ℤ) → unsigned_abs value ≤ greatest → greatest ≤ 1800000000 → SpellsCoordinate greatest (degrees value) value
+pub coordinate_spelled : (greatest : ℕ) (value : ℤ) → unsigned_abs value ≤ greatest → greatest ≤ 1800000000
+    → SpellsCoordinate greatest (degrees value) value
 unfolding degrees
 coordinate_spelled greatest value near most =
     let size = unsigned_abs value in
@@ -236,7 +256,8 @@ coordinate_spelled greatest value near most =
       minus = is_negative value;
       whole = decimal whole;
       decimals = decimals_of rest;
-      form = append_assoc (sign_text (is_negative value)) (decimal whole) (fraction rest) ∙ ap (λ back. sign_text (is_negative value) ++ (decimal whole ++ back)) (fraction-decimals rest small);
+      form = append_assoc (sign_text (is_negative value)) (decimal whole) (fraction rest)
+          ∙ ap (λ back. sign_text (is_negative value) ++ (decimal whole ++ back)) (fraction-decimals rest small);
       some = omega (arith, decimal_nonempty whole fits);
       few = omega (arith, length-decimals rest small, short);
       whole_digits = decimal_digits whole fits;

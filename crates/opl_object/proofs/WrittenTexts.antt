@@ -1,5 +1,6 @@
 -- What is written of a text is visible and spells it.
-use Rattle.std.proofs.Common.{◌≡◌, ℕ, zero, suc, ◌/◌, ◌%◌, ◌<◌, ◌≤◌, Bool, true, false, List, [], ◌∷◌, ◌++◌, length, drop, refl, sym, ◌∙◌, ap, arith, inl, inr}
+use Rattle.std.proofs.Common.{◌≡◌, ℕ, zero, suc, ◌/◌, ◌%◌, ◌<◌, ◌≤◌, Bool, true, false, List, [], ◌∷◌, ◌++◌, length, drop, refl, sym, ◌∙◌}
+use Rattle.std.proofs.Common.{ap, arith, inl, inr}
 use Rattle.std.specs.Prelude.{flat_map}
 use Rattle.std.specs.Char.{digit_char, is_ascii_hexdigit}
 use Rattle.std.specs.List.{AllByRecursion, list_all, prefix_len}
@@ -9,7 +10,8 @@ use Rattle.std.proofs.lemmas.Bool.{cases_Bool, cases_lt, eqb-true}
 use Rattle.std.proofs.lemmas.Bool.Decides.{nat_tests}
 use Rattle.std.proofs.lemmas.List.{length-drop}
 use Rattle.std.proofs.lemmas.Str.{encode_ascii, digit_value-digit_char}
-use Rattle.opl_object.specs.Escapes.{is_bare, six_digits, is_zero, without_zeros, escape_text, code_text, written_text, IsText, IsWithoutZero}
+use Rattle.opl_object.specs.Escapes.{is_bare, six_digits, is_zero, without_zeros, escape_text, code_text, written_text, IsText}
+use Rattle.opl_object.specs.Escapes.{IsWithoutZero}
 use Rattle.opl_object.specs.Spelling.{SpellsText, SpellsEscape}
 use Rattle.opl_object.specs.Text.{is_reserved}
 use Rattle.opl_object.proofs.Escaping.{bare-ascii}
@@ -61,7 +63,10 @@ six_visible code = (
     digit_visible (code / 65536 % 16) (omega arith),
     (
       digit_visible (code / 4096 % 16) (omega arith),
-      (digit_visible (code / 256 % 16) (omega arith), (digit_visible (code / 16 % 16) (omega arith), (digit_visible (code % 16) (omega arith), tt))),
+      (
+        digit_visible (code / 256 % 16) (omega arith),
+        (digit_visible (code / 16 % 16) (omega arith), (digit_visible (code % 16) (omega arith), tt)),
+      ),
     ),
   ),
 )
@@ -70,7 +75,9 @@ escape_visible : (code : ℕ) → AreVisible (escape_text code)
 unfolding escape_text
 escape_visible code = (
   visible 37 (omega arith) (omega arith),
-  visible-append (without_zeros (six_digits code)) (37 ∷ []) (visible-drop (prefix_len is_zero (six_digits code)) (six_digits code) (six_visible code)) (visible 37 (omega arith) (omega arith), tt),
+  visible-append (without_zeros (six_digits code)) (37 ∷ [])
+      (visible-drop (prefix_len is_zero (six_digits code)) (six_digits code) (six_visible code))
+      (visible 37 (omega arith) (omega arith), tt),
 )
 
 pub written_visible : (text : List ℕ) → AreVisible (written_text text)
@@ -119,7 +126,8 @@ value-without_zeros (digit ∷ digits) = elim (cases_Bool (is_zero digit)) [
   | inl zero_ ↦ (
       let more : prefix_len is_zero (digit ∷ digits) ≡ suc (prefix_len is_zero digits) = rw zero_ (omega arith) in
       let is : digit ≡ 48 = eqb-true digit 48 zero_ in
-      ap (λ n. digits_value 16 (drop n (digit ∷ digits))) more ∙ value-without_zeros digits ∙ ap (λ d. digits_value 16 (d ∷ digits)) (sym is))
+      ap (λ n. digits_value 16 (drop n (digit ∷ digits))) more ∙ value-without_zeros digits
+      ∙ ap (λ d. digits_value 16 (d ∷ digits)) (sym is))
   | inr other ↦ rw other refl
 ]
 
@@ -149,7 +157,8 @@ scalar_small code e = elim (cases_lt code 16777216) [
 escape_spells_code : (code : ℕ) → scalar code ≡ true → 0 < code → SpellsEscape (escape_text code) code
 unfolding escape_text
 escape_spells_code code is_scalar some =
-    let value : digits_value 16 (without_zeros (six_digits code)) ≡ code = value-without_zeros (six_digits code) ∙ six_value code (scalar_small code is_scalar) in
+    let value : digits_value 16 (without_zeros (six_digits code)) ≡ code =
+    value-without_zeros (six_digits code) ∙ six_value code (scalar_small code is_scalar) in
     record {
       digits = without_zeros (six_digits code);
       form = refl;
@@ -168,6 +177,12 @@ written_spells (code ∷ text) all some =
     let parts = both (scalar code) (scalars text) all in
     let rest = written_spells text parts.1 some.1 in
     elim (cases_Bool (is_bare code)) [
-      | inl bare ↦ rw bare (code ∷ [], flat_map code_text text, refl, inl (record { form = sym (encode_ascii code (bare-ascii code bare)); scalar = parts.0; free = bare_free code bare }), rest)
+      | inl bare ↦ rw bare (
+        code ∷ [],
+        flat_map code_text text,
+        refl,
+        inl (record { form = sym (encode_ascii code (bare-ascii code bare)); scalar = parts.0; free = bare_free code bare }),
+        rest,
+      )
       | inr other ↦ rw other (escape_text code, flat_map code_text text, refl, inr (escape_spells_code code parts.0 some.0), rest)
     ]

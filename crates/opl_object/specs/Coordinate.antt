@@ -1,6 +1,7 @@
 -- Longitudes and latitudes of a line.
 -- osmium "OPL File Format": x and y are the coordinates of a node in degrees.
-use Rattle.std.specs.Prelude.{ℕ, ℤ, pos, neg_ℤ, ◌+◌, ◌-◌, Bool, ◌&&◌, nat_le, if◌then◌else◌, List, [], ◌++◌, length, take, replicate, slice_index, Option, None, Some, Result, Ok, Err, unwrap_or}
+use Rattle.std.specs.Prelude.{ℕ, ℤ, pos, neg_ℤ, ◌+◌, ◌-◌, Bool, ◌&&◌, nat_le, if◌then◌else◌, List, [], ◌++◌, length, take, replicate}
+use Rattle.std.specs.Prelude.{slice_index, Option, None, Some, Result, Ok, Err, unwrap_or}
 use Rattle.std.specs.Str.Parse.{digits_value}
 use Rattle.opl_object.specs.declared.ascii.TheConstants.{POINT, DIGIT_0, DIGIT_5}
 use Rattle.opl_object.specs.declared.why.Why.{Why}

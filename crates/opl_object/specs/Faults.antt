@@ -11,7 +11,8 @@ use Rattle.osm_base.specs.declared.values.place.TheConstants.{MAX_LON, MAX_LAT}
 use Rattle.osm_base.specs.values.Key.{KeyOf}
 use Rattle.opl_object.specs.declared.ascii.TheConstants.{COMMA, EQUALS, AT, CAPITAL_D, CAPITAL_V}
 use Rattle.opl_object.specs.declared.letter.Letter.{Letter}
-use Rattle.opl_object.specs.declared.letter.Letter.TheVariants.{Version, Visible, Changeset, Time, UserId, User, Tags, Lon, Lat, Nodes, Members}
+use Rattle.opl_object.specs.declared.letter.Letter.TheVariants.{Version, Visible, Changeset, Time, UserId, User, Tags, Lon, Lat, Nodes}
+use Rattle.opl_object.specs.declared.letter.Letter.TheVariants.{Members}
 use Rattle.opl_object.specs.declared.parts.Parts.{Parts}
 use Rattle.opl_object.specs.declared.why.Why.{Why}
 use Rattle.opl_object.specs.declared.why.Why.TheVariants as causes
@@ -36,7 +37,8 @@ SpellsNoText spelled = (text : List ℕ) → SpellsText spelled text → ⊥
 
 -- The first piece of a list that has a fault. Those before it spell items that may stand together, and the fault may
 -- be one beside these items alone.
-pub record FirstFault {A : Type 0} (Spell : List ℕ → A → Type 0) (MayStand : List A → Type 0) (Fault : List A → List ℕ → Why → Type 0) (pieces : List (List ℕ)) (why : Why) : Type 0 where
+pub record FirstFault {A : Type 0} (Spell : List ℕ → A → Type 0) (MayStand : List A → Type 0) (Fault : List A → List ℕ → Why → Type 0)
+    (pieces : List (List ℕ)) (why : Why) : Type 0 where
   pub before : List (List ℕ)
   pub items : List A
   pub piece : List ℕ
@@ -57,7 +59,8 @@ abbrev pub PairFault : List (List ℕ × List ℕ) → List ℕ × Option (List 
 PairFault tags (key, None) why = why ≡ causes.Tag
 PairFault tags (key, Some value) why =
     ((SpellsNoText key ⊎ SpellsNoText value) × (why ≡ causes.Escape))
-    ⊎ ((name : List ℕ) × (text : List ℕ) × SpellsText key name × SpellsText value text × IsAmong name (map (λ tag. tag.0) tags) × (why ≡ causes.RepeatedKey))
+    ⊎ ((name : List ℕ) × (text : List ℕ) × SpellsText key name × SpellsText value text × IsAmong name (map (λ tag. tag.0) tags)
+    × (why ≡ causes.RepeatedKey))
 
 -- the key stands before the first equals sign, the value behind it
 abbrev pub TagFault : List (List ℕ × List ℕ) → List ℕ → Why → Type 0

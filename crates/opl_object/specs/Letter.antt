@@ -5,9 +5,11 @@ use Rattle.std.specs.Prelude.{ℕ, ◌==◌, if◌then◌else◌, Bool, true, fa
 use Rattle.std.specs.Option.{option_map}
 use Rattle.osm_base.specs.declared.values.key.Kind.{Kind}
 use Rattle.osm_base.specs.declared.values.key.Kind.TheVariants as kinds
-use Rattle.opl_object.specs.declared.ascii.TheConstants.{CAPITAL_M, CAPITAL_N, CAPITAL_T, SMALL_C, SMALL_D, SMALL_I, SMALL_T, SMALL_U, SMALL_V, SMALL_X, SMALL_Y}
+use Rattle.opl_object.specs.declared.ascii.TheConstants.{CAPITAL_M, CAPITAL_N, CAPITAL_T, SMALL_C, SMALL_D, SMALL_I, SMALL_T, SMALL_U}
+use Rattle.opl_object.specs.declared.ascii.TheConstants.{SMALL_V, SMALL_X, SMALL_Y}
 use Rattle.opl_object.specs.declared.letter.Letter.{Letter}
-use Rattle.opl_object.specs.declared.letter.Letter.TheVariants.{Version, Visible, Changeset, Time, UserId, User, Tags, Lon, Lat, Nodes, Members}
+use Rattle.opl_object.specs.declared.letter.Letter.TheVariants.{Version, Visible, Changeset, Time, UserId, User, Tags, Lon, Lat, Nodes}
+use Rattle.opl_object.specs.declared.letter.Letter.TheVariants.{Members}
 
 -- the letters of one kind
 abbrev pub own_letter : Kind → ℕ → Option Letter

@@ -18,7 +18,8 @@ use Rattle.opl_object.specs.Why.{◌>>=◌, each_piece, given}
 
 -- the kind that a letter stands for
 unfoldable pub kind_of : ℕ → Option Kind
-kind_of byte = if byte == SMALL_N then Some Node else (if byte == SMALL_W then Some Way else (if byte == SMALL_R then Some Relation else None))
+kind_of byte = if byte == SMALL_N then Some Node
+    else (if byte == SMALL_W then Some Way else (if byte == SMALL_R then Some Relation else None))
 
 -- the kind in front of a text, and what stands behind it
 abbrev pub kind_at : List ℕ → Option (Kind × List ℕ)

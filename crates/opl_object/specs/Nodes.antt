@@ -1,6 +1,7 @@
 -- The node references of a way.
 -- osmium "OPL File Format": N has node references that are separated by commas, each n and an id, and maybe x, y and a place.
-use Rattle.std.specs.Prelude.{ℕ, ◌&&◌, ◌||◌, not, if◌then◌else◌, List, [], ◌∷◌, ◌++◌, take, drop, Option, None, Some, Result, Ok, Err, nat_abs}
+use Rattle.std.specs.Prelude.{ℕ, ◌&&◌, ◌||◌, not, if◌then◌else◌, List, [], ◌∷◌, ◌++◌, take, drop, Option, None, Some, Result, Ok, Err}
+use Rattle.std.specs.Prelude.{nat_abs}
 use Rattle.std.specs.List.{slice_split, position_or_len}
 use Rattle.std.specs.Char.{is_ascii_digit}
 use Rattle.osm_base.specs.declared.values.place.TheConstants.{MAX_LON, MAX_LAT}

@@ -37,4 +37,5 @@ is_time text = is_empty text || ((length text == 20) && list_all is_formed (zip 
 
 -- an id: from 1 to 19 digits, whose value is an id
 unfoldable pub id_of : List ℕ → Result ℕ Why
-id_of text = if are_digits 19 text && (nat_le 1 (digits_value 10 text) && nat_le (digits_value 10 text) MAX_ID) then Ok (digits_value 10 text) else Err Id
+id_of text = if are_digits 19 text && (nat_le 1 (digits_value 10 text) && nat_le (digits_value 10 text) MAX_ID)
+    then Ok (digits_value 10 text) else Err Id

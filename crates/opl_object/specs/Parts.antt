@@ -6,7 +6,8 @@ use Rattle.osm_base.specs.declared.values.key.Kind.{Kind}
 use Rattle.osm_base.specs.declared.values.place.TheConstants.{MAX_LON, MAX_LAT}
 use Rattle.opl_object.specs.declared.ascii.TheConstants.{CAPITAL_D, CAPITAL_V}
 use Rattle.opl_object.specs.declared.letter.Letter.{Letter}
-use Rattle.opl_object.specs.declared.letter.Letter.TheVariants.{Version, Visible, Changeset, Time, UserId, User, Tags, Lon, Lat, Nodes, Members}
+use Rattle.opl_object.specs.declared.letter.Letter.TheVariants.{Version, Visible, Changeset, Time, UserId, User, Tags, Lon, Lat, Nodes}
+use Rattle.opl_object.specs.declared.letter.Letter.TheVariants.{Members}
 use Rattle.opl_object.specs.declared.parts.Parts.{Parts}
 use Rattle.opl_object.specs.declared.why.Why.{Why}
 use Rattle.opl_object.specs.declared.why.Why.TheVariants as causes
@@ -37,11 +38,13 @@ with_visible _ parts = Err causes.Field
 
 -- nothing, or a longitude
 abbrev pub with_lon : List ℕ → Parts → Result Parts Why
-with_lon value parts = if is_empty value then Ok parts else (coordinate (nat_abs MAX_LON) value >>= λ lon. Ok (record parts { lon = Some lon }))
+with_lon value parts = if is_empty value then Ok parts
+    else (coordinate (nat_abs MAX_LON) value >>= λ lon. Ok (record parts { lon = Some lon }))
 
 -- nothing, or a latitude
 abbrev pub with_lat : List ℕ → Parts → Result Parts Why
-with_lat value parts = if is_empty value then Ok parts else (coordinate (nat_abs MAX_LAT) value >>= λ lat. Ok (record parts { lat = Some lat }))
+with_lat value parts = if is_empty value then Ok parts
+    else (coordinate (nat_abs MAX_LAT) value >>= λ lat. Ok (record parts { lat = Some lat }))
 
 -- what the parts are with the value of a letter
 unfoldable pub with_value : Letter → List ℕ → Parts → Result Parts Why

@@ -1,6 +1,7 @@
 -- What the values of a line stand for, apart from how they are read.
 -- osmium "OPL File Format": the values of the fields, the escapes of texts, and lists with commas.
-use Rattle.std.specs.Prelude.{◌≡◌, ◌≢◌, ◌⊎◌, ℕ, ℤ, pos, neg_ℤ, ◌+◌, ◌<◌, ◌≤◌, Bool, false, if◌then◌else◌, IsTrue, List, [], ◌∷◌, ◌++◌, length, map, nat_abs}
+use Rattle.std.specs.Prelude.{◌≡◌, ◌≢◌, ◌⊎◌, ℕ, ℤ, pos, neg_ℤ, ◌+◌, ◌<◌, ◌≤◌, Bool, false, if◌then◌else◌, IsTrue, List, [], ◌∷◌, ◌++◌}
+use Rattle.std.specs.Prelude.{length, map, nat_abs}
 use Rattle.std.specs.List.{AllByRecursion, list_all, join_with_byte}
 use Rattle.std.specs.Char.{IsScalar, encode_utf8, is_ascii_digit, is_ascii_hexdigit}
 use Rattle.std.specs.Str.Parse.{digits_value}
@@ -11,7 +12,8 @@ use Rattle.osm_base.specs.declared.values.object.Member.{Member}
 use Rattle.osm_base.specs.declared.values.place.TheConstants.{MAX_LON, MAX_LAT}
 use Rattle.osm_base.specs.values.Key.{IsId}
 use Rattle.osm_base.specs.values.Tags.{TagMap}
-use Rattle.opl_object.specs.declared.ascii.TheConstants.{PERCENT, COMMA, MINUS, POINT, EQUALS, AT, SMALL_N, SMALL_R, SMALL_W, SMALL_X, SMALL_Y}
+use Rattle.opl_object.specs.declared.ascii.TheConstants.{PERCENT, COMMA, MINUS, POINT, EQUALS, AT, SMALL_N, SMALL_R, SMALL_W, SMALL_X}
+use Rattle.opl_object.specs.declared.ascii.TheConstants.{SMALL_Y}
 use Rattle.opl_object.specs.Coordinate.{units}
 use Rattle.opl_object.specs.Text.{is_reserved}
 
@@ -29,7 +31,8 @@ SpellEach Spell _ _ = ⊥
 -- a list: nothing, or its items with commas between them
 abbrev pub SpellsList : {A : Type 0} → (List ℕ → A → Type 0) → List ℕ → List A → Type 0
 SpellsList Spell text items = ((text ≡ []) × (items ≡ []))
-    ⊎ ((first : List ℕ) × (others : List (List ℕ)) × (text ≡ join_with_byte COMMA (first ∷ others)) × SpellEach Spell (first ∷ others) items)
+    ⊎ ((first : List ℕ) × (others : List (List ℕ)) × (text ≡ join_with_byte COMMA (first ∷ others))
+    × SpellEach Spell (first ∷ others) items)
 
 -- an escape: from 1 to 6 hexadecimal digits between percent signs, of a Unicode scalar value that is not zero
 pub record SpellsEscape (spelled : List ℕ) (code : ℕ) : Type 0 where

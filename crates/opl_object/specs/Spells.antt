@@ -13,13 +13,15 @@ use Rattle.osm_base.specs.declared.values.place.TheConstants.{MAX_LON, MAX_LAT}
 use Rattle.osm_base.specs.values.Place.{PlaceOf}
 use Rattle.opl_object.specs.declared.ascii.TheConstants.{CAPITAL_D, CAPITAL_V}
 use Rattle.opl_object.specs.declared.letter.Letter.{Letter}
-use Rattle.opl_object.specs.declared.letter.Letter.TheVariants.{Version, Visible, Changeset, Time, UserId, User, Tags, Lon, Lat, Nodes, Members}
+use Rattle.opl_object.specs.declared.letter.Letter.TheVariants.{Version, Visible, Changeset, Time, UserId, User, Tags, Lon, Lat, Nodes}
+use Rattle.opl_object.specs.declared.letter.Letter.TheVariants.{Members}
 use Rattle.opl_object.specs.declared.parts.Parts.{Parts}
 use Rattle.opl_object.specs.Fields.{fields_of}
 use Rattle.opl_object.specs.Letter.{byte_of}
 use Rattle.opl_object.specs.Line.{IsSkipped}
 use Rattle.opl_object.specs.Number.{is_whole, is_time}
-use Rattle.opl_object.specs.Spelling.{AreDistinct, SpellsText, SpellsId, SpellsCoordinate, SpellsTags, SpellsList, SpellsNode, SpellsMember, kind_byte}
+use Rattle.opl_object.specs.Spelling.{AreDistinct, SpellsText, SpellsId, SpellsCoordinate, SpellsTags, SpellsList, SpellsNode, SpellsMember}
+use Rattle.opl_object.specs.Spelling.{kind_byte}
 
 -- a letter that lines of this kind have
 abbrev pub Belongs : Kind → Letter → Type 0

@@ -15,7 +15,8 @@ use Rattle.opl_object.specs.Why.{◌>>=◌}
 
 -- what stands in no text as it is: zero, tab, newline, space, percent, comma, equals sign, at sign
 abbrev pub is_reserved : ℕ → Bool
-is_reserved byte = (((byte == 0) || (byte == TAB)) || ((byte == LINE_FEED) || (byte == SPACE))) || (((byte == PERCENT) || (byte == COMMA)) || ((byte == EQUALS) || (byte == AT)))
+is_reserved byte = (((byte == 0) || (byte == TAB)) || ((byte == LINE_FEED) || (byte == SPACE))) ||
+    (((byte == PERCENT) || (byte == COMMA)) || ((byte == EQUALS) || (byte == AT)))
 
 -- nothing reserved
 abbrev pub is_plain : List ℕ → Bool

@@ -1,7 +1,8 @@
 -- The causes of a line without an entry, and how what a function returned agrees with what a line gives.
 use Rattle.std.specs.Prelude.{◌≡◌, ℕ, List, [], ◌∷◌, Option, None, Some, Result, Ok, Err}
 use Rattle.opl_object.specs.declared.why.Why.{Why}
-use Rattle.opl_object.specs.declared.why.Why.TheVariants.{Utf8, Kind, Id, Field, Repeated, Number, Range, Escape, Tag, RepeatedKey, Member, HalfPlace, Order}
+use Rattle.opl_object.specs.declared.why.Why.TheVariants.{Utf8, Kind, Id, Field, Repeated, Number, Range, Escape, Tag, RepeatedKey, Member}
+use Rattle.opl_object.specs.declared.why.Why.TheVariants.{HalfPlace, Order}
 use Rattle.opl_object.specs.declared.why.LineRefused.{LineRefused}
 use Rattle.opl_object.specs.declared.why.LineRefused.TheVariants.{Bad, OutOfMemory}
 

@@ -135,7 +135,8 @@ encode-order x y xs ys =
         | inl above ↦
             nat_list_cmp_total.antisymm (encode x ++ xs) (encode y ++ ys)
             ∙ ap ordering_reverse (encode-less y x above ys xs)
-            ∙ sym (ap (λ r. ordering_then r (slice_cmp nat_cmp xs ys)) (nat_cmp_total.antisymm x y ∙ ap ordering_reverse (nat_cmp-less y x above)))
+            ∙ sym (ap (λ r. ordering_then r (slice_cmp nat_cmp xs ys))
+            (nat_cmp_total.antisymm x y ∙ ap ordering_reverse (nat_cmp-less y x above)))
         | inr most ↦
             let level : x ≡ y = omega arith in
             ap (λ c. slice_cmp nat_cmp (encode c ++ xs) (encode y ++ ys)) level

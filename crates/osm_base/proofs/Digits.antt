@@ -1,5 +1,6 @@
 -- The digits of numbers, and digits without the zeros at their end.
-use Rattle.std.proofs.Common.{◌≡◌, ◌≢◌, ℕ, zero, suc, ◌+◌, ◌-◌, ◌*◌, ◌/◌, ◌%◌, ◌^◌, ◌<◌, ◌≤◌, true, false, cond, eqb, List, [], ◌∷◌, ◌++◌, length, length-append, drop, set, refl, sym, ◌∙◌, ap, append_assoc, arith, inl, inr}
+use Rattle.std.proofs.Common.{◌≡◌, ◌≢◌, ℕ, zero, suc, ◌+◌, ◌-◌, ◌*◌, ◌/◌, ◌%◌, ◌^◌, ◌<◌, ◌≤◌, true, false, cond, eqb, List, [], ◌∷◌, ◌++◌}
+use Rattle.std.proofs.Common.{length, length-append, drop, set, refl, sym, ◌∙◌, ap, append_assoc, arith, inl, inr}
 use Rattle.std.specs.Prelude.{reverse, replicate, decimal, ℤ, unsigned_abs}
 use Rattle.std.specs.Int.{is_negative}
 use Rattle.std.specs.List.{prefix_len}
@@ -20,8 +21,12 @@ behind_zeros digits = drop (prefix_len is_zero digits) digits
 behind_zeros-append : (digits : List ℕ) → behind_zeros (digits ++ 49 ∷ []) ≡ behind_zeros digits ++ 49 ∷ []
 behind_zeros-append [] = refl
 behind_zeros-append (digit ∷ digits) =
-    elim (eqb digit 48) as (λ b. drop (cond b (1 + prefix_len is_zero (digits ++ 49 ∷ [])) 0) (digit ∷ digits ++ 49 ∷ []) ≡ drop (cond b (1 + prefix_len is_zero digits) 0) (digit ∷ digits) ++ 49 ∷ []) [
-      | true ↦ rw (drop-more (prefix_len is_zero (digits ++ 49 ∷ [])) digit (digits ++ 49 ∷ []), drop-more (prefix_len is_zero digits) digit digits) (behind_zeros-append digits)
+    elim (eqb digit 48) as (λ b. drop (cond b (1 + prefix_len is_zero (digits ++ 49 ∷ [])) 0) (digit ∷ digits ++ 49 ∷ [])
+    ≡ drop (cond b (1 + prefix_len is_zero digits) 0) (digit ∷ digits) ++ 49 ∷ []) [
+      | true ↦ rw (
+        drop-more (prefix_len is_zero (digits ++ 49 ∷ [])) digit (digits ++ 49 ∷ []),
+        drop-more (prefix_len is_zero digits) digit digits,
+      ) (behind_zeros-append digits)
       | false ↦ refl
     ]
 
@@ -55,7 +60,8 @@ pub trimmed-decimal : (n : ℕ) → n < 2 ^ 64 → n % 10 ≢ 0 → trimmed (dec
 trimmed-decimal n most other =
     let last : eqb (48 + n % 10) 48 ≡ false = grind (arith, nat_tests) in
     elim (cases_lt n 10) [
-      | inl small ↦ let e : n % 10 ≡ n = omega arith in rw (decimal_digit n small) (trimmed-digit [] (48 + n) (ap (λ r. eqb (48 + r) 48) (sym e) ∙ last))
+      | inl small ↦ let e : n % 10 ≡ n = omega arith in
+          rw (decimal_digit n small) (trimmed-digit [] (48 + n) (ap (λ r. eqb (48 + r) 48) (sym e) ∙ last))
       | inr large ↦ rw (decimal_step n large most) (trimmed-digit (decimal (n / 10)) (48 + n % 10) last)
     ]
 
@@ -137,16 +143,19 @@ decimal-units units below =
     ap trimmed (decimal-behind_one 6 units below (omega arith)) ∙ trimmed-one (padded 7 (decimal units))
 
 -- the text of a coordinate, by its sign
-pub degrees-positive : (units : ℤ) → is_negative units ≡ false → degrees units ≡ decimal (unsigned_abs units / 10000000) ++ fraction (unsigned_abs units % 10000000)
+pub degrees-positive : (units : ℤ) → is_negative units ≡ false
+    → degrees units ≡ decimal (unsigned_abs units / 10000000) ++ fraction (unsigned_abs units % 10000000)
 unfolding degrees
 degrees-positive units sign = rw sign refl
 
-pub degrees-negative : (units : ℤ) → is_negative units ≡ true → degrees units ≡ 45 ∷ (decimal (unsigned_abs units / 10000000) ++ fraction (unsigned_abs units % 10000000))
+pub degrees-negative : (units : ℤ) → is_negative units ≡ true
+    → degrees units ≡ 45 ∷ (decimal (unsigned_abs units / 10000000) ++ fraction (unsigned_abs units % 10000000))
 unfolding degrees
 degrees-negative units sign = rw sign refl
 
 -- the text of a coordinate without its sign, by its size
-pub size-text : (units : ℤ) (size whole : ℕ) (back : List ℕ) → size ≡ unsigned_abs units → whole ≡ size / 10000000 → back ≡ fraction (size % 10000000)
+pub size-text : (units : ℤ) (size whole : ℕ) (back : List ℕ) → size ≡ unsigned_abs units → whole ≡ size / 10000000
+    → back ≡ fraction (size % 10000000)
     → decimal whole ++ back ≡ decimal (unsigned_abs units / 10000000) ++ fraction (unsigned_abs units % 10000000)
 size-text units size whole back sized wholes backs =
     ap (λ after. decimal whole ++ after) backs

@@ -22,7 +22,8 @@ tree_cmp = cmp-value.it
 abbrev spot : ℕ → Kind → ℕ → SpotOf
 spot table kind id = record { table = table; key = record { kind = kind; id = id } }
 
-same_order : (table own : ℕ) (kind other : Kind) (id else : ℕ) → tree_cmp (spot table kind id) (spot own other else) ≡ spot_cmp (spot table kind id) (spot own other else)
+same_order : (table own : ℕ) (kind other : Kind) (id else : ℕ)
+    → tree_cmp (spot table kind id) (spot own other else) ≡ spot_cmp (spot table kind id) (spot own other else)
 same_order table own Node Node id else = refl
 same_order table own Node Way id else = refl
 same_order table own Node Relation id else = refl
@@ -48,4 +49,5 @@ spot_cmp-IsAntisymmetric one other e =
 
 -- a look-up in a tree of rows
 pub got : (tree : BTreeMap SpotOf Row) (spot : SpotOf) → get_by (tree_cmp spot) tree ≡ finite.get (rows_in tree) spot
-got tree spot = ap (λ cmp. get_by (cmp spot) tree) tree_cmp-spot_cmp ∙ found spot_cmp spot_cmp_total spot_cmp-IsAntisymmetric spot tree.entries
+got tree spot = ap (λ cmp. get_by (cmp spot) tree) tree_cmp-spot_cmp
+    ∙ found spot_cmp spot_cmp_total spot_cmp-IsAntisymmetric spot tree.entries

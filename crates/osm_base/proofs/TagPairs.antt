@@ -1,5 +1,6 @@
 -- Looking a key up among tags, and adding one.
-use Rattle.std.proofs.Common.{◌≡◌, ℕ, ◌+◌, ◌<◌, Bool, true, false, cond, Some, List, [], ◌∷◌, ◌++◌, ◌-◌, ◌≤◌, length, take, drop, get_or, length-drop, length-append, refl, sym, ◌∙◌, ap, subst, append_assoc, arith}
+use Rattle.std.proofs.Common.{◌≡◌, ℕ, ◌+◌, ◌<◌, Bool, true, false, cond, Some, List, [], ◌∷◌, ◌++◌, ◌-◌, ◌≤◌, length, take, drop, get_or}
+use Rattle.std.proofs.Common.{length-drop, length-append, refl, sym, ◌∙◌, ap, subst, append_assoc, arith}
 use Rattle.std.proofs.Common.{map as each}
 use Rattle.std.proofs.lemmas.List.{drop_more, drop-append-le, take-append-le, append-nil, map-append}
 use Rattle.std.proofs.Math.Seq.{drop-append_seam, take-append_seam}
@@ -42,17 +43,21 @@ module _ (text key : List ℕ) (spans : List Span) (i : ℕ) (d : Span) where
   step h = ap (λ rest. map.find (slice_cmp nat_cmp) (chars key) (each (pair_of text) rest)) (drop_more spans i d h)
 
   -- the key at i is the one that is asked for
-  pub find-here : (own : List ℕ) → own ≡ key_bytes text (get_or spans i d) → i < length spans → IsUtf8 key → IsUtf8 own → bytes_eq own key ≡ true
+  pub find-here : (own : List ℕ) → own ≡ key_bytes text (get_or spans i d) → i < length spans → IsUtf8 key → IsUtf8 own
+      → bytes_eq own key ≡ true
       → map.find (slice_cmp nat_cmp) (chars key) (each (pair_of text) (drop i spans)) ≡ Some (chars (value_bytes text (get_or spans i d)))
   find-here own is h u w t = step h ∙ rw (← is, same_characters key own u w, t) refl
 
   -- it is another one
-  pub find-later : (own : List ℕ) → own ≡ key_bytes text (get_or spans i d) → i < length spans → IsUtf8 key → IsUtf8 own → bytes_eq own key ≡ false
-      → map.find (slice_cmp nat_cmp) (chars key) (each (pair_of text) (drop (i + 1) spans)) ≡ map.find (slice_cmp nat_cmp) (chars key) (each (pair_of text) (drop i spans))
+  pub find-later : (own : List ℕ) → own ≡ key_bytes text (get_or spans i d) → i < length spans → IsUtf8 key → IsUtf8 own
+      → bytes_eq own key ≡ false
+      → map.find (slice_cmp nat_cmp) (chars key) (each (pair_of text) (drop (i + 1) spans))
+      ≡ map.find (slice_cmp nat_cmp) (chars key) (each (pair_of text) (drop i spans))
   find-later own is h u w t = sym (step h ∙ rw (← is, same_characters key own u w, t) refl)
 
 -- what lies within a text stays where bytes follow it
-slice_range-append : (text more : List ℕ) (from to : ℕ) → from ≤ to → to ≤ length text → slice_range (text ++ more) from to ≡ slice_range text from to
+slice_range-append : (text more : List ℕ) (from to : ℕ) → from ≤ to → to ≤ length text
+    → slice_range (text ++ more) from to ≡ slice_range text from to
 slice_range-append text more from to order within =
     let start : from ≤ length text = omega arith in
     let room : to - from ≤ length (drop from text) = simp length-drop (omega arith) in
@@ -65,7 +70,11 @@ pairs-append text more [] h = refl
 pairs-append text more (span ∷ spans) h =
     let own = h.0 in
     let in_key : span.value ≤ length text = omega (arith, own.value_end, own.within) in
-    rw (slice_range-append text more span.key span.value own.key_end in_key, slice_range-append text more span.value span.end own.value_end own.within, pairs-append text more spans h.1) refl
+    rw (
+      slice_range-append text more span.key span.value own.key_end in_key,
+      slice_range-append text more span.value span.end own.value_end own.within,
+      pairs-append text more spans h.1,
+    ) refl
 
 -- and are spans of it
 pub AreSpans-append : (text more : List ℕ) (spans : List Span) → AreSpans text spans → AreSpans (text ++ more) spans
@@ -88,7 +97,8 @@ AreSpans-joined text [] back g h = h
 AreSpans-joined text (span ∷ front) back g h = (g.0, AreSpans-joined text front back g.1 h)
 
 -- the parts of what was put behind a text
-part_behind : (before part after : List ℕ) → take (length (before ++ part) - length before) (drop (length before) (before ++ part ++ after)) ≡ part
+part_behind : (before part after : List ℕ)
+    → take (length (before ++ part) - length before) (drop (length before) (before ++ part ++ after)) ≡ part
 part_behind before part after =
     let size : length (before ++ part) - length before ≡ length part = omega (arith, length-append before part) in
     rw (append_assoc, drop-append_seam, size) (take-append_seam part after)
@@ -124,7 +134,8 @@ module _ (text key value : List ℕ) (spans : List Span) (h : AreSpans text span
   pub pairs-unchanged : pairs_of (text ++ key ++ value) spans ≡ pairs_of text spans
   pairs-unchanged = pairs-append (text ++ key) value spans (AreSpans-append text key spans h) ∙ pairs-append text key spans h
 
-  pub pairs-behind : pairs_of (text ++ key ++ value) (spans ++ span_behind text key value ∷ []) ≡ pairs_of text spans ++ (chars key, chars value) ∷ []
+  pub pairs-behind : pairs_of (text ++ key ++ value) (spans ++ span_behind text key value ∷ []) ≡ pairs_of text spans
+      ++ (chars key, chars value) ∷ []
   pairs-behind =
       map-append (pair_of (text ++ key ++ value)) spans (span_behind text key value ∷ [])
       ∙ ap (λ pairs. pairs ++ pair_of (text ++ key ++ value) (span_behind text key value) ∷ []) pairs-unchanged

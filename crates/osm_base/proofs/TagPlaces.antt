@@ -1,5 +1,6 @@
 -- Places among tags whose keys rise.
-use Rattle.std.proofs.Common.{◌≡◌, ℕ, zero, suc, Bool, true, false, cond, ◌&&◌, T, Some, None, List, [], ◌∷◌, ◌++◌, length, take, drop, refl, sym, ◌∙◌, ap, subst, arith}
+use Rattle.std.proofs.Common.{◌≡◌, ℕ, zero, suc, Bool, true, false, cond, ◌&&◌, T, Some, None, List, [], ◌∷◌, ◌++◌, length, take, drop}
+use Rattle.std.proofs.Common.{refl, sym, ◌∙◌, ap, subst, arith}
 use Rattle.std.proofs.lemmas.List.{take-append-drop}
 use Rattle.std.specs.Ordering.{nat_cmp, is_eq, is_lt, ordering_reverse}
 use Rattle.std.specs.declared.cmp.Ordering.{Ordering}
@@ -44,7 +45,8 @@ find-BelongsAt key pairs place h =
     ∙ find-above key (take place pairs) (drop place pairs) h.before
     ∙ find-below key (drop place pairs) h.behind
 
-first_below_all : (pair : List ℕ × List ℕ) (pairs : TagPairs) → T (below_all order pair.0 pairs) → put order pair.0 pair.1 pairs ≡ pair ∷ pairs
+first_below_all : (pair : List ℕ × List ℕ) (pairs : TagPairs) → T (below_all order pair.0 pairs)
+    → put order pair.0 pair.1 pairs ≡ pair ∷ pairs
 first_below_all pair [] h = refl
 first_below_all pair (next ∷ pairs) h =
     ap (λ o. by_order o (pair ∷ next ∷ pairs) ((next.0, pair.1) ∷ pairs) (next ∷ put order pair.0 pair.1 pairs)) (less _ (both_left _ _ h))
@@ -76,7 +78,8 @@ below_all-at key (first ∷ pairs) zero pair rest h e =
     subst (λ one. order key one.0 ≡ Less) same (less _ (both_left _ _ h))
 below_all-at key (first ∷ pairs) (suc place) pair rest h e = below_all-at key pairs place pair rest (both_right _ _ h) e
 
-all_above : (key : List ℕ) (other : List ℕ) (pairs : TagPairs) → order key other ≡ Less → T (below_all order other pairs) → IsBelow key pairs
+all_above : (key : List ℕ) (other : List ℕ) (pairs : TagPairs) → order key other ≡ Less → T (below_all order other pairs)
+    → IsBelow key pairs
 all_above key other [] e h = tt
 all_above key other (pair ∷ pairs) e h =
     (nat_list_cmp_total.trans key other pair.0 e (less _ (both_left _ _ h)), all_above key other pairs e (both_right _ _ h))
@@ -116,6 +119,7 @@ find-at key (first ∷ pairs) zero pair rest h e o =
     ∙ ap (λ r. cond (is_eq r) (Some pair.1) (find order key pairs)) (turned pair.0 key Equal o)
 find-at key (first ∷ pairs) (suc place) pair rest h e o =
     let below : order first.0 key ≡ Less =
-    ap (order first.0) (sym (slice_cmp-IsAntisymmetric nat_cmp-IsAntisymmetric pair.0 key o)) ∙ below_all-at first.0 pairs place pair rest (both_left _ _ h) e in
+    ap (order first.0) (sym (slice_cmp-IsAntisymmetric nat_cmp-IsAntisymmetric pair.0 key o))
+    ∙ below_all-at first.0 pairs place pair rest (both_left _ _ h) e in
     ap (λ r. cond (is_eq r) (Some first.1) (find order key pairs)) (turned first.0 key Less below)
     ∙ find-at key pairs place pair rest (both_right _ _ h) e o

@@ -1,5 +1,7 @@
 -- What a crash in a call leaves is one of its outcomes.
-use Rattle.std.proofs.Common.{◌≡◌, inl, inr, Bool, true, false, ℕ, zero, suc, ◌+◌, ◌-◌, ◌/◌, ◌<◌, ◌≤◌, ◌⊎◌, List, [], ◌∷◌, ◌++◌, length, take, drop, get_or, replicate, slice_get, slice_range, Some, refl, sym, ap, ◌∙◌, subst, arith, append_assoc, length-drop, length-take, take-append-drop}
+use Rattle.std.proofs.Common.{◌≡◌, inl, inr, Bool, true, false, ℕ, zero, suc, ◌+◌, ◌-◌, ◌/◌, ◌<◌, ◌≤◌, ◌⊎◌, List, [], ◌∷◌, ◌++◌, length}
+use Rattle.std.proofs.Common.{take, drop, get_or, replicate, slice_get, slice_range, Some, refl, sym, ap, ◌∙◌, subst, arith, append_assoc}
+use Rattle.std.proofs.Common.{length-drop, length-take, take-append-drop}
 use Rattle.std.proofs.lemmas.Option.{slice_get-get_or}
 use Rattle.std.proofs.lemmas.List.{take_more, take-take, drop-take, get_or-drop, length-replicate}
 use Rattle.outside.specs.Disk.{Torn}
@@ -94,7 +96,8 @@ settled_after (Sync false) medium is = absurd (cc)
 
 -- behind a sync that succeeded a crash leaves what a read gives
 settled_reaches : (start : List ℕ) (calls : List Call) (before settled : ℕ) → before ≤ length calls → IsSettled calls before settled
-    → Reaches (run (fresh start) (take settled calls)).stable (run (fresh start) (take settled calls)).ranges (run (fresh start) (take settled calls)).seen
+    → Reaches (run (fresh start) (take settled calls)).stable (run (fresh start) (take settled calls)).ranges
+    (run (fresh start) (take settled calls)).seen
 settled_reaches start calls before zero within is = refl
 settled_reaches start calls before (suc n) within is =
     let (call, at, settling) = is.last (omega arith) in
@@ -108,8 +111,10 @@ settled_reaches start calls before (suc n) within is =
     ap (λ (k : ℕ). run (fresh start) (take k calls)) (sym next) ∙ more in
     let still = settled_after call (run (fresh start) (take n calls)) settling in
     let P : List ℕ → List (ℕ × ℕ) → List ℕ → Type 0 = Reaches in
-    let there-after : P (after call (run (fresh start) (take n calls))).stable (after call (run (fresh start) (take n calls))).ranges (after call (run (fresh start) (take n calls))).seen =
-    subst (λ (ranges : List (ℕ × ℕ)). P (after call (run (fresh start) (take n calls))).stable ranges (after call (run (fresh start) (take n calls))).seen) (sym still.1) still.0 in
+    let there-after : P (after call (run (fresh start) (take n calls))).stable (after call (run (fresh start) (take n calls))).ranges
+    (after call (run (fresh start) (take n calls))).seen =
+    subst (λ (ranges : List (ℕ × ℕ)). P (after call (run (fresh start) (take n calls))).stable ranges
+    (after call (run (fresh start) (take n calls))).seen) (sym still.1) still.0 in
     subst (λ (m : Medium). P m.stable m.ranges m.seen) (sym whole) there-after
 
 whole_sync : (pick : CrashPick) (call : Call) (content : List ℕ) → settles call ≡ true → cut_short pick call content ≡ content
@@ -127,7 +132,8 @@ last_outcome pick start front mid call content quiet reached false is =
     let before = all_reach pick mid (run (fresh start) front) content quiet reached in
     let after-it = cut_reaches pick call (run (run (fresh start) front) mid) (all_cut_short pick mid content) is before in
     let cut = all_cut_short-append pick mid (call ∷ []) content in
-    let ran = run-append (fresh start) (front ++ mid) (call ∷ []) ∙ ap (λ (m : Medium). after call m) (run-append (fresh start) front mid) in
+    let ran = run-append (fresh start) (front ++ mid) (call ∷ [])
+    ∙ ap (λ (m : Medium). after call m) (run-append (fresh start) front mid) in
     let P : Medium → List ℕ → Type 0 = MayLeave in
     inr (subst (λ (m : Medium). P m (all_cut_short pick (mid ++ call ∷ []) content)) (sym ran)
     (subst (λ (l : List ℕ). P (after call (run (run (fresh start) front) mid)) l) (sym cut) (inr after-it)))
@@ -179,5 +185,6 @@ left_outcome pick start calls number left some within is =
     let all = all_cut_short pick (mid ++ call ∷ []) content in
     elim (last_outcome pick start front mid call content quiet reached (settles call) refl) [
       | inl early ↦ inl (subst (λ (l : List ℕ). P (take b calls) l) (sym left-is) (subst (λ (cs : List Call). P cs all) (sym to-b) early))
-      | inr late ↦ inr (subst (λ (l : List ℕ). P (take number calls) l) (sym left-is) (subst (λ (cs : List Call). P cs all) (sym to-number) late))
+      | inr late ↦ inr (subst (λ (l : List ℕ). P (take number calls) l) (sym left-is)
+          (subst (λ (cs : List Call). P cs all) (sym to-number) late))
     ]

@@ -1,5 +1,6 @@
 -- What one call more adds to a history of calls.
-use Rattle.std.proofs.Common.{◌≡◌, inl, inr, Bool, true, false, ℕ, List, [], ◌∷◌, ◌++◌, length, take, refl, sym, ap, ◌∙◌, subst, arith, if◌then◌else◌}
+use Rattle.std.proofs.Common.{◌≡◌, inl, inr, Bool, true, false, ℕ, List, [], ◌∷◌, ◌++◌, length, take, refl, sym, ap, ◌∙◌, subst, arith}
+use Rattle.std.proofs.Common.{if◌then◌else◌}
 use Rattle.std.proofs.lemmas.Bool.{cases_lt}
 use Rattle.std.proofs.lemmas.List.{take_all, take-append-le, length_push}
 use Rattle.outside.specs.Disk.{Torn, Elapses, overlaid}
@@ -17,7 +18,8 @@ run-append medium [] second = refl
 run-append medium (call ∷ calls) second = run-append (after call medium) calls second
 
 -- what a write leaves may be what stood there, cut short
-Torn-written : (at : ℕ) (piece content : List ℕ) (done : Bool) → Torn at (length piece) content (if done then overlaid at piece content else content)
+Torn-written : (at : ℕ) (piece content : List ℕ) (done : Bool)
+    → Torn at (length piece) content (if done then overlaid at piece content else content)
 Torn-written at piece content true = Torn-overlaid at (length piece) piece content (omega arith)
 Torn-written at piece content false = Torn-same at (length piece) content
 
@@ -94,6 +96,7 @@ elapses_not start old new is =
     })
 
 -- what was kept before the first write does not depend on what is there now
-pub first_bytes-kept : (start : Option (Vec ℕ Global)) (bytes other : List ℕ) → IsSome start → first_bytes start bytes ≡ first_bytes start other
+pub first_bytes-kept : (start : Option (Vec ℕ Global)) (bytes other : List ℕ) → IsSome start
+    → first_bytes start bytes ≡ first_bytes start other
 first_bytes-kept None bytes other some = absurd (cc)
 first_bytes-kept (Some kept) bytes other some = refl

@@ -1,7 +1,9 @@
 -- Bytes written over a content, place by place. Past the end of a list the byte is 0, so that a gap of zeros does not show.
-use Rattle.std.proofs.Common.{◌≡◌, ℕ, ◌+◌, ◌-◌, ◌<◌, ◌≤◌, ◌⊎◌, inl, inr, max, List, ◌++◌, length, take, drop, replicate, get_or, sym, ap, ◌∙◌, arith, append_assoc, length-append, length-take, length-drop}
+use Rattle.std.proofs.Common.{◌≡◌, ℕ, ◌+◌, ◌-◌, ◌<◌, ◌≤◌, ◌⊎◌, inl, inr, max, List, ◌++◌, length, take, drop, replicate, get_or, sym, ap}
+use Rattle.std.proofs.Common.{◌∙◌, arith, append_assoc, length-append, length-take, length-drop}
 use Rattle.std.proofs.lemmas.Bool.{cases_lt}
-use Rattle.std.proofs.lemmas.List.{get_or-take, get_or-drop, get_or_append_left, get_or-append_right, get_or-replicate, get_or_past, length-replicate, append-nil, ext_get_or, take_all, take_at}
+use Rattle.std.proofs.lemmas.List.{get_or-take, get_or-drop, get_or_append_left, get_or-append_right, get_or-replicate, get_or_past}
+use Rattle.std.proofs.lemmas.List.{length-replicate, append-nil, ext_get_or, take_all, take_at}
 use Rattle.outside.specs.Disk.{Torn, padded, overlaid}
 
 pub length-padded : (at : ℕ) (content : List ℕ) → length (padded at content) ≡ at

@@ -1,6 +1,7 @@
 -- What a crash in a call of a disk in memory leaves, where the ranges that were written since the last sync hold
 -- what a pick says.
-use Rattle.std.specs.Prelude.{◌≡◌, ℕ, ◌-◌, ◌/◌, ◌<◌, ◌≤◌, List, [], ◌∷◌, Bool, true, false, length, take, replicate, slice_get, slice_range, Some}
+use Rattle.std.specs.Prelude.{◌≡◌, ℕ, ◌-◌, ◌/◌, ◌<◌, ◌≤◌, List, [], ◌∷◌, Bool, true, false, length, take, replicate, slice_get, slice_range}
+use Rattle.std.specs.Prelude.{Some}
 use Rattle.outside.specs.Disk.{overlaid}
 use Rattle.outside.specs.Tape.{fresh, run}
 use Rattle.outside.specs.declared.crash_pick.CrashPick.{CrashPick}

@@ -2,7 +2,8 @@
 -- Between two syncs each written range, and what lies past the old end, may hold anything after a crash, and the
 -- end may be anywhere from the old one to the new one. Bytes outside the written ranges stay. A write that fails
 -- counts as written. A sync that succeeds leaves what a read gives, and one that fails promises nothing new.
-use Rattle.std.specs.Prelude.{◌≡◌, ℕ, ◌+◌, ◌-◌, ◌<◌, ◌≤◌, ◌⊎◌, min, max, List, ◌++◌, length, take, drop, replicate, slice_index, Option, Some}
+use Rattle.std.specs.Prelude.{◌≡◌, ℕ, ◌+◌, ◌-◌, ◌<◌, ◌≤◌, ◌⊎◌, min, max, List, ◌++◌, length, take, drop, replicate, slice_index, Option}
+use Rattle.std.specs.Prelude.{Some}
 use Rattle.outside.specs.Calls.{one_more}
 
 -- what crashes may leave: of a crash now, and of a crash at some moment from an earlier one on, inside a call or

@@ -1,5 +1,6 @@
 -- Numbers and pages are equal where their bytes are.
-use Rattle.std.proofs.Common.{◌≡◌, ℕ, ◌+◌, ◌-◌, ◌^◌, ◌<◌, ◌≤◌, List, [], ◌++◌, length, take, drop, get_or, refl, sym, ap, ◌∙◌, arith, length-take, length-drop}
+use Rattle.std.proofs.Common.{◌≡◌, ℕ, ◌+◌, ◌-◌, ◌^◌, ◌<◌, ◌≤◌, List, [], ◌++◌, length, take, drop, get_or, refl, sym, ap, ◌∙◌, arith}
+use Rattle.std.proofs.Common.{length-take, length-drop}
 use Rattle.std.proofs.lemmas.List.{ext_get_or, get_or-take, get_or-drop, take_all, append-nil, drop_all, drop-drop}
 use Rattle.std.proofs.lemmas.Nat.{from_le_bytes-to_le_bytes_8}
 use Rattle.std.specs.Int.{w64, from_le_bytes, to_le_bytes}
@@ -18,7 +19,8 @@ part_same n b c i j in-b in-c same =
     let both : length (take n (drop j c)) ≡ length (take n (drop i b)) = long-c ∙ sym (length-part n b i in-b) in
     ext_get_or 0 (take n (drop j c)) (take n (drop i b)) both (λ k inside.
     let below : k < n = omega arith in
-    get_or-take n (drop j c) k 0 below ∙ get_or-drop j c k 0 ∙ same k below ∙ sym (get_or-drop i b k 0) ∙ sym (get_or-take n (drop i b) k 0 below))
+    get_or-take n (drop j c) k 0 below ∙ get_or-drop j c k 0 ∙ same k below ∙ sym (get_or-drop i b k 0)
+    ∙ sym (get_or-take n (drop i b) k 0 below))
 
 pub number_same : (b c : List ℕ) (i j : ℕ) → i + 8 ≤ length b → j + 8 ≤ length c
     → ((k : ℕ) → k < 8 → get_or c (j + k) 0 ≡ get_or b (i + k) 0) → number c j ≡ number b i
@@ -127,7 +129,8 @@ byte_read bytes old new at count long fits reads =
     ∙ ap (λ (i : ℕ). get_or bytes i 0) place
 
 -- a page that was read, where it is there
-pub page_read_whole : (bytes old new : List ℕ) (at count : ℕ) → length old ≡ 4096 → at + 4096 ≤ length bytes → ReadsFrom at count bytes old new
+pub page_read_whole : (bytes old new : List ℕ) (at count : ℕ) → length old ≡ 4096 → at + 4096 ≤ length bytes
+    → ReadsFrom at count bytes old new
     → new ≡ page_from bytes at
 page_read_whole bytes old new at count long fits reads = page_read bytes old new at count long (omega (arith, reads.many)) reads
 

@@ -11,7 +11,8 @@ on_ok A B (Ok done) f a = f a
 on_ok A B (Err fault) f a = tt
 
 -- the cause of its answer
-pub cause_after : {T E : Type 0} (before mid now : ℕ) (result : Result T E) → before ≤ mid → HasCause mid now result → HasCause before now result
+pub cause_after : {T E : Type 0} (before mid now : ℕ) (result : Result T E) → before ≤ mid → HasCause mid now result
+    → HasCause before now result
 cause_after before mid now (Ok value) first second = record { later = omega (arith, first, second.later); failed = tt }
 cause_after before mid now (Err fault) first second = record {
   later = omega (arith, first, second.later);
@@ -19,9 +20,12 @@ cause_after before mid now (Err fault) first second = record {
 }
 
 -- and where the count of faults rose
-pub caused : {T E : Type 0} (before mid now : ℕ) (result : Result T E) → before ≤ mid → mid ≤ now → Rose mid now → HasCause before now result
+pub caused : {T E : Type 0} (before mid now : ℕ) (result : Result T E) → before ≤ mid → mid ≤ now → Rose mid now
+    → HasCause before now result
 caused before mid now (Ok value) first second rose = record { later = omega (arith, first, second); failed = tt }
 caused before mid now (Err fault) first second rose = record { later = omega (arith, first, second); failed = omega (arith, first, rose) }
 
-pub disk_caused : {T : Type 0} (before mid now : ℕ) (result : Result T StoreFault) → before ≤ mid → mid ≤ now → Rose mid now → HasDiskCause before now result
-disk_caused before mid now result first second rose = record { later = omega (arith, first, second); failed = λ is. omega (arith, first, rose) }
+pub disk_caused : {T : Type 0} (before mid now : ℕ) (result : Result T StoreFault) → before ≤ mid → mid ≤ now → Rose mid now
+    → HasDiskCause before now result
+disk_caused before mid now result first second rose =
+    record { later = omega (arith, first, second); failed = λ is. omega (arith, first, rose) }

@@ -113,7 +113,8 @@ held_none entries count start at filled buffer base now held none = record {
       absurd (omega (arith, from, to, many, all));
 }
 
-pub held_start : (entries : List (ℕ × List ℕ)) (start : ℕ) (buffer now : List ℕ) → length buffer ≡ 4096 → ((i : ℕ) → slice_index buffer i ≡ 0)
+pub held_start : (entries : List (ℕ × List ℕ)) (start : ℕ) (buffer now : List ℕ) → length buffer ≡ 4096
+    → ((i : ℕ) → slice_index buffer i ≡ 0)
     → NumbersHeld entries 0 start start 0 buffer now now
 held_start entries start buffer now size zero = record {
   from = omega arith;

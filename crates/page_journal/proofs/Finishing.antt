@@ -1,5 +1,6 @@
 -- A journal that a crash has left open is copied home, and its gate is shut.
-use Rattle.std.proofs.Common.{◌≡◌, ◌≢◌, ◌↔◌, Bool, false, inl, inr, ⊎_elim, Err, ℕ, zero, suc, ◌+◌, ◌-◌, ◌*◌, ◌<◌, ◌≤◌, ◌⊎◌, List, [], length, min, slice_index_or, sym, ap, ◌∙◌, subst, arith}
+use Rattle.std.proofs.Common.{◌≡◌, ◌≢◌, ◌↔◌, Bool, false, inl, inr, ⊎_elim, Err, ℕ, zero, suc, ◌+◌, ◌-◌, ◌*◌, ◌<◌, ◌≤◌, ◌⊎◌, List, []}
+use Rattle.std.proofs.Common.{length, min, slice_index_or, sym, ap, ◌∙◌, subst, arith}
 use Rattle.std.specs.Bool.{IsTrue}
 use Rattle.std.proofs.lemmas.Bool.{cases_eq, cases_lt}
 use Rattle.outside.specs.Disk.{Crashes, Only, Within, Goes}
@@ -10,19 +11,22 @@ use Rattle.page_journal.specs.Pages.{number, page_from, gate, first_page, page_c
 use Rattle.page_journal.specs.PageSet.{up_to}
 use Rattle.page_journal.specs.Written.{GatePut, HomePut, Finished}
 use Rattle.page_journal.specs.declared.fault.StoreFault.{StoreFault}
-use Rattle.page_journal.specs.declared.fault.StoreFault.TheVariants.{NotFormatted, NotEmpty, BadStore, DiskFault, StoreFull, Broken, OutOfMemory}
+use Rattle.page_journal.specs.declared.fault.StoreFault.TheVariants.{NotFormatted, NotEmpty, BadStore, DiskFault, StoreFull, Broken}
+use Rattle.page_journal.specs.declared.fault.StoreFault.TheVariants.{OutOfMemory}
 use Rattle.page_journal.specs.declared.layout.TheConstants.{OPEN, SHUT}
 use Rattle.page_journal.proofs.Bytes.{number-page_from}
 use Rattle.page_journal.proofs.Moments.{goes_weaker}
 use Rattle.page_journal.proofs.Places.{within_only, number_spared, page_spared}
 use Rattle.page_journal.proofs.Sets.{length-up_to, get_or-up_to}
-use Rattle.page_journal.proofs.Standing.{Stands, AreNumbers, Has, Rest, apart, find_place, home_open, home_shut, formatted_spared, stands_spared, rest_spared, beside_others}
+use Rattle.page_journal.proofs.Standing.{Stands, AreNumbers, Has, Rest, apart, find_place, home_open, home_shut, formatted_spared}
+use Rattle.page_journal.proofs.Standing.{stands_spared, rest_spared, beside_others}
 
 -- the pages of the journal
 abbrev pub bodies_of : List ℕ → ℕ → List ℕ
 bodies_of bytes place = page_from bytes (body_at bytes place)
 
-rising_from : (f : ℕ → ℕ) (count : ℕ) → ((place : ℕ) → place + 1 < count → f place < f (place + 1)) → (one two : ℕ) → one < two → two < count → f one < f two
+rising_from : (f : ℕ → ℕ) (count : ℕ) → ((place : ℕ) → place + 1 < count → f place < f (place + 1)) → (one two : ℕ) → one < two
+    → two < count → f one < f two
 rising_from f count next one zero before inside = absurd (omega (arith, before))
 rising_from f count next one (suc two) before inside =
     let last : two + 1 ≡ suc two = omega arith in
@@ -41,7 +45,8 @@ module _ (bytes : List ℕ) (first count : ℕ) (first-is : first ≡ first_page
     positive = λ place inside. well.numbers.positive place (omega (arith, inside, count-is));
     below = λ place inside. omega (arith, well.numbers.below place (omega (arith, inside, count-is)), first-is);
     rises = λ one two before inside.
-        rising_from (entry bytes) (page_count bytes) (λ place fits. well.numbers.rises place fits) one two before (omega (arith, inside, count-is));
+        rising_from (entry bytes) (page_count bytes) (λ place fits. well.numbers.rises place fits) one two before
+        (omega (arith, inside, count-is));
   }
 
   stands : IsFormatted bytes → IsWellFormed bytes → Stands count (entry bytes) (bodies_of bytes) first bytes
@@ -54,7 +59,8 @@ module _ (bytes : List ℕ) (first count : ℕ) (first-is : first ≡ first_page
         ap (λ (n : ℕ). page_from bytes (4096 * (n + number_pages count + place))) first-is
         ∙ ap (λ (n : ℕ). page_from bytes (4096 * (first_page bytes + number_pages n + place))) count-is;
     long =
-        let same : 4096 * (first + number_pages count + count) ≡ 4096 * (first_page bytes + number_pages (page_count bytes) + page_count bytes) =
+        let same : 4096 * (first + number_pages count + count)
+        ≡ 4096 * (first_page bytes + number_pages (page_count bytes) + page_count bytes) =
         ap (λ (n : ℕ). 4096 * (n + number_pages count + count)) first-is
         ∙ ap (λ (n : ℕ). 4096 * (first_page bytes + number_pages n + n)) count-is in
         omega (arith, same, well.long);
@@ -99,7 +105,8 @@ module _ (bytes : List ℕ) (first count : ℕ) (first-is : first ≡ first_page
   gate_places well i (inl low) = λ is. absurd (omega (arith, low, is))
   gate_places well i (inr high) = λ is. absurd (omega (arith, high, is, above well))
 
-  gate_stays : IsFormatted bytes → IsWellFormed bytes → (left : List ℕ) → Spares (BesidePages count (entry bytes)) bytes left → gate left ≡ gate bytes
+  gate_stays : IsFormatted bytes → IsWellFormed bytes → (left : List ℕ) → Spares (BesidePages count (entry bytes)) bytes left
+      → gate left ≡ gate bytes
   gate_stays formatted well left spares =
       spares.same 4095 (omega (arith, formatted.long)) (λ place inside. inl (omega (arith, (numbers well).positive place inside)))
 
@@ -107,9 +114,11 @@ module _ (bytes : List ℕ) (first count : ℕ) (first-is : first ≡ first_page
     well : IsWellFormed bytes
     well = home.journal is_open
 
-    then_stands : (left : List ℕ) → Spares (BesidePages count (entry bytes)) bytes left → Stands count (entry bytes) (bodies_of bytes) first left
+    then_stands : (left : List ℕ) → Spares (BesidePages count (entry bytes)) bytes left
+        → Stands count (entry bytes) (bodies_of bytes) first left
     then_stands left spares =
-        stands_spared (BesidePages count (entry bytes)) count (entry bytes) (bodies_of bytes) first bytes left spares (page_places well) (stands home.formatted well)
+        stands_spared (BesidePages count (entry bytes)) count (entry bytes) (bodies_of bytes) first bytes left spares (page_places well)
+        (stands home.formatted well)
 
     then_rest : (left : List ℕ) → Spares (BesidePages count (entry bytes)) bytes left → Rest count (entry bytes) pages left
     then_rest left spares =
@@ -132,7 +141,8 @@ module _ (bytes : List ℕ) (first count : ℕ) (first-is : first ≡ first_page
     -- while the gate is shut
     shutting : (now left : List ℕ) → HomePut (entry bytes) (bodies_of bytes) count bytes now → Spares BesideGate now left → Home pages left
     shutting now left put spares =
-        let s = stands_spared BesideGate count (entry bytes) (bodies_of bytes) first now left spares (gate_places well) (then_stands now put.spares) in
+        let s = stands_spared BesideGate count (entry bytes) (bodies_of bytes) first now left spares (gate_places well)
+        (then_stands now put.spares) in
         let r = rest_spared BesideGate count (entry bytes) pages now left spares
         (λ n i from to none low high is. absurd (omega (arith, low, from, is))) (then_rest now put.spares) in
         let h = has pages home is_open in
@@ -149,7 +159,8 @@ module _ (bytes : List ℕ) (first count : ℕ) (first-is : first ≡ first_page
     pub go_shut : (now : List ℕ) (old new : Crashes) → Only now old → HomePut (entry bytes) (bodies_of bytes) count bytes now
         → ((base : List ℕ) → Within (Spares BesideGate base) old → Goes (Spares BesideGate base) old new) → Goes (Home pages) old new
     go_shut now old new only put crash =
-        goes_weaker (Spares BesideGate now) (Home pages) old new (crash now (within_only BesideGate now old only)) (λ left spares. shutting now left put spares)
+        goes_weaker (Spares BesideGate now) (Home pages) old new (crash now (within_only BesideGate now old only))
+        (λ left spares. shutting now left put spares)
 
   -- what stands behind the home pages while they are written
   read_places : IsWellFormed bytes → (place : ℕ) → place ≤ count → (i : ℕ) → 4096 * first ≤ i → BesidePages place (entry bytes) i
@@ -157,17 +168,20 @@ module _ (bytes : List ℕ) (first count : ℕ) (first-is : first ≡ first_page
 
   long_enough : IsWellFormed bytes → 4096 * (first + number_pages count + count) ≤ length bytes
   long_enough well =
-      let same : 4096 * (first + number_pages count + count) ≡ 4096 * (first_page bytes + number_pages (page_count bytes) + page_count bytes) =
+      let same : 4096 * (first + number_pages count + count)
+      ≡ 4096 * (first_page bytes + number_pages (page_count bytes) + page_count bytes) =
       ap (λ (n : ℕ). 4096 * (n + number_pages count + count)) first-is
       ∙ ap (λ (n : ℕ). 4096 * (first_page bytes + number_pages n + n)) count-is in
       omega (arith, same, well.long)
 
-  pub number_fits : IsWellFormed bytes → (place : ℕ) (left : List ℕ) → place < count → HomePut (entry bytes) (bodies_of bytes) place bytes left
+  pub number_fits : IsWellFormed bytes → (place : ℕ) (left : List ℕ) → place < count
+      → HomePut (entry bytes) (bodies_of bytes) place bytes left
       → first * 4096 + 8 * place + 8 ≤ length left
   number_fits well place left inside put = omega (arith, long_enough well, inside, put.spares.no_shorter)
 
   -- the place to which the page goes
-  pub copy_to : IsWellFormed bytes → (place value : ℕ) (left : List ℕ) → place < count → HomePut (entry bytes) (bodies_of bytes) place bytes left
+  pub copy_to : IsWellFormed bytes → (place value : ℕ) (left : List ℕ) → place < count
+      → HomePut (entry bytes) (bodies_of bytes) place bytes left
       → value ≡ number left (first * 4096 + 8 * place) → min value first * 4096 ≡ 4096 * entry bytes place
   copy_to well place value left inside put is =
       let at-is : first * 4096 + 8 * place ≡ 4096 * first_page bytes + 8 * place = omega (arith, first-is) in
@@ -179,12 +193,14 @@ module _ (bytes : List ℕ) (first count : ℕ) (first-is : first ≡ first_page
       let below = (numbers well).below place inside in
       omega (arith, same, below)
 
-  pub body_fits : IsWellFormed bytes → (place at : ℕ) (left : List ℕ) → place < count → HomePut (entry bytes) (bodies_of bytes) place bytes left
+  pub body_fits : IsWellFormed bytes → (place at : ℕ) (left : List ℕ) → place < count
+      → HomePut (entry bytes) (bodies_of bytes) place bytes left
       → at ≡ 4096 * (first + number_pages count + place) → at + 4096 ≤ length left
   body_fits well place at left inside put at-is = omega (arith, long_enough well, inside, put.spares.no_shorter, at-is)
 
   -- and the page itself
-  pub copied_body : IsWellFormed bytes → (place at : ℕ) (left : List ℕ) → place < count → HomePut (entry bytes) (bodies_of bytes) place bytes left
+  pub copied_body : IsWellFormed bytes → (place at : ℕ) (left : List ℕ) → place < count
+      → HomePut (entry bytes) (bodies_of bytes) place bytes left
       → at ≡ 4096 * (first + number_pages count + place) → page_from left at ≡ bodies_of bytes place
   copied_body well place at left inside put at-is =
       let fits : at + 4096 ≤ length bytes = omega (arith, long_enough well, inside, at-is) in
@@ -201,7 +217,8 @@ module _ (bytes : List ℕ) (first count : ℕ) (first-is : first ≡ first_page
   pub finished : (mid now : List ℕ) → IsFormatted bytes → IsWellFormed bytes → gate bytes ≡ OPEN
       → HomePut (entry bytes) (bodies_of bytes) count bytes mid → GatePut SHUT mid now → Finished bytes now
   finished mid now formatted well is_open put shut =
-      let mid-formatted = formatted_spared (BesidePages count (entry bytes)) bytes mid put.spares formatted (λ i low. page_places well i (inl (omega (arith, low)))) in
+      let mid-formatted = formatted_spared (BesidePages count (entry bytes)) bytes mid put.spares formatted
+      (λ i low. page_places well i (inl (omega (arith, low)))) in
       record {
         formatted = formatted_spared BesideGate mid now shut.spares mid-formatted (λ i low is. absurd (omega (arith, low, is)));
         shut = λ yes. absurd (omega (arith, shut.gate, yes));
@@ -254,7 +271,8 @@ root_of bytes = (home_page bytes 1).0
 
 pub root_says : (bytes now : List ℕ) → IsFormatted bytes → Finished bytes now → number (root_of bytes) 0 ≡ number now 4096
 root_says bytes now formatted done =
-    let stands : page_from now 4096 ≡ root_of bytes = done.home 1 (root_of bytes) (omega arith) (omega (arith, formatted.long)) (home_page bytes 1).1 in
+    let stands : page_from now 4096 ≡ root_of bytes =
+    done.home 1 (root_of bytes) (omega arith) (omega (arith, formatted.long)) (home_page bytes 1).1 in
     sym (ap (λ (l : List ℕ). number l 0) stands) ∙ number-page_from now 4096 0 (omega (arith, done.formatted.long)) (omega arith)
 
 pub says_home : (bytes now : List ℕ) (home : ℕ) → IsFormatted bytes → Finished bytes now → home ≡ number now 4096 → SaysHome bytes home
@@ -285,7 +303,8 @@ module _ (bytes now : List ℕ) (home : ℕ) (can : CanFinish bytes) (done : Fin
     count = says;
     holds = omega (arith, many, fits);
     each = λ n from to.
-        subst (λ (page : List ℕ). IsHomePage bytes n page) (sym (get_or-up_to (λ k. (home_page bytes k).0) (home - 1) n from (omega (arith, to, many))))
+        subst (λ (page : List ℕ). IsHomePage bytes n page)
+        (sym (get_or-up_to (λ k. (home_page bytes k).0) (home - 1) n from (omega (arith, to, many))))
         (home_page bytes n).1;
   }
 
@@ -332,7 +351,8 @@ rising_more bytes first place last value so_far start before is over below = rec
         let some : 0 < place = omega (arith, same) in
         let k-is : place - 1 ≡ k = omega (arith, same) in
         let last-is : last ≡ number bytes (4096 * first + 8 * k) = before some ∙ ap (λ (n : ℕ). number bytes (4096 * first + 8 * n)) k-is in
-        let value-is : number bytes (4096 * first + 8 * (k + 1)) ≡ value = ap (λ (n : ℕ). number bytes (4096 * first + 8 * n)) same ∙ sym is in
+        let value-is : number bytes (4096 * first + 8 * (k + 1)) ≡ value =
+        ap (λ (n : ℕ). number bytes (4096 * first + 8 * n)) same ∙ sym is in
         omega (arith, last-is, value-is, over)
   ];
 }
@@ -349,7 +369,8 @@ rising_not bytes first count place last value inside start before is not = λ ri
       | inl some ↦
           let next : place - 1 + 1 ≡ place = omega (arith, some) in
           let step = rising.rises (place - 1) (omega (arith, next, inside)) in
-          let there : number bytes (4096 * first + 8 * (place - 1 + 1)) ≡ number bytes (4096 * first + 8 * place) = ap (λ (n : ℕ). number bytes (4096 * first + 8 * n)) next in
+          let there : number bytes (4096 * first + 8 * (place - 1 + 1)) ≡ number bytes (4096 * first + 8 * place) =
+          ap (λ (n : ℕ). number bytes (4096 * first + 8 * n)) next in
           omega (arith, step, there, before some, is)
       | inr none ↦
           let at-zero : place ≡ 0 = omega (arith, none) in

@@ -1,5 +1,6 @@
 -- The bytes of an empty store.
-use Rattle.std.proofs.Common.{◌≡◌, ◌≢◌, inl, inr, ℕ, ◌+◌, ◌-◌, ◌<◌, ◌≤◌, ◌⊎◌, List, [], ◌∷◌, length, slice_index_or, subst, get_or, slice_index, sym, ap, ◌∙◌, arith}
+use Rattle.std.proofs.Common.{◌≡◌, ◌≢◌, inl, inr, ℕ, ◌+◌, ◌-◌, ◌<◌, ◌≤◌, ◌⊎◌, List, [], ◌∷◌, length, slice_index_or, subst, get_or}
+use Rattle.std.proofs.Common.{slice_index, sym, ap, ◌∙◌, arith}
 use Rattle.std.proofs.lemmas.List.{ext_get_or}
 use Rattle.outside.specs.Disk.{DiskView, Only, Tells, overlaid}
 use Rattle.outside.proofs.Overlay.{length-overlaid, overlaid-in}
@@ -67,7 +68,8 @@ fresh_settled bytes view is told only =
         holds = omega arith;
         each = λ n from to.
             let one : n ≡ 1 = omega (arith, from, to) in
-            let here : IsHomePage bytes 1 (page_from bytes 4096) = inr (record { not_there = λ is_open. absurd (shut is_open); same = λ i. page_from bytes 4096 }) in
+            let here : IsHomePage bytes 1 (page_from bytes 4096) =
+            inr (record { not_there = λ is_open. absurd (shut is_open); same = λ i. page_from bytes 4096 }) in
             subst (λ (k : ℕ). IsHomePage bytes k (slice_index_or (page_from bytes 4096 ∷ []) (k - 1) [])) (sym one) here;
       };
     }

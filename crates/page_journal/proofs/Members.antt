@@ -1,5 +1,6 @@
 -- What a tree of pages has under a number.
-use Rattle.std.proofs.Common.{◌≡◌, Bool, true, false, cond, ℕ, zero, suc, ◌<◌, List, [], ◌∷◌, length, Option, Some, option_map, Vec, refl, sym, ap, ◌∙◌, subst, arith}
+use Rattle.std.proofs.Common.{◌≡◌, Bool, true, false, cond, ℕ, zero, suc, ◌<◌, List, [], ◌∷◌, length, Option, Some, option_map, Vec, refl}
+use Rattle.std.proofs.Common.{sym, ap, ◌∙◌, subst, arith}
 use Rattle.std.specs.Ordering.{nat_cmp, is_eq}
 use Rattle.std.specs.Map.{lookup}
 use Rattle.std.specs.BTreeMap.{is_at}
@@ -12,7 +13,8 @@ use Rattle.page_journal.specs.PageSet.{IsPageTree, plain, page_at}
 use Rattle.page_journal.specs.Pages.{number}
 
 map-cond : (b : Bool) (page : Vec ℕ Global) (other : Option (Vec ℕ Global))
-    → option_map (λ (v : Vec ℕ Global). v.items) (cond b (Some page) other) ≡ cond b (Some page.items) (option_map (λ (v : Vec ℕ Global). v.items) other)
+    → option_map (λ (v : Vec ℕ Global). v.items) (cond b (Some page) other)
+    ≡ cond b (Some page.items) (option_map (λ (v : Vec ℕ Global). v.items) other)
 map-cond true page other = refl
 map-cond false page other = refl
 
@@ -25,7 +27,8 @@ plain-lookup (entry ∷ entries) n =
 
 -- the map has what the tree has
 pub got_in : (entries : List (ℕ × Vec ℕ Global)) → IsPageTree entries → (n : ℕ)
-    → map.get (map.from_sorted {R = nat_cmp} (plain entries)) n ≡ option_map (λ (v : Vec ℕ Global). v.items) (lookup (is_at (nat_cmp n)) entries)
+    → map.get (map.from_sorted {R = nat_cmp} (plain entries)) n
+    ≡ option_map (λ (v : Vec ℕ Global). v.items) (lookup (is_at (nat_cmp n)) entries)
 got_in entries tree n = map.get-from_sorted nat_cmp (plain entries) n tree.sorted ∙ sym (plain-lookup entries n)
 
 sized-cond : (b : Bool) (page other : Vec ℕ Global) (rest : Option (Vec ℕ Global)) → length page.items ≡ 4096

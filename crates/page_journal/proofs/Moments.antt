@@ -27,7 +27,8 @@ pub elapses_quiet : (old mid new : Crashes)
 elapses_quiet old mid new counts none first second = record {
   later = omega (arith, first.later, second.later);
   each = λ since left le now.
-      ⊎_elim (λ before. ⊎_elim (λ last. inl last) (λ here. inl (counts since left le (none left here))) (first.each since left le before)) (λ here. inr here)
+      ⊎_elim (λ before. ⊎_elim (λ last. inl last) (λ here. inl (counts since left le (none left here))) (first.each since left le before))
+      (λ here. inr here)
       (second.each since left (omega (arith, le, first.later)) now);
   keeps = λ since left le before. second.keeps since left (omega (arith, le, first.later)) (first.keeps since left le before);
 }
@@ -59,7 +60,8 @@ pub stays_same : (view : DiskView) → Stays view view
 stays_same view = record { content = λ i. view.content; runs = started view.crashes.outcomes view.crashes (λ left now. now) }
 
 -- looks, one after another
-pub stays_call : (old new : DiskView) → new.content ≡ old.content → NoneNew old.crashes new.crashes → Elapses old.crashes new.crashes → Stays old new
+pub stays_call : (old new : DiskView) → new.content ≡ old.content → NoneNew old.crashes new.crashes → Elapses old.crashes new.crashes
+    → Stays old new
 stays_call old new same none time = record {
   content = same;
   runs = goes_quiet old.crashes.outcomes old.crashes old.crashes new.crashes
@@ -74,12 +76,14 @@ stays_then old mid new first second = record {
 }
 
 -- looks leave a run as it is
-pub goes_stays : (P : List ℕ → Type 0) (old : Crashes) (mid new : DiskView) → Goes P old mid.crashes → Stays mid new → Goes P old new.crashes
+pub goes_stays : (P : List ℕ → Type 0) (old : Crashes) (mid new : DiskView) → Goes P old mid.crashes → Stays mid new
+    → Goes P old new.crashes
 goes_stays P old mid new so_far stays =
     goes_then P old mid.crashes new.crashes so_far (goes_weaker mid.crashes.outcomes P mid.crashes new.crashes stays.runs so_far.now)
 
 -- and a store at rest stays so
-pub settled_stays : (pages : List (List ℕ)) (bytes : List ℕ) (old new : DiskView) → IsSettled pages bytes old → Stays old new → IsSettled pages bytes new
+pub settled_stays : (pages : List (List ℕ)) (bytes : List ℕ) (old new : DiskView) → IsSettled pages bytes old → Stays old new
+    → IsSettled pages bytes new
 settled_stays pages bytes old new settled stays = record {
   told = stays.content ∙ settled.told;
   only = λ left now. settled.only left (stays.runs.now left now);

@@ -103,9 +103,12 @@ pub fields_put : (first count : ℕ) (old mid new : List ℕ) → NumberPut 8 fi
     → FieldsPut first count old new
 fields_put first count old mid new one two = record {
   spares = Spares-trans (λ i. (i < 8) ⊎ (24 ≤ i)) old mid new
-      (Spares-less (λ i. (i < 8) ⊎ (8 + 8 ≤ i)) (λ i. (i < 8) ⊎ (24 ≤ i)) old mid (λ i keeps. ⊎_elim (λ before. inl before) (λ behind. inr (omega (arith, behind))) keeps) one.spares)
-      (Spares-less (λ i. (i < 16) ⊎ (16 + 8 ≤ i)) (λ i. (i < 8) ⊎ (24 ≤ i)) mid new (λ i keeps. ⊎_elim (λ before. inl (omega (arith, before))) (λ behind. inr (omega (arith, behind))) keeps) two.spares);
-  start = number_spared (λ i. (i < 16) ⊎ (16 + 8 ≤ i)) mid new 8 two.spares (omega (arith, one.long)) (λ i from to. inl (omega (arith, to))) ∙ one.here;
+      (Spares-less (λ i. (i < 8) ⊎ (8 + 8 ≤ i)) (λ i. (i < 8) ⊎ (24 ≤ i)) old mid
+      (λ i keeps. ⊎_elim (λ before. inl before) (λ behind. inr (omega (arith, behind))) keeps) one.spares)
+      (Spares-less (λ i. (i < 16) ⊎ (16 + 8 ≤ i)) (λ i. (i < 8) ⊎ (24 ≤ i)) mid new
+      (λ i keeps. ⊎_elim (λ before. inl (omega (arith, before))) (λ behind. inr (omega (arith, behind))) keeps) two.spares);
+  start = number_spared (λ i. (i < 16) ⊎ (16 + 8 ≤ i)) mid new 8 two.spares (omega (arith, one.long)) (λ i from to. inl (omega (arith, to)))
+      ∙ one.here;
   pages = two.here;
 }
 

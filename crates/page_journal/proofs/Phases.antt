@@ -10,7 +10,8 @@ use Rattle.page_journal.specs.Written.{Below, NumbersPut, PagesPut, FieldsPut, G
 use Rattle.page_journal.specs.declared.layout.TheConstants.{OPEN, SHUT}
 use Rattle.page_journal.proofs.Moments.{goes_weaker}
 use Rattle.page_journal.proofs.Places.{Spares-less, Spares-trans, within_only, number_spared, page_spared}
-use Rattle.page_journal.proofs.Standing.{Stands, AreNumbers, Has, Rest, Placed, home_open, home_shut, in_place, formatted_spared, stands_spared, rest_spared, beside_others}
+use Rattle.page_journal.proofs.Standing.{Stands, AreNumbers, Has, Rest, Placed, home_open, home_shut, in_place, formatted_spared}
+use Rattle.page_journal.proofs.Standing.{stands_spared, rest_spared, beside_others}
 
 -- the numbers, the pages and the fields, written one after another
 pub journal_put : (entries : List (ℕ × List ℕ)) (count home at : ℕ) (old one two new : List ℕ) → 1 ≤ home → 1 ≤ count
@@ -115,11 +116,13 @@ module _ (entries : List (ℕ × List ℕ)) (count home : ℕ) (old new : List (
   beside_high i from to = (inr (omega (arith, from)), to)
 
   -- while the journal is written, the old pages are home
-  journal_home : (view : DiskView) (bytes left : List ℕ) → IsSettled old bytes view → Spares (BesideJournal (4096 * home)) bytes left → Home old left
+  journal_home : (view : DiskView) (bytes left : List ℕ) → IsSettled old bytes view → Spares (BesideJournal (4096 * home)) bytes left
+      → Home old left
   journal_home view bytes left settled spares =
       let size = settled.home.formatted.long in
       let at-gate : gate left ≡ gate bytes = spares.same 4095 (omega (arith, size)) (inr (omega arith), omega (arith, above)) in
-      before_home left (before_spared (BesideJournal (4096 * home)) bytes left spares beside_low beside_high (settled_before view bytes settled))
+      before_home left (before_spared (BesideJournal (4096 * home)) bytes left spares beside_low beside_high
+      (settled_before view bytes settled))
       (λ is_open. settled.shut (sym at-gate ∙ is_open))
 
   pub go_journal : (view : DiskView) (bytes : List ℕ) (after : Crashes) → IsSettled old bytes view
@@ -164,7 +167,8 @@ module _ (entries : List (ℕ × List ℕ)) (count home : ℕ) (old new : List (
   staged_gate : (one two : List ℕ) → Spares BesideGate one two → Staged one → Staged two
   staged_gate one two spares staged = record {
     stands = stands_spared BesideGate count numbers pages home one two spares gate_places staged.stands;
-    rest = rest_spared BesideGate count numbers new one two spares (λ n i from to none low high is. absurd (omega (arith, low, from, is))) staged.rest;
+    rest = rest_spared BesideGate count numbers new one two spares
+        (λ n i from to none low high is. absurd (omega (arith, low, from, is))) staged.rest;
   }
 
   -- while the gate is opened, the old pages are home or the new ones
@@ -204,14 +208,16 @@ module _ (entries : List (ℕ × List ℕ)) (count home : ℕ) (old new : List (
 
   -- while the pages are copied home, the new ones are
   pub go_home : (bytes : List ℕ) (before after : Crashes) → Only bytes before → Staged bytes → gate bytes ≡ OPEN
-      → ((base : List ℕ) → Within (Spares (BesidePages count numbers) base) before → Goes (Spares (BesidePages count numbers) base) before after)
+      → ((base : List ℕ) → Within (Spares (BesidePages count numbers) base) before
+      → Goes (Spares (BesidePages count numbers) base) before after)
       → Goes OldOrNew before after
   go_home bytes before after only staged is_open crash =
       goes_weaker (Spares (BesidePages count numbers) bytes) OldOrNew before after
       (crash bytes (within_only (BesidePages count numbers) bytes before only))
       (λ left spares.
       let then-staged = staged_pages bytes left spares staged in
-      inr (home_open count numbers pages home left new then-staged.stands are has then-staged.rest (gate_stays bytes left spares staged ∙ is_open)))
+      inr (home_open count numbers pages home left new then-staged.stands are has then-staged.rest
+      (gate_stays bytes left spares staged ∙ is_open)))
 
   pub to_copied : (bytes now : List ℕ) → Staged bytes → HomePut numbers pages count bytes now → Staged now
   to_copied bytes now staged put = staged_pages bytes now put.spares staged
@@ -219,7 +225,8 @@ module _ (entries : List (ℕ × List ℕ)) (count home : ℕ) (old new : List (
   pub to_placed : (bytes now : List ℕ) → HomePut numbers pages count bytes now → Placed count numbers pages now
   to_placed bytes now put = record { each = put.stand }
 
-  placed_gate : (one two : List ℕ) → Spares BesideGate one two → Staged one → Placed count numbers pages one → Placed count numbers pages two
+  placed_gate : (one two : List ℕ) → Spares BesideGate one two → Staged one → Placed count numbers pages one
+      → Placed count numbers pages two
   placed_gate one two spares staged placed = record {
     each = λ place inside.
         let low = makes.positive place inside in
@@ -234,7 +241,8 @@ module _ (entries : List (ℕ × List ℕ)) (count home : ℕ) (old new : List (
       let then-staged = staged_gate bytes left spares staged in
       elim (cases_eq (gate left) OPEN) [
         | inl is_open ↦ home_open count numbers pages home left new then-staged.stands are has then-staged.rest is_open
-        | inr shut ↦ home_shut count numbers pages home left new then-staged.stands.formatted has then-staged.rest (placed_gate bytes left spares staged placed) shut
+        | inr shut ↦ home_shut count numbers pages home left new then-staged.stands.formatted has then-staged.rest
+            (placed_gate bytes left spares staged placed) shut
       ]
 
   pub go_shut : (bytes : List ℕ) (before after : Crashes) → Only bytes before → Staged bytes → Placed count numbers pages bytes

@@ -34,7 +34,8 @@ reads_more one two low high old new fewer lower reads = λ before told.
     (after.0, after.1, omega (arith, fewer, after.2), omega (arith, lower, after.3))
 
 -- where a journal was found, and then copied home
-pub copied_reads : (found : Option (ℕ × ℕ)) (first count len : ℕ) (bytes : List ℕ) (old mid new : Option ReadLog) → found ≡ Some (first, count)
+pub copied_reads : (found : Option (ℕ × ℕ)) (first count len : ℕ) (bytes : List ℕ) (old mid new : Option ReadLog)
+    → found ≡ Some (first, count)
     → IfSome found (λ journal. 4096 * (journal.0 + number_pages journal.1 + journal.1) ≤ len)
     → IfSome found (λ journal. (journal.0 ≡ first_page bytes) × (journal.1 ≡ page_count bytes)) → len ≡ length bytes
     → Counted (page_count bytes) (length bytes) old mid → Counted (2 * count) (4096 * (first + number_pages count + count)) mid new
@@ -45,6 +46,8 @@ copied_reads found first count len bytes old mid new is room same long looked co
     let are : (first ≡ first_page bytes) × (count ≡ page_count bytes) =
     subst (λ (o : Option (ℕ × ℕ)). IfSome o (λ journal. (journal.0 ≡ first_page bytes) × (journal.1 ≡ page_count bytes))) is same in
     let many : count ≡ page_count bytes = are.1 in
-    reads_more (page_count bytes + 2 * count) (3 * page_count bytes) (length bytes) (length bytes) old new (omega (arith, many)) (omega arith)
+    reads_more (page_count bytes + 2 * count) (3 * page_count bytes) (length bytes) (length bytes) old new (omega (arith, many))
+    (omega arith)
     (reads_then (page_count bytes) (2 * count) (length bytes) old mid new looked
-    (reads_more (2 * count) (2 * count) (4096 * (first + number_pages count + count)) (length bytes) mid new (omega arith) (omega (arith, fits, long)) copied))
+    (reads_more (2 * count) (2 * count) (4096 * (first + number_pages count + count)) (length bytes) mid new (omega arith)
+    (omega (arith, fits, long)) copied))

@@ -1,5 +1,6 @@
 -- Pages that are held back and written in one call.
-use Rattle.std.proofs.Common.{◌≡◌, inl, inr, ℕ, ◌+◌, ◌-◌, ◌<◌, ◌≤◌, List, [], ◌∷◌, ◌++◌, length, take, drop, get_or, option_map, refl, sym, ap, ◌∙◌, subst, arith, append_assoc, length-append, length-take}
+use Rattle.std.proofs.Common.{◌≡◌, inl, inr, ℕ, ◌+◌, ◌-◌, ◌<◌, ◌≤◌, List, [], ◌∷◌, ◌++◌, length, take, drop, get_or, option_map, refl, sym}
+use Rattle.std.proofs.Common.{ap, ◌∙◌, subst, arith, append_assoc, length-append, length-take}
 use Rattle.std.proofs.lemmas.Bool.{cases_lt}
 use Rattle.std.proofs.lemmas.List.{ext_get_or, get_or_append_left, get_or-append_right, take_at}
 use Rattle.outside.specs.Disk.{Crashes, DiskView, Elapses, Follows, Tells, Torn, overlaid}
@@ -17,7 +18,12 @@ overlaid-append at first second content =
     let two = overlaid (at + length first) second mid in
     let both : length (first ++ second) ≡ length first + length second = length-append first second in
     let long : length one ≡ length two =
-    omega (arith, length-overlaid at (first ++ second) content, length-overlaid at first content, length-overlaid (at + length first) second mid) in
+    omega (
+      arith,
+      length-overlaid at (first ++ second) content,
+      length-overlaid at first content,
+      length-overlaid (at + length first) second mid,
+    ) in
     ext_get_or 0 one two long (λ i inside.
     elim (cases_lt i at) [
       | inl before ↦
@@ -90,7 +96,8 @@ pub tells_written : (at filled : ℕ) (buffer piece content : List ℕ) (old new
     → 0 < filled → filled ≤ length buffer → piece ≡ take filled buffer → new.content ≡ option_map (overlaid at piece) old.content
     → Tells new content
 tells_written at filled buffer piece content old new shows some inside piece-is written =
-    let told : Tells new (overlaid at piece shows.now) = told_written (overlaid at piece) old.content new.content shows.now shows.told written in
+    let told : Tells new (overlaid at piece shows.now) =
+    told_written (overlaid at piece) old.content new.content shows.now shows.told written in
     let long : 0 < length (take filled buffer) = omega (arith, length-take filled buffer, some, inside) in
     let is : content ≡ overlaid at piece shows.now =
     shows.is ∙ shown-some at (take filled buffer) shows.now long ∙ ap (λ (l : List ℕ). overlaid at l shows.now) (sym piece-is) in

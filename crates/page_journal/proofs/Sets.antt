@@ -1,5 +1,6 @@
 -- A set of pages as its entries in order, and what it makes of the home pages.
-use Rattle.std.proofs.Common.{◌≡◌, ◌≢◌, inl, inr, Bool, true, false, ◌&&◌, cond, T, ℕ, zero, suc, ◌+◌, ◌-◌, ◌<◌, ◌≤◌, List, [], ◌∷◌, length, slice_index_or, Option, Some, None, refl, sym, ap, ◌∙◌, arith}
+use Rattle.std.proofs.Common.{◌≡◌, ◌≢◌, inl, inr, Bool, true, false, ◌&&◌, cond, T, ℕ, zero, suc, ◌+◌, ◌-◌, ◌<◌, ◌≤◌, List, [], ◌∷◌, length}
+use Rattle.std.proofs.Common.{slice_index_or, Option, Some, None, refl, sym, ap, ◌∙◌, arith}
 use Rattle.std.proofs.lemmas.Bool.{cases_lt}
 use Rattle.std.proofs.lemmas.List.{get_or_append_left, get_or_push, length_push}
 use Rattle.std.specs.Option.{is_some}
@@ -52,7 +53,8 @@ numbers_rise (entry ∷ entries) sorted one zero before inside = absurd (omega a
 numbers_rise (entry ∷ entries) sorted zero (suc two) before inside =
     below_number entry.0 entries (both_first (below_all nat_cmp entry.0 entries) (is_sorted nat_cmp entries) sorted) two (omega arith)
 numbers_rise (entry ∷ entries) sorted (suc one) (suc two) before inside =
-    numbers_rise entries (both_second (below_all nat_cmp entry.0 entries) (is_sorted nat_cmp entries) sorted) one two (omega arith) (omega arith)
+    numbers_rise entries (both_second (below_all nat_cmp entry.0 entries) (is_sorted nat_cmp entries) sorted) one two (omega arith)
+    (omega arith)
 
 pub find_at : (entries : List (ℕ × List ℕ)) → T (is_sorted nat_cmp entries) → (place : ℕ) → place < length entries
     → find nat_cmp (number_at entries place) entries ≡ Some (page_at entries place)
@@ -60,9 +62,11 @@ find_at [] sorted place inside = absurd (omega arith)
 find_at (entry ∷ entries) sorted zero inside =
     ap (λ (b : Bool). cond b (Some entry.1) (find nat_cmp entry.0 entries)) ((eq_by_cmp_equiv nat_cmp_total).refl entry.0)
 find_at (entry ∷ entries) sorted (suc place) inside =
-    let above = below_number entry.0 entries (both_first (below_all nat_cmp entry.0 entries) (is_sorted nat_cmp entries) sorted) place (omega arith) in
+    let above = below_number entry.0 entries (both_first (below_all nat_cmp entry.0 entries) (is_sorted nat_cmp entries) sorted) place
+    (omega arith) in
     let other : number_at entries place ≢ entry.0 = λ is. absurd (omega (arith, above, is)) in
-    ap (λ (b : Bool). cond b (Some entry.1) (find nat_cmp (number_at entries place) entries)) (not_equal (number_at entries place) entry.0 other)
+    ap (λ (b : Bool). cond b (Some entry.1) (find nat_cmp (number_at entries place) entries))
+    (not_equal (number_at entries place) entry.0 other)
     ∙ find_at entries (both_second (below_all nat_cmp entry.0 entries) (is_sorted nat_cmp entries) sorted) place (omega arith)
 
 pub find_not : (entries : List (ℕ × List ℕ)) (n : ℕ) → ((place : ℕ) → place < length entries → number_at entries place ≢ n)
@@ -90,7 +94,8 @@ get_or-up_to page (suc count) n from to =
           get_or_push (up_to page count) (page (suc count)) [] (n - 1) (omega arith) ∙ ap page (sym same)
     ]
 
-module _ (entries : List (ℕ × List ℕ)) (sorted : T (is_sorted nat_cmp entries)) (set : PageMap) (is : map.from_sorted {R = nat_cmp} entries ≡ set)
+module _ (entries : List (ℕ × List ℕ)) (sorted : T (is_sorted nat_cmp entries)) (set : PageMap)
+    (is : map.from_sorted {R = nat_cmp} entries ≡ set)
     (count home : ℕ) (can : CanCommit set count home) where
   got : (n : ℕ) → map.get set n ≡ find nat_cmp n entries
   got n = ap (λ (s : PageMap). map.get s n) (sym is) ∙ map.get-from_sorted nat_cmp entries n sorted
@@ -126,7 +131,8 @@ module _ (entries : List (ℕ × List ℕ)) (sorted : T (is_sorted nat_cmp entri
     | inr none ↦ omega (arith, none)
   ]
 
-  pub set_makes : (old : List (List ℕ)) → length old + 1 ≡ count → 2 ≤ count → Makes entries (length entries) home old (overwritten set home old)
+  pub set_makes : (old : List (List ℕ)) → length old + 1 ≡ count → 2 ≤ count
+      → Makes entries (length entries) home old (overwritten set home old)
   set_makes old long above =
       let page : ℕ → List ℕ = λ n. page_or (map.get set n) (slice_index_or old (n - 1) []) in
       let many = length-up_to page (home - 1) in

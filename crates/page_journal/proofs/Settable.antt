@@ -28,4 +28,5 @@ module _ (entries : List (ℕ × List ℕ)) (sorted : T (is_sorted nat_cmp entri
   -- and the other way round
   pub entries_within : ((n : ℕ) → IsSome (map.get set n) → (1 ≤ n) × (n < home)) → AreWithin entries home
   entries_within all = λ place inside.
-      all (number_at entries place) (ap (λ (o : Option (List ℕ)). is_some o) (got (number_at entries place) ∙ find_at entries sorted place inside))
+      all (number_at entries place) (ap (λ (o : Option (List ℕ)). is_some o)
+      (got (number_at entries place) ∙ find_at entries sorted place inside))

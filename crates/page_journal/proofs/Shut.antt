@@ -6,7 +6,8 @@ use Rattle.page_journal.specs.Home.{Home, IsFormatted}
 use Rattle.page_journal.specs.Pages.{gate}
 use Rattle.page_journal.specs.Written.{Finished}
 use Rattle.page_journal.specs.declared.fault.StoreFault.{StoreFault}
-use Rattle.page_journal.specs.declared.fault.StoreFault.TheVariants.{NotFormatted, NotEmpty, BadStore, DiskFault, StoreFull, Broken, OutOfMemory}
+use Rattle.page_journal.specs.declared.fault.StoreFault.TheVariants.{NotFormatted, NotEmpty, BadStore, DiskFault, StoreFull, Broken}
+use Rattle.page_journal.specs.declared.fault.StoreFault.TheVariants.{OutOfMemory}
 use Rattle.page_journal.specs.declared.layout.TheConstants.{OPEN}
 use Rattle.page_journal.proofs.Moments.{goes_weaker}
 
@@ -23,7 +24,8 @@ finished_shut bytes formatted shut = record {
 pub goes_looked : (pages : List (List ℕ)) (bytes : List ℕ) (old new : DiskView) → Only bytes old.crashes → Home pages bytes → Stays old new
     → Goes (Home pages) old.crashes new.crashes
 goes_looked pages bytes old new only home stays =
-    goes_weaker old.crashes.outcomes (Home pages) old.crashes new.crashes stays.runs (λ left was. subst (λ (l : List ℕ). Home pages l) (sym (only left was)) home)
+    goes_weaker old.crashes.outcomes (Home pages) old.crashes new.crashes stays.runs
+    (λ left was. subst (λ (l : List ℕ). Home pages l) (sym (only left was)) home)
 
 -- a journal that is refused is not finished
 pub finishes_looks : (bytes : List ℕ) (fault : StoreFault) → Looks bytes (Err fault) → Finishes bytes (Err fault)

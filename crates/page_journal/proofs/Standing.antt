@@ -1,5 +1,6 @@
 -- What the bytes of a store stand for: the home pages, with the journal and without it.
-use Rattle.std.proofs.Common.{◌≡◌, ◌≢◌, inl, inr, ℕ, zero, suc, ◌+◌, ◌-◌, ◌*◌, ◌<◌, ◌≤◌, ◌⊎◌, List, [], length, slice_index_or, sym, ap, ◌∙◌, arith}
+use Rattle.std.proofs.Common.{◌≡◌, ◌≢◌, inl, inr, ℕ, zero, suc, ◌+◌, ◌-◌, ◌*◌, ◌<◌, ◌≤◌, ◌⊎◌, List, [], length, slice_index_or, sym, ap}
+use Rattle.std.proofs.Common.{◌∙◌, arith}
 use Rattle.std.proofs.lemmas.Bool.{cases_eq, cases_lt}
 use Rattle.page_journal.specs.Crash.{Spares, BesidePages}
 use Rattle.page_journal.specs.Home.{IsFormatted, IsWellFormed, Home}
@@ -94,7 +95,8 @@ module _ (count : ℕ) (numbers : ℕ → ℕ) (pages : ℕ → List ℕ) (home 
               omega (arith, entry_is stands place fits, entry_is stands (place + 1) next, are.rises place (place + 1) (omega arith) next);
         };
         long =
-            let same : 4096 * (first_page bytes + number_pages (page_count bytes) + page_count bytes) ≡ 4096 * (home + number_pages count + count) =
+            let same : 4096 * (first_page bytes + number_pages (page_count bytes) + page_count bytes)
+            ≡ 4096 * (home + number_pages count + count) =
             ap (λ (n : ℕ). 4096 * (n + number_pages (page_count bytes) + page_count bytes)) first
             ∙ ap (λ (n : ℕ). 4096 * (home + number_pages n + n)) many in
             omega (arith, same, stands.long);
@@ -178,13 +180,16 @@ stands_spared K count numbers pages home old new spares keeps stands =
     record {
       formatted = formatted_spared K old new spares stands.formatted (λ i low. keeps i (inl (omega (arith, low))));
       first = number_spared K old new 8 spares (omega (arith, size)) (λ i from to. keeps i (inl (omega (arith, to)))) ∙ stands.first;
-      pages_are = number_spared K old new 16 spares (omega (arith, size)) (λ i from to. keeps i (inl (omega (arith, to)))) ∙ stands.pages_are;
+      pages_are = number_spared K old new 16 spares (omega (arith, size)) (λ i from to. keeps i (inl (omega (arith, to))))
+          ∙ stands.pages_are;
       entries = λ place inside.
           let fits : 4096 * home + 8 * place + 8 ≤ length old = omega (arith, stands.long, inside) in
-          number_spared K old new (4096 * home + 8 * place) spares fits (λ i from to. keeps i (inr (omega (arith, from)))) ∙ stands.entries place inside;
+          number_spared K old new (4096 * home + 8 * place) spares fits (λ i from to. keeps i (inr (omega (arith, from))))
+          ∙ stands.entries place inside;
       bodies = λ place inside.
           let fits : 4096 * (home + number_pages count + place) + 4096 ≤ length old = omega (arith, stands.long, inside) in
-          page_spared K old new (4096 * (home + number_pages count + place)) spares fits (λ i from to. keeps i (inr (omega (arith, from)))) ∙ stands.bodies place inside;
+          page_spared K old new (4096 * (home + number_pages count + place)) spares fits (λ i from to. keeps i (inr (omega (arith, from))))
+          ∙ stands.bodies place inside;
       long = omega (arith, stands.long, spares.no_shorter);
     }
 
@@ -195,7 +200,8 @@ pub rest_spared : (K : ℕ → Type 0) (count : ℕ) (numbers : ℕ → ℕ) (ho
 rest_spared K count numbers home old new spares keeps rest = record {
   holds = omega (arith, rest.holds, spares.no_shorter);
   others = λ n from to none.
-      page_spared K old new (4096 * n) spares (omega (arith, rest.holds, to)) (λ i low high. keeps n i from to none low high) ∙ rest.others n from to none;
+      page_spared K old new (4096 * n) spares (omega (arith, rest.holds, to)) (λ i low high. keeps n i from to none low high)
+      ∙ rest.others n from to none;
 }
 
 -- a page that is none of these lies beside them

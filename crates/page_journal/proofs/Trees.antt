@@ -28,7 +28,8 @@ plain-insert (entry ∷ entries) n page =
 abbrev Sized : List (ℕ × Vec ℕ Global) → Type 0
 Sized entries = (place : ℕ) → place < length entries → length (page_at (plain entries) place) ≡ 4096
 
-sized-cons : (entry : ℕ × Vec ℕ Global) (entries : List (ℕ × Vec ℕ Global)) → length entry.1.items ≡ 4096 → Sized entries → Sized (entry ∷ entries)
+sized-cons : (entry : ℕ × Vec ℕ Global) (entries : List (ℕ × Vec ℕ Global)) → length entry.1.items ≡ 4096 → Sized entries
+    → Sized (entry ∷ entries)
 sized-cons entry entries size sized zero inside = size
 sized-cons entry entries size sized (suc place) inside = sized place (omega arith)
 

@@ -13,7 +13,8 @@ one_page : (bytes : List ℕ) (n : ℕ) (page other : List ℕ) → (gate bytes 
 one_page bytes n page other well (inl here) (inl there) =
     let are = numbers bytes (first_page bytes) (page_count bytes) refl refl (well here.is_open) in
     let same : here.place ≡ there.place =
-    apart (page_count bytes) (entry bytes) (first_page bytes) here.place there.place are here.within there.within (here.here ∙ sym there.here) in
+    apart (page_count bytes) (entry bytes) (first_page bytes) here.place there.place are here.within there.within
+    (here.here ∙ sym there.here) in
     here.same ∙ ap (λ (place : ℕ). page_from bytes (body_at bytes place)) same ∙ sym there.same
 one_page bytes n page other well (inl here) (inr not) = absurd (not.not_there here.is_open here.place here.within here.here)
 one_page bytes n page other well (inr not) (inl there) = absurd (not.not_there there.is_open there.place there.within there.here)

@@ -1,11 +1,13 @@
 -- When each answer comes. A call over a disk may answer that the disk failed in place of any other; that this comes
 -- only where the disk's count of faults rose is said beside.
-use Rattle.std.specs.Prelude.{◌≡◌, ◌≢◌, ◌⊎◌, ℕ, ◌+◌, ◌*◌, ◌<◌, ◌≤◌, Bool, true, false, Option, Some, None, List, length, Result, Ok, Err, IsErrOf}
+use Rattle.std.specs.Prelude.{◌≡◌, ◌≢◌, ◌⊎◌, ℕ, ◌+◌, ◌*◌, ◌<◌, ◌≤◌, Bool, true, false, Option, Some, None, List, length, Result, Ok, Err}
+use Rattle.std.specs.Prelude.{IsErrOf}
 use Rattle.outside.specs.Causes.{Rose}
 use Rattle.page_journal.specs.Home.{IsFormatted, IsWellFormed, IsHomePage}
 use Rattle.page_journal.specs.Pages.{number, gate, first_page, page_count}
 use Rattle.page_journal.specs.declared.fault.StoreFault.{StoreFault}
-use Rattle.page_journal.specs.declared.fault.StoreFault.TheVariants.{NotFormatted, NotEmpty, BadStore, DiskFault, StoreFull, Broken, OutOfMemory}
+use Rattle.page_journal.specs.declared.fault.StoreFault.TheVariants.{NotFormatted, NotEmpty, BadStore, DiskFault, StoreFull, Broken}
+use Rattle.page_journal.specs.declared.fault.StoreFault.TheVariants.{OutOfMemory}
 use Rattle.page_journal.specs.declared.layout.TheConstants.{OPEN, ROOT_AT, PAGE_LEN}
 
 abbrev pub is_disk_fault : StoreFault → Bool

@@ -12,7 +12,8 @@ pub record IsFormatted (bytes : List ℕ) : Type 0 where
 pub record AreRising (bytes : List ℕ) (first count : ℕ) : Type 0 where
   pub positive : (place : ℕ) → place < count → 1 ≤ number bytes (PAGE_LEN * first + 8 * place)
   pub below : (place : ℕ) → place < count → number bytes (PAGE_LEN * first + 8 * place) < first
-  pub rises : (place : ℕ) → place + 1 < count → number bytes (PAGE_LEN * first + 8 * place) < number bytes (PAGE_LEN * first + 8 * (place + 1))
+  pub rises : (place : ℕ) → place + 1 < count
+      → number bytes (PAGE_LEN * first + 8 * place) < number bytes (PAGE_LEN * first + 8 * (place + 1))
 
 -- the journal has a page, its numbers rise so, and its pages are all there
 pub record IsWellFormed (bytes : List ℕ) : Type 0 where

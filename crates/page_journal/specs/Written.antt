@@ -88,4 +88,5 @@ pub record Finished (old new : List ℕ) : Type 0 where
   pub formatted : IsFormatted new
   pub shut : gate new ≢ OPEN
   pub long : length old ≤ length new
-  pub home : (n : ℕ) (page : List ℕ) → 1 ≤ n → PAGE_LEN * n + PAGE_LEN ≤ length old → IsHomePage old n page → page_from new (PAGE_LEN * n) ≡ page
+  pub home : (n : ℕ) (page : List ℕ) → 1 ≤ n → PAGE_LEN * n + PAGE_LEN ≤ length old → IsHomePage old n page
+      → page_from new (PAGE_LEN * n) ≡ page

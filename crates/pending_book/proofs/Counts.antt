@@ -33,4 +33,5 @@ is_below x n some = grind (arith, nat_tests)
 
 -- all numbers of a list are below n where each stands there at most as often as below n
 pub all_below : (xs : List ℕ) (n : ℕ) → ((x : ℕ) → times x xs ≤ once_below x n) → All (λ x. x < n) xs
-all_below xs n few = λ i d short. let least = stands xs i d short in let most = few (get_or xs i d) in is_below (get_or xs i d) n (omega arith)
+all_below xs n few = λ i d short. let least = stands xs i d short in let most = few (get_or xs i d) in
+    is_below (get_or xs i d) n (omega arith)

@@ -1,5 +1,6 @@
 -- The steps of the table of a book.
-use Rattle.std.proofs.Common.{◌≡◌, ℕ, zero, suc, ◌+◌, ◌^◌, ◌%◌, ◌<◌, ◌≤◌, List, [], ◌∷◌, ◌++◌, length, set, refl, ap, sym, ◌∙◌, subst, arith}
+use Rattle.std.proofs.Common.{◌≡◌, ℕ, zero, suc, ◌+◌, ◌^◌, ◌%◌, ◌<◌, ◌≤◌, List, [], ◌∷◌, ◌++◌, length, set, refl, ap, sym, ◌∙◌, subst}
+use Rattle.std.proofs.Common.{arith}
 use Rattle.std.specs.Prelude.{slice_index}
 use mathlib.Core.Option.{some, some-injective, some-ne-none}
 use lib.ListN.{get_elem?}
@@ -16,7 +17,8 @@ one_word [] n e = absurd (omega arith)
 one_word (x ∷ xs) n e = (e, refl)
 
 module _ {S : Type 0} where
-  pub draws_state : (size : Size) (st : Step S) (s : State S View) (id : ℕ) (me : Me S View) → Kept size s → get_elem? s.views id ≡ some me.0 → me.0.nones < me.0.share
+  pub draws_state : (size : Size) (st : Step S) (s : State S View) (id : ℕ) (me : Me S View) → Kept size s
+      → get_elem? s.views id ≡ some me.0 → me.0.nones < me.0.share
       → (w : View) × (a : Act S) × Valid s.homes me.1 a × Kept size (stepped s 0 ((slice_index s.words 0 + 1) % 2 ^ 64) id me.1 w a)
       × Draws st me (slice_index s.words 0) (w, carried_after me.1 a)
   draws_state size st s id me rule at room =
@@ -25,7 +27,8 @@ module _ {S : Type 0} where
       let one = one_word s.words ((word + 1) % 2 ^ 64) rule.0 in
       (d.0, keeps, tt, (one.0, rw one.1 d.1), (refl, d.2, d.3))
 
-  pub looks_state : (size : Size) (st : Step S) (s : State S View) (id : ℕ) (me : Me S View) → Kept size s → get_elem? s.views id ≡ some me.0
+  pub looks_state : (size : Size) (st : Step S) (s : State S View) (id : ℕ) (me : Me S View) → Kept size s
+      → get_elem? s.views id ≡ some me.0
       → (w : View) × (a : Act S) × Valid s.homes me.1 a × Kept size (stepped s 0 (slice_index s.words 0) id me.1 w a)
       × Looks st me (slice_index s.words 0) (w, carried_after me.1 a)
   looks_state size st s id me rule at =
@@ -38,7 +41,8 @@ first_word [] n e = absurd (some-ne-none n (sym e))
 first_word (x ∷ xs) n e = some-injective x n e
 
 -- a book whose seat has all shares and has had a None, at its end
-pub closes_final : {S : Type 0} (size : Size) (id : ℕ) (v : View) (words : List ℕ) (slots : List S) (draws : ℕ) → Final (Seen (Kept size) id v) words slots
+pub closes_final : {S : Type 0} (size : Size) (id : ℕ) (v : View) (words : List ℕ) (slots : List S) (draws : ℕ)
+    → Final (Seen (Kept size) id v) words slots
     → get_elem? words 0 ≡ some draws → v.share ≡ size.share → 0 < v.nones → Closed size draws v
 closes_final size id v words slots draws end found whole dry =
     let word = ap (λ (ws : List ℕ). slice_index ws 0) end.2 ∙ first_word words draws found in

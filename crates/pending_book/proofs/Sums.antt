@@ -25,7 +25,8 @@ module _ {A : Type 0} where
       omega (arith, sum_by-cons f x xs, sum_by-cons g x xs)
 
   -- where f is 0 of all, and g is 0 where f is
-  pub sum_none : (f g : A → ℕ) (xs : List A) → sum_by f xs ≡ 0 → ((i : ℕ) (a : A) → get_elem? xs i ≡ some a → f a ≡ 0 → g a ≡ 0) → sum_by g xs ≡ 0
+  pub sum_none : (f g : A → ℕ) (xs : List A) → sum_by f xs ≡ 0 → ((i : ℕ) (a : A) → get_elem? xs i ≡ some a → f a ≡ 0 → g a ≡ 0)
+      → sum_by g xs ≡ 0
   sum_none f g [] e zeros = refl
   sum_none f g (x ∷ xs) e zeros =
       let head : f x ≡ 0 = omega (arith, sum_by-cons f x xs) in

@@ -1,5 +1,6 @@
 -- The heads and the links with one more piece, before those that have been taken in.
-use Rattle.std.proofs.Common.{◌≡◌, ◌≢◌, ℕ, ◌+◌, ◌<◌, Bool, true, false, cond, List, length, get_or, set, refl, sym, ◌∙◌, ap, subst, arith, get_or-set_same, get_or-set_other, ◌⊎◌, inl, inr, ⊎_elim}
+use Rattle.std.proofs.Common.{◌≡◌, ◌≢◌, ℕ, ◌+◌, ◌<◌, Bool, true, false, cond, List, length, get_or, set, refl, sym, ◌∙◌, ap, subst, arith}
+use Rattle.std.proofs.Common.{get_or-set_same, get_or-set_other, ◌⊎◌, inl, inr, ⊎_elim}
 use Rattle.std.specs.Prelude.{◌&&◌, ◌||◌, not, unwrap_or}
 use Rattle.std.specs.FinMap as map
 use Rattle.std.proofs.lemmas.Bool.{cases_eq}
@@ -21,11 +22,14 @@ next_past pieces place number next off own = record {
       own.lowest other (omega arith) here;
 }
 
-module _ (pieces : List Line) (heads : HeadMap) (links : List Links) (number : ℕ) (later : AreHeadsFrom pieces heads (number + 1)) (linked : AreLinks pieces links (number + 1)) where
+module _ (pieces : List Line) (heads : HeadMap) (links : List Links) (number : ℕ) (later : AreHeadsFrom pieces heads (number + 1))
+    (linked : AreLinks pieces links (number + 1)) where
   -- a closed piece is at no place
   module _ (closed : is_closed (piece_at pieces number) ≡ true) where
     off : (place : PlaceOf) → IsAt pieces place number → ⊥
-    off place here = elim (is_closed (piece_at pieces number)) as (λ b. b ≡ true → (not b && has_end (piece_at pieces number) place) ≡ true → ⊥) [ true ↦ λ _ e. (cc) | false ↦ λ e _. (cc) ] closed here.fit
+    off place here = elim (is_closed (piece_at pieces number)) as
+        (λ b. b ≡ true → (not b && has_end (piece_at pieces number) place) ≡ true → ⊥) [ true ↦ λ _ e. (cc) | false ↦ λ e _. (cc) ] closed
+        here.fit
 
     pub AreHeadsFrom-closed : AreHeadsFrom pieces heads number
     AreHeadsFrom-closed place = next_past pieces place number _ (off place) (later place)
@@ -38,7 +42,8 @@ module _ (pieces : List Line) (heads : HeadMap) (links : List Links) (number : �
 -- no piece is taken in yet
 pub AreHeadsFrom-none : (pieces : List Line) → AreHeadsFrom pieces map.empty (length pieces)
 AreHeadsFrom-none pieces place =
-    let none : head_of pieces map.empty place ≡ length pieces = ap (λ found. unwrap_or found (length pieces)) (map.get-empty place_cmp place) in
+    let none : head_of pieces map.empty place ≡ length pieces =
+    ap (λ found. unwrap_or found (length pieces)) (map.get-empty place_cmp place) in
     record {
       above = omega arith;
       at_place = λ below. absurd (omega (arith, none));
@@ -52,7 +57,8 @@ AreLinks-none pieces links place number bound here = absurd (omega (arith, here.
 two_ends : (first last place : PlaceOf) → (not (same_place first last) && (same_place first place || same_place last place)) ≡ true
     → (same_place first place ≡ true) ⊎ (same_place last place ≡ true)
 two_ends first last place e =
-    elim (same_place first last) as (λ b. (not b && (same_place first place || same_place last place)) ≡ true → (same_place first place ≡ true) ⊎ (same_place last place ≡ true)) [
+    elim (same_place first last) as (λ b. (not b && (same_place first place || same_place last place)) ≡ true
+    → (same_place first place ≡ true) ⊎ (same_place last place ≡ true)) [
       | true ↦ λ h. absurd (cc)
       | false ↦ elim (same_place first place) as (λ b. (b || same_place last place) ≡ true → (b ≡ true) ⊎ (same_place last place ≡ true)) [
         | true ↦ λ h. inl refl
@@ -65,9 +71,11 @@ either true = inl refl
 either false = inr refl
 
 -- an open piece stands before the pieces at its two ends
-module _ (pieces : List Line) (heads : HeadMap) (links : List Links) (number : ℕ) (later : AreHeadsFrom pieces heads (number + 1)) (linked : AreLinks pieces links (number + 1))
+module _ (pieces : List Line) (heads : HeadMap) (links : List Links) (number : ℕ) (later : AreHeadsFrom pieces heads (number + 1))
+    (linked : AreLinks pieces links (number + 1))
     (below : number < length pieces) (rows : length links ≡ length pieces) (first last : PlaceOf)
-    (is_first : first ≡ first_place (piece_at pieces number)) (is_last : last ≡ last_place (piece_at pieces number)) (apart : same_place first last ≡ false) where
+    (is_first : first ≡ first_place (piece_at pieces number)) (is_last : last ≡ last_place (piece_at pieces number))
+    (apart : same_place first last ≡ false) where
   abbrev with_first : HeadMap
   with_first = map.insert heads first number
 
@@ -100,15 +108,19 @@ module _ (pieces : List Line) (heads : HeadMap) (links : List Links) (number : �
   AreHeadsFrom-open place =
       ⊎_elim (λ e.
       let same = one_place place last e in
-      let head : head_of pieces with_both place ≡ number = head_of-insert pieces with_first last number place ∙ ap (λ b. cond b number (head_of pieces with_first place)) e in
+      let head : head_of pieces with_both place ≡ number =
+      head_of-insert pieces with_first last number place ∙ ap (λ b. cond b number (head_of pieces with_first place)) e in
       subst (IsNext pieces place number) (sym head) (is_head place (subst (λ q. IsAt pieces q number) (sym same) at_last)))
-      (λ e. let past : head_of pieces with_both place ≡ head_of pieces with_first place = head_of-insert pieces with_first last number place ∙ ap (λ b. cond b number (head_of pieces with_first place)) e in
+      (λ e. let past : head_of pieces with_both place ≡ head_of pieces with_first place =
+      head_of-insert pieces with_first last number place ∙ ap (λ b. cond b number (head_of pieces with_first place)) e in
       ⊎_elim (λ f.
       let same = one_place place first f in
-      let head : head_of pieces with_first place ≡ number = head_of-insert pieces heads first number place ∙ ap (λ b. cond b number (head_of pieces heads place)) f in
+      let head : head_of pieces with_first place ≡ number =
+      head_of-insert pieces heads first number place ∙ ap (λ b. cond b number (head_of pieces heads place)) f in
       subst (IsNext pieces place number) (sym (past ∙ head)) (is_head place (subst (λ q. IsAt pieces q number) (sym same) at_first)))
       (λ f.
-      let head : head_of pieces with_first place ≡ head_of pieces heads place = head_of-insert pieces heads first number place ∙ ap (λ b. cond b number (head_of pieces heads place)) f in
+      let head : head_of pieces with_first place ≡ head_of pieces heads place =
+      head_of-insert pieces heads first number place ∙ ap (λ b. cond b number (head_of pieces heads place)) f in
       let off : IsAt pieces place number → ⊥ = λ here. ⊎_elim
       (λ t. let h : same_place place first ≡ true = rw (one_place first place t) (same_place-itself place) in cc)
       (λ t. let h : same_place place last ≡ true = rw (one_place last place t) (same_place-itself place) in cc)
@@ -134,14 +146,19 @@ module _ (pieces : List Line) (heads : HeadMap) (links : List Links) (number : �
         ∙ ap (λ q. cond (same_place q place) row.first row.last) (sym is_first)
         ∙ ⊎_elim
         (λ t. ap (λ b. cond b row.first row.last) t ∙ to_first ∙ ap (head_of pieces heads) (one_place first place t))
-        (λ f. ap (λ b. cond b row.first row.last) f ∙ to_last ∙ head_of-insert pieces heads first number last ∙ ap (λ b. cond b number (head_of pieces heads last)) last_apart ∙ ap (head_of pieces heads) (⊎_elim (λ t. absurd (cc)) (λ t. one_place last place t) (ends_at place here)))
+        (λ f. ap (λ b. cond b row.first row.last) f ∙ to_last ∙ head_of-insert pieces heads first number last
+        ∙ ap (λ b. cond b number (head_of pieces heads last)) last_apart
+        ∙ ap (head_of pieces heads) (⊎_elim (λ t. absurd (cc)) (λ t. one_place last place t) (ends_at place here)))
         (either (same_place first place))
 
     pub AreLinks-open : AreLinks pieces new_links number
     AreLinks-open place other bound here =
         ⊎_elim
-        (λ (e : other ≡ number). subst (λ n. IsNext pieces place (n + 1) (next_of pieces new_links place n)) (sym e) (subst (IsNext pieces place (number + 1)) (sym (own place (subst (IsAt pieces place) e here))) (later place)))
+        (λ (e : other ≡ number). subst (λ n. IsNext pieces place (n + 1) (next_of pieces new_links place n)) (sym e)
+        (subst (IsNext pieces place (number + 1)) (sym (own place (subst (IsAt pieces place) e here))) (later place)))
         (λ (e : other ≢ number).
-        let kept : next_of pieces new_links place other ≡ next_of pieces links place other = ap (λ found. cond (same_place (first_place (piece_at pieces other)) place) found.first found.last) (get_or-set_other links number other row no_links e) in
+        let kept : next_of pieces new_links place other ≡ next_of pieces links place other =
+        ap (λ found. cond (same_place (first_place (piece_at pieces other)) place) found.first found.last)
+        (get_or-set_other links number other row no_links e) in
         subst (IsNext pieces place (other + 1)) (sym kept) (linked place other (omega arith) here))
         (cases_eq other number)

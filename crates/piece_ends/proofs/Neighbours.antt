@@ -7,7 +7,8 @@ use Rattle.osm_base.specs.values.Place.{PlaceOf}
 use Rattle.piece_ends.specs.Pieces.{Line, same_place}
 use Rattle.piece_ends.proofs.SamePlace.{one_place, same_place-itself}
 
-module _ (line : Line) (index : ℕ) (before place : PlaceOf) (some : 1 ≤ index) (below : index < length line) (first : before ≡ get_or line (index - 1) before) (second : place ≡ get_or line index place) where
+module _ (line : Line) (index : ℕ) (before place : PlaceOf) (some : 1 ≤ index) (below : index < length line)
+    (first : before ≡ get_or line (index - 1) before) (second : place ≡ get_or line index place) where
   one : slice_get line (index - 1) ≡ Some before
   one = let bound : index - 1 < length line = omega arith in slice_get_read line (length line) (index - 1) before refl bound first
 
@@ -20,7 +21,8 @@ module _ (line : Line) (index : ℕ) (before place : PlaceOf) (some : 1 ≤ inde
   equal_neighbours e = one ∙ ap Some (one_place before place e) ∙ sym two
 
   -- the points up to here differ from those before them
-  pub more_differ : same_place before place ≡ false → ((earlier : ℕ) → earlier + 1 < index → slice_get line earlier ≢ slice_get line (earlier + 1))
+  pub more_differ : same_place before place ≡ false
+      → ((earlier : ℕ) → earlier + 1 < index → slice_get line earlier ≢ slice_get line (earlier + 1))
       → (earlier : ℕ) → earlier + 1 < index + 1 → slice_get line earlier ≢ slice_get line (earlier + 1)
   more_differ apart kept earlier less same = ⊎_elim
       (λ (e : earlier ≡ index - 1).

@@ -37,7 +37,8 @@ lookup-find : (q : PlaceOf) (entries : List (PlaceOf × ℕ)) → lookup (is_at 
 lookup-find q [] = refl
 lookup-find q (entry ∷ entries) = ap (cond (is_eq (place_cmp q entry.0)) (Some entry.1)) (lookup-find q entries)
 
-pub found : (q : PlaceOf) (entries : List (PlaceOf × ℕ)) → lookup (is_at (place_cmp q)) entries ≡ get (from_entries {R = place_cmp} entries) q
+pub found : (q : PlaceOf) (entries : List (PlaceOf × ℕ))
+    → lookup (is_at (place_cmp q)) entries ≡ get (from_entries {R = place_cmp} entries) q
 found q entries = lookup-find q entries ∙ sym (get-from_entries place_cmp_total entries q)
 
 pub inserted : (old new : BTreeMap PlaceOf ℕ) (place : PlaceOf) (number : ℕ) → Updates place_cmp old new place (Some number)

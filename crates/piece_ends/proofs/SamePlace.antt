@@ -33,15 +33,19 @@ pub same_place-itself : (place : PlaceOf) → same_place place place ≡ true
 same_place-itself place = sym (eq_by_cmp-place_cmp place place) ∙ ap is_eq (tied_itself place_cmp_total place)
 
 pub same_place-false : (place other : PlaceOf) → place ≢ other → same_place place other ≡ false
-same_place-false place other apart = elim (same_place place other) as (λ b. (b ≡ true → place ≡ other) → b ≡ false) [ true ↦ λ one. absurd (apart (one refl)) | false ↦ λ _. refl ] (one_place place other)
+same_place-false place other apart = elim (same_place place other) as
+    (λ b. (b ≡ true → place ≡ other) → b ≡ false) [ true ↦ λ one. absurd (apart (one refl)) | false ↦ λ _. refl ] (one_place place other)
 
 -- the head at a place after one was put
 pub head_of-insert : (pieces : List Line) (heads : HeadMap) (place : PlaceOf) (number : ℕ) (q : PlaceOf)
     → head_of pieces (map.insert heads place number) q ≡ cond (same_place q place) number (head_of pieces heads q)
 head_of-insert pieces heads place number q =
-    ap (λ found. unwrap_or found (length pieces)) (map.get-insert place_cmp_total heads place number q ∙ ap (λ b. cond b (Some number) (map.get heads q)) (eq_by_cmp-place_cmp q place))
+    ap (λ found. unwrap_or found (length pieces))
+    (map.get-insert place_cmp_total heads place number q
+    ∙ ap (λ b. cond b (Some number) (map.get heads q)) (eq_by_cmp-place_cmp q place))
     ∙ unwrap_or-cond (same_place q place)
   where
-    unwrap_or-cond : (b : Bool) → unwrap_or (cond b (Some number) (map.get heads q)) (length pieces) ≡ cond b number (head_of pieces heads q)
+    unwrap_or-cond : (b : Bool) → unwrap_or (cond b (Some number) (map.get heads q)) (length pieces)
+        ≡ cond b number (head_of pieces heads q)
     unwrap_or-cond true = refl
     unwrap_or-cond false = refl

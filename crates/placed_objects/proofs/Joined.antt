@@ -1,5 +1,6 @@
 -- Objects of which some nodes are known by their places: what is found, what an entry makes of them, and their index.
-use Rattle.std.proofs.Common.{◌≡◌, ℕ, Bool, true, false, cond, List, [], ◌∷◌, Option, Some, None, Result, Ok, Err, IfOk, IfSome, OnOk, refl, sym, ap, subst, ◌∙◌}
+use Rattle.std.proofs.Common.{◌≡◌, ℕ, Bool, true, false, cond, List, [], ◌∷◌, Option, Some, None, Result, Ok, Err, IfOk, IfSome, OnOk, refl}
+use Rattle.std.proofs.Common.{sym, ap, subst, ◌∙◌}
 use Rattle.std.specs.Cmp.{nat_cmp_total}
 use Rattle.std.specs.FinMap as finite
 use Rattle.std.specs.Option.{option_map, option_or}
@@ -61,7 +62,8 @@ pub get-other : (places : PlaceMap) (objects : ObjectSet) (kind : Kind) (id : �
 unfolding joined
 get-other places objects kind id other = get-other-with (finite.entries places) objects kind id other
 
-by_kind : (P : KeyOf → Type 0) → ((id : ℕ) → P (node_key id)) → ((kind : Kind) (id : ℕ) → is_kind kind Node ≡ false → P (key kind id)) → (kind : Kind) (id : ℕ) → P (key kind id)
+by_kind : (P : KeyOf → Type 0) → ((id : ℕ) → P (node_key id)) → ((kind : Kind) (id : ℕ) → is_kind kind Node ≡ false → P (key kind id))
+    → (kind : Kind) (id : ℕ) → P (key kind id)
 by_kind P nodes others Node id = nodes id
 by_kind P nodes others Way id = others Way id refl
 by_kind P nodes others Relation id = others Relation id refl
@@ -69,10 +71,12 @@ by_kind P nodes others Relation id = others Relation id refl
 same_objects : (one other : ObjectSet) → ((id : ℕ) → finite.get one (node_key id) ≡ finite.get other (node_key id))
     → ((kind : Kind) (id : ℕ) → is_kind kind Node ≡ false → finite.get one (key kind id) ≡ finite.get other (key kind id)) → one ≡ other
 same_objects one other nodes others =
-    finite.same_map key_cmp_total key_cmp-IsAntisymmetric one other (λ own. by_kind (λ at. finite.get one at ≡ finite.get other at) nodes others own.kind own.id)
+    finite.same_map key_cmp_total key_cmp-IsAntisymmetric one other
+    (λ own. by_kind (λ at. finite.get one at ≡ finite.get other at) nodes others own.kind own.id)
 
 -- no place and no object
-pub joined-empty : (places : PlaceMap) (objects : ObjectSet) → places ≡ finite.empty → objects ≡ finite.empty → joined places objects ≡ finite.empty
+pub joined-empty : (places : PlaceMap) (objects : ObjectSet) → places ≡ finite.empty → objects ≡ finite.empty
+    → joined places objects ≡ finite.empty
 joined-empty places objects no_place no_object = same_objects (joined places objects) finite.empty
     (λ id. get-node places objects id
     ∙ ap (λ (own : PlaceMap). node_found (finite.get own id) (finite.get objects (node_key id))) no_place
@@ -80,18 +84,22 @@ joined-empty places objects no_place no_object = same_objects (joined places obj
     ∙ ap (λ (own : ObjectSet). finite.get own (node_key id)) no_object)
     (λ kind id other. get-other places objects kind id other ∙ ap (λ (own : ObjectSet). finite.get own (key kind id)) no_object)
 
-chosen : (b : Bool) (place : Option PlaceOf) (object own : Option Object) → node_found (cond b None place) (cond b object own) ≡ cond b object (node_found place own)
+chosen : (b : Bool) (place : Option PlaceOf) (object own : Option Object)
+    → node_found (cond b None place) (cond b object own) ≡ cond b object (node_found place own)
 chosen true place object own = refl
 chosen false place object own = refl
 
 -- an entry of a node that is put among the objects, and no longer known by its place
 joined-node : (places : PlaceMap) (objects : ObjectSet) (id : ℕ) (object : Option Object)
     → joined (finite.remove places id) (with_object objects (node_key id) object) ≡ with_object (joined places objects) (node_key id) object
-joined-node places objects id object = same_objects (joined (finite.remove places id) (with_object objects (node_key id) object)) (with_object (joined places objects) (node_key id) object)
+joined-node places objects id object = same_objects (joined (finite.remove places id) (with_object objects (node_key id) object))
+    (with_object (joined places objects) (node_key id) object)
     (λ own.
     get-node (finite.remove places id) (with_object objects (node_key id) object) own
-    ∙ ap (λ place. node_found place (finite.get (with_object objects (node_key id) object) (node_key own))) (finite.get-remove nat_cmp_total places id own)
-    ∙ ap (node_found (cond (eq_by_cmp nat_cmp own id) None (finite.get places own))) (get-with_object objects (node_key id) object (node_key own))
+    ∙ ap (λ place. node_found place (finite.get (with_object objects (node_key id) object) (node_key own)))
+    (finite.get-remove nat_cmp_total places id own)
+    ∙ ap (node_found (cond (eq_by_cmp nat_cmp own id) None (finite.get places own)))
+    (get-with_object objects (node_key id) object (node_key own))
     ∙ chosen (eq_by_cmp nat_cmp own id) (finite.get places own) object (finite.get objects (node_key own))
     ∙ ap (cond (eq_by_cmp nat_cmp own id) object) (sym (get-node places objects own))
     ∙ sym (get-with_object (joined places objects) (node_key id) object (node_key own)))
@@ -104,7 +112,8 @@ joined-node places objects id object = same_objects (joined (finite.remove place
 -- a place more
 pub joined-place : (places : PlaceMap) (objects : ObjectSet) (id : ℕ) (place : PlaceOf)
     → joined (finite.insert places id place) objects ≡ finite.insert (joined places objects) (node_key id) (plain place)
-joined-place places objects id place = same_objects (joined (finite.insert places id place) objects) (finite.insert (joined places objects) (node_key id) (plain place))
+joined-place places objects id place = same_objects (joined (finite.insert places id place) objects)
+    (finite.insert (joined places objects) (node_key id) (plain place))
     (λ own.
     get-node (finite.insert places id place) objects own
     ∙ ap (λ found. node_found found (finite.get objects (node_key own))) (finite.get-insert nat_cmp_total places id place own)
@@ -125,10 +134,13 @@ untied-node Relation id own other = refl
 -- an entry of a way or a relation
 pub joined-object : (places : PlaceMap) (objects : ObjectSet) (kind : Kind) (id : ℕ) (object : Option Object) → is_kind kind Node ≡ false
     → joined places (with_object objects (key kind id) object) ≡ with_object (joined places objects) (key kind id) object
-joined-object places objects kind id object other = same_objects (joined places (with_object objects (key kind id) object)) (with_object (joined places objects) (key kind id) object)
+joined-object places objects kind id object other =
+    same_objects (joined places (with_object objects (key kind id) object)) (with_object (joined places objects) (key kind id) object)
     (λ own.
     get-node places (with_object objects (key kind id) object) own
-    ∙ ap (node_found (finite.get places own)) (get-with_object objects (key kind id) object (node_key own) ∙ ap (λ b. cond b object (finite.get objects (node_key own))) (untied-node kind id own other))
+    ∙ ap (node_found (finite.get places own))
+    (get-with_object objects (key kind id) object (node_key own)
+    ∙ ap (λ b. cond b object (finite.get objects (node_key own))) (untied-node kind id own other))
     ∙ sym (get-with_object (joined places objects) (key kind id) object (node_key own)
     ∙ ap (λ b. cond b object (finite.get (joined places objects) (node_key own))) (untied-node kind id own other)
     ∙ get-node places objects own))
@@ -143,14 +155,19 @@ place_found None object = refl
 place_found (Some place) object = refl
 
 -- the place of a node
-pub joined-known : (places : PlaceMap) (objects : ObjectSet) (id : ℕ) → (known_of (joined places objects)).place id ≡ option_or (finite.get places id) ((known_of objects).place id)
-joined-known places objects id = ap place_in (get-node places objects id) ∙ place_found (finite.get places id) (finite.get objects (node_key id))
+pub joined-known : (places : PlaceMap) (objects : ObjectSet) (id : ℕ)
+    → (known_of (joined places objects)).place id ≡ option_or (finite.get places id) ((known_of objects).place id)
+joined-known places objects id = ap place_in (get-node places objects id)
+    ∙ place_found (finite.get places id) (finite.get objects (node_key id))
 
 -- who lists what
-pub joined-lists : (places : PlaceMap) (objects : ObjectSet) (by kind : Kind) (id : ℕ) → is_kind by Node ≡ false → ids_of by kind id (joined places objects) ≡ ids_of by kind id objects
+pub joined-lists : (places : PlaceMap) (objects : ObjectSet) (by kind : Kind) (id : ℕ) → is_kind by Node ≡ false
+    → ids_of by kind id (joined places objects) ≡ ids_of by kind id objects
 joined-lists places objects by kind id other =
-    same_rising (ids_of by kind id (joined places objects)) (ids_of by kind id objects) (ids_of-rise (joined places objects) by kind id) (ids_of-rise objects by kind id)
-    (λ own. has-ids_of (joined places objects) by kind id own ∙ ap (lists kind id) (get-other places objects by own other) ∙ sym (has-ids_of objects by kind id own))
+    same_rising (ids_of by kind id (joined places objects)) (ids_of by kind id objects) (ids_of-rise (joined places objects) by kind id)
+    (ids_of-rise objects by kind id)
+    (λ own. has-ids_of (joined places objects) by kind id own ∙ ap (lists kind id) (get-other places objects by own other)
+    ∙ sym (has-ids_of objects by kind id own))
 
 pub joined-index : (places : PlaceMap) (objects : ObjectSet) → index_of (joined places objects) ≡ index_of objects
 joined-index places objects = λ i. record {
@@ -164,7 +181,8 @@ on_ok (Ok value) f p = f p
 on_ok (Err why) f p = tt
 
 -- the object of a node without a tag
-pub plain-of : (object : Option Object) (place : Option PlaceOf) (tags : TagMap) → object ≡ Some (objects.Node place tags) → finite.len tags ≡ 0 → IfSome place (λ own. object ≡ Some (plain own))
+pub plain-of : (object : Option Object) (place : Option PlaceOf) (tags : TagMap) → object ≡ Some (objects.Node place tags)
+    → finite.len tags ≡ 0 → IfSome place (λ own. object ≡ Some (plain own))
 plain-of object None tags is none = tt
 plain-of object (Some place) tags is none = is ∙ ap (λ own. Some (objects.Node (Some place) own)) (finite.empty_of_len tags none)
 
@@ -183,7 +201,9 @@ module _ (entry : Entry) (node : is_kind entry.key.kind Node ≡ true) (id : ℕ
   put-answer old new (Err why) place object is = tt
 
   -- and one that was put among the other objects
-  pub joined-entry : (places : PlaceMap) (others : ObjectSet) → joined (finite.remove places id) (folded others entry) ≡ folded (joined places others) entry
+  pub joined-entry : (places : PlaceMap) (others : ObjectSet)
+      → joined (finite.remove places id) (folded others entry) ≡ folded (joined places others) entry
   joined-entry places others =
-      subst (λ (at : KeyOf). joined (finite.remove places id) (with_object others at entry.object) ≡ with_object (joined places others) at entry.object) own_key
+      subst (λ (at : KeyOf). joined (finite.remove places id) (with_object others at entry.object)
+      ≡ with_object (joined places others) at entry.object) own_key
       (joined-node places others id entry.object)

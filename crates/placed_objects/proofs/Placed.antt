@@ -1,5 +1,6 @@
 -- The places of nodes as a finite map: what is found, and what a place more, another or one fewer makes of it.
-use Rattle.std.proofs.Common.{◌≡◌, ◌<◌, ◌≤◌, ◌-◌, ℕ, zero, suc, Bool, true, false, ◌||◌, cond, List, [], ◌∷◌, ◌++◌, length, set, get_or, Option, Some, None, refl, sym, ap, subst, ◌∙◌, arith, nat_eq}
+use Rattle.std.proofs.Common.{◌≡◌, ◌<◌, ◌≤◌, ◌-◌, ℕ, zero, suc, Bool, true, false, ◌||◌, cond, List, [], ◌∷◌, ◌++◌, length, set, get_or}
+use Rattle.std.proofs.Common.{Option, Some, None, refl, sym, ap, subst, ◌∙◌, arith, nat_eq}
 use mathlib.Core.Bool.{false≢true}
 use Rattle.std.specs.Cmp.{nat_cmp_total, unsigned_tied}
 use Rattle.std.specs.FinMap as finite
@@ -49,7 +50,8 @@ found-none (first ∷ ids) [] id not = refl
 found-none (first ∷ ids) (place ∷ places) id not =
     elim (nat_eq first id) as (λ b. nat_eq first id ≡ b → (b || has ids id) ≡ false → found (first ∷ ids) (place ∷ places) id ≡ None) [
       | true ↦ λ _ e. absurd (false≢true (sym e))
-      | false ↦ λ differs e. found-first first ids place places id ∙ ap (λ b. first_or b place (found ids places id)) differs ∙ found-none ids places id e
+      | false ↦ λ differs e. found-first first ids place places id ∙ ap (λ b. first_or b place (found ids places id)) differs
+          ∙ found-none ids places id e
     ] refl not
 
 above-not : (first : ℕ) (ids : List ℕ) → AllByRecursion (λ other. nat_cmp first other ≡ Less) ids → has ids first ≡ false
@@ -79,7 +81,8 @@ apart_from first id ids not there =
     ] refl
 
 -- an id that stands among them has the place beside it
-pub found-at : (ids : List ℕ) (places : List (Option PlaceOf)) (at id : ℕ) → IsRising ids → length places ≡ length ids → StandsAt ids id at → found ids places id ≡ get_or places at None
+pub found-at : (ids : List ℕ) (places : List (Option PlaceOf)) (at id : ℕ) → IsRising ids → length places ≡ length ids → StandsAt ids id at
+    → found ids places id ≡ get_or places at None
 found-at [] places at id rise each stands = absurd (omega (arith, stands.within))
 found-at (first ∷ ids) [] at id rise each stands = absurd (omega (arith, each))
 found-at (first ∷ ids) (place ∷ places) zero id rise each stands =
@@ -95,7 +98,8 @@ found-at (first ∷ ids) (place ∷ places) (suc at) id rise each stands =
     ∙ found-at ids places at id (rise-rest first ids rise) (omega (arith, each)) rest
 
 -- another place for one id leaves the others
-found-other : (ids : List ℕ) (places : List (Option PlaceOf)) (at id : ℕ) (place : Option PlaceOf) (other : ℕ) → StandsAt ids id at → nat_eq id other ≡ false
+found-other : (ids : List ℕ) (places : List (Option PlaceOf)) (at id : ℕ) (place : Option PlaceOf) (other : ℕ) → StandsAt ids id at
+    → nat_eq id other ≡ false
     → found ids (set places at place) other ≡ found ids places other
 found-other [] places at id place other stands differs = absurd (omega (arith, stands.within))
 found-other (first ∷ ids) [] at id place other stands differs = refl
@@ -105,10 +109,12 @@ found-other (first ∷ ids) (own ∷ places) zero id place other stands differs 
     ∙ sym (found-first first ids own places other ∙ ap (λ b. first_or b own (found ids places other)) apart)
 found-other (first ∷ ids) (own ∷ places) (suc at) id place other stands differs =
     found-first first ids own (set places at place) other
-    ∙ ap (first_or (nat_eq first other) own) (found-other ids places at id place other (record { within = omega (arith, stands.within); there = stands.there }) differs)
+    ∙ ap (first_or (nat_eq first other) own)
+    (found-other ids places at id place other (record { within = omega (arith, stands.within); there = stands.there }) differs)
     ∙ sym (found-first first ids own places other)
 
-found-set : (ids : List ℕ) (places : List (Option PlaceOf)) (at id : ℕ) (place : Option PlaceOf) (other : ℕ) → AreNodePlaces ids places → StandsAt ids id at
+found-set : (ids : List ℕ) (places : List (Option PlaceOf)) (at id : ℕ) (place : Option PlaceOf) (other : ℕ) → AreNodePlaces ids places
+    → StandsAt ids id at
     → found ids (set places at place) other ≡ cond (eq_by_cmp nat_cmp other id) place (found ids places other)
 found-set ids places at id place other are stands =
     elim (nat_eq id other) as (λ b. nat_eq id other ≡ b → found ids (set places at place) other ≡ cond b place (found ids places other)) [
@@ -146,11 +152,14 @@ set-none ids places at id are stands =
     ∙ sym (finite.get-remove nat_cmp_total (as_map ids places) id other))
 
 -- an id that is not among them is not taken out
-pub remove-none : (ids : List ℕ) (places : List (Option PlaceOf)) (id : ℕ) → has ids id ≡ false → as_map ids places ≡ finite.remove (as_map ids places) id
+pub remove-none : (ids : List ℕ) (places : List (Option PlaceOf)) (id : ℕ) → has ids id ≡ false
+    → as_map ids places ≡ finite.remove (as_map ids places) id
 remove-none ids places id not =
     finite.same_map nat_cmp_total nat_cmp-IsAntisymmetric _ _ (λ other.
-    elim (nat_eq id other) as (λ b. nat_eq id other ≡ b → finite.get (as_map ids places) other ≡ cond b None (finite.get (as_map ids places) other)) [
-      | true ↦ λ same. ap (finite.get (as_map ids places)) (sym (same_id id other same)) ∙ get-as_map ids places id ∙ found-none ids places id not
+    elim (nat_eq id other) as (λ b. nat_eq id other ≡ b
+    → finite.get (as_map ids places) other ≡ cond b None (finite.get (as_map ids places) other)) [
+      | true ↦ λ same. ap (finite.get (as_map ids places)) (sym (same_id id other same)) ∙ get-as_map ids places id
+          ∙ found-none ids places id not
       | false ↦ λ differs. refl
     ] refl
     ∙ ap (λ b. cond b None (finite.get (as_map ids places) other)) (sym (tied other id))
@@ -162,7 +171,8 @@ placed-pushed [] [] id place each = refl
 placed-pushed [] (own ∷ places) id place each = absurd (omega (arith, each))
 placed-pushed (first ∷ ids) [] id place each = absurd (omega (arith, each))
 placed-pushed (first ∷ ids) (None ∷ places) id place each = placed-pushed ids places id place (omega (arith, each))
-placed-pushed (first ∷ ids) (Some own ∷ places) id place each = ap (λ rest. (first, own) ∷ rest) (placed-pushed ids places id place (omega (arith, each)))
+placed-pushed (first ∷ ids) (Some own ∷ places) id place each =
+    ap (λ rest. (first, own) ∷ rest) (placed-pushed ids places id place (omega (arith, each)))
 
 -- a place at the end
 pub pushed : (ids : List ℕ) (places : List (Option PlaceOf)) (id : ℕ) (place : PlaceOf) → AreNodePlaces ids places → has ids id ≡ false
@@ -172,7 +182,8 @@ pushed ids places id place are not =
     ∙ finite.from_entries_push nat_cmp_total nat_cmp-IsAntisymmetric (placed ids places) id place (found-none ids places id not)
 
 -- what stands beside an id
-pub get-at : (ids : List ℕ) (places : List (Option PlaceOf)) (at id : ℕ) (place : Option PlaceOf) → AreNodePlaces ids places → StandsAt ids id at → place ≡ get_or places at place
+pub get-at : (ids : List ℕ) (places : List (Option PlaceOf)) (at id : ℕ) (place : Option PlaceOf) → AreNodePlaces ids places
+    → StandsAt ids id at → place ≡ get_or places at place
     → place ≡ finite.get (as_map ids places) id
 get-at ids places at id place are stands is =
     is ∙ get_or_default places at place None (omega (arith, stands.within, are.each))
@@ -184,7 +195,8 @@ get_or-got (first ∷ ids) zero id is = ap (λ own. unwrap_or own 0) is
 get_or-got (first ∷ ids) (suc at) id is = get_or-got ids at id is
 
 -- an id above the last stands in the gap behind all
-behind-gap : (ids : List ℕ) (id last : ℕ) → IsRising ids → slice_get ids (length ids - 1) ≡ Some last → last < id → IsGapAt ids id (length ids)
+behind-gap : (ids : List ℕ) (id last : ℕ) → IsRising ids → slice_get ids (length ids - 1) ≡ Some last → last < id
+    → IsGapAt ids id (length ids)
 behind-gap ids id last rise is less =
     let there = get_or-got ids (length ids - 1) last is in
     record {
@@ -198,8 +210,10 @@ behind-gap ids id last rise is less =
 pub behind-none : (ids : List ℕ) (id last : ℕ) → IsRising ids → Some last ≡ slice_get ids (length ids - 1) → last < id → has ids id ≡ false
 behind-none ids id last rise is less = not_has_gap ids (length ids) id (behind-gap ids id last rise (sym is) less)
 
-pub behind-rise : (ids : List ℕ) (id last : ℕ) → IsRising ids → Some last ≡ slice_get ids (length ids - 1) → last < id → IsRising (ids ++ id ∷ [])
-behind-rise ids id last rise is less = subst IsRising (insert_end ids id) (insert-rise ids id (length ids) rise (behind-gap ids id last rise (sym is) less))
+pub behind-rise : (ids : List ℕ) (id last : ℕ) → IsRising ids → Some last ≡ slice_get ids (length ids - 1) → last < id
+    → IsRising (ids ++ id ∷ [])
+behind-rise ids id last rise is less = subst IsRising (insert_end ids id)
+    (insert-rise ids id (length ids) rise (behind-gap ids id last rise (sym is) less))
 
 pub alone-rise : (ids : List ℕ) (id : ℕ) → length ids ≤ 0 → IsRising (ids ++ id ∷ [])
 unfolding IsStrictlySortedBy

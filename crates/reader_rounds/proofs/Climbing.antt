@@ -12,8 +12,10 @@ pub climbs_same : (from number count : ℕ) → from ≤ number → Climbs from 
 climbs_same from number zero low = low
 climbs_same from number (suc count) low = (low, climbs_same number number count (omega arith))
 
-pub climbs_same_all : (from number rounds count : ℕ) → from ≤ number → Climbs from number (flat_map (λ (round : List ℕ). round) (replicate rounds (replicate count number)))
+pub climbs_same_all : (from number rounds count : ℕ) → from ≤ number
+    → Climbs from number (flat_map (λ (round : List ℕ). round) (replicate rounds (replicate count number)))
 climbs_same_all from number zero count low = low
 climbs_same_all from number (suc rounds) count low =
-    climbs_append from number number (replicate count number) (flat_map (λ (round : List ℕ). round) (replicate rounds (replicate count number)))
+    climbs_append from number number (replicate count number)
+    (flat_map (λ (round : List ℕ). round) (replicate rounds (replicate count number)))
     (climbs_same from number count low) (climbs_same_all number number rounds count (omega arith))

@@ -16,7 +16,8 @@ begin_of front = record front { log = [] }
 abbrev pub AreRounds : StyleOf → (told from to : FrontOf) → List Query → List (List Answer) → Type 0
 AreRounds style told from to queries [] = Begins from to
 AreRounds style told from to queries (round ∷ rounds) =
-    (between : FrontOf) × (AreAnswers style told from between queries round × (length round ≡ length queries) × AreRounds style told between to queries rounds)
+    (between : FrontOf) × (AreAnswers style told from between queries round × (length round ≡ length queries)
+    × AreRounds style told between to queries rounds)
 
 -- one round more was answered
 pub record AsksRound (queries : List Query) (old new : Asker) : Type 0 where
@@ -36,7 +37,8 @@ pub record HasAsked (style : StyleOf) (front : FrontOf) (queries : List Query) (
   pub rounds : asker.stopped ≡ None → AreRounds style front front asker.reader.seen queries asker.rounds
 
 -- so many rounds, and one more behind them that was told of the last version
-pub record AreAnswered (style : StyleOf) (front last : FrontOf) (queries : List Query) (count : ℕ) (rounds : List (List Answer)) : Type 0 where
+pub record AreAnswered (style : StyleOf) (front last : FrontOf) (queries : List Query) (count : ℕ)
+    (rounds : List (List Answer)) : Type 0 where
   pub told : FrontOf
   pub between : FrontOf
   pub to : FrontOf

@@ -11,7 +11,11 @@ use Rattle.reader_rounds.specs.Settling.{HasLength}
 
 -- the answer to a query of a version, which are numbered from 0, that of the first tables
 abbrev pub answer_of : StyleOf → FrontOf → (number : ℕ) → Query → Answer
-answer_of style front number query = record { version = front.base + number; found = answer style (after front.first (take number front.log)) query }
+answer_of style front number query = record {
+  version = front.base + number;
+  found =
+      answer style (after front.first (take number front.log)) query;
+}
 
 -- the answers to queries, each of a version of its own
 abbrev pub answers_of : StyleOf → FrontOf → List Query → List ℕ → List Answer

@@ -20,7 +20,8 @@ settled style tables version query given = if nat_lt version given.version then 
 
 -- and so are those of a round
 abbrev pub settled_all : StyleOf → TableMap → (version : ℕ) → List Query → List Answer → List Answer
-settled_all style tables version (query ∷ queries) (given ∷ round) = settled style tables version query given ∷ settled_all style tables version queries round
+settled_all style tables version (query ∷ queries) (given ∷ round) =
+    settled style tables version query given ∷ settled_all style tables version queries round
 settled_all style tables version _ _ = []
 
 -- the same round so many times, and once more

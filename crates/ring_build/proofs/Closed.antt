@@ -1,5 +1,6 @@
 -- A walk out of even ends stops where it began, and leaves even ends.
-use Rattle.std.proofs.Common.{◌≡◌, ◌+◌, ◌%◌, ◌<◌, ◌≤◌, Bool, true, false, cond, Some, None, Option, List, [], ◌∷◌, ◌++◌, length, refl, sym, ◌∙◌, ap, subst, arith}
+use Rattle.std.proofs.Common.{◌≡◌, ◌+◌, ◌%◌, ◌<◌, ◌≤◌, Bool, true, false, cond, Some, None, Option, List, [], ◌∷◌, ◌++◌, length, refl, sym}
+use Rattle.std.proofs.Common.{◌∙◌, ap, subst, arith}
 use Rattle.std.specs.Prelude.{nat_le, ◌&&◌}
 use Rattle.std.specs.List.{list_all}
 use Rattle.std.proofs.lemmas.Bool.{le-leb, leb-true}
@@ -28,14 +29,22 @@ AreAlike pieces unused = (place : PlaceOf) → (ends_at place pieces + ends_at p
 pub AreAlike-itself : (pieces : List Line) → AreAlike pieces pieces
 AreAlike-itself pieces place = omega arith
 
-module _ (pieces unused rest left : List Line) (piece ring : Line) (some : 0 < length piece) (is_first : unused ≡ piece ∷ rest) (is_begun : found_of ring left ≡ ring_begun piece rest) (alike : AreAlike pieces unused) where
+module _ (pieces unused rest left : List Line) (piece ring : Line) (some : 0 < length piece) (is_first : unused ≡ piece ∷ rest)
+    (is_begun : found_of ring left ≡ ring_begun piece rest) (alike : AreAlike pieces unused) where
   walk : IsWalked piece rest (found_of ring left)
   walk =
       let enough : length rest ≤ length rest = omega arith in
       subst (IsWalked piece rest) (sym is_begun) (walked (length rest) piece rest some enough)
 
   on : (place : PlaceOf) → (ends_at place pieces + ends_at place left + touches place ring) % 2 ≡ 0
-  on place = omega (arith, alike place, ap (ends_at place) is_first, ends_at-cons place piece rest, own_ends-touches place piece, walk.even place)
+  on place = omega (
+    arith,
+    alike place,
+    ap (ends_at place) is_first,
+    ends_at-cons place piece rest,
+    own_ends-touches place piece,
+    walk.even place,
+  )
 
   pub AreAlike-closed : is_closed ring ≡ true → AreAlike pieces left
   AreAlike-closed closed place = omega (arith, on place, touches-closed place ring closed)
@@ -65,7 +74,8 @@ rings-short pieces short =
     both false = refl
 
 -- all pieces are used, and each ring has four points
-pub rings-all : (pieces closed : List Line) → lines_by ring_begun pieces ≡ closed → AreAlike pieces [] → list_all has_four_points closed ≡ true → rings pieces ≡ Some closed
+pub rings-all : (pieces closed : List Line) → lines_by ring_begun pieces ≡ closed → AreAlike pieces []
+    → list_all has_four_points closed ≡ true → rings pieces ≡ Some closed
 rings-all pieces closed is alike four =
     let even : has_odd_place (open_ends pieces) ≡ false = has_odd_place-false (open_ends pieces) (λ place. omega (arith, alike place)) in
     ap (λ b. answer b (list_all has_four_points (lines_by ring_begun pieces)) (lines_by ring_begun pieces)) even
@@ -73,17 +83,22 @@ rings-all pieces closed is alike four =
     ∙ ap (λ b. answer false b closed) four
 
 -- a ring of fewer points among the rings
-pub four-short : (done : List Line) (ring : Line) (others : List Line) → nat_le 4 (length ring) ≡ false → list_all has_four_points (done ++ ring ∷ others) ≡ false
+pub four-short : (done : List Line) (ring : Line) (others : List Line) → nat_le 4 (length ring) ≡ false
+    → list_all has_four_points (done ++ ring ∷ others) ≡ false
 four-short done ring others short =
-    list_all-append has_four_points done (ring ∷ others) ∙ ap (λ b. list_all has_four_points done && (b && list_all has_four_points others)) short ∙ and_false (list_all has_four_points done)
+    list_all-append has_four_points done (ring ∷ others)
+    ∙ ap (λ b. list_all has_four_points done && (b && list_all has_four_points others)) short
+    ∙ and_false (list_all has_four_points done)
   where
     and_false : (b : Bool) → (b && false) ≡ false
     and_false true = refl
     and_false false = refl
 
-pub four-more : (done : List Line) (ring : Line) → list_all has_four_points done ≡ true → 4 ≤ length ring → list_all has_four_points (done ++ ring ∷ []) ≡ true
+pub four-more : (done : List Line) (ring : Line) → list_all has_four_points done ≡ true → 4 ≤ length ring
+    → list_all has_four_points (done ++ ring ∷ []) ≡ true
 four-more done ring four points =
-    list_all-append has_four_points done (ring ∷ []) ∙ ap (λ b. b && (has_four_points ring && true)) four ∙ ap (λ b. b && true) (le-leb 4 (length ring) points)
+    list_all-append has_four_points done (ring ∷ []) ∙ ap (λ b. b && (has_four_points ring && true)) four
+    ∙ ap (λ b. b && true) (le-leb 4 (length ring) points)
 
 -- what is no ring: the answer is none
 pub rings-not : (pieces done others : List Line) (ring : Line) → lines_by ring_begun pieces ≡ done ++ ring ∷ others

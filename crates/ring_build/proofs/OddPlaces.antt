@@ -11,7 +11,8 @@ use Rattle.ring_build.specs.Rings.{is_odd_among, has_odd_place}
 abbrev ends_there : PlaceOf → List PlaceOf → ℕ
 ends_there place ends = count_by (λ end. same_place end place) ends
 
-any_there : (test : PlaceOf → Bool) (place : PlaceOf) (ends : List PlaceOf) → test place ≡ true → 0 < ends_there place ends → list_any test ends ≡ true
+any_there : (test : PlaceOf → Bool) (place : PlaceOf) (ends : List PlaceOf) → test place ≡ true → 0 < ends_there place ends
+    → list_any test ends ≡ true
 any_there test place [] e some = absurd (omega arith)
 any_there test place (end ∷ ends) e some =
     let count = sum_by-cons (λ end. cond (same_place end place) 1 0) end ends in

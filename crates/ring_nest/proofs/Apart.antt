@@ -1,5 +1,6 @@
 -- A place outside the box of a ring neither lies on it nor is within it.
-use Rattle.std.proofs.Common.{◌≡◌, ℕ, ◌+◌, ◌*◌, ◌<◌, ◌%◌, ◌==◌, refl, sym, ◌∙◌, arith, List, [], ◌∷◌, Bool, true, false, cond, ◌&&◌, nat_lt, ℤ, pos, neg_ℤ, ◌+ℤ◌, ◌≤ℤ◌, ◌<ℤ◌, int_lt, int_le, unsigned_abs, count_by}
+use Rattle.std.proofs.Common.{◌≡◌, ℕ, ◌+◌, ◌*◌, ◌<◌, ◌%◌, ◌==◌, refl, sym, ◌∙◌, arith, List, [], ◌∷◌, Bool, true, false, cond, ◌&&◌, nat_lt}
+use Rattle.std.proofs.Common.{ℤ, pos, neg_ℤ, ◌+ℤ◌, ◌≤ℤ◌, ◌<ℤ◌, int_lt, int_le, unsigned_abs, count_by}
 use Rattle.std.specs.List.{AllByRecursion, list_any}
 use Rattle.std.proofs.lemmas.Int.{ints}
 use Rattle.std.proofs.lemmas.Bool.Decides.{nat_tests}
@@ -67,11 +68,15 @@ second_false : (a b c : Bool) → b ≡ false → ((a && b) && c) ≡ false
 second_false true b c e = rw e
 second_false false b c e = refl
 
-one_off : (box : GeoBox) (place : PlaceOf) (s : Segment) → Outside box place → IsWithin box s.start → IsWithin box s.end → lies_within place s ≡ false
+one_off : (box : GeoBox) (place : PlaceOf) (s : Segment) → Outside box place → IsWithin box s.start → IsWithin box s.end
+    → lies_within place s ≡ false
 one_off box place s (West h) e f = both_false _ _ _ (not_between _ _ _ (west_of box place s.start h e, west_of box place s.end h f))
-one_off box place s (East h) e f = both_false _ _ _ (not_between_below _ _ _ (east_of_all box place s.start h e, east_of_all box place s.end h f))
-one_off box place s (South h) e f = second_false (is_between s.start.lon s.end.lon place.lon) _ _ (not_between _ _ _ (south_of box place s.start h e, south_of box place s.end h f))
-one_off box place s (North h) e f = second_false (is_between s.start.lon s.end.lon place.lon) _ _ (not_between_below _ _ _ (north_of_all box place s.start h e, north_of_all box place s.end h f))
+one_off box place s (East h) e f = both_false _ _ _
+    (not_between_below _ _ _ (east_of_all box place s.start h e, east_of_all box place s.end h f))
+one_off box place s (South h) e f = second_false (is_between s.start.lon s.end.lon place.lon) _ _
+    (not_between _ _ _ (south_of box place s.start h e, south_of box place s.end h f))
+one_off box place s (North h) e f = second_false (is_between s.start.lon s.end.lon place.lon) _ _
+    (not_between_below _ _ _ (north_of_all box place s.start h e, north_of_all box place s.end h f))
 
 off_from : (box : GeoBox) (place p : PlaceOf) (xs : List PlaceOf) → Outside box place → IsWithin box p → AllByRecursion (IsWithin box) xs
     → list_any (lies_within place) (segments_from p xs) ≡ false
@@ -81,7 +86,8 @@ off_from box place p (x ∷ xs) h e f =
     let more = off_from box place x xs h f.0 f.1 in
     rw (one, more)
 
-pub off : (box : GeoBox) (place : PlaceOf) (ring : List PlaceOf) → Outside box place → AllByRecursion (IsWithin box) ring → lies_on ring place ≡ false
+pub off : (box : GeoBox) (place : PlaceOf) (ring : List PlaceOf) → Outside box place → AllByRecursion (IsWithin box) ring
+    → lies_on ring place ≡ false
 off box place [] h f = refl
 off box place (p ∷ xs) h f = off_from box place p xs h f.0 f.1
 
@@ -103,15 +109,19 @@ to_the_east P F T A B a b some =
     let two = mul-le T (P + 1) T A (omega arith) (omega arith) in
     grind (arith, nat_tests)
 
-never_east : (box : GeoBox) (place : PlaceOf) (s : Segment) → IsPlace place → EndsOnEarth s → box.east <ℤ place.lon → IsWithin box s.start → IsWithin box s.end
+never_east : (box : GeoBox) (place : PlaceOf) (s : Segment) → IsPlace place → EndsOnEarth s → box.east <ℤ place.lon → IsWithin box s.start
+    → IsWithin box s.end
     → crosses place s ≡ false
 never_east box place s here ends h e f =
     let a = farther s.start.lon place.lon (east_of_all box place s.start h e) ends.0.west in
     let b = farther s.end.lon place.lon (east_of_all box place s.end h f) ends.1.west in
-    let none = to_the_west (east_of place) (apart (north_of place) (north_of s.start)) (apart (north_of place) (north_of s.end)) (east_of s.start) (east_of s.end) a b in
-    crosses_is place s here ends ∙ (rw none (never (differ (nat_lt (north_of place) (north_of s.start)) (nat_lt (north_of place) (north_of s.end)))))
+    let none = to_the_west (east_of place) (apart (north_of place) (north_of s.start)) (apart (north_of place) (north_of s.end))
+    (east_of s.start) (east_of s.end) a b in
+    crosses_is place s here ends ∙ (rw none (never
+    (differ (nat_lt (north_of place) (north_of s.start)) (nat_lt (north_of place) (north_of s.end)))))
 
-never_from : (box : GeoBox) (place p : PlaceOf) (xs : List PlaceOf) → IsPlace place → box.east <ℤ place.lon → IsPlace p → AllByRecursion IsPlace xs
+never_from : (box : GeoBox) (place p : PlaceOf) (xs : List PlaceOf) → IsPlace place → box.east <ℤ place.lon → IsPlace p
+    → AllByRecursion IsPlace xs
     → IsWithin box p → AllByRecursion (IsWithin box) xs → count_by (crosses place) (segments_from p xs) ≡ 0
 never_from box place p [] here h p_on on e f = refl
 never_from box place p (x ∷ xs) here h p_on on e f =
@@ -130,14 +140,17 @@ and_true : (p z : Bool) → (p ≡ true → z ≡ true) → (p && z) ≡ p
 and_true true z f = f refl
 and_true false z f = refl
 
-always_east : (box : GeoBox) (place : PlaceOf) (s : Segment) → IsPlace place → EndsOnEarth s → place.lon <ℤ box.west → IsWithin box s.start → IsWithin box s.end
+always_east : (box : GeoBox) (place : PlaceOf) (s : Segment) → IsPlace place → EndsOnEarth s → place.lon <ℤ box.west → IsWithin box s.start
+    → IsWithin box s.end
     → crosses place s ≡ differ (side place s.start) (side place s.end)
 unfolding side
 always_east box place s here ends h e f =
     let a = farther place.lon s.start.lon (west_of box place s.start h e) here.west in
     let b = farther place.lon s.end.lon (west_of box place s.end h f) here.west in
-    crosses_is place s here ends ∙ and_true (differ (nat_lt (north_of place) (north_of s.start)) (nat_lt (north_of place) (north_of s.end))) _
-    (λ d. to_the_east (east_of place) (apart (north_of place) (north_of s.start)) (apart (north_of place) (north_of s.end)) (east_of s.start) (east_of s.end) a b
+    crosses_is place s here ends ∙ and_true (differ (nat_lt (north_of place) (north_of s.start)) (nat_lt (north_of place) (north_of s.end)))
+    _
+    (λ d. to_the_east (east_of place) (apart (north_of place) (north_of s.start)) (apart (north_of place) (north_of s.end))
+    (east_of s.start) (east_of s.end) a b
     (apart_some (north_of place) (north_of s.start) (north_of s.end) d))
 
 parity_step : (a b c : Bool) (n : ℕ) → n % 2 ≡ cond (differ b c) 1 0 → (cond (differ a b) 1 0 + n) % 2 ≡ cond (differ a c) 1 0
@@ -150,7 +163,8 @@ parity_step false true false n e = omega (arith, e)
 parity_step false false true n e = omega (arith, e)
 parity_step false false false n e = omega (arith, e)
 
-parity_from : (box : GeoBox) (place p : PlaceOf) (xs : List PlaceOf) → IsPlace place → place.lon <ℤ box.west → IsPlace p → AllByRecursion IsPlace xs
+parity_from : (box : GeoBox) (place p : PlaceOf) (xs : List PlaceOf) → IsPlace place → place.lon <ℤ box.west → IsPlace p
+    → AllByRecursion IsPlace xs
     → IsWithin box p → AllByRecursion (IsWithin box) xs
     → count_by (crosses place) (segments_from p xs) % 2 ≡ cond (differ (side place p) (side place (last_from p xs))) 1 0
 parity_from box place p [] here h p_on on e f = sym (same_side_parity (side place p))
@@ -159,18 +173,21 @@ parity_from box place p (x ∷ xs) here h p_on on e f =
     let more = parity_from box place x xs here h on.0 on.1 f.0 f.1 in
     rw (sum_by-cons, one) (parity_step (side place p) (side place x) (side place (last_from x xs)) _ more)
 
-all_south : (box : GeoBox) (place : PlaceOf) (xs : List PlaceOf) → place.lat <ℤ box.south → AllByRecursion (IsWithin box) xs → AllByRecursion (IsOnSide place true) xs
+all_south : (box : GeoBox) (place : PlaceOf) (xs : List PlaceOf) → place.lat <ℤ box.south → AllByRecursion (IsWithin box) xs
+    → AllByRecursion (IsOnSide place true) xs
 all_south box place [] h f = tt
 all_south box place (x ∷ xs) h f = (is_less place.lat x.lat (south_of box place x h f.0), all_south box place xs h f.1)
 
-all_north : (box : GeoBox) (place : PlaceOf) (xs : List PlaceOf) → box.north <ℤ place.lat → AllByRecursion (IsWithin box) xs → AllByRecursion (IsOnSide place false) xs
+all_north : (box : GeoBox) (place : PlaceOf) (xs : List PlaceOf) → box.north <ℤ place.lat → AllByRecursion (IsWithin box) xs
+    → AllByRecursion (IsOnSide place false) xs
 all_north box place [] h f = tt
 all_north box place (x ∷ xs) h f = (is_not_less place.lat x.lat (north_of_all box place x h f.0), all_north box place xs h f.1)
 
 even_is : (n : ℕ) → n % 2 ≡ 0 → (n % 2 == 1) ≡ false
 even_is n e = rw e
 
-pub not_odd : (box : GeoBox) (place : PlaceOf) (ring : List PlaceOf) → IsPlace place → AllByRecursion IsPlace ring → AllByRecursion (IsWithin box) ring → is_closed ring ≡ true
+pub not_odd : (box : GeoBox) (place : PlaceOf) (ring : List PlaceOf) → IsPlace place → AllByRecursion IsPlace ring
+    → AllByRecursion (IsWithin box) ring → is_closed ring ≡ true
     → Outside box place → odd ring place ≡ false
 not_odd box place [] here on f closed h = refl
 not_odd box place (p ∷ xs) here on f closed (West h) =
@@ -187,15 +204,21 @@ not_odd box place (p ∷ xs) here on f closed (North h) =
 
 -- a place of a box that does not meet another one is outside that
 outside : (asked box : GeoBox) (place : PlaceOf) (a b c d : Bool) → a ≡ int_le box.west asked.east → b ≡ int_le asked.west box.east
-    → c ≡ int_le box.south asked.north → d ≡ int_le asked.south box.north → IsWithin asked place → ((a && b) && (c && d)) ≡ false → Outside box place
-outside asked box place false b c d e f g h w none = West (let l = below box.west asked.east (sym e) in let m = w.east in omega (arith, ints))
-outside asked box place true false c d e f g h w none = East (let l = below asked.west box.east (sym f) in let m = w.west in omega (arith, ints))
-outside asked box place true true false d e f g h w none = South (let l = below box.south asked.north (sym g) in let m = w.north in omega (arith, ints))
-outside asked box place true true true false e f g h w none = North (let l = below asked.south box.north (sym h) in let m = w.south in omega (arith, ints))
+    → c ≡ int_le box.south asked.north → d ≡ int_le asked.south box.north → IsWithin asked place → ((a && b) && (c && d)) ≡ false
+    → Outside box place
+outside asked box place false b c d e f g h w none =
+    West (let l = below box.west asked.east (sym e) in let m = w.east in omega (arith, ints))
+outside asked box place true false c d e f g h w none =
+    East (let l = below asked.west box.east (sym f) in let m = w.west in omega (arith, ints))
+outside asked box place true true false d e f g h w none =
+    South (let l = below box.south asked.north (sym g) in let m = w.north in omega (arith, ints))
+outside asked box place true true true false e f g h w none =
+    North (let l = below asked.south box.north (sym h) in let m = w.south in omega (arith, ints))
 outside asked box place true true true true e f g h w none = absurd (cc)
 
 -- a ring holds none whose box does not meet its box
-pub holds_none : (ring other : List PlaceOf) (box asked : GeoBox) → is_closed ring ≡ true → AllByRecursion IsPlace ring → AllByRecursion IsPlace other
+pub holds_none : (ring other : List PlaceOf) (box asked : GeoBox) → is_closed ring ≡ true → AllByRecursion IsPlace ring
+    → AllByRecursion IsPlace other
     → AllByRecursion (IsWithin box) ring → AllByRecursion (IsWithin asked) other → meets asked box ≡ false → holds ring other ≡ false
 holds_none ring [] box asked closed on other_on f g none = refl
 holds_none ring (p ∷ ps) box asked closed on other_on f g none =

@@ -1,5 +1,6 @@
 -- Inner rings that are added to polygons one after the other.
-use Rattle.std.proofs.Common.{◌≡◌, ◌≢◌, ℕ, ◌+◌, ◌<◌, ◌≤◌, ◌-◌, ◌%◌, ◌==◌, suc, zero, refl, ap, ◌∙◌, arith, List, [], ◌∷◌, ◌++◌, length, map, take, get_or, set, Bool, true, false, not, cond, ◌&&◌, if◌then◌else◌, Some, add-zero, zero-add}
+use Rattle.std.proofs.Common.{◌≡◌, ◌≢◌, ℕ, ◌+◌, ◌<◌, ◌≤◌, ◌-◌, ◌%◌, ◌==◌, suc, zero, refl, ap, ◌∙◌, arith, List, [], ◌∷◌, ◌++◌, length, map}
+use Rattle.std.proofs.Common.{take, get_or, set, Bool, true, false, not, cond, ◌&&◌, if◌then◌else◌, Some, add-zero, zero-add}
 use Rattle.std.specs.List.{filter, list_all}
 use Rattle.std.proofs.lemmas.Bool.Decides.{nat_tests}
 use Rattle.std.proofs.lemmas.List.{append-nil, length-map}
@@ -22,8 +23,10 @@ never false = refl
 same_number : (n : ℕ) → (n == n) ≡ true
 same_number n = grind (arith, nat_tests)
 
-filter_cases : (p : Ring → Bool) (xs : List Ring) (x y : Ring) (b : Bool) → filter p (xs ++ x ∷ []) ≡ filter p xs ++ (if p x then x ∷ [] else [])
-    → cond b (y ∷ filter p (xs ++ x ∷ [])) (filter p (xs ++ x ∷ [])) ≡ cond b (y ∷ filter p xs) (filter p xs) ++ (if p x then x ∷ [] else [])
+filter_cases : (p : Ring → Bool) (xs : List Ring) (x y : Ring) (b : Bool)
+    → filter p (xs ++ x ∷ []) ≡ filter p xs ++ (if p x then x ∷ [] else [])
+    → cond b (y ∷ filter p (xs ++ x ∷ [])) (filter p (xs ++ x ∷ [])) ≡ cond b (y ∷ filter p xs) (filter p xs)
+    ++ (if p x then x ∷ [] else [])
 filter_cases p xs x y true e = ap (λ ys. y ∷ ys) e
 filter_cases p xs x y false e = e
 
@@ -35,10 +38,12 @@ filter-last p (y ∷ xs) x = filter_cases p xs x y (p y) (filter-last p xs x)
 not_inner : (rings : List Ring) (number : ℕ) (ring : Ring) → is_outer rings ring ≡ true → belongs rings number ring ≡ false
 not_inner rings number ring e = rw e
 
-not_there : (rings : List Ring) (number other : ℕ) (ring : Ring) → owner rings ring ≡ Some other → (other == number) ≡ false → belongs rings number ring ≡ false
+not_there : (rings : List Ring) (number other : ℕ) (ring : Ring) → owner rings ring ≡ Some other → (other == number) ≡ false
+    → belongs rings number ring ≡ false
 not_there rings number other ring e f = rw (e, f) (never (not (is_outer rings ring)))
 
-there : (rings : List Ring) (number : ℕ) (ring : Ring) → is_outer rings ring ≡ false → owner rings ring ≡ Some number → belongs rings number ring ≡ true
+there : (rings : List Ring) (number : ℕ) (ring : Ring) → is_outer rings ring ≡ false → owner rings ring ≡ Some number
+    → belongs rings number ring ≡ true
 there rings number ring e f = rw (e, f) (same_number number)
 
 filter_same : (rings inner : List Ring) (number : ℕ) (ring : Ring) → belongs rings number ring ≡ false
@@ -50,7 +55,8 @@ filter_more : (rings inner : List Ring) (number : ℕ) (ring : Ring) → belongs
 filter_more rings inner number ring e = filter-last (belongs rings number) inner ring ∙ (rw e)
 
 -- a ring that belongs to none of the numbers from here on changes nothing
-same_polygons : (rings inner : List Ring) (ring : Ring) → (number : ℕ) (rest : List Ring) → ((n : ℕ) → number ≤ n → belongs rings n ring ≡ false)
+same_polygons : (rings inner : List Ring) (ring : Ring) → (number : ℕ) (rest : List Ring)
+    → ((n : ℕ) → number ≤ n → belongs rings n ring ≡ false)
     → polygons_from rings (inner ++ ring ∷ []) number rest ≡ polygons_from rings inner number rest
 same_polygons rings inner ring number [] none = refl
 same_polygons rings inner ring number (other ∷ rest) none =
@@ -62,7 +68,8 @@ pub outer_added : (rings inner : List Ring) (ring : Ring) → is_outer rings rin
     → polygons_from rings (inner ++ ring ∷ []) 0 rings ≡ polygons_from rings inner 0 rings
 outer_added rings inner ring e = same_polygons rings inner ring 0 rings (λ n h. not_inner rings n ring e)
 
-slots_low_next : (place : ℕ) (depths : List ℕ) (k : ℕ) (b : Bool) → place ≤ get_or (slots_from place depths) k 0 → place + 1 ≤ get_or (slots_from (place + 1) depths) k 0
+slots_low_next : (place : ℕ) (depths : List ℕ) (k : ℕ) (b : Bool) → place ≤ get_or (slots_from place depths) k 0
+    → place + 1 ≤ get_or (slots_from (place + 1) depths) k 0
     → place ≤ get_or (slots_from (if b then place + 1 else place) depths) k 0
 slots_low_next place depths k true e f = omega (arith, f)
 slots_low_next place depths k false e f = e
@@ -70,7 +77,8 @@ slots_low_next place depths k false e f = e
 slots_low : (place : ℕ) (depths : List ℕ) (k : ℕ) → k < length depths → place ≤ get_or (slots_from place depths) k 0
 slots_low place [] k h = absurd (omega arith)
 slots_low place (d ∷ depths) zero h = omega arith
-slots_low place (d ∷ depths) (suc k) h = slots_low_next place depths k (d % 2 == 0) (slots_low place depths k (omega arith)) (slots_low (place + 1) depths k (omega arith))
+slots_low place (d ∷ depths) (suc k) h =
+    slots_low_next place depths k (d % 2 == 0) (slots_low place depths k (omega arith)) (slots_low (place + 1) depths k (omega arith))
 
 other_number : (number n : ℕ) → number + 1 ≤ n → (number == n) ≡ false
 other_number number n h = grind (arith, nat_tests)
@@ -88,13 +96,15 @@ pub record Added (rings inner : List Ring) (ring : Ring) (number : ℕ) (rest : 
       ≡ set (polygons_from rings inner number rest) slot (get_or (polygons_from rings inner number rest) slot [] ++ ring ∷ [])
 
 added_here : (rings inner : List Ring) (ring : Ring) (number : ℕ) (other : Ring) (rest : List Ring)
-    → is_outer rings ring ≡ false → owner rings ring ≡ Some number → is_outer rings other ≡ true → Added rings inner ring number (other ∷ rest) 0
+    → is_outer rings ring ≡ false → owner rings ring ≡ Some number → is_outer rings other ≡ true
+    → Added rings inner ring number (other ∷ rest) 0
 added_here rings inner ring number other rest e f g =
     let one = filter_more rings inner number ring (there rings number ring e f) in
     let more = same_polygons rings inner ring (number + 1) rest (λ n h. not_there rings n number ring f (other_number number n h)) in
     record { within = rw g (omega arith); change = rw (g, one, more) }
 
-added_later : (rings inner : List Ring) (ring : Ring) (number k : ℕ) (other : Ring) (rest : List Ring) (slot : ℕ) (b : Bool) → is_outer rings other ≡ b
+added_later : (rings inner : List Ring) (ring : Ring) (number k : ℕ) (other : Ring) (rest : List Ring) (slot : ℕ) (b : Bool)
+    → is_outer rings other ≡ b
     → owner rings ring ≡ Some ((number + 1) + k) → Added rings inner ring (number + 1) rest slot
     → Added rings inner ring number (other ∷ rest) (if b then suc slot else slot)
 added_later rings inner ring number k other rest slot true g f a =
@@ -107,7 +117,8 @@ added_next : (rings inner : List Ring) (ring : Ring) (number k : ℕ) (other : R
     → is_outer rings ring ≡ false → owner rings ring ≡ Some ((number + 1) + k) → k < length rest → is_outer rings (get_or rest k d) ≡ true
     → (b : Bool) → is_outer rings other ≡ b
     → place + slot ≡ get_or (slots_from (if is_outer rings other then place + 1 else place) (map (depth rings) rest)) k 0
-    → ((place slot : ℕ) → place + slot ≡ get_or (slots_from place (map (depth rings) rest)) k 0 → Added rings inner ring (number + 1) rest slot)
+    → ((place slot : ℕ) → place + slot ≡ get_or (slots_from place (map (depth rings) rest)) k 0
+    → Added rings inner ring (number + 1) rest slot)
     → Added rings inner ring number (other ∷ rest) slot
 added_next rings inner ring number k other rest place slot d e f h g true o s more =
     let t = rw o at s in
@@ -137,8 +148,10 @@ pub record Owner (rings : List Ring) (number : ℕ) (rest : List Ring) (ring : R
   pub within : k < length rest
   pub owned : owns rings (get_or rest k d) ring ≡ true
 
-found_next : (rings : List Ring) (number : ℕ) (other : Ring) (rest : List Ring) (ring : Ring) (found : ℕ) (d : Ring) (b : Bool) → owns rings other ring ≡ b
-    → (if b then Some number else owner_from rings (number + 1) rest ring) ≡ Some found → (owner_from rings (number + 1) rest ring ≡ Some found → Owner rings (number + 1) rest ring found d)
+found_next : (rings : List Ring) (number : ℕ) (other : Ring) (rest : List Ring) (ring : Ring) (found : ℕ) (d : Ring) (b : Bool)
+    → owns rings other ring ≡ b
+    → (if b then Some number else owner_from rings (number + 1) rest ring) ≡ Some found
+    → (owner_from rings (number + 1) rest ring ≡ Some found → Owner rings (number + 1) rest ring found d)
     → Owner rings number (other ∷ rest) ring found d
 found_next rings number other rest ring found d true o e more =
     let same : number ≡ found = cc in
@@ -149,9 +162,11 @@ found_next rings number other rest ring found d false o e more =
     let within = next.within in
     record { k = suc next.k; is = omega (arith, is); within = omega (arith, within); owned = next.owned }
 
-found_in : (rings : List Ring) (number : ℕ) (rest : List Ring) (ring : Ring) (found : ℕ) (d : Ring) → owner_from rings number rest ring ≡ Some found → Owner rings number rest ring found d
+found_in : (rings : List Ring) (number : ℕ) (rest : List Ring) (ring : Ring) (found : ℕ) (d : Ring)
+    → owner_from rings number rest ring ≡ Some found → Owner rings number rest ring found d
 found_in rings number [] ring found d e = absurd (cc)
-found_in rings number (other ∷ rest) ring found d e = found_next rings number other rest ring found d (owns rings other ring) refl e (found_in rings (number + 1) rest ring found d)
+found_in rings number (other ∷ rest) ring found d e =
+    found_next rings number other rest ring found d (owns rings other ring) refl e (found_in rings (number + 1) rest ring found d)
 
 parity : (a b : ℕ) (h : Bool) → (h && (a + 1 == b)) ≡ true → (b % 2 == 0) ≡ false → (a % 2 == 0) ≡ true
 parity a b true e f =
@@ -161,7 +176,8 @@ parity a b true e f =
     rw three
 parity a b false e f = absurd (cc)
 
-outer_of : (rings : List Ring) (other ring : Ring) → owns rings other ring ≡ true → is_outer rings ring ≡ false → is_outer rings other ≡ true
+outer_of : (rings : List Ring) (other ring : Ring) → owns rings other ring ≡ true → is_outer rings ring ≡ false
+    → is_outer rings other ≡ true
 outer_of rings other ring e f = parity (depth rings other) (depth rings ring) (holds other ring) e f
 
 slots_long : (place : ℕ) (depths : List ℕ) → length (slots_from place depths) ≡ length depths
@@ -169,8 +185,10 @@ slots_long place [] = refl
 slots_long place (d ∷ depths) = ap suc (slots_long (if d % 2 == 0 then place + 1 else place) depths)
 
 -- the place of the polygon of an inner ring
-pub slot_of : (rings inner : List Ring) (ring : Ring) (depths slots : List ℕ) (found : ℕ) → depths ≡ map (depth rings) rings → slots ≡ slots_from 0 depths
-    → is_outer rings ring ≡ false → owner rings ring ≡ Some found → (found < length slots) × Added rings inner ring 0 rings (get_or slots found 0)
+pub slot_of : (rings inner : List Ring) (ring : Ring) (depths slots : List ℕ) (found : ℕ) → depths ≡ map (depth rings) rings
+    → slots ≡ slots_from 0 depths
+    → is_outer rings ring ≡ false → owner rings ring ≡ Some found
+    → (found < length slots) × Added rings inner ring 0 rings (get_or slots found 0)
 slot_of rings inner ring depths slots found e f inner_one g =
     let o = found_in rings 0 rings ring found [] g in
     let is = o.is in
@@ -178,10 +196,12 @@ slot_of rings inner ring depths slots found e f inner_one g =
     let same : found ≡ o.k = omega (arith, is) in
     let outer = outer_of rings (get_or rings o.k []) ring o.owned inner_one in (
       rw (f, e) (rw (slots_long 0 (map (depth rings) rings), length-map rings (depth rings)) (omega (arith, same, within))),
-      added rings inner ring 0 found rings 0 (get_or slots found 0) [] inner_one (g ∙ (rw zero-add)) (omega (arith, same, within)) (rw same outer) (zero-add (get_or slots found 0) ∙ (rw (f, e))),
+      added rings inner ring 0 found rings 0 (get_or slots found 0) [] inner_one (g ∙ (rw zero-add)) (omega (arith, same, within))
+          (rw same outer) (zero-add (get_or slots found 0) ∙ (rw (f, e))),
     )
 
-all_append_next : (p : Ring → Bool) (xs : List Ring) (x : Ring) (b : Bool) → (b && list_all p xs) ≡ true → (list_all p xs ≡ true → list_all p (xs ++ x ∷ []) ≡ true)
+all_append_next : (p : Ring → Bool) (xs : List Ring) (x : Ring) (b : Bool) → (b && list_all p xs) ≡ true
+    → (list_all p xs ≡ true → list_all p (xs ++ x ∷ []) ≡ true)
     → (b && list_all p (xs ++ x ∷ [])) ≡ true
 all_append_next p xs x true e more = more e
 all_append_next p xs x false e more = absurd (cc)
@@ -191,7 +211,8 @@ all_append p [] x e f = rw f
 all_append p (y ∷ xs) x e f = all_append_next p xs x (p y) e (λ more. all_append p xs x more f)
 
 -- one ring without a place leaves no polygons
-pub all_next : (p : Ring → Bool) (xs : List Ring) (at : ℕ) (d : Ring) → at < length xs → list_all p (take at xs) ≡ true → p (get_or xs at d) ≡ true
+pub all_next : (p : Ring → Bool) (xs : List Ring) (at : ℕ) (d : Ring) → at < length xs → list_all p (take at xs) ≡ true
+    → p (get_or xs at d) ≡ true
     → list_all p (take (at + 1) xs) ≡ true
 all_next p xs at d h e f = rw (next_of xs at d h) (all_append p (take at xs) (get_or xs at d) e f)
 
@@ -204,7 +225,8 @@ is_zero : (n : ℕ) → n ≢ 0 → (n == 0) ≡ false
 is_zero n h = grind (arith, nat_tests)
 
 -- an inner ring, by its depth
-pub inner_is : (rings : List Ring) (depths : List ℕ) (at : ℕ) (ring : Ring) → depths ≡ map (depth rings) rings → at < length rings → ring ≡ get_or rings at ring
+pub inner_is : (rings : List Ring) (depths : List ℕ) (at : ℕ) (ring : Ring) → depths ≡ map (depth rings) rings → at < length rings
+    → ring ≡ get_or rings at ring
     → get_or depths at 0 % 2 ≢ 0 → is_outer rings ring ≡ false
 inner_is rings depths at ring e h g odd_one =
     let deep = mapped_at (depth rings) rings depths at ring 0 e h g in

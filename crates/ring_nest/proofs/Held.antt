@@ -1,5 +1,6 @@
 -- Rings that are passed over, and boxes around boxes.
-use Rattle.std.proofs.Common.{◌≡◌, ℕ, ◌+◌, ◌<◌, suc, zero, refl, arith, List, [], ◌∷◌, ◌++◌, length, take, drop, get_or, Bool, true, false, ◌&&◌, ℤ, ◌≤ℤ◌, int_le, pos, add-one, drop-cons}
+use Rattle.std.proofs.Common.{◌≡◌, ℕ, ◌+◌, ◌<◌, suc, zero, refl, arith, List, [], ◌∷◌, ◌++◌, length, take, drop, get_or, Bool, true, false}
+use Rattle.std.proofs.Common.{◌&&◌, ℤ, ◌≤ℤ◌, int_le, pos, add-one, drop-cons}
 use Rattle.std.specs.List.{AllByRecursion}
 use Rattle.std.proofs.lemmas.Int.{ints}
 use Rattle.std.proofs.lemmas.List.{take_more}
@@ -59,7 +60,8 @@ covers_more box old new c d =
     let n2 = d.north in
     record { west = omega (arith, ints); south = omega (arith, ints); east = omega (arith, ints); north = omega (arith, ints) }
 
-all_covered : (old new : GeoBox) (boxes : List GeoBox) → Covers new old → AllByRecursion (Covers old) boxes → AllByRecursion (Covers new) boxes
+all_covered : (old new : GeoBox) (boxes : List GeoBox) → Covers new old → AllByRecursion (Covers old) boxes
+    → AllByRecursion (Covers new) boxes
 all_covered old new [] c all = tt
 all_covered old new (box ∷ boxes) c all = (covers_more box old new c all.0, all_covered old new boxes c all.1)
 
@@ -76,4 +78,5 @@ first_of xs i d h = rw (add-one, drop-cons xs i d)
 -- one more box is covered
 pub covered_next : (old new d : GeoBox) (boxes : List GeoBox) (i : ℕ) → i < length boxes → Covers new old → Covers new (get_or boxes i d)
     → AllByRecursion (Covers old) (take i boxes) → AllByRecursion (Covers new) (take (i + 1) boxes)
-covered_next old new d boxes i h c e all = rw (next_of boxes i d h) (all_last (Covers new) (take i boxes) (get_or boxes i d) (all_covered old new (take i boxes) c all) e)
+covered_next old new d boxes i h c e all =
+    rw (next_of boxes i d h) (all_last (Covers new) (take i boxes) (get_or boxes i d) (all_covered old new (take i boxes) c all) e)

@@ -1,11 +1,14 @@
 -- Depths and owners, by the numbers of the rings that hold each ring.
-use Rattle.std.proofs.Common.{length-append, ◌≡◌, ◌≢◌, ℕ, ◌+◌, ◌-◌, ◌<◌, ◌≤◌, ◌==◌, suc, zero, refl, sym, ap, ◌∙◌, arith, List, [], ◌∷◌, ◌++◌, length, map, take, get_or, Bool, true, false, cond, not, ◌&&◌, ◌||◌, if◌then◌else◌, nat_lt, Option, Some, None, zero-add, add-zero, count_by}
+use Rattle.std.proofs.Common.{length-append, ◌≡◌, ◌≢◌, ℕ, ◌+◌, ◌-◌, ◌<◌, ◌≤◌, ◌==◌, suc, zero, refl, sym, ap, ◌∙◌, arith, List, [], ◌∷◌}
+use Rattle.std.proofs.Common.{◌++◌, length, map, take, get_or, Bool, true, false, cond, not, ◌&&◌, ◌||◌, if◌then◌else◌, nat_lt, Option}
+use Rattle.std.proofs.Common.{Some, None, zero-add, add-zero, count_by}
 use Rattle.std.specs.List.{AllByRecursion, filter, list_any, position_from, range_with_len}
 use Rattle.std.specs.List.Sorted.{IsPermutation}
 use Rattle.std.proofs.lemmas.Bool.Decides.{nat_tests}
 use Rattle.std.proofs.lemmas.List.{ext_get_or, get_or-map}
 use Rattle.std.proofs.lemmas.List.FromFn.{get_or-map-range_with_len, length-map-range_with_len}
-use Rattle.std.proofs.lemmas.List.Sorted.{IsPermutation-append, IsPermutation-trans, length_permutation, list_any-IsPermutation, sum_by-IsPermutation}
+use Rattle.std.proofs.lemmas.List.Sorted.{IsPermutation-append, IsPermutation-trans, length_permutation, list_any-IsPermutation}
+use Rattle.std.proofs.lemmas.List.Sorted.{sum_by-IsPermutation}
 use Rattle.std.proofs.lemmas.List.Folds.{list_any-append}
 use Rattle.std.proofs.lemmas.List.Sums.{length-filter, sum_by-cons}
 use Rattle.ring_nest.specs.Holders.{AreHolders, IsLeast, is_above, is_holder, lesser_of}
@@ -29,13 +32,18 @@ rings_are rings =
 
 count_map : (f : ℕ → Ring) (p : Ring → Bool) (numbers : List ℕ) → count_by (λ number. p (f number)) numbers ≡ count_by p (map f numbers)
 count_map f p [] = refl
-count_map f p (number ∷ numbers) = rw (sum_by-cons (λ n. cond (p (f n)) 1 0) number numbers, sum_by-cons (λ ring. cond (p ring) 1 0) (f number) (map f numbers), count_map f p numbers)
+count_map f p (number ∷ numbers) = rw (
+  sum_by-cons (λ n. cond (p (f n)) 1 0) number numbers,
+  sum_by-cons (λ ring. cond (p ring) 1 0) (f number) (map f numbers),
+  count_map f p numbers,
+)
 
 -- a ring is as deep as it has holders
 depth_is : (rings : List Ring) (order : List ℕ) (ring : Ring) → IsPermutation (range_with_len 0 (length rings)) order
     → length (filter (is_holder rings ring) order) ≡ depth rings ring
 depth_is rings order ring permutation =
-    length-filter (is_holder rings ring) order ∙ sum_by-IsPermutation (λ number. cond (is_holder rings ring number) 1 0) (range_with_len 0 (length rings)) order permutation
+    length-filter (is_holder rings ring) order
+    ∙ sum_by-IsPermutation (λ number. cond (is_holder rings ring number) 1 0) (range_with_len 0 (length rings)) order permutation
     ∙ count_map (ring_at rings) (λ other. holds other ring) (range_with_len 0 (length rings)) ∙ ap (λ all. depth all ring) (rings_are rings)
 
 depths_from : (rings some : List Ring) (order : List ℕ) → IsPermutation (range_with_len 0 (length rings)) order
@@ -50,7 +58,8 @@ always : (b : Bool) → (b || true) ≡ false → ⊥
 always true e = cc
 always false e = cc
 
-any_filter_next : (p q : ℕ → Bool) (number : ℕ) (numbers : List ℕ) (b : Bool) → list_any q (filter p numbers) ≡ list_any (λ n. p n && q n) numbers
+any_filter_next : (p q : ℕ → Bool) (number : ℕ) (numbers : List ℕ) (b : Bool)
+    → list_any q (filter p numbers) ≡ list_any (λ n. p n && q n) numbers
     → list_any q (cond b (number ∷ filter p numbers) (filter p numbers)) ≡ ((b && q number) || list_any (λ n. p n && q n) numbers)
 any_filter_next p q number numbers true e = ap (λ b. q number || b) e
 any_filter_next p q number numbers false e = e
@@ -66,9 +75,12 @@ any_same p q from (suc count) same = rw (same from (omega arith), any_same p q (
 
 -- a test of the holders of a ring, as one of all numbers
 any_holder : (rings : List Ring) (order : List ℕ) (ring : Ring) (q : ℕ → Bool) → IsPermutation (range_with_len 0 (length rings)) order
-    → list_any q (filter (is_holder rings ring) order) ≡ list_any (λ number. is_holder rings ring number && q number) (range_with_len 0 (length rings))
+    → list_any q (filter (is_holder rings ring) order)
+    ≡ list_any (λ number. is_holder rings ring number && q number) (range_with_len 0 (length rings))
 any_holder rings order ring q permutation =
-    any_filter (is_holder rings ring) q order ∙ sym (list_any-IsPermutation (λ number. is_holder rings ring number && q number) (range_with_len 0 (length rings)) order permutation)
+    any_filter (is_holder rings ring) q order
+    ∙ sym (list_any-IsPermutation (λ number. is_holder rings ring number && q number)
+    (range_with_len 0 (length rings)) order permutation)
 
 -- a number that passes stands in the range
 pub record StandsIn (p : ℕ → Bool) (number from count : ℕ) : Type 0 where
@@ -83,8 +95,10 @@ is_this_next false one number e = absurd (cc)
 is_this : (p : ℕ → Bool) (one number : ℕ) → (p one && (one == number)) ≡ true → (one ≡ number) × (p one ≡ true)
 is_this p one number e = is_this_next (p one) one number e
 
-stands_next : (p : ℕ → Bool) (number from count : ℕ) (b : Bool) → (p from && (from == number)) ≡ b → (b || list_any (λ n. p n && (n == number)) (range_with_len (from + 1) count)) ≡ true
-    → (list_any (λ n. p n && (n == number)) (range_with_len (from + 1) count) ≡ true → StandsIn p number (from + 1) count) → StandsIn p number from (suc count)
+stands_next : (p : ℕ → Bool) (number from count : ℕ) (b : Bool) → (p from && (from == number)) ≡ b
+    → (b || list_any (λ n. p n && (n == number)) (range_with_len (from + 1) count)) ≡ true
+    → (list_any (λ n. p n && (n == number)) (range_with_len (from + 1) count) ≡ true → StandsIn p number (from + 1) count)
+    → StandsIn p number from (suc count)
 stands_next p number from count true o e more =
     let is = is_this p from number o in
     let same = is.0 in
@@ -95,11 +109,13 @@ stands_next p number from count false o e more =
     let high = next.high in
     record { low = omega (arith, low); high = omega (arith, high); passes = next.passes }
 
-stands : (p : ℕ → Bool) (number from count : ℕ) → list_any (λ n. p n && (n == number)) (range_with_len from count) ≡ true → StandsIn p number from count
+stands : (p : ℕ → Bool) (number from count : ℕ) → list_any (λ n. p n && (n == number)) (range_with_len from count) ≡ true
+    → StandsIn p number from count
 stands p number from zero e = absurd (cc)
 stands p number from (suc count) e = stands_next p number from count (p from && (from == number)) refl e (stands p number (from + 1) count)
 
-none_next : (rings : List Ring) (ring : Ring) (from : ℕ) (rest : Option ℕ) (b any : Bool) → (b || any) ≡ false → (any ≡ false → rest ≡ None) → (if b then Some from else rest) ≡ None
+none_next : (rings : List Ring) (ring : Ring) (from : ℕ) (rest : Option ℕ) (b any : Bool) → (b || any) ≡ false → (any ≡ false → rest ≡ None)
+    → (if b then Some from else rest) ≡ None
 none_next rings ring from rest true any e more = absurd (cc)
 none_next rings ring from rest false any e more = more e
 
@@ -108,12 +124,15 @@ abbrev pub owner_from : List Ring → ℕ → List Ring → Ring → Option ℕ
 owner_from rings number rest other = position_from (λ ring. owns rings ring other) number rest
 
 -- where no number passes, there is no owner
-owner_none : (rings : List Ring) (ring : Ring) (from count : ℕ) → list_any (λ number. owns rings (ring_at rings number) ring) (range_with_len from count) ≡ false
+owner_none : (rings : List Ring) (ring : Ring) (from count : ℕ)
+    → list_any (λ number. owns rings (ring_at rings number) ring) (range_with_len from count) ≡ false
     → owner_from rings from (map (ring_at rings) (range_with_len from count)) ring ≡ None
 owner_none rings ring from zero e = refl
 owner_none rings ring from (suc count) e =
-    none_next rings ring from (owner_from rings (from + 1) (map (ring_at rings) (range_with_len (from + 1) count)) ring) (owns rings (ring_at rings from) ring)
-    (list_any (λ number. owns rings (ring_at rings number) ring) (range_with_len (from + 1) count)) e (owner_none rings ring (from + 1) count)
+    none_next rings ring from (owner_from rings (from + 1) (map (ring_at rings) (range_with_len (from + 1) count)) ring)
+    (owns rings (ring_at rings from) ring)
+    (list_any (λ number. owns rings (ring_at rings number) ring) (range_with_len (from + 1) count)) e
+    (owner_none rings ring (from + 1) count)
 
 first_is : (from least : ℕ) (any : Bool) → from ≤ least → (nat_lt from least || any) ≡ false → from ≡ least
 first_is from least any low e = grind (arith, nat_tests)
@@ -123,7 +142,8 @@ after own from least o found low =
     let other : from ≢ least = λ same. absurd (cc) in
     omega arith
 
-some_next : (own : ℕ → Bool) (from least : ℕ) (rest : Option ℕ) (b any : Bool) → own from ≡ b → own least ≡ true → from ≤ least → ((b && nat_lt from least) || any) ≡ false
+some_next : (own : ℕ → Bool) (from least : ℕ) (rest : Option ℕ) (b any : Bool) → own from ≡ b → own least ≡ true → from ≤ least
+    → ((b && nat_lt from least) || any) ≡ false
     → (from + 1 ≤ least → any ≡ false → rest ≡ Some least) → (if b then Some from else rest) ≡ Some least
 some_next own from least rest true any o found low e more =
     let same : from ≡ least = first_is from least any low e in
@@ -131,13 +151,16 @@ some_next own from least rest true any o found low e more =
 some_next own from least rest false any o found low e more = more (after own from least o found low) e
 
 -- the least number that passes is the owner
-owner_some : (rings : List Ring) (ring : Ring) (least from count : ℕ) → owns rings (ring_at rings least) ring ≡ true → from ≤ least → least < from + count
+owner_some : (rings : List Ring) (ring : Ring) (least from count : ℕ) → owns rings (ring_at rings least) ring ≡ true → from ≤ least
+    → least < from + count
     → list_any (λ number. owns rings (ring_at rings number) ring && nat_lt number least) (range_with_len from count) ≡ false
     → owner_from rings from (map (ring_at rings) (range_with_len from count)) ring ≡ Some least
 owner_some rings ring least from zero found low high e = absurd (omega arith)
 owner_some rings ring least from (suc count) found low high e =
-    some_next (λ number. owns rings (ring_at rings number) ring) from least (owner_from rings (from + 1) (map (ring_at rings) (range_with_len (from + 1) count)) ring)
-    (owns rings (ring_at rings from) ring) (list_any (λ number. owns rings (ring_at rings number) ring && nat_lt number least) (range_with_len (from + 1) count)) refl found low e
+    some_next (λ number. owns rings (ring_at rings number) ring) from least
+    (owner_from rings (from + 1) (map (ring_at rings) (range_with_len (from + 1) count)) ring)
+    (owns rings (ring_at rings from) ring) (list_any (λ number. owns rings (ring_at rings number) ring && nat_lt number least)
+    (range_with_len (from + 1) count)) refl found low e
     (λ next none. owner_some rings ring least (from + 1) count found next (omega arith) none)
 
 owns_is : (rings : List Ring) (depths : List ℕ) (ring : Ring) (number : ℕ) → depths ≡ map (depth rings) rings → number < length rings
@@ -150,20 +173,25 @@ swap_tests : (a b c : Bool) → (a && (b && c)) ≡ ((a && b) && c)
 swap_tests true b c = refl
 swap_tests false b c = refl
 
-owner_least : (rings : List Ring) (depths order : List ℕ) (ring : Ring) → depths ≡ map (depth rings) rings → IsPermutation (range_with_len 0 (length rings)) order
+owner_least : (rings : List Ring) (depths order : List ℕ) (ring : Ring) → depths ≡ map (depth rings) rings
+    → IsPermutation (range_with_len 0 (length rings)) order
     → (r : Option ℕ) → IsLeast (is_above depths (depth rings ring)) (filter (is_holder rings ring) order) r
     → owner_from rings 0 (map (ring_at rings) (range_with_len 0 (length rings))) ring ≡ r
 owner_least rings depths order ring e permutation None least =
     let none = sym (any_holder rings order ring (is_above depths (depth rings ring)) permutation) ∙ least in
-    let same = any_same (λ number. is_holder rings ring number && is_above depths (depth rings ring) number) (λ number. owns rings (ring_at rings number) ring) 0 (length rings)
+    let same = any_same (λ number. is_holder rings ring number && is_above depths (depth rings ring) number)
+    (λ number. owns rings (ring_at rings number) ring) 0 (length rings)
     (λ number h. owns_is rings depths ring number e (omega arith)) in
     owner_none rings ring 0 (length rings) (sym same ∙ none)
 owner_least rings depths order ring e permutation (Some found) least =
-    let in_range = stands (is_holder rings ring) found 0 (length rings) (sym (any_holder rings order ring (λ number. number == found) permutation) ∙ least.1) in
+    let in_range = stands (is_holder rings ring) found 0 (length rings)
+    (sym (any_holder rings order ring (λ number. number == found) permutation) ∙ least.1) in
     let high = in_range.high in
     let within : found < length rings = omega (arith, high) in
-    let owned : owns rings (ring_at rings found) ring ≡ true = sym (owns_is rings depths ring found e within) ∙ (rw (in_range.passes, least.0)) in
-    let none = sym (any_holder rings order ring (λ number. is_above depths (depth rings ring) number && nat_lt number found) permutation) ∙ least.2 in
+    let owned : owns rings (ring_at rings found) ring ≡ true =
+    sym (owns_is rings depths ring found e within) ∙ (rw (in_range.passes, least.0)) in
+    let none = sym (any_holder rings order ring (λ number. is_above depths (depth rings ring) number && nat_lt number found) permutation)
+    ∙ least.2 in
     let same = any_same (λ number. is_holder rings ring number && (is_above depths (depth rings ring) number && nat_lt number found))
     (λ number. owns rings (ring_at rings number) ring && nat_lt number found) 0 (length rings)
     (λ number h. swap_tests (is_holder rings ring number) (is_above depths (depth rings ring) number) (nat_lt number found)
@@ -171,18 +199,21 @@ owner_least rings depths order ring e permutation (Some found) least =
     owner_some rings ring found 0 (length rings) owned (omega arith) high (sym same ∙ none)
 
 -- the numbers that hold a ring
-pub holders_at : (rings : List Ring) (holders : List (List ℕ)) (at : ℕ) (ring : Ring) (own : List ℕ) → (h : AreHolders rings holders) → at < length rings
+pub holders_at : (rings : List Ring) (holders : List (List ℕ)) (at : ℕ) (ring : Ring) (own : List ℕ) → (h : AreHolders rings holders)
+    → at < length rings
     → ring ≡ get_or rings at ring → own ≡ get_or holders at own → own ≡ filter (is_holder rings ring) h.order
 holders_at rings holders at ring own h low e f =
     let one = get_or-map (λ some. filter (is_holder rings some) h.order) rings at [] own low in
     f ∙ ap (λ all. get_or all at own) h.are ∙ one ∙ ap (λ some. filter (is_holder rings some) h.order) (ring_is rings at ring low e)
 
 -- the owner of a ring is the least of its holders that are one less deep
-pub owner_is : (rings : List Ring) (holders : List (List ℕ)) (depths : List ℕ) (at : ℕ) (ring : Ring) (own : List ℕ) (r : Option ℕ) → AreHolders rings holders
+pub owner_is : (rings : List Ring) (holders : List (List ℕ)) (depths : List ℕ) (at : ℕ) (ring : Ring) (own : List ℕ) (r : Option ℕ)
+    → AreHolders rings holders
     → depths ≡ map (depth rings) rings → at < length rings → ring ≡ get_or rings at ring → own ≡ get_or holders at own
     → IsLeast (is_above depths (get_or depths at 0)) own r → owner rings ring ≡ r
 owner_is rings holders depths at ring own r h e low f g least =
-    let deep : get_or depths at 0 ≡ depth rings ring = rw e (get_or-map (depth rings) rings at [] 0 low ∙ ap (depth rings) (ring_is rings at ring low f)) in
+    let deep : get_or depths at 0 ≡ depth rings ring =
+    rw e (get_or-map (depth rings) rings at [] 0 low ∙ ap (depth rings) (ring_is rings at ring low f)) in
     let here = rw (deep, holders_at rings holders at ring own h low f g) at least in
     ap (λ all. owner_from rings 0 all ring) (sym (rings_are rings)) ∙ owner_least rings depths h.order ring e h.permutation r here
 
@@ -190,7 +221,8 @@ all_below_next : (number count : ℕ) (any : Bool) → (not (nat_lt number count
 all_below_next number count true e = absurd (always (not (nat_lt number count)) e)
 all_below_next number count false e = (grind (arith, nat_tests), refl)
 
-all_below : (numbers : List ℕ) (count : ℕ) → list_any (λ number. not (nat_lt number count)) numbers ≡ false → AllByRecursion (λ number. number < count) numbers
+all_below : (numbers : List ℕ) (count : ℕ) → list_any (λ number. not (nat_lt number count)) numbers ≡ false
+    → AllByRecursion (λ number. number < count) numbers
 all_below [] count e = tt
 all_below (number ∷ numbers) count e =
     let both = all_below_next number count (list_any (λ n. not (nat_lt n count)) numbers) e in
@@ -199,7 +231,8 @@ all_below (number ∷ numbers) count e =
 is_below : (number count : ℕ) → number < count → not (nat_lt number count) ≡ false
 is_below number count h = grind (arith, nat_tests)
 
-none_above : (numbers : List ℕ) (count : ℕ) → AllByRecursion (λ number. number < count) numbers → list_any (λ number. not (nat_lt number count)) numbers ≡ false
+none_above : (numbers : List ℕ) (count : ℕ) → AllByRecursion (λ number. number < count) numbers
+    → list_any (λ number. not (nat_lt number count)) numbers ≡ false
 none_above [] count all = refl
 none_above (number ∷ numbers) count all = rw (is_below number count all.0) (none_above numbers count all.1)
 
@@ -207,7 +240,8 @@ none_above (number ∷ numbers) count all = rw (is_below number count all.0) (no
 pub order_below : (count : ℕ) (numbers order : List ℕ) → IsPermutation numbers order → AllByRecursion (λ number. number < count) numbers
     → AllByRecursion (λ number. number < count) order
 order_below count numbers order permutation all =
-    all_below order count (sym (list_any-IsPermutation (λ number. not (nat_lt number count)) numbers order permutation) ∙ none_above numbers count all)
+    all_below order count (sym (list_any-IsPermutation (λ number. not (nat_lt number count)) numbers order permutation)
+    ∙ none_above numbers count all)
 
 pub range_below : (from some count : ℕ) → from + some ≤ count → AllByRecursion (λ number. number < count) (range_with_len from some)
 range_below from zero count h = tt
@@ -218,20 +252,24 @@ all_part P [] ys all = (tt, all)
 all_part P (x ∷ xs) ys all = let parts = all_part P xs ys all.1 in ((all.0, parts.0), parts.1)
 
 -- the numbers of two halves
-pub halves_below : (count : ℕ) (numbers front back : List ℕ) → IsPermutation numbers (front ++ back) → AllByRecursion (λ number. number < count) numbers
+pub halves_below : (count : ℕ) (numbers front back : List ℕ) → IsPermutation numbers (front ++ back)
+    → AllByRecursion (λ number. number < count) numbers
     → AllByRecursion (λ number. number < count) front × AllByRecursion (λ number. number < count) back
-halves_below count numbers front back permutation all = all_part (λ number. number < count) front back (order_below count numbers (front ++ back) permutation all)
+halves_below count numbers front back permutation all =
+    all_part (λ number. number < count) front back (order_below count numbers (front ++ back) permutation all)
 
 pub halves_long : (numbers front back : List ℕ) → IsPermutation numbers (front ++ back) → length front + length back ≡ length numbers
 halves_long numbers front back permutation = sym (length-append front back) ∙ length_permutation numbers (front ++ back) permutation
 
 -- the numbers of two halves in other orders
-pub halves_join : (numbers front back left right : List ℕ) → IsPermutation numbers (front ++ back) → IsPermutation front left → IsPermutation back right
+pub halves_join : (numbers front back left right : List ℕ) → IsPermutation numbers (front ++ back) → IsPermutation front left
+    → IsPermutation back right
     → IsPermutation numbers (left ++ right)
 halves_join numbers front back left right permutation one other =
     IsPermutation-trans numbers (front ++ back) (left ++ right) permutation (IsPermutation-append front left back right one other)
 
-all_filter_next : {A : Type 0} (P : A → Type 0) (b : Bool) (x : A) (xs : List A) → P x → AllByRecursion P xs → AllByRecursion P (cond b (x ∷ xs) xs)
+all_filter_next : {A : Type 0} (P : A → Type 0) (b : Bool) (x : A) (xs : List A) → P x → AllByRecursion P xs
+    → AllByRecursion P (cond b (x ∷ xs) xs)
 all_filter_next P true x xs one all = (one, all)
 all_filter_next P false x xs one all = all
 
@@ -240,13 +278,17 @@ all_filter P p [] all = tt
 all_filter P p (x ∷ xs) all = all_filter_next P (p x) x (filter p xs) all.0 (all_filter P p xs all.1)
 
 -- the numbers that hold a ring are numbers of rings
-pub holders_below : (rings : List Ring) (holders : List (List ℕ)) (at : ℕ) (ring : Ring) (own : List ℕ) → AreHolders rings holders → at < length rings
+pub holders_below : (rings : List Ring) (holders : List (List ℕ)) (at : ℕ) (ring : Ring) (own : List ℕ) → AreHolders rings holders
+    → at < length rings
     → ring ≡ get_or rings at ring → own ≡ get_or holders at own → AllByRecursion (λ number. number < length rings) own
 holders_below rings holders at ring own h low e f =
     rw (holders_at rings holders at ring own h low e f)
-    (all_filter (λ number. number < length rings) (is_holder rings ring) h.order (order_below (length rings) (range_with_len 0 (length rings)) h.order h.permutation (range_below 0 (length rings) (length rings) (omega arith))))
+    (all_filter (λ number. number < length rings) (is_holder rings ring) h.order
+    (order_below (length rings) (range_with_len 0 (length rings)) h.order h.permutation
+    (range_below 0 (length rings) (length rings) (omega arith))))
 
-least_next : (p : ℕ → Bool) (numbers : List ℕ) (number : ℕ) (r : Option ℕ) → p number ≡ false → IsLeast p numbers r → IsLeast p (numbers ++ number ∷ []) r
+least_next : (p : ℕ → Bool) (numbers : List ℕ) (number : ℕ) (r : Option ℕ) → p number ≡ false → IsLeast p numbers r
+    → IsLeast p (numbers ++ number ∷ []) r
 least_next p numbers number None e least = list_any-append p numbers (number ∷ []) ∙ (rw (least, e))
 least_next p numbers number (Some found) e least = (
   least.0,
@@ -279,7 +321,8 @@ none_less_next false b any all e more = more e
 
 none_less : (p q : ℕ → Bool) (numbers : List ℕ) → list_any p numbers ≡ false → list_any (λ n. p n && q n) numbers ≡ false
 none_less p q [] e = refl
-none_less p q (number ∷ numbers) e = none_less_next (p number) (q number) (list_any p numbers) (list_any (λ n. p n && q n) numbers) e (none_less p q numbers)
+none_less p q (number ∷ numbers) e = none_less_next (p number) (q number) (list_any p numbers) (list_any (λ n. p n && q n) numbers) e
+    (none_less p q numbers)
 
 still_not_less : (number less more : ℕ) → less ≤ more → (nat_lt number more || false) ≡ false → (nat_lt number less || false) ≡ false
 still_not_less number less more h e = grind (arith, nat_tests)
@@ -289,7 +332,8 @@ not_less_next : (number less more : ℕ) (any all : Bool) → less ≤ more → 
 not_less_next number less more true all h e next = absurd (always (nat_lt number more) e)
 not_less_next number less more false all h e next = rw (next refl) (still_not_less number less more h e)
 
-fewer_less_next : (a : Bool) (number less more : ℕ) (any all : Bool) → less ≤ more → ((a && nat_lt number more) || any) ≡ false → (any ≡ false → all ≡ false)
+fewer_less_next : (a : Bool) (number less more : ℕ) (any all : Bool) → less ≤ more → ((a && nat_lt number more) || any) ≡ false
+    → (any ≡ false → all ≡ false)
     → ((a && nat_lt number less) || all) ≡ false
 fewer_less_next true number less more any all h e next = not_less_next number less more any all h e next
 fewer_less_next false number less more any all h e next = next e
@@ -298,9 +342,11 @@ fewer_less : (p : ℕ → Bool) (numbers : List ℕ) (less more : ℕ) → less 
     → list_any (λ n. p n && nat_lt n less) numbers ≡ false
 fewer_less p [] less more h e = refl
 fewer_less p (number ∷ numbers) less more h e =
-    fewer_less_next (p number) number less more (list_any (λ n. p n && nat_lt n more) numbers) (list_any (λ n. p n && nat_lt n less) numbers) h e (fewer_less p numbers less more h)
+    fewer_less_next (p number) number less more (list_any (λ n. p n && nat_lt n more) numbers)
+    (list_any (λ n. p n && nat_lt n less) numbers) h e (fewer_less p numbers less more h)
 
-least_cases : (p : ℕ → Bool) (numbers : List ℕ) (number found : ℕ) (b : Bool) → nat_lt number found ≡ b → p number ≡ true → IsLeast p numbers (Some found)
+least_cases : (p : ℕ → Bool) (numbers : List ℕ) (number found : ℕ) (b : Bool) → nat_lt number found ≡ b → p number ≡ true
+    → IsLeast p numbers (Some found)
     → IsLeast p (numbers ++ number ∷ []) (Some (if b then number else found))
 least_cases p numbers number found true o e least =
     let before = fewer_less p numbers number found (is_less number found o) least.2 in (

@@ -1,5 +1,6 @@
 -- What a tree of boxes passes over holds no asked ring.
-use Rattle.std.proofs.Common.{◌≡◌, ℕ, ◌+◌, ◌<◌, suc, zero, refl, sym, ap, ◌∙◌, arith, List, [], ◌∷◌, ◌++◌, length, map, take, get_or, Bool, false, None}
+use Rattle.std.proofs.Common.{◌≡◌, ℕ, ◌+◌, ◌<◌, suc, zero, refl, sym, ap, ◌∙◌, arith, List, [], ◌∷◌, ◌++◌, length, map, take, get_or, Bool}
+use Rattle.std.proofs.Common.{false, None}
 use Rattle.std.specs.List.{AllByRecursion, filter}
 use Rattle.std.proofs.lemmas.List.{get_or_default, get_or-map, length-map}
 use Rattle.std.proofs.lemmas.List.Elements.{filter-append}
@@ -13,58 +14,71 @@ use Rattle.ring_nest.specs.Nesting.{Ring, ring_at}
 use Rattle.ring_nest.proofs.Held.{all_at, covers_more, next_of, not_held, not_met}
 
 -- a member is the ring with its number
-pub ring_is : (rings : List Ring) (number : ℕ) (ring : Ring) → number < length rings → ring ≡ get_or rings number ring → ring_at rings number ≡ ring
+pub ring_is : (rings : List Ring) (number : ℕ) (ring : Ring) → number < length rings → ring ≡ get_or rings number ring
+    → ring_at rings number ≡ ring
 ring_is rings number ring h e = get_or_default rings number [] ring h ∙ sym e
 
 pub boxed_at : (rings : List Ring) (number : ℕ) → AllByRecursion IsBoxed rings → number < length rings → IsBoxed (ring_at rings number)
-boxed_at rings number all h = all_at IsBoxed rings number (ring_at rings number) all h (get_or_default rings number [] (ring_at rings number) h)
+boxed_at rings number all h = all_at IsBoxed rings number (ring_at rings number) all h
+    (get_or_default rings number [] (ring_at rings number) h)
 
 pub box_is : (rings : List Ring) (number : ℕ) → number < length rings → box_at (map around rings) number ≡ around (ring_at rings number)
 box_is rings number h = get_or-map around rings number [] (some_box None) h
 
-not_in : (rings : List Ring) (box : GeoBox) (ring : Ring) (number : ℕ) → AllByRecursion IsBoxed rings → IsBoxed ring → IsCovered (map around rings) box number
+not_in : (rings : List Ring) (box : GeoBox) (ring : Ring) (number : ℕ) → AllByRecursion IsBoxed rings → IsBoxed ring
+    → IsCovered (map around rings) box number
     → meets (around ring) box ≡ false → is_holder rings ring number ≡ false
 not_in rings box ring number all boxed c none =
     let w = c.within in
     let h : number < length rings = omega (arith, w, length-map rings around) in
     let covered = rw (box_is rings number h) at c.covered in
-    not_held ring (ring_at rings number) (boxed_at rings number all h) boxed (not_met (around ring) box (around (ring_at rings number)) covered none)
+    not_held ring (ring_at rings number) (boxed_at rings number all h) boxed
+    (not_met (around ring) box (around (ring_at rings number)) covered none)
 
 pub none_in : (rings : List Ring) (box : GeoBox) (ring : Ring) (numbers : List ℕ) → AllByRecursion IsBoxed rings → IsBoxed ring
-    → AllByRecursion (IsCovered (map around rings) box) numbers → meets (around ring) box ≡ false → filter (is_holder rings ring) numbers ≡ []
+    → AllByRecursion (IsCovered (map around rings) box) numbers → meets (around ring) box ≡ false
+    → filter (is_holder rings ring) numbers ≡ []
 none_in rings box ring [] all boxed c none = refl
-none_in rings box ring (number ∷ numbers) all boxed c none = rw (not_in rings box ring number all boxed c.0 none) (none_in rings box ring numbers all boxed c.1 none)
+none_in rings box ring (number ∷ numbers) all boxed c none =
+    rw (not_in rings box ring number all boxed c.0 none) (none_in rings box ring numbers all boxed c.1 none)
 
 -- the box of a tree is around all that is in it
-pub tree_covers : (boxes : List GeoBox) (tree : Tree) → IsTree boxes tree → AllByRecursion (IsCovered boxes (box_of_tree tree)) (numbers_of tree)
+pub tree_covers : (boxes : List GeoBox) (tree : Tree) → IsTree boxes tree
+    → AllByRecursion (IsCovered boxes (box_of_tree tree)) (numbers_of tree)
 tree_covers boxes (Few leaf) t = t.covers
 tree_covers boxes (Halves' box p left q right) t = t.2
 
 widen : (boxes : List GeoBox) (old new : GeoBox) (numbers : List ℕ) → Covers new old → AllByRecursion (IsCovered boxes old) numbers
     → AllByRecursion (IsCovered boxes new) numbers
 widen boxes old new [] c all = tt
-widen boxes old new (number ∷ numbers) c all =
-    (record { within = all.0.within; covered = covers_more (box_at boxes number) old new c all.0.covered }, widen boxes old new numbers c all.1)
+widen boxes old new (number ∷ numbers) c all = (
+  record { within = all.0.within; covered = covers_more (box_at boxes number) old new c all.0.covered },
+  widen boxes old new numbers c all.1,
+)
 
 pub all_join : {A : Type 0} (P : A → Type 0) (xs ys : List A) → AllByRecursion P xs → AllByRecursion P ys → AllByRecursion P (xs ++ ys)
 all_join P [] ys a b = b
 all_join P (x ∷ xs) ys a b = (a.0, all_join P xs ys a.1 b)
 
 -- a box around two trees is around all that is in them
-pub halves_cover : (boxes : List GeoBox) (box : GeoBox) (left right : Tree) → IsTree boxes left → IsTree boxes right → Covers box (box_of_tree left) → Covers box (box_of_tree right)
+pub halves_cover : (boxes : List GeoBox) (box : GeoBox) (left right : Tree) → IsTree boxes left → IsTree boxes right
+    → Covers box (box_of_tree left) → Covers box (box_of_tree right)
     → AllByRecursion (IsCovered boxes box) (numbers_of left ++ numbers_of right)
 halves_cover boxes box left right a b c d =
-    all_join (IsCovered boxes box) (numbers_of left) (numbers_of right) (widen boxes (box_of_tree left) box (numbers_of left) c (tree_covers boxes left a))
+    all_join (IsCovered boxes box) (numbers_of left) (numbers_of right)
+    (widen boxes (box_of_tree left) box (numbers_of left) c (tree_covers boxes left a))
     (widen boxes (box_of_tree right) box (numbers_of right) d (tree_covers boxes right b))
 
 pub leaf_covers : (boxes : List GeoBox) (box : GeoBox) (numbers : List ℕ) → AllByRecursion (λ number. number < length boxes) numbers
     → AllByRecursion (Covers box) (map (box_at boxes) numbers) → AllByRecursion (IsCovered boxes box) numbers
 leaf_covers boxes box [] within c = tt
-leaf_covers boxes box (number ∷ numbers) within c = (record { within = within.0; covered = c.0 }, leaf_covers boxes box numbers within.1 c.1)
+leaf_covers boxes box (number ∷ numbers) within c =
+    (record { within = within.0; covered = c.0 }, leaf_covers boxes box numbers within.1 c.1)
 
 -- the mark of a number of a leaf
 pub mark_is : (asked : GeoBox) (rings : List Ring) (numbers : List ℕ) (own : List GeoBox) (marks : List Bool) (at : ℕ) (box : GeoBox)
-    → marks ≡ map (meets asked) own → own ≡ map (box_at (map around rings)) numbers → AllByRecursion (IsCovered (map around rings) box) numbers → at < length numbers
+    → marks ≡ map (meets asked) own → own ≡ map (box_at (map around rings)) numbers
+    → AllByRecursion (IsCovered (map around rings) box) numbers → at < length numbers
     → get_or marks at false ≡ meets asked (around (ring_at rings (get_or numbers at 0)))
 mark_is asked rings [] own marks at box e f c h = absurd (omega arith)
 mark_is asked rings (number ∷ numbers) own marks zero box e f c h =
@@ -72,9 +86,11 @@ mark_is asked rings (number ∷ numbers) own marks zero box e f c h =
     let k : number < length rings = omega (arith, w, length-map rings around) in
     rw (e, f, box_is rings number k)
 mark_is asked rings (number ∷ numbers) own marks (suc at) box e f c h =
-    rw (e, f) (mark_is asked rings numbers (map (box_at (map around rings)) numbers) (map (meets asked) (map (box_at (map around rings)) numbers)) at box refl refl c.1 (omega arith))
+    rw (e, f) (mark_is asked rings numbers (map (box_at (map around rings)) numbers)
+    (map (meets asked) (map (box_at (map around rings)) numbers)) at box refl refl c.1 (omega arith))
 
-pub covered_at : (boxes : List GeoBox) (box : GeoBox) (numbers : List ℕ) (at : ℕ) → AllByRecursion (IsCovered boxes box) numbers → at < length numbers
+pub covered_at : (boxes : List GeoBox) (box : GeoBox) (numbers : List ℕ) (at : ℕ) → AllByRecursion (IsCovered boxes box) numbers
+    → at < length numbers
     → get_or numbers at 0 < length boxes
 covered_at boxes box [] at c h = absurd (omega arith)
 covered_at boxes box (number ∷ numbers) zero c h = c.0.within

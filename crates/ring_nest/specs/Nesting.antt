@@ -1,6 +1,7 @@
 -- Which rings hold which, and the polygons that they make.
 -- OGC Simple Feature Access, "Polygon": one exterior boundary and none, one or more interior boundaries, each a closed ring.
-use Rattle.std.specs.Prelude.{ℕ, ◌+◌, ◌%◌, ◌==◌, ℤ, Bool, false, not, ◌&&◌, ◌||◌, if◌then◌else◌, List, [], ◌∷◌, length, map, Option, Some, None, is_some, int_le, count_by, slice_index_or}
+use Rattle.std.specs.Prelude.{ℕ, ◌+◌, ◌%◌, ◌==◌, ℤ, Bool, false, not, ◌&&◌, ◌||◌, if◌then◌else◌, List, [], ◌∷◌, length, map, Option, Some}
+use Rattle.std.specs.Prelude.{None, is_some, int_le, count_by, slice_index_or}
 use Rattle.std.specs.List.{filter, list_any, list_all, position_from, range_with_len}
 use Rattle.osm_base.specs.values.Place.{PlaceOf}
 use Rattle.lanes_geo.specs.Crossing.{Segment, segments, across, along, odd}

@@ -1,5 +1,6 @@
 -- The numbers that digits write, and how great they are.
-use Rattle.std.proofs.Common.{◌≡◌, ℕ, ◌+◌, ◌*◌, ◌-◌, ◌^◌, ◌<◌, ◌≤◌, Bool, true, false, ◌&&◌, List, [], ◌∷◌, length, get_or, take, refl, ◌∙◌, ap, arith}
+use Rattle.std.proofs.Common.{◌≡◌, ℕ, ◌+◌, ◌*◌, ◌-◌, ◌^◌, ◌<◌, ◌≤◌, Bool, true, false, ◌&&◌, List, [], ◌∷◌, length, get_or, take, refl, ◌∙◌}
+use Rattle.std.proofs.Common.{ap, arith}
 use Rattle.std.specs.List.{list_all}
 use Rattle.std.specs.Char.{is_ascii_digit, digit_value}
 use Rattle.std.specs.Str.Parse.{digits_value, AllDigits}
@@ -37,7 +38,8 @@ value_more digits i all lt =
     digits_value_more 10 digits i lt ∙ ap (λ d. digits_value 10 (take i digits) * 10 + d) (digit_value-digit _ range.0 range.1)
 
 -- so many digits write a number below that power of ten
-value_below : (digits : List ℕ) (most : ℕ) → list_all is_ascii_digit digits ≡ true → length digits ≤ most → digits_value 10 digits < 10 ^ most
+value_below : (digits : List ℕ) (most : ℕ) → list_all is_ascii_digit digits ≡ true → length digits ≤ most
+    → digits_value 10 digits < 10 ^ most
 value_below digits most all le =
     let below = digits_value-lt 10 digits (all_digits digits all) in
     let power : 10 ^ length digits ≤ 10 ^ most = pow-le-pow_right (omega arith) le in
@@ -47,7 +49,8 @@ value_below digits most all le =
 pub record AreDigits (digits : List ℕ) : Type 0 where
   pub below : digits_value 10 digits < 1000000000000000000
   pub front_below : (i : ℕ) → digits_value 10 (take i digits) < 1000000000000000000
-  pub more : (i : ℕ) → i < length digits → digits_value 10 (take (i + 1) digits) ≡ digits_value 10 (take i digits) * 10 + (get_or digits i 0 - 48)
+  pub more : (i : ℕ) → i < length digits → digits_value 10 (take (i + 1) digits) ≡ digits_value 10 (take i digits) * 10
+      + (get_or digits i 0 - 48)
   pub least : (i : ℕ) → i < length digits → 48 ≤ get_or digits i 0
 
 pub AreDigits-test : (digits : List ℕ) → are_digits digits ≡ true → AreDigits digits

@@ -24,7 +24,8 @@ both : (a b : Bool) → T a → T b → T (a && b)
 both true b p q = q
 both false b p q = p
 
-below_marks : (text : List ℕ) (texts : List (List ℕ)) → AllByRecursion (λ other. order text other ≡ Less) texts → T (finite.Entries.below_all order text (marked texts))
+below_marks : (text : List ℕ) (texts : List (List ℕ)) → AllByRecursion (λ other. order text other ≡ Less) texts
+    → T (finite.Entries.below_all order text (marked texts))
 below_marks text [] all = tt
 below_marks text (other ∷ texts) all = both _ _ (subst (λ o. T (is_lt o)) (sym all.0) tt) (below_marks text texts all.1)
 
@@ -37,19 +38,23 @@ first_marks : (texts : List (List ℕ)) → map (λ (e : List ℕ × Unit {0}). 
 first_marks [] = refl
 first_marks (text ∷ texts) = ap (λ rest. text ∷ rest) (first_marks texts)
 
-find-marks : (text : List ℕ) (texts : List (List ℕ)) → finite.find order text (marked texts) ≡ mark_if (list_any (eq_by_cmp order text) texts)
+find-marks : (text : List ℕ) (texts : List (List ℕ))
+    → finite.find order text (marked texts) ≡ mark_if (list_any (eq_by_cmp order text) texts)
 find-marks text [] = refl
 find-marks text (other ∷ texts) =
-    elim (eq_by_cmp order text other) as (λ b. cond b (Some tt) (finite.find order text (marked texts)) ≡ mark_if (b || list_any (eq_by_cmp order text) texts)) [ true ↦ refl | false ↦ find-marks text texts ]
+    elim (eq_by_cmp order text other) as (λ b. cond b (Some tt) (finite.find order text (marked texts))
+    ≡ mark_if (b || list_any (eq_by_cmp order text) texts)) [ true ↦ refl | false ↦ find-marks text texts ]
 
 -- texts in order that are the same as others, in whatever order and however often, are the distinct ones of these
-distinct-is : (texts others : List (List ℕ)) → IsStrictlySortedBy order texts → ((text : List ℕ) → list_any (eq_by_cmp order text) texts ≡ list_any (eq_by_cmp order text) others)
+distinct-is : (texts others : List (List ℕ)) → IsStrictlySortedBy order texts
+    → ((text : List ℕ) → list_any (eq_by_cmp order text) texts ≡ list_any (eq_by_cmp order text) others)
     → texts ≡ distinct others
 distinct-is texts others rise same =
     let sorted = sorted_marks texts rise in
     sym (first_marks texts)
     ∙ ap (map (λ (e : List ℕ × Unit {0}). e.0)) (sym (finite.entries-from_sorted order (marked texts) sorted))
-    ∙ ap finite.keys (finite.same_map nat_list_cmp_total (slice_cmp-IsAntisymmetric nat_cmp-IsAntisymmetric) (finite.from_sorted {R = order} (marked texts)) (finite.from_entries (marked others))
+    ∙ ap finite.keys (finite.same_map nat_list_cmp_total (slice_cmp-IsAntisymmetric nat_cmp-IsAntisymmetric)
+    (finite.from_sorted {R = order} (marked texts)) (finite.from_entries (marked others))
     (λ text. finite.get-from_sorted order (marked texts) text sorted ∙ find-marks text texts ∙ ap mark_if (same text)
     ∙ sym (find-marks text others) ∙ sym (finite.get-from_entries nat_list_cmp_total (marked others) text)))
 
@@ -58,7 +63,8 @@ module _ {X : Type 0} (seen : X → List ℕ) where
   abbrev seen_cmp : X → X → Ordering
   seen_cmp x y = order (seen x) (seen y)
 
-  all_seen : (x : X) (xs : List X) → AllByRecursion (λ y. seen_cmp x y ≡ Less) xs → AllByRecursion (λ other. order (seen x) other ≡ Less) (map seen xs)
+  all_seen : (x : X) (xs : List X) → AllByRecursion (λ y. seen_cmp x y ≡ Less) xs
+      → AllByRecursion (λ other. order (seen x) other ≡ Less) (map seen xs)
   all_seen x [] all = tt
   all_seen x (y ∷ xs) all = (all.0, all_seen x xs all.1)
 
@@ -79,7 +85,8 @@ module _ {X : Type 0} (same : X → X → Bool) (p : X → Bool) (alike : (x y :
   any-dedup_from : (k : X) (xs : List X) → list_any p (dedup_from same k xs) ≡ (p k || list_any p xs)
   any-dedup_from k [] = refl
   any-dedup_from k (x ∷ xs) =
-      elim (same x k) as (λ b. same x k ≡ b → list_any p (cond b (dedup_from same k xs) (k ∷ dedup_from same x xs)) ≡ (p k || (p x || list_any p xs))) [
+      elim (same x k) as (λ b. same x k ≡ b → list_any p (cond b (dedup_from same k xs) (k ∷ dedup_from same x xs))
+      ≡ (p k || (p x || list_any p xs))) [
         | true ↦ λ is. any-dedup_from k xs ∙ or-again (p k) (list_any p xs) ∙ ap (λ b. p k || (b || list_any p xs)) (sym (alike x k is))
         | false ↦ λ _. ap (λ b. p k || b) (any-dedup_from x xs)
       ] refl
@@ -96,9 +103,11 @@ equal_of Greater e = absurd (cc)
 -- items that are sorted and have their doubles dropped are seen as the distinct ones of what they were
 module _ {X : Type 0} (seen : X → List ℕ) (same : X → X → Bool) (ties : (x y : X) → same x y ≡ eq_by_cmp (seen_cmp seen) x y) where
   one_text : (x y : X) → same x y ≡ true → seen x ≡ seen y
-  one_text x y is = slice_cmp-IsAntisymmetric nat_cmp-IsAntisymmetric (seen x) (seen y) (equal_of (order (seen x) (seen y)) (sym (ties x y) ∙ is))
+  one_text x y is = slice_cmp-IsAntisymmetric nat_cmp-IsAntisymmetric (seen x) (seen y)
+      (equal_of (order (seen x) (seen y)) (sym (ties x y) ∙ is))
 
-  pub distinct-seen : (items sorted : List X) → IsPermutation items sorted → IsSorted (seen_cmp seen) sorted → map seen (dedup same sorted) ≡ distinct (map seen items)
+  pub distinct-seen : (items sorted : List X) → IsPermutation items sorted → IsSorted (seen_cmp seen) sorted
+      → map seen (dedup same sorted) ≡ distinct (map seen items)
   distinct-seen items sorted permutation order_is =
       let total : IsTotalOrder (seen_cmp seen) = on_total seen nat_list_cmp_total in
       distinct-is (map seen (dedup same sorted)) (map seen items)

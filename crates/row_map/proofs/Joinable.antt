@@ -1,5 +1,6 @@
 -- The line of a way is a piece that may be joined to others: no two equal neighbours are left on it.
-use Rattle.std.proofs.Common.{◌≡◌, ◌≢◌, ◌<◌, ℕ, zero, suc, ◌+◌, true, false, cond, Option, Some, None, List, [], ◌∷◌, length, refl, sym, ap, subst, ◌∙◌, arith}
+use Rattle.std.proofs.Common.{◌≡◌, ◌≢◌, ◌<◌, ℕ, zero, suc, ◌+◌, true, false, cond, Option, Some, None, List, [], ◌∷◌, length, refl, sym, ap}
+use Rattle.std.proofs.Common.{subst, ◌∙◌, arith}
 use Rattle.std.specs.Prelude.{nat_le}
 use Rattle.std.specs.Option.{option_to_list}
 use Rattle.std.specs.List.{cons_option, dedup, dedup_from, filter_map, slice_get}
@@ -24,7 +25,9 @@ Moves (place ∷ next ∷ rest) = (same_place next place ≡ false) × Moves (ne
 moves_from : (place : PlaceOf) (rest : Line) → (kept : Line) × (dedup_from same_place place rest ≡ place ∷ kept) × Moves (place ∷ kept)
 moves_from place [] = ([], refl, tt)
 moves_from place (next ∷ rest) =
-    elim (same_place next place) as (λ b. same_place next place ≡ b → (kept : Line) × (cond b (dedup_from same_place place rest) (place ∷ dedup_from same_place next rest) ≡ place ∷ kept) × Moves (place ∷ kept)) [
+    elim (same_place next place) as (λ b. same_place next place ≡ b
+    → (kept : Line) × (cond b (dedup_from same_place place rest) (place ∷ dedup_from same_place next rest) ≡ place ∷ kept)
+    × Moves (place ∷ kept)) [
       | true ↦ λ _. moves_from place rest
       | false ↦ λ apart. (let later = moves_from next rest in (next ∷ later.0, ap (λ l. place ∷ l) later.1, (apart, later.2)))
     ] refl
@@ -47,7 +50,8 @@ moves_at (place ∷ next ∷ rest) (suc index) moves lt same =
 IsPiece-through : (places found : Line) → Moves places → line_through places ≡ Some found → IsPiece found
 IsPiece-through places found moves =
     elim (nat_le 2 (length places)) as (λ b. nat_le 2 (length places) ≡ b → cond b (Some places) None ≡ Some found → IsPiece found) [
-      | true ↦ λ long is. subst IsPiece (same_Some places found is) (record { points = leb-true 2 (length places) long; moves = λ index lt. moves_at places index moves lt })
+      | true ↦ λ long is. subst IsPiece (same_Some places found is)
+          (record { points = leb-true 2 (length places) long; moves = λ index lt. moves_at places index moves lt })
       | false ↦ λ _ is. absurd (cc)
     ] refl
 
@@ -68,7 +72,8 @@ pieces-cons : (piece : Line) (pieces : List Line) → IsPiece piece → ArePiece
 pieces-cons piece pieces first rest zero d lt = first
 pieces-cons piece pieces first rest (suc k) d lt = rest k d (omega (arith, lt))
 
-pieces-more : (place : ℕ → Option PlaceOf) (object : Option Object) (pieces : List Line) (found : Option Line) → line_in place object ≡ found
+pieces-more : (place : ℕ → Option PlaceOf) (object : Option Object) (pieces : List Line) (found : Option Line)
+    → line_in place object ≡ found
     → ArePieces pieces → ArePieces (cons_option found pieces)
 pieces-more place object pieces None is rest = rest
 pieces-more place object pieces (Some piece) is rest = pieces-cons piece pieces (IsPiece-in place object piece is) rest
@@ -82,7 +87,8 @@ pieces_of_one place nodes = go (line place nodes) refl
     go (Some piece) is = pieces-cons piece [] (IsPiece-line place nodes piece is) pieces-none
 
 -- the lines of ways are pieces
-pub pieces_in : (place : ℕ → Option PlaceOf) (object : KeyOf → Option Object) (ways : List KeyOf) → ArePieces (lines_along place object ways)
+pub pieces_in : (place : ℕ → Option PlaceOf) (object : KeyOf → Option Object) (ways : List KeyOf)
+    → ArePieces (lines_along place object ways)
 pieces_in place object [] = pieces-none
 pieces_in place object (way ∷ ways) =
     pieces-more place (object way) (lines_along place object ways) (line_in place (object way)) refl (pieces_in place object ways)

@@ -20,6 +20,7 @@ drop_past (x ∷ xs) zero passed = absurd (omega (arith, passed))
 drop_past (x ∷ xs) (suc i) passed = drop_past xs i (omega (arith, passed))
 
 -- a text and others, each behind a comma, are joined by commas
-pub join-commas : (first : List ℕ) (rest : List (Bor (List ℕ))) → first ++ flat_map (λ value. COMMA ∷ value.now) rest ≡ join_with_byte COMMA (first ∷ map (λ value. value.now) rest)
+pub join-commas : (first : List ℕ) (rest : List (Bor (List ℕ)))
+    → first ++ flat_map (λ value. COMMA ∷ value.now) rest ≡ join_with_byte COMMA (first ∷ map (λ value. value.now) rest)
 join-commas first [] = append-nil first
 join-commas first (value ∷ rest) = ap (λ text. first ++ COMMA ∷ text) (join-commas value.now rest)

@@ -1,5 +1,6 @@
 -- The map of all tables has at each spot the row that the definition says.
-use Rattle.std.proofs.Common.{◌≡◌, ◌≢◌, ◌<◌, ◌≤◌, ℕ, zero, suc, ◌+◌, Bool, true, false, cond, List, [], ◌∷◌, ◌++◌, length, Option, Some, None, refl, sym, ap, ◌∙◌, arith, inl, inr}
+use Rattle.std.proofs.Common.{◌≡◌, ◌≢◌, ◌<◌, ◌≤◌, ℕ, zero, suc, ◌+◌, Bool, true, false, cond, List, [], ◌∷◌, ◌++◌, length, Option, Some}
+use Rattle.std.proofs.Common.{None, refl, sym, ap, ◌∙◌, arith, inl, inr}
 use Rattle.std.specs.Prelude.{◌&&◌, ◌||◌}
 use Rattle.std.specs.declared.cmp.Ordering.{Ordering}
 use Rattle.std.specs.declared.cmp.Ordering.TheVariants.{Less, Equal, Greater}
@@ -65,16 +66,19 @@ module _ (spot : SpotOf) (rows : ℕ → KeyOf → Option Row) where
   found-append : (one other : List (SpotOf × Row)) → found (one ++ other) ≡ option_or (found one) (found other)
   found-append [] other = refl
   found-append (first ∷ one) other =
-      elim (eq_by_cmp spot_cmp spot first.0) as (λ b. cond b (Some first.1) (found (one ++ other)) ≡ option_or (cond b (Some first.1) (found one)) (found other)) [
+      elim (eq_by_cmp spot_cmp spot first.0) as
+      (λ b. cond b (Some first.1) (found (one ++ other)) ≡ option_or (cond b (Some first.1) (found one)) (found other)) [
         | true ↦ refl
         | false ↦ found-append one other
       ]
 
   -- one entry more in front
   found-first : (table : ℕ) (key : KeyOf) (own : Option Row) (rest : List (SpotOf × Row))
-      → found (cons_option (option_map (λ row. (at table key, row)) own) rest) ≡ cond (is_table table && is_key key) (option_or own (found rest)) (found rest)
+      → found (cons_option (option_map (λ row. (at table key, row)) own) rest)
+      ≡ cond (is_table table && is_key key) (option_or own (found rest)) (found rest)
   found-first table key None rest = sym (either_way (is_table table && is_key key) (found rest))
-  found-first table key (Some row) rest = ap (λ b. cond b (Some row) (found rest)) (is_eq-then (nat_cmp spot.table table) (key_cmp spot.key key))
+  found-first table key (Some row) rest = ap (λ b. cond b (Some row) (found rest))
+      (is_eq-then (nat_cmp spot.table table) (key_cmp spot.key key))
 
   found-elsewhere : (table : ℕ) → is_table table ≡ false → (keys : List KeyOf) → found (filter_map (entry_of table) keys) ≡ None
   found-elsewhere table other [] = refl
@@ -84,7 +88,8 @@ module _ (spot : SpotOf) (rows : ℕ → KeyOf → Option Row) where
       ∙ ap (λ b. cond (b && is_key key) (option_or (rows table key) (found rest)) (found rest)) other
       ∙ found-elsewhere table other keys
 
-  found-here : (table : ℕ) → is_table table ≡ true → (keys : List KeyOf) → found (filter_map (entry_of table) keys) ≡ cond (list_any is_key keys) (rows table spot.key) None
+  found-here : (table : ℕ) → is_table table ≡ true → (keys : List KeyOf)
+      → found (filter_map (entry_of table) keys) ≡ cond (list_any is_key keys) (rows table spot.key) None
   found-here table here [] = refl
   found-here table here (key ∷ keys) =
       let rest = filter_map (entry_of table) keys in
@@ -92,9 +97,12 @@ module _ (spot : SpotOf) (rows : ℕ → KeyOf → Option Row) where
       found-first table key (rows table key) rest
       ∙ ap (λ b. cond (b && is_key key) (option_or (rows table key) (found rest)) (found rest)) here
       ∙ ap (λ x. cond (is_key key) (option_or (rows table key) x) x) later
-      ∙ elim (is_key key) as (λ b. is_key key ≡ b → cond b (option_or (rows table key) (cond (list_any is_key keys) (rows table spot.key) None)) (cond (list_any is_key keys) (rows table spot.key) None)
+      ∙ elim (is_key key) as (λ b. is_key key ≡ b
+      → cond b (option_or (rows table key) (cond (list_any is_key keys) (rows table spot.key) None))
+      (cond (list_any is_key keys) (rows table spot.key) None)
       ≡ cond (b || list_any is_key keys) (rows table spot.key) None) [
-        | true ↦ λ same. ap (λ own. option_or (rows table own) (cond (list_any is_key keys) (rows table spot.key) None)) (sym (key_cmp-IsAntisymmetric spot.key key (equal_of (key_cmp spot.key key) same)))
+        | true ↦ λ same. ap (λ own. option_or (rows table own) (cond (list_any is_key keys) (rows table spot.key) None))
+            (sym (key_cmp-IsAntisymmetric spot.key key (equal_of (key_cmp spot.key key) same)))
             ∙ or-again (rows table spot.key) (list_any is_key keys)
         | false ↦ λ _. refl
       ] refl
@@ -109,14 +117,17 @@ module _ (spot : SpotOf) (rows : ℕ → KeyOf → Option Row) where
     met : (table : ℕ) → spot.table ≡ table → is_table table ≡ true
     met table same = unsigned_tied spot.table table ∙ grind (arith, nat_tests)
 
-    outside : (first count : ℕ) → ((table : ℕ) → first ≤ table → table < first + count → spot.table ≢ table) → found (flat_map listed (range_with_len first count)) ≡ None
+    outside : (first count : ℕ) → ((table : ℕ) → first ≤ table → table < first + count → spot.table ≢ table)
+        → found (flat_map listed (range_with_len first count)) ≡ None
     outside first zero other = refl
     outside first (suc count) other =
         found-append (listed first) (flat_map listed (range_with_len (first + 1) count))
-        ∙ ap (λ x. option_or x (found (flat_map listed (range_with_len (first + 1) count)))) (found-elsewhere first (apart first (other first (omega arith) (omega arith))) keys)
+        ∙ ap (λ x. option_or x (found (flat_map listed (range_with_len (first + 1) count))))
+        (found-elsewhere first (apart first (other first (omega arith) (omega arith))) keys)
         ∙ outside (first + 1) count (λ table least most. other table (omega arith) (omega arith))
 
-    inside : (first count : ℕ) → first ≤ spot.table → spot.table < first + count → found (flat_map listed (range_with_len first count)) ≡ cond (list_any is_key keys) (rows spot.table spot.key) None
+    inside : (first count : ℕ) → first ≤ spot.table → spot.table < first + count
+        → found (flat_map listed (range_with_len first count)) ≡ cond (list_any is_key keys) (rows spot.table spot.key) None
     inside first zero least most = absurd (omega arith)
     inside first (suc count) least most =
         let rest = flat_map listed (range_with_len (first + 1) count) in
@@ -124,7 +135,8 @@ module _ (spot : SpotOf) (rows : ℕ → KeyOf → Option Row) where
         ∙ elim (cases_eq spot.table first) [
           | inl same ↦
               ap (λ x. option_or x (found rest)) (found-here first (met first same) keys)
-              ∙ ap (option_or (cond (list_any is_key keys) (rows first spot.key) None)) (outside (first + 1) count (λ table low high again. absurd (omega arith)))
+              ∙ ap (option_or (cond (list_any is_key keys) (rows first spot.key) None))
+              (outside (first + 1) count (λ table low high again. absurd (omega arith)))
               ∙ or-none (cond (list_any is_key keys) (rows first spot.key) None)
               ∙ ap (λ table. cond (list_any is_key keys) (rows table spot.key) None) (sym same)
           | inr other ↦
@@ -133,22 +145,28 @@ module _ (spot : SpotOf) (rows : ℕ → KeyOf → Option Row) where
         ]
 
 -- a key that is not among the objects has no row
-row-there : (style : StyleOf) (objects : ObjectSet) (table : ℕ) (key : KeyOf) → cond (list_any (eq_by_cmp key_cmp key) (finite.keys objects)) (row style objects table key) None ≡ row style objects table key
+row-there : (style : StyleOf) (objects : ObjectSet) (table : ℕ) (key : KeyOf)
+    → cond (list_any (eq_by_cmp key_cmp key) (finite.keys objects)) (row style objects table key) None ≡ row style objects table key
 row-there style objects table key =
     go (finite.get objects key) refl (sym (finite.contains_key-keys objects key))
   where
-    go : (object : Option Object) → finite.get objects key ≡ object → list_any (eq_by_cmp key_cmp key) (finite.keys objects) ≡ is_some (finite.get objects key)
+    go : (object : Option Object) → finite.get objects key ≡ object
+        → list_any (eq_by_cmp key_cmp key) (finite.keys objects) ≡ is_some (finite.get objects key)
         → cond (list_any (eq_by_cmp key_cmp key) (finite.keys objects)) (row style objects table key) None ≡ row style objects table key
-    go None none listed = ap (λ b. cond b (row style objects table key) None) (listed ∙ ap is_some none) ∙ sym (row_from-none style table (material_of style objects key) key none)
+    go None none listed = ap (λ b. cond b (row style objects table key) None) (listed ∙ ap is_some none)
+        ∙ sym (row_from-none style table (material_of style objects key) key none)
     go (Some object) some listed = ap (λ b. cond b (row style objects table key) None) (listed ∙ ap is_some some)
 
 -- a table that is not there has no row
-row-past : (style : StyleOf) (objects : ObjectSet) (table : ℕ) (key : KeyOf) → length style.tables ≤ table → row style objects table key ≡ None
+row-past : (style : StyleOf) (objects : ObjectSet) (table : ℕ) (key : KeyOf) → length style.tables ≤ table
+    → row style objects table key ≡ None
 row-past style objects table key past =
-    ap (option_and_then (λ definition. option_and_then (row_of style.selections (material_of style objects key) definition key) (finite.get objects key))) (slice_get_past style.tables table past)
+    ap (option_and_then (λ definition. option_and_then (row_of style.selections (material_of style objects key) definition key)
+    (finite.get objects key))) (slice_get_past style.tables table past)
 
 -- what `tables` has at a spot is the row that `row` says of it
-pub get-tables : (style : StyleOf) (objects : ObjectSet) (spot : SpotOf) → finite.get (tables style objects) spot ≡ row style objects spot.table spot.key
+pub get-tables : (style : StyleOf) (objects : ObjectSet) (spot : SpotOf)
+    → finite.get (tables style objects) spot ≡ row style objects spot.table spot.key
 get-tables style objects spot =
     let count = length style.tables in
     let rows = λ (table : ℕ) (key : KeyOf). row style objects table key in
@@ -156,5 +174,6 @@ get-tables style objects spot =
     finite.get-from_entries spot_cmp_total (flat_map (listed spot rows keys) (range_with_len 0 count)) spot
     ∙ elim (cases_lt spot.table count) [
       | inl below ↦ inside spot rows keys 0 count (omega arith) (omega arith) ∙ row-there style objects spot.table spot.key
-      | inr past ↦ outside spot rows keys 0 count (λ table low high same. absurd (omega arith)) ∙ sym (row-past style objects spot.table spot.key past)
+      | inr past ↦ outside spot rows keys 0 count (λ table low high same. absurd (omega arith))
+          ∙ sym (row-past style objects spot.table spot.key past)
     ]

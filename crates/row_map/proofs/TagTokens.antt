@@ -23,5 +23,6 @@ written-more tags i key value old new all is step before =
     ∙ before
 
 -- all are written
-pub written-all : (tags : TagPairs) (i : ℕ) (old all : List Token) → length tags ≤ i → old ++ left (drop i tags) ≡ all → old ++ tokens.end_object ∷ [] ≡ all
+pub written-all : (tags : TagPairs) (i : ℕ) (old all : List Token) → length tags ≤ i → old ++ left (drop i tags) ≡ all
+    → old ++ tokens.end_object ∷ [] ≡ all
 written-all tags i old all passed before = ap (λ rest. old ++ left rest) (sym (drop_past tags i passed)) ∙ before

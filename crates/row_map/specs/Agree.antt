@@ -44,4 +44,5 @@ pub record Agree (table : TableDef) (key : KeyOf) (one other : Material) : Type 
 -- row is made of
 abbrev pub Suffices : StyleOf → ℕ → KeyOf → Known → ObjectSet → Type 0
 Suffices style table key known objects =
-    IfSome (slice_get style.tables table) (λ definition. Agree definition key (material_known style known key) (material_of style objects key))
+    IfSome (slice_get style.tables table) (λ definition.
+    Agree definition key (material_known style known key) (material_of style objects key))

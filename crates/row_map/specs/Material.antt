@@ -49,7 +49,12 @@ selected_by style known number key = selecting_among style.selections known.obje
 
 -- what the row of a key is made of, out of what is known of a map, where these relations may select it
 abbrev pub material_among : List Selection → Known → List ℕ → Material
-material_among selections known ids = record { place = known.place; object = known.object; selecting = selecting_among selections known.object ids }
+material_among selections known ids = record {
+  place = known.place;
+  object = known.object;
+  selecting =
+      selecting_among selections known.object ids;
+}
 
 -- what the row of a key is made of, out of what is known of a map
 abbrev pub material_known : StyleOf → Known → KeyOf → Material

@@ -42,7 +42,8 @@ row_of selections from table key object =
 -- the row of a key in the table with a number, out of what rows are made of. A key without an object has none.
 abbrev pub row_from : StyleOf → ℕ → Material → KeyOf → Option Row
 row_from style table from key =
-    option_and_then (λ definition. option_and_then (row_of style.selections from definition key) (from.object key)) (slice_get style.tables table)
+    option_and_then (λ definition. option_and_then (row_of style.selections from definition key) (from.object key))
+    (slice_get style.tables table)
 
 -- `row`: the row of a key in the table with a number, in a map with these objects
 abbrev pub row : StyleOf → ObjectSet → ℕ → KeyOf → Option Row

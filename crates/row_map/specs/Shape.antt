@@ -1,7 +1,9 @@
 -- The geometry of a row.
--- osm2pgsql manual, "Geometry Types": the point of a node, the line of a way, the polygons of a closed way or of a relation, and the lines of
+-- osm2pgsql manual, "Geometry Types": the point of a node, the line of a way, the polygons of a closed way or of a relation, and the lines
+-- of
 -- a relation. "Areas": a relation bounds an area where its tag `type` is `multipolygon` or `boundary`.
-use Rattle.std.specs.Prelude.{ℕ, ◌-◌, Bool, not, ◌&&◌, ◌||◌, ◌++◌, ◌∷◌, List, [], length, codes, fold, nat_eq, nat_le, slice_index, if◌then◌else◌, Option, None, Some}
+use Rattle.std.specs.Prelude.{ℕ, ◌-◌, Bool, not, ◌&&◌, ◌||◌, ◌++◌, ◌∷◌, List, [], length, codes, fold, nat_eq, nat_le, slice_index}
+use Rattle.std.specs.Prelude.{if◌then◌else◌, Option, None, Some}
 use Rattle.std.specs.List.{filter_map, list_any}
 use Rattle.std.specs.Option.{option_and_then, option_map, option_to_list}
 use Rattle.osm_base.specs.declared.values.key.Kind.TheVariants as kinds

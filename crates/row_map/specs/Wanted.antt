@@ -1,5 +1,6 @@
 -- Which objects the tables of a style may want, whichever relations select them.
--- osm2pgsql manual, "The Flex Output": a style says by the kind and by the tags of an object whether it goes into a table; what no table can
+-- osm2pgsql manual, "The Flex Output": a style says by the kind and by the tags of an object whether it goes into a table; what no table
+-- can
 -- want has no row, whatever else the map has.
 use Rattle.std.specs.Prelude.{Bool, true, false, ◌&&◌, List, Option, None, Some}
 use Rattle.std.specs.List.{list_any}

@@ -1,5 +1,6 @@
 -- Rows that are put among others, record by record.
-use Rattle.std.proofs.Common.{◌≡◌, ◌≢◌, ◌⊎◌, inl, inr, ◌<◌, ◌≤◌, ◌+◌, ◌%◌, zero, suc, ℕ, Bool, true, false, cond, List, [], ◌∷◌, length, take, get_or, Option, Some, None, refl, sym, ap, subst, ◌∙◌, arith, nat_eq}
+use Rattle.std.proofs.Common.{◌≡◌, ◌≢◌, ◌⊎◌, inl, inr, ◌<◌, ◌≤◌, ◌+◌, ◌%◌, zero, suc, ℕ, Bool, true, false, cond, List, [], ◌∷◌, length}
+use Rattle.std.proofs.Common.{take, get_or, Option, Some, None, refl, sym, ap, subst, ◌∙◌, arith, nat_eq}
 use Rattle.std.specs.List.{AllByRecursion}
 use Rattle.std.specs.Option.{IsSome}
 use Rattle.std.specs.Prelude.{◌==◌, ◌&&◌, ◌++◌, T, if◌then◌else◌}
@@ -27,7 +28,8 @@ use Rattle.value_bytes.specs.Forms.{IsNoValue, NeedsFor, Spells}
 use Rattle.value_bytes.specs.declared.fault.ValueFault.{ValueFault}
 use Rattle.value_bytes.specs.declared.fault.ValueFault.TheVariants.{NotSpelled, OutOfMemory}
 use Rattle.row_store.specs.Rows.{AreRows, rows_bytes}
-use Rattle.row_store.specs.Loading.{Among, AreTold, Fills, IsTold, IsWithin, RowsBySpot, is_wanted, key_of, row_or, spot_at, with_all, with_wanted}
+use Rattle.row_store.specs.Loading.{Among, AreTold, Fills, IsTold, IsWithin, RowsBySpot, is_wanted, key_of, row_or, spot_at, with_all}
+use Rattle.row_store.specs.Loading.{with_wanted}
 
 decide : (b : Bool) → (b ≡ true) ⊎ (b ≡ false)
 decide true = inl refl
@@ -55,7 +57,8 @@ spot_apart one other apart = elim (decide (eq_by_cmp spot_cmp one other)) [
 
 same_or_apart : (key other : KeyOf) → (key ≡ other) ⊎ (key ≡ other → ⊥)
 same_or_apart key other = elim (decide (eq_by_cmp spot_cmp (spot 0 key) (spot 0 other))) [
-  | inl same ↦ inl (ap (λ (s : SpotOf). s.key) (spot_cmp-IsAntisymmetric (spot 0 key) (spot 0 other) ((Equal-is (spot_cmp (spot 0 key) (spot 0 other))).0 same)))
+  | inl same ↦ inl (ap (λ (s : SpotOf). s.key)
+      (spot_cmp-IsAntisymmetric (spot 0 key) (spot 0 other) ((Equal-is (spot_cmp (spot 0 key) (spot 0 other))).0 same)))
   | inr differs ↦ inr (λ same. absurd (let yes = spot_same (spot 0 key) (spot 0 other) (ap (spot 0) same) in cc (yes, differs)))
 ]
 
@@ -67,7 +70,8 @@ unmet one other differs = grind (arith, nat_tests)
 
 -- a row more, if it is wanted
 got_wanted : (b : Bool) (tables : TableMap) (one own : SpotOf) (row : Row)
-    → map.get (if b then map.insert tables own row else tables) one ≡ cond b (cond (eq_by_cmp spot_cmp one own) (Some row) (map.get tables one)) (map.get tables one)
+    → map.get (if b then map.insert tables own row else tables) one
+    ≡ cond b (cond (eq_by_cmp spot_cmp one own) (Some row) (map.get tables one)) (map.get tables one)
 got_wanted true tables one own row = map.get-insert spot_cmp_total tables own row one
 got_wanted false tables one own row = refl
 
@@ -81,18 +85,22 @@ got_here wanted key (row ∷ rows) tables table =
     let rest = cond (is_wanted wanted table) (row_or rows table x) x in
     let before = got_here wanted key rows tables table in
     got_wanted (is_wanted wanted row.table) (with_all wanted key rows tables) (spot table key) (spot row.table key) row.row
-    ∙ ap (λ (o : Option Row). cond (is_wanted wanted row.table) (cond (eq_by_cmp spot_cmp (spot table key) (spot row.table key)) (Some row.row) o) o) before
+    ∙ ap (λ (o : Option Row). cond (is_wanted wanted row.table)
+    (cond (eq_by_cmp spot_cmp (spot table key) (spot row.table key)) (Some row.row) o) o) before
     ∙ elim (cases_eq row.table table) [
       | inl same ↦
-          ap (λ (b : Bool). cond (is_wanted wanted row.table) (cond b (Some row.row) rest) rest) (spot_same (spot table key) (spot row.table key) (ap (λ (t : ℕ). spot t key) (sym same)))
+          ap (λ (b : Bool). cond (is_wanted wanted row.table) (cond b (Some row.row) rest) rest)
+          (spot_same (spot table key) (spot row.table key) (ap (λ (t : ℕ). spot t key) (sym same)))
           ∙ ap (λ (t : ℕ). cond (is_wanted wanted t) (Some row.row) rest) same
           ∙ twice (is_wanted wanted table) (Some row.row) (row_or rows table x) x
-          ∙ ap (λ (b : Bool). cond (is_wanted wanted table) (cond b (Some row.row) (row_or rows table x)) x) (sym (met row.table table same))
+          ∙ ap (λ (b : Bool). cond (is_wanted wanted table) (cond b (Some row.row) (row_or rows table x)) x)
+          (sym (met row.table table same))
       | inr apart ↦
           ap (λ (b : Bool). cond (is_wanted wanted row.table) (cond b (Some row.row) rest) rest)
           (spot_apart (spot table key) (spot row.table key) (λ same. apart (ap (λ (s : SpotOf). s.table) (sym same))))
           ∙ either_way (is_wanted wanted row.table) rest
-          ∙ ap (λ (b : Bool). cond (is_wanted wanted table) (cond b (Some row.row) (row_or rows table x)) x) (sym (unmet row.table table apart))
+          ∙ ap (λ (b : Bool). cond (is_wanted wanted table) (cond b (Some row.row) (row_or rows table x)) x)
+          (sym (unmet row.table table apart))
     ]
 
 -- other keys have theirs
@@ -111,10 +119,12 @@ got_apart wanted key (row ∷ rows) tables one apart =
 pub all_push : (wanted : Option ℕ) (key : KeyOf) (front : List TableRow) (row : TableRow) (tables : TableMap)
     → with_all wanted key (front ++ row ∷ []) tables ≡ with_all wanted key front (with_wanted wanted key row tables)
 all_push wanted key [] row tables = refl
-all_push wanted key (first ∷ front) row tables = ap (λ (t : TableMap). with_wanted wanted key first t) (all_push wanted key front row tables)
+all_push wanted key (first ∷ front) row tables =
+    ap (λ (t : TableMap). with_wanted wanted key first t) (all_push wanted key front row tables)
 
 -- a row that is there is there again
-or_again : (b : Bool) (own : Option Row) (rows : List TableRow) (table : ℕ) → row_or rows table (row_or rows table None) ≡ row_or rows table None
+or_again : (b : Bool) (own : Option Row) (rows : List TableRow) (table : ℕ)
+    → row_or rows table (row_or rows table None) ≡ row_or rows table None
     → cond b own (row_or rows table (cond b own (row_or rows table None))) ≡ cond b own (row_or rows table None)
 or_again true own rows table same = refl
 or_again false own rows table same = same
@@ -126,16 +136,20 @@ again (row ∷ rows) table = or_again (nat_eq row.table table) (Some row.row) ro
 abbrev told : Option ℕ → List TableRow → ℕ → Option Row
 told wanted own table = if is_wanted wanted table then row_or own table None else None
 
-told_again : (b : Bool) (own : List TableRow) (table : ℕ) → cond b (row_or own table (cond b (row_or own table None) None)) (cond b (row_or own table None) None) ≡ cond b (row_or own table None) None
+told_again : (b : Bool) (own : List TableRow) (table : ℕ)
+    → cond b (row_or own table (cond b (row_or own table None) None)) (cond b (row_or own table None) None)
+    ≡ cond b (row_or own table None) None
 told_again true own table = again own table
 told_again false own table = refl
 
 module _ (which : ℕ) (rows : RowsBySpot) where
   -- a record fills in its rows
-  module _ (wanted : Option ℕ) (number : ℕ) (own : List TableRow) (old new : TableMap) (is : new ≡ with_all wanted (key_of which number) own old)
+  module _ (wanted : Option ℕ) (number : ℕ) (own : List TableRow) (old new : TableMap)
+      (is : new ≡ with_all wanted (key_of which number) own old)
       (at : (table : ℕ) → rows (spot_at which number table) ≡ told wanted own table) where
     here : (table : ℕ) → map.get new (spot_at which number table)
-        ≡ cond (is_wanted wanted table) (row_or own table (map.get old (spot_at which number table))) (map.get old (spot_at which number table))
+        ≡ cond (is_wanted wanted table) (row_or own table (map.get old (spot_at which number table)))
+        (map.get old (spot_at which number table))
     here table = ap (λ (t : TableMap). map.get t (spot_at which number table)) is ∙ got_here wanted (key_of which number) own old table
 
     there : (one : SpotOf) → (one.key ≡ key_of which number → ⊥) → map.get new one ≡ map.get old one
@@ -149,7 +163,8 @@ module _ (which : ℕ) (rows : RowsBySpot) where
         ∙ told_again (is_wanted wanted table) own table
         ∙ sym (at table)
 
-    new_here : (table : ℕ) → map.get old (spot_at which number table) ≡ None → map.get new (spot_at which number table) ≡ rows (spot_at which number table)
+    new_here : (table : ℕ) → map.get old (spot_at which number table) ≡ None
+        → map.get new (spot_at which number table) ≡ rows (spot_at which number table)
     new_here table none =
         here table ∙ ap (λ (o : Option Row). cond (is_wanted wanted table) (row_or own table o) o) none ∙ sym (at table)
 
@@ -185,7 +200,8 @@ module _ (which : ℕ) (rows : RowsBySpot) where
     fills_one = record {
       keeps = keeps_one;
       within = within_one;
-      gives = λ within n same table. subst (λ (k : ℕ). map.get new (spot_at which k table) ≡ rows (spot_at which k table)) same (gives_one within table);
+      gives = λ within n same table. subst (λ (k : ℕ). map.get new (spot_at which k table) ≡ rows (spot_at which k table)) same
+          (gives_one within table);
     }
 
   -- nothing was put
@@ -208,7 +224,8 @@ module _ (which : ℕ) (rows : RowsBySpot) where
     ];
   }
 
-  pub fills_fewer : (One All : ℕ → Type 0) (old new : TableMap) → Fills which rows All old new → ((n : ℕ) → One n → All n) → Fills which rows One old new
+  pub fills_fewer : (One All : ℕ → Type 0) (old new : TableMap) → Fills which rows All old new → ((n : ℕ) → One n → All n)
+      → Fills which rows One old new
   fills_fewer One All old new fills leads = record {
     keeps = fills.keeps;
     within = fills.within;
@@ -216,7 +233,8 @@ module _ (which : ℕ) (rows : RowsBySpot) where
   }
 
 -- rows of another map stay, and come nowhere wrong
-pub fills_beside : (one other : ℕ) (rows : RowsBySpot) (Part Two : ℕ → Type 0) (old mid new : TableMap) → Fills one rows Part old mid → Fills other rows Two mid new
+pub fills_beside : (one other : ℕ) (rows : RowsBySpot) (Part Two : ℕ → Type 0) (old mid new : TableMap) → Fills one rows Part old mid
+    → Fills other rows Two mid new
     → Fills one rows Part old new
 fills_beside one other rows Part Two old mid new first second = record {
   keeps = λ at same. second.keeps at (first.keeps at same);
@@ -224,7 +242,8 @@ fills_beside one other rows Part Two old mid new first second = record {
   gives = λ within n part table. second.keeps (spot_at one n table) (first.gives within n part table);
 }
 
-pub fills_before : (one other : ℕ) (rows : RowsBySpot) (Part Two : ℕ → Type 0) (old mid new : TableMap) → Fills one rows Part old mid → Fills other rows Two mid new
+pub fills_before : (one other : ℕ) (rows : RowsBySpot) (Part Two : ℕ → Type 0) (old mid new : TableMap) → Fills one rows Part old mid
+    → Fills other rows Two mid new
     → Fills other rows Two old new
 fills_before one other rows Part Two old mid new first second = record {
   keeps = λ at same. second.keeps at (first.keeps at same);
@@ -233,7 +252,8 @@ fills_before one other rows Part Two old mid new first second = record {
 }
 
 -- a record more
-last_among : (front : List (ℕ × List ℕ)) (own one : ℕ × List ℕ) (n : ℕ) → one ≡ own → Among (front ++ own ∷ []) n → Among front n ⊎ (one.0 ≡ n)
+last_among : (front : List (ℕ × List ℕ)) (own one : ℕ × List ℕ) (n : ℕ) → one ≡ own → Among (front ++ own ∷ []) n
+    → Among front n ⊎ (one.0 ≡ n)
 last_among [] own one n is (inl same) = inr (ap (λ (p : ℕ × List ℕ). p.0) is ∙ same)
 last_among [] own one n is (inr none) = absurd none
 last_among (first ∷ front) own one n is (inl same) = inl (inl same)
@@ -242,10 +262,12 @@ last_among (first ∷ front) own one n is (inr later) = elim (last_among front o
   | inr mine ↦ inr mine
 ]
 
-pub among_more : (records : List (ℕ × List ℕ)) (place : ℕ) (one : ℕ × List ℕ) (n : ℕ) → place < length records → one ≡ get_or records place one
+pub among_more : (records : List (ℕ × List ℕ)) (place : ℕ) (one : ℕ × List ℕ) (n : ℕ) → place < length records
+    → one ≡ get_or records place one
     → Among (take (place + 1) records) n → Among (take place records) n ⊎ (one.0 ≡ n)
 among_more records place one n within is among =
-    last_among (take place records) (get_or records place one) one n is (subst (λ (l : List (ℕ × List ℕ)). Among l n) (take_more records place one within) among)
+    last_among (take place records) (get_or records place one) one n is
+    (subst (λ (l : List (ℕ × List ℕ)). Among l n) (take_more records place one within) among)
 
 pub among_all : (records : List (ℕ × List ℕ)) (place n : ℕ) → length records ≤ place → Among records n → Among (take place records) n
 among_all [] place n past among = absurd among
@@ -254,7 +276,8 @@ among_all (first ∷ records) (suc place) n past (inl same) = inl same
 among_all (first ∷ records) (suc place) n past (inr more) = inr (among_all records place n (omega (arith, past)) more)
 
 -- a record of those that tell rows
-pub told_at : (Told : ℕ × List ℕ → Type 0) (records : List (ℕ × List ℕ)) (place : ℕ) (one : ℕ × List ℕ) → AllByRecursion Told records → place < length records
+pub told_at : (Told : ℕ × List ℕ → Type 0) (records : List (ℕ × List ℕ)) (place : ℕ) (one : ℕ × List ℕ) → AllByRecursion Told records
+    → place < length records
     → one ≡ get_or records place one → Told one
 told_at Told [] place one each within is = absurd (omega (arith, within))
 told_at Told (first ∷ records) zero one each within is = subst Told (sym is) each.0
@@ -272,11 +295,13 @@ right false b p = absurd p
 later : (a b : ℕ) → T (is_lt (nat_cmp a b)) → b ≢ a
 later a b less same = absurd (subst (λ (r : Ordering). T (is_lt r)) (equal_of a b (sym same)) less)
 
-shifted : (x : ℕ × List ℕ) (all es : List (ℕ × List ℕ)) → T (below_all nat_cmp x.0 es) → AllByRecursion (λ e. find nat_cmp e.0 all ≡ Some e.1) es
+shifted : (x : ℕ × List ℕ) (all es : List (ℕ × List ℕ)) → T (below_all nat_cmp x.0 es)
+    → AllByRecursion (λ e. find nat_cmp e.0 all ≡ Some e.1) es
     → AllByRecursion (λ e. find nat_cmp e.0 (x ∷ all) ≡ Some e.1) es
 shifted x all [] low each = tt
 shifted x all (e ∷ es) low each = (
-  ap (λ (b : Bool). cond b (Some x.1) (find nat_cmp e.0 all)) (apart_of e.0 x.0 (later x.0 e.0 (left (is_lt (nat_cmp x.0 e.0)) (below_all nat_cmp x.0 es) low))) ∙ each.0,
+  ap (λ (b : Bool). cond b (Some x.1) (find nat_cmp e.0 all))
+      (apart_of e.0 x.0 (later x.0 e.0 (left (is_lt (nat_cmp x.0 e.0)) (below_all nat_cmp x.0 es) low))) ∙ each.0,
   shifted x all es (right (is_lt (nat_cmp x.0 e.0)) (below_all nat_cmp x.0 es) low) each.1,
 )
 
@@ -284,7 +309,8 @@ entries_found : (es : List (ℕ × List ℕ)) → T (is_sorted nat_cmp es) → A
 entries_found [] sorted = tt
 entries_found (x ∷ es) sorted = (
   ap (λ (r : Ordering). cond (is_eq r) (Some x.1) (find nat_cmp x.0 es)) (equal_of x.0 x.0 refl),
-  shifted x es es (left (below_all nat_cmp x.0 es) (is_sorted nat_cmp es) sorted) (entries_found es (right (below_all nat_cmp x.0 es) (is_sorted nat_cmp es) sorted)),
+  shifted x es es (left (below_all nat_cmp x.0 es) (is_sorted nat_cmp es) sorted)
+      (entries_found es (right (below_all nat_cmp x.0 es) (is_sorted nat_cmp es) sorted)),
 )
 
 nothing : (bytes : List ℕ) → None ≡ Some bytes → ⊥
@@ -297,7 +323,8 @@ found_among (e ∷ es) n bytes same = elim (decide (is_eq (nat_cmp n e.0))) [
   | inr other ↦ inr (found_among es n bytes (sym (ap (λ (b : Bool). cond b (Some e.1) (find nat_cmp n es)) other) ∙ same))
 ]
 
-each_so : (One Two : ℕ × List ℕ → Type 0) (es : List (ℕ × List ℕ)) → ((e : ℕ × List ℕ) → One e → Two e) → AllByRecursion One es → AllByRecursion Two es
+each_so : (One Two : ℕ × List ℕ → Type 0) (es : List (ℕ × List ℕ)) → ((e : ℕ × List ℕ) → One e → Two e) → AllByRecursion One es
+    → AllByRecursion Two es
 each_so One Two [] leads each = tt
 each_so One Two (e ∷ es) leads each = (leads e each.0, each_so One Two es leads each.1)
 
@@ -306,7 +333,8 @@ there_in None some = absurd (cc)
 there_in (Some bytes) some = (bytes, refl)
 
 -- the records of a bucket are those of its map
-module _ (definitions : List TableDef) (wanted : Option ℕ) (which : ℕ) (rows : RowsBySpot) (now : Image) (bucket : ℕ) (records : List (ℕ × List ℕ))
+module _ (definitions : List TableDef) (wanted : Option ℕ) (which : ℕ) (rows : RowsBySpot) (now : Image) (bucket : ℕ)
+    (records : List (ℕ × List ℕ))
     (are : IsBucketOf now which bucket records) where
   in_map : (n : ℕ) (bytes : List ℕ) → map.get are.own n ≡ Some bytes → map.get (now.maps which) n ≡ Some bytes
   in_map n bytes same = elim (decide (n % now.root.buckets == bucket)) [
@@ -318,8 +346,10 @@ module _ (definitions : List TableDef) (wanted : Option ℕ) (which : ℕ) (rows
       → AllByRecursion (λ one. IsTold definitions wanted which rows one.0 one.1) records
   records_told told =
       subst (λ (l : List (ℕ × List ℕ)). AllByRecursion (λ one. IsTold definitions wanted which rows one.0 one.1) l) (sym are.are)
-      (each_so (λ e. find nat_cmp e.0 (map.entries are.own) ≡ Some e.1) (λ one. IsTold definitions wanted which rows one.0 one.1) (map.entries are.own)
-      (λ e found. told e.0 e.1 (in_map e.0 e.1 (map.get-entries are.own e.0 ∙ found))) (entries_found (map.entries are.own) (map.entries_sorted are.own)))
+      (each_so (λ e. find nat_cmp e.0 (map.entries are.own) ≡ Some e.1) (λ one. IsTold definitions wanted which rows one.0 one.1)
+      (map.entries are.own)
+      (λ e found. told e.0 e.1 (in_map e.0 e.1 (map.get-entries are.own e.0 ∙ found)))
+      (entries_found (map.entries are.own) (map.entries_sorted are.own)))
 
   pub all_among : (n : ℕ) → IsSome (map.get (now.maps which) n) → n % now.root.buckets ≡ bucket → Among records n
   all_among n some mine =
@@ -336,13 +366,16 @@ module _ (definitions : List TableDef) (wanted : Option ℕ) (which : ℕ) (rows
       (λ n part. all_among n part.0 part.1)
 
 -- bytes that tell rows are read as they
-pub memory_alone : (definitions : List TableDef) (wanted : Option ℕ) (which : ℕ) (rows : RowsBySpot) (number : ℕ) (bytes : List ℕ) (fault : ValueFault)
-    → NeedsFor (IsNoValue rows_bytes (AreRows definitions) bytes) fault → IsTold definitions wanted which rows number bytes → fault ≡ OutOfMemory
+pub memory_alone : (definitions : List TableDef) (wanted : Option ℕ) (which : ℕ) (rows : RowsBySpot) (number : ℕ) (bytes : List ℕ)
+    (fault : ValueFault)
+    → NeedsFor (IsNoValue rows_bytes (AreRows definitions) bytes) fault → IsTold definitions wanted which rows number bytes
+    → fault ≡ OutOfMemory
 memory_alone definitions wanted which rows number bytes NotSpelled none told = absurd (none told.own told.are told.bytes_are)
 memory_alone definitions wanted which rows number bytes OutOfMemory none told = refl
 
 pub record_fills : (definitions : List TableDef) (wanted : Option ℕ) (which : ℕ) (rows : RowsBySpot) (number : ℕ) (bytes : List ℕ)
-    (read : List TableRow) (key : KeyOf) (old new : TableMap) → Spells rows_bytes (AreRows definitions) bytes read → key ≡ key_of which number
+    (read : List TableRow) (key : KeyOf) (old new : TableMap) → Spells rows_bytes (AreRows definitions) bytes read
+    → key ≡ key_of which number
     → new ≡ with_all wanted key read old → IsTold definitions wanted which rows number bytes → Fills which rows (λ n. number ≡ n) old new
 record_fills definitions wanted which rows number bytes read key old new spells here is told =
     fills_one which rows wanted number told.own old new

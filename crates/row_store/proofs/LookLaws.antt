@@ -44,7 +44,8 @@ module _ {D : Type 0} {g : Ghosts D} where
       → is_broken (journal_of (chains_of new)) ≡ is_broken (journal_of (chains_of old))
   still_whole old new value looks = looks.broken ∙ or_false (is_broken (journal_of (chains_of old)))
 
-  pub looks_on : {T : Type 0} (old mid new : Buckets D g) (result : Result T StoreFault) → OnlyLooks old mid → OnlyRead (chains_of old) (chains_of mid)
+  pub looks_on : {T : Type 0} (old mid new : Buckets D g) (result : Result T StoreFault) → OnlyLooks old mid
+      → OnlyRead (chains_of old) (chains_of mid)
       → is_broken (journal_of (chains_of mid)) ≡ is_broken (journal_of (chains_of old)) → Looks mid new result → Looks old new result
   looks_on old mid new result same stays still looks = record {
     same = looks_then old mid new same looks.same;
@@ -54,7 +55,8 @@ module _ {D : Type 0} {g : Ghosts D} where
     refused = looks.refused;
     cause = record {
       later = omega (arith, same.later, looks.cause.later);
-      failed = λ is. rose_later (disk_of (chains_of old)).faults (disk_of (chains_of mid)).faults (disk_of (chains_of new)).faults same.later (looks.cause.failed is);
+      failed = λ is. rose_later (disk_of (chains_of old)).faults (disk_of (chains_of mid)).faults
+          (disk_of (chains_of new)).faults same.later (looks.cause.failed is);
     };
   }
 

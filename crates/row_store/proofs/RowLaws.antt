@@ -19,7 +19,8 @@ parts row = (row.cells, row.geometry)
 parts_fit : (columns : ℕ) (row : Row) → IsRow columns row → Both (AreMany columns IsCell) IsGeometry (parts row)
 parts_fit columns row is = (is.cells, is.geometry)
 
-rows_seen : (columns : ℕ) → AreSeen (both_bytes cells_bytes geometry_bytes) (Both (AreMany columns IsCell) IsGeometry) row_bytes (IsRow columns) parts
+rows_seen : (columns : ℕ) → AreSeen (both_bytes cells_bytes geometry_bytes) (Both (AreMany columns IsCell) IsGeometry) row_bytes
+    (IsRow columns) parts
 unfolding row_bytes
 rows_seen columns = record { is = parts_fit columns; told = λ row. refl }
 
@@ -33,20 +34,24 @@ pub row_front : (columns : ℕ) (bytes behind rest : List ℕ) (row : Row)
     → IsFront cells_bytes (AreMany columns IsCell) bytes row.cells behind → IsFront geometry_bytes IsGeometry behind row.geometry rest
     → IsFront row_bytes (IsRow columns) bytes row rest
 row_front columns bytes behind rest row first second =
-    front_seen (both_bytes cells_bytes geometry_bytes) (Both (AreMany columns IsCell) IsGeometry) row_bytes (IsRow columns) parts (rows_seen columns) bytes (parts row) rest
+    front_seen (both_bytes cells_bytes geometry_bytes) (Both (AreMany columns IsCell) IsGeometry) row_bytes (IsRow columns) parts
+    (rows_seen columns) bytes (parts row) rest
     (front_both cells_bytes (AreMany columns IsCell) geometry_bytes IsGeometry bytes row.cells behind row.geometry rest first second) row
     (record { cells = first.begins.is; geometry = second.begins.is }) refl (λ other is same. one_row other row same)
 
-pub row_no_cells : (columns : ℕ) (bytes : List ℕ) → IsFrontless cells_bytes (AreMany columns IsCell) bytes → IsFrontless row_bytes (IsRow columns) bytes
+pub row_no_cells : (columns : ℕ) (bytes : List ℕ) → IsFrontless cells_bytes (AreMany columns IsCell) bytes
+    → IsFrontless row_bytes (IsRow columns) bytes
 row_no_cells columns bytes none =
-    frontless_seen (both_bytes cells_bytes geometry_bytes) (Both (AreMany columns IsCell) IsGeometry) row_bytes (IsRow columns) parts (rows_seen columns) bytes
+    frontless_seen (both_bytes cells_bytes geometry_bytes) (Both (AreMany columns IsCell) IsGeometry) row_bytes (IsRow columns) parts
+    (rows_seen columns) bytes
     (frontless_first cells_bytes (AreMany columns IsCell) geometry_bytes IsGeometry bytes none)
 
 pub row_no_geometry : (columns : ℕ) (bytes : List ℕ) (cells : List Cell) (behind : List ℕ)
     → IsFront cells_bytes (AreMany columns IsCell) bytes cells behind → IsFrontless geometry_bytes IsGeometry behind
     → IsFrontless row_bytes (IsRow columns) bytes
 row_no_geometry columns bytes cells behind first none =
-    frontless_seen (both_bytes cells_bytes geometry_bytes) (Both (AreMany columns IsCell) IsGeometry) row_bytes (IsRow columns) parts (rows_seen columns) bytes
+    frontless_seen (both_bytes cells_bytes geometry_bytes) (Both (AreMany columns IsCell) IsGeometry) row_bytes (IsRow columns) parts
+    (rows_seen columns) bytes
     (frontless_second cells_bytes (AreMany columns IsCell) geometry_bytes IsGeometry bytes cells behind first none)
 
 pub row_put : (row : Row) (old : List ℕ) → (old ++ cells_bytes row.cells) ++ geometry_bytes row.geometry ≡ old ++ row_bytes row

@@ -1,5 +1,6 @@
 -- The laws of the rows of an object in bytes.
-use Rattle.std.proofs.Common.{◌≡◌, ◌≢◌, ℕ, ◌+◌, ◌<◌, ◌≤◌, List, [], ◌∷◌, ◌++◌, length, refl, sym, ap, ◌∙◌, append_assoc, subst, arith, length-append, get_or, drop, drop-cons, zero, suc, true}
+use Rattle.std.proofs.Common.{◌≡◌, ◌≢◌, ℕ, ◌+◌, ◌<◌, ◌≤◌, List, [], ◌∷◌, ◌++◌, length, refl, sym, ap, ◌∙◌, append_assoc, subst, arith}
+use Rattle.std.proofs.Common.{length-append, get_or, drop, drop-cons, zero, suc, true}
 use Rattle.std.specs.Prelude.{◌==◌}
 use Rattle.std.proofs.lemmas.Bool.{eqb-true}
 use Rattle.std.proofs.lemmas.List.{append-nil, drop_all}
@@ -23,8 +24,10 @@ table_number tables few bytes row rest begins = record {
   bytes_are = begins.bytes_are ∙ append_assoc (number_bytes row.table) (row_bytes row.row) rest;
 }
 
-pub table_row_front : (tables : List TableDef) → length tables ≤ 256 → (bytes : List ℕ) (table : ℕ) (behind : List ℕ) (row : Row) (rest : List ℕ)
-    → table < length tables → IsFront number_bytes IsNumber bytes table behind → IsFront row_bytes (IsRow (columns_in tables table)) behind row rest
+pub table_row_front : (tables : List TableDef) → length tables ≤ 256
+    → (bytes : List ℕ) (table : ℕ) (behind : List ℕ) (row : Row) (rest : List ℕ)
+    → table < length tables → IsFront number_bytes IsNumber bytes table behind
+    → IsFront row_bytes (IsRow (columns_in tables table)) behind row rest
     → IsFront table_row_bytes (IsTableRow tables) bytes (record { table = table; row = row }) rest
 unfolding table_row_bytes
 table_row_front tables few bytes table behind row rest there first second = record {
@@ -35,13 +38,15 @@ table_row_front tables few bytes table behind row rest there first second = reco
   };
   alone = λ other after begins.
       let same = first.alone other.table (row_bytes other.row ++ after) (table_number tables few bytes other after begins) in
-      let later = second.alone other.row after (record { is = subst (λ n. IsRow (columns_in tables n) other.row) same.0 begins.is.spelled; bytes_are = sym same.1 }) in
+      let later = second.alone other.row after
+      (record { is = subst (λ n. IsRow (columns_in tables n) other.row) same.0 begins.is.spelled; bytes_are = sym same.1 }) in
       (λ i. record { table = same.0 i; row = later.0 i }, later.1);
 }
 
 pub table_row_no_number : (tables : List TableDef) → length tables ≤ 256 → (bytes : List ℕ) → IsFrontless number_bytes IsNumber bytes
     → IsFrontless table_row_bytes (IsTableRow tables) bytes
-table_row_no_number tables few bytes none row rest begins = none row.table (row_bytes row.row ++ rest) (table_number tables few bytes row rest begins)
+table_row_no_number tables few bytes none row rest begins =
+    none row.table (row_bytes row.row ++ rest) (table_number tables few bytes row rest begins)
 
 pub table_row_no_table : (tables : List TableDef) → length tables ≤ 256 → (bytes : List ℕ) (table : ℕ) (behind : List ℕ)
     → length tables ≤ table → IsFront number_bytes IsNumber bytes table behind → IsFrontless table_row_bytes (IsTableRow tables) bytes
@@ -85,7 +90,8 @@ read_none tables bytes = record { are = tt; bytes_are = refl; goes_on = λ all a
 
 -- rows that are some bytes begin with one
 first_row : (tables : List TableDef) (bytes : List ℕ) (all : List TableRow) → AreSpelled tables all → bytes ≡ rows_bytes all → bytes ≢ []
-    → (row : TableRow) × (later : List TableRow) × (all ≡ row ∷ later) × Begins table_row_bytes (IsTableRow tables) bytes row (rows_bytes later) × AreSpelled tables later
+    → (row : TableRow) × (later : List TableRow) × (all ≡ row ∷ later)
+    × Begins table_row_bytes (IsTableRow tables) bytes row (rows_bytes later) × AreSpelled tables later
 first_row tables bytes [] are same some = absurd (some same)
 first_row tables bytes (row ∷ later) are same some = (row, later, refl, record { is = are.0; bytes_are = same }, are.1)
 
@@ -110,7 +116,8 @@ read_more tables bytes rows rest row behind before some front = record {
 }
 
 pub read_refused : (tables : List TableDef) (bytes : List ℕ) (rows : List TableRow) (rest : List ℕ)
-    → HasRead tables bytes rows rest → rest ≢ [] → IsFrontless table_row_bytes (IsTableRow tables) rest → IsNoValue rows_bytes (AreSpelled tables) bytes
+    → HasRead tables bytes rows rest → rest ≢ [] → IsFrontless table_row_bytes (IsTableRow tables) rest
+    → IsNoValue rows_bytes (AreSpelled tables) bytes
 read_refused tables bytes rows rest before some none all are same =
     let (later, split, spelled, ends) = before.goes_on all are same in
     let (next, others, later_is, begins, rest_are) = first_row tables rest later spelled ends some in
@@ -129,7 +136,8 @@ none_left tables (row ∷ later) same =
       length-number_bytes row.table,
     ))
 
-pub read_all : (tables : List TableDef) (bytes : List ℕ) (rows : List TableRow) → HasRead tables bytes rows [] → Spells rows_bytes (AreSpelled tables) bytes rows
+pub read_all : (tables : List TableDef) (bytes : List ℕ) (rows : List TableRow) → HasRead tables bytes rows []
+    → Spells rows_bytes (AreSpelled tables) bytes rows
 read_all tables bytes rows before = record {
   is = before.are;
   bytes_are = before.bytes_are ∙ append-nil (rows_bytes rows);
@@ -163,7 +171,8 @@ rise_none rows place least past = subst (λ l. RiseFrom least l) (sym (drop_all 
 pub row_spelled : (tables : List TableDef) (row : TableRow) → Fits tables row → IsRow (length row.row.cells) row.row → IsTableRow tables row
 row_spelled tables row fits is = record { there = fits.there; spelled = subst (λ n. IsRow n row.row) fits.cells is }
 
-pub fits_at : (tables : List TableDef) (rows : List TableRow) (place : ℕ) (row : TableRow) → AllByRecursion (Fits tables) rows → place < length rows
+pub fits_at : (tables : List TableDef) (rows : List TableRow) (place : ℕ) (row : TableRow) → AllByRecursion (Fits tables) rows
+    → place < length rows
     → row ≡ get_or rows place row → Fits tables row
 fits_at tables [] place row each within is = absurd (omega arith)
 fits_at tables (first ∷ rows) zero row each within is = subst (Fits tables) (sym is) each.0

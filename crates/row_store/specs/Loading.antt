@@ -1,5 +1,6 @@
 -- The rows of all objects of a store, or those of one table.
-use Rattle.std.specs.Prelude.{◌≡◌, ◌⊎◌, ◌||◌, ◌/◌, ◌%◌, ℕ, nat_eq, Bool, true, is_err, List, [], ◌∷◌, Option, None, Some, Result, if◌then◌else◌}
+use Rattle.std.specs.Prelude.{◌≡◌, ◌⊎◌, ◌||◌, ◌/◌, ◌%◌, ℕ, nat_eq, Bool, true, is_err, List, [], ◌∷◌, Option, None, Some, Result}
+use Rattle.std.specs.Prelude.{if◌then◌else◌}
 use Rattle.std.specs.FinMap as map
 use Rattle.outside.specs.declared.disk.Disk.{Ghosts}
 use Rattle.osm_base.specs.declared.values.key.Kind.TheVariants as kinds
@@ -52,7 +53,8 @@ abbrev pub RowsBySpot : Type 0
 RowsBySpot = SpotOf → Option Row
 
 -- the bytes that a map has under a number tell the wanted rows of its key
-pub record IsTold (definitions : List TableDef) (wanted : Option ℕ) (which : ℕ) (rows : RowsBySpot) (number : ℕ) (bytes : List ℕ) : Type 0 where
+pub record IsTold (definitions : List TableDef) (wanted : Option ℕ) (which : ℕ) (rows : RowsBySpot) (number : ℕ)
+    (bytes : List ℕ) : Type 0 where
   pub own : List TableRow
   pub are : AreRows definitions own
   pub bytes_are : bytes ≡ rows_bytes own

@@ -1,5 +1,6 @@
 -- Numbers and coordinates are written in ASCII.
-use Rattle.std.proofs.Common.{ℕ, zero, suc, ◌+◌, ◌-◌, ◌/◌, ◌%◌, ◌<◌, true, false, cond, eqb, ltb, List, [], ◌∷◌, ◌++◌, length, drop, reverse, arith}
+use Rattle.std.proofs.Common.{ℕ, zero, suc, ◌+◌, ◌-◌, ◌/◌, ◌%◌, ◌<◌, true, false, cond, eqb, ltb, List, [], ◌∷◌, ◌++◌, length, drop}
+use Rattle.std.proofs.Common.{reverse, arith}
 use Rattle.std.specs.Prelude.{decimal, codes, replicate, unsigned_abs, ℤ}
 use Rattle.std.specs.Fmt.{digits, digits_onto, digit_glyph}
 use Rattle.std.specs.Int.{is_negative}
@@ -11,13 +12,16 @@ use Rattle.std.proofs.lemmas.Str.Ascii.{IsAscii-nil, IsAscii-cons, IsAscii-from_
 use Rattle.osm_base.specs.values.Degrees.{is_zero, padded, trimmed, fraction, degrees}
 
 glyph_below : (d : ℕ) → d < 10 → digit_glyph false d < 128
-glyph_below d below = elim (ltb d 10) as (λ b. cond b (48 + d) (cond false (55 + d) (87 + d)) < 128) [ true ↦ omega arith | false ↦ omega arith ]
+glyph_below d below = elim (ltb d 10) as
+    (λ b. cond b (48 + d) (cond false (55 + d) (87 + d)) < 128) [ true ↦ omega arith | false ↦ omega arith ]
 
 IsAscii-digits_onto : (k n : ℕ) (after : List ℕ) → IsAscii after → IsAscii (digits_onto k 10 false n after)
 IsAscii-digits_onto zero n after h = h
 IsAscii-digits_onto (suc k) n after h =
-    let more : IsAscii (digit_glyph false (n % 10) ∷ after) = IsAscii-cons (digit_glyph false (n % 10)) after (glyph_below (n % 10) (omega arith)) h in
-    elim (eqb (n / 10) 0) as (λ b. IsAscii (cond b (digit_glyph false (n % 10) ∷ after) (digits_onto k 10 false (n / 10) (digit_glyph false (n % 10) ∷ after)))) [
+    let more : IsAscii (digit_glyph false (n % 10) ∷ after) =
+    IsAscii-cons (digit_glyph false (n % 10)) after (glyph_below (n % 10) (omega arith)) h in
+    elim (eqb (n / 10) 0) as (λ b. IsAscii (cond b (digit_glyph false (n % 10) ∷ after)
+    (digits_onto k 10 false (n / 10) (digit_glyph false (n % 10) ∷ after)))) [
       | true ↦ more
       | false ↦ IsAscii-digits_onto k (n / 10) (digit_glyph false (n % 10) ∷ after) more
     ]
@@ -46,11 +50,13 @@ unfolding fraction
 IsAscii-fraction units = elim (eqb units 0) as (λ b. IsAscii (cond b [] (codes "." ++ trimmed (padded 7 (decimal units))))) [
   | true ↦ IsAscii-nil
   | false ↦ IsAscii-cons 46 (trimmed (padded 7 (decimal units))) (omega arith) (IsAscii-trimmed (padded 7 (decimal units))
-      (IsAscii-append (replicate (7 - length (decimal units)) 48) (decimal units) (IsAscii-zeros (7 - length (decimal units))) (IsAscii-decimal units)))
+      (IsAscii-append (replicate (7 - length (decimal units)) 48) (decimal units) (IsAscii-zeros (7 - length (decimal units)))
+      (IsAscii-decimal units)))
 ]
 
 IsAscii-size : (size : ℕ) → IsAscii (decimal (size / 10000000) ++ fraction (size % 10000000))
-IsAscii-size size = IsAscii-append (decimal (size / 10000000)) (fraction (size % 10000000)) (IsAscii-decimal (size / 10000000)) (IsAscii-fraction (size % 10000000))
+IsAscii-size size = IsAscii-append (decimal (size / 10000000)) (fraction (size % 10000000)) (IsAscii-decimal (size / 10000000))
+    (IsAscii-fraction (size % 10000000))
 
 IsAscii-degrees : (units : ℤ) → IsAscii (degrees units)
 unfolding degrees

@@ -1,5 +1,6 @@
 -- Texts that need no escape, and the escapes of characters.
-use Rattle.std.proofs.Common.{◌≡◌, ℕ, suc, ◌<◌, ◌≤◌, Bool, true, false, ◌||◌, List, [], ◌∷◌, ◌++◌, length, get_or, ltb, refl, sym, ◌∙◌, ap, arith}
+use Rattle.std.proofs.Common.{◌≡◌, ℕ, suc, ◌<◌, ◌≤◌, Bool, true, false, ◌||◌, List, [], ◌∷◌, ◌++◌, length, get_or, ltb, refl, sym, ◌∙◌, ap}
+use Rattle.std.proofs.Common.{arith}
 use Rattle.std.proofs.lemmas.Bool.Decides.{nat_tests}
 use Rattle.std.proofs.lemmas.List.{append-nil}
 use Rattle.std.proofs.lemmas.Str.{encode_ascii, inside_one}
@@ -40,9 +41,11 @@ none_past (byte ∷ bytes) h =
 -- the bytes of a character past ASCII are past it
 bytes_past : (character : ℕ) → 128 ≤ character → (k : ℕ) → k < length (encode_utf8 character) → 128 ≤ get_or (encode_utf8 character) k 0
 bytes_past character far k below =
-    elim (ltb (get_or (encode_utf8 character) k 0) 128) as (λ b. ltb (get_or (encode_utf8 character) k 0) 128 ≡ b → 128 ≤ get_or (encode_utf8 character) k 0) [
+    elim (ltb (get_or (encode_utf8 character) k 0) 128) as
+    (λ b. ltb (get_or (encode_utf8 character) k 0) 128 ≡ b → 128 ≤ get_or (encode_utf8 character) k 0) [
       | true ↦ λ e.
-          let same = inside_one character [] (encode_utf8 character) k (sym (append-nil (encode_utf8 character))) below (grind (arith, nat_tests)) in
+          let same = inside_one character [] (encode_utf8 character) k (sym (append-nil (encode_utf8 character))) below
+          (grind (arith, nat_tests)) in
           absurd (grind (arith, nat_tests))
       | false ↦ λ e. grind (arith, nat_tests)
     ] refl

@@ -1,5 +1,6 @@
 -- Pairs in the order of their first parts, under an order that is total and ties no two.
-use Rattle.std.proofs.Common.{◌≡◌, ◌≢◌, ℕ, zero, suc, ◌+◌, ◌<◌, ◌≤◌, Bool, true, false, cond, ◌&&◌, T, Some, None, List, [], ◌∷◌, length, drop, map, get_or, length-drop, refl, sym, ◌∙◌, ap, subst, arith}
+use Rattle.std.proofs.Common.{◌≡◌, ◌≢◌, ℕ, zero, suc, ◌+◌, ◌<◌, ◌≤◌, Bool, true, false, cond, ◌&&◌, T, Some, None, List, [], ◌∷◌, length}
+use Rattle.std.proofs.Common.{drop, map, get_or, length-drop, refl, sym, ◌∙◌, ap, subst, arith}
 use Rattle.std.proofs.lemmas.Cmp.{tied_itself}
 use Rattle.std.proofs.lemmas.List.{drop-map, drop_more, length-map}
 use Rattle.std.proofs.lemmas.List.Sorted.{ranks_by, Contains-permutation, IsPermutation-map, IsPermutation-sym}
@@ -74,7 +75,8 @@ module _ {K X : Type 0} (R : K → K → Ordering) (total : IsTotalOrder R) (sam
 
   -- what rises under another order stands once under this one
   module _ (C : K → K → Ordering) (whole : IsTotalOrder C) where
-    apart : (key : K) (pairs : List (K × X)) → T (below_all C key pairs) → AllByRecursion (λ other. eq_by_cmp R key other ≡ false) (map (λ pair. pair.0) pairs)
+    apart : (key : K) (pairs : List (K × X)) → T (below_all C key pairs)
+        → AllByRecursion (λ other. eq_by_cmp R key other ≡ false) (map (λ pair. pair.0) pairs)
     apart key [] h = tt
     apart key (pair ∷ pairs) h = (differ R total same C whole key pair.0 (less _ (both_left _ _ h)), apart key pairs (both_right _ _ h))
 
@@ -90,7 +92,8 @@ module _ {K X : Type 0} (R : K → K → Ordering) (total : IsTotalOrder R) (sam
       let first : R key pair.0 ≡ Less = total.trans key other pair.0 e (less _ (both_left _ _ h)) in
       rw first (below_all-more key other pairs e (both_right _ _ h))
 
-  is_sorted-more : (pair next : K × X) (pairs : List (K × X)) → R pair.0 next.0 ≡ Less → T (is_sorted R (next ∷ pairs)) → T (is_sorted R (pair ∷ next ∷ pairs))
+  is_sorted-more : (pair next : K × X) (pairs : List (K × X)) → R pair.0 next.0 ≡ Less → T (is_sorted R (next ∷ pairs))
+      → T (is_sorted R (pair ∷ next ∷ pairs))
   is_sorted-more pair next pairs e h =
       let below : below_all R pair.0 (next ∷ pairs) ≡ below_all R pair.0 pairs = rw e refl in
       subst (λ b. T (b && is_sorted R (next ∷ pairs))) (sym below)
@@ -120,7 +123,8 @@ module _ {K X : Type 0} (R : K → K → Ordering) (total : IsTotalOrder R) (sam
   found : (pairs : List (K × X)) (key : K) (value : X) → find R key pairs ≡ Some value → Contains pairs (key, value)
   found [] key value e = absurd (cc)
   found (pair ∷ pairs) key value e =
-      elim (R key pair.0) as (λ o. R key pair.0 ≡ o → cond (is_eq o) (Some pair.1) (find R key pairs) ≡ Some value → Contains (pair ∷ pairs) (key, value)) [
+      elim (R key pair.0) as (λ o. R key pair.0 ≡ o → cond (is_eq o) (Some pair.1) (find R key pairs) ≡ Some value
+      → Contains (pair ∷ pairs) (key, value)) [
         | Less ↦ λ is e. let rest = found pairs key value e in (suc rest.0, omega (arith, rest.1), rest.2)
         | Equal ↦ λ is e.
             let own : pair.1 ≡ value = cc in
@@ -129,7 +133,8 @@ module _ {K X : Type 0} (R : K → K → Ordering) (total : IsTotalOrder R) (sam
         | Greater ↦ λ is e. let rest = found pairs key value e in (suc rest.0, omega (arith, rest.1), rest.2)
       ] refl e
 
-  differs : (P : K → Type 0) (pairs : List (K × X)) (pair : K × X) → AllByRecursion P (map (λ own. own.0) pairs) → Contains pairs pair → P pair.0
+  differs : (P : K → Type 0) (pairs : List (K × X)) (pair : K × X) → AllByRecursion P (map (λ own. own.0) pairs) → Contains pairs pair
+      → P pair.0
   differs P [] pair h c = absurd (omega (arith, c.1))
   differs P (first ∷ pairs) pair h (zero, below, is) = subst (λ own. P own.0) is h.0
   differs P (first ∷ pairs) pair h (suc k, below, is) = differs P pairs pair h.1 (k, omega (arith, below), is)
@@ -149,10 +154,13 @@ module _ {K X : Type 0} (R : K → K → Ordering) (total : IsTotalOrder R) (sam
       (eq_by_cmp_equiv total).symm key pair.0 ∙ differs (λ own. eq_by_cmp R pair.0 own ≡ false) pairs (key, value) once.0 rest in
       ap (λ b. cond b (Some pair.1) (find R key pairs)) other ∙ found_once pairs key value once.1 rest
 
-  found_still : (pairs others : List (K × X)) → IsPermutation pairs others → IsOnce others → (key : K) (value : X) → find R key pairs ≡ Some value → find R key others ≡ Some value
-  found_still pairs others p once key value e = found_once others key value once (Contains-permutation pairs others (key, value) p (found pairs key value e))
+  found_still : (pairs others : List (K × X)) → IsPermutation pairs others → IsOnce others → (key : K) (value : X)
+      → find R key pairs ≡ Some value → find R key others ≡ Some value
+  found_still pairs others p once key value e =
+      found_once others key value once (Contains-permutation pairs others (key, value) p (found pairs key value e))
 
-  same_answers : (pairs others : List (K × X)) → IsPermutation pairs others → IsOnce pairs → IsOnce others → (key : K) → find R key others ≡ find R key pairs
+  same_answers : (pairs others : List (K × X)) → IsPermutation pairs others → IsOnce pairs → IsOnce others → (key : K)
+      → find R key others ≡ find R key pairs
   same_answers pairs others p once once_too key =
       elim (find R key pairs) as (λ answer. find R key pairs ≡ answer → find R key others ≡ answer) [
         | Some value ↦ λ e. found_still pairs others p once_too key value e
@@ -165,13 +173,16 @@ module _ {K X : Type 0} (R : K → K → Ordering) (total : IsTotalOrder R) (sam
 
   pub IsOnce-IsPermutation : (pairs others : List (K × X)) → IsPermutation pairs others → IsOnce pairs → IsOnce others
   IsOnce-IsPermutation pairs others p h =
-      IsDistinct-IsPermutation (eq_by_cmp R) (λ x y. (eq_by_cmp_equiv total).symm x y) _ _ (IsPermutation-map (λ pair. pair.0) pairs others p) h
+      IsDistinct-IsPermutation (eq_by_cmp R) (λ x y. (eq_by_cmp_equiv total).symm x y) _ _
+      (IsPermutation-map (λ pair. pair.0) pairs others p) h
 
   -- pairs that rise are the entries of the map of the same pairs in another order
-  pub in_order : (pairs others : List (K × X)) → IsPermutation pairs others → IsOnce pairs → T (is_sorted R others) → others ≡ finite.entries (finite.from_entries {R = R} pairs)
+  pub in_order : (pairs others : List (K × X)) → IsPermutation pairs others → IsOnce pairs → T (is_sorted R others)
+      → others ≡ finite.entries (finite.from_entries {R = R} pairs)
   in_order pairs others p once rising =
       let one : finite.from_entries {R = R} others ≡ finite.from_entries pairs = finite.same_map total same _ _ (λ key.
-      finite.get-from_entries total others key ∙ same_answers pairs others p once (IsOnce-IsPermutation pairs others p once) key ∙ sym (finite.get-from_entries total pairs key)) in
+      finite.get-from_entries total others key ∙ same_answers pairs others p once (IsOnce-IsPermutation pairs others p once) key
+      ∙ sym (finite.get-from_entries total pairs key)) in
       sym (entries-from_entries others rising) ∙ ap finite.entries one
 
   -- ---- a walk along a list of what is seen as pairs
@@ -190,11 +201,13 @@ module _ {K X : Type 0} (R : K → K → Ordering) (total : IsTotalOrder R) (sam
     -- what a sort by the keys ensures
     pub sorted_by_key : {F : Type 0} {g : Mut F (Bor A × (Bor A × Unit {0})) Ordering} {f : F} (xs : List A)
         → ((lt : A → A → Bool) → IsStrictWeakOrder lt → ComparesAs g lt f → IsSortedBy lt xs)
-        → ((a : Bor A × (Bor A × Unit {0})) (r : Ordering) (f' : F) → Called g f a r f' → (r ≡ R (seen a.0.now).0 (seen a.1.0.now).0) × (f' ≡ f))
+        → ((a : Bor A × (Bor A × Unit {0})) (r : Ordering) (f' : F) → Called g f a r f'
+        → (r ≡ R (seen a.0.now).0 (seen a.1.0.now).0) × (f' ≡ f))
         → IsSortedByKey (λ a. (seen a).0) R xs
     sorted_by_key {g = g} {f = f} xs up h =
         up (λ x y. is_lt (R (seen x).0 (seen y).0)) (ranks_by total (λ a. (seen a).0))
-        (always_returns_same g (λ a r. is_lt r ≡ is_lt (R (seen a.0.now).0 (seen a.1.0.now).0)) f (λ a r f' k. (ap is_lt (h a r f' k).0, (h a r f' k).1)))
+        (always_returns_same g (λ a r. is_lt r ≡ is_lt (R (seen a.0.now).0 (seen a.1.0.now).0)) f
+        (λ a r f' k. (ap is_lt (h a r f' k).0, (h a r f' k).1)))
 
     -- what is sorted and stands once rises
     pub rising-once : (xs : List A) → IsSortedByKey (λ a. (seen a).0) R xs → IsOnce (map seen xs) → T (is_sorted R (map seen xs))
@@ -202,7 +215,8 @@ module _ {K X : Type 0} (R : K → K → Ordering) (total : IsTotalOrder R) (sam
     rising-once [] up once = tt
     rising-once (x ∷ []) up once = tt
     rising-once (x ∷ next ∷ xs) up once =
-        is_sorted-more (seen x) (seen next) (map seen xs) (rises R total same (seen x).0 (seen next).0 (up 0 x (omega arith) (omega arith)) once.0.0)
+        is_sorted-more (seen x) (seen next) (map seen xs)
+        (rises R total same (seen x).0 (seen next).0 (up 0 x (omega arith) (omega arith)) once.0.0)
         (rising-once (next ∷ xs) (λ k d a b.
         subst (λ n. is_lt (R (seen (get_or (x ∷ next ∷ xs) n d)).0 (seen (get_or (next ∷ xs) k d)).0) ≡ false)
         (suc_one k) (up (suc k) d (omega arith) (omega arith))) once.1)
@@ -211,21 +225,24 @@ module _ {K X : Type 0} (R : K → K → Ordering) (total : IsTotalOrder R) (sam
     pub is_sorted-last : (xs : List A) (n : ℕ) → length xs ≤ n + 1 → T (is_sorted R (drop n (map seen xs)))
     is_sorted-last xs n h = few_left (drop n (map seen xs)) (omega (arith, length-drop n (map seen xs), length-map xs seen))
 
-    module _ (xs : List A) (n : ℕ) (first second : A) (within : n + 1 < length xs) (first_is : first ≡ get_or xs n first) (second_is : second ≡ get_or xs (n + 1) second) where
+    module _ (xs : List A) (n : ℕ) (first second : A) (within : n + 1 < length xs) (first_is : first ≡ get_or xs n first)
+        (second_is : second ≡ get_or xs (n + 1) second) where
       own : drop n (map seen xs) ≡ seen first ∷ drop (n + 1) (map seen xs)
       own = drop-map seen n xs ∙ ap (map seen) (drop_more xs n first (omega arith))
           ∙ ap (λ a. seen a ∷ map seen (drop (n + 1) xs)) (sym first_is) ∙ ap (λ rest. seen first ∷ rest) (sym (drop-map seen (n + 1) xs))
 
       later : drop (n + 1) (map seen xs) ≡ seen second ∷ drop (n + 1 + 1) (map seen xs)
       later = drop-map seen (n + 1) xs ∙ ap (map seen) (drop_more xs (n + 1) second within)
-          ∙ ap (λ a. seen a ∷ map seen (drop (n + 1 + 1) xs)) (sym second_is) ∙ ap (λ rest. seen second ∷ rest) (sym (drop-map seen (n + 1 + 1) xs))
+          ∙ ap (λ a. seen a ∷ map seen (drop (n + 1 + 1) xs)) (sym second_is)
+          ∙ ap (λ rest. seen second ∷ rest) (sym (drop-map seen (n + 1 + 1) xs))
 
       -- a step of it
       pub goes_on : R (seen first).0 (seen second).0 ≡ Less → (T (is_sorted R (drop n (map seen xs))) → T (is_sorted R (map seen xs)))
           → T (is_sorted R (drop (n + 1) (map seen xs))) → T (is_sorted R (map seen xs))
       goes_on e all rest =
           all (subst (λ pairs. T (is_sorted R pairs)) (sym (own ∙ ap (λ back. seen first ∷ back) later))
-          (is_sorted-more (seen first) (seen second) (drop (n + 1 + 1) (map seen xs)) e (subst (λ pairs. T (is_sorted R pairs)) later rest)))
+          (is_sorted-more (seen first) (seen second) (drop (n + 1 + 1) (map seen xs)) e
+          (subst (λ pairs. T (is_sorted R pairs)) later rest)))
 
       -- the keys do not rise here
       pub stops : R (seen first).0 (seen second).0 ≢ Less → T (is_sorted R (map seen xs)) → ⊥

@@ -22,7 +22,8 @@ cell_text (cells.Int number) = signed_decimal number
 -- the number of a row, its cells and its geometry
 unfoldable pub row_line : ℤ → Row → List ℕ
 row_line number row =
-    signed_decimal number ++ flat_map (λ cell. codes "\t" ++ cell_text cell) row.cells ++ codes "\t" ++ geometry_text row.geometry ++ codes "\n"
+    signed_decimal number ++ flat_map (λ cell. codes "\t" ++ cell_text cell) row.cells ++ codes "\t" ++ geometry_text row.geometry
+    ++ codes "\n"
 
 -- a row of one cell, a text
 abbrev pub text_row : List ℕ → Geometry → Row

@@ -16,7 +16,9 @@ use Rattle.opl_object.specs.declared.why.Why.{Why}
 use Rattle.opl_object.specs.declared.why.Why.TheVariants as causes
 use Rattle.opl_object.specs.Why.{number_of}
 use Rattle.run_promise.specs.declared.fault.Fault.{Fault}
-use Rattle.run_promise.specs.declared.fault.Fault.TheVariants.{Usage, Malformed, BadStyle, BadBounds, BadQuery, Limit, ReadFault, NotFormatted, NotEmpty, NotImported, AlreadyImported, OldFormat, UnknownTable, BadStore, WriteFault, DiskFault, OutOfMemory}
+use Rattle.run_promise.specs.declared.fault.Fault.TheVariants.{Usage, Malformed, BadStyle, BadBounds, BadQuery, Limit, ReadFault}
+use Rattle.run_promise.specs.declared.fault.Fault.TheVariants.{NotFormatted, NotEmpty, NotImported, AlreadyImported, OldFormat}
+use Rattle.run_promise.specs.declared.fault.Fault.TheVariants.{UnknownTable, BadStore, WriteFault, DiskFault, OutOfMemory}
 use Rattle.style_read.specs.declared.fault.StylePart.{StylePart}
 use Rattle.style_read.specs.declared.fault.StylePart.TheVariants as parts
 use Rattle.style_read.specs.Why.{number_of as style_number}
@@ -28,13 +30,16 @@ IsAscii-cons byte bytes first others zero = first
 IsAscii-cons byte bytes first others (suc i) = others i
 
 glyph_below : (d : ℕ) → d < 10 → digit_glyph false d < 128
-glyph_below d below = elim (ltb d 10) as (λ b. cond b (48 + d) (cond false (55 + d) (87 + d)) < 128) [ true ↦ omega arith | false ↦ omega arith ]
+glyph_below d below = elim (ltb d 10) as
+    (λ b. cond b (48 + d) (cond false (55 + d) (87 + d)) < 128) [ true ↦ omega arith | false ↦ omega arith ]
 
 IsAscii-digits_onto : (k n : ℕ) (after : List ℕ) → IsAscii after → IsAscii (digits_onto k 10 false n after)
 IsAscii-digits_onto zero n after h = h
 IsAscii-digits_onto (suc k) n after h =
-    let more : IsAscii (digit_glyph false (n % 10) ∷ after) = IsAscii-cons (digit_glyph false (n % 10)) after (glyph_below (n % 10) (omega arith)) h in
-    elim (eqb (n / 10) 0) as (λ b. IsAscii (cond b (digit_glyph false (n % 10) ∷ after) (digits_onto k 10 false (n / 10) (digit_glyph false (n % 10) ∷ after)))) [
+    let more : IsAscii (digit_glyph false (n % 10) ∷ after) =
+    IsAscii-cons (digit_glyph false (n % 10)) after (glyph_below (n % 10) (omega arith)) h in
+    elim (eqb (n / 10) 0) as (λ b. IsAscii (cond b (digit_glyph false (n % 10) ∷ after)
+    (digits_onto k 10 false (n / 10) (digit_glyph false (n % 10) ∷ after)))) [
       | true ↦ more
       | false ↦ IsAscii-digits_onto k (n / 10) (digit_glyph false (n % 10) ∷ after) more
     ]
@@ -71,8 +76,10 @@ IsAscii-limit_text kinds.Changes = IsAscii-words (codes "changes") refl
 
 IsAscii-order_text : (why : Why) → IsAscii (order_text why)
 IsAscii-order_text (causes.Order earlier later) =
-    let first : IsAscii (codes " " ++ key_text earlier) = IsAscii-append (codes " ") (key_text earlier) (IsAscii-words (codes " ") refl) (IsAscii-key_text earlier) in
-    let space : IsAscii (codes " " ++ key_text earlier ++ codes " ") = IsAscii-append (codes " " ++ key_text earlier) (codes " ") first (IsAscii-words (codes " ") refl) in
+    let first : IsAscii (codes " " ++ key_text earlier) =
+    IsAscii-append (codes " ") (key_text earlier) (IsAscii-words (codes " ") refl) (IsAscii-key_text earlier) in
+    let space : IsAscii (codes " " ++ key_text earlier ++ codes " ") =
+    IsAscii-append (codes " " ++ key_text earlier) (codes " ") first (IsAscii-words (codes " ") refl) in
     IsAscii-append (codes " " ++ key_text earlier ++ codes " ") (key_text later) space (IsAscii-key_text later)
 IsAscii-order_text causes.Utf8 = IsAscii-nil
 IsAscii-order_text causes.Kind = IsAscii-nil
@@ -87,16 +94,24 @@ IsAscii-order_text causes.RepeatedKey = IsAscii-nil
 IsAscii-order_text causes.Member = IsAscii-nil
 IsAscii-order_text causes.HalfPlace = IsAscii-nil
 
-IsAscii-malformed : (file line number : ℕ) → IsAscii (codes "malformed file " ++ decimal file ++ codes " line " ++ decimal line ++ codes " cause " ++ decimal number)
+IsAscii-malformed : (file line number : ℕ)
+    → IsAscii (codes "malformed file " ++ decimal file ++ codes " line " ++ decimal line ++ codes " cause " ++ decimal number)
 IsAscii-malformed file line number =
-    let in_file : IsAscii (codes "malformed file " ++ decimal file) = IsAscii-append (codes "malformed file ") (decimal file) (IsAscii-words (codes "malformed file ") refl) (IsAscii-any_decimal file) in
-    let at : IsAscii (codes "malformed file " ++ decimal file ++ codes " line ") = IsAscii-append (codes "malformed file " ++ decimal file) (codes " line ") in_file (IsAscii-words (codes " line ") refl) in
-    let in_line : IsAscii (codes "malformed file " ++ decimal file ++ codes " line " ++ decimal line) = IsAscii-append (codes "malformed file " ++ decimal file ++ codes " line ") (decimal line) at (IsAscii-any_decimal line) in
-    let of : IsAscii (codes "malformed file " ++ decimal file ++ codes " line " ++ decimal line ++ codes " cause ") = IsAscii-append (codes "malformed file " ++ decimal file ++ codes " line " ++ decimal line) (codes " cause ") in_line (IsAscii-words (codes " cause ") refl) in
-    IsAscii-append (codes "malformed file " ++ decimal file ++ codes " line " ++ decimal line ++ codes " cause ") (decimal number) of (IsAscii-any_decimal number)
+    let in_file : IsAscii (codes "malformed file " ++ decimal file) =
+    IsAscii-append (codes "malformed file ") (decimal file) (IsAscii-words (codes "malformed file ") refl) (IsAscii-any_decimal file) in
+    let at : IsAscii (codes "malformed file " ++ decimal file ++ codes " line ") =
+    IsAscii-append (codes "malformed file " ++ decimal file) (codes " line ") in_file (IsAscii-words (codes " line ") refl) in
+    let in_line : IsAscii (codes "malformed file " ++ decimal file ++ codes " line " ++ decimal line) =
+    IsAscii-append (codes "malformed file " ++ decimal file ++ codes " line ") (decimal line) at (IsAscii-any_decimal line) in
+    let of : IsAscii (codes "malformed file " ++ decimal file ++ codes " line " ++ decimal line ++ codes " cause ") =
+    IsAscii-append (codes "malformed file " ++ decimal file ++ codes " line " ++ decimal line) (codes " cause ") in_line
+    (IsAscii-words (codes " cause ") refl) in
+    IsAscii-append (codes "malformed file " ++ decimal file ++ codes " line " ++ decimal line ++ codes " cause ") (decimal number) of
+    (IsAscii-any_decimal number)
 
 -- words and a number, and then the same again
-IsAscii-two : (one other : List ℕ) (first second : ℕ) → IsAscii one → IsAscii other → IsAscii (one ++ decimal first ++ other ++ decimal second)
+IsAscii-two : (one other : List ℕ) (first second : ℕ) → IsAscii one → IsAscii other
+    → IsAscii (one ++ decimal first ++ other ++ decimal second)
 IsAscii-two one other first second h k =
     let in_one : IsAscii (one ++ decimal first) = IsAscii-append one (decimal first) h (IsAscii-any_decimal first) in
     let at : IsAscii (one ++ decimal first ++ other) = IsAscii-append (one ++ decimal first) other in_one k in
@@ -104,40 +119,55 @@ IsAscii-two one other first second h k =
 
 IsAscii-part_text : (part : StylePart) → IsAscii (part_text part)
 IsAscii-part_text parts.Top = IsAscii-words (codes "top") refl
-IsAscii-part_text (parts.Selection number) = IsAscii-append (codes "selection ") (decimal number) (IsAscii-words (codes "selection ") refl) (IsAscii-any_decimal number)
-IsAscii-part_text (parts.Table number) = IsAscii-append (codes "table ") (decimal number) (IsAscii-words (codes "table ") refl) (IsAscii-any_decimal number)
+IsAscii-part_text (parts.Selection number) =
+    IsAscii-append (codes "selection ") (decimal number) (IsAscii-words (codes "selection ") refl) (IsAscii-any_decimal number)
+IsAscii-part_text (parts.Table number) =
+    IsAscii-append (codes "table ") (decimal number) (IsAscii-words (codes "table ") refl) (IsAscii-any_decimal number)
 
-IsAscii-bad_style : (file number : ℕ) → IsAscii (codes "bad style file " ++ decimal file ++ codes " cause " ++ decimal number ++ codes " part ")
-IsAscii-bad_style file number = IsAscii-append (codes "bad style file " ++ decimal file ++ codes " cause " ++ decimal number) (codes " part ")
-    (IsAscii-two (codes "bad style file ") (codes " cause ") file number (IsAscii-words (codes "bad style file ") refl) (IsAscii-words (codes " cause ") refl))
+IsAscii-bad_style : (file number : ℕ) → IsAscii
+    (codes "bad style file " ++ decimal file ++ codes " cause " ++ decimal number ++ codes " part ")
+IsAscii-bad_style file number = IsAscii-append (codes "bad style file " ++ decimal file ++ codes " cause " ++ decimal number)
+    (codes " part ")
+    (IsAscii-two (codes "bad style file ") (codes " cause ") file number (IsAscii-words (codes "bad style file ") refl)
+    (IsAscii-words (codes " cause ") refl))
     (IsAscii-words (codes " part ") refl)
 
 IsAscii-fault_text : (fault : Fault) → IsAscii (fault_text fault)
 IsAscii-fault_text Usage = IsAscii-words (codes "usage") refl
 IsAscii-fault_text (Malformed file line why) =
-    IsAscii-append (codes "malformed file " ++ decimal file ++ codes " line " ++ decimal line ++ codes " cause " ++ decimal (number_of why)) (order_text why)
+    IsAscii-append (codes "malformed file " ++ decimal file ++ codes " line " ++ decimal line ++ codes " cause " ++ decimal (number_of why))
+    (order_text why)
     (IsAscii-malformed file line (number_of why)) (IsAscii-order_text why)
 IsAscii-fault_text (BadStyle file why part) =
-    IsAscii-append (codes "bad style file " ++ decimal file ++ codes " cause " ++ decimal (style_number why) ++ codes " part ") (part_text part)
+    IsAscii-append (codes "bad style file " ++ decimal file ++ codes " cause " ++ decimal (style_number why) ++ codes " part ")
+    (part_text part)
     (IsAscii-bad_style file (style_number why)) (IsAscii-part_text part)
 IsAscii-fault_text (BadBounds file line) =
-    IsAscii-two (codes "bad bounds file ") (codes " line ") file line (IsAscii-words (codes "bad bounds file ") refl) (IsAscii-words (codes " line ") refl)
-IsAscii-fault_text (BadQuery file line why) = IsAscii-append (codes "bad query file " ++ decimal file ++ codes " line " ++ decimal line ++ codes " cause ") (decimal (query_number why))
+    IsAscii-two (codes "bad bounds file ") (codes " line ") file line (IsAscii-words (codes "bad bounds file ") refl)
+    (IsAscii-words (codes " line ") refl)
+IsAscii-fault_text (BadQuery file line why) =
+    IsAscii-append (codes "bad query file " ++ decimal file ++ codes " line " ++ decimal line ++ codes " cause ")
+    (decimal (query_number why))
     (IsAscii-append (codes "bad query file " ++ decimal file ++ codes " line " ++ decimal line) (codes " cause ")
-    (IsAscii-two (codes "bad query file ") (codes " line ") file line (IsAscii-words (codes "bad query file ") refl) (IsAscii-words (codes " line ") refl)) (IsAscii-words (codes " cause ") refl))
+    (IsAscii-two (codes "bad query file ") (codes " line ") file line (IsAscii-words (codes "bad query file ") refl)
+    (IsAscii-words (codes " line ") refl)) (IsAscii-words (codes " cause ") refl))
     (IsAscii-any_decimal (query_number why))
 IsAscii-fault_text (Limit which value) =
-    let name : IsAscii (codes "limit " ++ limit_text which) = IsAscii-append (codes "limit ") (limit_text which) (IsAscii-words (codes "limit ") refl) (IsAscii-limit_text which) in
-    let before : IsAscii (codes "limit " ++ limit_text which ++ codes " value ") = IsAscii-append (codes "limit " ++ limit_text which) (codes " value ") name (IsAscii-words (codes " value ") refl) in
+    let name : IsAscii (codes "limit " ++ limit_text which) =
+    IsAscii-append (codes "limit ") (limit_text which) (IsAscii-words (codes "limit ") refl) (IsAscii-limit_text which) in
+    let before : IsAscii (codes "limit " ++ limit_text which ++ codes " value ") =
+    IsAscii-append (codes "limit " ++ limit_text which) (codes " value ") name (IsAscii-words (codes " value ") refl) in
     IsAscii-append (codes "limit " ++ limit_text which ++ codes " value ") (decimal value) before (IsAscii-any_decimal value)
-IsAscii-fault_text (ReadFault file) = IsAscii-append (codes "read fault file ") (decimal file) (IsAscii-words (codes "read fault file ") refl) (IsAscii-any_decimal file)
+IsAscii-fault_text (ReadFault file) = IsAscii-append (codes "read fault file ") (decimal file)
+    (IsAscii-words (codes "read fault file ") refl) (IsAscii-any_decimal file)
 IsAscii-fault_text NotFormatted = IsAscii-words (codes "not formatted") refl
 IsAscii-fault_text NotEmpty = IsAscii-words (codes "not empty") refl
 IsAscii-fault_text NotImported = IsAscii-words (codes "not imported") refl
 IsAscii-fault_text AlreadyImported = IsAscii-words (codes "already imported") refl
 IsAscii-fault_text OldFormat = IsAscii-words (codes "old format") refl
 IsAscii-fault_text UnknownTable = IsAscii-words (codes "unknown table") refl
-IsAscii-fault_text (BadStore page) = IsAscii-append (codes "bad store page ") (decimal page) (IsAscii-words (codes "bad store page ") refl) (IsAscii-any_decimal page)
+IsAscii-fault_text (BadStore page) = IsAscii-append (codes "bad store page ") (decimal page) (IsAscii-words (codes "bad store page ") refl)
+    (IsAscii-any_decimal page)
 IsAscii-fault_text WriteFault = IsAscii-words (codes "write fault") refl
 IsAscii-fault_text DiskFault = IsAscii-words (codes "disk fault") refl
 IsAscii-fault_text OutOfMemory = IsAscii-words (codes "out of memory") refl

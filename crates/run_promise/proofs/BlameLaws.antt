@@ -1,5 +1,6 @@
 -- What each ending of a course tells: of files that are read in turn, and of something that is to blame.
-use Rattle.std.proofs.Common.{◌≡◌, ◌≢◌, ◌≤◌, ◌<◌, ◌+◌, ◌⊎◌, ℕ, zero, suc, Option, Some, None, List, [], ◌++◌, length, Result, Ok, Err, ⊎_elim, inl, inr, refl, sym, ◌∙◌, ap, subst, arith}
+use Rattle.std.proofs.Common.{◌≡◌, ◌≢◌, ◌≤◌, ◌<◌, ◌+◌, ◌⊎◌, ℕ, zero, suc, Option, Some, None, List, [], ◌++◌, length, Result, Ok, Err}
+use Rattle.std.proofs.Common.{⊎_elim, inl, inr, refl, sym, ◌∙◌, ap, subst, arith}
 use Rattle.std.proofs.lemmas.Bool.{cases_lt}
 use Rattle.osm_base.specs.declared.values.object.Entry.{Entry}
 use Rattle.osm_base.specs.declared.bounds.limits.LimitKind.{LimitKind}
@@ -17,14 +18,16 @@ use Rattle.update_flow.specs.State.{State, formatted, imported, outdated, Step, 
 use Rattle.update_flow.specs.declared.fault.FlowFault.{FlowFault}
 use Rattle.update_flow.specs.declared.fault.FlowFault.TheVariants as flow
 use Rattle.run_promise.specs.Causes.{IsStoreLimit}
-use Rattle.run_promise.specs.Comes.{Breaks, BreaksIn, Comes, HoldsBytes, IsBadStore, IsBroken, IsNoStore, IsOfFile, IsRefusal, IsRefusedFor, IsStepFault, MayTake, refused, short, unread}
+use Rattle.run_promise.specs.Comes.{Breaks, BreaksIn, Comes, HoldsBytes, IsBadStore, IsBroken, IsNoStore, IsOfFile, IsRefusal, IsRefusedFor}
+use Rattle.run_promise.specs.Comes.{IsStepFault, MayTake, refused, short, unread}
 use Rattle.run_promise.specs.Course.{Course, ends, refuses, reads, wants_empty, formats, opens, looks, commits, tells, writes}
 use Rattle.run_promise.specs.Courses.{gathers}
 use Rattle.run_promise.specs.Faults.{flow_fault}
 use Rattle.run_promise.specs.Files.{IsChange}
 use Rattle.run_promise.specs.InTurn.{FaultNames}
 use Rattle.run_promise.specs.Keeps.{first, perhaps, whole, with_step}
-use Rattle.run_promise.specs.Progress.{Standing, unknown, keeps, half_made, Progress, Ending, at, at_file, at_text, past, plus, with_store, made, opened, committed, in_doubt, IsIn}
+use Rattle.run_promise.specs.Progress.{Standing, unknown, keeps, half_made, Progress, Ending, at, at_file, at_text, past, plus, with_store}
+use Rattle.run_promise.specs.Progress.{made, opened, committed, in_doubt, IsIn}
 use Rattle.run_promise.specs.World.{Before}
 use Rattle.run_promise.proofs.CourseLaws.{of_store, of_unknown, of_unused, three}
 
@@ -63,7 +66,8 @@ bad_step : (fault : FlowFault) → IsBadStore fault → IsStepFault fault
 bad_step fault bad = let is = is_bad fault bad in subst IsStepFault (sym is.1) tt
 
 -- no state refuses a step for that
-page_refuses : (state : State) (step : Step) (page : ℕ) (P : Type 0) → Refuses standard state step (Some (flow.Store (stores.BadStore page))) → P
+page_refuses : (state : State) (step : Step) (page : ℕ) (P : Type 0)
+    → Refuses standard state step (Some (flow.Store (stores.BadStore page))) → P
 page_refuses formatted (Import style bytes buckets entries) page P h = absurd (cc)
 page_refuses formatted (Append bounds change) page P h = absurd (cc)
 page_refuses formatted Clear page P h = absurd (cc)
@@ -77,7 +81,8 @@ page_refuses (outdated held) (Append bounds change) page P h = absurd (cc)
 page_refuses (outdated held) Clear page P h = absurd (cc)
 page_refuses (outdated held) Migrate page P h = absurd (cc)
 
-bad_refuses : (state : State) (step : Step) (fault : FlowFault) (P : Type 0) → IsBadStore fault → OrFull standard (Some fault) (Refuses standard state step (Some fault)) → P
+bad_refuses : (state : State) (step : Step) (fault : FlowFault) (P : Type 0) → IsBadStore fault
+    → OrFull standard (Some fault) (Refuses standard state step (Some fault)) → P
 bad_refuses state step fault P bad h =
     let is = is_bad fault bad in
     page_refuses state step is.0 P (subst (λ (own : FlowFault). OrFull standard (Some own) (Refuses standard state step (Some own))) is.1 h)
@@ -169,16 +174,44 @@ module _ (terms : Terms) (old : Before) where
 
   -- at the end something may have been written
   loud : (file : ℕ) (quiet : Type 0) (done : Progress) → UpTo file quiet done → UpTo file ⊥ done
-  loud file quiet done up = record { low = up.low; high = up.high; read = up.read; accepted = up.accepted; only = up.only; unwritten = λ h. absurd h; vague = up.vague }
+  loud file quiet done up = record {
+    low = up.low;
+    high = up.high;
+    read = up.read;
+    accepted = up.accepted;
+    only = up.only;
+    unwritten =
+        λ h. absurd h;
+    vague = up.vague;
+  }
 
   -- a text was written
   written : (file : ℕ) (quiet : Type 0) (text : List ℕ) (done : Progress) → UpTo file quiet done → UpTo file ⊥ (plus text done)
-  written file quiet text done up = record { low = up.low; high = up.high; read = up.read; accepted = up.accepted; only = up.only; unwritten = λ h. absurd h; vague = up.vague }
+  written file quiet text done up = record {
+    low = up.low;
+    high = up.high;
+    read = up.read;
+    accepted = up.accepted;
+    only = up.only;
+    unwritten = λ h. absurd h;
+    vague = up.vague;
+  }
 
   -- the disk stands otherwise
-  stood : (file : ℕ) (quiet : Type 0) (store : Standing) (cut : ℕ) (done : Progress) → (store ≡ unknown → IfTold old.content (λ _. terms.opening)) → UpTo file quiet done
+  stood : (file : ℕ) (quiet : Type 0) (store : Standing) (cut : ℕ) (done : Progress)
+      → (store ≡ unknown → IfTold old.content (λ _. terms.opening)) → UpTo file quiet done
       → UpTo file quiet (record { store = store; cut = cut; read = done.read; written = done.written })
-  stood file quiet store cut done vague up = record { low = up.low; high = up.high; read = up.read; accepted = up.accepted; only = up.only; unwritten = up.unwritten; vague = vague }
+  stood file quiet store cut done vague up =
+      record {
+        low = up.low;
+        high = up.high;
+        read = up.read;
+        accepted = up.accepted;
+        only = up.only;
+        unwritten = up.unwritten;
+        vague =
+            vague;
+      }
 
   told_at : (file : ℕ) (quiet : Type 0) (done : Progress) (fault : Option Fault) → UpTo file quiet done → Blame terms old fault
       → ((other : ℕ) → FaultNames fault other → ⊥) → Tells terms old (at done fault)
@@ -190,7 +223,8 @@ module _ (terms : Terms) (old : Before) where
     names = λ other names. absurd (none other names);
   }
 
-  told_at_text : (file : ℕ) (quiet : Type 0) (text : List ℕ) (done : Progress) → UpTo file quiet done → Tells terms old (at_text text done faults.WriteFault)
+  told_at_text : (file : ℕ) (quiet : Type 0) (text : List ℕ) (done : Progress) → UpTo file quiet done
+      → Tells terms old (at_text text done faults.WriteFault)
   told_at_text file quiet text done up = record {
     file = file;
     up_to = loud file quiet done up;
@@ -199,8 +233,10 @@ module _ (terms : Terms) (old : Before) where
     names = λ other names. absurd names;
   }
 
-  told_at_file : (file own : ℕ) (quiet : Type 0) (done : Progress) (fault : Fault) → own ≡ file → file < terms.end → (terms.early → quiet) → UpTo file quiet done
-      → Blame terms old (Some fault) → ((other : ℕ) → FaultNames (Some fault) other → own ≡ other) → Tells terms old (at_file own done fault)
+  told_at_file : (file own : ℕ) (quiet : Type 0) (done : Progress) (fault : Fault) → own ≡ file → file < terms.end → (terms.early → quiet)
+      → UpTo file quiet done
+      → Blame terms old (Some fault) → ((other : ℕ) → FaultNames (Some fault) other → own ≡ other)
+      → Tells terms old (at_file own done fault)
   told_at_file file own quiet done fault same within early up blame names = record {
     file = file;
     up_to = loud file quiet done up;
@@ -215,16 +251,29 @@ module _ (terms : Terms) (old : Before) where
   }
 
   -- a fault of the bytes of a file
-  blamed_file : (file : ℕ) (fault : Fault) → IsOfFile file fault → terms.from ≤ file → file < terms.end → IfTold (old.left file) (λ bytes. terms.faulty file bytes fault)
+  blamed_file : (file : ℕ) (fault : Fault) → IsOfFile file fault → terms.from ≤ file → file < terms.end
+      → IfTold (old.left file) (λ bytes. terms.faulty file bytes fault)
       → Blame terms old (Some fault) × ((other : ℕ) → FaultNames (Some fault) other → file ≡ other)
-  blamed_file file (faults.Malformed own line why) of_file low high told =
-      (subst (λ (at : ℕ). FileHas terms old at (faults.Malformed own line why)) (sym of_file) (low, high, told), λ other names. sym of_file ∙ names)
-  blamed_file file (faults.BadStyle own why part) of_file low high told =
-      (subst (λ (at : ℕ). FileHas terms old at (faults.BadStyle own why part)) (sym of_file) (low, high, told), λ other names. sym of_file ∙ names)
-  blamed_file file (faults.BadBounds own line) of_file low high told =
-      (subst (λ (at : ℕ). FileHas terms old at (faults.BadBounds own line)) (sym of_file) (low, high, told), λ other names. sym of_file ∙ names)
-  blamed_file file (faults.BadQuery own line why) of_file low high told =
-      (subst (λ (at : ℕ). FileHas terms old at (faults.BadQuery own line why)) (sym of_file) (low, high, told), λ other names. sym of_file ∙ names)
+  blamed_file file (faults.Malformed own line why) of_file low high told = (
+    subst (λ (at : ℕ). FileHas terms old at (faults.Malformed own line why)) (sym of_file) (low, high, told),
+    λ other names. sym of_file
+        ∙ names,
+  )
+  blamed_file file (faults.BadStyle own why part) of_file low high told = (
+    subst (λ (at : ℕ). FileHas terms old at (faults.BadStyle own why part)) (sym of_file) (low, high, told),
+    λ other names. sym of_file
+        ∙ names,
+  )
+  blamed_file file (faults.BadBounds own line) of_file low high told = (
+    subst (λ (at : ℕ). FileHas terms old at (faults.BadBounds own line)) (sym of_file) (low, high, told),
+    λ other names. sym of_file
+        ∙ names,
+  )
+  blamed_file file (faults.BadQuery own line why) of_file low high told = (
+    subst (λ (at : ℕ). FileHas terms old at (faults.BadQuery own line why)) (sym of_file) (low, high, told),
+    λ other names. sym of_file
+        ∙ names,
+  )
   blamed_file file (faults.Limit which value) of_file low high told = (inr (file, (low, high, told)), λ other names. absurd names)
   blamed_file file faults.Usage of_file low high told = absurd of_file
   blamed_file file (faults.ReadFault own) of_file low high told = absurd of_file
@@ -239,28 +288,40 @@ module _ (terms : Terms) (old : Before) where
   blamed_file file faults.DiskFault of_file low high told = absurd of_file
   blamed_file file faults.OutOfMemory of_file low high told = absurd of_file
 
-  told_in : (A : Type 0) (file own : ℕ) (quiet : Type 0) (Reads : List ℕ → Result A Fault → Type 0) (done : Progress) (ending : Ending) → own ≡ file → file < terms.end → (terms.early → quiet)
-      → ((bytes : List ℕ) (fault : Fault) → Reads bytes (Err fault) → terms.faulty own bytes fault) → UpTo file quiet done → BreaksIn A own (old.left own) Reads done ending → Tells terms old ending
+  told_in : (A : Type 0) (file own : ℕ) (quiet : Type 0) (Reads : List ℕ → Result A Fault → Type 0) (done : Progress) (ending : Ending)
+      → own ≡ file → file < terms.end → (terms.early → quiet)
+      → ((bytes : List ℕ) (fault : Fault) → Reads bytes (Err fault) → terms.faulty own bytes fault) → UpTo file quiet done
+      → BreaksIn A own (old.left own) Reads done ending → Tells terms old ending
   told_in A file own quiet Reads done ending same high early faulty up (unread is) =
-      is_told ending _ is (told_at_file file own quiet done (faults.ReadFault own) same high early up (omega (arith, same, up.low), omega (arith, same, high)) (λ other names. names))
+      is_told ending _ is (told_at_file file own quiet done (faults.ReadFault own) same high early up
+      (omega (arith, same, up.low), omega (arith, same, high)) (λ other names. names))
   told_in A file own quiet Reads done ending same high early faulty up (short is) =
       is_told ending _ is (told_at_file file own quiet done faults.OutOfMemory same high early up tt (λ other names. absurd names))
   told_in A file own quiet Reads done ending same high early faulty up (refused fault of_file told is) =
-      let blame = blamed_file own fault of_file (omega (arith, same, up.low)) (omega (arith, same, high)) (λ bytes here. faulty bytes fault (told bytes here)) in
+      let blame = blamed_file own fault of_file (omega (arith, same, up.low)) (omega (arith, same, high))
+      (λ bytes here. faulty bytes fault (told bytes here)) in
       is_told ending _ is (told_at_file file own quiet done fault same high early up blame.0 blame.1)
 
-  told_breaks : (file : ℕ) (quiet : Type 0) (done : Progress) (ending : Ending) → terms.store → UpTo file quiet done → Breaks done ending → Tells terms old ending
-  told_breaks file quiet done ending store up (inl is) = is_told ending _ is (told_at file quiet done (Some faults.DiskFault) up store (λ other names. names))
-  told_breaks file quiet done ending store up (inr is) = is_told ending _ is (told_at file quiet done (Some faults.OutOfMemory) up tt (λ other names. names))
+  told_breaks : (file : ℕ) (quiet : Type 0) (done : Progress) (ending : Ending) → terms.store → UpTo file quiet done → Breaks done ending
+      → Tells terms old ending
+  told_breaks file quiet done ending store up (inl is) =
+      is_told ending _ is (told_at file quiet done (Some faults.DiskFault) up store (λ other names. names))
+  told_breaks file quiet done ending store up (inr is) =
+      is_told ending _ is (told_at file quiet done (Some faults.OutOfMemory) up tt (λ other names. names))
 
-  told_full : (file : ℕ) (quiet : Type 0) (done : Progress) (ending : Ending) → terms.makes → UpTo file quiet done → HoldsBytes old done ending → Tells terms old ending
-  told_full file quiet done ending makes up full = is_told ending _ full.1 (told_at file quiet done (Some faults.NotEmpty) up (makes, full.0) (λ other names. names))
+  told_full : (file : ℕ) (quiet : Type 0) (done : Progress) (ending : Ending) → terms.makes → UpTo file quiet done
+      → HoldsBytes old done ending → Tells terms old ending
+  told_full file quiet done ending makes up full =
+      is_told ending _ full.1 (told_at file quiet done (Some faults.NotEmpty) up (makes, full.0) (λ other names. names))
 
-  told_state : (file : ℕ) (quiet : Type 0) (done : Progress) (fault : Fault) → IsOfState terms fault → UpTo file quiet done → Tells terms old (at done (Some fault))
+  told_state : (file : ℕ) (quiet : Type 0) (done : Progress) (fault : Fault) → IsOfState terms fault → UpTo file quiet done
+      → Tells terms old (at done (Some fault))
   told_state file quiet done faults.NotImported store up = told_at file quiet done (Some faults.NotImported) up store (λ other names. names)
-  told_state file quiet done faults.AlreadyImported store up = told_at file quiet done (Some faults.AlreadyImported) up store (λ other names. names)
+  told_state file quiet done faults.AlreadyImported store up =
+      told_at file quiet done (Some faults.AlreadyImported) up store (λ other names. names)
   told_state file quiet done faults.OldFormat uses up = told_at file quiet done (Some faults.OldFormat) up uses (λ other names. names)
-  told_state file quiet done faults.UnknownTable opening up = told_at file quiet done (Some faults.UnknownTable) up opening (λ other names. names)
+  told_state file quiet done faults.UnknownTable opening up =
+      told_at file quiet done (Some faults.UnknownTable) up opening (λ other names. names)
   told_state file quiet done faults.Usage none up = absurd none
   told_state file quiet done (faults.Malformed own line why) none up = absurd none
   told_state file quiet done (faults.BadStyle own why part) none up = absurd none
@@ -276,25 +337,32 @@ module _ (terms : Terms) (old : Before) where
   told_state file quiet done faults.OutOfMemory none up = absurd none
 
   -- a step that is refused
-  told_step : (file : ℕ) (quiet : Type 0) (done : Progress) (fault : FlowFault) → terms.store → IfTold old.content (λ _. IsBadStore fault → terms.opening) → IsStepFault fault → UpTo file quiet done
+  told_step : (file : ℕ) (quiet : Type 0) (done : Progress) (fault : FlowFault) → terms.store
+      → IfTold old.content (λ _. IsBadStore fault → terms.opening) → IsStepFault fault → UpTo file quiet done
       → Tells terms old (at done (Some (flow_fault fault)))
   told_step file quiet done (flow.Store (stores.BadStore page)) store bad why up =
       told_at file quiet done (Some (faults.BadStore page)) up (store, λ bytes told. bad bytes told tt) (λ other names. names)
-  told_step file quiet done (flow.Store (stores.StoreFull pages)) store bad why up = told_at file quiet done (Some (faults.Limit kinds.Pages pages)) up (inl (tt, store)) (λ other names. names)
+  told_step file quiet done (flow.Store (stores.StoreFull pages)) store bad why up =
+      told_at file quiet done (Some (faults.Limit kinds.Pages pages)) up (inl (tt, store)) (λ other names. names)
   told_step file quiet done (flow.Store stores.NotFormatted) store bad none up = absurd none
   told_step file quiet done (flow.Store stores.NotEmpty) store bad none up = absurd none
   told_step file quiet done (flow.Store stores.DiskFault) store bad none up = absurd none
   told_step file quiet done (flow.Store stores.Broken) store bad none up = absurd none
   told_step file quiet done (flow.Store stores.OutOfMemory) store bad none up = absurd none
-  told_step file quiet done flow.NotImported store bad why up = told_at file quiet done (Some faults.NotImported) up store (λ other names. names)
-  told_step file quiet done flow.AlreadyImported store bad why up = told_at file quiet done (Some faults.AlreadyImported) up store (λ other names. names)
+  told_step file quiet done flow.NotImported store bad why up =
+      told_at file quiet done (Some faults.NotImported) up store (λ other names. names)
+  told_step file quiet done flow.AlreadyImported store bad why up =
+      told_at file quiet done (Some faults.AlreadyImported) up store (λ other names. names)
   told_step file quiet done flow.OldFormat store bad none up = absurd none
-  told_step file quiet done flow.LastChange store bad why up = told_at file quiet done (Some (flow_fault flow.LastChange)) up (inl (tt, store)) (λ other names. names)
-  told_step file quiet done (flow.TooMany value) store bad why up = told_at file quiet done (Some (faults.Limit kinds.Pending value)) up (inl (tt, store)) (λ other names. names)
+  told_step file quiet done flow.LastChange store bad why up =
+      told_at file quiet done (Some (flow_fault flow.LastChange)) up (inl (tt, store)) (λ other names. names)
+  told_step file quiet done (flow.TooMany value) store bad why up =
+      told_at file quiet done (Some (faults.Limit kinds.Pending value)) up (inl (tt, store)) (λ other names. names)
   told_step file quiet done flow.OutOfMemory store bad none up = absurd none
 
   told_refused : (IsWhy : FlowFault → Type 0) (file : ℕ) (quiet : Type 0) (done : Progress) (ending : Ending) → terms.store
-      → ((fault : FlowFault) → IsWhy fault → IfTold old.content (λ _. IsBadStore fault → terms.opening) × IsStepFault fault) → UpTo file quiet done → IsRefusedFor IsWhy done ending → Tells terms old ending
+      → ((fault : FlowFault) → IsWhy fault → IfTold old.content (λ _. IsBadStore fault → terms.opening) × IsStepFault fault)
+      → UpTo file quiet done → IsRefusedFor IsWhy done ending → Tells terms old ending
   told_refused IsWhy file quiet done ending store why up h =
       is_told ending _ h.2 (told_step file quiet done h.0 store (why h.0 h.1).0 (why h.0 h.1).1 up)
 
@@ -303,42 +371,58 @@ module _ (terms : Terms) (old : Before) where
   made_certain (Some own) bytes P is un = absurd (cc)
 
   -- each end of a course tells of files that the course reads, and has something to blame
-  pub comes_told : (course : Course) (file : ℕ) (quiet : Type 0) (done : Progress) (ending : Ending) → KeepsTo terms file quiet course → UpTo file quiet done → Comes old course done ending → Tells terms old ending
+  pub comes_told : (course : Course) (file : ℕ) (quiet : Type 0) (done : Progress) (ending : Ending) → KeepsTo terms file quiet course
+      → UpTo file quiet done → Comes old course done ending → Tells terms old ending
   comes_told ends file quiet done ending to up is = is_told ending _ is (told_at file quiet done None up tt (λ other names. names))
   comes_told (refuses fault) file quiet done ending to up is = is_told ending _ is (told_state file quiet done fault to up)
-  comes_told (reads {A} own Reads rest) file quiet done ending (same, high, early, faulty, accepts, later) up (inl breaks) = told_in A file own quiet Reads done ending same high early faulty up breaks
+  comes_told (reads {A} own Reads rest) file quiet done ending (same, high, early, faulty, accepts, later) up (inl breaks) =
+      told_in A file own quiet Reads done ending same high early faulty up breaks
   comes_told (reads {A} own Reads rest) file quiet done ending (same, high, early, faulty, accepts, later) up (inr (found, told, c)) =
       comes_told (rest found) (file + 1) quiet (past own done) ending (later found) (record {
         low = omega (arith, up.low);
         high = omega (arith, high);
-        read = λ other from less. ⊎_elim (λ (below : other < file). inr (up.read other from below)) (λ (above : file ≤ other). inl (omega (arith, above, less, same))) (cases_lt other file);
+        read = λ other from less. ⊎_elim (λ (below : other < file). inr (up.read other from below))
+            (λ (above : file ≤ other). inl (omega (arith, above, less, same))) (cases_lt other file);
         accepted = λ other from less. ⊎_elim (λ (below : other < file). up.accepted other from below)
             (λ (above : file ≤ other). let here : own ≡ other = omega (arith, above, less, same) in
-            subst (λ (at : ℕ). IfTold (old.left at) (terms.accepts at)) here (λ bytes is. accepts bytes found (told bytes is))) (cases_lt other file);
+            subst (λ (at : ℕ). IfTold (old.left at) (terms.accepts at)) here (λ bytes is. accepts bytes found (told bytes is)))
+            (cases_lt other file);
         only = λ other read. ⊎_elim (λ (here : other ≡ own). (omega (arith, here, same, up.low), omega (arith, here, same)))
             (λ (before : IsIn done.read other). ((up.only other before).0, omega (arith, (up.only other before).1))) read;
         unwritten = up.unwritten;
         vague = up.vague;
       }) c
-  comes_told (wants_empty rest) file quiet done ending (makes, later) up (inl is) = is_told ending _ is (told_at file quiet done (Some faults.DiskFault) up (terms.owns makes) (λ other names. names))
+  comes_told (wants_empty rest) file quiet done ending (makes, later) up (inl is) =
+      is_told ending _ is (told_at file quiet done (Some faults.DiskFault) up (terms.owns makes) (λ other names. names))
   comes_told (wants_empty rest) file quiet done ending (makes, later) up (inr (inl full)) = told_full file quiet done ending makes up full
-  comes_told (wants_empty rest) file quiet done ending (makes, later) up (inr (inr (told, c))) = comes_told rest file quiet done ending later up c
+  comes_told (wants_empty rest) file quiet done ending (makes, later) up (inr (inr (told, c))) =
+      comes_told rest file quiet done ending later up c
   comes_told (formats rest) file quiet done ending (makes, store, later) up c =
       three (λ (full : HoldsBytes old done ending). told_full file quiet done ending makes up full)
       (λ (is : ending ≡ at (with_store half_made done) (Some faults.DiskFault)). is_told ending _ is
-      (told_at file quiet (with_store half_made done) (Some faults.DiskFault) (stood file quiet half_made done.cut done (λ e. absurd (cc)) up) store (λ other names. names)))
-      (λ (c : Comes old rest (with_store (made old.content) done) ending). comes_told rest file quiet (with_store (made old.content) done) ending later
+      (told_at file quiet (with_store half_made done) (Some faults.DiskFault)
+      (stood file quiet half_made done.cut done (λ e. absurd (cc)) up) store (λ other names. names)))
+      (λ (c : Comes old rest (with_store (made old.content) done) ending).
+      comes_told rest file quiet (with_store (made old.content) done) ending later
       (stood file quiet (made old.content) done.cut done (λ un bytes is. made_certain old.content bytes terms.opening is un) up) c)
-      (of_unused done.store (HoldsBytes old done ending ⊎ (ending ≡ at (with_store half_made done) (Some faults.DiskFault)) ⊎ Comes old rest (with_store (made old.content) done) ending) c).1
-  comes_told (opens rest) file quiet done ending (opening, store, later) up (inl breaks) = told_breaks file quiet done ending store up breaks
+      (of_unused done.store (HoldsBytes old done ending ⊎ (ending ≡ at (with_store half_made done) (Some faults.DiskFault))
+      ⊎ Comes old rest (with_store (made old.content) done) ending) c).1
+  comes_told (opens rest) file quiet done ending (opening, store, later) up (inl breaks) =
+      told_breaks file quiet done ending store up breaks
   comes_told (opens rest) file quiet done ending (opening, store, later) up (inr c) = of_store done.store
-      (λ kept. (cut : ℕ) × (kept.least ≤ cut) × (cut ≤ kept.most) × Comes old (rest (state_after (first cut kept.history))) (opened kept cut done) ending)
-      (IsNoStore old done ending ⊎ IsBroken old done ending ⊎ ((state : State) × IfTold old.content (MayOpenAs state) × Comes old (rest state) done ending)) (Tells terms old ending)
-      (λ kept is h. comes_told (rest (state_after (first h.0 kept.history))) file quiet (opened kept h.0 done) ending (later (state_after (first h.0 kept.history)))
+      (λ kept. (cut : ℕ) × (kept.least ≤ cut) × (cut ≤ kept.most)
+      × Comes old (rest (state_after (first cut kept.history))) (opened kept cut done) ending)
+      (IsNoStore old done ending ⊎ IsBroken old done ending
+      ⊎ ((state : State) × IfTold old.content (MayOpenAs state) × Comes old (rest state) done ending)) (Tells terms old ending)
+      (λ kept is h. comes_told (rest (state_after (first h.0 kept.history))) file quiet (opened kept h.0 done) ending
+      (later (state_after (first h.0 kept.history)))
       (stood file quiet (keeps (whole (first h.0 kept.history))) h.0 done (λ e. absurd (cc)) up) h.3)
-      (λ is h. three (λ (none : IsNoStore old done ending). is_told ending _ none.1 (told_at file quiet done (Some faults.NotFormatted) up (opening, none.0) (λ other names. names)))
-      (λ (bad : IsBroken old done ending). told_refused IsBadStore file quiet done ending store (λ fault own. ((λ bytes told _. opening), bad_step fault own)) up bad.1)
-      (λ (c : (state : State) × IfTold old.content (MayOpenAs state) × Comes old (rest state) done ending). comes_told (rest c.0) file quiet done ending (later c.0) up c.2) h) c
+      (λ is h. three (λ (none : IsNoStore old done ending).
+      is_told ending _ none.1 (told_at file quiet done (Some faults.NotFormatted) up (opening, none.0) (λ other names. names)))
+      (λ (bad : IsBroken old done ending). told_refused IsBadStore file quiet done ending store
+      (λ fault own. ((λ bytes told _. opening), bad_step fault own)) up bad.1)
+      (λ (c : (state : State) × IfTold old.content (MayOpenAs state) × Comes old (rest state) done ending).
+      comes_told (rest c.0) file quiet done ending (later c.0) up c.2) h) c
   comes_told (looks rest) file quiet done ending (store, later) up (inl breaks) = told_breaks file quiet done ending store up breaks
   comes_told (looks rest) file quiet done ending (store, later) up (inr (inl why)) =
       let un = of_unknown done.store (IsRefusedFor IsStepFault done ending) why in
@@ -346,31 +430,42 @@ module _ (terms : Terms) (old : Before) where
   comes_told (looks rest) file quiet done ending (store, later) up (inr (inr c)) = comes_told rest file quiet done ending later up c
   comes_told (commits step rest) file quiet done ending (store, later) up (inl breaks) = told_breaks file quiet done ending store up breaks
   comes_told (commits step rest) file quiet done ending (store, later) up (inr c) = of_store done.store
-      (λ kept. (ending ≡ at (in_doubt step kept done) (Some faults.DiskFault)) ⊎ IsRefusedFor (IsRefusal old (state_after kept.history) step) done ending
+      (λ kept. (ending ≡ at (in_doubt step kept done) (Some faults.DiskFault))
+      ⊎ IsRefusedFor (IsRefusal old (state_after kept.history) step) done ending
       ⊎ (MayTake old (state_after kept.history) step × Comes old rest (committed step kept done) ending))
       (IsRefusedFor IsStepFault done ending ⊎ Comes old rest done ending) (Tells terms old ending)
       (λ kept is h. three (λ (is : ending ≡ at (in_doubt step kept done) (Some faults.DiskFault)). is_told ending _ is
-      (told_at file quiet (in_doubt step kept done) (Some faults.DiskFault) (stood file quiet (keeps (perhaps step kept)) done.cut done (λ e. absurd (cc)) up) store (λ other names. names)))
-      (λ (why : IsRefusedFor (IsRefusal old (state_after kept.history) step) done ending). told_refused (IsRefusal old (state_after kept.history) step) file quiet done ending store
+      (told_at file quiet (in_doubt step kept done) (Some faults.DiskFault)
+      (stood file quiet (keeps (perhaps step kept)) done.cut done (λ e. absurd (cc)) up) store (λ other names. names)))
+      (λ (why : IsRefusedFor (IsRefusal old (state_after kept.history) step) done ending).
+      told_refused (IsRefusal old (state_after kept.history) step) file quiet done ending store
       (λ fault own. ((λ _ _ bad. bad_refuses (state_after kept.history) step fault terms.opening bad own.1), own.0)) up why)
-      (λ (c : MayTake old (state_after kept.history) step × Comes old rest (committed step kept done) ending). comes_told rest file quiet (committed step kept done) ending later
+      (λ (c : MayTake old (state_after kept.history) step × Comes old rest (committed step kept done) ending).
+      comes_told rest file quiet (committed step kept done) ending later
       (stood file quiet (keeps (with_step step kept)) done.cut done (λ e. absurd (cc)) up) c.1) h)
-      (λ is h. ⊎_elim (λ (why : IsRefusedFor IsStepFault done ending). told_refused IsStepFault file quiet done ending store (λ fault own. ((λ bytes told _. up.vague is bytes told), own)) up why)
+      (λ is h. ⊎_elim (λ (why : IsRefusedFor IsStepFault done ending).
+      told_refused IsStepFault file quiet done ending store (λ fault own. ((λ bytes told _. up.vague is bytes told), own)) up why)
       (λ (c : Comes old rest done ending). comes_told rest file quiet done ending later up c) h) c
   comes_told (tells text rest) file quiet done ending to up (inl is) = is_told ending _ is (told_at_text file quiet text done up)
-  comes_told (tells text rest) file quiet done ending to up (inr c) = comes_told rest file ⊥ (plus text done) ending to (written file quiet text done up) c
-  comes_told (writes Fits rest) file quiet done ending to up (inl is) = is_told ending _ is (told_at file quiet done (Some faults.OutOfMemory) up tt (λ other names. names))
-  comes_told (writes Fits rest) file quiet done ending to up (inr (own, told, inl is)) = is_told ending _ is (told_at_text file quiet own done up)
-  comes_told (writes Fits rest) file quiet done ending to up (inr (own, told, inr c)) = comes_told rest file ⊥ (plus own done) ending to (written file quiet own done up) c
+  comes_told (tells text rest) file quiet done ending to up (inr c) =
+      comes_told rest file ⊥ (plus text done) ending to (written file quiet text done up) c
+  comes_told (writes Fits rest) file quiet done ending to up (inl is) =
+      is_told ending _ is (told_at file quiet done (Some faults.OutOfMemory) up tt (λ other names. names))
+  comes_told (writes Fits rest) file quiet done ending to up (inr (own, told, inl is)) =
+      is_told ending _ is (told_at_text file quiet own done up)
+  comes_told (writes Fits rest) file quiet done ending to up (inr (own, told, inr c)) =
+      comes_told rest file ⊥ (plus own done) ending to (written file quiet own done up) c
 
 -- files that are gathered
 module _ (terms : Terms) (change : (file : ℕ) → terms.from ≤ file → file < terms.end
     → ((bytes : List ℕ) (fault : Fault) → IsChange file bytes (Err fault) → terms.faulty file bytes fault)
     × ((bytes : List ℕ) (found : List Entry) → IsChange file bytes (Ok found) → terms.accepts file bytes)) where
-  pub gathers_to : (file count : ℕ) (quiet : Type 0) (entries : List Entry) (rest : List Entry → Course) → terms.from ≤ file → file + count ≡ terms.end → (terms.early → quiet)
+  pub gathers_to : (file count : ℕ) (quiet : Type 0) (entries : List Entry) (rest : List Entry → Course) → terms.from ≤ file
+      → file + count ≡ terms.end → (terms.early → quiet)
       → ((entries : List Entry) → KeepsTo terms terms.end quiet (rest entries)) → KeepsTo terms file quiet (gathers file count entries rest)
   unfolding gathers
-  gathers_to file zero quiet entries rest low all early later = let here : terms.end ≡ file = omega (arith, all) in subst (λ (at : ℕ). KeepsTo terms at quiet (rest entries)) here (later entries)
+  gathers_to file zero quiet entries rest low all early later = let here : terms.end ≡ file = omega (arith, all) in
+      subst (λ (at : ℕ). KeepsTo terms at quiet (rest entries)) here (later entries)
   gathers_to file (suc count) quiet entries rest low all early later = (
     refl,
     omega (arith, all),

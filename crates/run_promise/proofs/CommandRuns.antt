@@ -33,7 +33,8 @@ only_old new_store is = absurd (cc)
 only_old old_store is = refl
 
 -- a run by the course of its command
-pub runs_by : (command : CommandOf) (asks : List ℕ → Type 0) (fault : Option Fault) (old new : World) → HasItsFiles command → AsksOnly asks (Names command)
+pub runs_by : (command : CommandOf) (asks : List ℕ → Type 0) (fault : Option Fault) (old new : World) → HasItsFiles command
+    → AsksOnly asks (Names command)
     → ((start : Progress) → Begins (use_of command) old start → GoesBy (course_of command) start fault old new)
     → (use_of command ≡ no_store → IsSpared old.disk new.disk)
     → (use_of command ≢ old_store → IfTold old.disk.content (λ bytes. length bytes ≢ 0 → Stays old.disk new.disk))
@@ -47,10 +48,13 @@ runs_by command asks fault old new its asked course spared looked unformatted lo
       course = course;
       cause = λ own own_is.
           let same : run.0.fault ≡ Some own = run.1 ∙ own_is in
-          cause_of command (remembered old) new own (subst (Blame (terms_of command) (remembered old)) same told.blame) (subst (HasCause (remembered old) new) same run.3.cause);
+          cause_of command (remembered old) new own (subst (Blame (terms_of command) (remembered old)) same told.blame)
+          (subst (HasCause (remembered old) new) same run.3.cause);
       asked = asked;
-      unnamed = λ file not. run.3.others file (λ read. let own = told.up_to.only file read in not (own.0, omega (arith, own.1, told.up_to.high)))
-          (λ reading. let next = told.reading file reading in not (omega (arith, next.same, told.up_to.low), omega (arith, next.same, next.within)));
+      unnamed = λ file not. run.3.others file (λ read. let own = told.up_to.only file read in
+          not (own.0, omega (arith, own.1, told.up_to.high)))
+          (λ reading. let next = told.reading file reading in
+          not (omega (arith, next.same, told.up_to.low), omega (arith, next.same, next.within)));
       spared = spared;
       looked = looked;
       unformatted = unformatted;
@@ -58,7 +62,8 @@ runs_by command asks fault old new its asked course spared looked unformatted lo
     }
 
 -- a run that begins in one way only
-pub from_unused : (way : Use) (old new : World) (course : Course) (fault : Option Fault) → way ≢ old_store → GoesBy course (begun unused 0) fault old new
+pub from_unused : (way : Use) (old new : World) (course : Course) (fault : Option Fault) → way ≢ old_store
+    → GoesBy course (begun unused 0) fault old new
     → (start : Progress) → Begins way old start → GoesBy course start fault old new
 from_unused no_store old new course fault not run start is = subst (λ (own : Progress). GoesBy course own fault old new) (sym is) run
 from_unused new_store old new course fault not run start is = subst (λ (own : Progress). GoesBy course own fault old new) (sym is) run
@@ -69,4 +74,8 @@ pub spared_same : (view : DiskView) → IsSpared view view
 spared_same view = record { content = refl; moment = refl; crash = λ left now. now; faults = refl; reads = refl }
 
 pub stays_same : (view : DiskView) → Stays view view
-stays_same view = record { content = refl; runs = record { later = omega arith; each = λ since left le before. inl before; now = λ left now. now } }
+stays_same view = record {
+  content = refl;
+  runs =
+      record { later = omega arith; each = λ since left le before. inl before; now = λ left now. now };
+}

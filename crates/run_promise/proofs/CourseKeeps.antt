@@ -1,15 +1,18 @@
 -- What a store keeps through a course, and how many of its steps are told then.
-use Rattle.std.proofs.Common.{◌≡◌, ◌≢◌, ◌≤◌, ◌+◌, ◌-◌, ◌⊎◌, ℕ, Option, Some, None, List, [], ◌∷◌, ◌++◌, length, Result, ⊎_elim, inl, inr, refl, sym, ◌∙◌, ap, subst, arith}
+use Rattle.std.proofs.Common.{◌≡◌, ◌≢◌, ◌≤◌, ◌+◌, ◌-◌, ◌⊎◌, ℕ, Option, Some, None, List, [], ◌∷◌, ◌++◌, length, Result, ⊎_elim, inl, inr}
+use Rattle.std.proofs.Common.{refl, sym, ◌∙◌, ap, subst, arith}
 use Rattle.std.proofs.lemmas.List.{append-nil, length-take-le}
 use Rattle.update_flow.specs.History.{History, state_after}
 use Rattle.update_flow.specs.State.{State, Step}
 use Rattle.run_promise.specs.declared.fault.Fault.{Fault}
 use Rattle.run_promise.specs.declared.fault.Fault.TheVariants as faults
-use Rattle.run_promise.specs.Comes.{Breaks, BreaksIn, Comes, HoldsBytes, IsRefusal, IsRefusedFor, IsStepFault, MayTake, refused, short, unread}
+use Rattle.run_promise.specs.Comes.{Breaks, BreaksIn, Comes, HoldsBytes, IsRefusal, IsRefusedFor, IsStepFault, MayTake, refused, short}
+use Rattle.run_promise.specs.Comes.{unread}
 use Rattle.run_promise.specs.Course.{Course, ends, refuses, reads, wants_empty, formats, opens, looks, commits, tells, writes}
 use Rattle.run_promise.specs.Keeps.{Kept, IsFit, blank, first, perhaps, whole, with_steps}
 use Rattle.run_promise.specs.Making.{reading_alone}
-use Rattle.run_promise.specs.Progress.{unused, unknown, keeps, half_made, Progress, Ending, at, begun, past, plus, with_store, made, opened, committed, in_doubt}
+use Rattle.run_promise.specs.Progress.{unused, unknown, keeps, half_made, Progress, Ending, at, begun, past, plus, with_store, made, opened}
+use Rattle.run_promise.specs.Progress.{committed, in_doubt}
 use Rattle.run_promise.specs.Safety.{lines_in}
 use Rattle.run_promise.specs.World.{Before}
 use Rattle.run_promise.proofs.HistoryLaws.{append_more, length_more}
@@ -66,7 +69,8 @@ pub record Reaches (total : ℕ) (before : Kept) (ending : Ending) : Type 0 wher
   pub fit : IsFit now
   pub all : ending.fault ≡ None → now.least ≡ length now.history.steps
   pub sure : (told : ℕ) → told ≤ total → told ≤ lines_in ending.done.written + lines_in ending.writing → ending.done.cut + told ≤ now.least
-  pub only : ending.fault ≢ None → ending.fault ≢ Some faults.WriteFault → ending.fault ≢ Some faults.DiskFault → length steps ≤ lines_in ending.done.written
+  pub only : ending.fault ≢ None → ending.fault ≢ Some faults.WriteFault → ending.fault ≢ Some faults.DiskFault
+      → length steps ≤ lines_in ending.done.written
   pub last : ending.fault ≡ Some faults.WriteFault → length steps ≤ lines_in ending.done.written + 1
 
 -- no store was made, or none that is whole
@@ -79,7 +83,8 @@ pub record IsUnmadeAt (ending : Ending) : Type 0 where
 more_steps : (before : Kept) (cut : ℕ) (steps : List Step) (step : Step) (now : History) → now ≡ with_steps steps (first cut before.history)
     → with_steps (step ∷ []) now ≡ with_steps (steps ++ step ∷ []) (first cut before.history)
 more_steps before cut steps step now is =
-    ap (with_steps (step ∷ [])) is ∙ ap (λ (own : List Step). record { base = before.history.base; steps = own }) (append_more (first cut before.history).steps steps (step ∷ []))
+    ap (with_steps (step ∷ [])) is ∙ ap (λ (own : List Step). record { base = before.history.base; steps = own })
+    (append_more (first cut before.history).steps steps (step ∷ []))
 
 module _ (total : ℕ) (before : Kept) where
   reaches : (ending own : Ending) → ending ≡ own → Reaches total before own → Reaches total before ending
@@ -119,7 +124,8 @@ module _ (total : ℕ) (before : Kept) where
   }
 
   -- in the middle of a text, whose lines tell no more than there is to be told
-  telling : (untold left : ℕ) (text : List ℕ) (done : Progress) → (left ≡ 0) ⊎ (lines_in text ≤ untold) → IsAfter total before untold left done
+  telling : (untold left : ℕ) (text : List ℕ) (done : Progress) → (left ≡ 0) ⊎ (lines_in text ≤ untold)
+      → IsAfter total before untold left done
       → Reaches total before (record { done = done; reading = None; writing = text; fault = Some faults.WriteFault })
   telling untold left text done counts after = record {
     now = whole after.now;
@@ -148,7 +154,8 @@ module _ (total : ℕ) (before : Kept) where
         from = after.from;
         to = after.to;
         steps = after.steps ++ step ∷ [];
-        behind = inr (ap (λ (own : Kept). with_steps (step ∷ []) own.history) same ∙ more_steps before done.cut after.steps step after.now after.extends);
+        behind = inr (ap (λ (own : Kept). with_steps (step ∷ []) own.history) same
+            ∙ more_steps before done.cut after.steps step after.now after.extends);
         fit = record {
           order = omega arith;
           last = sym (length_more kept.history.steps step);
@@ -175,8 +182,10 @@ module _ (total : ℕ) (before : Kept) where
         from = after.from;
         to = after.to;
         steps = after.steps ++ step ∷ [];
-        extends = ap (λ (own : Kept). with_steps (step ∷ []) own.history) same ∙ more_steps before done.cut after.steps step after.now after.extends;
-        sure = λ told most few. let own = after.sure (told - 1) (omega (arith, most)) (omega (arith, few)) in omega (arith, own, long, more);
+        extends = ap (λ (own : Kept). with_steps (step ∷ []) own.history) same
+            ∙ more_steps before done.cut after.steps step after.now after.extends;
+        sure = λ told most few. let own = after.sure (told - 1) (omega (arith, most)) (omega (arith, few)) in
+            omega (arith, own, long, more);
         near = omega (arith, near, long, more);
         owed = let own = length_more after.steps step in omega (arith, own, owed);
         one = omega arith;
@@ -198,7 +207,8 @@ module _ (total : ℕ) (before : Kept) where
   }
 
   -- with a text told
-  wrote : (untold left : ℕ) (text : List ℕ) (done : Progress) → (left ≡ 0) ⊎ (lines_in text ≤ untold) → IsAfter total before untold left done → IsAfter total before (untold - lines_in text) left (plus text done)
+  wrote : (untold left : ℕ) (text : List ℕ) (done : Progress) → (left ≡ 0) ⊎ (lines_in text ≤ untold)
+      → IsAfter total before untold left done → IsAfter total before (untold - lines_in text) left (plus text done)
   wrote untold left text done counts after =
       let more = lines-append done.written text in
       let near = after.near in
@@ -219,22 +229,31 @@ module _ (total : ℕ) (before : Kept) where
       }
 
   module _ (old : Before) where
-    breaks_safe : (left : ℕ) (done : Progress) (ending : Ending) → IsAfter total before 0 left done → Breaks done ending → Reaches total before ending
+    breaks_safe : (left : ℕ) (done : Progress) (ending : Ending) → IsAfter total before 0 left done → Breaks done ending
+        → Reaches total before ending
     breaks_safe left done ending after (inl is) = reaches ending _ is (reached left done None (Some faults.DiskFault) after)
     breaks_safe left done ending after (inr is) = reaches ending _ is (reached left done None (Some faults.OutOfMemory) after)
 
-    file_safe : (A : Type 0) (file : ℕ) (told : Option (List ℕ)) (Reads : List ℕ → Result A Fault → Type 0) (left : ℕ) (done : Progress) (ending : Ending) → IsAfter total before 0 left done
+    file_safe : (A : Type 0) (file : ℕ) (told : Option (List ℕ)) (Reads : List ℕ → Result A Fault → Type 0) (left : ℕ) (done : Progress)
+        (ending : Ending) → IsAfter total before 0 left done
         → BreaksIn A file told Reads done ending → Reaches total before ending
-    file_safe A file told Reads left done ending after (unread is) = reaches ending _ is (reached left done (Some file) (Some (faults.ReadFault file)) after)
-    file_safe A file told Reads left done ending after (short is) = reaches ending _ is (reached left done (Some file) (Some faults.OutOfMemory) after)
-    file_safe A file told Reads left done ending after (refused fault own told_so is) = reaches ending _ is (reached left done (Some file) (Some fault) after)
+    file_safe A file told Reads left done ending after (unread is) =
+        reaches ending _ is (reached left done (Some file) (Some (faults.ReadFault file)) after)
+    file_safe A file told Reads left done ending after (short is) =
+        reaches ending _ is (reached left done (Some file) (Some faults.OutOfMemory) after)
+    file_safe A file told Reads left done ending after (refused fault own told_so is) =
+        reaches ending _ is (reached left done (Some file) (Some fault) after)
 
     -- each end of a course behind the opening
-    comes_safe : (course : Course) (untold left : ℕ) (done : Progress) (ending : Ending) → Counts course untold left → IsAfter total before untold left done → Comes old course done ending → Reaches total before ending
+    comes_safe : (course : Course) (untold left : ℕ) (done : Progress) (ending : Ending) → Counts course untold left
+        → IsAfter total before untold left done → Comes old course done ending → Reaches total before ending
     comes_safe ends untold left done ending counts after is = reaches ending _ is (ended untold left done after)
-    comes_safe (refuses fault) untold left done ending counts after is = reaches ending _ is (reached left done None (Some fault) (subst (λ (untold : ℕ). IsAfter total before untold left done) counts after))
+    comes_safe (refuses fault) untold left done ending counts after is =
+        reaches ending _ is (reached left done None (Some fault)
+        (subst (λ (untold : ℕ). IsAfter total before untold left done) counts after))
     comes_safe (reads {A} file Reads rest) untold left done ending (none, counts) after (inl breaks) =
-        file_safe A file (old.left file) Reads left done ending (subst (λ (untold : ℕ). IsAfter total before untold left done) none after) breaks
+        file_safe A file (old.left file) Reads left done ending
+        (subst (λ (untold : ℕ). IsAfter total before untold left done) none after) breaks
     comes_safe (reads {A} file Reads rest) untold left done ending (none, counts) after (inr (found, told, c)) =
         comes_safe (rest found) 0 left (past file done) ending (subst (λ (untold : ℕ). Counts (rest found) untold left) none (counts found))
         (went_past left file done (subst (λ (untold : ℕ). IsAfter total before untold left done) none after)) c
@@ -244,29 +263,39 @@ module _ (total : ℕ) (before : Kept) where
     comes_safe (looks rest) untold left done ending (none, counts) after (inl breaks) =
         breaks_safe left done ending (subst (λ (untold : ℕ). IsAfter total before untold left done) none after) breaks
     comes_safe (looks rest) untold left done ending (none, counts) after (inr (inl why)) =
-        absurd (let two : unknown ≡ keeps (whole after.now) = sym (of_unknown done.store (IsRefusedFor IsStepFault done ending) why).0 ∙ after.is in cc)
-    comes_safe (looks rest) untold left done ending (none, counts) after (inr (inr c)) = comes_safe rest untold left done ending counts after c
+        absurd (let two : unknown ≡ keeps (whole after.now) =
+        sym (of_unknown done.store (IsRefusedFor IsStepFault done ending) why).0 ∙ after.is in cc)
+    comes_safe (looks rest) untold left done ending (none, counts) after (inr (inr c)) =
+        comes_safe rest untold left done ending counts after c
     comes_safe (commits step rest) untold left done ending (none, counts) after (inl breaks) =
         breaks_safe left done ending (subst (λ (untold : ℕ). IsAfter total before untold left done) none after) breaks
     comes_safe (commits step rest) untold left done ending (none, counts) after (inr c) =
         let own = subst (λ (untold : ℕ). IsAfter total before untold left done) none after in
         of_store done.store
-        (λ kept. (ending ≡ at (in_doubt step kept done) (Some faults.DiskFault)) ⊎ IsRefusedFor (IsRefusal old (state_after kept.history) step) done ending
+        (λ kept. (ending ≡ at (in_doubt step kept done) (Some faults.DiskFault))
+        ⊎ IsRefusedFor (IsRefusal old (state_after kept.history) step) done ending
         ⊎ (MayTake old (state_after kept.history) step × Comes old rest (committed step kept done) ending))
         (IsRefusedFor IsStepFault done ending ⊎ Comes old rest done ending) (Reaches total before ending)
-        (λ kept is h. three (λ (doubt : ending ≡ at (in_doubt step kept done) (Some faults.DiskFault)). reaches ending _ doubt (doubted left step kept done own is))
-        (λ (why : IsRefusedFor (IsRefusal old (state_after kept.history) step) done ending). reaches ending _ why.2 (reached left done None _ own))
+        (λ kept is h. three (λ (doubt : ending ≡ at (in_doubt step kept done) (Some faults.DiskFault)).
+        reaches ending _ doubt (doubted left step kept done own is))
+        (λ (why : IsRefusedFor (IsRefusal old (state_after kept.history) step) done ending).
+        reaches ending _ why.2 (reached left done None _ own))
         (λ (c : MayTake old (state_after kept.history) step × Comes old rest (committed step kept done) ending).
         comes_safe rest 1 (left - 1) (committed step kept done) ending counts (stepped left step kept done own is) c.1) h)
         (λ un h. absurd (let two : unknown ≡ keeps (whole after.now) = sym un ∙ after.is in cc)) c
-    comes_safe (tells text rest) untold left done ending (counts, later) after (inl is) = reaches ending _ is (telling untold left text done counts after)
-    comes_safe (tells text rest) untold left done ending (counts, later) after (inr c) = comes_safe rest (untold - lines_in text) left (plus text done) ending later (wrote untold left text done counts after) c
+    comes_safe (tells text rest) untold left done ending (counts, later) after (inl is) =
+        reaches ending _ is (telling untold left text done counts after)
+    comes_safe (tells text rest) untold left done ending (counts, later) after (inr c) =
+        comes_safe rest (untold - lines_in text) left (plus text done) ending later (wrote untold left text done counts after) c
     comes_safe (writes Fits rest) untold left done ending (none, over, later) after (inl is) =
-        reaches ending _ is (reached left done None (Some faults.OutOfMemory) (subst (λ (untold : ℕ). IsAfter total before untold left done) none after))
-    comes_safe (writes Fits rest) untold left done ending (none, over, later) after (inr (own, told, inl is)) = reaches ending _ is (telling untold left own done (inl over) after)
+        reaches ending _ is (reached left done None (Some faults.OutOfMemory)
+        (subst (λ (untold : ℕ). IsAfter total before untold left done) none after))
+    comes_safe (writes Fits rest) untold left done ending (none, over, later) after (inr (own, told, inl is)) =
+        reaches ending _ is (telling untold left own done (inl over) after)
     comes_safe (writes Fits rest) untold left done ending (none, over, later) after (inr (own, told, inr c)) =
         comes_safe rest 0 left (plus own done) ending (subst (λ (untold : ℕ). Counts rest untold left) none later)
-        (let zero : untold - lines_in own ≡ 0 = omega (arith, none) in subst (λ (untold : ℕ). IsAfter total before untold left (plus own done)) zero (wrote untold left own done (inl over) after)) c
+        (let zero : untold - lines_in own ≡ 0 = omega (arith, none) in
+        subst (λ (untold : ℕ). IsAfter total before untold left (plus own done)) zero (wrote untold left own done (inl over) after)) c
 
     unopened : (fit : IsFit before) (fault : Fault) → Reaches total before (at (begun (keeps before) before.least) (Some fault))
     unopened fit fault = record {
@@ -284,20 +313,23 @@ module _ (total : ℕ) (before : Kept) where
     }
 
     -- each end of a course that begins with the opening
-    pub opens_safe : (course : Course) (ending : Ending) → CountsOpen total course → IsFit before → Comes old course (begun (keeps before) before.least) ending → Reaches total before ending
+    pub opens_safe : (course : Course) (ending : Ending) → CountsOpen total course → IsFit before
+        → Comes old course (begun (keeps before) before.least) ending → Reaches total before ending
     opens_safe (opens rest) ending counts fit (inl (inl is)) = reaches ending _ is (unopened fit faults.DiskFault)
     opens_safe (opens rest) ending counts fit (inl (inr is)) = reaches ending _ is (unopened fit faults.OutOfMemory)
     opens_safe (opens rest) ending counts fit (inr (cut, low, high, c)) =
         let last = fit.last in
         let long : length (first cut before.history).steps ≡ cut = length-take-le cut before.history.steps (omega (arith, high, last)) in
-        comes_safe (rest (state_after (first cut before.history))) 0 total (opened before cut (begun (keeps before) before.least)) ending (counts (state_after (first cut before.history)))
+        comes_safe (rest (state_after (first cut before.history))) 0 total (opened before cut (begun (keeps before) before.least)) ending
+        (counts (state_after (first cut before.history)))
         (record {
           now = first cut before.history;
           is = refl;
           from = low;
           to = high;
           steps = [];
-          extends = ap (λ (own : List Step). record { base = before.history.base; steps = own }) (sym (append-nil (first cut before.history).steps));
+          extends = ap (λ (own : List Step). record { base = before.history.base; steps = own })
+              (sym (append-nil (first cut before.history).steps));
           sure = λ told most few. omega (arith, few, long);
           near = omega (arith, long);
           owed = omega arith;
@@ -320,10 +352,12 @@ module _ (total : ℕ) (old : Before) (bytes : List ℕ) (is : old.content ≡ S
   unmade : (ending own : Ending) → ending ≡ own → IsUnmadeAt own → MadeAt ending
   unmade ending own same there = inl (subst IsUnmadeAt (sym same) there)
 
-  before_made : (read : List ℕ) (reading : Option ℕ) (fault : Fault) → IsUnmadeAt (record { done = reading_alone read; reading = reading; writing = []; fault = Some fault })
+  before_made : (read : List ℕ) (reading : Option ℕ) (fault : Fault)
+      → IsUnmadeAt (record { done = reading_alone read; reading = reading; writing = []; fault = Some fault })
   before_made read reading fault = record { some = λ e. absurd (cc); disk = inr refl; unwritten = refl; unwriting = refl }
 
-  file_unmade : (A : Type 0) (file : ℕ) (told : Option (List ℕ)) (Reads : List ℕ → Result A Fault → Type 0) (read : List ℕ) (ending : Ending)
+  file_unmade : (A : Type 0) (file : ℕ) (told : Option (List ℕ)) (Reads : List ℕ → Result A Fault → Type 0) (read : List ℕ)
+      (ending : Ending)
       → BreaksIn A file told Reads (reading_alone read) ending → MadeAt ending
   file_unmade A file told Reads read ending (unread same) = unmade ending _ same (before_made read (Some file) (faults.ReadFault file))
   file_unmade A file told Reads read ending (short same) = unmade ending _ same (before_made read (Some file) faults.OutOfMemory)
@@ -345,16 +379,21 @@ module _ (total : ℕ) (old : Before) (bytes : List ℕ) (is : old.content ≡ S
   }
 
   -- each end of a course that makes its store on an empty disk
-  pub makes_safe : (course : Course) (read : List ℕ) (ending : Ending) → CountsMade total course → Comes old course (reading_alone read) ending → MadeAt ending
+  pub makes_safe : (course : Course) (read : List ℕ) (ending : Ending) → CountsMade total course
+      → Comes old course (reading_alone read) ending → MadeAt ending
   makes_safe (reads {A} file Reads rest) read ending counts (inl breaks) = file_unmade A file (old.left file) Reads read ending breaks
-  makes_safe (reads {A} file Reads rest) read ending counts (inr (found, told, c)) = makes_safe (rest found) (file ∷ read) ending (counts found) c
+  makes_safe (reads {A} file Reads rest) read ending counts (inr (found, told, c)) =
+      makes_safe (rest found) (file ∷ read) ending (counts found) c
   makes_safe (wants_empty rest) read ending counts (inl same) = unmade ending _ same (before_made read None faults.DiskFault)
   makes_safe (wants_empty rest) read ending counts (inr (inl full)) = unmade ending _ full.1 (before_made read None faults.NotEmpty)
   makes_safe (wants_empty rest) read ending counts (inr (inr (told, c))) = makes_safe rest read ending counts c
   makes_safe (formats rest) read ending counts c = three
       (λ (full : HoldsBytes old (reading_alone read) ending). unmade ending _ full.1 (before_made read None faults.NotEmpty))
-      (λ (same : ending ≡ at (with_store half_made (reading_alone read)) (Some faults.DiskFault)). unmade ending _ same (record { some = λ e. absurd (cc); disk = inl refl; unwritten = refl; unwriting = refl }))
-      (λ (c : Comes old rest (with_store (made old.content) (reading_alone read)) ending). inr (comes_safe total (whole blank) old rest 0 total (with_store (keeps (whole blank)) (reading_alone read)) ending counts (just_made read)
+      (λ (same : ending ≡ at (with_store half_made (reading_alone read)) (Some faults.DiskFault)).
+      unmade ending _ same (record { some = λ e. absurd (cc); disk = inl refl; unwritten = refl; unwriting = refl }))
+      (λ (c : Comes old rest (with_store (made old.content) (reading_alone read)) ending).
+      inr (comes_safe total (whole blank) old rest 0 total (with_store (keeps (whole blank)) (reading_alone read)) ending counts
+      (just_made read)
       (subst (λ (told : Option (List ℕ)). Comes old rest (with_store (made told) (reading_alone read)) ending) is c))) c
   makes_safe ends read ending counts c = absurd counts
   makes_safe (refuses fault) read ending counts c = absurd counts

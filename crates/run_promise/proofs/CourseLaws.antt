@@ -6,10 +6,12 @@ use Rattle.run_promise.specs.declared.fault.Fault.TheVariants as faults
 use Rattle.update_flow.specs.History.{state_after}
 use Rattle.update_flow.specs.Opening.{MayOpenAs}
 use Rattle.update_flow.specs.State.{State}
-use Rattle.run_promise.specs.Comes.{Breaks, BreaksIn, ByStore, Comes, HoldsBytes, IfUnknown, IfUnused, IsBroken, IsDue, IsNoStore, IsOfFile, IsOutside, IsRefusal, IsRefusedFor, IsStepFault, MayTake, refused, short, unread}
+use Rattle.run_promise.specs.Comes.{Breaks, BreaksIn, ByStore, Comes, HoldsBytes, IfUnknown, IfUnused, IsBroken, IsDue, IsNoStore, IsOfFile}
+use Rattle.run_promise.specs.Comes.{IsOutside, IsRefusal, IsRefusedFor, IsStepFault, MayTake, refused, short, unread}
 use Rattle.run_promise.specs.Course.{Course, ends, refuses, reads, wants_empty, formats, opens, looks, commits, tells, writes}
 use Rattle.run_promise.specs.Keeps.{Kept, first}
-use Rattle.run_promise.specs.Progress.{Standing, unused, unknown, keeps, half_made, Progress, Ending, at, at_file, at_text, past, plus, with_store, made, opened, committed, in_doubt}
+use Rattle.run_promise.specs.Progress.{Standing, unused, unknown, keeps, half_made, Progress, Ending, at, at_file, at_text, past, plus}
+use Rattle.run_promise.specs.Progress.{with_store, made, opened, committed, in_doubt}
 use Rattle.run_promise.specs.World.{Before}
 
 pub if_unused : (store : Standing) (P Q : Type 0) → (P → Q) → IfUnused store P → IfUnused store Q
@@ -30,14 +32,16 @@ of_unknown unused P h = absurd h
 of_unknown (keeps kept) P h = absurd h
 of_unknown half_made P h = absurd h
 
-pub by_store : (store : Standing) (P Q : Kept → Type 0) (R S : Type 0) → ((kept : Kept) → store ≡ keeps kept → P kept → Q kept) → (store ≡ unknown → R → S) → ByStore store P R → ByStore store Q S
+pub by_store : (store : Standing) (P Q : Kept → Type 0) (R S : Type 0) → ((kept : Kept) → store ≡ keeps kept → P kept → Q kept)
+    → (store ≡ unknown → R → S) → ByStore store P R → ByStore store Q S
 by_store unused P Q R S f g h = absurd h
 by_store unknown P Q R S f g h = g refl h
 by_store (keeps kept) P Q R S f g h = f kept refl h
 by_store half_made P Q R S f g h = absurd h
 
 -- a fact that follows either way
-pub of_store : (store : Standing) (P : Kept → Type 0) (R S : Type 0) → ((kept : Kept) → store ≡ keeps kept → P kept → S) → (store ≡ unknown → R → S) → ByStore store P R → S
+pub of_store : (store : Standing) (P : Kept → Type 0) (R S : Type 0) → ((kept : Kept) → store ≡ keeps kept → P kept → S)
+    → (store ≡ unknown → R → S) → ByStore store P R → S
 of_store unused P R S f g h = absurd h
 of_store unknown P R S f g h = g refl h
 of_store (keeps kept) P R S f g h = f kept refl h
@@ -58,50 +62,67 @@ breaks_not done ending P (inl is) not = blamed ending (at done (Some faults.Disk
 breaks_not done ending P (inr is) not = blamed ending (at done (Some faults.OutOfMemory)) P is tt not
 
 module _ (old : Before) where
-  due_in : (A : Type 0) (file : ℕ) (Reads : List ℕ → Result A Fault → Type 0) (done : Progress) (ending : Ending) → BreaksIn A file (old.left file) Reads done ending → ¬ IsOutside ending.fault
-      → (fault : Fault) × IsOfFile file fault × IfTold (old.left file) (λ bytes. Reads bytes (Err fault)) × (ending ≡ at_file file done fault)
+  due_in : (A : Type 0) (file : ℕ) (Reads : List ℕ → Result A Fault → Type 0) (done : Progress) (ending : Ending)
+      → BreaksIn A file (old.left file) Reads done ending → ¬ IsOutside ending.fault
+      → (fault : Fault) × IsOfFile file fault × IfTold (old.left file) (λ bytes. Reads bytes (Err fault))
+      × (ending ≡ at_file file done fault)
   due_in A file Reads done ending (unread is) not = blamed ending (at_file file done (faults.ReadFault file)) _ is tt not
   due_in A file Reads done ending (short is) not = blamed ending (at_file file done faults.OutOfMemory) _ is tt not
   due_in A file Reads done ending (refused fault own told is) not = (fault, own, told, is)
 
   -- where the fault blames nothing outside, the end is the one that is due
-  pub comes_due : (course : Course) (done : Progress) (ending : Ending) → Comes old course done ending → ¬ IsOutside ending.fault → IsDue old course done ending
+  pub comes_due : (course : Course) (done : Progress) (ending : Ending) → Comes old course done ending → ¬ IsOutside ending.fault
+      → IsDue old course done ending
   comes_due ends done ending c not = c
   comes_due (refuses fault) done ending c not = c
   comes_due (reads {A} file Reads rest) done ending (inl breaks) not = inl (due_in A file Reads done ending breaks not)
-  comes_due (reads {A} file Reads rest) done ending (inr (found, told, c)) not = inr (found, told, comes_due (rest found) (past file done) ending c not)
+  comes_due (reads {A} file Reads rest) done ending (inr (found, told, c)) not =
+      inr (found, told, comes_due (rest found) (past file done) ending c not)
   comes_due (wants_empty rest) done ending (inl is) not = blamed ending (at done (Some faults.DiskFault)) _ is tt not
   comes_due (wants_empty rest) done ending (inr (inl h)) not = inl h
   comes_due (wants_empty rest) done ending (inr (inr (told, c))) not = inr (told, comes_due rest done ending c not)
   comes_due (formats rest) done ending c not = if_unused done.store
-      (HoldsBytes old done ending ⊎ (ending ≡ at (with_store half_made done) (Some faults.DiskFault)) ⊎ Comes old rest (with_store (made old.content) done) ending)
+      (HoldsBytes old done ending ⊎ (ending ≡ at (with_store half_made done) (Some faults.DiskFault))
+      ⊎ Comes old rest (with_store (made old.content) done) ending)
       (HoldsBytes old done ending ⊎ IsDue old rest (with_store (made old.content) done) ending)
       (three (λ (full : HoldsBytes old done ending). inl full)
-      (λ (is : ending ≡ at (with_store half_made done) (Some faults.DiskFault)). blamed ending (at (with_store half_made done) (Some faults.DiskFault)) _ is tt not)
-      (λ (c : Comes old rest (with_store (made old.content) done) ending). inr (comes_due rest (with_store (made old.content) done) ending c not))) c
+      (λ (is : ending ≡ at (with_store half_made done) (Some faults.DiskFault)).
+      blamed ending (at (with_store half_made done) (Some faults.DiskFault)) _ is tt not)
+      (λ (c : Comes old rest (with_store (made old.content) done) ending).
+      inr (comes_due rest (with_store (made old.content) done) ending c not))) c
   comes_due (opens rest) done ending (inl breaks) not = breaks_not done ending _ breaks not
   comes_due (opens rest) done ending (inr c) not = by_store done.store
-      (λ kept. (cut : ℕ) × (kept.least ≤ cut) × (cut ≤ kept.most) × Comes old (rest (state_after (first cut kept.history))) (opened kept cut done) ending)
-      (λ kept. (cut : ℕ) × (kept.least ≤ cut) × (cut ≤ kept.most) × IsDue old (rest (state_after (first cut kept.history))) (opened kept cut done) ending)
-      (IsNoStore old done ending ⊎ IsBroken old done ending ⊎ ((state : State) × IfTold old.content (MayOpenAs state) × Comes old (rest state) done ending))
-      (IsNoStore old done ending ⊎ IsBroken old done ending ⊎ ((state : State) × IfTold old.content (MayOpenAs state) × IsDue old (rest state) done ending))
+      (λ kept. (cut : ℕ) × (kept.least ≤ cut) × (cut ≤ kept.most)
+      × Comes old (rest (state_after (first cut kept.history))) (opened kept cut done) ending)
+      (λ kept. (cut : ℕ) × (kept.least ≤ cut) × (cut ≤ kept.most)
+      × IsDue old (rest (state_after (first cut kept.history))) (opened kept cut done) ending)
+      (IsNoStore old done ending ⊎ IsBroken old done ending
+      ⊎ ((state : State) × IfTold old.content (MayOpenAs state) × Comes old (rest state) done ending))
+      (IsNoStore old done ending ⊎ IsBroken old done ending
+      ⊎ ((state : State) × IfTold old.content (MayOpenAs state) × IsDue old (rest state) done ending))
       (λ kept _ h. (h.0, h.1, h.2, comes_due (rest (state_after (first h.0 kept.history))) (opened kept h.0 done) ending h.3 not))
       (λ _ h. three (λ (none : IsNoStore old done ending). inl none) (λ (bad : IsBroken old done ending). inr (inl bad))
-      (λ (c : (state : State) × IfTold old.content (MayOpenAs state) × Comes old (rest state) done ending). inr (inr (c.0, c.1, comes_due (rest c.0) done ending c.2 not))) h) c
+      (λ (c : (state : State) × IfTold old.content (MayOpenAs state) × Comes old (rest state) done ending).
+      inr (inr (c.0, c.1, comes_due (rest c.0) done ending c.2 not))) h) c
   comes_due (looks rest) done ending (inl breaks) not = breaks_not done ending _ breaks not
   comes_due (looks rest) done ending (inr (inl bad)) not = inl bad
   comes_due (looks rest) done ending (inr (inr c)) not = inr (comes_due rest done ending c not)
   comes_due (commits step rest) done ending (inl breaks) not = breaks_not done ending _ breaks not
   comes_due (commits step rest) done ending (inr c) not = by_store done.store
-      (λ kept. (ending ≡ at (in_doubt step kept done) (Some faults.DiskFault)) ⊎ IsRefusedFor (IsRefusal old (state_after kept.history) step) done ending
+      (λ kept. (ending ≡ at (in_doubt step kept done) (Some faults.DiskFault))
+      ⊎ IsRefusedFor (IsRefusal old (state_after kept.history) step) done ending
       ⊎ (MayTake old (state_after kept.history) step × Comes old rest (committed step kept done) ending))
-      (λ kept. IsRefusedFor (IsRefusal old (state_after kept.history) step) done ending ⊎ (MayTake old (state_after kept.history) step × IsDue old rest (committed step kept done) ending))
+      (λ kept. IsRefusedFor (IsRefusal old (state_after kept.history) step) done ending
+      ⊎ (MayTake old (state_after kept.history) step × IsDue old rest (committed step kept done) ending))
       (IsRefusedFor IsStepFault done ending ⊎ Comes old rest done ending)
       (IsRefusedFor IsStepFault done ending ⊎ IsDue old rest done ending)
-      (λ kept _ h. three (λ (is : ending ≡ at (in_doubt step kept done) (Some faults.DiskFault)). blamed ending (at (in_doubt step kept done) (Some faults.DiskFault)) _ is tt not)
+      (λ kept _ h. three (λ (is : ending ≡ at (in_doubt step kept done) (Some faults.DiskFault)).
+      blamed ending (at (in_doubt step kept done) (Some faults.DiskFault)) _ is tt not)
       (λ (why : IsRefusedFor (IsRefusal old (state_after kept.history) step) done ending). inl why)
-      (λ (c : MayTake old (state_after kept.history) step × Comes old rest (committed step kept done) ending). inr (c.0, comes_due rest (committed step kept done) ending c.1 not)) h)
-      (λ _ h. ⊎_elim (λ (why : IsRefusedFor IsStepFault done ending). inl why) (λ (c : Comes old rest done ending). inr (comes_due rest done ending c not)) h) c
+      (λ (c : MayTake old (state_after kept.history) step × Comes old rest (committed step kept done) ending).
+      inr (c.0, comes_due rest (committed step kept done) ending c.1 not)) h)
+      (λ _ h. ⊎_elim (λ (why : IsRefusedFor IsStepFault done ending). inl why)
+      (λ (c : Comes old rest done ending). inr (comes_due rest done ending c not)) h) c
   comes_due (tells text rest) done ending (inl is) not = blamed ending (at_text text done faults.WriteFault) _ is tt not
   comes_due (tells text rest) done ending (inr c) not = comes_due rest (plus text done) ending c not
   comes_due (writes Fits rest) done ending (inl is) not = blamed ending (at done (Some faults.OutOfMemory)) _ is tt not

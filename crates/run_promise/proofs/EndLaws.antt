@@ -1,5 +1,6 @@
 -- What runs that end well have done, by the courses of their commands.
-use Rattle.std.proofs.Common.{◌≡◌, ◌⊎◌, ◌≤◌, ℕ, zero, suc, ◌+◌, ◌-◌, true, Option, Some, None, Result, List, [], ◌∷◌, ◌++◌, length, map, inl, inr, refl, sym, ◌∙◌, ap, subst, arith}
+use Rattle.std.proofs.Common.{◌≡◌, ◌⊎◌, ◌≤◌, ℕ, zero, suc, ◌+◌, ◌-◌, true, Option, Some, None, Result, List, [], ◌∷◌, ◌++◌, length, map}
+use Rattle.std.proofs.Common.{inl, inr, refl, sym, ◌∙◌, ap, subst, arith}
 use Rattle.std.proofs.lemmas.List.{append-nil}
 use Rattle.osm_base.specs.declared.values.object.Entry.{Entry}
 use Rattle.tile_cover.specs.Table.{BoundsOf}
@@ -10,18 +11,21 @@ use Rattle.run_promise.specs.declared.fault.Fault.TheVariants as faults
 use Rattle.run_promise.specs.Comes.{Breaks, BreaksIn, ByStore, Comes, IsRefusal, IsRefusedFor, IsStepFault, MayTake, refused, short, unread}
 use Rattle.run_promise.specs.CommandOf.{append_of, import_of, tiles_of}
 use Rattle.run_promise.specs.Course.{Course, commits, ends, tells, writes}
-use Rattle.run_promise.specs.Courses.{IsTileText, append_to, appends, clears, course_of, finished, import_into, onward, tiles_of_store, version_line}
+use Rattle.run_promise.specs.Courses.{IsTileText, append_to, appends, clears, course_of, finished, import_into, onward, tiles_of_store}
+use Rattle.run_promise.specs.Courses.{version_line}
 use Rattle.run_promise.specs.EndsWell.{AreAccepted, IsAppended, IsCleared, IsFirstImport, version_lines}
 use Rattle.run_promise.specs.Faults.{flow_fault}
 use Rattle.run_promise.specs.Files.{IsBounds, IsChange, IsStyle}
 use Rattle.run_promise.specs.Keeps.{Kept, first, whole, with_steps}
-use Rattle.run_promise.specs.Progress.{Standing, keeps, Progress, Ending, IsIn, at, at_file, at_text, begun, committed, in_doubt, opened, past, plus}
+use Rattle.run_promise.specs.Progress.{Standing, keeps, Progress, Ending, IsIn, at, at_file, at_text, begun, committed, in_doubt, opened}
+use Rattle.run_promise.specs.Progress.{past, plus}
 use Rattle.run_promise.specs.World.{Before}
 use Rattle.run_promise.specs.declared.files.Files.{Files}
 use Rattle.run_promise.proofs.HistoryLaws.{append_more, state-more}
 
 -- so many files from this one on were appended
-record WentOn (old : Before) (bounds : BoundsOf) (held : Holding) (file count : ℕ) (history : History) (before : Progress) (ending : Ending) : Type 0 where
+record WentOn (old : Before) (bounds : BoundsOf) (held : Holding) (file count : ℕ) (history : History) (before : Progress)
+    (ending : Ending) : Type 0 where
   changes : List (List Entry)
   many : length changes ≡ count
   accepted : AreAccepted old file changes ending.done.read
@@ -38,7 +42,8 @@ module _ (old : Before) (ending : Ending) (well : ending.fault ≡ None) where
   breaks_not P done (inl is) = faulty P (at done (Some faults.DiskFault)) faults.DiskFault is refl
   breaks_not P done (inr is) = faulty P (at done (Some faults.OutOfMemory)) faults.OutOfMemory is refl
 
-  in_file : {A : Type 0} (P : Type 0) (file : ℕ) (told : Option (List ℕ)) (Reads : List ℕ → Result A Fault → Type 0) (done : Progress) → BreaksIn A file told Reads done ending → P
+  in_file : {A : Type 0} (P : Type 0) (file : ℕ) (told : Option (List ℕ)) (Reads : List ℕ → Result A Fault → Type 0) (done : Progress)
+      → BreaksIn A file told Reads done ending → P
   in_file P file told Reads done (unread is) = faulty P (at_file file done (faults.ReadFault file)) (faults.ReadFault file) is refl
   in_file P file told Reads done (short is) = faulty P (at_file file done faults.OutOfMemory) faults.OutOfMemory is refl
   in_file P file told Reads done (refused fault own said is) = faulty P (at_file file done fault) fault is refl
@@ -48,27 +53,33 @@ module _ (old : Before) (ending : Ending) (well : ending.fault ≡ None) where
   IsTaken step rest history done = Comes old rest (committed step (whole history) done) ending
 
   went_known : (step : Step) (rest : Course) (history : History) (done : Progress)
-      → (ending ≡ at (in_doubt step (whole history) done) (Some faults.DiskFault)) ⊎ IsRefusedFor (IsRefusal old (state_after history) step) done ending
+      → (ending ≡ at (in_doubt step (whole history) done) (Some faults.DiskFault))
+      ⊎ IsRefusedFor (IsRefusal old (state_after history) step) done ending
       ⊎ (MayTake old (state_after history) step × IsTaken step rest history done) → IsTaken step rest history done
-  went_known step rest history done (inl is) = faulty _ (at (in_doubt step (whole history) done) (Some faults.DiskFault)) faults.DiskFault is refl
+  went_known step rest history done (inl is) =
+      faulty _ (at (in_doubt step (whole history) done) (Some faults.DiskFault)) faults.DiskFault is refl
   went_known step rest history done (inr (inl (fault, why, is))) = faulty _ (at done (Some (flow_fault fault))) (flow_fault fault) is refl
   went_known step rest history done (inr (inr (may, comes))) = comes
 
-  went_on : (step : Step) (rest : Course) (history : History) (done : Progress) → done.store ≡ keeps (whole history) → Comes old (commits step rest) done ending → IsTaken step rest history done
+  went_on : (step : Step) (rest : Course) (history : History) (done : Progress) → done.store ≡ keeps (whole history)
+      → Comes old (commits step rest) done ending → IsTaken step rest history done
   went_on step rest history done is (inl breaks) = breaks_not _ done breaks
   went_on step rest history done is (inr comes) =
       went_known step rest history done
       (subst (λ (store : Standing). ByStore store
-      (λ kept. (ending ≡ at (in_doubt step kept done) (Some faults.DiskFault)) ⊎ IsRefusedFor (IsRefusal old (state_after kept.history) step) done ending
+      (λ kept. (ending ≡ at (in_doubt step kept done) (Some faults.DiskFault))
+      ⊎ IsRefusedFor (IsRefusal old (state_after kept.history) step) done ending
       ⊎ (MayTake old (state_after kept.history) step × Comes old rest (committed step kept done) ending))
       (IsRefusedFor IsStepFault done ending ⊎ Comes old rest done ending)) is comes)
 
   -- a line was told
-  line_told : (text : List ℕ) (rest : Course) (done : Progress) → Comes old (tells text rest) done ending → Comes old rest (plus text done) ending
+  line_told : (text : List ℕ) (rest : Course) (done : Progress) → Comes old (tells text rest) done ending
+      → Comes old rest (plus text done) ending
   line_told text rest done (inl is) = faulty _ (at_text text done faults.WriteFault) faults.WriteFault is refl
   line_told text rest done (inr comes) = comes
 
-  appended_on : (bounds : BoundsOf) (held : Holding) (file count : ℕ) (history : History) (done : Progress) → done.store ≡ keeps (whole history) → state_after history ≡ imported held
+  appended_on : (bounds : BoundsOf) (held : Holding) (file count : ℕ) (history : History) (done : Progress)
+      → done.store ≡ keeps (whole history) → state_after history ≡ imported held
       → Comes old (appends bounds held file count (onward finished)) done ending → WentOn old bounds held file count history done ending
   unfolding appends
   appended_on bounds held file zero history done keeps_it holds is = record {
@@ -80,7 +91,8 @@ module _ (old : Before) (ending : Ending) (well : ending.fault ≡ None) where
         ∙ ap (λ (steps : List Step). keeps (whole (record { base = history.base; steps = steps }))) (sym (append-nil history.steps));
     told = ap (λ (end : Ending). end.done.written) is ∙ sym (append-nil done.written);
   }
-  appended_on bounds held file (suc count) history done keeps_it holds (inl breaks) = in_file _ file (old.left file) (IsChange file) done breaks
+  appended_on bounds held file (suc count) history done keeps_it holds (inl breaks) =
+      in_file _ file (old.left file) (IsChange file) done breaks
   appended_on bounds held file (suc count) history done keeps_it holds (inr (change, accepted, comes)) =
       let step = Append bounds change in
       let line = version_line (held.changes + 1) in
@@ -89,14 +101,16 @@ module _ (old : Before) (ending : Ending) (well : ending.fault ≡ None) where
       let further = plus line (committed step (whole history) (past file done)) in
       let more = with_steps (step ∷ []) history in
       let later = appended_on bounds (changed bounds change held) (file + 1) count more further refl
-      (state-more step history ∙ ap (λ (own : State). after own step) holds) (line_told line rest (committed step (whole history) (past file done)) taken) in
+      (state-more step history ∙ ap (λ (own : State). after own step) holds)
+      (line_told line rest (committed step (whole history) (past file done)) taken) in
       record {
         changes = change ∷ later.changes;
         many = (let many = later.many in omega (arith, many));
         accepted = (later.still file (inl refl), accepted, later.accepted);
         still = λ own read. later.still own (inr read);
         kept = later.kept
-            ∙ ap (λ (steps : List Step). keeps (whole (record { base = history.base; steps = steps }))) (append_more history.steps (step ∷ []) (map (λ change. Append bounds change) later.changes));
+            ∙ ap (λ (steps : List Step). keeps (whole (record { base = history.base; steps = steps })))
+            (append_more history.steps (step ∷ []) (map (λ change. Append bounds change) later.changes));
         told = later.told ∙ append_more done.written line (version_lines (held.changes + 1) count);
       }
 
@@ -108,7 +122,8 @@ module _ (old : Before) (ending : Ending) (well : ending.fault ≡ None) where
     done = opened kept cut (begun (keeps kept) kept.least)
 
     -- an append, behind the opening
-    appended_by : (files : Files) (state : State) → state_after stood ≡ state → Comes old (append_to files state) done ending → IsAppended old files kept ending
+    appended_by : (files : Files) (state : State) → state_after stood ≡ state → Comes old (append_to files state) done ending
+        → IsAppended old files kept ending
     appended_by files formatted was is = faulty _ (at done (Some faults.NotImported)) faults.NotImported is refl
     appended_by files (outdated held) was is = faulty _ (at done (Some faults.OldFormat)) faults.OldFormat is refl
     appended_by files (imported held) was (inl breaks) = in_file _ files.first (old.left files.first) (IsBounds files.first) done breaks
@@ -130,7 +145,8 @@ module _ (old : Before) (ending : Ending) (well : ending.fault ≡ None) where
         }
 
     -- an import
-    imported_by : (files : Files) (buckets : ℕ) (state : State) → state_after stood ≡ state → Comes old (import_into files buckets state) done ending → IsFirstImport old files buckets kept ending
+    imported_by : (files : Files) (buckets : ℕ) (state : State) → state_after stood ≡ state
+        → Comes old (import_into files buckets state) done ending → IsFirstImport old files buckets kept ending
     imported_by files buckets (imported held) was is = faulty _ (at done (Some faults.AlreadyImported)) faults.AlreadyImported is refl
     imported_by files buckets (outdated held) was is = faulty _ (at done (Some faults.OldFormat)) faults.OldFormat is refl
     imported_by files buckets formatted was (inl breaks) = in_file _ files.first (old.left files.first) (IsStyle files.first) done breaks
@@ -140,7 +156,8 @@ module _ (old : Before) (ending : Ending) (well : ending.fault ≡ None) where
         let step = Import style.0 style.1 buckets entries in
         let before = past (files.first + 1) (past files.first done) in
         let taken = went_on step (tells (version_line 0) ends) stood before refl comes in
-        let is : ending ≡ at (plus (version_line 0) (committed step (whole stood) before)) None = line_told (version_line 0) ends (committed step (whole stood) before) taken in
+        let is : ending ≡ at (plus (version_line 0) (committed step (whole stood) before)) None =
+        line_told (version_line 0) ends (committed step (whole stood) before) taken in
         record {
           cut = cut;
           stood = record { from = low; to = high };
@@ -155,19 +172,22 @@ module _ (old : Before) (ending : Ending) (well : ending.fault ≡ None) where
         }
 
     -- a clearing
-    text_written : (Fits : List ℕ → Type 0) (rest : Course) → Comes old (writes Fits rest) done ending → (own : List ℕ) × Fits own × Comes old rest (plus own done) ending
+    text_written : (Fits : List ℕ → Type 0) (rest : Course) → Comes old (writes Fits rest) done ending
+        → (own : List ℕ) × Fits own × Comes old rest (plus own done) ending
     text_written Fits rest (inl is) = faulty _ (at done (Some faults.OutOfMemory)) faults.OutOfMemory is refl
     text_written Fits rest (inr (own, fits, inl is)) = faulty _ (at_text own done faults.WriteFault) faults.WriteFault is refl
     text_written Fits rest (inr (own, fits, inr comes)) = (own, fits (λ file read. absurd read) tt, comes)
 
-    cleared_by : (least : ℕ) (state : State) → state_after stood ≡ state → Comes old (tiles_of_store least true state) done ending → IsCleared least kept ending
+    cleared_by : (least : ℕ) (state : State) → state_after stood ≡ state → Comes old (tiles_of_store least true state) done ending
+        → IsCleared least kept ending
     cleared_by least formatted was is = faulty _ (at done (Some faults.NotImported)) faults.NotImported is refl
     cleared_by least (outdated held) was is = faulty _ (at done (Some faults.OldFormat)) faults.OldFormat is refl
     cleared_by least (imported held) was (inl breaks) = breaks_not _ done breaks
     cleared_by least (imported held) was (inr (inl bad)) = absurd bad
     cleared_by least (imported held) was (inr (inr comes)) =
         let wrote = text_written (IsTileText held.due least) (clears true) comes in
-        let is : ending ≡ at (committed Clear (whole stood) (plus wrote.0 done)) None = went_on Clear ends stood (plus wrote.0 done) refl wrote.2 in
+        let is : ending ≡ at (committed Clear (whole stood) (plus wrote.0 done)) None =
+        went_on Clear ends stood (plus wrote.0 done) refl wrote.2 in
         record {
           cut = cut;
           stood = record { from = low; to = high };
@@ -177,15 +197,21 @@ module _ (old : Before) (ending : Ending) (well : ending.fault ≡ None) where
           told = subst (λ (end : Ending). IsTileText held.due least end.done.written) (sym is) wrote.1;
         }
 
-  pub appended_well : (store : List ℕ) (files : Files) (workers : ℕ) (kept : Kept) → Comes old (course_of (append_of store files workers)) (begun (keeps kept) kept.least) ending → IsAppended old files kept ending
+  pub appended_well : (store : List ℕ) (files : Files) (workers : ℕ) (kept : Kept)
+      → Comes old (course_of (append_of store files workers)) (begun (keeps kept) kept.least) ending → IsAppended old files kept ending
   appended_well store files workers kept (inl breaks) = breaks_not _ (begun (keeps kept) kept.least) breaks
-  appended_well store files workers kept (inr (cut, low, high, comes)) = appended_by kept cut low high files (state_after (first cut kept.history)) refl comes
+  appended_well store files workers kept (inr (cut, low, high, comes)) =
+      appended_by kept cut low high files (state_after (first cut kept.history)) refl comes
 
-  pub imported_well : (store : List ℕ) (files : Files) (buckets workers : ℕ) (kept : Kept) → Comes old (course_of (import_of store files buckets workers)) (begun (keeps kept) kept.least) ending
+  pub imported_well : (store : List ℕ) (files : Files) (buckets workers : ℕ) (kept : Kept)
+      → Comes old (course_of (import_of store files buckets workers)) (begun (keeps kept) kept.least) ending
       → IsFirstImport old files buckets kept ending
   imported_well store files buckets workers kept (inl breaks) = breaks_not _ (begun (keeps kept) kept.least) breaks
-  imported_well store files buckets workers kept (inr (cut, low, high, comes)) = imported_by kept cut low high files buckets (state_after (first cut kept.history)) refl comes
+  imported_well store files buckets workers kept (inr (cut, low, high, comes)) =
+      imported_by kept cut low high files buckets (state_after (first cut kept.history)) refl comes
 
-  pub cleared_well : (store : List ℕ) (least : ℕ) (kept : Kept) → Comes old (course_of (tiles_of store least true)) (begun (keeps kept) kept.least) ending → IsCleared least kept ending
+  pub cleared_well : (store : List ℕ) (least : ℕ) (kept : Kept)
+      → Comes old (course_of (tiles_of store least true)) (begun (keeps kept) kept.least) ending → IsCleared least kept ending
   cleared_well store least kept (inl breaks) = breaks_not _ (begun (keeps kept) kept.least) breaks
-  cleared_well store least kept (inr (cut, low, high, comes)) = cleared_by kept cut low high least (state_after (first cut kept.history)) refl comes
+  cleared_well store least kept (inr (cut, low, high, comes)) =
+      cleared_by kept cut low high least (state_after (first cut kept.history)) refl comes

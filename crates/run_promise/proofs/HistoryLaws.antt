@@ -19,10 +19,12 @@ pub state-more : (step : Step) (history : History) → state_after (with_steps (
 state-more step history = fold-append after history.base history.steps (step ∷ [])
 
 -- bytes after so many steps stay so when the history grows
-pub is_more : (bytes : List ℕ) (history : History) (more : List Step) (steps : ℕ) → Is bytes history steps → Is bytes (with_steps more history) steps
+pub is_more : (bytes : List ℕ) (history : History) (more : List Step) (steps : ℕ) → Is bytes history steps
+    → Is bytes (with_steps more history) steps
 is_more bytes history more steps is = record {
   within = omega (arith, is.within, longer history.steps more);
-  stands = subst (λ (own : List Step). StandsFor bytes (state_after (record { base = history.base; steps = own }))) (sym (take-append-le steps history.steps more is.within)) is.stands;
+  stands = subst (λ (own : List Step). StandsFor bytes (state_after (record { base = history.base; steps = own })))
+      (sym (take-append-le steps history.steps more is.within)) is.stands;
 }
   where
     longer : (one two : List Step) → length one ≤ length (one ++ two)
@@ -33,14 +35,17 @@ is_more bytes history more steps is = record {
 pub is_all : (bytes : List ℕ) (history : History) → StandsFor bytes (state_after history) → Is bytes history (length history.steps)
 is_all bytes history stands = record {
   within = omega arith;
-  stands = subst (λ (own : List Step). StandsFor bytes (state_after (record { base = history.base; steps = own }))) (sym (take_all (length history.steps) history.steps (omega arith))) stands;
+  stands = subst (λ (own : List Step). StandsFor bytes (state_after (record { base = history.base; steps = own })))
+      (sym (take_all (length history.steps) history.steps (omega arith))) stands;
 }
 
 pub one_of_all : (bytes : List ℕ) (history : History) → StandsFor bytes (state_after history) → IsOneOf (whole history) bytes
 one_of_all bytes history stands = (length history.steps, omega arith, omega arith, is_all bytes history stands)
 
 -- bytes after one step more
-pub is_next : (bytes : List ℕ) (history : History) (step : Step) → StandsFor bytes (after (state_after history) step) → Is bytes (with_steps (step ∷ []) history) (length history.steps + 1)
+pub is_next : (bytes : List ℕ) (history : History) (step : Step) → StandsFor bytes (after (state_after history) step)
+    → Is bytes (with_steps (step ∷ []) history) (length history.steps + 1)
 is_next bytes history step stands =
     subst (λ (count : ℕ). Is bytes (with_steps (step ∷ []) history) count) (length_more history.steps step)
-    (is_all bytes (with_steps (step ∷ []) history) (subst (λ (state : State). StandsFor bytes state) (sym (state-more step history)) stands))
+    (is_all bytes (with_steps (step ∷ []) history)
+    (subst (λ (state : State). StandsFor bytes state) (sym (state-more step history)) stands))

@@ -6,9 +6,11 @@ use Rattle.run_promise.specs.declared.fault.Fault.{Fault}
 use Rattle.run_promise.specs.declared.fault.Fault.TheVariants as faults
 use Rattle.run_promise.specs.Causes.{WantsNewFormat}
 use Rattle.run_promise.specs.Comes.{Comes}
-use Rattle.run_promise.specs.CommandOf.{CommandOf, points_of, lines_of, init_of, import_of, append_of, export_of, tiles_of, query_of, serve_of, replay_of, migrate_of}
+use Rattle.run_promise.specs.CommandOf.{CommandOf, points_of, lines_of, init_of, import_of, append_of, export_of, tiles_of, query_of}
+use Rattle.run_promise.specs.CommandOf.{serve_of, replay_of, migrate_of}
 use Rattle.run_promise.specs.Course.{Course, opens, tells, ends}
-use Rattle.run_promise.specs.Courses.{append_to, course_of, export_from, format_line, import_into, migrates, query_from, serve_to, tiles_of_store}
+use Rattle.run_promise.specs.Courses.{append_to, course_of, export_from, format_line, import_into, migrates, query_from, serve_to}
+use Rattle.run_promise.specs.Courses.{tiles_of_store}
 use Rattle.run_promise.specs.Faults.{flow_fault}
 use Rattle.run_promise.specs.Keeps.{Kept, first, whole, with_steps}
 use Rattle.run_promise.specs.Migrating.{IfOld, IsMigrated, IsMigratedFrom, LeavesOld, had, got}
@@ -37,16 +39,21 @@ opened_left rest old kept ending refused (inr (cut, low, high, comes)) =
     )
 
 -- each command that opens its store goes so, but for the one that migrates it
-pub leaves_old : (command : CommandOf) (old : Before) (kept : Kept) (ending : Ending) → WantsNewFormat command → Comes old (course_of command) (begun (keeps kept) kept.least) ending → LeavesOld kept ending
+pub leaves_old : (command : CommandOf) (old : Before) (kept : Kept) (ending : Ending) → WantsNewFormat command
+    → Comes old (course_of command) (begun (keeps kept) kept.least) ending → LeavesOld kept ending
 leaves_old (points_of key files) old kept ending wants comes = absurd (cc)
 leaves_old (lines_of key files) old kept ending wants comes = absurd (cc)
 leaves_old (init_of store) old kept ending wants comes = absurd (cc)
-leaves_old (import_of store files buckets workers) old kept ending wants comes = opened_left (import_into files buckets) old kept ending (λ held done is. is) comes
-leaves_old (append_of store files workers) old kept ending wants comes = opened_left (append_to files) old kept ending (λ held done is. is) comes
+leaves_old (import_of store files buckets workers) old kept ending wants comes =
+    opened_left (import_into files buckets) old kept ending (λ held done is. is) comes
+leaves_old (append_of store files workers) old kept ending wants comes =
+    opened_left (append_to files) old kept ending (λ held done is. is) comes
 leaves_old (export_of store table) old kept ending wants comes = opened_left (export_from table) old kept ending (λ held done is. is) comes
-leaves_old (tiles_of store least clear) old kept ending wants comes = opened_left (tiles_of_store least clear) old kept ending (λ held done is. is) comes
+leaves_old (tiles_of store least clear) old kept ending wants comes =
+    opened_left (tiles_of_store least clear) old kept ending (λ held done is. is) comes
 leaves_old (query_of store files) old kept ending wants comes = opened_left (query_from files) old kept ending (λ held done is. is) comes
-leaves_old (serve_of store files workers readers) old kept ending wants comes = opened_left (serve_to files readers) old kept ending (λ held done is. is) comes
+leaves_old (serve_of store files workers readers) old kept ending wants comes =
+    opened_left (serve_to files readers) old kept ending (λ held done is. is) comes
 leaves_old (replay_of store files workers) old kept ending wants comes = absurd (cc)
 leaves_old (migrate_of store) old kept ending wants comes = absurd wants
 
@@ -63,9 +70,11 @@ module _ (kept : Kept) (ending : Ending) (well : ending.fault ≡ None) where
     done = opened kept cut (begun (keeps kept) kept.least)
 
     -- the line was told over a store that holds this
-    told : (held : Holding) (now : History) (further : Progress) → IsMigratedFrom stood now held → state_after now ≡ imported held → further.store ≡ keeps (whole now) → further.written ≡ []
+    told : (held : Holding) (now : History) (further : Progress) → IsMigratedFrom stood now held → state_after now ≡ imported held
+        → further.store ≡ keeps (whole now) → further.written ≡ []
         → Comes old (tells format_line ends) further ending → IsMigrated kept ending
-    told held now further from holds stands unwritten (inl is) = faulty (at_text format_line further faults.WriteFault) faults.WriteFault is refl
+    told held now further from holds stands unwritten (inl is) =
+        faulty (at_text format_line further faults.WriteFault) faults.WriteFault is refl
     told held now further from holds stands unwritten (inr is) = record {
       cut = cut;
       from = low;
@@ -84,13 +93,20 @@ module _ (kept : Kept) (ending : Ending) (well : ending.fault ≡ None) where
     migrated_by (imported held) was comes = told held stood done (had was refl) was refl refl comes
     migrated_by (outdated held) was (inl (inl is)) = faulty (at done (Some faults.DiskFault)) faults.DiskFault is refl
     migrated_by (outdated held) was (inl (inr is)) = faulty (at done (Some faults.OutOfMemory)) faults.OutOfMemory is refl
-    migrated_by (outdated held) was (inr (inl is)) = faulty (at (in_doubt Migrate (whole stood) done) (Some faults.DiskFault)) faults.DiskFault is refl
-    migrated_by (outdated held) was (inr (inr (inl (fault, why, is)))) = faulty (at done (Some (flow_fault fault))) (flow_fault fault) is refl
+    migrated_by (outdated held) was (inr (inl is)) =
+        faulty (at (in_doubt Migrate (whole stood) done) (Some faults.DiskFault)) faults.DiskFault is refl
+    migrated_by (outdated held) was (inr (inr (inl (fault, why, is)))) =
+        faulty (at done (Some (flow_fault fault))) (flow_fault fault) is refl
     migrated_by (outdated held) was (inr (inr (inr (so, comes)))) =
-        told held (with_steps (Migrate ∷ []) stood) (committed Migrate (whole stood) done) (got was refl) (state-more Migrate stood ∙ ap (λ (own : State). after own Migrate) was) refl refl comes
+        told held (with_steps (Migrate ∷ []) stood) (committed Migrate (whole stood) done) (got was refl)
+        (state-more Migrate stood ∙ ap (λ (own : State). after own Migrate) was) refl refl comes
 
 -- a migration that ended well
-pub migrated_well : (old : Before) (store : List ℕ) (kept : Kept) (ending : Ending) → Comes old (course_of (migrate_of store)) (begun (keeps kept) kept.least) ending → ending.fault ≡ None → IsMigrated kept ending
-migrated_well old store kept ending (inl (inl is)) well = faulty kept ending well (at (begun (keeps kept) kept.least) (Some faults.DiskFault)) faults.DiskFault is refl
-migrated_well old store kept ending (inl (inr is)) well = faulty kept ending well (at (begun (keeps kept) kept.least) (Some faults.OutOfMemory)) faults.OutOfMemory is refl
-migrated_well old store kept ending (inr (cut, low, high, comes)) well = migrated_by kept ending well old cut low high (state_after (first cut kept.history)) refl comes
+pub migrated_well : (old : Before) (store : List ℕ) (kept : Kept) (ending : Ending)
+    → Comes old (course_of (migrate_of store)) (begun (keeps kept) kept.least) ending → ending.fault ≡ None → IsMigrated kept ending
+migrated_well old store kept ending (inl (inl is)) well =
+    faulty kept ending well (at (begun (keeps kept) kept.least) (Some faults.DiskFault)) faults.DiskFault is refl
+migrated_well old store kept ending (inl (inr is)) well =
+    faulty kept ending well (at (begun (keeps kept) kept.least) (Some faults.OutOfMemory)) faults.OutOfMemory is refl
+migrated_well old store kept ending (inr (cut, low, high, comes)) well =
+    migrated_by kept ending well old cut low high (state_after (first cut kept.history)) refl comes

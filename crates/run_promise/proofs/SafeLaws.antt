@@ -1,5 +1,6 @@
 -- What a store keeps through a run, by its course.
-use Rattle.std.proofs.Common.{◌≡◌, ◌+◌, ◌-◌, ◌⊎◌, ℕ, zero, suc, Bool, true, false, Option, Some, None, List, [], ◌∷◌, ◌++◌, ⊎_elim, inl, inr, refl, sym, ◌∙◌, ap, subst, arith}
+use Rattle.std.proofs.Common.{◌≡◌, ◌+◌, ◌-◌, ◌⊎◌, ℕ, zero, suc, Bool, true, false, Option, Some, None, List, [], ◌∷◌, ◌++◌, ⊎_elim, inl}
+use Rattle.std.proofs.Common.{inr, refl, sym, ◌∙◌, ap, subst, arith}
 use Rattle.std.proofs.lemmas.List.{append-nil}
 use Rattle.outside.specs.Bytes.{BothKnown}
 use Rattle.style_read.specs.Style.{table_of}
@@ -8,9 +9,11 @@ use Rattle.tile_cover.specs.Table.{BoundsOf}
 use Rattle.update_flow.specs.State.{Holding, State, formatted, imported, outdated, changed, fresh}
 use Rattle.run_promise.specs.declared.fault.Fault.{Fault}
 use Rattle.run_promise.specs.declared.fault.Fault.TheVariants as faults
-use Rattle.run_promise.specs.CommandOf.{CommandOf, points_of, lines_of, init_of, import_of, append_of, export_of, tiles_of, query_of, serve_of, replay_of, migrate_of, Use, new_store, old_store, use_of}
+use Rattle.run_promise.specs.CommandOf.{CommandOf, points_of, lines_of, init_of, import_of, append_of, export_of, tiles_of, query_of}
+use Rattle.run_promise.specs.CommandOf.{serve_of, replay_of, migrate_of, Use, new_store, old_store, use_of}
 use Rattle.run_promise.specs.Comes.{Comes}
-use Rattle.run_promise.specs.Courses.{Onward, telling, append_to, appends, clears, course_of, export_from, exports, finished, import_into, migrates, onward, query_from, serve_to, serves, tiles_of_store, version_line}
+use Rattle.run_promise.specs.Courses.{Onward, telling, append_to, appends, clears, course_of, export_from, exports, finished, import_into}
+use Rattle.run_promise.specs.Courses.{migrates, onward, query_from, serve_to, serves, tiles_of_store, version_line}
 use Rattle.run_promise.specs.Keeps.{Kept, IsFit, IsOneOf, blank, whole}
 use Rattle.run_promise.specs.Leaves.{IsPast, Leaves, StandsOn}
 use Rattle.run_promise.specs.Progress.{Standing, unused, keeps, Progress, Ending, begun}
@@ -35,15 +38,18 @@ module _ (command : CommandOf) (before : Kept) (ending : Ending) (there : Reache
       }
 
   took : (earlier later : Option (List ℕ)) → BothKnown earlier later (GrewBy ending.done.written ending.writing)
-      → BothKnown earlier later (λ earlier later. Acknowledges (steps_told command) there.now ending.done.cut there.steps ending.fault (lines_in later - lines_in earlier))
+      → BothKnown earlier later (λ earlier later.
+      Acknowledges (steps_told command) there.now ending.done.cut there.steps ending.fault (lines_in later - lines_in earlier))
   took None later grew = tt
   took (Some earlier) None grew = grew
   took (Some earlier) (Some later) grew = acknowledges earlier later grew
 
   -- what the run makes of the history
-  abbrev extends : (start : Progress) (old new : World) → Comes (remembered old) (course_of command) start ending → Leaves start ending (remembered old) new → Extends command start before old new ending.fault
+  abbrev extends : (start : Progress) (old new : World) → Comes (remembered old) (course_of command) start ending
+      → Leaves start ending (remembered old) new → Extends command start before old new ending.fault
   extends start old new comes leaves =
-      let stands : StandsOn ending.fault (keeps there.now) (remembered old) new.disk = subst (λ (own : Standing). StandsOn ending.fault own (remembered old) new.disk) there.is leaves.store in
+      let stands : StandsOn ending.fault (keeps there.now) (remembered old) new.disk =
+      subst (λ (own : Standing). StandsOn ending.fault own (remembered old) new.disk) there.is leaves.store in
       record {
         now = there.now;
         cut = ending.done.cut;
@@ -62,17 +68,20 @@ module _ (command : CommandOf) (before : Kept) (ending : Ending) (there : Reache
       }
 
 -- what a disk kept, it keeps
-goes_safe : (command : CommandOf) (before : Kept) (fault : Option Fault) (old new : World) → CountsOpen (steps_told command) (course_of command) → IsFit before
+goes_safe : (command : CommandOf) (before : Kept) (fault : Option Fault) (old new : World)
+    → CountsOpen (steps_told command) (course_of command) → IsFit before
     → GoesBy (course_of command) (begun (keeps before) before.least) fault old new → Preserves command before old new fault
 goes_safe command before fault old new counts fit (ending, same, comes, leaves) =
     let there = opens_safe (steps_told command) before (remembered old) (course_of command) ending counts fit comes in
     subst (λ (fault : Option Fault). Preserves command before old new fault) same (record {
       run = extends command before ending there (begun (keeps before) before.least) old new comes leaves;
       moments = λ left out. ⊎_elim (λ (own : IsOneOf before left). inl own)
-          (λ (own : IsPast ending.done.cut ending.done.store left). inr (subst (λ (store : Standing). IsPast ending.done.cut store left) there.is own)) (leaves.moments.each left out);
+          (λ (own : IsPast ending.done.cut ending.done.store left).
+          inr (subst (λ (store : Standing). IsPast ending.done.cut store left) there.is own)) (leaves.moments.each left out);
     })
 
-nothing : (earlier later : Option (List ℕ)) → BothKnown earlier later (GrewBy [] []) → BothKnown earlier later (λ earlier later. later ≡ earlier)
+nothing : (earlier later : Option (List ℕ)) → BothKnown earlier later (GrewBy [] [])
+    → BothKnown earlier later (λ earlier later. later ≡ earlier)
 nothing None later grew = tt
 nothing (Some earlier) None grew = grew
 nothing (Some earlier) (Some later) grew = same earlier later grew
@@ -82,29 +91,37 @@ nothing (Some earlier) (Some later) grew = same earlier later grew
     empty (one ∷ front) rest is = absurd (cc)
 
     same : (earlier later : List ℕ) → GrewBy [] [] earlier later → later ≡ earlier
-    same earlier later grew = grew.grown ∙ ap (λ (own : List ℕ). (earlier ++ []) ++ own) (empty grew.front grew.rest grew.cut) ∙ append-nil (earlier ++ []) ∙ append-nil earlier
+    same earlier later grew = grew.grown ∙ ap (λ (own : List ℕ). (earlier ++ []) ++ own) (empty grew.front grew.rest grew.cut)
+        ∙ append-nil (earlier ++ []) ∙ append-nil earlier
 
 -- no store was made
-stays_unmade : (ending : Ending) (start : Progress) (old new : World) → IsUnmadeAt ending → Leaves start ending (remembered old) new → IsUnmade old new ending.fault
+stays_unmade : (ending : Ending) (start : Progress) (old new : World) → IsUnmadeAt ending → Leaves start ending (remembered old) new
+    → IsUnmade old new ending.fault
 stays_unmade ending start old new there leaves = record {
   refused = there.some;
   disk = ⊎_elim (λ (failed : ending.fault ≡ Some faults.DiskFault). inl failed)
-      (λ (is : ending.done.store ≡ unused). inr (subst (λ (own : Standing). StandsOn ending.fault own (remembered old) new.disk) is leaves.store)) there.disk;
+      (λ (is : ending.done.store ≡ unused). inr
+      (subst (λ (own : Standing). StandsOn ending.fault own (remembered old) new.disk) is leaves.store)) there.disk;
   silent = nothing old.output.taken new.output.taken
       (subst (λ (half : List ℕ). BothKnown old.output.taken new.output.taken (GrewBy [] half)) there.unwriting
-      (subst (λ (whole : List ℕ). BothKnown old.output.taken new.output.taken (GrewBy whole ending.writing)) there.unwritten leaves.output));
+      (subst (λ (whole : List ℕ). BothKnown old.output.taken new.output.taken (GrewBy whole ending.writing)) there.unwritten
+      leaves.output));
 }
 
 -- what a run makes on an empty disk
-goes_made : (command : CommandOf) (fault : Option Fault) (old new : World) → CountsMade (steps_told command) (course_of command) → old.disk.content ≡ Some [] → GoesBy (course_of command) (begun unused 0) fault old new
+goes_made : (command : CommandOf) (fault : Option Fault) (old new : World) → CountsMade (steps_told command) (course_of command)
+    → old.disk.content ≡ Some [] → GoesBy (course_of command) (begun unused 0) fault old new
     → IsUnmade old new fault ⊎ Extends command (begun unused 0) (whole blank) old new fault
-goes_made command fault old new counts is (ending, same, comes, leaves) = subst (λ (fault : Option Fault). IsUnmade old new fault ⊎ Extends command (begun unused 0) (whole blank) old new fault) same
+goes_made command fault old new counts is (ending, same, comes, leaves) =
+    subst (λ (fault : Option Fault). IsUnmade old new fault ⊎ Extends command (begun unused 0) (whole blank) old new fault) same
     (⊎_elim (λ (there : IsUnmadeAt ending). inl (stays_unmade ending (begun unused 0) old new there leaves))
-    (λ (there : Reaches (steps_told command) (whole blank) ending). inr (extends command (whole blank) ending there (begun unused 0) old new comes leaves))
+    (λ (there : Reaches (steps_told command) (whole blank) ending).
+    inr (extends command (whole blank) ending there (begun unused 0) old new comes leaves))
     (makes_safe (steps_told command) (remembered old) [] is (course_of command) [] ending counts comes))
 
 -- change files that are appended, and what comes behind them
-appends_count : (bounds : BoundsOf) (last : Onward) → ((held : Holding) → Counts (onward last held) 0 0) → (held : Holding) (file count : ℕ) → Counts (appends bounds held file count (onward last)) 0 count
+appends_count : (bounds : BoundsOf) (last : Onward) → ((held : Holding) → Counts (onward last held) 0 0) → (held : Holding) (file count : ℕ)
+    → Counts (appends bounds held file count (onward last)) 0 count
 unfolding appends
 appends_count bounds last behind held file zero = behind held
 appends_count bounds last behind held file (suc count) =
@@ -116,7 +133,8 @@ appends_count bounds last behind held file (suc count) =
         refl,
         (
           inr (omega (arith, line)),
-          subst (λ (untold : ℕ). Counts (appends bounds (changed bounds change held) (file + 1) count (onward last)) untold (suc count - 1)) told
+          subst (λ (untold : ℕ). Counts (appends bounds (changed bounds change held) (file + 1) count (onward last)) untold (suc count - 1))
+              told
               (subst (λ (left : ℕ). Counts (appends bounds (changed bounds change held) (file + 1) count (onward last)) 0 left) taken
               (appends_count bounds last behind (changed bounds change held) (file + 1) count)),
         ),
@@ -124,7 +142,8 @@ appends_count bounds last behind held file (suc count) =
     )
 
 -- change files that are appended and shown to readers
-serves_count : (bounds : BoundsOf) (queries : List Query) (readers : ℕ) (shown : List Holding) (held : Holding) (file count : ℕ) → Counts (serves bounds queries readers shown held file count) 0 count
+serves_count : (bounds : BoundsOf) (queries : List Query) (readers : ℕ) (shown : List Holding) (held : Holding) (file count : ℕ)
+    → Counts (serves bounds queries readers shown held file count) 0 count
 unfolding serves
 serves_count bounds queries readers shown held file zero = (refl, refl, tt)
 serves_count bounds queries readers shown held file (suc count) =
@@ -136,8 +155,10 @@ serves_count bounds queries readers shown held file (suc count) =
         refl,
         (
           inr (omega (arith, line)),
-          subst (λ (untold : ℕ). Counts (serves bounds queries readers (shown ++ held ∷ []) (changed bounds change held) (file + 1) count) untold (suc count - 1)) told
-              (subst (λ (left : ℕ). Counts (serves bounds queries readers (shown ++ held ∷ []) (changed bounds change held) (file + 1) count) 0 left) taken
+          subst (λ (untold : ℕ). Counts (serves bounds queries readers (shown ++ held ∷ []) (changed bounds change held) (file + 1) count)
+              untold (suc count - 1)) told
+              (subst (λ (left : ℕ). Counts (serves bounds queries readers (shown ++ held ∷ []) (changed bounds change held)
+              (file + 1) count) 0 left) taken
               (serves_count bounds queries readers (shown ++ held ∷ []) (changed bounds change held) (file + 1) count)),
         ),
       ),
@@ -190,7 +211,13 @@ opens_first (serve_of store files workers readers) is = into
   where
     into : (state : State) → Counts (serve_to files readers state) 0 (files.count - 2)
     into formatted = refl
-    into (imported held) = (refl, λ bounds. (refl, λ queries. (refl, serves_count bounds queries readers [] held (files.first + 2) (files.count - 2))))
+    into (imported held) = (
+      refl,
+      λ bounds. (
+        refl,
+        λ queries. (refl, serves_count bounds queries readers [] held (files.first + 2) (files.count - 2)),
+      ),
+    )
     into (outdated held) = refl
 opens_first (replay_of store files workers) is = absurd (cc)
 opens_first (migrate_of store) is = into
@@ -223,18 +250,24 @@ makes_first (replay_of store files workers) is = λ style bounds.
           refl,
           (
             inr (omega (arith, line)),
-            subst (λ (untold : ℕ). Counts (appends bounds (fresh style.0 style.1 1024 entries) (files.first + 2 + 1) (files.count - 3) (onward (telling bounds.zoom))) untold (files.count - 2 - 1)) told
-                (subst (λ (left : ℕ). Counts (appends bounds (fresh style.0 style.1 1024 entries) (files.first + 2 + 1) (files.count - 3) (onward (telling bounds.zoom))) 0 left) taken
-                (appends_count bounds (telling bounds.zoom) (λ held. (refl, (refl, refl, tt))) (fresh style.0 style.1 1024 entries) (files.first + 2 + 1) (files.count - 3))),
+            subst (λ (untold : ℕ). Counts (appends bounds (fresh style.0 style.1 1024 entries) (files.first + 2 + 1) (files.count - 3)
+                (onward (telling bounds.zoom))) untold (files.count - 2 - 1)) told
+                (subst (λ (left : ℕ). Counts (appends bounds (fresh style.0 style.1 1024 entries) (files.first + 2 + 1) (files.count - 3)
+                (onward (telling bounds.zoom))) 0 left) taken
+                (appends_count bounds (telling bounds.zoom) (λ held. (refl, (refl, refl, tt))) (fresh style.0 style.1 1024 entries)
+                (files.first + 2 + 1) (files.count - 3))),
           ),
         ),
       ),
     )
 
 -- a run of each command
-pub runs_safe : (command : CommandOf) (asks : List ℕ → Type 0) (old new : World) (fault : Option Fault) → Runs command asks old new fault → IsSafe command old new fault
+pub runs_safe : (command : CommandOf) (asks : List ℕ → Type 0) (old new : World) (fault : Option Fault) → Runs command asks old new fault
+    → IsSafe command old new fault
 runs_safe command asks old new fault runs = record {
   kept = λ is before kept. goes_safe command before fault old new (opens_first command is) kept.fit
-      (runs.course (begun (keeps before) before.least) (subst (λ (way : Use). Begins way old (begun (keeps before) before.least)) (sym is) (inr (before, kept, refl))));
-  made = λ is empty. goes_made command fault old new (makes_first command is) empty (runs.course (begun unused 0) (subst (λ (way : Use). Begins way old (begun unused 0)) (sym is) refl));
+      (runs.course (begun (keeps before) before.least)
+      (subst (λ (way : Use). Begins way old (begun (keeps before) before.least)) (sym is) (inr (before, kept, refl))));
+  made = λ is empty. goes_made command fault old new (makes_first command is) empty
+      (runs.course (begun unused 0) (subst (λ (way : Use). Begins way old (begun unused 0)) (sym is) refl));
 }

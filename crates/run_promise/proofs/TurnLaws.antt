@@ -1,5 +1,6 @@
 -- A fault that names a file names the one whose turn it was, and has its cause.
-use Rattle.std.proofs.Common.{◌≡◌, ◌≢◌, ◌≤◌, ◌<◌, ◌+◌, ◌-◌, ℕ, zero, suc, Bool, true, false, Option, Some, None, List, [], ◌∷◌, ◌++◌, Result, Ok, Err, inl, inr, refl, sym, ◌∙◌, subst, arith}
+use Rattle.std.proofs.Common.{◌≡◌, ◌≢◌, ◌≤◌, ◌<◌, ◌+◌, ◌-◌, ℕ, zero, suc, Bool, true, false, Option, Some, None, List, [], ◌∷◌, ◌++◌}
+use Rattle.std.proofs.Common.{Result, Ok, Err, inl, inr, refl, sym, ◌∙◌, subst, arith}
 use Rattle.std.specs.Prelude.{IsOk}
 use Rattle.osm_base.specs.declared.values.object.Entry.{Entry}
 use Rattle.run_promise.specs.declared.fault.Fault.{Fault}
@@ -7,13 +8,15 @@ use Rattle.run_promise.specs.declared.fault.Fault.TheVariants as faults
 use Rattle.run_promise.specs.declared.files.Files.{Files}
 use Rattle.run_promise.specs.Causes.{Cause, HasStore, MakesStore, OpensStore, WantsNewFormat}
 use Rattle.run_promise.specs.Comes.{Comes}
-use Rattle.run_promise.specs.CommandOf.{CommandOf, points_of, lines_of, init_of, import_of, append_of, export_of, tiles_of, query_of, serve_of, replay_of, migrate_of, files_of, Use, no_store, new_store, old_store, use_of}
+use Rattle.run_promise.specs.CommandOf.{CommandOf, points_of, lines_of, init_of, import_of, append_of, export_of, tiles_of, query_of}
+use Rattle.run_promise.specs.CommandOf.{serve_of, replay_of, migrate_of, files_of, Use, no_store, new_store, old_store, use_of}
 use Rattle.style_read.specs.Style.{table_of}
 use Rattle.map_query.specs.declared.query.Query.{Query}
 use Rattle.tile_cover.specs.Table.{BoundsOf}
 use Rattle.update_flow.specs.State.{Holding, State, formatted, imported, outdated, changed, fresh}
 use Rattle.run_promise.specs.Course.{Course}
-use Rattle.run_promise.specs.Courses.{append_to, appends, course_of, export_from, exports, finished, import_into, migrates, onward, query_from, replay_course, serve_to, serves, telling, tiles_of_store}
+use Rattle.run_promise.specs.Courses.{append_to, appends, course_of, export_from, exports, finished, import_into, migrates, onward}
+use Rattle.run_promise.specs.Courses.{query_from, replay_course, serve_to, serves, telling, tiles_of_store}
 use Rattle.run_promise.specs.Files.{IsChange}
 use Rattle.run_promise.specs.InTurn.{FaultNames, IsInTurn}
 use Rattle.run_promise.specs.Leaves.{HasCause}
@@ -27,7 +30,8 @@ use Rattle.run_promise.proofs.BlameLaws.{Blame, IsUpTo, KeepsTo, Tells, Terms, c
 pub owns_made : (way : Use) → way ≡ new_store → way ≢ no_store
 owns_made way makes none = absurd (let two : new_store ≡ no_store = sym makes ∙ none in cc)
 
-begins_with : (way : Use) (start : Progress) → MayBegin way start → (store : Standing) × (cut : ℕ) × (start ≡ begun store cut) × (store ≡ unknown → way ≡ old_store)
+begins_with : (way : Use) (start : Progress) → MayBegin way start
+    → (store : Standing) × (cut : ℕ) × (start ≡ begun store cut) × (store ≡ unknown → way ≡ old_store)
 begins_with no_store start is = (unused, 0, is, λ e. absurd (cc))
 begins_with new_store start is = (unused, 0, is, λ e. absurd (cc))
 begins_with old_store start (store, cut, is) = (store, cut, is, λ _. refl)
@@ -56,11 +60,15 @@ record IsChanges (terms : Terms) (file : ℕ) : Type 0 where
   accepts : (bytes : List ℕ) (found : List Entry) → IsChange file bytes (Ok found) → terms.accepts file bytes
 
 -- change files one after another, each appended and told
-module _ (terms : Terms) (least : ℕ) (change : (file : ℕ) → least ≤ file → file < terms.end → IsChanges terms file) (late : terms.early → ⊥) (store : terms.store) where
-  appends_to : (bounds : BoundsOf) (held : Holding) (file count : ℕ) (quiet : Type 0) (rest : Holding → Course) → least ≤ file → file + count ≤ terms.end
-      → ((held : Holding) (quiet : Type 0) → KeepsTo terms (file + count) quiet (rest held)) → KeepsTo terms file quiet (appends bounds held file count rest)
+module _ (terms : Terms) (least : ℕ) (change : (file : ℕ) → least ≤ file → file < terms.end → IsChanges terms file) (late : terms.early → ⊥)
+    (store : terms.store) where
+  appends_to : (bounds : BoundsOf) (held : Holding) (file count : ℕ) (quiet : Type 0) (rest : Holding → Course) → least ≤ file
+      → file + count ≤ terms.end
+      → ((held : Holding) (quiet : Type 0) → KeepsTo terms (file + count) quiet (rest held))
+      → KeepsTo terms file quiet (appends bounds held file count rest)
   unfolding appends
-  appends_to bounds held file zero quiet rest low high later = let here : file + 0 ≡ file = omega arith in subst (λ (at : ℕ). KeepsTo terms at quiet (rest held)) here (later held quiet)
+  appends_to bounds held file zero quiet rest low high later = let here : file + 0 ≡ file = omega arith in
+      subst (λ (at : ℕ). KeepsTo terms at quiet (rest held)) here (later held quiet)
   appends_to bounds held file (suc count) quiet rest low high later =
       let own = change file low (omega (arith, high)) in (
         refl,
@@ -71,11 +79,13 @@ module _ (terms : Terms) (least : ℕ) (change : (file : ℕ) → least ≤ file
         λ found. (
           store,
           appends_to bounds (changed bounds found held) (file + 1) count ⊥ rest (omega (arith, low)) (omega (arith, high))
-              (λ held quiet. let same : file + suc count ≡ file + 1 + count = omega arith in subst (λ (at : ℕ). KeepsTo terms at quiet (rest held)) same (later held quiet)),
+              (λ held quiet. let same : file + suc count ≡ file + 1 + count = omega arith in
+              subst (λ (at : ℕ). KeepsTo terms at quiet (rest held)) same (later held quiet)),
         ),
       )
 
-  serves_to : (bounds : BoundsOf) (queries : List Query) (readers : ℕ) (shown : List Holding) (held : Holding) (file count : ℕ) (quiet : Type 0) → least ≤ file → file + count ≤ terms.end
+  serves_to : (bounds : BoundsOf) (queries : List Query) (readers : ℕ) (shown : List Holding) (held : Holding) (file count : ℕ)
+      (quiet : Type 0) → least ≤ file → file + count ≤ terms.end
       → KeepsTo terms file quiet (serves bounds queries readers shown held file count)
   unfolding serves
   serves_to bounds queries readers shown held file zero quiet low high = tt
@@ -86,14 +96,19 @@ module _ (terms : Terms) (least : ℕ) (change : (file : ℕ) → least ≤ file
         (λ e. absurd (late e)),
         own.faulty,
         own.accepts,
-        λ found. (store, serves_to bounds queries readers (shown ++ held ∷ []) (changed bounds found held) (file + 1) count ⊥ (omega (arith, low)) (omega (arith, high))),
+        λ found. (
+          store,
+          serves_to bounds queries readers (shown ++ held ∷ []) (changed bounds found held) (file + 1) count ⊥
+              (omega (arith, low)) (omega (arith, high)),
+        ),
       )
 
 -- a command over a store that is there
 has_store : old_store ≢ no_store
 has_store = λ e. absurd (cc)
 
-import_to : (store : List ℕ) (files : Files) (buckets workers : ℕ) (state : State) → files.count ≡ 2 → KeepsTo (terms_of (import_of store files buckets workers)) files.first (Unit {0}) (import_into files buckets state)
+import_to : (store : List ℕ) (files : Files) (buckets workers : ℕ) (state : State) → files.count ≡ 2
+    → KeepsTo (terms_of (import_of store files buckets workers)) files.first (Unit {0}) (import_into files buckets state)
 import_to store files buckets workers (imported held) two = has_store
 import_to store files buckets workers (outdated held) two = refl
 import_to store files buckets workers formatted two = (
@@ -102,11 +117,18 @@ import_to store files buckets workers formatted two = (
   (λ _. tt),
   (λ bytes fault is. inl (refl, is)),
   (λ bytes found is. inl (refl, (found, is))),
-  λ style.
-      (refl, omega (arith, two), (λ _. tt), (λ bytes fault is. inr (omega arith, is)), (λ bytes found is. inr (omega arith, is_ok (List Entry) Fault _ found is)), λ entries. (has_store, tt)),
+  λ style. (
+    refl,
+    omega (arith, two),
+    (λ _. tt),
+    (λ bytes fault is. inr (omega arith, is)),
+    (λ bytes found is. inr (omega arith, is_ok (List Entry) Fault _ found is)),
+    λ entries. (has_store, tt),
+  ),
 )
 
-append_to_store : (store : List ℕ) (files : Files) (workers : ℕ) (state : State) → 2 ≤ files.count → KeepsTo (terms_of (append_of store files workers)) files.first (Unit {0}) (append_to files state)
+append_to_store : (store : List ℕ) (files : Files) (workers : ℕ) (state : State) → 2 ≤ files.count
+    → KeepsTo (terms_of (append_of store files workers)) files.first (Unit {0}) (append_to files state)
 append_to_store store files workers formatted two = has_store
 append_to_store store files workers (outdated held) two = refl
 append_to_store store files workers (imported held) two = (
@@ -117,7 +139,11 @@ append_to_store store files workers (imported held) two = (
   (λ bytes found is. inl (refl, (found, is))),
   λ bounds.
       appends_to (terms_of (append_of store files workers)) (files.first + 1)
-      (λ file low high. record { faulty = λ bytes fault is. inr (low, is); accepts = λ bytes found is. inr (low, is_ok (List Entry) Fault _ found is) }) (λ e. e) has_store
+      (λ file low high. record {
+        faulty = λ bytes fault is. inr (low, is);
+        accepts =
+            λ bytes found is. inr (low, is_ok (List Entry) Fault _ found is);
+      }) (λ e. e) has_store
       bounds held (files.first + 1) (files.count - 1) (Unit {0}) (onward finished) (omega arith) (omega (arith, two)) (λ held quiet. tt),
 )
 
@@ -130,7 +156,8 @@ export_to store table (imported held) = exports_to (table_of held.style.tables t
     exports_to None = refl
     exports_to (Some number) = (has_store, tt)
 
-tiles_to : (store : List ℕ) (least : ℕ) (clear : Bool) (state : State) → KeepsTo (terms_of (tiles_of store least clear)) 0 (Unit {0}) (tiles_of_store least clear state)
+tiles_to : (store : List ℕ) (least : ℕ) (clear : Bool) (state : State)
+    → KeepsTo (terms_of (tiles_of store least clear)) 0 (Unit {0}) (tiles_of_store least clear state)
 tiles_to store least clear formatted = has_store
 tiles_to store least clear (outdated held) = refl
 tiles_to store least false (imported held) = (has_store, tt)
@@ -139,7 +166,8 @@ tiles_to store least true (imported held) = (has_store, (has_store, tt))
 makes_store : new_store ≢ no_store
 makes_store = λ e. absurd (cc)
 
-query_to : (store : List ℕ) (files : Files) (state : State) → files.count ≡ 1 → KeepsTo (terms_of (query_of store files)) files.first (Unit {0}) (query_from files state)
+query_to : (store : List ℕ) (files : Files) (state : State) → files.count ≡ 1
+    → KeepsTo (terms_of (query_of store files)) files.first (Unit {0}) (query_from files state)
 query_to store files formatted one = has_store
 query_to store files (outdated held) one = refl
 query_to store files (imported held) one = (
@@ -151,7 +179,8 @@ query_to store files (imported held) one = (
   λ found. (has_store, tt),
 )
 
-serve_to_store : (store : List ℕ) (files : Files) (workers readers : ℕ) (state : State) → 2 ≤ files.count → KeepsTo (terms_of (serve_of store files workers readers)) files.first (Unit {0}) (serve_to files readers state)
+serve_to_store : (store : List ℕ) (files : Files) (workers readers : ℕ) (state : State) → 2 ≤ files.count
+    → KeepsTo (terms_of (serve_of store files workers readers)) files.first (Unit {0}) (serve_to files readers state)
 serve_to_store store files workers readers formatted two = has_store
 serve_to_store store files workers readers (outdated held) two = refl
 serve_to_store store files workers readers (imported held) two = (
@@ -170,9 +199,14 @@ serve_to_store store files workers readers (imported held) two = (
       has_store,
       (
           let here : files.first + 2 ≡ files.first + 1 + 1 = omega arith in
-          subst (λ (at : ℕ). KeepsTo (terms_of (serve_of store files workers readers)) at (Unit {0}) (serves bounds queries readers [] held (files.first + 2) (files.count - 2))) here
+          subst (λ (at : ℕ). KeepsTo (terms_of (serve_of store files workers readers)) at (Unit {0})
+          (serves bounds queries readers [] held (files.first + 2) (files.count - 2))) here
           (serves_to (terms_of (serve_of store files workers readers)) (files.first + 2)
-          (λ file low high. record { faulty = λ bytes fault is. inr (inr (low, is)); accepts = λ bytes found is. inr (inr (low, is_ok (List Entry) Fault _ found is)) }) (λ e. e) has_store
+          (λ file low high. record {
+            faulty = λ bytes fault is. inr (inr (low, is));
+            accepts =
+                λ bytes found is. inr (inr (low, is_ok (List Entry) Fault _ found is));
+          }) (λ e. e) has_store
           bounds queries readers [] held (files.first + 2) (files.count - 2) (Unit {0}) (omega arith) (omega (arith, two)))
           ),
     ),
@@ -188,7 +222,8 @@ migrate_to store (outdated held) = (has_store, tt)
 makes_new : new_store ≢ no_store
 makes_new = λ e. absurd (cc)
 
-replay_to : (store : List ℕ) (files : Files) (workers : ℕ) → 3 ≤ files.count → KeepsTo (terms_of (replay_of store files workers)) files.first (Unit {0}) (replay_course files)
+replay_to : (store : List ℕ) (files : Files) (workers : ℕ) → 3 ≤ files.count
+    → KeepsTo (terms_of (replay_of store files workers)) files.first (Unit {0}) (replay_course files)
 replay_to store files workers three = (
   refl,
   (
@@ -218,10 +253,17 @@ replay_to store files workers three = (
               makes_new,
               (
                   let here : files.first + 2 + 1 ≡ files.first + 1 + 1 + 1 = omega arith in
-                  subst (λ (at : ℕ). KeepsTo (terms_of (replay_of store files workers)) at ⊥ (appends bounds (fresh style.0 style.1 1024 entries) (files.first + 2 + 1) (files.count - 3) (onward (telling bounds.zoom)))) here
+                  subst (λ (at : ℕ). KeepsTo (terms_of (replay_of store files workers)) at ⊥
+                  (appends bounds (fresh style.0 style.1 1024 entries) (files.first + 2 + 1) (files.count - 3)
+                  (onward (telling bounds.zoom)))) here
                   (appends_to (terms_of (replay_of store files workers)) (files.first + 2)
-                  (λ file low high. record { faulty = λ bytes fault is. inr (inr (low, is)); accepts = λ bytes found is. inr (inr (low, is_ok (List Entry) Fault _ found is)) }) (λ e. e) makes_new
-                  bounds (fresh style.0 style.1 1024 entries) (files.first + 2 + 1) (files.count - 3) ⊥ (onward (telling bounds.zoom)) (omega arith) (omega (arith, three)) (λ held quiet. (makes_new, tt)))
+                  (λ file low high. record {
+                    faulty = λ bytes fault is. inr (inr (low, is));
+                    accepts =
+                        λ bytes found is. inr (inr (low, is_ok (List Entry) Fault _ found is));
+                  }) (λ e. e) makes_new
+                  bounds (fresh style.0 style.1 1024 entries) (files.first + 2 + 1) (files.count - 3) ⊥ (onward (telling bounds.zoom))
+                  (omega arith) (omega (arith, three)) (λ held quiet. (makes_new, tt)))
                   ),
             ),
           ),
@@ -232,20 +274,24 @@ replay_to store files workers three = (
 )
 
 -- each file of these commands holds changes
-points_change : (key : List ℕ) (files : Files) (file : ℕ) → ((bytes : List ℕ) (fault : Fault) → IsChange file bytes (Err fault) → HasFault (points_of key files) file bytes fault)
+points_change : (key : List ℕ) (files : Files) (file : ℕ)
+    → ((bytes : List ℕ) (fault : Fault) → IsChange file bytes (Err fault) → HasFault (points_of key files) file bytes fault)
     × ((bytes : List ℕ) (found : List Entry) → IsChange file bytes (Ok found) → Accepts (points_of key files) file bytes)
 points_change key files file = (λ bytes fault is. is, λ bytes found is. is_ok (List Entry) Fault _ found is)
 
-lines_change : (key : List ℕ) (files : Files) (file : ℕ) → ((bytes : List ℕ) (fault : Fault) → IsChange file bytes (Err fault) → HasFault (lines_of key files) file bytes fault)
+lines_change : (key : List ℕ) (files : Files) (file : ℕ)
+    → ((bytes : List ℕ) (fault : Fault) → IsChange file bytes (Err fault) → HasFault (lines_of key files) file bytes fault)
     × ((bytes : List ℕ) (found : List Entry) → IsChange file bytes (Ok found) → Accepts (lines_of key files) file bytes)
 lines_change key files file = (λ bytes fault is. is, λ bytes found is. is_ok (List Entry) Fault _ found is)
 
 -- each command reads its files in turn
 keeps_to : (command : CommandOf) → HasItsFiles command → KeepsTo (terms_of command) (files_of command).first (Unit {0}) (course_of command)
 keeps_to (points_of key files) its =
-    gathers_to (terms_of (points_of key files)) (λ file low high. points_change key files file) files.first files.count (Unit {0}) [] _ (omega arith) refl (λ early. tt) (λ entries. tt)
+    gathers_to (terms_of (points_of key files)) (λ file low high. points_change key files file) files.first files.count (Unit {0}) [] _
+    (omega arith) refl (λ early. tt) (λ entries. tt)
 keeps_to (lines_of key files) its =
-    gathers_to (terms_of (lines_of key files)) (λ file low high. lines_change key files file) files.first files.count (Unit {0}) [] _ (omega arith) refl (λ early. tt) (λ entries. tt)
+    gathers_to (terms_of (lines_of key files)) (λ file low high. lines_change key files file) files.first files.count (Unit {0}) [] _
+    (omega arith) refl (λ early. tt) (λ entries. tt)
 keeps_to (init_of store) its = (refl, (refl, makes_store, tt))
 keeps_to (import_of store files buckets workers) its = (refl, has_store, λ state. import_to store files buckets workers state its)
 keeps_to (append_of store files workers) its = (refl, has_store, λ state. append_to_store store files workers state its)
@@ -257,7 +303,8 @@ keeps_to (replay_of store files workers) its = replay_to store files workers its
 keeps_to (migrate_of store) its = (refl, has_store, λ state. migrate_to store state)
 
 -- before anything is done
-none_done : (command : CommandOf) (old : Before) (store : Standing) (cut : ℕ) → (store ≡ unknown → OpensStore command) → IsUpTo (terms_of command) old (files_of command).first (Unit {0}) (begun store cut)
+none_done : (command : CommandOf) (old : Before) (store : Standing) (cut : ℕ) → (store ≡ unknown → OpensStore command)
+    → IsUpTo (terms_of command) old (files_of command).first (Unit {0}) (begun store cut)
 none_done command old store cut opening = record {
   low = omega arith;
   high = omega arith;
@@ -269,13 +316,16 @@ none_done command old store cut opening = record {
 }
 
 -- what the end of a command tells
-pub told_of : (command : CommandOf) (old : Before) (store : Standing) (cut : ℕ) (ending : Ending) → HasItsFiles command → (store ≡ unknown → OpensStore command) → Comes old (course_of command) (begun store cut) ending
+pub told_of : (command : CommandOf) (old : Before) (store : Standing) (cut : ℕ) (ending : Ending) → HasItsFiles command
+    → (store ≡ unknown → OpensStore command) → Comes old (course_of command) (begun store cut) ending
     → Tells (terms_of command) old ending
 told_of command old store cut ending its opening comes =
-    comes_told (terms_of command) old (course_of command) (files_of command).first (Unit {0}) (begun store cut) ending (keeps_to command its) (none_done command old store cut opening) comes
+    comes_told (terms_of command) old (course_of command) (files_of command).first (Unit {0}) (begun store cut) ending
+    (keeps_to command its) (none_done command old store cut opening) comes
 
 -- the file that is named is the one that comes next
-pub in_turn : (command : CommandOf) (old : Before) (store : Standing) (cut : ℕ) (ending : Ending) (file : ℕ) → HasItsFiles command → (store ≡ unknown → OpensStore command) → Comes old (course_of command) (begun store cut) ending
+pub in_turn : (command : CommandOf) (old : Before) (store : Standing) (cut : ℕ) (ending : Ending) (file : ℕ) → HasItsFiles command
+    → (store ≡ unknown → OpensStore command) → Comes old (course_of command) (begun store cut) ending
     → FaultNames ending.fault file → IsInTurn command old ending file
 in_turn command old store cut ending file its opening comes names =
     let told = told_of command old store cut ending its opening comes in
@@ -292,14 +342,17 @@ in_turn command old store cut ending file its opening comes names =
     }
 
 -- whatever the beginning of the command
-pub in_turn_from : (command : CommandOf) (old : Before) (start : Progress) (ending : Ending) (file : ℕ) → HasItsFiles command → MayBegin (use_of command) start → Comes old (course_of command) start ending
+pub in_turn_from : (command : CommandOf) (old : Before) (start : Progress) (ending : Ending) (file : ℕ) → HasItsFiles command
+    → MayBegin (use_of command) start → Comes old (course_of command) start ending
     → FaultNames ending.fault file → IsInTurn command old ending file
 in_turn_from command old start ending file its begins comes names =
     let from = begins_with (use_of command) start begins in
-    in_turn command old from.0 from.1 ending file its from.3 (subst (λ (own : Progress). Comes old (course_of command) own ending) from.2 comes) names
+    in_turn command old from.0 from.1 ending file its from.3
+    (subst (λ (own : Progress). Comes old (course_of command) own ending) from.2 comes) names
 
 -- the cause of a fault, by what the words and bytes show and the call that failed
-pub cause_of : (command : CommandOf) (old : Before) (new : World) (own : Fault) → Blame (terms_of command) old (Some own) → HasCause old new (Some own) → Cause command old new own
+pub cause_of : (command : CommandOf) (old : Before) (new : World) (own : Fault) → Blame (terms_of command) old (Some own)
+    → HasCause old new (Some own) → Cause command old new own
 cause_of command old new faults.Usage blame failed = blame
 cause_of command old new (faults.Malformed file line why) blame failed = ((blame.0, blame.1), blame.2)
 cause_of command old new (faults.BadStyle file why part) blame failed = ((blame.0, blame.1), blame.2)

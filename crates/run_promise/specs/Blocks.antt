@@ -40,13 +40,16 @@ pub record IsBlock (queries : List Query) (shown : List Holding) (last : Holding
   pub many : length earlier ≡ length shown
   pub whole : AllByRecursion (HasLength (length queries)) earlier
   pub climbs : Climbs 0 (length shown) (flat_map (λ round. round) earlier)
-  pub is : text ≡ rounds_text reader 1 (map (round_text (version_at shown last) queries) earlier ++ flat_map (answer_text last) queries ∷ [])
+  pub is : text ≡ rounds_text reader 1 (map (round_text (version_at shown last) queries) earlier ++ flat_map (answer_text last) queries
+      ∷ [])
 
 -- blocks of readers, which are numbered from one on
 abbrev pub BlocksFrom : List Query → List Holding → Holding → (reader : ℕ) → List (List ℕ) → Type 0
 BlocksFrom queries shown last reader [] = Unit {0}
-BlocksFrom queries shown last reader (text ∷ texts) = IsBlock queries shown last reader text × BlocksFrom queries shown last (reader + 1) texts
+BlocksFrom queries shown last reader (text ∷ texts) =
+    IsBlock queries shown last reader text × BlocksFrom queries shown last (reader + 1) texts
 
 -- the blocks of so many readers
 abbrev pub AreBlocks : (readers : ℕ) → List Query → (shown : List Holding) → (last : Holding) → List ℕ → Type 0
-AreBlocks readers queries shown last text = (texts : List (List ℕ)) × (length texts ≡ readers) × BlocksFrom queries shown last 1 texts × (text ≡ flat_map (λ own. own) texts)
+AreBlocks readers queries shown last text =
+    (texts : List (List ℕ)) × (length texts ≡ readers) × BlocksFrom queries shown last 1 texts × (text ≡ flat_map (λ own. own) texts)

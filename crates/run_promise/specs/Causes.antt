@@ -5,7 +5,9 @@ use Rattle.osm_base.specs.declared.bounds.limits.LimitKind.TheVariants.{Pages, P
 use Rattle.outside.specs.Bytes.{IfTold}
 use Rattle.page_journal.specs.Home.{IsFormatted}
 use Rattle.run_promise.specs.declared.fault.Fault.{Fault}
-use Rattle.run_promise.specs.declared.fault.Fault.TheVariants.{Usage, Malformed, BadStyle, BadBounds, BadQuery, Limit, ReadFault, NotFormatted, NotEmpty, NotImported, AlreadyImported, OldFormat, UnknownTable, BadStore, WriteFault, DiskFault, OutOfMemory}
+use Rattle.run_promise.specs.declared.fault.Fault.TheVariants.{Usage, Malformed, BadStyle, BadBounds, BadQuery, Limit, ReadFault}
+use Rattle.run_promise.specs.declared.fault.Fault.TheVariants.{NotFormatted, NotEmpty, NotImported, AlreadyImported, OldFormat}
+use Rattle.run_promise.specs.declared.fault.Fault.TheVariants.{UnknownTable, BadStore, WriteFault, DiskFault, OutOfMemory}
 use Rattle.run_promise.specs.CommandOf.{CommandOf, migrate_of, Names, no_store, new_store, old_store, use_of}
 use Rattle.run_promise.specs.Reading.{HasFault}
 use Rattle.run_promise.specs.World.{World, Before, ReadFailed, WriteFailed, DiskFailed}

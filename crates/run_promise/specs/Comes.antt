@@ -4,7 +4,8 @@ use Rattle.std.specs.Prelude.{◌≡◌, ◌≢◌, ◌⊎◌, ◌≤◌, ℕ, L
 use Rattle.outside.specs.Bytes.{IfTold, IsTold}
 use Rattle.page_journal.specs.Home.{IsFormatted}
 use Rattle.run_promise.specs.declared.fault.Fault.{Fault}
-use Rattle.run_promise.specs.declared.fault.Fault.TheVariants.{Malformed, BadStyle, BadBounds, BadQuery, Limit, ReadFault, NotFormatted, NotEmpty, WriteFault, DiskFault, OutOfMemory}
+use Rattle.run_promise.specs.declared.fault.Fault.TheVariants.{Malformed, BadStyle, BadBounds, BadQuery, Limit, ReadFault, NotFormatted}
+use Rattle.run_promise.specs.declared.fault.Fault.TheVariants.{NotEmpty, WriteFault, DiskFault, OutOfMemory}
 use Rattle.osm_base.specs.bounds.Limits.{standard}
 use Rattle.page_journal.specs.declared.fault.StoreFault.TheVariants as stores
 use Rattle.update_flow.specs.AtRest.{IsDamaged}
@@ -18,7 +19,8 @@ use Rattle.update_flow.specs.declared.fault.FlowFault.TheVariants as flow
 use Rattle.run_promise.specs.Course.{Course, ends, refuses, reads, wants_empty, formats, opens, looks, commits, tells, writes}
 use Rattle.run_promise.specs.Faults.{flow_fault}
 use Rattle.run_promise.specs.Keeps.{Kept, first}
-use Rattle.run_promise.specs.Progress.{Standing, unused, unknown, keeps, half_made, Progress, Ending, at, at_file, at_text, past, plus, with_store, made, opened, committed, in_doubt, IsIn}
+use Rattle.run_promise.specs.Progress.{Standing, unused, unknown, keeps, half_made, Progress, Ending, at, at_file, at_text, past, plus}
+use Rattle.run_promise.specs.Progress.{with_store, made, opened, committed, in_doubt, IsIn}
 use Rattle.run_promise.specs.World.{Before}
 
 -- the disk was at most looked at, and this is so
@@ -51,10 +53,12 @@ IsCertain unknown = ⊥
 IsCertain _ = Unit {0}
 
 -- a run ends in the middle of this file: a read failed, memory ran out, or its bytes have a fault
-pub data BreaksIn (A : Type 0) (file : ℕ) (told : Option (List ℕ)) (Reads : List ℕ → Result A Fault → Type 0) (done : Progress) (ending : Ending) : Type 0 where
+pub data BreaksIn (A : Type 0) (file : ℕ) (told : Option (List ℕ)) (Reads : List ℕ → Result A Fault → Type 0) (done : Progress)
+    (ending : Ending) : Type 0 where
   unread : ending ≡ at_file file done (ReadFault file) → BreaksIn A file told Reads done ending
   short : ending ≡ at_file file done OutOfMemory → BreaksIn A file told Reads done ending
-  refused : (fault : Fault) → IsOfFile file fault → IfTold told (λ bytes. Reads bytes (Err fault)) → ending ≡ at_file file done fault → BreaksIn A file told Reads done ending
+  refused : (fault : Fault) → IsOfFile file fault → IfTold told (λ bytes. Reads bytes (Err fault)) → ending ≡ at_file file done fault
+      → BreaksIn A file told Reads done ending
 
 -- the disk failed, or memory ran out
 abbrev pub Breaks : Progress → Ending → Type 0
@@ -94,7 +98,8 @@ IsOfNeed old state step fault = Writes state step → FitsLimit standard (NeedsF
 
 -- and for which one of this state refuses it
 abbrev pub IsRefusal : Before → State → Step → FlowFault → Type 0
-IsRefusal old state step fault = IsStepFault fault × OrFull standard (Some fault) (Refuses standard state step (Some fault)) × IsOfNeed old state step (Some fault)
+IsRefusal old state step fault = IsStepFault fault × OrFull standard (Some fault) (Refuses standard state step (Some fault))
+    × IsOfNeed old state step (Some fault)
 
 -- or it is taken
 abbrev pub MayTake : Before → State → Step → Type 0
@@ -119,11 +124,15 @@ Comes old (wants_empty rest) done ending = (ending ≡ at done (Some DiskFault))
 Comes old (formats rest) done ending = IfUnused done.store (HoldsBytes old done ending
     ⊎ (ending ≡ at (with_store half_made done) (Some DiskFault)) ⊎ Comes old rest (with_store (made old.content) done) ending)
 Comes old (opens rest) done ending = Breaks done ending ⊎ ByStore done.store
-    (λ kept. (cut : ℕ) × (kept.least ≤ cut) × (cut ≤ kept.most) × Comes old (rest (state_after (first cut kept.history))) (opened kept cut done) ending)
-    (IsNoStore old done ending ⊎ IsBroken old done ending ⊎ ((state : State) × IfTold old.content (MayOpenAs state) × Comes old (rest state) done ending))
-Comes old (looks rest) done ending = Breaks done ending ⊎ IfUnknown done.store (IsRefusedFor IsStepFault done ending) ⊎ Comes old rest done ending
+    (λ kept. (cut : ℕ) × (kept.least ≤ cut) × (cut ≤ kept.most)
+    × Comes old (rest (state_after (first cut kept.history))) (opened kept cut done) ending)
+    (IsNoStore old done ending ⊎ IsBroken old done ending
+    ⊎ ((state : State) × IfTold old.content (MayOpenAs state) × Comes old (rest state) done ending))
+Comes old (looks rest) done ending = Breaks done ending ⊎ IfUnknown done.store (IsRefusedFor IsStepFault done ending)
+    ⊎ Comes old rest done ending
 Comes old (commits step rest) done ending = Breaks done ending ⊎ ByStore done.store
-    (λ kept. (ending ≡ at (in_doubt step kept done) (Some DiskFault)) ⊎ IsRefusedFor (IsRefusal old (state_after kept.history) step) done ending
+    (λ kept. (ending ≡ at (in_doubt step kept done) (Some DiskFault))
+    ⊎ IsRefusedFor (IsRefusal old (state_after kept.history) step) done ending
     ⊎ (MayTake old (state_after kept.history) step × Comes old rest (committed step kept done) ending))
     (IsRefusedFor IsStepFault done ending ⊎ Comes old rest done ending)
 Comes old (tells text rest) done ending = (ending ≡ at_text text done WriteFault) ⊎ Comes old rest (plus text done) ending
@@ -152,11 +161,14 @@ IsDue old (wants_empty rest) done ending = HoldsBytes old done ending
 IsDue old (formats rest) done ending = IfUnused done.store (HoldsBytes old done ending
     ⊎ IsDue old rest (with_store (made old.content) done) ending)
 IsDue old (opens rest) done ending = ByStore done.store
-    (λ kept. (cut : ℕ) × (kept.least ≤ cut) × (cut ≤ kept.most) × IsDue old (rest (state_after (first cut kept.history))) (opened kept cut done) ending)
-    (IsNoStore old done ending ⊎ IsBroken old done ending ⊎ ((state : State) × IfTold old.content (MayOpenAs state) × IsDue old (rest state) done ending))
+    (λ kept. (cut : ℕ) × (kept.least ≤ cut) × (cut ≤ kept.most)
+    × IsDue old (rest (state_after (first cut kept.history))) (opened kept cut done) ending)
+    (IsNoStore old done ending ⊎ IsBroken old done ending
+    ⊎ ((state : State) × IfTold old.content (MayOpenAs state) × IsDue old (rest state) done ending))
 IsDue old (looks rest) done ending = IfUnknown done.store (IsRefusedFor IsStepFault done ending) ⊎ IsDue old rest done ending
 IsDue old (commits step rest) done ending = ByStore done.store
-    (λ kept. IsRefusedFor (IsRefusal old (state_after kept.history) step) done ending ⊎ (MayTake old (state_after kept.history) step × IsDue old rest (committed step kept done) ending))
+    (λ kept. IsRefusedFor (IsRefusal old (state_after kept.history) step) done ending
+    ⊎ (MayTake old (state_after kept.history) step × IsDue old rest (committed step kept done) ending))
     (IsRefusedFor IsStepFault done ending ⊎ IsDue old rest done ending)
 IsDue old (tells text rest) done ending = IsDue old rest (plus text done) ending
 IsDue old (writes Fits rest) done ending =

@@ -1,5 +1,6 @@
 -- The commands: what each does, in order.
-use Rattle.std.specs.Prelude.{◌≡◌, ℕ, zero, suc, ◌+◌, ◌-◌, Bool, true, false, List, [], ◌∷◌, ◌++◌, Option, Some, None, codes, encode_utf8_all, flat_map, length, slice_get}
+use Rattle.std.specs.Prelude.{◌≡◌, ℕ, zero, suc, ◌+◌, ◌-◌, Bool, true, false, List, [], ◌∷◌, ◌++◌, Option, Some, None, codes}
+use Rattle.std.specs.Prelude.{encode_utf8_all, flat_map, length, slice_get}
 use Rattle.std.specs.Fmt.{decimal}
 use Rattle.std.specs.List.{range_with_len}
 use Rattle.std.specs.Option.{option_map_or}
@@ -16,7 +17,8 @@ use Rattle.update_flow.specs.Due.{Tiles}
 use Rattle.update_flow.specs.State.{Holding, State, formatted, imported, outdated, Import, Append, Clear, Migrate, fresh, changed}
 use Rattle.run_promise.specs.declared.fault.Fault.TheVariants.{AlreadyImported, NotImported, OldFormat, UnknownTable}
 use Rattle.run_promise.specs.declared.files.Files.{Files}
-use Rattle.run_promise.specs.CommandOf.{CommandOf, points_of, lines_of, init_of, import_of, append_of, export_of, tiles_of, query_of, serve_of, replay_of, migrate_of}
+use Rattle.run_promise.specs.CommandOf.{CommandOf, points_of, lines_of, init_of, import_of, append_of, export_of, tiles_of, query_of}
+use Rattle.run_promise.specs.CommandOf.{serve_of, replay_of, migrate_of}
 use Rattle.run_promise.specs.Course.{Course, ends, refuses, reads, wants_empty, formats, opens, looks, commits, tells, writes, writes_text}
 use Rattle.run_promise.specs.Answers.{answers_text}
 use Rattle.run_promise.specs.Blocks.{AreBlocks}
@@ -87,7 +89,8 @@ serves bounds queries readers shown held file (suc count) =
 -- the text of all tables, each behind a line with its name
 abbrev pub named_text : StyleOf → TableMap → (table : ℕ) → List ℕ
 named_text style all table =
-    option_map_or (λ definition. codes "table " ++ encode_utf8_all definition.name ++ codes "\n" ++ table_text style all table) (slice_get style.tables table) []
+    option_map_or (λ definition. codes "table " ++ encode_utf8_all definition.name ++ codes "\n" ++ table_text style all table)
+    (slice_get style.tables table) []
 
 abbrev pub tables_text : StyleOf → TableMap → List ℕ
 tables_text style all = flat_map (named_text style all) (range_with_len 0 (length style.tables))
@@ -95,7 +98,8 @@ tables_text style all = flat_map (named_text style all) (range_with_len 0 (lengt
 -- and that of the due tiles behind it
 abbrev pub IsWholeText : (least : ℕ) → Holding → List ℕ → Type 0
 IsWholeText least held text =
-    (tiles : List ℕ) × IsTileText held.due least tiles × (text ≡ tables_text held.style (tables held.style held.objects) ++ codes "tiles\n" ++ tiles)
+    (tiles : List ℕ) × IsTileText held.due least tiles
+    × (text ≡ tables_text held.style (tables held.style held.objects) ++ codes "tiles\n" ++ tiles)
 
 -- what comes when a version of the store was told: nothing, change files, the whole text, or change files while readers are answered
 pub data Onward : Type 0 where

@@ -15,7 +15,9 @@ use Rattle.map_query.specs.Fault.{number_of as query_number}
 use Rattle.page_journal.specs.declared.fault.StoreFault.{StoreFault}
 use Rattle.page_journal.specs.declared.fault.StoreFault.TheVariants as stores
 use Rattle.run_promise.specs.declared.fault.Fault.{Fault}
-use Rattle.run_promise.specs.declared.fault.Fault.TheVariants.{Usage, Malformed, BadStyle, BadBounds, BadQuery, Limit, ReadFault, NotFormatted, NotEmpty, NotImported, AlreadyImported, OldFormat, UnknownTable, BadStore, WriteFault, DiskFault, OutOfMemory}
+use Rattle.run_promise.specs.declared.fault.Fault.TheVariants.{Usage, Malformed, BadStyle, BadBounds, BadQuery, Limit, ReadFault}
+use Rattle.run_promise.specs.declared.fault.Fault.TheVariants.{NotFormatted, NotEmpty, NotImported, AlreadyImported, OldFormat}
+use Rattle.run_promise.specs.declared.fault.Fault.TheVariants.{UnknownTable, BadStore, WriteFault, DiskFault, OutOfMemory}
 use Rattle.update_flow.specs.declared.fault.FlowFault.{FlowFault}
 use Rattle.update_flow.specs.declared.fault.TheConstants.{LAST_CHANGE}
 use Rattle.update_flow.specs.declared.fault.FlowFault.TheVariants as flow
@@ -98,11 +100,13 @@ part_text (parts.Table number) = codes "table " ++ decimal number
 abbrev pub fault_text : Fault → List ℕ
 fault_text Usage = codes "usage"
 fault_text (Malformed file line why) =
-    codes "malformed file " ++ decimal file ++ codes " line " ++ decimal line ++ codes " cause " ++ decimal (number_of why) ++ order_text why
+    codes "malformed file " ++ decimal file ++ codes " line " ++ decimal line ++ codes " cause " ++ decimal (number_of why)
+    ++ order_text why
 fault_text (BadStyle file why part) =
     codes "bad style file " ++ decimal file ++ codes " cause " ++ decimal (style_number why) ++ codes " part " ++ part_text part
 fault_text (BadBounds file line) = codes "bad bounds file " ++ decimal file ++ codes " line " ++ decimal line
-fault_text (BadQuery file line why) = codes "bad query file " ++ decimal file ++ codes " line " ++ decimal line ++ codes " cause " ++ decimal (query_number why)
+fault_text (BadQuery file line why) = codes "bad query file " ++ decimal file ++ codes " line " ++ decimal line ++ codes " cause "
+    ++ decimal (query_number why)
 fault_text (Limit which value) = codes "limit " ++ limit_text which ++ codes " value " ++ decimal value
 fault_text (ReadFault file) = codes "read fault file " ++ decimal file
 fault_text NotFormatted = codes "not formatted"

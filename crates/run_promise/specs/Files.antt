@@ -57,7 +57,8 @@ IsStyle file bytes (Err _) = ⊥
 
 -- a file with these bytes is read as such boundaries, or has such a fault
 abbrev pub IsBounds : (file : ℕ) → List ℕ → Result BoundsOf Fault → Type 0
-IsBounds file bytes (Ok found) = (length bytes ≤ MAX_WHOLE) × IsTableOf (lines_of bytes) found.zoom × (found.lats ≡ lats_of (lines_of bytes))
+IsBounds file bytes (Ok found) = (length bytes ≤ MAX_WHOLE) × IsTableOf (lines_of bytes) found.zoom
+    × (found.lats ≡ lats_of (lines_of bytes))
 IsBounds file bytes (Err (BadBounds own line)) = (length bytes ≤ MAX_WHOLE) × (own ≡ file) × IsBadLine (lines_of bytes) line
 IsBounds file bytes (Err (Limit BoundsBytes value)) = (MAX_WHOLE < length bytes) × (value ≡ MAX_WHOLE + 1)
 IsBounds file bytes (Err _) = ⊥
@@ -65,7 +66,8 @@ IsBounds file bytes (Err _) = ⊥
 -- a file with these bytes is read as such queries of tables under this style, or has such a fault
 abbrev pub IsQueries : StyleOf → (file : ℕ) → List ℕ → Result (List Query) Fault → Type 0
 IsQueries style file bytes (Ok found) = (length bytes ≤ MAX_WHOLE) × (map Ok found ≡ map (query_of style) (lines_of bytes))
-IsQueries style file bytes (Err (BadQuery own line why)) = (length bytes ≤ MAX_WHOLE) × (own ≡ file) × IsFirstBad style (lines_of bytes) line why
+IsQueries style file bytes (Err (BadQuery own line why)) =
+    (length bytes ≤ MAX_WHOLE) × (own ≡ file) × IsFirstBad style (lines_of bytes) line why
 IsQueries style file bytes (Err (Limit QueryBytes value)) = (MAX_WHOLE < length bytes) × (value ≡ MAX_WHOLE + 1)
 IsQueries style file bytes (Err _) = ⊥
 

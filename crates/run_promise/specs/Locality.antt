@@ -35,7 +35,8 @@ use Rattle.run_promise.specs.World.{World}
 
 -- where the reads are told, there were at most so many more
 abbrev pub MoreReads : ℕ → Option ReadLog → Option ReadLog → Type 0
-MoreReads count before after = (first : ReadLog) → before ≡ Some first → (now : ReadLog) × (after ≡ Some now) × (now.count ≤ first.count + count)
+MoreReads count before after = (first : ReadLog) → before ≡ Some first
+    → (now : ReadLog) × (after ≡ Some now) × (now.count ≤ first.count + count)
 
 -- the opening of a store of these bytes costs so many reads: two, and one for each page of the eight directories and of the style
 pub record IsOpeningCost (bytes : List ℕ) (count : ℕ) : Type 0 where
@@ -43,7 +44,8 @@ pub record IsOpeningCost (bytes : List ℕ) (count : ℕ) : Type 0 where
   pub home : Home pages bytes
   pub directories : List Walked
   pub eight : length directories ≡ 8
-  pub are : (m : ℕ) → m < 8 → HasPages (page_in pages) (length pages + 1) (8 + m) (directory_first (page_in pages 1) m) (pages_at directories m)
+  pub are : (m : ℕ) → m < 8 → HasPages (page_in pages) (length pages + 1) (8 + m) (directory_first (page_in pages 1) m)
+      (pages_at directories m)
   pub style : List ℕ
   pub has : HasPages (page_in pages) (length pages + 1) STYLE_TEXT (text_first (page_in pages 1) STYLE_TEXT) style
   pub is : count ≡ 2 + page_total directories + length style
@@ -82,28 +84,33 @@ MayEachTouch bounds held (change ∷ changes) mays =
 abbrev pub Cost : BoundsOf → List (List ℕ) → Holding → List (List Entry) → (ℕ → May) → ℕ → Type 0
 Cost bounds pages held [] mays total = total ≡ 0
 Cost bounds pages held (change ∷ changes) mays total = (one : ℕ) × (later : ℕ) × (next : List (List ℕ)) × IsCost (mays 0) held pages one
-    × IsNextStore pages next (changed bounds change held) × Cost bounds next (changed bounds change held) changes (λ place. mays (place + 1)) later
+    × IsNextStore pages next (changed bounds change held)
+    × Cost bounds next (changed bounds change held) changes (λ place. mays (place + 1)) later
     × (total ≡ one + later)
 
 -- from one moment to another the disk was read no more often than these changes cost
 abbrev pub ReadsEach : BoundsOf → List (List ℕ) → Holding → List (List Entry) → Option ReadLog → Option ReadLog → Type 0
 ReadsEach bounds pages held changes before after =
-    (mays : ℕ → May) → MayEachTouch bounds held changes mays → (total : ℕ) × Cost bounds pages held changes mays total × MoreReads total before after
+    (mays : ℕ → May) → MayEachTouch bounds held changes mays
+    → (total : ℕ) × Cost bounds pages held changes mays total × MoreReads total before after
 
 -- files from this one on hold these changes, where they are told
 abbrev pub HoldChanges : FilesView → ℕ → List (List Entry) → Type 0
 HoldChanges files file [] = Unit {0}
-HoldChanges files file (change ∷ changes) = IfTold (files.left file) (λ bytes. IsChange file bytes (Ok change)) × HoldChanges files (file + 1) changes
+HoldChanges files file (change ∷ changes) =
+    IfTold (files.left file) (λ bytes. IsChange file bytes (Ok change)) × HoldChanges files (file + 1) changes
 
 -- so many change files from this one on were appended to an open store with these home pages
-pub record AppendsThere (bounds : BoundsOf) (held : Holding) (pages : List (List ℕ)) (first count : ℕ) (files : FilesView) (before after : Option ReadLog) : Type 0 where
+pub record AppendsThere (bounds : BoundsOf) (held : Holding) (pages : List (List ℕ)) (first count : ℕ) (files : FilesView)
+    (before after : Option ReadLog) : Type 0 where
   pub changes : List (List Entry)
   pub many : length changes ≡ count
   pub hold : HoldChanges files first changes
   pub reads : ReadsEach bounds pages held changes before after
 
 -- the files of an append were read, and appended to a store that holds this, with these home pages
-pub record AppendsAll (own : Files) (held : Holding) (pages : List (List ℕ)) (files : FilesView) (before after : Option ReadLog) : Type 0 where
+pub record AppendsAll (own : Files) (held : Holding) (pages : List (List ℕ)) (files : FilesView)
+    (before after : Option ReadLog) : Type 0 where
   pub bounds : BoundsOf
   pub accepted : IfTold (files.left own.first) (λ bytes. IsBounds own.first bytes (Ok bounds))
   pub there : AppendsThere bounds held pages (own.first + 1) (own.count - 1) files before after
@@ -111,8 +118,10 @@ pub record AppendsAll (own : Files) (held : Holding) (pages : List (List ℕ)) (
 -- An append that did all that it was asked to, on a disk whose bytes are a store that no crash has left in the middle of a commit: the
 -- disk was read no more often than the opening reads, and then each change.
 abbrev pub IsLocal : Files → World → World → Type 0
-IsLocal own old new = (bytes : List ℕ) (held : Holding) (pages : List (List ℕ)) → old.disk.content ≡ Some bytes → gate bytes ≢ OPEN → StandsFor bytes (imported held)
-    → Home pages bytes → (between : Option ReadLog) × ((opening : ℕ) × IsOpeningCost bytes opening × MoreReads opening old.disk.reads between)
+IsLocal own old new = (bytes : List ℕ) (held : Holding) (pages : List (List ℕ)) → old.disk.content ≡ Some bytes → gate bytes ≢ OPEN
+    → StandsFor bytes (imported held)
+    → Home pages bytes → (between : Option ReadLog)
+    × ((opening : ℕ) × IsOpeningCost bytes opening × MoreReads opening old.disk.reads between)
     × AppendsAll own held pages old.files between new.disk.reads
 
 -- a run of a command

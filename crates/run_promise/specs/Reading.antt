@@ -44,7 +44,8 @@ HasFault (append_of store files workers) file bytes fault =
     ((file ≡ files.first) × IsBounds file bytes (Err fault)) ⊎ ((files.first + 1 ≤ file) × IsChange file bytes (Err fault))
 HasFault (query_of store files) file bytes fault = (style : StyleOf) × IsQueries style file bytes (Err fault)
 HasFault (serve_of store files workers readers) file bytes fault =
-    ((file ≡ files.first) × IsBounds file bytes (Err fault)) ⊎ ((file ≡ files.first + 1) × ((style : StyleOf) × IsQueries style file bytes (Err fault)))
+    ((file ≡ files.first) × IsBounds file bytes (Err fault))
+    ⊎ ((file ≡ files.first + 1) × ((style : StyleOf) × IsQueries style file bytes (Err fault)))
     ⊎ ((files.first + 2 ≤ file) × IsChange file bytes (Err fault))
 HasFault (replay_of store files workers) file bytes fault =
     ((file ≡ files.first) × IsStyle file bytes (Err fault)) ⊎ ((file ≡ files.first + 1) × IsBounds file bytes (Err fault))

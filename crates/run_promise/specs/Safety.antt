@@ -47,7 +47,8 @@ pub record Acknowledges (most : ℕ) (now : Kept) (cut : ℕ) (steps : List Step
 -- a run of the command may come to an end at which the disk keeps this, of which so many steps stood there before
 abbrev pub ComesTo : CommandOf → (start : Progress) → (now : Kept) → (cut : ℕ) → World → Option Fault → Type 0
 ComesTo command start now cut old fault =
-    (ending : Ending) × (ending.fault ≡ fault) × Comes (remembered old) (course_of command) start ending × (ending.done.store ≡ keeps now) × (ending.done.cut ≡ cut)
+    (ending : Ending) × (ending.fault ≡ fault) × Comes (remembered old) (course_of command) start ending × (ending.done.store ≡ keeps now)
+    × (ending.done.cut ≡ cut)
 
 -- what a run makes of a history: the one that the disk kept before, where no store was opened; else the first steps of that, up to a
 -- cut, and the steps whose commit the run began, by the course of its command
@@ -60,7 +61,8 @@ pub record Extends (command : CommandOf) (start : Progress) (before : Kept) (old
   pub behind : ((now ≡ before) × (steps ≡ [])) ⊎ (now.history ≡ with_steps steps (first cut before.history))
   pub comes : ComesTo command start now cut old fault
   pub at_end : KeepsAtEnd now new fault
-  pub acknowledged : BothKnown old.output.taken new.output.taken (λ earlier later. Acknowledges (steps_told command) now cut steps fault (lines_in later - lines_in earlier))
+  pub acknowledged : BothKnown old.output.taken new.output.taken
+      (λ earlier later. Acknowledges (steps_told command) now cut steps fault (lines_in later - lines_in earlier))
 
 -- over a store that was there
 pub record Preserves (command : CommandOf) (before : Kept) (old new : World) (fault : Option Fault) : Type 0 where
@@ -76,4 +78,5 @@ pub record IsUnmade (old new : World) (fault : Option Fault) : Type 0 where
 -- a store keeps through the run what its disk kept before; and one that the run made on an empty disk keeps the steps of the run
 pub record IsSafe (command : CommandOf) (old new : World) (fault : Option Fault) : Type 0 where
   pub kept : use_of command ≡ old_store → (before : Kept) → IsKept old.disk before → Preserves command before old new fault
-  pub made : use_of command ≡ new_store → old.disk.content ≡ Some [] → IsUnmade old new fault ⊎ Extends command (begun unused 0) (whole blank) old new fault
+  pub made : use_of command ≡ new_store → old.disk.content ≡ Some []
+      → IsUnmade old new fault ⊎ Extends command (begun unused 0) (whole blank) old new fault

@@ -8,5 +8,6 @@ module _ {A : Type 0} where
   fill_suc (x ∷ xs) (suc i) y less = λ k. y ∷ fill_suc xs i y (omega arith) k
 
   -- one more
-  pub fill_next : (xs : List A) (i : ℕ) (y : A) → i < length xs → set (replicate i y ++ drop i xs) i y ≡ replicate (i + 1) y ++ drop (i + 1) xs
+  pub fill_next : (xs : List A) (i : ℕ) (y : A) → i < length xs
+      → set (replicate i y ++ drop i xs) i y ≡ replicate (i + 1) y ++ drop (i + 1) xs
   fill_next xs i y less = rw add-one (fill_suc xs i y less)

@@ -1,5 +1,6 @@
 -- Each event keeps what holds of all states that events reach, and lets no count fall.
-use Rattle.std.proofs.Common.{◌≡◌, ℕ, zero, suc, ◌+◌, ◌*◌, ◌<◌, ◌≤◌, List, [], ◌∷◌, ◌++◌, Bool, true, false, not, ◌&&◌, cond, eqb, ltb, get_or, length, length-append, length-set, min, replicate, set, refl, ap, sym, subst, lt_of_not-le, arith}
+use Rattle.std.proofs.Common.{◌≡◌, ℕ, zero, suc, ◌+◌, ◌*◌, ◌<◌, ◌≤◌, List, [], ◌∷◌, ◌++◌, Bool, true, false, not, ◌&&◌, cond, eqb, ltb}
+use Rattle.std.proofs.Common.{get_or, length, length-append, length-set, min, replicate, set, refl, ap, sym, subst, lt_of_not-le, arith}
 use Rattle.std.specs.Prelude.{All, OnErr, OnOk, Result, Ok, Err, sum_by}
 use Rattle.osm_base.specs.declared.bounds.memory.OutOfMemory.{OutOfMemory}
 use native.Mathlib.Decide.{dec_le}
@@ -50,8 +51,16 @@ later : (tickets next : ℕ) (worker : WorkerOf) → IsSound tickets next worker
 later tickets next worker sound = record { built = sound.built; dry = λ e. let d = sound.dry e in omega arith; ended = sound.ended }
 
 -- a draw of a ticket
-takes : (core : Core) (number : ℕ) → IsReached core → Here core number → (worker_at core.workers number).dry ≡ false → core.next < core.tickets
-    → IsReached (record core { next = core.next + 1; workers = set core.workers number (record (worker_at core.workers number) { tickets = (worker_at core.workers number).tickets ++ core.next ∷ [] }) })
+takes : (core : Core) (number : ℕ) → IsReached core → Here core number → (worker_at core.workers number).dry ≡ false
+    → core.next < core.tickets
+    → IsReached (record core {
+      next = core.next + 1;
+      workers =
+          set core.workers number (record (worker_at core.workers number) {
+            tickets =
+                (worker_at core.workers number).tickets ++ core.next ∷ [];
+          });
+    })
 takes core number reached at wet less =
     let old = worker_at core.workers number in
     let new : WorkerOf = record old { tickets = old.tickets ++ core.next ∷ [] } in
@@ -71,7 +80,8 @@ takes core number reached at wet less =
             dry = λ e. absurd (cc);
             ended = λ e. let d = (at.sound.ended e).0 in absurd (cc);
           })
-          (All-weaker (IsSound core.tickets core.next) (IsSound core.tickets (core.next + 1)) (later core.tickets core.next) core.workers reached.workers);
+          (All-weaker (IsSound core.tickets core.next) (IsSound core.tickets (core.next + 1))
+          (later core.tickets core.next) core.workers reached.workers);
       seen = reached.seen;
       published = reached.published;
       acked = reached.acked;
@@ -79,8 +89,13 @@ takes core number reached at wet less =
     }
 
 -- a draw that gives none
-misses : (core : Core) (number : ℕ) → IsReached core → Here core number → (worker_at core.workers number).dry ≡ false → core.tickets ≤ core.next
-    → IsReached (record core { next = core.next + 1; workers = set core.workers number (record (worker_at core.workers number) { dry = true }) })
+misses : (core : Core) (number : ℕ) → IsReached core → Here core number → (worker_at core.workers number).dry ≡ false
+    → core.tickets ≤ core.next
+    → IsReached (record core {
+      next = core.next + 1;
+      workers =
+          set core.workers number (record (worker_at core.workers number) { dry = true });
+    })
 misses core number reached at wet more =
     let old = worker_at core.workers number in
     let new : WorkerOf = record old { dry = true } in
@@ -98,17 +113,20 @@ misses core number reached at wet more =
           omega arith);
       workers = All-set (IsSound core.tickets (core.next + 1)) core.workers number new
           (record { built = at.sound.built; dry = λ e. omega arith; ended = λ e. (refl, (at.sound.ended e).1) })
-          (All-weaker (IsSound core.tickets core.next) (IsSound core.tickets (core.next + 1)) (later core.tickets core.next) core.workers reached.workers);
+          (All-weaker (IsSound core.tickets core.next) (IsSound core.tickets (core.next + 1))
+          (later core.tickets core.next) core.workers reached.workers);
       seen = reached.seen;
       published = reached.published;
       acked = reached.acked;
       owed = reached.owed;
     }
 
-draws_by : (core : Core) (number : ℕ) → IsReached core → Here core number → (worker_at core.workers number).dry ≡ false → Dec (core.tickets ≤ core.next)
+draws_by : (core : Core) (number : ℕ) → IsReached core → Here core number → (worker_at core.workers number).dry ≡ false
+    → Dec (core.tickets ≤ core.next)
     → IsReached (changed core (Draw number))
 draws_by core number reached at wet (yes more) = rw (le-ltb core.next core.tickets more) (misses core number reached at wet more)
-draws_by core number reached at wet (no less) = let low : core.next < core.tickets = lt_of_not-le less in rw (lt-ltb core.next core.tickets low) (takes core number reached at wet low)
+draws_by core number reached at wet (no less) = let low : core.next < core.tickets = lt_of_not-le less in
+    rw (lt-ltb core.next core.tickets low) (takes core number reached at wet low)
 
 draws : (core : Core) (number : ℕ) → IsReached core → is_possible core (Draw number) ≡ true → IsReached (changed core (Draw number))
 draws core number reached possible =
@@ -118,8 +136,10 @@ draws core number reached possible =
     draws_by core number reached at wet (dec_le core.tickets core.next)
 
 -- a worker with the same tickets and the same draws
-same_draws : (core : Core) (number : ℕ) (new : WorkerOf) → IsReached core → Here core number → new.tickets ≡ (worker_at core.workers number).tickets
-    → new.dry ≡ (worker_at core.workers number).dry → IsSound core.tickets core.next new → IsReached (record core { workers = set core.workers number new })
+same_draws : (core : Core) (number : ℕ) (new : WorkerOf) → IsReached core → Here core number
+    → new.tickets ≡ (worker_at core.workers number).tickets
+    → new.dry ≡ (worker_at core.workers number).dry → IsSound core.tickets core.next new
+    → IsReached (record core { workers = set core.workers number new })
 same_draws core number new reached at tickets dry sound = record {
   once = λ x. (
       let s = sum_by-set (λ (w : WorkerOf). times x w.tickets) core.workers number new new_worker at.there in
@@ -159,13 +179,25 @@ ends core number reached possible =
     (record { built = at.sound.built; dry = at.sound.dry; ended = λ e. (all.0, same) })
 
 -- a new round, with other counts
-rounds : (core : Core) (committed acked published : ℕ) (owed : Bool) (seen : List ℕ) → IsReached core → All (λ version. version ≤ published) seen → published ≤ committed
+rounds : (core : Core) (committed acked published : ℕ) (owed : Bool) (seen : List ℕ) → IsReached core
+    → All (λ version. version ≤ published) seen → published ≤ committed
     → acked ≤ committed → committed ≤ 9223372036854775808
-    → IsReached record { tickets = core.tickets; next = 0; workers = replicate (length core.workers) new_worker; committed = committed; acked = acked; published = published; owed = owed; seen = seen }
+    → IsReached record {
+      tickets = core.tickets;
+      next = 0;
+      workers = replicate (length core.workers) new_worker;
+      committed = committed;
+      acked = acked;
+      published = published;
+      owed = owed;
+      seen = seen;
+    }
 rounds core committed acked published owed seen reached below shown told most = record {
-  once = λ x. (let s = sum_by-replicate (λ (w : WorkerOf). times x w.tickets) (length core.workers) new_worker in let none = none_below x core.tickets in omega arith);
+  once = λ x. (let s = sum_by-replicate (λ (w : WorkerOf). times x w.tickets) (length core.workers) new_worker in let none =
+      none_below x core.tickets in omega arith);
   next = (let s = sum_by-replicate missed (length core.workers) new_worker in omega arith);
-  workers = All-replicate (IsSound core.tickets 0) (length core.workers) new_worker (record { built = omega arith; dry = λ e. absurd (cc); ended = λ e. absurd (cc) });
+  workers = All-replicate (IsSound core.tickets 0) (length core.workers) new_worker
+      (record { built = omega arith; dry = λ e. absurd (cc); ended = λ e. absurd (cc) });
   seen = below;
   published = shown;
   acked = told;
@@ -173,15 +205,20 @@ rounds core committed acked published owed seen reached below shown told most = 
 }
 
 pub kept : (core : Core) (event : Event) → IsReached core → IsReached (after core event)
-kept core (Draw number) reached = either IsReached (is_possible core (Draw number)) (changed core (Draw number)) core (draws core number reached) reached
-kept core (Build number) reached = either IsReached (is_possible core (Build number)) (changed core (Build number)) core (builds core number reached) reached
-kept core (End number) reached = either IsReached (is_possible core (End number)) (changed core (End number)) core (ends core number reached) reached
+kept core (Draw number) reached = either IsReached (is_possible core (Draw number)) (changed core (Draw number)) core
+    (draws core number reached) reached
+kept core (Build number) reached = either IsReached (is_possible core (Build number)) (changed core (Build number)) core
+    (builds core number reached) reached
+kept core (End number) reached = either IsReached (is_possible core (End number)) (changed core (End number)) core
+    (ends core number reached) reached
 kept core Commit reached = either IsReached (is_possible core Commit) (changed core Commit) core
     (λ possible.
     let published = reached.published in
     let acked = reached.acked in
-    let less = ltb-true core.committed 9223372036854775808 (both (all_ended core.workers && not core.owed) (ltb core.committed 9223372036854775808) possible).1 in
-    rounds core (core.committed + 1) core.acked core.published true core.seen reached reached.seen (omega arith) (omega arith) (omega arith))
+    let less = ltb-true core.committed 9223372036854775808
+    (both (all_ended core.workers && not core.owed) (ltb core.committed 9223372036854775808) possible).1 in
+    rounds core (core.committed + 1) core.acked core.published true core.seen reached reached.seen (omega arith) (omega arith)
+    (omega arith))
     reached
 kept core Publish reached = either IsReached (is_possible core Publish) (changed core Publish) core
     (λ possible.
@@ -190,7 +227,8 @@ kept core Publish reached = either IsReached (is_possible core Publish) (changed
       once = reached.once;
       next = reached.next;
       workers = reached.workers;
-      seen = All-weaker (λ version. version ≤ core.published) (λ version. version ≤ core.published + 1) (λ version le. omega arith) core.seen reached.seen;
+      seen = All-weaker (λ version. version ≤ core.published) (λ version. version ≤ core.published + 1)
+          (λ version le. omega arith) core.seen reached.seen;
       published = omega arith;
       acked = reached.acked;
       owed = reached.owed;
@@ -220,11 +258,19 @@ kept core (Enter reader) reached = either IsReached (is_possible core (Enter rea
     reached
 kept core Crash reached =
     rounds core core.committed core.acked core.committed false (replicate (length core.seen) core.committed) reached
-    (All-replicate (λ version. version ≤ core.committed) (length core.seen) core.committed (omega arith)) (omega arith) reached.acked reached.owed
+    (All-replicate (λ version. version ≤ core.committed) (length core.seen) core.committed (omega arith))
+    (omega arith) reached.acked reached.owed
 
 -- a state grows into itself
 pub grows_same : (core : Core) → Grows core core
-grows_same core = record { committed = omega arith; published = omega arith; acked = omega arith; readers = refl; seen = λ reader. omega arith }
+grows_same core = record {
+  committed = omega arith;
+  published = omega arith;
+  acked = omega arith;
+  readers = refl;
+  seen =
+      λ reader. omega arith;
+}
 
 pub grows_then : (a b c : Core) → Grows a b → Grows b c → Grows a c
 grows_then a b c p q = record {
@@ -236,15 +282,64 @@ grows_then a b c p q = record {
 }
 
 pub grows : (core : Core) (event : Event) → IsReached core → Grows core (after core event)
-grows core (Draw number) reached = either (Grows core) (is_possible core (Draw number)) (changed core (Draw number)) core (λ possible. record { committed = omega arith; published = omega arith; acked = omega arith; readers = refl; seen = λ reader. omega arith }) (grows_same core)
-grows core (Build number) reached = either (Grows core) (is_possible core (Build number)) (changed core (Build number)) core (λ possible. record { committed = omega arith; published = omega arith; acked = omega arith; readers = refl; seen = λ reader. omega arith }) (grows_same core)
-grows core (End number) reached = either (Grows core) (is_possible core (End number)) (changed core (End number)) core (λ possible. record { committed = omega arith; published = omega arith; acked = omega arith; readers = refl; seen = λ reader. omega arith }) (grows_same core)
-grows core Commit reached = either (Grows core) (is_possible core Commit) (changed core Commit) core (λ possible. record { committed = omega arith; published = omega arith; acked = omega arith; readers = refl; seen = λ reader. omega arith }) (grows_same core)
-grows core Publish reached = either (Grows core) (is_possible core Publish) (changed core Publish) core (λ possible. record { committed = omega arith; published = omega arith; acked = omega arith; readers = refl; seen = λ reader. omega arith }) (grows_same core)
+grows core (Draw number) reached = either (Grows core) (is_possible core (Draw number)) (changed core (Draw number)) core
+    (λ possible. record {
+      committed = omega arith;
+      published = omega arith;
+      acked = omega arith;
+      readers = refl;
+      seen =
+          λ reader. omega arith;
+    }) (grows_same core)
+grows core (Build number) reached = either (Grows core) (is_possible core (Build number)) (changed core (Build number)) core
+    (λ possible. record {
+      committed = omega arith;
+      published = omega arith;
+      acked = omega arith;
+      readers = refl;
+      seen =
+          λ reader. omega arith;
+    }) (grows_same core)
+grows core (End number) reached = either (Grows core) (is_possible core (End number)) (changed core (End number)) core
+    (λ possible. record {
+      committed = omega arith;
+      published = omega arith;
+      acked = omega arith;
+      readers = refl;
+      seen =
+          λ reader. omega arith;
+    }) (grows_same core)
+grows core Commit reached = either (Grows core) (is_possible core Commit) (changed core Commit) core
+    (λ possible. record {
+      committed = omega arith;
+      published = omega arith;
+      acked = omega arith;
+      readers = refl;
+      seen =
+          λ reader. omega arith;
+    }) (grows_same core)
+grows core Publish reached = either (Grows core) (is_possible core Publish) (changed core Publish) core
+    (λ possible. record {
+      committed = omega arith;
+      published = omega arith;
+      acked = omega arith;
+      readers = refl;
+      seen =
+          λ reader. omega arith;
+    }) (grows_same core)
 grows core Ack reached = either (Grows core) (is_possible core Ack) (changed core Ack) core
-    (λ possible. let acked = reached.acked in record { committed = omega arith; published = omega arith; acked = omega arith; readers = refl; seen = λ reader. omega arith }) (grows_same core)
+    (λ possible. let acked = reached.acked in
+    record { committed = omega arith; published = omega arith; acked = omega arith; readers = refl; seen = λ reader. omega arith })
+    (grows_same core)
 grows core (Enter reader) reached = either (Grows core) (is_possible core (Enter reader)) (changed core (Enter reader)) core
-    (λ possible. record { committed = omega arith; published = omega arith; acked = omega arith; readers = length-set core.seen reader core.published; seen = set_rises core.seen reader core.published reached.seen })
+    (λ possible. record {
+      committed = omega arith;
+      published = omega arith;
+      acked = omega arith;
+      readers =
+          length-set core.seen reader core.published;
+      seen = set_rises core.seen reader core.published reached.seen;
+    })
     (grows_same core)
 grows core Crash reached =
     let shown = reached.published in
@@ -253,7 +348,9 @@ grows core Crash reached =
       published = omega arith;
       acked = omega arith;
       readers = length-replicate (length core.seen) core.committed;
-      seen = replicate_rises core.seen core.committed (All-weaker (λ version. version ≤ core.published) (λ version. version ≤ core.committed) (λ version le. omega arith) core.seen reached.seen);
+      seen = replicate_rises core.seen core.committed
+          (All-weaker (λ version. version ≤ core.published) (λ version. version ≤ core.committed)
+          (λ version le. omega arith) core.seen reached.seen);
     }
 
 cond_le : (b : Bool) → cond b 1 0 ≤ 1
@@ -266,9 +363,11 @@ missed_le worker = cond_le worker.dry
 -- the first state
 pub begins : (tickets workers readers : ℕ) → IsReached (begun tickets workers readers)
 begins tickets workers readers = record {
-  once = λ x. (let s = sum_by-replicate (λ (w : WorkerOf). times x w.tickets) workers new_worker in let none = none_below x tickets in omega arith);
+  once = λ x. (let s = sum_by-replicate (λ (w : WorkerOf). times x w.tickets) workers new_worker in let none = none_below x tickets in
+      omega arith);
   next = (let s = sum_by-replicate missed workers new_worker in omega arith);
-  workers = All-replicate (IsSound tickets 0) workers new_worker (record { built = omega arith; dry = λ e. absurd (cc); ended = λ e. absurd (cc) });
+  workers = All-replicate (IsSound tickets 0) workers new_worker
+      (record { built = omega arith; dry = λ e. absurd (cc); ended = λ e. absurd (cc) });
   seen = All-replicate (λ version. version ≤ 0) readers 0 (omega arith);
   published = omega arith;
   acked = omega arith;
@@ -283,6 +382,7 @@ next_small core reached =
     omega arith
 
 -- after a step that was taken, or was not for want of memory
-pub stepped : (P : Core → Type 0) (result : Result Bool OutOfMemory) (old new next : Core) → OnOk result (new ≡ next) → OnErr result (new ≡ old) → P next → P old → P new
+pub stepped : (P : Core → Type 0) (result : Result Bool OutOfMemory) (old new next : Core) → OnOk result (new ≡ next)
+    → OnErr result (new ≡ old) → P next → P old → P new
 stepped P (Ok done) old new next ok err p q = subst P (sym ok) p
 stepped P (Err fault) old new next ok err p q = subst P (sym err) q

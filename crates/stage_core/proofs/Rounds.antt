@@ -13,7 +13,8 @@ use Rattle.stage_core.specs.declared.event.Event.{Event}
 use Rattle.stage_core.proofs.Kept.{begins, grows, grows_same, grows_then, kept}
 
 -- how often a number stands in lists one after another
-times-flat_map : (x : ℕ) (f : WorkerOf → List ℕ) (workers : List WorkerOf) → times x (flat_map f workers) ≡ sum_by (λ w. times x (f w)) workers
+times-flat_map : (x : ℕ) (f : WorkerOf → List ℕ) (workers : List WorkerOf)
+    → times x (flat_map f workers) ≡ sum_by (λ w. times x (f w)) workers
 times-flat_map x f [] = refl
 times-flat_map x f (w ∷ ws) =
     let rest = times-flat_map x f ws in
@@ -35,7 +36,8 @@ take_length : (n : ℕ) (xs : List ℕ) → n ≡ length xs → take n xs ≡ xs
 take_length n xs e = rw e (take_all xs)
 
 -- where all workers have ended, each ticket is built once
-built : (core : Core) → IsReached core → 0 < length core.workers → all_ended core.workers ≡ true → (x : ℕ) → times x (all_built core) ≡ once_below x core.tickets
+built : (core : Core) → IsReached core → 0 < length core.workers → all_ended core.workers ≡ true → (x : ℕ)
+    → times x (all_built core) ≡ once_below x core.tickets
 built core reached some ended x =
     let each = AllPass-from_list_all (λ (w : WorkerOf). w.ended) core.workers ended in
     let first = All-get_or (IsSound core.tickets core.next) core.workers 0 new_worker some reached.workers in
@@ -64,12 +66,15 @@ reached_all core (event ∷ events) reached = reached_all (after core event) eve
 grows_all : (core : Core) (events : List Event) → IsReached core → Grows core (after_all core events)
 grows_all core [] reached = grows_same core
 grows_all core (event ∷ events) reached =
-    grows_then core (after core event) (after_all (after core event) events) (grows core event reached) (grows_all (after core event) events (kept core event reached))
+    grows_then core (after core event) (after_all (after core event) events) (grows core event reached)
+    (grows_all (after core event) events (kept core event reached))
 
 pub promised_all : (n workers readers : ℕ) (events : List Event) → Promise (after_all (begun n workers readers) events)
 promised_all n workers readers events = promised _ (reached_all (begun n workers readers) events (begins n workers readers))
 
-pub grows_from : (n workers readers : ℕ) (earlier later : List Event) → Grows (after_all (begun n workers readers) earlier) (after_all (begun n workers readers) (earlier ++ later))
+pub grows_from : (n workers readers : ℕ) (earlier later : List Event)
+    → Grows (after_all (begun n workers readers) earlier) (after_all (begun n workers readers) (earlier ++ later))
 grows_from n workers readers earlier later =
     let first = after_all (begun n workers readers) earlier in
-    rw (fold-append after (begun n workers readers) earlier later) (grows_all first later (reached_all (begun n workers readers) earlier (begins n workers readers)))
+    rw (fold-append after (begun n workers readers) earlier later)
+    (grows_all first later (reached_all (begun n workers readers) earlier (begins n workers readers)))

@@ -1,6 +1,7 @@
 -- The machine of a run's stages: its states, which events are possible in each, and what each event makes of a state.
 -- An event that is not possible leaves the state.
-use Rattle.std.specs.Prelude.{ℕ, ◌+◌, ◌^◌, Bool, true, false, not, ◌&&◌, ◌==◌, List, [], ◌∷◌, ◌++◌, nat_lt, if◌then◌else◌, fold, length, replicate, slice_get, slice_index_or, slice_set, Option, None, Some}
+use Rattle.std.specs.Prelude.{ℕ, ◌+◌, ◌^◌, Bool, true, false, not, ◌&&◌, ◌==◌, List, [], ◌∷◌, ◌++◌, nat_lt, if◌then◌else◌, fold, length}
+use Rattle.std.specs.Prelude.{replicate, slice_get, slice_index_or, slice_set, Option, None, Some}
 use Rattle.std.specs.List.{list_all}
 use Rattle.stage_core.specs.declared.event.Event.{Event}
 use Rattle.stage_core.specs.declared.event.Event.TheVariants.{Draw, Build, End, Commit, Publish, Ack, Enter, Crash}
@@ -30,7 +31,16 @@ new_worker = record { tickets = []; built = 0; dry = false; ended = false }
 -- the first state
 abbrev pub begun : ℕ → ℕ → ℕ → Core
 begun tickets workers readers =
-    record { tickets = tickets; next = 0; workers = replicate workers new_worker; committed = 0; acked = 0; published = 0; owed = false; seen = replicate readers 0 }
+    record {
+      tickets = tickets;
+      next = 0;
+      workers = replicate workers new_worker;
+      committed = 0;
+      acked = 0;
+      published = 0;
+      owed = false;
+      seen = replicate readers 0;
+    }
 
 -- a worker, and a list with another one in its place
 abbrev pub worker_at : List WorkerOf → ℕ → WorkerOf
@@ -38,7 +48,8 @@ worker_at workers number = slice_index_or workers number new_worker
 
 -- a worker draws a number: below the number of tickets it is its ticket, and else there is none more
 abbrev pub drawn : ℕ → ℕ → WorkerOf → WorkerOf
-drawn tickets next worker = if nat_lt next tickets then record worker { tickets = worker.tickets ++ next ∷ [] } else record worker { dry = true }
+drawn tickets next worker = if nat_lt next tickets then record worker { tickets = worker.tickets ++ next ∷ [] }
+    else record worker { dry = true }
 
 -- all workers ended
 abbrev pub all_ended : List WorkerOf → Bool
@@ -69,14 +80,22 @@ new_round core = record core { next = 0; workers = replicate (length core.worker
 
 -- what a possible event makes of a state
 abbrev pub changed : Core → Event → Core
-changed core (Draw worker) = record (with_worker core worker (drawn core.tickets core.next (worker_at core.workers worker))) { next = core.next + 1 }
+changed core (Draw worker) = record (with_worker core worker (drawn core.tickets core.next (worker_at core.workers worker))) {
+  next =
+      core.next + 1;
+}
 changed core (Build worker) = (let w = worker_at core.workers worker in with_worker core worker (record w { built = w.built + 1 }))
 changed core (End worker) = with_worker core worker (record (worker_at core.workers worker) { ended = true })
 changed core Commit = record (new_round core) { committed = core.committed + 1; owed = true }
 changed core Publish = record core { published = core.published + 1 }
 changed core Ack = record core { acked = core.committed; owed = false }
 changed core (Enter reader) = record core { seen = slice_set core.seen reader core.published }
-changed core Crash = record (new_round core) { owed = false; published = core.committed; seen = replicate (length core.seen) core.committed }
+changed core Crash = record (new_round core) {
+  owed = false;
+  published = core.committed;
+  seen =
+      replicate (length core.seen) core.committed;
+}
 
 -- the state after an event, and after a list of events, one after another
 abbrev pub after : Core → Event → Core

@@ -1,5 +1,6 @@
 -- Lists that are filled by entries keep what the entries tell.
-use Rattle.std.proofs.Common.{◌≡◌, ◌≢◌, ℕ, Bool, true, false, ◌&&◌, ◌||◌, if◌then◌else◌, List, [], ◌∷◌, fold, Option, Some, None, refl, sym, ap, subst, ◌∙◌, nat_eq}
+use Rattle.std.proofs.Common.{◌≡◌, ◌≢◌, ℕ, Bool, true, false, ◌&&◌, ◌||◌, if◌then◌else◌, List, [], ◌∷◌, fold, Option, Some, None, refl, sym}
+use Rattle.std.proofs.Common.{ap, subst, ◌∙◌, nat_eq}
 use Rattle.std.specs.FinMap as finite
 use Rattle.std.specs.Option.{unwrap_or}
 use Rattle.std.specs.Ordering.{nat_cmp}
@@ -19,7 +20,9 @@ use Rattle.store_maps.proofs.Listings.{listed_too, retold}
 
 -- one listing is filled by entries
 abbrev pub filled_listing : Kind → (Object → List ℕ) → ListingOf → List Entry → ListingOf
-filled_listing by what listing entries = fold (λ (listing : ListingOf) (entry : Entry). relisted_all with_id listing entry.key.id (ids_for by what entry.key.kind entry.object)) listing entries
+filled_listing by what listing entries =
+    fold (λ (listing : ListingOf) (entry : Entry). relisted_all with_id listing entry.key.id (ids_for by what entry.key.kind entry.object))
+    listing entries
 
 -- each of the three is filled beside the others
 pub lists_apart : (entries : List Entry) (maps : Maps) → all_listed_on maps entries ≡ record maps {
@@ -41,10 +44,12 @@ filled_told : (by : Kind) (what : Object → List ℕ) (entries : List Entry) (l
 filled_told by what [] listing told is = is
 filled_told by what (entry ∷ entries) listing told is =
     let ids : List ℕ = ids_for by what entry.key.kind entry.object in
-    retold (filled_listing by what listing (entry ∷ entries)) (λ id own. entries_tell by what entries id own || added ids entry.key.id told id own)
+    retold (filled_listing by what listing (entry ∷ entries))
+    (λ id own. entries_tell by what entries id own || added ids entry.key.id told id own)
     (λ id own. entries_tell by what (entry ∷ entries) id own || told id own)
     (λ id own. in_turn (has ids id && nat_eq entry.key.id own) (entries_tell by what entries id own) (told id own))
-    (filled_told by what entries (relisted_all with_id listing entry.key.id ids) (added ids entry.key.id told) (listed_too ids entry.key.id listing told is))
+    (filled_told by what entries (relisted_all with_id listing entry.key.id ids) (added ids entry.key.id told)
+    (listed_too ids entry.key.id listing told is))
 
 no_list : (found : Option (List ℕ)) → found ≡ None → found ≢ Some []
 no_list None is same = absurd (cc)
@@ -66,17 +71,20 @@ pub filled_lists : (by : Kind) (what : Object → List ℕ) (entries : List Entr
     → IsListing (filled_listing by what listing entries) (entries_tell by what entries)
 filled_lists by what entries listing none =
     subst (λ (own : ListingOf). IsListing (filled_listing by what own entries) (entries_tell by what entries)) (sym none)
-    (retold (filled_listing by what finite.empty entries) (λ id own. entries_tell by what entries id own || false) (entries_tell by what entries)
+    (retold (filled_listing by what finite.empty entries) (λ id own. entries_tell by what entries id own || false)
+    (entries_tell by what entries)
     (λ id own. or_none (entries_tell by what entries id own)) (filled_told by what entries finite.empty (λ id own. false) none_listed))
 
 -- Objects and lists stand in maps apart.
 
-set_listed : (maps : Maps) (entry : Entry) (kind : Kind) (id : ℕ) (object : Option Object) → set_object (listed_on maps entry) kind id object ≡ listed_on (set_object maps kind id object) entry
+set_listed : (maps : Maps) (entry : Entry) (kind : Kind) (id : ℕ) (object : Option Object)
+    → set_object (listed_on maps entry) kind id object ≡ listed_on (set_object maps kind id object) entry
 set_listed maps entry kinds.Node id object = refl
 set_listed maps entry kinds.Way id object = refl
 set_listed maps entry kinds.Relation id object = refl
 
-pub objects_listed : (maps : Maps) (entry : Entry) (others : List Entry) → all_objects_on (listed_on maps entry) others ≡ listed_on (all_objects_on maps others) entry
+pub objects_listed : (maps : Maps) (entry : Entry) (others : List Entry)
+    → all_objects_on (listed_on maps entry) others ≡ listed_on (all_objects_on maps others) entry
 objects_listed maps entry [] = refl
 objects_listed maps entry (other ∷ others) =
     ap (λ (own : Maps). all_objects_on own others) (set_listed maps entry other.key.kind other.key.id other.object)
@@ -86,7 +94,8 @@ none_for : (by : Kind) (what : Object → List ℕ) (kind : Kind) → ids_for by
 none_for by what kind = elim (is_kind by kind) as (λ b. (if b then listed_by what None else []) ≡ []) [ true ↦ refl | false ↦ refl ]
 
 -- where a key has no form, its entry lists its object and puts it
-pub fresh-entry : (maps : Maps) (entry : Entry) → form_in maps entry.key.kind entry.key.id ≡ None → object_on (listed_on maps entry) entry ≡ entry_on maps entry
+pub fresh-entry : (maps : Maps) (entry : Entry) → form_in maps entry.key.kind entry.key.id ≡ None
+    → object_on (listed_on maps entry) entry ≡ entry_on maps entry
 fresh-entry maps entry none =
     let kind = entry.key.kind in
     let own = entry.key.id in

@@ -1,5 +1,6 @@
 -- Rising ids with one more, and with one fewer.
-use Rattle.std.proofs.Common.{◌≡◌, ◌<◌, ◌⊎◌, ℕ, Bool, true, false, not, ◌&&◌, ◌||◌, cond, List, [], ◌∷◌, ◌++◌, refl, sym, ap, ◌∙◌, inl, inr, arith, nat_eq}
+use Rattle.std.proofs.Common.{◌≡◌, ◌<◌, ◌⊎◌, ℕ, Bool, true, false, not, ◌&&◌, ◌||◌, cond, List, [], ◌∷◌, ◌++◌, refl, sym, ap, ◌∙◌, inl, inr}
+use Rattle.std.proofs.Common.{arith, nat_eq}
 use Rattle.std.specs.Prelude.{nat_lt, map}
 use Rattle.std.specs.declared.cmp.Ordering.TheVariants.{Less}
 use Rattle.std.specs.Cmp.{nat_cmp_is}
@@ -30,11 +31,13 @@ pub turned_round : (id other : ℕ) → nat_eq id other ≡ nat_eq other id
 turned_round id other = grind (arith, nat_tests)
 
 module _ (test : ℕ → Bool) where
-  here : (first x : ℕ) (rest : List ℕ) → nat_eq first x ≡ true → has rest x ≡ (test x && has rest x) → (b : Bool) → test x ≡ b → has (cond b (first ∷ rest) rest) x ≡ (b && true)
+  here : (first x : ℕ) (rest : List ℕ) → nat_eq first x ≡ true → has rest x ≡ (test x && has rest x) → (b : Bool) → test x ≡ b
+      → has (cond b (first ∷ rest) rest) x ≡ (b && true)
   here first x rest same is true passes = ap (λ c. c || has rest x) same
   here first x rest same is false fails = is ∙ ap (λ c. c && has rest x) fails
 
-  elsewhere : (first x : ℕ) (rest ids : List ℕ) → nat_eq first x ≡ false → has rest x ≡ (test x && has ids x) → (b : Bool) → has (cond b (first ∷ rest) rest) x ≡ (test x && has ids x)
+  elsewhere : (first x : ℕ) (rest ids : List ℕ) → nat_eq first x ≡ false → has rest x ≡ (test x && has ids x) → (b : Bool)
+      → has (cond b (first ∷ rest) rest) x ≡ (test x && has ids x)
   elsewhere first x rest ids differs is true = ap (λ c. c || has rest x) differs ∙ is
   elsewhere first x rest ids differs is false = is
 
@@ -57,12 +60,14 @@ module _ (test : ℕ → Bool) where
 
   passes : (ids : List ℕ) → AllByRecursion (λ id. test id ≡ true) (filter test ids)
   passes [] = tt
-  passes (first ∷ ids) = elim (test first) as (λ b. test first ≡ b → AllByRecursion (λ id. test id ≡ true) (cond b (first ∷ filter test ids) (filter test ids))) [
-    | true ↦ λ is. (is, passes ids)
-    | false ↦ λ not. passes ids
-  ] refl
+  passes (first ∷ ids) = elim (test first) as
+      (λ b. test first ≡ b → AllByRecursion (λ id. test id ≡ true) (cond b (first ∷ filter test ids) (filter test ids))) [
+        | true ↦ λ is. (is, passes ids)
+        | false ↦ λ not. passes ids
+      ] refl
 
-by_order : (below same above there : Bool) → (below ≡ true) ⊎ ((same ≡ true) ⊎ (above ≡ true)) → ((below && there) || (same || (above && there))) ≡ (same || there)
+by_order : (below same above there : Bool) → (below ≡ true) ⊎ ((same ≡ true) ⊎ (above ≡ true))
+    → ((below && there) || (same || (above && there))) ≡ (same || there)
 by_order below true above there order = or-true (below && there)
 by_order true false above true order = refl
 by_order true false above false order = and-false above
@@ -72,13 +77,15 @@ by_order false false false there (inr (inl is)) = absurd (cc)
 by_order false false false there (inr (inr is)) = absurd (cc)
 
 in_order : (id own : ℕ) → (nat_lt id own ≡ true) ⊎ ((nat_eq own id ≡ true) ⊎ (nat_lt own id ≡ true))
-in_order id own = elim (nat_lt id own) as (λ b. nat_lt id own ≡ b → (nat_lt id own ≡ true) ⊎ ((nat_eq own id ≡ true) ⊎ (nat_lt own id ≡ true))) [
-  | true ↦ λ is. inl is
-  | false ↦ λ not_below. elim (nat_eq own id) as (λ b. nat_eq own id ≡ b → (nat_lt id own ≡ true) ⊎ ((nat_eq own id ≡ true) ⊎ (nat_lt own id ≡ true))) [
-    | true ↦ λ is. inr (inl is)
-    | false ↦ λ differs. inr (inr (grind (arith, nat_tests)))
-  ] refl
-] refl
+in_order id own = elim (nat_lt id own) as
+    (λ b. nat_lt id own ≡ b → (nat_lt id own ≡ true) ⊎ ((nat_eq own id ≡ true) ⊎ (nat_lt own id ≡ true))) [
+      | true ↦ λ is. inl is
+      | false ↦ λ not_below. elim (nat_eq own id) as
+          (λ b. nat_eq own id ≡ b → (nat_lt id own ≡ true) ⊎ ((nat_eq own id ≡ true) ⊎ (nat_lt own id ≡ true))) [
+            | true ↦ λ is. inr (inl is)
+            | false ↦ λ differs. inr (inr (grind (arith, nat_tests)))
+          ] refl
+    ] refl
 
 -- one more
 pub has-with_id : (own : ℕ) (ids : List ℕ) (x : ℕ) → has (with_id own ids) x ≡ (nat_eq own x || has ids x)
@@ -96,7 +103,8 @@ less : (id own : ℕ) → id < own → nat_cmp id own ≡ Less
 less id own lt = sym (nat_cmp_is id own Less lt)
 
 -- ids, one above them all and more above that one rise
-joined-rise : (own : ℕ) (front back : List ℕ) → IsRising front → AllByRecursion (λ id. nat_lt id own ≡ true) front → IsRising back → AllByRecursion (λ id. nat_lt own id ≡ true) back
+joined-rise : (own : ℕ) (front back : List ℕ) → IsRising front → AllByRecursion (λ id. nat_lt id own ≡ true) front → IsRising back
+    → AllByRecursion (λ id. nat_lt own id ≡ true) back
     → IsRising (front ++ own ∷ back)
 unfolding IsStrictlySortedBy
 joined-rise own [] back rise below back_rise above =
@@ -112,7 +120,8 @@ joined-rise own (first ∷ front) back rise below back_rise above =
     behind [] above = tt
     behind (id ∷ ids) above = (less first id (let is = above.0 in let lt = below.0 in grind (arith, nat_tests)), behind ids above.1)
 
-    all : (ids : List ℕ) → AllByRecursion (λ id. nat_cmp first id ≡ Less) ids → AllByRecursion (λ id. nat_cmp first id ≡ Less) (ids ++ own ∷ back)
+    all : (ids : List ℕ) → AllByRecursion (λ id. nat_cmp first id ≡ Less) ids
+        → AllByRecursion (λ id. nat_cmp first id ≡ Less) (ids ++ own ∷ back)
     all [] rise = (less first own (let lt = below.0 in grind (arith, nat_tests)), behind back above)
     all (id ∷ ids) rise = (rise.0, all ids rise.1)
 
@@ -129,7 +138,9 @@ without_id-rise own ids rise = IsStrictlySortedBy-filter nat_cmp (λ id. not (na
 pub has-map : (turn : ℕ → ℕ) (ids : List ℕ) (x : ℕ) → has ids x ≡ true → has (map turn ids) (turn x) ≡ true
 has-map turn [] x there = absurd (cc)
 has-map turn (first ∷ ids) x there =
-    elim (nat_eq first x) as (λ b. nat_eq first x ≡ b → (b || has ids x) ≡ true → (nat_eq (turn first) (turn x) || has (map turn ids) (turn x)) ≡ true) [
-      | true ↦ λ same _. ap (λ b. b || has (map turn ids) (turn x)) (ap (λ id. nat_eq (turn first) (turn id)) (sym (same_as first x same)) ∙ tied_self (turn first))
+    elim (nat_eq first x) as (λ b. nat_eq first x ≡ b → (b || has ids x) ≡ true
+    → (nat_eq (turn first) (turn x) || has (map turn ids) (turn x)) ≡ true) [
+      | true ↦ λ same _. ap (λ b. b || has (map turn ids) (turn x))
+          (ap (λ id. nat_eq (turn first) (turn id)) (sym (same_as first x same)) ∙ tied_self (turn first))
       | false ↦ λ _ later. ap (λ b. nat_eq (turn first) (turn x) || b) (has-map turn ids x later) ∙ or-true (nat_eq (turn first) (turn x))
     ] refl there

@@ -26,26 +26,33 @@ lists-listed kind id None = refl
 lists-listed kind id (Some object) = refl
 
 -- a listing answers as the definition of the index
-pub listers-index : (by kind : Kind) (objects : ObjectSet) (listing : ListingOf) (id : ℕ) → IsListing listing (told_by by (listed kind) objects) → listers listing id ≡ ids_of by kind id objects
+pub listers-index : (by kind : Kind) (objects : ObjectSet) (listing : ListingOf) (id : ℕ)
+    → IsListing listing (told_by by (listed kind) objects) → listers listing id ≡ ids_of by kind id objects
 listers-index by kind objects listing id is =
-    listers-are objects by kind id (listers listing id) (is.rising id) (λ own. is.answers id own ∙ lists-listed kind id (finite.get objects (record { kind = by; id = own })))
+    listers-are objects by kind id (listers listing id) (is.rising id)
+    (λ own. is.answers id own ∙ lists-listed kind id (finite.get objects (record { kind = by; id = own })))
 
 -- who lists a node lists its block
-in_block : (id : ℕ) (object : Option Object) → (lists kinds.Node id object && has (listed_by blocks_in object) (block_of id)) ≡ lists kinds.Node id object
+in_block : (id : ℕ) (object : Option Object)
+    → (lists kinds.Node id object && has (listed_by blocks_in object) (block_of id)) ≡ lists kinds.Node id object
 in_block id None = refl
-in_block id (Some object) = elim (has (listed kinds.Node object) id) as (λ b. has (listed kinds.Node object) id ≡ b → (b && has (blocks_in object) (block_of id)) ≡ b) [
-  | true ↦ λ there. has-map block_of (listed kinds.Node object) id there
-  | false ↦ λ _. refl
-] refl
+in_block id (Some object) = elim (has (listed kinds.Node object) id) as
+    (λ b. has (listed kinds.Node object) id ≡ b → (b && has (blocks_in object) (block_of id)) ≡ b) [
+      | true ↦ λ there. has-map block_of (listed kinds.Node object) id there
+      | false ↦ λ _. refl
+    ] refl
 
 module _ (reaches : Bool) (maps : Maps) (objects : ObjectSet) (stands : StandsOn reaches maps objects) where
-  pub ways_of_node-are : (id : ℕ) → filter (list_it maps id) (listers maps.ways_of_blocks (block_of id)) ≡ ids_of kinds.Way kinds.Node id objects
+  pub ways_of_node-are : (id : ℕ) → filter (list_it maps id) (listers maps.ways_of_blocks (block_of id))
+      ≡ ids_of kinds.Way kinds.Node id objects
   ways_of_node-are id =
       listers-are objects kinds.Way kinds.Node id (filter (list_it maps id) (listers maps.ways_of_blocks (block_of id)))
-      (IsStrictlySortedBy-filter nat_cmp (list_it maps id) (listers maps.ways_of_blocks (block_of id)) (stands.index.ways_of_blocks.rising (block_of id)))
+      (IsStrictlySortedBy-filter nat_cmp (list_it maps id) (listers maps.ways_of_blocks (block_of id))
+      (stands.index.ways_of_blocks.rising (block_of id)))
       (λ own. has-filter (list_it maps id) (listers maps.ways_of_blocks (block_of id)) own
       ∙ ap (λ b. list_it maps id own && b) (stands.index.ways_of_blocks.answers (block_of id) own)
-      ∙ ap (λ found. lists kinds.Node id found && has (listed_by blocks_in (finite.get objects (way_key own))) (block_of id)) (stands.objects.ways own)
+      ∙ ap (λ found. lists kinds.Node id found && has (listed_by blocks_in (finite.get objects (way_key own))) (block_of id))
+      (stands.objects.ways own)
       ∙ in_block id (finite.get objects (way_key own)))
 
   pub index_is : index_on maps ≡ index_of objects
@@ -57,7 +64,8 @@ module _ (reaches : Bool) (maps : Maps) (objects : ObjectSet) (stands : StandsOn
 
   -- each way that lists is there
   pub ways_are_there : WaysAreThere maps
-  ways_are_there block way listed = subst IsSome (sym (stands.objects.ways way)) (there (finite.get objects (way_key way)) (sym (stands.index.ways_of_blocks.answers block way) ∙ listed))
+  ways_are_there block way listed = subst IsSome (sym (stands.objects.ways way))
+      (there (finite.get objects (way_key way)) (sym (stands.index.ways_of_blocks.answers block way) ∙ listed))
     where
       there : (object : Option Object) → has (listed_by blocks_in object) block ≡ true → IsSome object
       there None e = absurd (false≢true e)

@@ -33,7 +33,8 @@ abbrev pub KnowsTags : Option NodeRecord → Type 0
 KnowsTags None = Unit {0}
 KnowsTags (Some kept) = IsSome kept.tags
 
-place_is-of : (reaches : Bool) (kept : Option NodeRecord) (object : Option Object) → HoldsNode reaches kept object → place_in kept ≡ place_of object
+place_is-of : (reaches : Bool) (kept : Option NodeRecord) (object : Option Object) → HoldsNode reaches kept object
+    → place_in kept ≡ place_of object
 place_is-of reaches None None holds = refl
 place_is-of reaches None (Some object) holds = absurd holds
 place_is-of reaches (Some kept) None holds = absurd holds
@@ -41,19 +42,22 @@ place_is-of reaches (Some kept) (Some (Node place tags)) holds = holds.0
 place_is-of reaches (Some kept) (Some (Way nodes tags)) holds = absurd holds
 place_is-of reaches (Some kept) (Some (Relation members tags)) holds = absurd holds
 
-node_is-of : (reaches : Bool) (kept : Option NodeRecord) (object : Option Object) → HoldsNode reaches kept object → KnowsTags kept → node_in kept ≡ object
+node_is-of : (reaches : Bool) (kept : Option NodeRecord) (object : Option Object) → HoldsNode reaches kept object → KnowsTags kept
+    → node_in kept ≡ object
 node_is-of reaches None None holds knows = refl
 node_is-of reaches None (Some object) holds knows = absurd holds
 node_is-of reaches (Some kept) None holds knows = absurd holds
 node_is-of reaches (Some kept) (Some (Node place tags)) holds knows = by kept.tags refl holds.1 knows
   where
-    by : (found : Option TagMap) → kept.tags ≡ found → HoldsTags reaches found tags → IsSome found → node_in (Some kept) ≡ Some (Node place tags)
+    by : (found : Option TagMap) → kept.tags ≡ found → HoldsTags reaches found tags → IsSome found
+        → node_in (Some kept) ≡ Some (Node place tags)
     by None is holds_tags there = absurd (false≢true there)
     by (Some known) is same there = ap (λ found. option_map (λ own. Node kept.place own) found) is ∙ (λ i. Some (Node (holds.0 i) (same i)))
 node_is-of reaches (Some kept) (Some (Way nodes tags)) holds knows = absurd holds
 node_is-of reaches (Some kept) (Some (Relation members tags)) holds knows = absurd holds
 
-reached-of : (reaches : Bool) (kept : Option NodeRecord) (object : Option Object) → HoldsNode reaches kept object → reaches ≡ true → KnowsTags kept
+reached-of : (reaches : Bool) (kept : Option NodeRecord) (object : Option Object) → HoldsNode reaches kept object → reaches ≡ true
+    → KnowsTags kept
 reached-of reaches None object holds is = tt
 reached-of reaches (Some kept) None holds is = absurd holds
 reached-of reaches (Some kept) (Some (Node place tags)) holds is = by kept.tags holds.1
@@ -72,12 +76,15 @@ module _ (reaches : Bool) (maps : Maps) (objects : ObjectSet) (stands : StandsOn
   pub reached : (id : ℕ) → reaches ≡ true → KnowsTags (finite.get maps.nodes id)
   reached id is = reached-of reaches (finite.get maps.nodes id) (finite.get objects (node_key id)) (stands.objects.nodes id) is
 
-  object_is-of : (kind : Kind) (id : ℕ) → (kind ≡ kinds.Node → KnowsTags (finite.get maps.nodes id)) → object_in maps kind id ≡ finite.get objects (record { kind = kind; id = id })
-  object_is-of kinds.Node id knows = node_is-of reaches (finite.get maps.nodes id) (finite.get objects (node_key id)) (stands.objects.nodes id) (knows refl)
+  object_is-of : (kind : Kind) (id : ℕ) → (kind ≡ kinds.Node → KnowsTags (finite.get maps.nodes id))
+      → object_in maps kind id ≡ finite.get objects (record { kind = kind; id = id })
+  object_is-of kinds.Node id knows = node_is-of reaches (finite.get maps.nodes id) (finite.get objects (node_key id))
+      (stands.objects.nodes id) (knows refl)
   object_is-of kinds.Way id knows = stands.objects.ways id
   object_is-of kinds.Relation id knows = stands.objects.relations id
 
-  pub object_is : (own : KeyOf) → (own.kind ≡ kinds.Node → KnowsTags (finite.get maps.nodes own.id)) → (known_on maps).object own ≡ finite.get objects own
+  pub object_is : (own : KeyOf) → (own.kind ≡ kinds.Node → KnowsTags (finite.get maps.nodes own.id))
+      → (known_on maps).object own ≡ finite.get objects own
   object_is own knows = object_is-of own.kind own.id knows
 
   pub relations_of_way-are : (id : ℕ) → (known_on maps).relations_of_way id ≡ (known_of objects).relations_of_way id
@@ -87,9 +94,11 @@ module _ (reaches : Bool) (maps : Maps) (objects : ObjectSet) (stands : StandsOn
   relations_of_node-are id = listers-index kinds.Relation kinds.Node objects maps.relations_of_nodes id stands.index.relations_of_nodes
 
 -- what is kept of a node is read as a node, if at all
-pub node_alone : (P : Option Object → Type 0) → P None → ((place : Option PlaceOf) (tags : TagMap) → P (Some (Node place tags))) → (kept : Option NodeRecord) → P (node_in kept)
+pub node_alone : (P : Option Object → Type 0) → P None → ((place : Option PlaceOf) (tags : TagMap) → P (Some (Node place tags)))
+    → (kept : Option NodeRecord) → P (node_in kept)
 node_alone P none node None = none
-node_alone P none node (Some kept) = elim (kept.tags) as (λ (tags : Option TagMap). P (option_map (λ own. Node kept.place own) tags)) [ None ↦ none | Some tags ↦ node kept.place tags ]
+node_alone P none node (Some kept) = elim (kept.tags) as
+    (λ (tags : Option TagMap). P (option_map (λ own. Node kept.place own) tags)) [ None ↦ none | Some tags ↦ node kept.place tags ]
 
 -- a node that a change names has known tags after it
 
@@ -105,7 +114,8 @@ module _ (id : ℕ) where
 
   set_knows : (maps : Maps) (kind : Kind) (own : ℕ) (object : Option Object) → Knows maps → Knows (set_object maps kind own object)
   set_knows maps kinds.Node own object knows = subst KnowsTags (sym (get-set maps.nodes own (node_record object) id))
-      (elim (nat_eq id own) as (λ b. KnowsTags (cond b (node_record object) (finite.get maps.nodes id))) [ true ↦ recorded object | false ↦ knows ])
+      (elim (nat_eq id own) as (λ b. KnowsTags (cond b (node_record object) (finite.get maps.nodes id)))
+      [ true ↦ recorded object | false ↦ knows ])
   set_knows maps kinds.Way own object knows = knows
   set_knows maps kinds.Relation own object knows = knows
 
@@ -114,7 +124,8 @@ module _ (id : ℕ) where
       (subst (λ b. KnowsTags (cond b (node_record object) (finite.get maps.nodes id))) (sym (tied_self id)) (recorded object))
 
   entry_knows : (maps : Maps) (entry : Entry) → Knows maps → Knows (entry_on maps entry)
-  entry_knows maps entry knows = set_knows (relisted_to maps entry.key (form_in maps entry.key.kind entry.key.id) entry.object) entry.key.kind entry.key.id entry.object knows
+  entry_knows maps entry knows = set_knows
+      (relisted_to maps entry.key (form_in maps entry.key.kind entry.key.id) entry.object) entry.key.kind entry.key.id entry.object knows
 
   stays_known : (entries : List Entry) (maps : Maps) → Knows maps → Knows (change_on maps entries)
   stays_known [] maps knows = knows
@@ -124,10 +135,15 @@ module _ (id : ℕ) where
   entry_named maps entry is = subst (λ (own : KeyOf). Knows (entry_on maps (record { key = own; object = entry.object }))) is
       (named_knows (relisted_to maps (node_key id) None entry.object) entry.object)
 
-  pub named : (entries : List Entry) (maps : Maps) → list_any (λ entry. eq_by_cmp key_cmp (node_key id) entry.key) entries ≡ true → Knows (change_on maps entries)
+  pub named : (entries : List Entry) (maps : Maps) → list_any (λ entry. eq_by_cmp key_cmp (node_key id) entry.key) entries ≡ true
+      → Knows (change_on maps entries)
   named [] maps among = absurd (false≢true among)
   named (entry ∷ entries) maps among =
-      elim (eq_by_cmp key_cmp (node_key id) entry.key) as (λ b. eq_by_cmp key_cmp (node_key id) entry.key ≡ b → (b || list_any (λ own. eq_by_cmp key_cmp (node_key id) own.key) entries) ≡ true → Knows (change_on (entry_on maps entry) entries)) [
-        | true ↦ λ same _. stays_known entries (entry_on maps entry) (entry_named maps entry (key_cmp-IsAntisymmetric (node_key id) entry.key ((Equal-is (key_cmp (node_key id) entry.key)).0 same)))
+      elim (eq_by_cmp key_cmp (node_key id) entry.key) as
+      (λ b. eq_by_cmp key_cmp (node_key id) entry.key ≡ b
+      → (b || list_any (λ own. eq_by_cmp key_cmp (node_key id) own.key) entries) ≡ true
+      → Knows (change_on (entry_on maps entry) entries)) [
+        | true ↦ λ same _. stays_known entries (entry_on maps entry)
+            (entry_named maps entry (key_cmp-IsAntisymmetric (node_key id) entry.key ((Equal-is (key_cmp (node_key id) entry.key)).0 same)))
         | false ↦ λ _ later. named entries (entry_on maps entry) later
       ] refl among

@@ -20,7 +20,8 @@ both : (a b : Bool) → (a && b) ≡ true → (a ≡ true) × (b ≡ true)
 both true b e = (refl, e)
 both false b e = absurd (cc)
 
-made : {X : Type 0} (test : X → X → Bool) → ((one other : X) → test one other ≡ true → one ≡ other) → ((one : X) → test one one ≡ true) → IsTest test
+made : {X : Type 0} (test : X → X → Bool) → ((one other : X) → test one other ≡ true → one ≡ other) → ((one : X) → test one one ≡ true)
+    → IsTest test
 made test is itself one other = (is one other, λ e. subst (λ own. test one own ≡ true) e (itself one))
 
 numbers : IsTest nat_eq
@@ -66,7 +67,8 @@ shape_is (shapes.Lines one) (shapes.Area other) e = absurd (cc)
 shape_is (shapes.Area one) (shapes.Point other) e = absurd (cc)
 shape_is (shapes.Area one) (shapes.Line other) e = absurd (cc)
 shape_is (shapes.Area one) (shapes.Lines other) e = absurd (cc)
-shape_is (shapes.Area one) (shapes.Area other) e = ap shapes.Area ((pointwise_decides (pointwise_decides (pointwise_decides places)) one other).0 e)
+shape_is (shapes.Area one) (shapes.Area other) e =
+    ap shapes.Area ((pointwise_decides (pointwise_decides (pointwise_decides places)) one other).0 e)
 
 shape_itself : (one : Geometry) → same_shape one one ≡ true
 shape_itself (shapes.Point one) = (places one one).1 refl

@@ -20,7 +20,8 @@ use Rattle.store_maps.proofs.ObjectMaps.{same_key}
 use Rattle.store_maps.proofs.Sets.{get-set}
 
 -- the objects and their index are of other maps
-stay_set : (maps : Maps) (own : Kind) (number : ℕ) (object : Option Object) (kind : Kind) (id : ℕ) → rows_at (set_object maps own number object) kind id ≡ rows_at maps kind id
+stay_set : (maps : Maps) (own : Kind) (number : ℕ) (object : Option Object) (kind : Kind) (id : ℕ)
+    → rows_at (set_object maps own number object) kind id ≡ rows_at maps kind id
 stay_set maps kinds.Node number object kinds.Node id = refl
 stay_set maps kinds.Node number object kinds.Way id = refl
 stay_set maps kinds.Node number object kinds.Relation id = refl
@@ -31,17 +32,20 @@ stay_set maps kinds.Relation number object kinds.Node id = refl
 stay_set maps kinds.Relation number object kinds.Way id = refl
 stay_set maps kinds.Relation number object kinds.Relation id = refl
 
-stay_listed : (maps : Maps) (own : KeyOf) (old new : Option Object) (kind : Kind) (id : ℕ) → rows_at (relisted_to maps own old new) kind id ≡ rows_at maps kind id
+stay_listed : (maps : Maps) (own : KeyOf) (old new : Option Object) (kind : Kind) (id : ℕ)
+    → rows_at (relisted_to maps own old new) kind id ≡ rows_at maps kind id
 stay_listed maps own old new kinds.Node id = refl
 stay_listed maps own old new kinds.Way id = refl
 stay_listed maps own old new kinds.Relation id = refl
 
 -- entries leave all rows
-pub rows_stay : (entries : List Entry) (maps : Maps) (kind : Kind) (id : ℕ) → rows_at (change_on maps entries) kind id ≡ rows_at maps kind id
+pub rows_stay : (entries : List Entry) (maps : Maps) (kind : Kind) (id : ℕ)
+    → rows_at (change_on maps entries) kind id ≡ rows_at maps kind id
 rows_stay [] maps kind id = refl
 rows_stay (entry ∷ entries) maps kind id =
     rows_stay entries (entry_on maps entry) kind id
-    ∙ stay_set (relisted_to maps entry.key (form_in maps entry.key.kind entry.key.id) entry.object) entry.key.kind entry.key.id entry.object kind id
+    ∙ stay_set (relisted_to maps entry.key (form_in maps entry.key.kind entry.key.id) entry.object) entry.key.kind entry.key.id entry.object
+    kind id
     ∙ stay_listed maps entry.key (form_in maps entry.key.kind entry.key.id) entry.object kind id
 
 abbrev key : Kind → ℕ → KeyOf
@@ -61,16 +65,28 @@ odd_even : (id own : ℕ) → nat_eq (2 * id + 1) (2 * own) ≡ false
 odd_even id own = grind (arith, nat_tests)
 
 -- a key gets rows, and no other does
-got : (maps : Maps) (own : Kind) (number : ℕ) (rows : List TableRow) (kind : Kind) (id : ℕ) → rows_at (set_rows maps own number rows) kind id ≡ cond (eq_by_cmp key_cmp (key kind id) (key own number)) (unless_empty rows) (rows_at maps kind id)
-got maps kinds.Node number rows kinds.Node id = get-set maps.node_rows number (unless_empty rows) id ∙ ap (λ b. cond b (unless_empty rows) (finite.get maps.node_rows id)) (sym (unsigned_tied id number))
+got : (maps : Maps) (own : Kind) (number : ℕ) (rows : List TableRow) (kind : Kind) (id : ℕ)
+    → rows_at (set_rows maps own number rows) kind id
+    ≡ cond (eq_by_cmp key_cmp (key kind id) (key own number)) (unless_empty rows) (rows_at maps kind id)
+got maps kinds.Node number rows kinds.Node id =
+    get-set maps.node_rows number (unless_empty rows) id
+    ∙ ap (λ b. cond b (unless_empty rows) (finite.get maps.node_rows id)) (sym (unsigned_tied id number))
 got maps kinds.Node number rows kinds.Way id = refl
 got maps kinds.Node number rows kinds.Relation id = refl
 got maps kinds.Way number rows kinds.Node id = refl
-got maps kinds.Way number rows kinds.Way id = get-set maps.other_rows (2 * number) (unless_empty rows) (2 * id) ∙ ap (λ b. cond b (unless_empty rows) (finite.get maps.other_rows (2 * id))) (even_even id number ∙ sym (unsigned_tied id number))
-got maps kinds.Way number rows kinds.Relation id = get-set maps.other_rows (2 * number) (unless_empty rows) (2 * id + 1) ∙ ap (λ b. cond b (unless_empty rows) (finite.get maps.other_rows (2 * id + 1))) (odd_even id number)
+got maps kinds.Way number rows kinds.Way id =
+    get-set maps.other_rows (2 * number) (unless_empty rows) (2 * id)
+    ∙ ap (λ b. cond b (unless_empty rows) (finite.get maps.other_rows (2 * id))) (even_even id number ∙ sym (unsigned_tied id number))
+got maps kinds.Way number rows kinds.Relation id =
+    get-set maps.other_rows (2 * number) (unless_empty rows) (2 * id + 1)
+    ∙ ap (λ b. cond b (unless_empty rows) (finite.get maps.other_rows (2 * id + 1))) (odd_even id number)
 got maps kinds.Relation number rows kinds.Node id = refl
-got maps kinds.Relation number rows kinds.Way id = get-set maps.other_rows (2 * number + 1) (unless_empty rows) (2 * id) ∙ ap (λ b. cond b (unless_empty rows) (finite.get maps.other_rows (2 * id))) (even_odd id number)
-got maps kinds.Relation number rows kinds.Relation id = get-set maps.other_rows (2 * number + 1) (unless_empty rows) (2 * id + 1) ∙ ap (λ b. cond b (unless_empty rows) (finite.get maps.other_rows (2 * id + 1))) (odd_odd id number ∙ sym (unsigned_tied id number))
+got maps kinds.Relation number rows kinds.Way id =
+    get-set maps.other_rows (2 * number + 1) (unless_empty rows) (2 * id)
+    ∙ ap (λ b. cond b (unless_empty rows) (finite.get maps.other_rows (2 * id))) (even_odd id number)
+got maps kinds.Relation number rows kinds.Relation id =
+    get-set maps.other_rows (2 * number + 1) (unless_empty rows) (2 * id + 1)
+    ∙ ap (λ b. cond b (unless_empty rows) (finite.get maps.other_rows (2 * id + 1))) (odd_odd id number ∙ sym (unsigned_tied id number))
 
 in_turn : {X : Type 0} (first later : Bool) (x y : X) → cond later x (cond first x y) ≡ cond (first || later) x y
 in_turn true true x y = refl
@@ -83,13 +99,17 @@ module _ (rows : KeyOf → List TableRow) where
   are kind id = unless_empty (rows (key kind id))
 
   -- these keys have their rows, and all others those that they had
-  pub got-all : (keys : List KeyOf) (maps : Maps) (kind : Kind) (id : ℕ) → rows_at (set_all_rows maps rows keys) kind id ≡ cond (list_any (eq_by_cmp key_cmp (key kind id)) keys) (are kind id) (rows_at maps kind id)
+  pub got-all : (keys : List KeyOf) (maps : Maps) (kind : Kind) (id : ℕ)
+      → rows_at (set_all_rows maps rows keys) kind id
+      ≡ cond (list_any (eq_by_cmp key_cmp (key kind id)) keys) (are kind id) (rows_at maps kind id)
   got-all [] maps kind id = refl
   got-all (own ∷ keys) maps kind id =
       let later = list_any (eq_by_cmp key_cmp (key kind id)) keys in
       got-all keys (set_rows maps own.kind own.id (rows own)) kind id
       ∙ ap (cond later (are kind id)) (got maps own.kind own.id (rows own) kind id
-      ∙ elim (eq_by_cmp key_cmp (key kind id) own) as (λ b. eq_by_cmp key_cmp (key kind id) own ≡ b → cond b (unless_empty (rows own)) (rows_at maps kind id) ≡ cond b (are kind id) (rows_at maps kind id)) [
+      ∙ elim (eq_by_cmp key_cmp (key kind id) own) as
+      (λ b. eq_by_cmp key_cmp (key kind id) own ≡ b
+      → cond b (unless_empty (rows own)) (rows_at maps kind id) ≡ cond b (are kind id) (rows_at maps kind id)) [
         | true ↦ λ same. ap (λ own. unless_empty (rows own)) (sym (same_key (key kind id) own same))
         | false ↦ λ _. refl
       ] refl)
@@ -97,10 +117,13 @@ module _ (rows : KeyOf → List TableRow) where
 
   -- all rows are right after a change, where those outside the keys are what they were
   pub rows_follow : (old : KeyOf → List TableRow) (maps : Maps) (entries : List Entry) (keys : List KeyOf) → HoldsRows maps old
-      → ((own : KeyOf) → list_any (eq_by_cmp key_cmp own) keys ≡ false → rows own ≡ old own) → HoldsRows (appended maps entries rows keys) rows
+      → ((own : KeyOf) → list_any (eq_by_cmp key_cmp own) keys ≡ false → rows own ≡ old own)
+      → HoldsRows (appended maps entries rows keys) rows
   rows_follow old maps entries keys holds same = record {
     at = λ kind id. got-all keys (change_on maps entries) kind id
-        ∙ elim (list_any (eq_by_cmp key_cmp (key kind id)) keys) as (λ b. list_any (eq_by_cmp key_cmp (key kind id)) keys ≡ b → cond b (are kind id) (rows_at (change_on maps entries) kind id) ≡ are kind id) [
+        ∙ elim (list_any (eq_by_cmp key_cmp (key kind id)) keys) as
+        (λ b. list_any (eq_by_cmp key_cmp (key kind id)) keys ≡ b
+        → cond b (are kind id) (rows_at (change_on maps entries) kind id) ≡ are kind id) [
           | true ↦ λ _. refl
           | false ↦ λ outside. rows_stay entries maps kind id ∙ holds.at kind id ∙ ap unless_empty (sym (same (key kind id) outside))
         ] refl;

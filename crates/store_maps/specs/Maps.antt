@@ -1,5 +1,6 @@
 -- The eight finite maps of a store, their values read.
--- osm2pgsql manual, "Slim mode": what is kept between a run and the next is nodes, ways and relations, and who lists what; beside them stand
+-- osm2pgsql manual, "Slim mode": what is kept between a run and the next is nodes, ways and relations, and who lists what; beside them
+-- stand
 -- the rows of the tables.
 use Rattle.std.specs.Prelude.{ℕ, ◌+◌, ◌*◌, ◌/◌, List, [], ◌∷◌, Option, None, Some}
 use Rattle.std.specs.FinMap as finite
@@ -19,7 +20,8 @@ use Rattle.store_maps.specs.declared.store.TheConstants.{BLOCK}
 abbrev pub RowMap : Type 0
 RowMap = finite.FinMap nat_cmp (List TableRow)
 
--- what is kept of nodes, the ways and the relations, each by id; the ids of the ways that list a node of a block, those of the relations that
+-- what is kept of nodes, the ways and the relations, each by id; the ids of the ways that list a node of a block, those of the relations
+-- that
 -- have a node as a member, and those that have a way; the rows of nodes, and the rows of ways and relations
 pub record Maps : Type 0 where
   pub nodes : finite.FinMap nat_cmp NodeRecord

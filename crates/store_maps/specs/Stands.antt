@@ -1,5 +1,6 @@
 -- What the maps of a store stand for.
--- osm2pgsql manual, "Slim mode" and "Updating an Existing Database": the middle tables hold the objects as the last change left them, and the
+-- osm2pgsql manual, "Slim mode" and "Updating an Existing Database": the middle tables hold the objects as the last change left them, and
+-- the
 -- tables of the output what an import of these objects would make.
 use Rattle.std.specs.Prelude.{◌≡◌, ℕ, Bool, false, List, Option, None, Some, IfSome}
 use Rattle.std.specs.FinMap as finite

@@ -9,7 +9,8 @@ use Rattle.store_maps.specs.SameRows.{same_found}
 
 -- the change of the row of a key in a table, if there is one
 abbrev pub change_in : KeyOf → (old new : List TableRow) → ℕ → Option RowChange
-change_in key old new table = if same_found (row_in old table) (row_in new table) then None else Some (record { table = table; key = key; row = row_in new table })
+change_in key old new table = if same_found (row_in old table) (row_in new table) then None
+    else Some (record { table = table; key = key; row = row_in new table })
 
 -- in so many tables
 unfoldable pub told_key : ℕ → KeyOf → (old new : List TableRow) → List RowChange

@@ -1,5 +1,6 @@
 -- Listings, by who lists what.
--- osm2pgsql manual, "Updating an Existing Database": a way is processed again when a node of it changes, and a relation when a node or a way
+-- osm2pgsql manual, "Updating an Existing Database": a way is processed again when a node of it changes, and a relation when a node or a
+-- way
 -- that is a member of it changes.
 use Rattle.std.specs.Prelude.{◌≡◌, ◌≢◌, ℕ, Bool, not, ◌&&◌, ◌||◌, List, [], map, nat_eq, if◌then◌else◌, Option, None, Some}
 use Rattle.std.specs.FinMap as finite

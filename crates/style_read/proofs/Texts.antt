@@ -1,5 +1,6 @@
 -- How a text is cut.
-use Rattle.std.proofs.Common.{◌≡◌, ◌≢◌, ℕ, ◌+◌, ◌<◌, Bool, true, false, List, [], ◌∷◌, ◌++◌, ◌==◌, length, get_or, Option, Some, None, option_map, refl, sym, ap, ◌∙◌, arith}
+use Rattle.std.proofs.Common.{◌≡◌, ◌≢◌, ℕ, ◌+◌, ◌<◌, Bool, true, false, List, [], ◌∷◌, ◌++◌, ◌==◌, length, get_or, Option, Some, None}
+use Rattle.std.proofs.Common.{option_map, refl, sym, ap, ◌∙◌, arith}
 use Rattle.std.specs.Prelude.{MatchOption}
 use Rattle.std.specs.Borrow.{Bor}
 use Rattle.std.specs.Str.Pattern.{FindsTextPrefix, StripsPrefix}
@@ -23,13 +24,15 @@ behind-without [] text other = absurd (other text refl)
 behind-without (byte ∷ front) [] other = refl
 behind-without (byte ∷ front) (first ∷ text) other = go (first == byte) refl (λ free. behind-without front text free)
   where
-    go : (t : Bool) → (first == byte) ≡ t → (((rest : List ℕ) → text ≢ front ++ rest) → behind front text ≡ None) → behind (byte ∷ front) (first ∷ text) ≡ None
+    go : (t : Bool) → (first == byte) ≡ t → (((rest : List ℕ) → text ≢ front ++ rest) → behind front text ≡ None)
+        → behind (byte ∷ front) (first ∷ text) ≡ None
     go true e less = let equal : first ≡ byte = grind (arith, nat_tests) in
         rw e (less (λ rest f. other rest (ap (λ x. x ∷ text) equal ∙ ap (λ l. byte ∷ l) f)))
     go false e less = rw e
 
 -- the clause of `strip_prefix` at a text
-pub behind-stripped : (front text : List ℕ) (found : Option (Bor (List ℕ))) → MatchOption found (FindsTextPrefix front text None) (λ x. StripsPrefix (FindsTextPrefix front) text x.now)
+pub behind-stripped : (front text : List ℕ) (found : Option (Bor (List ℕ)))
+    → MatchOption found (FindsTextPrefix front text None) (λ x. StripsPrefix (FindsTextPrefix front) text x.now)
     → option_map (λ rest. rest.now) found ≡ behind front text
 behind-stripped front text None h = sym (behind-without front text h)
 behind-stripped front text (Some rest) h =
@@ -51,10 +54,12 @@ before_last-without byte (only ∷ []) other = go (only == byte) refl
     go : (t : Bool) → (only == byte) ≡ t → before_last byte (only ∷ []) ≡ None
     go true e = let equal : only ≡ byte = grind (arith, nat_tests) in absurd (other [] (ap (λ x. x ∷ []) equal))
     go false e = rw e
-before_last-without byte (first ∷ next ∷ rest) other = rw (before_last-without byte (next ∷ rest) (λ front e. other (first ∷ front) (ap (λ l. first ∷ l) e)))
+before_last-without byte (first ∷ next ∷ rest) other =
+    rw (before_last-without byte (next ∷ rest) (λ front e. other (first ∷ front) (ap (λ l. first ∷ l) e)))
 
 -- the clause of `strip_suffix` at a byte
-pub before_last-stripped : (byte : ℕ) (text : List ℕ) (found : Option (Bor (List ℕ))) → MatchOption found ((front : List ℕ) → text ≢ front ++ byte ∷ []) (λ x. text ≡ x.now ++ byte ∷ [])
+pub before_last-stripped : (byte : ℕ) (text : List ℕ) (found : Option (Bor (List ℕ)))
+    → MatchOption found ((front : List ℕ) → text ≢ front ++ byte ∷ []) (λ x. text ≡ x.now ++ byte ∷ [])
     → option_map (λ front. front.now) found ≡ before_last byte text
 before_last-stripped byte text None h = sym (before_last-without byte text h)
 before_last-stripped byte text (Some front) h = sym (ap (before_last byte) h ∙ before_last-at byte front.now)
@@ -72,12 +77,14 @@ IsFreeOf-rest byte first rest free i low = let ne = free (i + 1) (grind (arith, 
 around_first-at : (byte : ℕ) (front back : List ℕ) → IsFreeOf byte front → around_first byte (front ++ byte ∷ back) ≡ Some (front, back)
 unfolding around_first
 around_first-at byte [] back free = rw (same byte)
-around_first-at byte (first ∷ front) back free = rw (differs byte first front free, around_first-at byte front back (IsFreeOf-rest byte first front free))
+around_first-at byte (first ∷ front) back free =
+    rw (differs byte first front free, around_first-at byte front back (IsFreeOf-rest byte first front free))
 
 around_first-without : (byte : ℕ) (text : List ℕ) → IsFreeOf byte text → around_first byte text ≡ None
 unfolding around_first
 around_first-without byte [] free = refl
-around_first-without byte (first ∷ rest) free = rw (differs byte first rest free, around_first-without byte rest (IsFreeOf-rest byte first rest free))
+around_first-without byte (first ∷ rest) free =
+    rw (differs byte first rest free, around_first-without byte rest (IsFreeOf-rest byte first rest free))
 
 -- the clause of `split_once` at a byte
 pub around_first-split : (byte : ℕ) (text : List ℕ) (found : Option (Bor (List ℕ) × Bor (List ℕ)))

@@ -1,5 +1,6 @@
 -- Values and their data.
-use Rattle.std.specs.Prelude.{true, false, String, string_bytes, cond, not, ◌+◌, ◌<◌, ◌≤◌, ◌++◌, take, drop, ◌≡◌, length, ℕ, List, [], ◌∷◌, Bool, ◌||◌, ◌&&◌, map, refl}
+use Rattle.std.specs.Prelude.{true, false, String, string_bytes, cond, not, ◌+◌, ◌<◌, ◌≤◌, ◌++◌, take, drop, ◌≡◌, length, ℕ, List, [], ◌∷◌}
+use Rattle.std.specs.Prelude.{Bool, ◌||◌, ◌&&◌, map, refl}
 use Rattle.std.specs.List.{list_any, list_all, position, position_or_len}
 use Rattle.std.proofs.Common.{ap, ◌∙◌, get_or, arith}
 use Rattle.std.proofs.lemmas.List.{length-map, length-take, map-append, drop_more, take_more}
@@ -28,7 +29,8 @@ items_in_items_of [] = refl
 items_in_items_of (value ∷ values) = ap (λ rest. value ∷ rest) (items_in_items_of values)
 
 -- the place of the first that passes
-position_or_len_over : {X Y : Type 0} (p : Y → Bool) (f : X → Y) (xs : List X) → position_or_len p (map f xs) ≡ position_or_len (λ x. p (f x)) xs
+position_or_len_over : {X Y : Type 0} (p : Y → Bool) (f : X → Y) (xs : List X)
+    → position_or_len p (map f xs) ≡ position_or_len (λ x. p (f x)) xs
 position_or_len_over p f [] = refl
 position_or_len_over p f (x ∷ xs) = ap (λ n. cond (not (p (f x))) (1 + n) 0) (position_or_len_over p f xs)
 
@@ -44,7 +46,8 @@ is_utf8-of_none bytes other = go (is_utf8 bytes) refl
     go false e = e
 
 -- the keys of a table are those of its map
-keys_in_entries : (entries : List (String Global × Value)) → keys_in (members_view entries) ≡ map string_bytes (map (λ entry. entry.0) entries)
+keys_in_entries : (entries : List (String Global × Value))
+    → keys_in (members_view entries) ≡ map string_bytes (map (λ entry. entry.0) entries)
 keys_in_entries [] = refl
 keys_in_entries (entry ∷ entries) = ap (λ rest. string_bytes entry.0 ∷ rest) (keys_in_entries entries)
 
@@ -56,11 +59,13 @@ pub length_over : {X Y : Type 0} (f : X → Y) (xs : List X) → length (map f x
 length_over f xs = length-map xs f
 
 -- what is left of a list, one step on
-pub drop_over : {X Y : Type 0} (f : X → Y) (xs : List X) (i : ℕ) (d : X) → i < length xs → map f (drop i xs) ≡ f (get_or xs i d) ∷ map f (drop (i + 1) xs)
+pub drop_over : {X Y : Type 0} (f : X → Y) (xs : List X) (i : ℕ) (d : X) → i < length xs
+    → map f (drop i xs) ≡ f (get_or xs i d) ∷ map f (drop (i + 1) xs)
 drop_over f xs i d low = ap (map f) (drop_more xs i d low)
 
 -- and what came before
-pub take_over : {X Y : Type 0} (f : X → Y) (xs : List X) (i : ℕ) (d : X) → i < length xs → map f (take (i + 1) xs) ≡ map f (take i xs) ++ f (get_or xs i d) ∷ []
+pub take_over : {X Y : Type 0} (f : X → Y) (xs : List X) (i : ℕ) (d : X) → i < length xs
+    → map f (take (i + 1) xs) ≡ map f (take i xs) ++ f (get_or xs i d) ∷ []
 take_over f xs i d low = ap (map f) (take_more xs i d low) ∙ map-append f (take i xs) (get_or xs i d ∷ [])
 
 pub length_taken : {X Y : Type 0} (f : X → Y) (xs : List X) (i : ℕ) → i ≤ length xs → length (map f (take i xs)) ≡ i

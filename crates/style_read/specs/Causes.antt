@@ -6,7 +6,8 @@ use Rattle.std.specs.Prelude.{ℕ, ◌+◌, List, [], ◌∷◌, ◌++◌, Bool,
 use Rattle.std.specs.List.{find, list_any}
 use Rattle.std.specs.Option.{option_map, option_or}
 use Rattle.toml.specs.Data.{Data}
-use Rattle.style_read.specs.Document.{text_of, text_at, values_at, lacks, may_have, is_text, is_table, are_texts, are_tables, has_empty_list, has_other_key}
+use Rattle.style_read.specs.Document.{text_of, text_at, values_at, lacks, may_have, is_text, is_table, are_texts, are_tables}
+use Rattle.style_read.specs.Document.{has_empty_list, has_other_key}
 use Rattle.style_read.specs.Name.{is_name}
 use Rattle.style_read.specs.Condition.{is_named, is_bad_condition, asks_unknown}
 use Rattle.style_read.specs.Column.{is_bad_column}
@@ -69,7 +70,8 @@ lacks_of_selection part = lacks (codes "name") part || (lacks (codes "where") pa
 
 -- a value of a selection has another type
 unfoldable pub has_other_types : Data → Bool
-has_other_types part = not (may_have is_text (codes "name") part) || (not (may_have are_texts (codes "where") part) || not (may_have is_text (codes "take") part))
+has_other_types part = not (may_have is_text (codes "name") part) ||
+    (not (may_have are_texts (codes "where") part) || not (may_have is_text (codes "take") part))
 
 -- a condition of a selection is none on tags, or the key that it takes is empty
 unfoldable pub is_bad_selection : Data → Bool
@@ -95,7 +97,8 @@ is_type_word value = is_text value && is_type (text_of value)
 -- a value of a column has another type, or is none of the words
 unfoldable pub has_other_column_types : Data → Bool
 has_other_column_types column =
-    not (may_have is_text (codes "name") column) || (not (may_have is_text (codes "from") column) || not (may_have is_type_word (codes "type") column))
+    not (may_have is_text (codes "name") column) ||
+    (not (may_have is_text (codes "from") column) || not (may_have is_type_word (codes "type") column))
 
 -- a column has a name that is not in its form, or that of a column before
 abbrev pub has_bad_column_name : (before columns : List Data) → Bool
@@ -115,7 +118,8 @@ has_other_keys part = has_other_key (is_key_of levels.Table) part || list_any (h
 
 -- a key of a table or of a column is not there
 unfoldable pub lacks_of_table : Data → Bool
-lacks_of_table part = lacks (codes "name") part || (lacks (codes "source") part || (lacks (codes "geometry") part || list_any lacks_of_column (columns_of part)))
+lacks_of_table part = lacks (codes "name") part ||
+    (lacks (codes "source") part || (lacks (codes "geometry") part || list_any lacks_of_column (columns_of part)))
 
 -- a text that names a source, a geometry, a mode
 abbrev pub is_source : Data → Bool
@@ -130,17 +134,20 @@ is_mode value = is_text value && is_some (mode_of (text_of value))
 -- a source, a geometry or a mode is none of the words
 unfoldable pub has_other_words : Data → Bool
 has_other_words part =
-    not (may_have is_source (codes "source") part) || (not (may_have is_geometry_word (codes "geometry") part) || not (may_have is_mode (codes "expire") part))
+    not (may_have is_source (codes "source") part) ||
+    (not (may_have is_geometry_word (codes "geometry") part) || not (may_have is_mode (codes "expire") part))
 
 -- a value of a table or of a column has another type, or is none of the words
 unfoldable pub has_other_table_types : Data → Bool
 has_other_table_types part =
     not (may_have is_text (codes "name") part) || (has_other_words part || (not (may_have are_texts (codes "where") part)
-    || (not (may_have are_texts (codes "any") part) || (not (may_have are_tables (codes "column") part) || list_any has_other_column_types (columns_of part)))))
+    || (not (may_have are_texts (codes "any") part) ||
+    (not (may_have are_tables (codes "column") part) || list_any has_other_column_types (columns_of part)))))
 
 -- a condition of a table is none that may stand there
 unfoldable pub has_bad_conditions : Data → Bool
-has_bad_conditions part = has_bad_condition (codes "where") (may_select (source_word part)) part || has_bad_condition (codes "any") (may_select (source_word part)) part
+has_bad_conditions part = has_bad_condition (codes "where") (may_select (source_word part)) part || has_bad_condition (codes "any")
+    (may_select (source_word part)) part
 
 -- a condition of a list asks for a selection that is not there
 unfoldable pub asks_unknown_at : (selections : List Data) → (key : List ℕ) → Data → Bool
@@ -153,7 +160,8 @@ is_from_unknown selections column = asks_unknown selections (text_at (codes "fro
 -- so does a table
 unfoldable pub table_asks_unknown : (selections : List Data) → Data → Bool
 table_asks_unknown selections part =
-    asks_unknown_at selections (codes "where") part || (asks_unknown_at selections (codes "any") part || list_any (is_from_unknown selections) (columns_of part))
+    asks_unknown_at selections (codes "where") part ||
+    (asks_unknown_at selections (codes "any") part || list_any (is_from_unknown selections) (columns_of part))
 
 -- there are more columns than there may be
 unfoldable pub has_too_many_columns : Data → Bool
@@ -185,10 +193,12 @@ table_has selections before part causes.UnknownSelection = table_asks_unknown se
 table_has selections before part _ = false
 
 -- parts in order, each judged beside those before it, and counted from 1
-abbrev pub first_with_cause : (List Data → Data → Option StyleWhy) → (ℕ → StylePart) → (before rest : List Data) → Option (StyleWhy × StylePart)
+abbrev pub first_with_cause : (List Data → Data → Option StyleWhy) → (ℕ → StylePart) → (before rest : List Data)
+    → Option (StyleWhy × StylePart)
 first_with_cause cause part before [] = None
 first_with_cause cause part before (value ∷ rest) =
-    option_or (option_map (λ why. (why, part (length before + 1))) (cause before value)) (first_with_cause cause part (before ++ value ∷ []) rest)
+    option_or (option_map (λ why. (why, part (length before + 1))) (cause before value))
+    (first_with_cause cause part (before ++ value ∷ []) rest)
 
 -- the first cause against a selection, and against a table
 abbrev pub selection_cause : (before : List Data) → Data → Option StyleWhy

@@ -32,7 +32,8 @@ tag_origin text = option_map_or (λ key. origins.Tag (chars key)) (behind (codes
 -- what a text names, where the selection that it asks for is there
 unfoldable pub origin_of : (selections : List Data) → List ℕ → Option Origin
 origin_of selections text =
-    option_map_or (λ name. option_map origins.Selected (selection_of selections name)) (behind (codes "selected:") text) (Some (tag_origin text))
+    option_map_or (λ name. option_map origins.Selected (selection_of selections name)) (behind (codes "selected:") text)
+    (Some (tag_origin text))
 
 -- a column of this origin
 abbrev pub column_from : Data → Origin → Column

@@ -17,4 +17,5 @@ before_last byte (first ∷ next ∷ rest) = option_map (λ front. first ∷ fro
 -- what stands before and behind the first such byte, where a text has one
 unfoldable pub around_first : ℕ → List ℕ → Option (List ℕ × List ℕ)
 around_first byte [] = None
-around_first byte (first ∷ rest) = if first == byte then Some ([], rest) else option_map (λ (front, back). (first ∷ front, back)) (around_first byte rest)
+around_first byte (first ∷ rest) = if first == byte then Some ([], rest)
+    else option_map (λ (front, back). (first ∷ front, back)) (around_first byte rest)

@@ -1,7 +1,8 @@
 -- The numbers of the causes, by which an operator is told them.
 use Rattle.std.specs.Prelude.{ℕ}
 use Rattle.style_read.specs.declared.fault.StyleWhy.{StyleWhy}
-use Rattle.style_read.specs.declared.fault.StyleWhy.TheVariants.{Toml, UnknownKey, MissingKey, WrongType, Name, SourceGeometry, Condition, Column, UnknownSelection, TooMany}
+use Rattle.style_read.specs.declared.fault.StyleWhy.TheVariants.{Toml, UnknownKey, MissingKey, WrongType, Name, SourceGeometry, Condition}
+use Rattle.style_read.specs.declared.fault.StyleWhy.TheVariants.{Column, UnknownSelection, TooMany}
 
 -- the number of a cause
 abbrev pub number_of : StyleWhy → ℕ

@@ -35,7 +35,8 @@ geometry_of Relation = codes "lines"
 
 -- a word that names a geometry
 unfoldable pub is_geometry : List ℕ → Bool
-is_geometry word = bytes_eq word (codes "point") || (bytes_eq word (codes "line") || (bytes_eq word (codes "polygon") || bytes_eq word (codes "lines")))
+is_geometry word = bytes_eq word (codes "point") ||
+    (bytes_eq word (codes "line") || (bytes_eq word (codes "polygon") || bytes_eq word (codes "lines")))
 
 -- the source that the first word names gives the geometry that the second one names
 unfoldable pub gives_geometry : (source geometry : List ℕ) → Bool
@@ -47,7 +48,8 @@ may_select source = not (bytes_eq source (codes "relation"))
 
 -- the mode that a word names
 unfoldable pub mode_of : List ℕ → Option Mode
-mode_of word = if bytes_eq word (codes "full-area") then Some Full else if bytes_eq word (codes "boundary-only") then Some Boundary else None
+mode_of word = if bytes_eq word (codes "full-area") then Some Full else if bytes_eq word (codes "boundary-only") then Some Boundary
+    else None
 
 -- the type of a column
 unfoldable pub is_type : List ℕ → Bool

@@ -14,12 +14,16 @@ use Rattle.table_versions.specs.Answers.{IsAnswer, IsCount}
 use Rattle.table_versions.specs.Rule.{IsVersion}
 use Rattle.table_versions.specs.Versions.{tables_of, version_of}
 
-pub answered : (style : StyleOf) (query : Query) (front : FrontOf) (tables : TableMap) (given : Answer) → tables ≡ tables_of front → given.version ≡ version_of front → given.found ≡ answer style tables query
+pub answered : (style : StyleOf) (query : Query) (front : FrontOf) (tables : TableMap) (given : Answer) → tables ≡ tables_of front
+    → given.version ≡ version_of front → given.found ≡ answer style tables query
     → IsAnswer style front query given
-answered style query front tables given is version found = record { found = found ∙ ap (λ (tables : TableMap). answer style tables query) is; version = version }
+answered style query front tables given is version found =
+    record { found = found ∙ ap (λ (tables : TableMap). answer style tables query) is; version = version }
 
-pub counted : (table : ℕ) (front : FrontOf) (tables : TableMap) (given : Counted) → tables ≡ tables_of front → given.version ≡ version_of front → given.rows ≡ length (rows_of tables table) → IsCount front table given
-counted table front tables given is version rows = record { rows = rows ∙ ap (λ (tables : TableMap). length (rows_of tables table)) is; version = version }
+pub counted : (table : ℕ) (front : FrontOf) (tables : TableMap) (given : Counted) → tables ≡ tables_of front
+    → given.version ≡ version_of front → given.rows ≡ length (rows_of tables table) → IsCount front table given
+counted table front tables given is version rows =
+    record { rows = rows ∙ ap (λ (tables : TableMap). length (rows_of tables table)) is; version = version }
 
 -- the tables and the number of a version that is shown
 pub shown_tables : (shown : Shown) (front : FrontOf) → IsVersion shown → front ≡ shown.front → shown.tables ≡ tables_of front

@@ -6,7 +6,8 @@ use Rattle.style_read.specs.Style.{StyleOf}
 use Rattle.table_versions.specs.Fronts.{FrontOf}
 use Rattle.table_versions.specs.Views.{IsNewReader, ReaderOf}
 
-pub more_readers : (style : StyleOf) (front : FrontOf) (made : List ReaderOf) (reader : ReaderOf) → All (IsNewReader style front) made → IsNewReader style front reader
+pub more_readers : (style : StyleOf) (front : FrontOf) (made : List ReaderOf) (reader : ReaderOf) → All (IsNewReader style front) made
+    → IsNewReader style front reader
     → All (IsNewReader style front) (made ++ reader ∷ [])
 more_readers style front made reader all new = All-append (IsNewReader style front) made (reader ∷ []) all one
   where

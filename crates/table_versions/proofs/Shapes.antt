@@ -1,5 +1,6 @@
 -- The shape of a history's entries.
-use Rattle.std.proofs.Common.{◌≡◌, ℕ, suc, ◌≤◌, Bool, true, false, List, [], ◌∷◌, ◌++◌, length, map, IsTrue, ◌↔◌, refl, ap, sym, ◌∙◌, subst, arith}
+use Rattle.std.proofs.Common.{◌≡◌, ℕ, suc, ◌≤◌, Bool, true, false, List, [], ◌∷◌, ◌++◌, length, map, IsTrue, ◌↔◌, refl, ap, sym, ◌∙◌, subst}
+use Rattle.std.proofs.Common.{arith}
 use Rattle.std.proofs.lemmas.List.{length-map}
 use mathlib.Core.Bool.{false≢true}
 use Rattle.std.specs.Bool.{OnTrue}
@@ -34,7 +35,8 @@ shaped-length log is =
     ap length is ∙ ap suc all
 
 pub added : (book : Book) (log : List Entry) (delta : Delta) → IsShaped log
-    → IsShaped (log ++ Adds delta ∷ []) × (front_of book (log ++ Adds delta ∷ []) ≡ record (front_of book log) { log = deltas_in log ++ delta ∷ [] })
+    → IsShaped (log ++ Adds delta ∷ []) × (front_of book (log ++ Adds delta ∷ [])
+    ≡ record (front_of book log) { log = deltas_in log ++ delta ∷ [] })
 added book log delta is =
     let first = first_of log in
     let base = base_of log in
@@ -43,7 +45,8 @@ added book log delta is =
     ap (λ xs. xs ++ Adds delta ∷ []) is ∙ ap (λ xs. Opens first base ∷ xs) (map-snoc deltas delta) in
     let plain : deltas_in (map Adds (deltas ++ delta ∷ [])) ≡ deltas ++ delta ∷ [] = deltas_in-added (deltas ++ delta ∷ []) in
     let shaped : IsShaped (entries first base (deltas ++ delta ∷ [])) = ap (λ xs. Opens first base ∷ map Adds xs) (sym plain) in
-    let shown : front_of book (entries first base (deltas ++ delta ∷ [])) ≡ record { book = book; first = first; base = base; log = deltas ++ delta ∷ [] } =
+    let shown : front_of book (entries first base (deltas ++ delta ∷ []))
+    ≡ record { book = book; first = first; base = base; log = deltas ++ delta ∷ [] } =
     ap (λ xs. record { book = book; first = first; base = base; log = xs }) plain in
     (subst IsShaped (sym whole) shaped, ap (front_of book) whole ∙ shown)
 
@@ -56,7 +59,8 @@ adds_prefix (x ∷ xs) (y ∷ ys) p =
     let rest = adds_prefix xs ys (p.0, cc (p.1)) in
     (rest.0, cc (heads, rest.1))
 
-pub shapes_begin : (book : Book) (first first' : TableMap) (base base' : ℕ) (xs ys : List Delta) → IsPrefix (entries first base xs) (entries first' base' ys)
+pub shapes_begin : (book : Book) (first first' : TableMap) (base base' : ℕ) (xs ys : List Delta)
+    → IsPrefix (entries first base xs) (entries first' base' ys)
     → Begins (record { book = book; first = first; base = base; log = xs }) (record { book = book; first = first'; base = base'; log = ys })
 shapes_begin book first first' base base' xs ys p = record {
   book = refl;
@@ -66,7 +70,8 @@ shapes_begin book first first' base base' xs ys p = record {
 }
 
 -- what a comparison of lengths tells
-pub begins_other : (one two : Book) (xs ys zs : List Entry) (m n : ℕ) → two ≡ one → IsShaped xs → IsShaped ys → m ≡ length (deltas_in xs) → n ≡ length (deltas_in ys)
+pub begins_other : (one two : Book) (xs ys zs : List Entry) (m n : ℕ) → two ≡ one → IsShaped xs → IsShaped ys → m ≡ length (deltas_in xs)
+    → n ≡ length (deltas_in ys)
     → IsPrefix xs zs → IsPrefix ys zs → OnTrue (leb m n) (Begins (front_of one xs) (front_of two ys))
 begins_other one two xs ys zs m n same s t e f p q = go (leb m n) refl
   where
@@ -83,7 +88,8 @@ pub begins_itself : (front : FrontOf) → Begins front front
 begins_itself front = record { book = refl; first = refl; base = refl; log = prefix_self front.log }
 
 -- where a front does not begin another by their lengths, the other begins it
-pub begins_back : (one other : FrontOf) (forth back : Bool) → (IsTrue forth ↔ (length one.log ≤ length other.log)) → (IsTrue back ↔ (length other.log ≤ length one.log))
+pub begins_back : (one other : FrontOf) (forth back : Bool) → (IsTrue forth ↔ (length one.log ≤ length other.log))
+    → (IsTrue back ↔ (length other.log ≤ length one.log))
     → OnTrue back (Begins other one) → forth ≡ false → Begins other one
 begins_back one other forth true long short begins is = begins
 begins_back one other forth false long short begins is =

@@ -22,7 +22,11 @@ pub record Walks (old new : Shown) (changes : List RowChange) : Type 0 where
 pub walks : (shown : Shown) (changes : List RowChange) → Walks shown (fold stepped shown (steps_of_all changes)) changes
 walks shown [] = record { tables = refl; boxes = λ is. is }
 walks shown (change ∷ changes) =
-    let next : Shown = record shown { boxes = with_box shown.boxes change.table change.key (box_in change.row); tables = changed shown.tables change } in
+    let next : Shown = record shown {
+      boxes = with_box shown.boxes change.table change.key (box_in change.row);
+      tables =
+          changed shown.tables change;
+    } in
     let rest = walks next changes in
     record { tables = rest.tables; boxes = λ is. rest.boxes (boxed_change shown.tables shown.boxes change is) }
 
@@ -31,8 +35,10 @@ after-snoc tables [] delta = refl
 after-snoc tables (first ∷ log) delta = after-snoc (applied tables first) log delta
 
 -- the steps to the version that a delta makes, from one, make it
-pub next_version : (old new : Shown) (delta : Delta) (front : FrontOf) → IsVersion old → front ≡ record old.front { log = old.front.log ++ delta ∷ [] }
-    → delta.version ≡ old.front.base + length old.front.log + 1 → new ≡ fold stepped old (steps_to delta front) → IsVersion new × (new.front ≡ front)
+pub next_version : (old new : Shown) (delta : Delta) (front : FrontOf) → IsVersion old
+    → front ≡ record old.front { log = old.front.log ++ delta ∷ [] }
+    → delta.version ≡ old.front.base + length old.front.log + 1 → new ≡ fold stepped old (steps_to delta front)
+    → IsVersion new × (new.front ≡ front)
 next_version old new delta front is more number same =
     let log = old.front.log in
     let middle : Shown = fold stepped old (steps_of_all delta.changes) in
@@ -43,7 +49,8 @@ next_version old new delta front is more number same =
     let base : front.base ≡ old.front.base = ap (λ (f : FrontOf). f.base) more in
     let deltas : front.log ≡ log ++ delta ∷ [] = ap (λ (f : FrontOf). f.log) more in
     let tables : middle.tables ≡ after front.first front.log =
-    walked.tables ∙ (ap (λ tables. changed_all tables delta.changes) is.tables ∙ (sym (after-snoc old.front.first log delta) ∙ (λ i. after (sym first i) (sym deltas i)))) in
+    walked.tables ∙ (ap (λ tables. changed_all tables delta.changes) is.tables
+    ∙ (sym (after-snoc old.front.first log delta) ∙ (λ i. after (sym first i) (sym deltas i)))) in
     let version : delta.version ≡ front.base + length front.log =
     omega (arith, number, base, ap length deltas, length-append log (delta ∷ [])) in
     let holds : IsVersion whole = record { tables = tables; version = version; boxes = walked.boxes is.boxes } in

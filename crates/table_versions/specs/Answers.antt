@@ -32,4 +32,5 @@ abbrev pub AreAnswers : StyleOf → (told from to : FrontOf) → List Query → 
 AreAnswers style told from to queries [] = Begins from to
 AreAnswers style told from to [] (given ∷ answers) = ⊥
 AreAnswers style told from to (query ∷ queries) (given ∷ answers) =
-    (front : FrontOf) × (Begins from front × Begins told front × IsAnswer style front query given × AreAnswers style told front to queries answers)
+    (front : FrontOf) × (Begins from front × Begins told front × IsAnswer style front query given
+    × AreAnswers style told front to queries answers)

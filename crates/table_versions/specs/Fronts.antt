@@ -21,8 +21,10 @@ pub record FrontOf : Type 0 where
 -- a front is stored as its parts
 abbrev pub front_code : Coded FrontOf
 front_code =
-    code_by (Book × (TableMap × (ℕ × List Delta))) (coded× book_coded (coded× (finite.code spot.the_row.coded row.the_row.coded) (coded× coded_ℕ (coded_list change.the_row.coded))))
-    (λ front. (front.book, (front.first, (front.base, front.log)))) (λ parts. record { book = parts.0; first = parts.1.0; base = parts.1.1.0; log = parts.1.1.1 }) (λ _. refl)
+    code_by (Book × (TableMap × (ℕ × List Delta)))
+    (coded× book_coded (coded× (finite.code spot.the_row.coded row.the_row.coded) (coded× coded_ℕ (coded_list change.the_row.coded))))
+    (λ front. (front.book, (front.first, (front.base, front.log))))
+    (λ parts. record { book = parts.0; first = parts.1.0; base = parts.1.1.0; log = parts.1.1.1 }) (λ _. refl)
 
 -- a front is of the same history as another, and its deltas begin those of the other
 pub record Begins (one other : FrontOf) : Type 0 where

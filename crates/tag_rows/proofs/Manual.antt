@@ -9,6 +9,7 @@ use Rattle.osm_base.specs.values.Degrees.{degrees, fraction}
 use Rattle.tag_rows.specs.Points.{point_row}
 
 -- a row of points
-pub point_row-cafe : point_row 1 (codes "cafe") (record { lon = pos 133777000; lat = pos 525163000 }) ≡ codes "1\tcafe\tPOINT(13.3777 52.5163)\n"
+pub point_row-cafe : point_row 1 (codes "cafe") (record { lon = pos 133777000; lat = pos 525163000 })
+    ≡ codes "1\tcafe\tPOINT(13.3777 52.5163)\n"
 unfolding row_line text_of_byte degrees fraction digits encode
 point_row-cafe = refl

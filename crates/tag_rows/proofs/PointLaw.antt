@@ -10,8 +10,10 @@ use Rattle.tag_rows.proofs.PointRowLaws.{Keeps, kept_first, kept_entries, kept-t
 kept_all : (key : List ℕ) → (entries : List Entry) → Keeps key (after_entries (no_rows key) entries) (folded_all finite.empty entries)
 kept_all key entries = kept_entries key entries (no_rows key) finite.empty (kept_first key)
 
-pub rows_show_objects : (key : List ℕ) → (entries : List Entry) → Shows (after_entries (no_rows key) entries) (folded_all finite.empty entries)
+pub rows_show_objects : (key : List ℕ) → (entries : List Entry)
+    → Shows (after_entries (no_rows key) entries) (folded_all finite.empty entries)
 rows_show_objects key entries = kept_shows key _ _ (kept_all key entries)
 
-pub rows_are_points : (key : List ℕ) → (entries : List Entry) → rows_text (after_entries (no_rows key) entries) ≡ points_text key (folded_all finite.empty entries)
+pub rows_are_points : (key : List ℕ) → (entries : List Entry)
+    → rows_text (after_entries (no_rows key) entries) ≡ points_text key (folded_all finite.empty entries)
 rows_are_points key entries = kept-text key _ _ (kept_all key entries)

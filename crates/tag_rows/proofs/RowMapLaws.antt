@@ -1,5 +1,6 @@
 -- The tree of kept rows, as a finite map, and its texts in order.
-use Rattle.std.proofs.Common.{◌≡◌, ℕ, Bool, true, false, cond, ◌&&◌, T, Some, None, List, [], ◌∷◌, ◌++◌, length, map, append_assoc, refl, sym, ◌∙◌, ap, subst}
+use Rattle.std.proofs.Common.{◌≡◌, ℕ, Bool, true, false, cond, ◌&&◌, T, Some, None, List, [], ◌∷◌, ◌++◌, length, map, append_assoc, refl}
+use Rattle.std.proofs.Common.{sym, ◌∙◌, ap, subst}
 use Rattle.std.proofs.lemmas.Bool.{eqb-true, eq-eqb, false≢true}
 use Rattle.std.proofs.lemmas.List.{append-nil, nil_from_length}
 use Rattle.std.specs.Prelude.{flat_map, ◌==◌}
@@ -10,7 +11,8 @@ use Rattle.std.specs.Ordering.{nat_cmp, eq_by_cmp, is_eq, is_lt}
 use Rattle.std.specs.Cmp.{nat_cmp_total}
 use Rattle.std.specs.declared.cmp.Ordering.{Ordering}
 use Rattle.std.specs.declared.cmp.Ordering.TheVariants.{Less, Equal, Greater}
-use Rattle.std.specs.FinMap.{is_sorted, entries, from_entries, from_sorted, entries-from_sorted, get-from_entries, get-from_sorted, same_map, nat_cmp-IsAntisymmetric}
+use Rattle.std.specs.FinMap.{is_sorted, entries, from_entries, from_sorted, entries-from_sorted, get-from_entries, get-from_sorted}
+use Rattle.std.specs.FinMap.{same_map, nat_cmp-IsAntisymmetric}
 use Rattle.std.specs.FinMap.Entries.{below_all}
 use Rattle.std.specs.FinMap as finite
 use Rattle.std.specs.BTreeMap.{BTreeMap, Updates, get}
@@ -26,14 +28,16 @@ both : (a b : Bool) → T a → T b → T (a && b)
 both true b p q = q
 both false b p q = absurd p
 
-all_below : (key : ℕ) (es : List (ℕ × List ℕ)) → AllByRecursion (λ other. nat_cmp key other ≡ Less) (keys_of es) → T (below_all nat_cmp key es)
+all_below : (key : ℕ) (es : List (ℕ × List ℕ)) → AllByRecursion (λ other. nat_cmp key other ≡ Less) (keys_of es)
+    → T (below_all nat_cmp key es)
 all_below key [] h = tt
 all_below key (entry ∷ es) h = both (is_lt (nat_cmp key entry.0)) (below_all nat_cmp key es) (is_less _ h.0) (all_below key es h.1)
 
 sorted_entries : (es : List (ℕ × List ℕ)) → IsStrictlySortedBy nat_cmp (keys_of es) → T (is_sorted nat_cmp es)
 unfolding IsStrictlySortedBy
 sorted_entries [] h = tt
-sorted_entries (entry ∷ es) h = both (below_all nat_cmp entry.0 es) (is_sorted nat_cmp es) (all_below entry.0 es h.0) (sorted_entries es h.1)
+sorted_entries (entry ∷ es) h = both (below_all nat_cmp entry.0 es) (is_sorted nat_cmp es) (all_below entry.0 es h.0)
+    (sorted_entries es h.1)
 
 same_entries : (es : List (ℕ × List ℕ)) → IsStrictlySortedBy nat_cmp (keys_of es) → entries (from_entries {R = nat_cmp} es) ≡ es
 same_entries es h =
@@ -59,11 +63,14 @@ some_byte copy bytes same e none = false≢true (sym e ∙ eq-eqb (length bytes)
 
 -- texts one behind another
 
-pub texts_more : {A : Type 0} (text : A → List ℕ) (items : List A) (item : A) → concat (map text items) ++ text item ≡ concat (map text (items ++ item ∷ []))
+pub texts_more : {A : Type 0} (text : A → List ℕ) (items : List A) (item : A)
+    → concat (map text items) ++ text item ≡ concat (map text (items ++ item ∷ []))
 texts_more text [] item = sym (append-nil (text item))
-texts_more text (first ∷ items) item = append_assoc (text first) (concat (map text items)) (text item) ∙ ap (λ (later : List ℕ). text first ++ later) (texts_more text items item)
+texts_more text (first ∷ items) item = append_assoc (text first) (concat (map text items)) (text item)
+    ∙ ap (λ (later : List ℕ). text first ++ later) (texts_more text items item)
 
-pub one_more : {A B : Type 0} (value : A → B) (items : List A) (item : A) (rest : List B) → map value items ++ (value item ∷ rest) ≡ map value (items ++ item ∷ []) ++ rest
+pub one_more : {A B : Type 0} (value : A → B) (items : List A) (item : A) (rest : List B)
+    → map value items ++ (value item ∷ rest) ≡ map value (items ++ item ∷ []) ++ rest
 one_more value [] item rest = refl
 one_more value (first ∷ items) item rest = ap (λ later. value first ∷ later) (one_more value items item rest)
 
@@ -93,7 +100,8 @@ module _ (own : RowMap) (id : ℕ) (rows : BTreeMap ℕ (List ℕ)) (view : from
       (λ q. elim (eq_by_cmp nat_cmp q id) as (λ b. eq_by_cmp nat_cmp q id ≡ b → finite.get own q ≡ cond b None (finite.get own q)) [
         | true ↦ λ e.
             ap (λ (at : ℕ). finite.get own at) (nat_cmp-IsAntisymmetric q id (tied (nat_cmp q id) e))
-            ∙ ap (λ (map : RowMap). finite.get map id) (sym view) ∙ sym (found nat_cmp nat_cmp_total nat_cmp-IsAntisymmetric id rows.entries) ∙ absent
+            ∙ ap (λ (map : RowMap). finite.get map id) (sym view)
+            ∙ sym (found nat_cmp nat_cmp_total nat_cmp-IsAntisymmetric id rows.entries) ∙ absent
         | false ↦ λ e. refl
       ] refl
       ∙ sym (finite.get-remove nat_cmp_total own id q))

@@ -40,7 +40,8 @@ of_way kinds.Relation text = []
 
 -- the rows of all ways, by rising id
 abbrev pub lines_text : (key : List ℕ) → ObjectSet → List ℕ
-lines_text key objects = flat_map (λ (at, object). of_way at.kind (object_row key (known_of objects).place at.id (Some object))) (map.entries objects)
+lines_text key objects = flat_map (λ (at, object). of_way at.kind (object_row key (known_of objects).place at.id (Some object)))
+    (map.entries objects)
 
 -- the text of the lines with this key of the objects that these entries make
 abbrev pub lines_text_of : List ℕ → List Entry → List ℕ

@@ -1,4 +1,5 @@
--- What is kept of an object where only the lines of ways with a tag are asked for: the place of a node, and the nodes and the one tag of a way.
+-- What is kept of an object where only the lines of ways with a tag are asked for: the place of a node, and the nodes and the one tag of a
+-- way.
 use Rattle.std.specs.Prelude.{ℕ, List, [], ◌∷◌, ◌++◌, Option, None, Some, refl}
 use Rattle.std.specs.Coded.{Coded, code_by, coded×, coded_list, coded_ℕ}
 use Rattle.std.specs.Option.{option_and_then, option_map}

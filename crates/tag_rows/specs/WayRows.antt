@@ -35,7 +35,8 @@ pub record WaysRead : Type 0 where
 -- these are stored as the pair of their fields
 abbrev pub ways_code : Coded WaysRead
 ways_code =
-    code_by (List ℕ × ObjectSet) (coded× (coded_list coded_ℕ) (finite.code key.the_row.coded object.the_row.coded)) (λ own. (own.key, own.objects))
+    code_by (List ℕ × ObjectSet) (coded× (coded_list coded_ℕ) (finite.code key.the_row.coded object.the_row.coded))
+    (λ own. (own.key, own.objects))
     (λ pair. record { key = pair.0; objects = pair.1 }) (λ _. refl)
 
 -- no object yet

@@ -28,4 +28,11 @@ crosses_none s place A a B b X v e f up (inr g) =
 pub crosses_through : (s : Segment) (place : PlaceOf) (A a B b X v : ℕ) → IsTold s A a B b → IsToldPlace place X v → a ≤ v → v < b
     → crosses place s ≡ is_on_one_side s place
 crosses_through s place A a B b X v e f south north =
-    rw (lat_order _ _ v a f.lat e.start_lat, lat_order _ _ v b f.lat e.end_lat, lat_order _ _ a b e.start_lat e.end_lat, not_lt v a south, lt_is v b north, lt_is a b (omega arith)) refl
+    rw (
+      lat_order _ _ v a f.lat e.start_lat,
+      lat_order _ _ v b f.lat e.end_lat,
+      lat_order _ _ a b e.start_lat e.end_lat,
+      not_lt v a south,
+      lt_is v b north,
+      lt_is a b (omega arith),
+    ) refl

@@ -55,12 +55,15 @@ pub span_first : (low high height m s w x : ℕ) → m ≡ min low high → s �
 span_first low high height m s w x e f g h =
     rw (f, e, g, grouped (x + 1) 3600000000 height) (first_is (min low high) (3600000000 * height) x (wide height h))
 
-pub span_last : (low high height m d w x columns n : ℕ) → m ≡ max low high → w ≡ height → n ≡ columns → d ≡ min (m / (3600000000 * w)) (n - 1) → 0 < height → x < columns
+pub span_last : (low high height m d w x columns n : ℕ) → m ≡ max low high → w ≡ height → n ≡ columns
+    → d ≡ min (m / (3600000000 * w)) (n - 1) → 0 < height → x < columns
     → nat_le x d ≡ nat_le ((x * 3600000000) * height) (max low high)
 span_last low high height m d w x columns n e f g h i j =
     rw (h, e, f, g, grouped x 3600000000 height) (last_within (max low high) (3600000000 * height) x columns (wide height i) j)
 
-pub span_ordered : (low high height l s m d w columns n : ℕ) → l ≡ min low high → s ≡ l - 1 → m ≡ max low high → w ≡ height → n ≡ columns → d ≡ min (m / (3600000000 * w)) (n - 1)
+pub span_ordered : (low high height l s m d w columns n : ℕ) → l ≡ min low high → s ≡ l - 1 → m ≡ max low high → w ≡ height → n ≡ columns
+    → d ≡ min (m / (3600000000 * w)) (n - 1)
     → 0 < height → 0 < columns → low ≤ (columns * 3600000000) * height → high ≤ (columns * 3600000000) * height → s / (3600000000 * w) ≤ d
 span_ordered low high height l s m d w columns n e f g i j k some more below above =
-    rw (k, g, i, j, f, e) (first_last low high (3600000000 * height) columns (wide height some) more (rw (← grouped columns 3600000000 height) below) (rw (← grouped columns 3600000000 height) above))
+    rw (k, g, i, j, f, e) (first_last low high (3600000000 * height) columns (wide height some) more
+    (rw (← grouped columns 3600000000 height) below) (rw (← grouped columns 3600000000 height) above))

@@ -13,7 +13,8 @@ read_at [] k d h = absurd (omega (arith, h))
 read_at (x ∷ xs) zero d h = refl
 read_at (x ∷ xs) (suc k) d h = read_at xs k d (omega (arith, h))
 
-gave : {S A : Type 0} (steps : S → Option A → S → Type 0) (s : S) (xs : List A) → DrainsIf steps (true ≡ true) s xs → YieldsRun steps s xs true (slice_get xs)
+gave : {S A : Type 0} (steps : S → Option A → S → Type 0) (s : S) (xs : List A) → DrainsIf steps (true ≡ true) s xs
+    → YieldsRun steps s xs true (slice_get xs)
 unfolding YieldsRun
 gave steps s xs e = (e, λ k. refl)
 
@@ -30,5 +31,6 @@ whole_run steps s xs e = record {
   gave = gave steps s xs (e.1.0, e.1.1, λ _. (e.0, e.1.2));
 }
 
-pub all_drained : {S A : Type 0} (steps : S → Option A → S → Type 0) (left : S → List A) (s : S) (xs : List A) → YieldsInOrder steps left → Drains steps s xs → xs ≡ left s
+pub all_drained : {S A : Type 0} (steps : S → Option A → S → Type 0) (left : S → List A) (s : S) (xs : List A) → YieldsInOrder steps left
+    → Drains steps s xs → xs ≡ left s
 all_drained steps left s xs order e = let run = whole_run steps s xs e in (order run run.seen).4 refl

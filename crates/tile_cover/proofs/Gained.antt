@@ -1,5 +1,6 @@
 -- Events gain what segments meet.
-use Rattle.std.proofs.Common.{◌≡◌, ℕ, ◌+◌, ◌*◌, ◌<◌, ◌≤◌, ◌^◌, ◌==◌, refl, sym, ◌∙◌, ap, arith, nat_lt, nat_le, ℤ, pos, ◌+ℤ◌, unsigned_abs, int_le, Bool, true, false, cond, ◌&&◌, ◌||◌, List, [], ◌∷◌, ◌++◌, ◌⊎◌, inl, inr, Some, None, count_by}
+use Rattle.std.proofs.Common.{◌≡◌, ℕ, ◌+◌, ◌*◌, ◌<◌, ◌≤◌, ◌^◌, ◌==◌, refl, sym, ◌∙◌, ap, arith, nat_lt, nat_le, ℤ, pos, ◌+ℤ◌, unsigned_abs}
+use Rattle.std.proofs.Common.{int_le, Bool, true, false, cond, ◌&&◌, ◌||◌, List, [], ◌∷◌, ◌++◌, ◌⊎◌, inl, inr, Some, None, count_by}
 use Rattle.std.specs.List.{list_any}
 use Rattle.std.proofs.lemmas.Int.{ints}
 use Rattle.std.proofs.lemmas.Bool.Decides.{nat_tests}
@@ -57,7 +58,8 @@ one_any table row y x s span e = elim (row_cases y row) [
   | inr other ↦ rw (turned_test row y, other) refl
 ]
 
-one_count : (table : BoundsOf) (row y x : ℕ) (s : Segment) (span : Span) → Tells (tile_box table x row) x s (Some span) → ((row == y) && covers x span) ≡ false
+one_count : (table : BoundsOf) (row y x : ℕ) (s : Segment) (span : Span) → Tells (tile_box table x row) x s (Some span)
+    → ((row == y) && covers x span) ≡ false
     → cond ((row == y) && is_further x span) 1 0 ≡ cond {A = ℕ} ((y == row) && crosses (north_west (tile_box table x y)) s) 1 0
 one_count table row y x s span e none = elim (row_cases y row) [
   | inl same ↦ (let f : ((row == row) && covers x span) ≡ false = rw same at none in
@@ -66,7 +68,8 @@ one_count table row y x s span e none = elim (row_cases y row) [
   | inr other ↦ rw (turned_test row y, other) refl
 ]
 
-pub gained : (table : BoundsOf) (row : ℕ) (s : Segment) (old : List Event) (span : Span) → ((x : ℕ) → x < 2 ^ table.zoom → Tells (tile_box table x row) x s (Some span))
+pub gained : (table : BoundsOf) (row : ℕ) (s : Segment) (old : List Event) (span : Span)
+    → ((x : ℕ) → x < 2 ^ table.zoom → Tells (tile_box table x row) x s (Some span))
     → GainsIn table (λ other. other == row) s old (old ++ record { row = row; span = span } ∷ [])
 gained table row s old span e =
     let event : Event = record { row = row; span = span } in
@@ -74,10 +77,12 @@ gained table row s old span e =
       any = λ x y h i. any_push (is_at y x) old event ∙ ap (λ b. list_any (is_at y x) old || b) (one_any table row y x s span (e x h).0);
       count = λ x y h i none.
           let parts = neither (list_any (is_at y x) old) (is_at y x event) (sym (any_push (is_at y x) old event) ∙ none) in
-          count_push (is_beyond y x) old event ∙ ap (λ n. count_by (is_beyond y x) old + n) (one_count table row y x s span (e x h) parts.1);
+          count_push (is_beyond y x) old event ∙ ap (λ n. count_by (is_beyond y x) old + n)
+          (one_count table row y x s span (e x h) parts.1);
     }
 
-pub gained_none : (table : BoundsOf) (row : ℕ) (s : Segment) (old : List Event) → ((x : ℕ) → x < 2 ^ table.zoom → Tells (tile_box table x row) x s None)
+pub gained_none : (table : BoundsOf) (row : ℕ) (s : Segment) (old : List Event)
+    → ((x : ℕ) → x < 2 ^ table.zoom → Tells (tile_box table x row) x s None)
     → GainsIn table (λ other. other == row) s old old
 gained_none table row s old e = record {
   any = λ x y h i. sym (ap (λ b. list_any (is_at y x) old || b) (none_any x y h) ∙ or_none _);
@@ -100,19 +105,22 @@ gained_none table row s old e = record {
 in_none : (from y : ℕ) → (nat_le from y && nat_lt y from) ≡ false
 in_none from y = grind (arith, nat_tests)
 
-pub gains_in_empty : (table : BoundsOf) (from : ℕ) (s : Segment) (old : List Event) → GainsIn table (λ y. nat_le from y && nat_lt y from) s old old
+pub gains_in_empty : (table : BoundsOf) (from : ℕ) (s : Segment) (old : List Event)
+    → GainsIn table (λ y. nat_le from y && nat_lt y from) s old old
 gains_in_empty table from s old = record {
   any = λ x y h i. sym (ap (λ b. list_any (is_at y x) old || (b && touches (tile_box table x y) s)) (in_none from y) ∙ or_none _);
   count = λ x y h i none. rw (in_none from y) (omega arith);
 }
 
-more_any : (from row y : ℕ) (a b : Bool) → from ≤ row → ((a || ((nat_le from y && nat_lt y row) && b)) || ((y == row) && b)) ≡ (a || ((nat_le from y && nat_lt y (row + 1)) && b))
+more_any : (from row y : ℕ) (a b : Bool) → from ≤ row
+    → ((a || ((nat_le from y && nat_lt y row) && b)) || ((y == row) && b)) ≡ (a || ((nat_le from y && nat_lt y (row + 1)) && b))
 more_any from row y true b e = refl
 more_any from row y false true e = grind (arith, nat_tests)
 more_any from row y false false e = grind (arith, nat_tests)
 
 more_count : (from row y n : ℕ) (b : Bool) → from ≤ row
-    → (n + cond ((nat_le from y && nat_lt y row) && b) 1 0) + cond ((y == row) && b) 1 0 ≡ n + cond ((nat_le from y && nat_lt y (row + 1)) && b) 1 0
+    → (n + cond ((nat_le from y && nat_lt y row) && b) 1 0) + cond ((y == row) && b) 1 0 ≡ n
+    + cond ((nat_le from y && nat_lt y (row + 1)) && b) 1 0
 more_count from row y n true e = grind (arith, nat_tests)
 more_count from row y n false e = grind (arith, nat_tests)
 
@@ -123,7 +131,8 @@ gains_in_more table from row s old mid new e f g = record {
   any = λ x y h i. g.any x y h i ∙ rw (f.any x y h i) (more_any from row y (list_any (is_at y x) old) (touches (tile_box table x y) s) e);
   count = λ x y h i none.
       let before = (neither _ _ (sym (g.any x y h i) ∙ none)).0 in
-      g.count x y h i none ∙ rw (f.count x y h i before) (more_count from row y (count_by (is_beyond y x) old) (crosses (north_west (tile_box table x y)) s) e);
+      g.count x y h i none ∙ rw (f.count x y h i before)
+      (more_count from row y (count_by (is_beyond y x) old) (crosses (north_west (tile_box table x y)) s) e);
 }
 
 -- all rows that a segment reaches
@@ -153,7 +162,8 @@ sides_of table row t h =
 lat_order : (a b : ℕ) → int_le (lat_of a) (lat_of b) ≡ nat_le a b
 lat_order a b = grind (arith, ints)
 
-not_reached : (south north a b : ℕ) → (int_le (lat_of south) (lat_of b) && int_le (lat_of a) (lat_of north)) ≡ false → (b < south) ⊎ (north < a)
+not_reached : (south north a b : ℕ) → (int_le (lat_of south) (lat_of b) && int_le (lat_of a) (lat_of north)) ≡ false
+    → (b < south) ⊎ (north < a)
 not_reached south north a b e = go (nat_le south b) (nat_le a north) refl refl (rw (lat_order south b, lat_order a north) at e)
   where
     go : (p q : Bool) → p ≡ nat_le south b → q ≡ nat_le a north → (p && q) ≡ false → (b < south) ⊎ (north < a)
@@ -161,18 +171,22 @@ not_reached south north a b e = go (nat_le south b) (nat_le a north) refl refl (
     go true false f g h = inr (grind (arith, nat_tests))
     go true true f g h = absurd (cc)
 
-pub reach_none : (table : BoundsOf) (row x : ℕ) (climb : Climb) → IsTable table → row < 2 ^ table.zoom → climb.south ≤ climb.north → is_reached table climb row ≡ false
+pub reach_none : (table : BoundsOf) (row x : ℕ) (climb : Climb) → IsTable table → row < 2 ^ table.zoom → climb.south ≤ climb.north
+    → is_reached table climb row ≡ false
     → (touches (tile_box table x row) (segment_of climb) ≡ false) × (crosses (north_west (tile_box table x row)) (segment_of climb) ≡ false)
 reach_none table row x climb t h up none =
     let sides = sides_of table row t h in
     let outside = not_reached sides.south sides.north climb.south climb.north (rw (sides.south_is, sides.north_is) none) in
     rw (← sides.south_is, ← sides.north_is) (
-      touches_none (segment_of climb) _ climb.start climb.south climb.end climb.north (x * 3600000000) ((x + 1) * 3600000000) sides.south sides.north (told climb) (told_box sides.south sides.north x sides.high) up outside,
-      crosses_none (segment_of climb) _ climb.start climb.south climb.end climb.north (x * 3600000000) sides.north (told climb) (record { lon = refl; lat = refl }) up
+      touches_none (segment_of climb) _ climb.start climb.south climb.end climb.north (x * 3600000000)
+          ((x + 1) * 3600000000) sides.south sides.north (told climb) (told_box sides.south sides.north x sides.high) up outside,
+      crosses_none (segment_of climb) _ climb.start climb.south climb.end climb.north (x * 3600000000) sides.north (told climb)
+          (record { lon = refl; lat = refl }) up
           (elim outside [ inl f ↦ inl (let g = sides.high in omega arith) | inr f ↦ inr f ]),
     )
 
-pub gains_in_all : (table : BoundsOf) (from to : ℕ) (s : Segment) (climb : Climb) (old new : List Event) → IsTable table → climb.south ≤ climb.north → IsSame s climb
+pub gains_in_all : (table : BoundsOf) (from to : ℕ) (s : Segment) (climb : Climb) (old new : List Event) → IsTable table
+    → climb.south ≤ climb.north → IsSame s climb
     → ((row : ℕ) → row < 2 ^ table.zoom → (nat_le from row && nat_lt row to) ≡ is_reached table climb row)
     → GainsIn table (λ y. nat_le from y && nat_lt y to) (segment_of climb) old new → Gains table (s ∷ []) old new
 gains_in_all table from to s climb old new t up same reached gains = record {
@@ -181,23 +195,30 @@ gains_in_all table from to s climb old new t up same reached gains = record {
 }
   where
     touch_same : (x y : ℕ) → y < 2 ^ table.zoom → touches (tile_box table x y) s ≡ touches (tile_box table x y) (segment_of climb)
-    touch_same x y i = let sides = sides_of table y t i in rw (← sides.south_is, ← sides.north_is) (same.touch sides.south sides.north x sides.high)
+    touch_same x y i = let sides = sides_of table y t i in
+        rw (← sides.south_is, ← sides.north_is) (same.touch sides.south sides.north x sides.high)
 
-    cross_same : (x y : ℕ) → y < 2 ^ table.zoom → crosses (north_west (tile_box table x y)) s ≡ crosses (north_west (tile_box table x y)) (segment_of climb)
+    cross_same : (x y : ℕ) → y < 2 ^ table.zoom
+        → crosses (north_west (tile_box table x y)) s ≡ crosses (north_west (tile_box table x y)) (segment_of climb)
     cross_same x y i = let sides = sides_of table y t i in rw (← sides.north_is) (same.cross sides.south sides.north x)
 
-    whole_any : (x y : ℕ) → y < 2 ^ table.zoom → ((nat_le from y && nat_lt y to) && touches (tile_box table x y) (segment_of climb)) ≡ list_any (touches (tile_box table x y)) (s ∷ [])
+    whole_any : (x y : ℕ) → y < 2 ^ table.zoom
+        → ((nat_le from y && nat_lt y to) && touches (tile_box table x y) (segment_of climb))
+        ≡ list_any (touches (tile_box table x y)) (s ∷ [])
     whole_any x y i = rw (reached y i, touch_same x y i) (picked (is_reached table climb y) refl)
       where
-        picked : (test : Bool) → test ≡ is_reached table climb y → (test && touches (tile_box table x y) (segment_of climb)) ≡ (touches (tile_box table x y) (segment_of climb) || false)
+        picked : (test : Bool) → test ≡ is_reached table climb y
+            → (test && touches (tile_box table x y) (segment_of climb)) ≡ (touches (tile_box table x y) (segment_of climb) || false)
         picked true e = sym (or_none _)
         picked false e = rw (reach_none table y x climb t i up (sym e)).0 refl
 
     whole_count : (x y : ℕ) → y < 2 ^ table.zoom
-        → cond {A = ℕ} ((nat_le from y && nat_lt y to) && crosses (north_west (tile_box table x y)) (segment_of climb)) 1 0 ≡ count_by (crosses (north_west (tile_box table x y))) (s ∷ [])
+        → cond {A = ℕ} ((nat_le from y && nat_lt y to) && crosses (north_west (tile_box table x y)) (segment_of climb)) 1 0
+        ≡ count_by (crosses (north_west (tile_box table x y))) (s ∷ [])
     whole_count x y i = rw (reached y i, cross_same x y i) (picked (is_reached table climb y) refl)
       where
         picked : (test : Bool) → test ≡ is_reached table climb y
-            → cond {A = ℕ} (test && crosses (north_west (tile_box table x y)) (segment_of climb)) 1 0 ≡ 0 + cond (crosses (north_west (tile_box table x y)) (segment_of climb)) 1 0
+            → cond {A = ℕ} (test && crosses (north_west (tile_box table x y)) (segment_of climb)) 1 0 ≡ 0
+            + cond (crosses (north_west (tile_box table x y)) (segment_of climb)) 1 0
         picked true e = omega arith
         picked false e = rw (reach_none table y x climb t i up (sym e)).1 refl

@@ -86,16 +86,20 @@ end_east A a B b X e f = below B X (λ g. let r = rearranged X B a b g e in let 
     below X A g = omega arith
 
 -- at a latitude k above the start and m below the end, the line has the longitude (k * B + m * A) / (k + m)
-west_sums : (A a B X k m : ℕ) → X * ((a + k) + m) + (B * a + A * (a + k)) < (X * a + A * ((a + k) + m)) + B * (a + k) → X * (k + m) < k * B + m * A
+west_sums : (A a B X k m : ℕ) → X * ((a + k) + m) + (B * a + A * (a + k)) < (X * a + A * ((a + k) + m)) + B * (a + k)
+    → X * (k + m) < k * B + m * A
 west_sums A a B X k m g = omega arith
 
-sums_west : (A a B X k m : ℕ) → X * (k + m) < k * B + m * A → X * ((a + k) + m) + (B * a + A * (a + k)) < (X * a + A * ((a + k) + m)) + B * (a + k)
+sums_west : (A a B X k m : ℕ) → X * (k + m) < k * B + m * A
+    → X * ((a + k) + m) + (B * a + A * (a + k)) < (X * a + A * ((a + k) + m)) + B * (a + k)
 sums_west A a B X k m g = omega arith
 
-east_sums : (A a B X k m : ℕ) → (X * a + A * ((a + k) + m)) + B * (a + k) < X * ((a + k) + m) + (B * a + A * (a + k)) → k * B + m * A < X * (k + m)
+east_sums : (A a B X k m : ℕ) → (X * a + A * ((a + k) + m)) + B * (a + k) < X * ((a + k) + m) + (B * a + A * (a + k))
+    → k * B + m * A < X * (k + m)
 east_sums A a B X k m g = omega arith
 
-sums_east : (A a B X k m : ℕ) → k * B + m * A < X * (k + m) → (X * a + A * ((a + k) + m)) + B * (a + k) < X * ((a + k) + m) + (B * a + A * (a + k))
+sums_east : (A a B X k m : ℕ) → k * B + m * A < X * (k + m)
+    → (X * a + A * ((a + k) + m)) + B * (a + k) < X * ((a + k) + m) + (B * a + A * (a + k))
 sums_east A a B X k m g = omega arith
 
 pub west_at : (A a B b X v k m : ℕ) → v ≡ a + k → b ≡ (a + k) + m → IsWest A a B b X v → X * (k + m) < k * B + m * A
@@ -174,7 +178,8 @@ east_why A a B b l h lo hi k m n o P p e f =
     ]
 
 -- and the other way round
-west_between : (A a B b l h v Q : ℕ) → a < b → a ≤ v → v ≤ b → l ≤ v → v ≤ h → ((Q < A) × (Q < B)) ⊎ (IsWest A a B b Q l × IsWest A a B b Q h) → IsWest A a B b Q v
+west_between : (A a B b l h v Q : ℕ) → a < b → a ≤ v → v ≤ b → l ≤ v → v ≤ h
+    → ((Q < A) × (Q < B)) ⊎ (IsWest A a B b Q l × IsWest A a B b Q h) → IsWest A a B b Q v
 west_between A a B b l h v Q up e f g i (inl (w, x)) = elim (le_or A B) [
   | inl j ↦ west_north A a B b Q a v j e (west_start A a B b Q up w)
   | inr j ↦ west_south A a B b Q v b j f (west_end A a B b Q up x)
@@ -187,11 +192,14 @@ west_between A a B b l h v Q up e f g i (inr (w, x)) = elim (le_or A B) [
 pub west_part : (A a B b l h lo hi k m n o Q : ℕ) → IsPart a b l h lo hi k m n o
     → ((Q < A) × (Q < B)) ⊎ (IsWest A a B b Q l × IsWest A a B b Q h) → (Q * (k + m) < k * B + m * A) × (Q * (n + o) < n * B + o * A)
 west_part A a B b l h lo hi k m n o Q p e = (
-  west_at A a B b Q lo k m p.lo_up p.lo_down (west_between A a B b l h lo Q p.climbs (omega arith) (omega arith) (omega arith) (omega arith) e),
-  west_at A a B b Q hi n o p.hi_up p.hi_down (west_between A a B b l h hi Q p.climbs (omega arith) (omega arith) (omega arith) (omega arith) e),
+  west_at A a B b Q lo k m p.lo_up p.lo_down
+      (west_between A a B b l h lo Q p.climbs (omega arith) (omega arith) (omega arith) (omega arith) e),
+  west_at A a B b Q hi n o p.hi_up p.hi_down
+      (west_between A a B b l h hi Q p.climbs (omega arith) (omega arith) (omega arith) (omega arith) e),
 )
 
-east_between : (A a B b l h v P : ℕ) → a < b → a ≤ v → v ≤ b → l ≤ v → v ≤ h → ((A < P) × (B < P)) ⊎ (IsEast A a B b P l × IsEast A a B b P h) → IsEast A a B b P v
+east_between : (A a B b l h v P : ℕ) → a < b → a ≤ v → v ≤ b → l ≤ v → v ≤ h
+    → ((A < P) × (B < P)) ⊎ (IsEast A a B b P l × IsEast A a B b P h) → IsEast A a B b P v
 east_between A a B b l h v P up e f g i (inl (w, x)) = elim (le_or A B) [
   | inl j ↦ east_south A a B b P v b j f (east_end A a B b P up x)
   | inr j ↦ east_north A a B b P a v j e (east_start A a B b P up w)
@@ -204,8 +212,10 @@ east_between A a B b l h v P up e f g i (inr (w, x)) = elim (le_or A B) [
 pub east_part : (A a B b l h lo hi k m n o P : ℕ) → IsPart a b l h lo hi k m n o
     → ((A < P) × (B < P)) ⊎ (IsEast A a B b P l × IsEast A a B b P h) → (k * B + m * A < P * (k + m)) × (n * B + o * A < P * (n + o))
 east_part A a B b l h lo hi k m n o P p e = (
-  east_at A a B b P lo k m p.lo_up p.lo_down (east_between A a B b l h lo P p.climbs (omega arith) (omega arith) (omega arith) (omega arith) e),
-  east_at A a B b P hi n o p.hi_up p.hi_down (east_between A a B b l h hi P p.climbs (omega arith) (omega arith) (omega arith) (omega arith) e),
+  east_at A a B b P lo k m p.lo_up p.lo_down
+      (east_between A a B b l h lo P p.climbs (omega arith) (omega arith) (omega arith) (omega arith) e),
+  east_at A a B b P hi n o p.hi_up p.hi_down
+      (east_between A a B b l h hi P p.climbs (omega arith) (omega arith) (omega arith) (omega arith) e),
 )
 
 -- a level segment: no row that it reaches lies wholly on one side of it

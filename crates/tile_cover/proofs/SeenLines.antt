@@ -1,5 +1,6 @@
 -- What is seen of segments, one after the other.
-use Rattle.std.proofs.Common.{◌≡◌, ℕ, ◌+◌, ◌<◌, ◌≤◌, ◌%◌, ◌==◌, refl, sym, ◌∙◌, ap, arith, Bool, true, false, cond, not, ◌||◌, ◌&&◌, List, [], ◌∷◌, ◌++◌, length, get_or, drop, count_by, Option, Some, None}
+use Rattle.std.proofs.Common.{◌≡◌, ℕ, ◌+◌, ◌<◌, ◌≤◌, ◌%◌, ◌==◌, refl, sym, ◌∙◌, ap, arith, Bool, true, false, cond, not, ◌||◌, ◌&&◌, List}
+use Rattle.std.proofs.Common.{[], ◌∷◌, ◌++◌, length, get_or, drop, count_by, Option, Some, None}
 use Rattle.std.specs.List.{list_any, flat_map}
 use Rattle.std.proofs.lemmas.Grind.{common_steps}
 use Rattle.std.proofs.lemmas.Bool.Decides.{nat_tests}
@@ -27,7 +28,8 @@ or_group true b c = refl
 or_group false b c = refl
 
 -- one segment
-pub sees_one : (box : GeoBox) (x : ℕ) (s : Segment) (span : Span) (old new : Seen) → Tells box x s (Some span) → new.touched ≡ (old.touched || covers x span)
+pub sees_one : (box : GeoBox) (x : ℕ) (s : Segment) (span : Span) (old new : Seen) → Tells box x s (Some span)
+    → new.touched ≡ (old.touched || covers x span)
     → new.odd ≡ cond (is_further x span) (not old.odd) old.odd → Sees box (s ∷ []) old new
 sees_one box x s span old new e touched odd = record {
   touched = touched ∙ rw e.0 (ap (λ b. old.touched || b) (sym (or_none (covers x span))));
@@ -49,21 +51,26 @@ sees_none box x s old e = record {
 pub sees_nothing : (box : GeoBox) (old : Seen) → Sees box [] old old
 sees_nothing box old = record { touched = sym (or_none old.touched); odd = λ none. refl }
 
-odd_sum : (m n : ℕ) (odd : Bool) → cond ((m + n) % 2 == 1) (not odd) odd ≡ cond (n % 2 == 1) (not (cond (m % 2 == 1) (not odd) odd)) (cond (m % 2 == 1) (not odd) odd)
+odd_sum : (m n : ℕ) (odd : Bool) → cond ((m + n) % 2 == 1) (not odd) odd
+    ≡ cond (n % 2 == 1) (not (cond (m % 2 == 1) (not odd) odd)) (cond (m % 2 == 1) (not odd) odd)
 odd_sum m n true = grind (arith, nat_tests)
 odd_sum m n false = grind (arith, nat_tests)
 
-pub sees_append : (box : GeoBox) (one other : List Segment) (old mid new : Seen) → Sees box one old mid → Sees box other mid new → Sees box (one ++ other) old new
+pub sees_append : (box : GeoBox) (one other : List Segment) (old mid new : Seen) → Sees box one old mid → Sees box other mid new
+    → Sees box (one ++ other) old new
 sees_append box one other old mid new e f = record {
-  touched = f.touched ∙ rw (e.touched, list_any-append (touches box) one other) (or_group old.touched (list_any (touches box) one) (list_any (touches box) other));
+  touched = f.touched ∙ rw (e.touched, list_any-append (touches box) one other)
+      (or_group old.touched (list_any (touches box) one) (list_any (touches box) other));
   odd = λ none.
       let before = (neither mid.touched (list_any (touches box) other) (sym f.touched ∙ none)).0 in
       f.odd none ∙ rw (e.odd before, sum_by-append (λ s. cond (crosses (north_west box) s) 1 0) one other)
       (sym (odd_sum (count_by (crosses (north_west box)) one) (count_by (crosses (north_west box)) other) old.odd));
 }
 
-pub see_step_line : (box : GeoBox) (columns : ℕ) (places : List PlaceOf) (at : ℕ) (start end : PlaceOf) (old mid : Seen) (G : Seen → Type 0) → at + 1 < length places
-    → start ≡ get_or places at start → end ≡ get_or places (at + 1) end → Sees box (record { start = widened columns start; end = widened columns end } ∷ []) old mid
+pub see_step_line : (box : GeoBox) (columns : ℕ) (places : List PlaceOf) (at : ℕ) (start end : PlaceOf) (old mid : Seen) (G : Seen → Type 0)
+    → at + 1 < length places
+    → start ≡ get_or places at start → end ≡ get_or places (at + 1) end
+    → Sees box (record { start = widened columns start; end = widened columns end } ∷ []) old mid
     → ((final : Seen) → Sees box (line_segments columns (drop at places)) old final → G final)
     → (final : Seen) → Sees box (line_segments columns (drop (at + 1) places)) mid final → G final
 see_step_line box columns places at start end old mid G h e f seen before final rest =
@@ -77,7 +84,8 @@ pub see_end_line : (box : GeoBox) (columns : ℕ) (places : List PlaceOf) (at : 
 see_end_line box columns places at old G h before =
     before old (rw (no_line columns (drop at places) (grind (arith, common_steps))) (sees_nothing box old))
 
-pub see_step_flat : {A : Type 0} (box : GeoBox) (f : A → List Segment) (xs : List A) (i : ℕ) (x : A) (old mid : Seen) (G : Seen → Type 0) → i < length xs
+pub see_step_flat : {A : Type 0} (box : GeoBox) (f : A → List Segment) (xs : List A) (i : ℕ) (x : A) (old mid : Seen) (G : Seen → Type 0)
+    → i < length xs
     → x ≡ get_or xs i x → Sees box (f x) old mid
     → ((final : Seen) → Sees box (flat_map f (drop i xs)) old final → G final)
     → (final : Seen) → Sees box (flat_map f (drop (i + 1) xs)) mid final → G final
@@ -91,7 +99,8 @@ see_end_flat box f xs i old G h before = before old (rw (none_left xs i h) (sees
     none_left : {A : Type 0} (xs : List A) (i : ℕ) → length xs ≤ i → drop i xs ≡ []
     none_left xs i h = grind (arith, common_steps)
 
-pub tells_same : (l h x : ℕ) (s : Segment) (climb : Climb) (span : Option Span) → l ≤ h → IsSame s climb → Tells (box_between (lat_of l) (lat_of h) x) x (segment_of climb) span
+pub tells_same : (l h x : ℕ) (s : Segment) (climb : Climb) (span : Option Span) → l ≤ h → IsSame s climb
+    → Tells (box_between (lat_of l) (lat_of h) x) x (segment_of climb) span
     → Tells (box_between (lat_of l) (lat_of h) x) x s span
 tells_same l h x s climb None high same e = (same.touch l h x high ∙ e.0, same.cross l h x ∙ e.1)
 tells_same l h x s climb (Some span) high same e =
@@ -104,7 +113,8 @@ differs false true = refl
 differs false false = refl
 
 -- what is seen of all segments tells whether the tile is met
-pub met_seen : (filled : Bool) (box : GeoBox) (all : List Segment) (seen : Seen) → Sees box all (record { touched = false; odd = false }) seen
+pub met_seen : (filled : Bool) (box : GeoBox) (all : List Segment) (seen : Seen)
+    → Sees box all (record { touched = false; odd = false }) seen
     → (seen.touched || (filled && seen.odd)) ≡ meets_box filled box all
 met_seen filled box all seen e = go seen.touched refl
   where

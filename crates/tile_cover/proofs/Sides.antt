@@ -67,9 +67,11 @@ ordered_back m n o p k = grind (arith, ints)
 pub one_side_is : (s : Segment) (place : PlaceOf) (A a B b X v : ℕ) → IsTold s A a B b → IsToldPlace place X v
     → is_on_one_side s place ≡ nat_lt (one_sum A a B b X v) (other_sum A a B b X v)
 one_side_is s place A a B b X v e f =
-    rw (across_is s place A a B b X v e f, along_is s place A a B b X v e f) (ordered (X * b) (X * a + A * b) (B * v) (B * a + A * v) (A * a))
+    rw (across_is s place A a B b X v e f, along_is s place A a B b X v e f)
+    (ordered (X * b) (X * a + A * b) (B * v) (B * a + A * v) (A * a))
 
 pub other_side_is : (s : Segment) (place : PlaceOf) (A a B b X v : ℕ) → IsTold s A a B b → IsToldPlace place X v
     → is_on_other_side s place ≡ nat_lt (other_sum A a B b X v) (one_sum A a B b X v)
 other_side_is s place A a B b X v e f =
-    rw (across_is s place A a B b X v e f, along_is s place A a B b X v e f) (ordered_back (X * b) (X * a + A * b) (B * v) (B * a + A * v) (A * a))
+    rw (across_is s place A a B b X v e f, along_is s place A a B b X v e f)
+    (ordered_back (X * b) (X * a + A * b) (B * v) (B * a + A * v) (A * a))

@@ -1,5 +1,6 @@
 -- A walk over rising events tells what they tell.
-use Rattle.std.proofs.Common.{◌≡◌, ℕ, ◌+◌, ◌*◌, ◌<◌, ◌≤◌, ◌^◌, ◌%◌, ◌==◌, zero, suc, refl, sym, ◌∙◌, ap, arith, nat_lt, nat_le, max, Bool, true, false, cond, subst, not, ◌&&◌, ◌||◌, List, [], ◌∷◌, length, get_or, drop, ◌⊎◌, inl, inr, count_by}
+use Rattle.std.proofs.Common.{◌≡◌, ℕ, ◌+◌, ◌*◌, ◌<◌, ◌≤◌, ◌^◌, ◌%◌, ◌==◌, zero, suc, refl, sym, ◌∙◌, ap, arith, nat_lt, nat_le, max, Bool}
+use Rattle.std.proofs.Common.{true, false, cond, subst, not, ◌&&◌, ◌||◌, List, [], ◌∷◌, length, get_or, drop, ◌⊎◌, inl, inr, count_by}
 use Rattle.std.specs.List.{AllByRecursion, list_any}
 use Rattle.std.proofs.lemmas.Bool.Decides.{nat_tests}
 use Rattle.std.proofs.lemmas.List.Sums.{sum_by-cons}
@@ -29,7 +30,8 @@ flip false n = ap (λ m. m % 2 == 1) (nothing n)
     nothing : (n : ℕ) → 0 + n ≡ n
     nothing n = omega arith
 
-pub odd_cons : (row : ℕ) (event : Event) (events : List Event) → is_odd_row row (event ∷ events) ≡ cond (goes_through row event) (not (is_odd_row row events)) (is_odd_row row events)
+pub odd_cons : (row : ℕ) (event : Event) (events : List Event)
+    → is_odd_row row (event ∷ events) ≡ cond (goes_through row event) (not (is_odd_row row events)) (is_odd_row row events)
 odd_cons row event events = rw sum_by-cons (flip (goes_through row event) (count_by (goes_through row) events))
 
 -- rows of rising events
@@ -41,7 +43,8 @@ all_up : (row : ℕ) (event : Event) (events : List Event) → row ≤ event.row
 all_up row event [] e f g h = tt
 all_up row event (other ∷ events) e f g h = (let i = row_up event other f g.0 h.0 in omega arith, all_up row event events e f g.1 h.1)
 
-pub rows_up : (row : ℕ) (event : Event) (events : List Event) → row ≤ event.row → AllByRecursion (IsEvent 65536) (event ∷ events) → AreRising (event ∷ events)
+pub rows_up : (row : ℕ) (event : Event) (events : List Event) → row ≤ event.row → AllByRecursion (IsEvent 65536) (event ∷ events)
+    → AreRising (event ∷ events)
     → AllByRecursion (λ other. row ≤ other.row) (event ∷ events)
 rows_up row event events e f g = (e, all_up row event events e f.0 f.1 g.0)
 
@@ -68,7 +71,8 @@ none_odd row events e = rw (none_through events e) refl
     none_through [] e = refl
     none_through (event ∷ events) e = rw (sum_by-cons, not_row row event.row (omega (arith, e.0)), none_through events e.1) refl
 
-pub none_told : (filled : Bool) (row x : ℕ) (events : List Event) → AllByRecursion (λ event. row + 1 ≤ event.row) events → is_told filled events row x ≡ false
+pub none_told : (filled : Bool) (row x : ℕ) (events : List Event) → AllByRecursion (λ event. row + 1 ≤ event.row) events
+    → is_told filled events row x ≡ false
 none_told filled row x events e = rw (none_at events e, none_beyond events e) (never filled)
   where
     never : (filled : Bool) → (filled && false) ≡ false
@@ -84,10 +88,12 @@ none_told filled row x events e = rw (none_at events e, none_beyond events e) (n
     none_beyond (event ∷ events) e = rw (sum_by-cons, not_row row event.row (omega (arith, e.0)), none_beyond events e.1) refl
 
 -- west of an event of a row no later one has a tile, and all that go through go through further east
-west_of : (event other : Event) (x : ℕ) → position_of event ≤ position_of other → x < event.span.first → event.row ≡ other.row → x < other.span.first
+west_of : (event other : Event) (x : ℕ) → position_of event ≤ position_of other → x < event.span.first → event.row ≡ other.row
+    → x < other.span.first
 west_of event other x e f g = omega arith
 
-pub none_west : (event : Event) (events : List Event) (x : ℕ) → x < event.span.first → AllByRecursion (λ other. position_of event ≤ position_of other) events
+pub none_west : (event : Event) (events : List Event) (x : ℕ) → x < event.span.first
+    → AllByRecursion (λ other. position_of event ≤ position_of other) events
     → list_any (is_at event.row x) events ≡ false
 none_west event [] x e f = refl
 none_west event (other ∷ events) x e f = rw (one (row_cases other.row event.row), none_west event events x e f.1) refl
@@ -96,13 +102,16 @@ none_west event (other ∷ events) x e f = rw (one (row_cases other.row event.ro
     not_covered a b x e = grind (arith, nat_tests)
 
     one : (other.row ≡ event.row) ⊎ ((other.row == event.row) ≡ false) → ((other.row == event.row) && covers x other.span) ≡ false
-    one (inl same) = rw (same, not_covered other.span.first other.span.last x (west_of event other x f.0 e (sym same)), itself event.row) refl
+    one (inl same) = rw (same, not_covered other.span.first other.span.last x (west_of event other x f.0 e (sym same)), itself event.row)
+        refl
     one (inr differ) = rw differ refl
 
-pub all_beyond : (event : Event) (events : List Event) (x : ℕ) → x < event.span.first → AllByRecursion (λ other. position_of event ≤ position_of other) events
+pub all_beyond : (event : Event) (events : List Event) (x : ℕ) → x < event.span.first
+    → AllByRecursion (λ other. position_of event ≤ position_of other) events
     → count_by (is_beyond event.row x) events ≡ count_by (goes_through event.row) events
 all_beyond event [] x e f = refl
-all_beyond event (other ∷ events) x e f = rw (sum_by-cons, sum_by-cons, one (row_cases other.row event.row), all_beyond event events x e f.1) refl
+all_beyond event (other ∷ events) x e f =
+    rw (sum_by-cons, sum_by-cons, one (row_cases other.row event.row), all_beyond event events x e f.1) refl
   where
     west : (a x : ℕ) → x < a → nat_lt x a ≡ true
     west a x e = grind (arith, nat_tests)
@@ -115,10 +124,12 @@ all_beyond event (other ∷ events) x e f = rw (sum_by-cons, sum_by-cons, one (r
     one (inl same) = rw (west other.span.first x (west_of event other x f.0 e (sym same)), whole other.span.straddles) refl
     one (inr differ) = rw differ refl
 
-pub rows_first : (event : Event) (events : List Event) → 0 < length events → event ≡ get_or events 0 event → AllByRecursion (IsEvent 65536) events → AreRising events
+pub rows_first : (event : Event) (events : List Event) → 0 < length events → event ≡ get_or events 0 event
+    → AllByRecursion (IsEvent 65536) events → AreRising events
     → AllByRecursion (λ other. event.row ≤ other.row) events
 rows_first event [] h e f g = absurd (omega arith)
-rows_first event (first ∷ events) h e f g = rows_up event.row first events (let same : event.row ≡ first.row = ap (λ (other : Event). other.row) e in omega arith) f g
+rows_first event (first ∷ events) h e f g =
+    rows_up event.row first events (let same : event.row ≡ first.row = ap (λ (other : Event). other.row) e in omega arith) f g
 
 -- one event of the walk: what is told from the cursor on is its run, and what the others tell from there on
 lt_or : (m n : ℕ) → (m < n) ⊎ (n ≤ m)
@@ -154,7 +165,8 @@ next_edge from last edge = cond (nat_le from last) (last + 1) edge
 -- west of the cursor
 step_west : (edge from last x : ℕ) (told rest : Bool) → edge ≤ from → x < edge
     → (nat_le edge x && told) ≡ ((nat_le from x && nat_le x last) || (nat_le (next_edge from last edge) x && rest))
-step_west edge from last x told rest e f = rw (le_no edge x f, le_no from x (omega arith), le_no (next_edge from last edge) x (further (lt_or last from))) refl
+step_west edge from last x told rest e f =
+    rw (le_no edge x f, le_no from x (omega arith), le_no (next_edge from last edge) x (further (lt_or last from))) refl
   where
     further : (last < from) ⊎ (from ≤ last) → x < next_edge from last edge
     further (inl g) = rw (le_no from last g) f
@@ -162,9 +174,11 @@ step_west edge from last x told rest e f = rw (le_no edge x f, le_no from x (ome
 
 -- east of the event
 step_east : (edge from first last x : ℕ) (a b filled : Bool) → first ≤ last → edge ≤ x → last < x
-    → (nat_le edge x && (((nat_le first x && nat_le x last) || a) || (filled && b))) ≡ ((nat_le from x && nat_le x last) || (nat_le (next_edge from last edge) x && (a || (filled && b))))
+    → (nat_le edge x && (((nat_le first x && nat_le x last) || a) || (filled && b)))
+    ≡ ((nat_le from x && nat_le x last) || (nat_le (next_edge from last edge) x && (a || (filled && b))))
 step_east edge from first last x a b filled e f g =
-    rw (le_yes edge x f, le_yes first x (omega arith), le_no x last g, le_yes (next_edge from last edge) x (near (lt_or last from))) (no_more (nat_le from x) (a || (filled && b)))
+    rw (le_yes edge x f, le_yes first x (omega arith), le_no x last g, le_yes (next_edge from last edge) x (near (lt_or last from)))
+    (no_more (nat_le from x) (a || (filled && b)))
   where
     near : (last < from) ⊎ (from ≤ last) → next_edge from last edge ≤ x
     near (inl h) = rw (le_no from last h) f
@@ -176,32 +190,46 @@ step_east edge from first last x a b filled e f g =
 
 -- within it
 step_within : (edge from first last x : ℕ) (a b : Bool) → edge ≤ x → from ≤ x → first ≤ x → x ≤ last
-    → (nat_le edge x && (((nat_le first x && nat_le x last) || a) || b)) ≡ ((nat_le from x && nat_le x last) || (nat_le (next_edge from last edge) x && (a || b)))
+    → (nat_le edge x && (((nat_le first x && nat_le x last) || a) || b))
+    ≡ ((nat_le from x && nat_le x last) || (nat_le (next_edge from last edge) x && (a || b)))
 step_within edge from first last x a b e f g h = rw (le_yes edge x e, le_yes first x g, le_yes from x f, le_yes x last h) refl
 
 -- and between the cursor and it
 step_between : (edge first last x : ℕ) (filled odd b : Bool) → first ≤ last → edge ≤ x → x < first
     → (nat_le edge x && (((nat_le first x && nat_le x last) || false) || (filled && odd)))
-    ≡ ((nat_le (run_from filled odd edge first) x && nat_le x last) || (nat_le (next_edge (run_from filled odd edge first) last edge) x && (false || (filled && b))))
+    ≡ ((nat_le (run_from filled odd edge first) x && nat_le x last) ||
+    (nat_le (next_edge (run_from filled odd edge first) last edge) x && (false || (filled && b))))
 step_between edge first last x true true b e f g =
     rw (le_yes edge x f, le_no first x g, le_yes x last (omega arith)) refl
 step_between edge first last x true false b e f g =
-    rw (le_yes edge x f, le_no first x g, le_no (max edge first) x (omega arith), le_no (next_edge (max edge first) last edge) x (beyond (lt_or last (max edge first)))) refl
+    rw (
+      le_yes edge x f,
+      le_no first x g,
+      le_no (max edge first) x (omega arith),
+      le_no (next_edge (max edge first) last edge) x (beyond (lt_or last (max edge first))),
+    ) refl
   where
     beyond : (last < max edge first) ⊎ (max edge first ≤ last) → x < next_edge (max edge first) last edge
     beyond (inl h) = absurd (omega arith)
     beyond (inr h) = rw (le_yes (max edge first) last h) (omega arith)
 step_between edge first last x false odd b e f g =
-    rw (le_yes edge x f, le_no first x g, le_no (max edge first) x (omega arith), le_no (next_edge (max edge first) last edge) x (beyond (lt_or last (max edge first)))) refl
+    rw (
+      le_yes edge x f,
+      le_no first x g,
+      le_no (max edge first) x (omega arith),
+      le_no (next_edge (max edge first) last edge) x (beyond (lt_or last (max edge first))),
+    ) refl
   where
     beyond : (last < max edge first) ⊎ (max edge first ≤ last) → x < next_edge (max edge first) last edge
     beyond (inl h) = absurd (omega arith)
     beyond (inr h) = rw (le_yes (max edge first) last h) (omega arith)
 
-pub early_odd : (row i : ℕ) (d : Event) (events : List Event) → i < length events → ((get_or events i d).row ≡ row → ⊥) → AllByRecursion (λ event. row ≤ event.row) events
+pub early_odd : (row i : ℕ) (d : Event) (events : List Event) → i < length events → ((get_or events i d).row ≡ row → ⊥)
+    → AllByRecursion (λ event. row ≤ event.row) events
     → AllByRecursion (IsEvent 65536) events → AreRising events → is_odd_row row (drop i events) ≡ false
 early_odd row i d [] h other e f g = absurd (omega arith)
-early_odd row zero d (event ∷ events) h other e f g = none_odd row (event ∷ events) (rows_up (row + 1) event events (above row event.row other e.0) f g)
+early_odd row zero d (event ∷ events) h other e f g =
+    none_odd row (event ∷ events) (rows_up (row + 1) event events (above row event.row other e.0) f g)
   where
     above : (m n : ℕ) → (n ≡ m → ⊥) → m ≤ n → m + 1 ≤ n
     above m n e f = omega arith
@@ -233,7 +261,8 @@ told_at filled cursor here event events y x row edge up fit rising = elim (row_c
     nothing_open false true = refl
     nothing_open false false = refl
 
-    moved : (event.row == cursor.row) ≡ false → (cursor.row ≡ y) ⊎ ((cursor.row == y) ≡ false) → (event.row ≡ y) ⊎ ((event.row == y) ≡ false)
+    moved : (event.row == cursor.row) ≡ false → (cursor.row ≡ y) ⊎ ((cursor.row == y) ≡ false)
+        → (event.row ≡ y) ⊎ ((event.row == y) ≡ false)
         → (cond (cursor.row == y) (nat_le cursor.edge x) true && is_told filled (event ∷ events) y x)
         ≡ (cond (event.row == y) (nat_le 0 x) true && is_told filled (event ∷ events) y x)
     moved differ (inl here) other =
@@ -255,13 +284,17 @@ stands_at zoom row there edge edge_there mark e f g h = elim (row_cases there ro
     above m n e f = grind (arith, nat_tests)
 
 -- one event of the walk
-pub told_step : (filled : Bool) (here next : Cursor) (event : Event) (events : List Event) (y x : ℕ) → here.row ≡ event.row → here.odd ≡ is_odd_row event.row (event ∷ events)
-    → next.row ≡ here.row → next.edge ≡ edge_after filled here event → IsEvent 65536 event → AllByRecursion (λ other. position_of event ≤ position_of other) events
+pub told_step : (filled : Bool) (here next : Cursor) (event : Event) (events : List Event) (y x : ℕ) → here.row ≡ event.row
+    → here.odd ≡ is_odd_row event.row (event ∷ events)
+    → next.row ≡ here.row → next.edge ≡ edge_after filled here event → IsEvent 65536 event
+    → AllByRecursion (λ other. position_of event ≤ position_of other) events
     → (is_open here y x && is_told filled (event ∷ events) y x)
-    ≡ (((here.row == y) && (nat_le (from_of filled here event) x && nat_le x event.span.last)) || (is_open next y x && is_told filled events y x))
+    ≡ (((here.row == y) && (nat_le (from_of filled here event) x && nat_le x event.span.last)) ||
+    (is_open next y x && is_told filled events y x))
 told_step filled here next event events y x row odd next_row edge fit up = elim (row_cases event.row y) [
   | inl same ↦ subst (λ (z : ℕ). (is_open here z x && is_told filled (event ∷ events) z x)
-      ≡ (((here.row == z) && (nat_le (from_of filled here event) x && nat_le x event.span.last)) || (is_open next z x && is_told filled events z x))) same own
+      ≡ (((here.row == z) && (nat_le (from_of filled here event) x && nat_le x event.span.last)) ||
+      (is_open next z x && is_told filled events z x))) same own
   | inr differ ↦ rw (next_row, row, differ) refl
 ]
   where
@@ -283,20 +316,24 @@ told_step filled here next event events y x row odd next_row edge fit up = elim 
 
     between : here.edge ≤ x → x < event.span.first
         → (nat_le here.edge x && is_told filled (event ∷ events) event.row x)
-        ≡ ((nat_le (from_of filled here event) x && nat_le x event.span.last) || (nat_le (edge_after filled here event) x && is_told filled events event.row x))
+        ≡ ((nat_le (from_of filled here event) x && nat_le x event.span.last) ||
+        (nat_le (edge_after filled here event) x && is_told filled events event.row x))
     between ahead before =
         let counts : (count_by (is_beyond event.row x) (event ∷ events) % 2 == 1) ≡ here.odd =
         rw (all_beyond event (event ∷ events) x before (le_self (position_of event), up)) (sym odd) in
         rw (counts, itself event.row, none_west event events x before up)
-        (step_between here.edge event.span.first event.span.last x filled here.odd (count_by (is_beyond event.row x) events % 2 == 1) fit.ordered ahead before)
+        (step_between here.edge event.span.first event.span.last x filled here.odd
+        (count_by (is_beyond event.row x) events % 2 == 1) fit.ordered ahead before)
       where
         le_self : (n : ℕ) → n ≤ n
         le_self n = omega arith
 
     in_row : (x < here.edge) ⊎ (here.edge ≤ x)
         → (nat_le here.edge x && is_told filled (event ∷ events) event.row x)
-        ≡ ((nat_le (from_of filled here event) x && nat_le x event.span.last) || (nat_le (edge_after filled here event) x && is_told filled events event.row x))
-    in_row (inl west) = step_west here.edge (from_of filled here event) event.span.last x _ _ (from_up filled here.odd here.edge event.span.first) west
+        ≡ ((nat_le (from_of filled here event) x && nat_le x event.span.last) ||
+        (nat_le (edge_after filled here event) x && is_told filled events event.row x))
+    in_row (inl west) = step_west here.edge (from_of filled here event) event.span.last x _ _
+        (from_up filled here.odd here.edge event.span.first) west
     in_row (inr ahead) = elim (lt_or x event.span.first) [
       | inl before ↦ between ahead before
       | inr behind ↦ (
@@ -304,16 +341,19 @@ told_step filled here next event events y x row odd next_row edge fit up = elim 
           rw (itself event.row, lt_no x event.span.first behind, never event.span.straddles) refl in
           elim (lt_or event.span.last x) [
             | inl past ↦ rw (counts, itself event.row)
-                (step_east here.edge (from_of filled here event) event.span.first event.span.last x (list_any (is_at event.row x) events) (count_by (is_beyond event.row x) events % 2 == 1) filled
+                (step_east here.edge (from_of filled here event) event.span.first event.span.last x (list_any (is_at event.row x) events)
+                (count_by (is_beyond event.row x) events % 2 == 1) filled
                 fit.ordered ahead past)
             | inr within ↦ rw (counts, itself event.row)
                 (step_within here.edge (from_of filled here event) event.span.first event.span.last x (list_any (is_at event.row x) events)
-                (filled && (count_by (is_beyond event.row x) events % 2 == 1)) ahead (from_most filled here.odd here.edge event.span.first x ahead behind) behind within)
+                (filled && (count_by (is_beyond event.row x) events % 2 == 1)) ahead
+                (from_most filled here.odd here.edge event.span.first x ahead behind) behind within)
           ])
     ]
 
     own : (is_open here event.row x && is_told filled (event ∷ events) event.row x)
-        ≡ (((here.row == event.row) && (nat_le (from_of filled here event) x && nat_le x event.span.last)) || (is_open next event.row x && is_told filled events event.row x))
+        ≡ (((here.row == event.row) && (nat_le (from_of filled here event) x && nat_le x event.span.last)) ||
+        (is_open next event.row x && is_told filled events event.row x))
     own = rw (open_here, open_next, is_row) (in_row (lt_or x here.edge))
 
 -- the walk goes on
@@ -323,7 +363,8 @@ gone_on false true true u t e = e
 gone_on false true false u t e = e
 gone_on false false r u t e = e
 
-pub told_on : (has_old has_new q r u opened here told_rest t : Bool) → has_new ≡ (has_old || (q && r)) → (opened && told_rest) ≡ (here && told_rest) → (here && told_rest) ≡ (r || u)
+pub told_on : (has_old has_new q r u opened here told_rest t : Bool) → has_new ≡ (has_old || (q && r))
+    → (opened && told_rest) ≡ (here && told_rest) → (here && told_rest) ≡ (r || u)
     → (has_old || (q && (opened && told_rest))) ≡ t → (has_new || (q && u)) ≡ t
 told_on has_old has_new q r u opened here told_rest t e f g h = rw e (gone_on has_old q r u t (rw (f, g) at h))
 
@@ -332,18 +373,21 @@ again a true true e = rw e refl
 again a true false e = rw e refl
 again a false c e = e
 
-pub odd_on : (straddles odd_here odd_next : Bool) (event : Event) (events : List Event) → straddles ≡ event.span.straddles → odd_here ≡ is_odd_row event.row (event ∷ events)
+pub odd_on : (straddles odd_here odd_next : Bool) (event : Event) (events : List Event) → straddles ≡ event.span.straddles
+    → odd_here ≡ is_odd_row event.row (event ∷ events)
     → odd_next ≡ cond straddles (not odd_here) odd_here → odd_next ≡ is_odd_row event.row events
 odd_on straddles odd_here odd_next event events e f g =
     let h : odd_here ≡ cond straddles (not (is_odd_row event.row events)) (is_odd_row event.row events) =
     rw e (f ∙ odd_cons event.row event events ∙ rw (itself event.row) refl) in
     g ∙ again odd_here straddles (is_odd_row event.row events) h
 
-pub rows_on : (row next_row : ℕ) (event : Event) (events : List Event) → next_row ≡ row → row ≡ event.row → AllByRecursion (IsEvent 65536) (event ∷ events) → AreRising (event ∷ events)
+pub rows_on : (row next_row : ℕ) (event : Event) (events : List Event) → next_row ≡ row → row ≡ event.row
+    → AllByRecursion (IsEvent 65536) (event ∷ events) → AreRising (event ∷ events)
     → AllByRecursion (λ other. next_row ≤ other.row) events
 rows_on row next_row event events e f g h = (rows_up next_row event events (omega arith) g h).1
 
-pub edge_on : (filled : Bool) (here : Cursor) (event : Event) → here.edge ≤ 65536 → IsEvent 65536 event → edge_after filled here event ≤ 65536
+pub edge_on : (filled : Bool) (here : Cursor) (event : Event) → here.edge ≤ 65536 → IsEvent 65536 event
+    → edge_after filled here event ≤ 65536
 edge_on filled here event e f = go (nat_le (from_of filled here event) event.span.last)
   where
     go : (test : Bool) → cond test (event.span.last + 1) here.edge ≤ 65536
@@ -358,10 +402,13 @@ edge_at row there edge edge_there e f = go (there == row) f
     go false g = omega arith
 
 -- events of a zoom are events of the deepest one
-pub events_fit : (columns : ℕ) (events : List Event) → columns ≤ 65536 → AllByRecursion (IsEvent columns) events → AllByRecursion (IsEvent 65536) events
+pub events_fit : (columns : ℕ) (events : List Event) → columns ≤ 65536 → AllByRecursion (IsEvent columns) events
+    → AllByRecursion (IsEvent 65536) events
 events_fit columns [] e f = tt
-events_fit columns (event ∷ events) e f =
-    (let one = f.0 in record { row = let h = one.row in omega arith; ordered = one.ordered; within = let h = one.within in omega arith }, events_fit columns events e f.1)
+events_fit columns (event ∷ events) e f = (
+  let one = f.0 in record { row = let h = one.row in omega arith; ordered = one.ordered; within = let h = one.within in omega arith },
+  events_fit columns events e f.1,
+)
 
 pub nothing_before : (events : List Event) → AllByRecursion (λ event. 0 ≤ event.row) events
 nothing_before [] = tt
@@ -404,15 +451,19 @@ count_permuted p xs ys h = sum_by-IsPermutation (λ x. cond (p x) 1 0) xs ys h
 pub any_permuted : {A : Type 0} (p : A → Bool) (xs ys : List A) → IsPermutation xs ys → list_any p ys ≡ list_any p xs
 any_permuted p xs ys h = any_count p ys ∙ ap (λ n. nat_lt 0 n) (count_permuted p xs ys h) ∙ sym (any_count p xs)
 
-pub gains_permuted : (table : BoundsOf) (all : List Segment) (old new sorted : List Event) → IsPermutation new sorted → Gains table all old new → Gains table all old sorted
+pub gains_permuted : (table : BoundsOf) (all : List Segment) (old new sorted : List Event) → IsPermutation new sorted
+    → Gains table all old new → Gains table all old sorted
 gains_permuted table all old new sorted h e = record {
   any = λ x y i j. any_permuted (is_at y x) new sorted h ∙ e.any x y i j;
-  count = λ x y i j none. count_permuted (is_beyond y x) new sorted h ∙ e.count x y i j (sym (any_permuted (is_at y x) new sorted h) ∙ none);
+  count = λ x y i j none. count_permuted (is_beyond y x) new sorted h
+      ∙ e.count x y i j (sym (any_permuted (is_at y x) new sorted h) ∙ none);
 }
 
-pub each_permuted : (columns : ℕ) (events sorted : List Event) → IsPermutation events sorted → AllByRecursion (IsEvent columns) events → AllByRecursion (IsEvent columns) sorted
+pub each_permuted : (columns : ℕ) (events sorted : List Event) → IsPermutation events sorted → AllByRecursion (IsEvent columns) events
+    → AllByRecursion (IsEvent columns) sorted
 each_permuted columns events sorted h e =
-    recursion_from_All (IsEvent columns) sorted (All-permutation (IsEvent columns) events sorted h (All-from_recursion (IsEvent columns) events e))
+    recursion_from_All (IsEvent columns) sorted
+    (All-permutation (IsEvent columns) events sorted h (All-from_recursion (IsEvent columns) events e))
 
 -- what is told is what is met
 none_outside : (columns y x : ℕ) (events : List Event) → AllByRecursion (IsEvent columns) events → (columns ≤ x) ⊎ (columns ≤ y)
@@ -430,19 +481,32 @@ none_outside columns y x (event ∷ events) e out =
     apart : (columns ≤ x) ⊎ (columns ≤ y) → (is_at y x event ≡ false) × (is_beyond y x event ≡ false)
     apart (inl h) =
         let far : nat_le x event.span.last ≡ false = le_no x event.span.last (let i = e.0.within in omega arith) in
-        let past : nat_lt x event.span.first ≡ false = lt_no x event.span.first (let i = e.0.within in let j = e.0.ordered in omega arith) in
-        (rw (far, second (nat_le event.span.first x)) (second (event.row == y)), rw (past, second event.span.straddles) (second (event.row == y)))
+        let past : nat_lt x event.span.first ≡ false =
+        lt_no x event.span.first (let i = e.0.within in let j = e.0.ordered in omega arith) in (
+          rw (far, second (nat_le event.span.first x)) (second (event.row == y)),
+          rw (past, second event.span.straddles) (second (event.row == y)),
+        )
     apart (inr h) = rw (south event.row y (let i = e.0.row in omega arith)) (refl, refl)
       where
         south : (a b : ℕ) → a < b → (a == b) ≡ false
         south a b e = grind (arith, nat_tests)
 
-pub told_met : (table : BoundsOf) (filled : Bool) (all : List Segment) (events : List Event) → Gains table all [] events → AllByRecursion (IsEvent (2 ^ table.zoom)) events
-    → (x y : ℕ) → is_told filled events y x ≡ ((nat_lt x (2 ^ table.zoom) && nat_lt y (2 ^ table.zoom)) && meets_box filled (tile_box table x y) all)
+pub told_met : (table : BoundsOf) (filled : Bool) (all : List Segment) (events : List Event) → Gains table all [] events
+    → AllByRecursion (IsEvent (2 ^ table.zoom)) events
+    → (x y : ℕ) → is_told filled events y x ≡
+    ((nat_lt x (2 ^ table.zoom) && nat_lt y (2 ^ table.zoom)) && meets_box filled (tile_box table x y) all)
 told_met table filled all events gains each x y = elim (lt_or x (2 ^ table.zoom)) [
-  | inr out ↦ rw ((none_outside (2 ^ table.zoom) y x events each (inl out)).0, (none_outside (2 ^ table.zoom) y x events each (inl out)).1, lt_no x (2 ^ table.zoom) out) (never filled)
+  | inr out ↦ rw (
+    (none_outside (2 ^ table.zoom) y x events each (inl out)).0,
+    (none_outside (2 ^ table.zoom) y x events each (inl out)).1,
+    lt_no x (2 ^ table.zoom) out,
+  ) (never filled)
   | inl h ↦ elim (lt_or y (2 ^ table.zoom)) [
-    | inr out ↦ rw ((none_outside (2 ^ table.zoom) y x events each (inr out)).0, (none_outside (2 ^ table.zoom) y x events each (inr out)).1, lt_no y (2 ^ table.zoom) out)
+    | inr out ↦ rw (
+      (none_outside (2 ^ table.zoom) y x events each (inr out)).0,
+      (none_outside (2 ^ table.zoom) y x events each (inr out)).1,
+      lt_no y (2 ^ table.zoom) out,
+    )
         (never filled ∙ sym (never_both (nat_lt x (2 ^ table.zoom)) _))
     | inl i ↦ rw (lt_yes x (2 ^ table.zoom) h, lt_yes y (2 ^ table.zoom) i) (inside h i (list_any (is_at y x) events) refl)
   ]
@@ -459,14 +523,18 @@ told_met table filled all events gains each x y = elim (lt_or x (2 ^ table.zoom)
     lt_yes : (a b : ℕ) → a < b → nat_lt a b ≡ true
     lt_yes a b e = grind (arith, nat_tests)
 
-    inside : x < 2 ^ table.zoom → y < 2 ^ table.zoom → (any : Bool) → any ≡ list_any (is_at y x) events → is_told filled events y x ≡ meets_box filled (tile_box table x y) all
+    inside : x < 2 ^ table.zoom → y < 2 ^ table.zoom → (any : Bool) → any ≡ list_any (is_at y x) events
+        → is_told filled events y x ≡ meets_box filled (tile_box table x y) all
     inside h i true e = rw (← gains.any x y h i, ← e) refl
-    inside h i false e = rw (gains.count x y h i (sym e), ← gains.any x y h i) (ap (λ n. list_any (is_at y x) events || (filled && (n % 2 == 1))) (nothing (count_by (crosses (north_west (tile_box table x y))) all)))
+    inside h i false e = rw (gains.count x y h i (sym e), ← gains.any x y h i)
+        (ap (λ n. list_any (is_at y x) events || (filled && (n % 2 == 1)))
+        (nothing (count_by (crosses (north_west (tile_box table x y))) all)))
       where
         nothing : (n : ℕ) → 0 + n ≡ n
         nothing n = omega arith
 
-pub covered : (table : BoundsOf) (geometry : Geometry) (mode : Mode) (filled : Bool) (events : List Event) → filled ≡ counts_filled geometry mode
+pub covered : (table : BoundsOf) (geometry : Geometry) (mode : Mode) (filled : Bool) (events : List Event)
+    → filled ≡ counts_filled geometry mode
     → Gains table (segments_of (2 ^ table.zoom) geometry) [] events → AllByRecursion (IsEvent (2 ^ table.zoom)) events
     → (zoom x y : ℕ) → ((table.zoom == zoom) && is_told filled events y x) ≡ is_covered table geometry mode zoom x y
 covered table geometry mode filled events is gains each zoom x y =

@@ -1,5 +1,6 @@
 -- The lines of a table, one after the other.
-use Rattle.std.proofs.Common.{◌≡◌, ◌≢◌, ℕ, ◌+◌, ◌<◌, ◌≤◌, ◌^◌, suc, refl, sym, ◌∙◌, ap, arith, ℤ, pos, ◌≤ℤ◌, ◌<ℤ◌, Bool, true, false, List, [], ◌∷◌, ◌++◌, length, length-append, append_assoc, drop, Some, None}
+use Rattle.std.proofs.Common.{◌≡◌, ◌≢◌, ℕ, ◌+◌, ◌<◌, ◌≤◌, ◌^◌, suc, refl, sym, ◌∙◌, ap, arith, ℤ, pos, ◌≤ℤ◌, ◌<ℤ◌, Bool, true, false, List}
+use Rattle.std.proofs.Common.{[], ◌∷◌, ◌++◌, length, length-append, append_assoc, drop, Some, None}
 use Rattle.std.specs.List.{AllByRecursion}
 use Rattle.std.proofs.lemmas.Int.{ints}
 use Rattle.opl_lines.specs.Lines.{lines_of}
@@ -10,7 +11,8 @@ use Rattle.tile_cover.specs.Boundaries.{lats_from, lats_of, is_south, lat_of_lin
 use Rattle.tile_cover.specs.Boundaries.{Breaks, TooMany, WrongCount}
 
 -- the first line of bytes
-pub cut_ended : (bytes front : List ℕ) (ends : Bool) → IsFront bytes front ends → ends ≡ true → lines_of bytes ≡ front ∷ lines_of (drop (length front + 1) bytes)
+pub cut_ended : (bytes front : List ℕ) (ends : Bool) → IsFront bytes front ends → ends ≡ true
+    → lines_of bytes ≡ front ∷ lines_of (drop (length front + 1) bytes)
 cut_ended bytes front true cut e = ap lines_of cut.parts ∙ lines_of-ended front (drop (length front + 1) bytes) cut.within_line
 cut_ended bytes front false cut e = absurd (cc)
 
@@ -18,7 +20,8 @@ no_more : (xs : List ℕ) → xs ++ [] ≡ xs
 no_more [] = refl
 no_more (x ∷ xs) = ap (λ ys. x ∷ ys) (no_more xs)
 
-pub cut_last : (bytes front : List ℕ) (ends : Bool) → IsFront bytes front ends → ends ≡ false → 0 < length bytes → lines_of bytes ≡ front ∷ lines_of []
+pub cut_last : (bytes front : List ℕ) (ends : Bool) → IsFront bytes front ends → ends ≡ false → 0 < length bytes
+    → lines_of bytes ≡ front ∷ lines_of []
 cut_last bytes front true cut e some = absurd (cc)
 cut_last bytes front false cut e some =
     let same : bytes ≡ front = cut.parts ∙ no_more front in
@@ -43,7 +46,8 @@ each_more : (P : ℤ → Type 0) (xs : List ℤ) (x : ℤ) → AllByRecursion P 
 each_more P [] x e f = (f, tt)
 each_more P (y ∷ xs) x e f = (e.0, each_more P xs x e.1 f)
 
-falling_more : (before : ℤ) (xs : List ℤ) (x : ℤ) → AreFalling xs → AllByRecursion (λ lat. before ≤ℤ lat) xs → x <ℤ before → AreFalling (xs ++ x ∷ [])
+falling_more : (before : ℤ) (xs : List ℤ) (x : ℤ) → AreFalling xs → AllByRecursion (λ lat. before ≤ℤ lat) xs → x <ℤ before
+    → AreFalling (xs ++ x ∷ [])
 falling_more before [] x e f g = (tt, tt)
 falling_more before (y ∷ xs) x e f g = (each_more (λ next. next <ℤ y) xs x e.0 (below x before y g f.0), falling_more before xs x e.1 f.1 g)
   where
@@ -61,13 +65,23 @@ itself_below : (x : ℤ) → x ≤ℤ x
 itself_below x = grind (arith, ints)
 
 pub nothing_read : (bytes : List ℕ) → IsRead bytes [] (pos 900000001) bytes
-nothing_read bytes = record { long = omega arith; each = tt; falling = tt; south = tt; all = refl; count = nothing (length (lines_of bytes)) }
+nothing_read bytes = record {
+  long = omega arith;
+  each = tt;
+  falling = tt;
+  south = tt;
+  all = refl;
+  count =
+      nothing (length (lines_of bytes));
+}
   where
     nothing : (n : ℕ) → n ≡ 0 + n
     nothing n = omega arith
 
-pub one_read : (bytes rest line after : List ℕ) (lats : List ℤ) (before lat : ℤ) → IsRead bytes lats before rest → lines_of rest ≡ line ∷ lines_of after
-    → is_south before (lat_of_line line) ≡ Some lat → IsLatitude lat → lat <ℤ before → (length lats ≡ 65537 → ⊥) → IsRead bytes (lats ++ lat ∷ []) lat after
+pub one_read : (bytes rest line after : List ℕ) (lats : List ℤ) (before lat : ℤ) → IsRead bytes lats before rest
+    → lines_of rest ≡ line ∷ lines_of after
+    → is_south before (lat_of_line line) ≡ Some lat → IsLatitude lat → lat <ℤ before → (length lats ≡ 65537 → ⊥)
+    → IsRead bytes (lats ++ lat ∷ []) lat after
 one_read bytes rest line after lats before lat e cut is good south room = record {
   long = let long = e.long in rw (length-append lats (lat ∷ [])) (omega arith);
   each = each_more IsLatitude lats lat e.each good;
@@ -80,10 +94,12 @@ one_read bytes rest line after lats before lat e cut is good south room = record
     more : (m n : ℕ) → m + suc n ≡ (m + 1) + n
     more m n = omega arith
 
-pub breaks : (bytes rest line after : List ℕ) (lats : List ℤ) (before : ℤ) → IsRead bytes lats before rest → lines_of rest ≡ line ∷ lines_of after
+pub breaks : (bytes rest line after : List ℕ) (lats : List ℤ) (before : ℤ) → IsRead bytes lats before rest
+    → lines_of rest ≡ line ∷ lines_of after
     → is_south before (lat_of_line line) ≡ None → (length lats ≡ 65537 → ⊥) → IsBadLine (lines_of bytes) (length lats + 1)
 breaks bytes rest line after lats before e cut is room =
-    let good : length (lats_of (lines_of bytes)) ≡ length lats = ap length e.all ∙ rw (cut, is) (length-append lats [] ∙ none (length lats)) in
+    let good : length (lats_of (lines_of bytes)) ≡ length lats =
+    ap length e.all ∙ rw (cut, is) (length-append lats [] ∙ none (length lats)) in
     let count : length (lines_of bytes) ≡ length lats + suc (length (lines_of after)) = e.count ∙ rw cut refl in
     let long = e.long in
     Breaks (omega arith) (ap (λ n. n + 1) (sym good))
@@ -95,7 +111,8 @@ pub too_many : (bytes rest : List ℕ) (lats : List ℤ) (before : ℤ) → IsRe
     → IsBadLine (lines_of bytes) (length lats + 1)
 too_many bytes rest lats before e some full =
     let more = lines_of-some rest some in
-    let good : length (lats_of (lines_of bytes)) ≡ length lats + length (lats_from before (lines_of rest)) = ap length e.all ∙ length-append lats _ in
+    let good : length (lats_of (lines_of bytes)) ≡ length lats + length (lats_from before (lines_of rest)) =
+    ap length e.all ∙ length-append lats _ in
     let count = e.count in
     TooMany (omega arith) (omega arith) (omega arith)
 
@@ -123,9 +140,11 @@ all_read bytes [] lats before e h = record {
     none n = omega arith
 all_read bytes (byte ∷ rest) lats before e h = absurd (omega arith)
 
-pub wrong_count : (bytes : List ℕ) (lats : List ℤ) → IsAllRead bytes lats → ((zoom : ℕ) → zoom ≤ 16 → length lats ≢ 2 ^ zoom + 1) → IsBadLine (lines_of bytes) (length lats + 1)
+pub wrong_count : (bytes : List ℕ) (lats : List ℤ) → IsAllRead bytes lats → ((zoom : ℕ) → zoom ≤ 16 → length lats ≢ 2 ^ zoom + 1)
+    → IsBadLine (lines_of bytes) (length lats + 1)
 wrong_count bytes lats e none =
-    WrongCount (ap length e.all ∙ sym e.count) (let long = e.long in let count = e.count in omega arith) (λ zoom h same. none zoom h (sym e.count ∙ same)) (ap (λ n. n + 1) (sym e.count))
+    WrongCount (ap length e.all ∙ sym e.count) (let long = e.long in let count = e.count in omega arith)
+    (λ zoom h same. none zoom h (sym e.count ∙ same)) (ap (λ n. n + 1) (sym e.count))
 
 pub table_read : (bytes : List ℕ) (lats : List ℤ) (zoom : ℕ) → IsAllRead bytes lats → zoom ≤ 16 → length lats ≡ 2 ^ zoom + 1
     → IsTable (record { zoom = zoom; lats = lats }) × IsTableOf (lines_of bytes) zoom

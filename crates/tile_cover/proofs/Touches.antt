@@ -1,5 +1,6 @@
 -- Whether a segment touches a tile, told by the part of the segment in the row of the tile.
-use Rattle.std.proofs.Common.{◌≡◌, ℕ, ◌+◌, ◌*◌, ◌<◌, ◌≤◌, refl, sym, ◌∙◌, arith, nat_lt, nat_le, min, max, ℤ, pos, ◌-ℤ◌, int_le, Bool, true, false, not, ◌&&◌, ◌⊎◌, inl, inr}
+use Rattle.std.proofs.Common.{◌≡◌, ℕ, ◌+◌, ◌*◌, ◌<◌, ◌≤◌, refl, sym, ◌∙◌, arith, nat_lt, nat_le, min, max, ℤ, pos, ◌-ℤ◌, int_le, Bool, true}
+use Rattle.std.proofs.Common.{false, not, ◌&&◌, ◌⊎◌, inl, inr}
 use Rattle.std.specs.Int.{int_min, int_max}
 use Rattle.std.specs.List.{list_all}
 use Rattle.std.proofs.lemmas.Int.{ints}
@@ -10,7 +11,8 @@ use Rattle.lanes_geo.specs.Box.{meets}
 use Rattle.lanes_geo.specs.Crossing.{Segment}
 use Rattle.tile_cover.specs.Tile.{is_on_one_side, is_on_other_side, segment_box, touches, corners}
 use Rattle.tile_cover.proofs.Sides.{IsTold, IsToldPlace, one_side_is, other_side_is}
-use Rattle.tile_cover.proofs.Parts.{IsWest, IsEast, IsPart, west_west, east_east, west_why, east_why, west_part, east_part, level_west, level_east}
+use Rattle.tile_cover.proofs.Parts.{IsWest, IsEast, IsPart, west_west, east_east, west_why, east_why, west_part, east_part, level_west}
+use Rattle.tile_cover.proofs.Parts.{level_east}
 
 pub record IsToldBox (box : GeoBox) (P Q l h : ℕ) : Type 0 where
   pub west : box.west ≡ pos P
@@ -62,16 +64,20 @@ all_four true false r t e = absurd (cc)
 all_four false q r t e = absurd (cc)
 
 -- one corner
-pub west_of_test : (s : Segment) (place : PlaceOf) (A a B b X v : ℕ) → IsTold s A a B b → IsToldPlace place X v → is_on_one_side s place ≡ true → IsWest A a B b X v
+pub west_of_test : (s : Segment) (place : PlaceOf) (A a B b X v : ℕ) → IsTold s A a B b → IsToldPlace place X v
+    → is_on_one_side s place ≡ true → IsWest A a B b X v
 west_of_test s place A a B b X v e f g = record { sums = lt_true _ _ (sym (one_side_is s place A a B b X v e f) ∙ g) }
 
-pub test_of_west : (s : Segment) (place : PlaceOf) (A a B b X v : ℕ) → IsTold s A a B b → IsToldPlace place X v → IsWest A a B b X v → is_on_one_side s place ≡ true
+pub test_of_west : (s : Segment) (place : PlaceOf) (A a B b X v : ℕ) → IsTold s A a B b → IsToldPlace place X v → IsWest A a B b X v
+    → is_on_one_side s place ≡ true
 test_of_west s place A a B b X v e f g = one_side_is s place A a B b X v e f ∙ true_lt _ _ g.sums
 
-east_of_test : (s : Segment) (place : PlaceOf) (A a B b X v : ℕ) → IsTold s A a B b → IsToldPlace place X v → is_on_other_side s place ≡ true → IsEast A a B b X v
+east_of_test : (s : Segment) (place : PlaceOf) (A a B b X v : ℕ) → IsTold s A a B b → IsToldPlace place X v
+    → is_on_other_side s place ≡ true → IsEast A a B b X v
 east_of_test s place A a B b X v e f g = record { sums = lt_true _ _ (sym (other_side_is s place A a B b X v e f) ∙ g) }
 
-test_of_east : (s : Segment) (place : PlaceOf) (A a B b X v : ℕ) → IsTold s A a B b → IsToldPlace place X v → IsEast A a B b X v → is_on_other_side s place ≡ true
+test_of_east : (s : Segment) (place : PlaceOf) (A a B b X v : ℕ) → IsTold s A a B b → IsToldPlace place X v → IsEast A a B b X v
+    → is_on_other_side s place ≡ true
 test_of_east s place A a B b X v e f g = other_side_is s place A a B b X v e f ∙ true_lt _ _ g.sums
 
 south_west : (box : GeoBox) (P Q l h : ℕ) → IsToldBox box P Q l h → IsToldPlace (record { lon = box.west; lat = box.south }) P l
@@ -105,8 +111,10 @@ west_all s box A a B b P Q l h e t up f g = rw (
 pub all_east : (s : Segment) (box : GeoBox) (A a B b P Q l h : ℕ) → IsTold s A a B b → IsToldBox box P Q l h
     → list_all (is_on_other_side s) (corners box) ≡ true → IsEast A a B b P l × IsEast A a B b P h
 all_east s box A a B b P Q l h e t f =
-    let four = all_four _ _ _ _ f in
-    (east_of_test s _ A a B b P l e (south_west box P Q l h t) four.0, east_of_test s _ A a B b P h e (north_west_told box P Q l h t) four.1)
+    let four = all_four _ _ _ _ f in (
+      east_of_test s _ A a B b P l e (south_west box P Q l h t) four.0,
+      east_of_test s _ A a B b P h e (north_west_told box P Q l h t) four.1,
+    )
 
 pub east_all : (s : Segment) (box : GeoBox) (A a B b P Q l h : ℕ) → IsTold s A a B b → IsToldBox box P Q l h → a ≤ b
     → IsEast A a B b P l → IsEast A a B b P h → list_all (is_on_other_side s) (corners box) ≡ true
@@ -122,14 +130,16 @@ lons_meet : (y z : ℤ) (A B P Q : ℕ) (u v : ℤ) → y ≡ pos A → z ≡ po
     → (int_le u (int_max y z) && int_le (int_min y z) v) ≡ (nat_le P (max A B) && nat_le (min A B) Q)
 lons_meet y z A B P Q u v e f g h = rw (e, f, g, h) (grind (arith, ints, nat_tests))
 
-lats_meet : (y z : ℤ) (a b l h : ℕ) (u v : ℤ) → y ≡ pos a -ℤ pos 900000000 → z ≡ pos b -ℤ pos 900000000 → u ≡ pos l -ℤ pos 900000000 → v ≡ pos h -ℤ pos 900000000
+lats_meet : (y z : ℤ) (a b l h : ℕ) (u v : ℤ) → y ≡ pos a -ℤ pos 900000000 → z ≡ pos b -ℤ pos 900000000 → u ≡ pos l -ℤ pos 900000000
+    → v ≡ pos h -ℤ pos 900000000
     → a ≤ b → (int_le u (int_max y z) && int_le (int_min y z) v) ≡ (nat_le l b && nat_le a h)
 lats_meet y z a b l h u v e f g i up = rw (e, f, g, i) (grind (arith, ints, nat_tests))
 
 meets_is : (s : Segment) (box : GeoBox) (A a B b P Q l h : ℕ) → IsTold s A a B b → IsToldBox box P Q l h → a ≤ b
     → meets (segment_box s) box ≡ ((nat_le P (max A B) && nat_le (min A B) Q) && (nat_le l b && nat_le a h))
 meets_is s box A a B b P Q l h e t up =
-    rw (lons_meet _ _ A B P Q _ _ e.start_lon e.end_lon t.west t.east, lats_meet _ _ a b l h _ _ e.start_lat e.end_lat t.south t.north up) refl
+    rw (lons_meet _ _ A B P Q _ _ e.start_lon e.end_lon t.west t.east, lats_meet _ _ a b l h _ _ e.start_lat e.end_lat t.south t.north up)
+    refl
 
 -- why a segment touches a tile
 pub record IsTouch (s : Segment) (box : GeoBox) (A a B b P Q l h : ℕ) : Type 0 where
@@ -160,15 +170,26 @@ touch_why s box A a B b P Q l h e t up f =
 pub why_touch : (s : Segment) (box : GeoBox) (A a B b P Q l h : ℕ) → IsTold s A a B b → IsToldBox box P Q l h → a ≤ b
     → IsTouch s box A a B b P Q l h → touches box s ≡ true
 why_touch s box A a B b P Q l h e t up f =
-    let west = no_test (list_all (is_on_one_side s) (corners box)) (λ g. let all = all_west s box A a B b P Q l h e t g in f.not_west all.0 all.1) in
-    let east = no_test (list_all (is_on_other_side s) (corners box)) (λ g. let all = all_east s box A a B b P Q l h e t g in f.not_east all.0 all.1) in
-    rw (meets_is s box A a B b P Q l h e t up, true_le _ _ f.box_east, true_le _ _ f.box_west, true_le _ _ f.box_south, true_le _ _ f.box_north, west, east) refl
+    let west = no_test (list_all (is_on_one_side s) (corners box))
+    (λ g. let all = all_west s box A a B b P Q l h e t g in f.not_west all.0 all.1) in
+    let east = no_test (list_all (is_on_other_side s) (corners box))
+    (λ g. let all = all_east s box A a B b P Q l h e t g in f.not_east all.0 all.1) in
+    rw (
+      meets_is s box A a B b P Q l h e t up,
+      true_le _ _ f.box_east,
+      true_le _ _ f.box_west,
+      true_le _ _ f.box_south,
+      true_le _ _ f.box_north,
+      west,
+      east,
+    ) refl
 
 -- by the part in the row
 and_true : (p q : Bool) → p ≡ true → q ≡ true → (p && q) ≡ true
 and_true p q e f = rw (e, f) refl
 
-pub touches_part : (s : Segment) (box : GeoBox) (A a B b P Q l h lo hi k m n o H : ℕ) → IsTold s A a B b → IsToldBox box P Q l h → IsPart a b l h lo hi k m n o
+pub touches_part : (s : Segment) (box : GeoBox) (A a B b P Q l h lo hi k m n o H : ℕ) → IsTold s A a B b → IsToldBox box P Q l h
+    → IsPart a b l h lo hi k m n o
     → k + m ≡ H → n + o ≡ H
     → touches box s ≡ (nat_le (min (k * B + m * A) (n * B + o * A)) (Q * H) && nat_le (P * H) (max (k * B + m * A) (n * B + o * A)))
 touches_part s box A a B b P Q l h lo hi k m n o H e t p one other =
@@ -185,9 +206,11 @@ touches_part s box A a B b P Q l h lo hi k m n o H e t p one other =
     let low = le_true _ _ parts.0 in
     let high = le_true _ _ parts.1 in
     let west = λ (g : ((Q < A) × (Q < B)) ⊎ (IsWest A a B b Q l × IsWest A a B b Q h)).
-    let i = west_part A a B b l h lo hi k m n o Q p g in beyond (Q * (k + m)) (Q * (n + o)) _ _ (Q * H) (rw one refl) (rw other refl) i.0 i.1 low in
+    let i = west_part A a B b l h lo hi k m n o Q p g in
+    beyond (Q * (k + m)) (Q * (n + o)) _ _ (Q * H) (rw one refl) (rw other refl) i.0 i.1 low in
     let east = λ (g : ((A < P) × (B < P)) ⊎ (IsEast A a B b P l × IsEast A a B b P h)).
-    let i = east_part A a B b l h lo hi k m n o P p g in before (P * (k + m)) (P * (n + o)) _ _ (P * H) (rw one refl) (rw other refl) i.0 i.1 high in
+    let i = east_part A a B b l h lo hi k m n o P p g in
+    before (P * (k + m)) (P * (n + o)) _ _ (P * H) (rw one refl) (rw other refl) i.0 i.1 high in
     why_touch s box A a B b P Q l h e t up (record {
       box_east = at_most _ _ (λ g. east (inl (omega arith, omega arith)));
       box_west = at_most _ _ (λ g. west (inl (omega arith, omega arith)));

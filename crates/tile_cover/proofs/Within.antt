@@ -1,5 +1,6 @@
 -- A segment that lies within a row, or within a tile.
-use Rattle.std.proofs.Common.{◌≡◌, ℕ, ◌+◌, ◌*◌, ◌-◌, ◌<◌, ◌≤◌, ◌^◌, ◌==◌, zero, suc, refl, sym, ◌∙◌, arith, nat_lt, nat_le, min, max, ℤ, pos, ◌+ℤ◌, ◌-ℤ◌, ◌<ℤ◌, ◌≤ℤ◌, unsigned_abs, int_le, Bool, true, false, ◌&&◌, ◌⊎◌, inl, inr, Some}
+use Rattle.std.proofs.Common.{◌≡◌, ℕ, ◌+◌, ◌*◌, ◌-◌, ◌<◌, ◌≤◌, ◌^◌, ◌==◌, zero, suc, refl, sym, ◌∙◌, arith, nat_lt, nat_le, min, max, ℤ}
+use Rattle.std.proofs.Common.{pos, ◌+ℤ◌, ◌-ℤ◌, ◌<ℤ◌, ◌≤ℤ◌, unsigned_abs, int_le, Bool, true, false, ◌&&◌, ◌⊎◌, inl, inr, Some}
 use Rattle.std.proofs.lemmas.Int.{ints}
 use Rattle.std.proofs.lemmas.Bool.Decides.{nat_tests}
 use Rattle.std.proofs.lemmas.Nat.{mul-le}
@@ -80,9 +81,11 @@ pub tells_within : (climb : Climb) (span : Span) (l h x : ℕ) → l ≤ climb.s
     → Tells (box_between (lat_of l) (lat_of h) x) x (segment_of climb) (Some span)
 tells_within climb span l h x south north up first last through =
     let box = box_between (lat_of l) (lat_of h) x in (
-      touches_within (segment_of climb) box climb.start climb.south climb.end climb.north (x * 3600000000) ((x + 1) * 3600000000) l h (told climb) (told_box l h x (omega arith)) up south north
+      touches_within (segment_of climb) box climb.start climb.south climb.end climb.north (x * 3600000000) ((x + 1) * 3600000000) l h
+          (told climb) (told_box l h x (omega arith)) up south north
           ∙ rw (first, last) refl,
-      λ none. rw through (crosses_none (segment_of climb) (north_west box) climb.start climb.south climb.end climb.north (x * 3600000000) h (told climb) (record { lon = refl; lat = refl }) up (inl north)),
+      λ none. rw through (crosses_none (segment_of climb) (north_west box) climb.start climb.south climb.end climb.north (x * 3600000000) h
+          (told climb) (record { lon = refl; lat = refl }) up (inl north)),
     )
 
 -- rows beside one another
@@ -93,7 +96,8 @@ three : (m n : ℕ) → (m < n) ⊎ ((m ≡ n) ⊎ (n < m))
 three zero zero = inr (inl refl)
 three zero (suc n) = inl (omega arith)
 three (suc m) zero = inr (inr (omega arith))
-three (suc m) (suc n) = elim (three m n) [ inl e ↦ inl (omega arith) | inr (inl e) ↦ inr (inl (omega arith)) | inr (inr e) ↦ inr (inr (omega arith)) ]
+three (suc m) (suc n) = elim (three m n)
+    [ inl e ↦ inl (omega arith) | inr (inl e) ↦ inr (inl (omega arith)) | inr (inr e) ↦ inr (inr (omega arith)) ]
 
 pub rows_apart : (table : BoundsOf) (row y l h L U : ℕ) → IsTable table → row < 2 ^ table.zoom → y < 2 ^ table.zoom
     → lat_of l ≡ boundary table (row + 1) → lat_of h ≡ boundary table row → lat_of L ≡ boundary table (y + 1) → lat_of U ≡ boundary table y
@@ -117,7 +121,8 @@ reached_is L U a b = rw (lat_order L b, lat_order a U) refl
     lat_order : (m n : ℕ) → int_le (lat_of m) (lat_of n) ≡ nat_le m n
     lat_order m n = grind (arith, ints)
 
-one_row : (row y l h L U a b : ℕ) → l < a → b < h → a ≤ b → ((row ≡ y) × (h ≤ U)) ⊎ (((y < row) × (h ≤ L) × (h ≤ U)) ⊎ ((row < y) × (U ≤ l))) → (row ≡ y → L ≡ l)
+one_row : (row y l h L U a b : ℕ) → l < a → b < h → a ≤ b
+    → ((row ≡ y) × (h ≤ U)) ⊎ (((y < row) × (h ≤ L) × (h ≤ U)) ⊎ ((row < y) × (U ≤ l))) → (row ≡ y → L ≡ l)
     → (nat_le row y && nat_lt y (row + 1)) ≡ (nat_le L b && nat_le a U)
 one_row row y l h L U a b south north up (inl (e, f)) same = let g = same e in grind (arith, nat_tests)
 one_row row y l h L U a b south north up (inr (inl (e, f, g))) same = grind (arith, nat_tests)
@@ -147,7 +152,8 @@ record IsToldBetween (place : PlaceOf) (column l h : ℕ) : Type 0 where
   south : l < unsigned_abs (place.lat +ℤ pos 900000000)
   north : unsigned_abs (place.lat +ℤ pos 900000000) < h
 
-told_between : (place : PlaceOf) (column l h : ℕ) → IsBetween (box_between (lat_of l) (lat_of h) column) place → IsToldBetween place column l h
+told_between : (place : PlaceOf) (column l h : ℕ) → IsBetween (box_between (lat_of l) (lat_of h) column) place
+    → IsToldBetween place column l h
 told_between place column l h e =
     let west = e.west in
     let east = e.east in
@@ -181,15 +187,18 @@ told_between place column l h e =
     lat_north l h z e f = grind (arith, ints)
 
 -- the one column that it touches
-one_column : (column x A B : ℕ) → column * 3600000000 < A → A < (column + 1) * 3600000000 → column * 3600000000 < B → B < (column + 1) * 3600000000
+one_column : (column x A B : ℕ) → column * 3600000000 < A → A < (column + 1) * 3600000000 → column * 3600000000 < B
+    → B < (column + 1) * 3600000000
     → (nat_le (min A B) ((x + 1) * 3600000000) && nat_le (x * 3600000000) (max A B)) ≡ (nat_le column x && nat_le x column)
 one_column column x A B e f g h = rw (first, last) refl
   where
     first : nat_le (min A B) ((x + 1) * 3600000000) ≡ nat_le column x
-    first = same_tests _ _ (λ i. true_le _ _ (let j = le_true _ _ i in omega arith)) (λ i. true_le _ _ (let j = le_true _ _ i in omega arith))
+    first = same_tests _ _ (λ i. true_le _ _ (let j = le_true _ _ i in omega arith))
+        (λ i. true_le _ _ (let j = le_true _ _ i in omega arith))
 
     last : nat_le (x * 3600000000) (max A B) ≡ nat_le x column
-    last = same_tests _ _ (λ i. true_le _ _ (let j = le_true _ _ i in omega arith)) (λ i. true_le _ _ (let j = le_true _ _ i in omega arith))
+    last = same_tests _ _ (λ i. true_le _ _ (let j = le_true _ _ i in omega arith))
+        (λ i. true_le _ _ (let j = le_true _ _ i in omega arith))
 
 -- what a segment meets and crosses that touches one tile, and none of its sides
 pub record MeetsOne (table : BoundsOf) (column row : ℕ) (s : Segment) : Type 0 where
@@ -202,18 +211,22 @@ differ_above m n e = grind (arith, nat_tests)
 differ_below : (m n : ℕ) → m < n → (m == n) ≡ false
 differ_below m n e = grind (arith, nat_tests)
 
-meets_up : (table : BoundsOf) (column row : ℕ) (s : Segment) (A a B b l h : ℕ) → IsTable table → row < 2 ^ table.zoom → IsTold s A a B b → a ≤ b
+meets_up : (table : BoundsOf) (column row : ℕ) (s : Segment) (A a B b l h : ℕ) → IsTable table → row < 2 ^ table.zoom → IsTold s A a B b
+    → a ≤ b
     → lat_of l ≡ boundary table (row + 1) → lat_of h ≡ boundary table row → l < a → b < h
-    → column * 3600000000 < A → A < (column + 1) * 3600000000 → column * 3600000000 < B → B < (column + 1) * 3600000000 → MeetsOne table column row s
+    → column * 3600000000 < A → A < (column + 1) * 3600000000 → column * 3600000000 < B → B < (column + 1) * 3600000000
+    → MeetsOne table column row s
 meets_up table column row s A a B b l h t within e up l_is h_is south north A_west A_east B_west B_east = record {
   touch = λ x y other.
       let sides = sides_of table y t other in
       let apart = rows_apart table row y l h sides.south sides.north t within other l_is h_is sides.south_is sides.north_is in
-      rw (← sides.south_is, ← sides.north_is) (touch_at x y sides.south sides.north sides.high apart (λ f. lat_same sides.south l (sides.south_is ∙ rw (← f) (sym l_is))));
+      rw (← sides.south_is, ← sides.north_is) (touch_at x y sides.south sides.north sides.high apart
+      (λ f. lat_same sides.south l (sides.south_is ∙ rw (← f) (sym l_is))));
   cross = λ x y other.
       let sides = sides_of table y t other in
       let apart = rows_apart table row y l h sides.south sides.north t within other l_is h_is sides.south_is sides.north_is in
-      rw (← sides.north_is) (crosses_none s _ A a B b (x * 3600000000) sides.north e (record { lon = refl; lat = refl }) up (beyond y sides.south sides.north apart));
+      rw (← sides.north_is) (crosses_none s _ A a B b (x * 3600000000) sides.north e (record { lon = refl; lat = refl }) up
+      (beyond y sides.south sides.north apart));
 }
   where
     touch_at : (x y L U : ℕ) → L ≤ U → ((row ≡ y) × (h ≤ U)) ⊎ (((y < row) × (h ≤ L) × (h ≤ U)) ⊎ ((row < y) × (U ≤ l))) → (row ≡ y → L ≡ l)
@@ -223,16 +236,19 @@ meets_up table column row s A a B b l h t within e up l_is h_is south north A_we
         touches_within s _ A a B b (x * 3600000000) ((x + 1) * 3600000000) L U e (told_box L U x high) up (omega arith) (omega arith)
         ∙ one_column column x A B A_west A_east B_west B_east ∙ rw (← f, itself row) refl
     touch_at x y L U high (inr (inl (f, g, i))) same =
-        touches_none s _ A a B b (x * 3600000000) ((x + 1) * 3600000000) L U e (told_box L U x high) up (inl (omega arith)) ∙ rw (differ_above row y f) refl
+        touches_none s _ A a B b (x * 3600000000) ((x + 1) * 3600000000) L U e (told_box L U x high) up (inl (omega arith))
+        ∙ rw (differ_above row y f) refl
     touch_at x y L U high (inr (inr (f, g))) same =
-        touches_none s _ A a B b (x * 3600000000) ((x + 1) * 3600000000) L U e (told_box L U x high) up (inr (omega arith)) ∙ rw (differ_below row y f) refl
+        touches_none s _ A a B b (x * 3600000000) ((x + 1) * 3600000000) L U e (told_box L U x high) up (inr (omega arith))
+        ∙ rw (differ_below row y f) refl
 
     beyond : (y L U : ℕ) → ((row ≡ y) × (h ≤ U)) ⊎ (((y < row) × (h ≤ L) × (h ≤ U)) ⊎ ((row < y) × (U ≤ l))) → (b ≤ U) ⊎ (U < a)
     beyond y L U (inl (f, g)) = inl (omega arith)
     beyond y L U (inr (inl (f, g, i))) = inl (omega arith)
     beyond y L U (inr (inr (f, g))) = inr (omega arith)
 
-meets_turned : (table : BoundsOf) (column row : ℕ) (s : Segment) (A a B b : ℕ) → IsTable table → IsTold s A a B b → MeetsOne table column row (turned s) → MeetsOne table column row s
+meets_turned : (table : BoundsOf) (column row : ℕ) (s : Segment) (A a B b : ℕ) → IsTable table → IsTold s A a B b
+    → MeetsOne table column row (turned s) → MeetsOne table column row s
 meets_turned table column row s A a B b t e one = record {
   touch = λ x y other. sym (same_touch x y other) ∙ one.touch x y other;
   cross = λ x y other. sym (same_cross x y other) ∙ one.cross x y other;
@@ -242,9 +258,11 @@ meets_turned table column row s A a B b t e one = record {
     same_touch x y other =
         let sides = sides_of table y t other in
         rw (← sides.south_is, ← sides.north_is)
-        (touches_turned s _ A a B b (x * 3600000000) ((x + 1) * 3600000000) sides.south sides.north e (told_box sides.south sides.north x sides.high))
+        (touches_turned s _ A a B b (x * 3600000000) ((x + 1) * 3600000000) sides.south sides.north e
+        (told_box sides.south sides.north x sides.high))
 
-    same_cross : (x y : ℕ) → y < 2 ^ table.zoom → crosses (north_west (tile_box table x y)) (turned s) ≡ crosses (north_west (tile_box table x y)) s
+    same_cross : (x y : ℕ) → y < 2 ^ table.zoom
+        → crosses (north_west (tile_box table x y)) (turned s) ≡ crosses (north_west (tile_box table x y)) s
     same_cross x y other =
         let sides = sides_of table y t other in
         rw (← sides.north_is) (crosses_turned s _ A a B b (x * 3600000000) sides.north e (record { lon = refl; lat = refl }))
@@ -261,7 +279,9 @@ meets_one table column row s t within start_in end_in =
     let b = unsigned_abs (s.end.lat +ℤ pos 900000000) in
     let e : IsTold s A a B b = record { start_lon = start.lon; start_lat = start.lat; end_lon = end.lon; end_lat = end.lat } in
     elim (le_or a b) [
-      | inl up ↦ meets_up table column row s A a B b sides.south sides.north t within e up sides.south_is sides.north_is start.south end.north start.west start.east end.west end.east
-      | inr down ↦ meets_turned table column row s A a B b t e (meets_up table column row (turned s) B b A a sides.south sides.north t within (turned_told s A a B b e) down
+      | inl up ↦ meets_up table column row s A a B b sides.south sides.north t within e up sides.south_is sides.north_is start.south
+          end.north start.west start.east end.west end.east
+      | inr down ↦ meets_turned table column row s A a B b t e
+          (meets_up table column row (turned s) B b A a sides.south sides.north t within (turned_told s A a B b e) down
           sides.south_is sides.north_is end.south start.north end.west end.east start.west start.east)
     ]

@@ -1,6 +1,7 @@
 -- The lines of a table of boundaries.
 -- One latitude a line, from north to south, in units of 1e-7 degree: one line more than the zoom has rows.
-use Rattle.std.specs.Prelude.{◌≡◌, ◌≢◌, ℕ, ◌+◌, ◌*◌, ◌-◌, ◌^◌, ◌<◌, ◌≤◌, ◌==◌, min, nat_le, ℤ, pos, neg_ℤ, int_lt, ◌&&◌, if◌then◌else◌, List, [], ◌∷◌, length, drop, slice_index, Option, Some, None}
+use Rattle.std.specs.Prelude.{◌≡◌, ◌≢◌, ℕ, ◌+◌, ◌*◌, ◌-◌, ◌^◌, ◌<◌, ◌≤◌, ◌==◌, min, nat_le, ℤ, pos, neg_ℤ, int_lt, ◌&&◌, if◌then◌else◌}
+use Rattle.std.specs.Prelude.{List, [], ◌∷◌, length, drop, slice_index, Option, Some, None}
 use Rattle.std.specs.Char.{is_ascii_digit}
 use Rattle.std.specs.Option.{option_map}
 use Rattle.tile_cover.specs.declared.fault.BoundsFault.{BoundsFault}
@@ -21,7 +22,8 @@ size_of digits = if nat_le 1 (length digits) && nat_le (length digits) MOST_DIGI
 -- a latitude: an optional minus, and digits
 abbrev pub lat_of_line : List ℕ → Option ℤ
 lat_of_line line =
-    if slice_index line 0 == MINUS then option_map (λ size. neg_ℤ (pos size)) (size_of (drop 1 line)) else option_map (λ size. pos size) (size_of line)
+    if slice_index line 0 == MINUS then option_map (λ size. neg_ℤ (pos size)) (size_of (drop 1 line))
+    else option_map (λ size. pos size) (size_of line)
 
 -- the latitude, where it is south of the one before
 abbrev pub is_south : ℤ → Option ℤ → Option ℤ
@@ -52,7 +54,8 @@ pub record IsTableOf (lines : List (List ℕ)) (zoom : ℕ) : Type 0 where
 pub data IsBadLine (lines : List (List ℕ)) (line : ℕ) : Type 0 where
   Breaks : length (lats_of lines) < min (length lines) 65537 → line ≡ length (lats_of lines) + 1 → IsBadLine lines line
   TooMany : min (length lines) 65537 ≤ length (lats_of lines) → 65537 < length lines → line ≡ 65538 → IsBadLine lines line
-  WrongCount : length (lats_of lines) ≡ length lines → length lines ≤ 65537 → ((zoom : ℕ) → zoom ≤ MAX_ZOOM → length lines ≢ 2 ^ zoom + 1) → line ≡ length lines + 1
+  WrongCount : length (lats_of lines) ≡ length lines → length lines ≤ 65537 → ((zoom : ℕ) → zoom ≤ MAX_ZOOM → length lines ≢ 2 ^ zoom + 1)
+      → line ≡ length lines + 1
       → IsBadLine lines line
 
 abbrev pub HasItsLine : List (List ℕ) → BoundsFault → Type 0

@@ -32,4 +32,5 @@ pub record GainsIn (table : BoundsOf) (rows : ℕ → Bool) (segment : Segment) 
   pub any : (x row : ℕ) → x < 2 ^ table.zoom → row < 2 ^ table.zoom
       → list_any (is_at row x) new ≡ (list_any (is_at row x) old || (rows row && touches (tile_box table x row) segment))
   pub count : (x row : ℕ) → x < 2 ^ table.zoom → row < 2 ^ table.zoom → list_any (is_at row x) new ≡ false
-      → count_by (is_beyond row x) new ≡ count_by (is_beyond row x) old + (if (rows row && crosses (north_west (tile_box table x row)) segment) then 1 else 0)
+      → count_by (is_beyond row x) new ≡ count_by (is_beyond row x) old
+      + (if (rows row && crosses (north_west (tile_box table x row)) segment) then 1 else 0)

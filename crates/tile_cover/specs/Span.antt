@@ -28,7 +28,8 @@ pub record IsWithinWorld (columns : ℕ) (climb : Climb) : Type 0 where
 -- they meet what a segment meets, and cross what it crosses
 pub record IsSame (segment : Segment) (climb : Climb) : Type 0 where
   pub touch : (south north x : ℕ) → south ≤ north
-      → touches (box_between (lat_of south) (lat_of north) x) segment ≡ touches (box_between (lat_of south) (lat_of north) x) (segment_of climb)
+      → touches (box_between (lat_of south) (lat_of north) x) segment
+      ≡ touches (box_between (lat_of south) (lat_of north) x) (segment_of climb)
   pub cross : (south north x : ℕ) → crosses (north_west (box_between (lat_of south) (lat_of north) x)) segment
       ≡ crosses (north_west (box_between (lat_of south) (lat_of north) x)) (segment_of climb)
 

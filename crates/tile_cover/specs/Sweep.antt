@@ -1,5 +1,6 @@
 -- The runs of tiles that events tell, from north to south and from west to east.
-use Rattle.std.specs.Prelude.{◌≡◌, ℕ, ◌+◌, ◌*◌, ◌≤◌, ◌%◌, ◌==◌, nat_le, max, Bool, true, not, ◌&&◌, ◌||◌, if◌then◌else◌, List, [], ◌∷◌, count_by}
+use Rattle.std.specs.Prelude.{◌≡◌, ℕ, ◌+◌, ◌*◌, ◌≤◌, ◌%◌, ◌==◌, nat_le, max, Bool, true, not, ◌&&◌, ◌||◌, if◌then◌else◌, List, [], ◌∷◌}
+use Rattle.std.specs.Prelude.{count_by}
 use Rattle.std.specs.List.{AllByRecursion, list_any}
 use Rattle.tile_cover.specs.declared.events.Event.{Event}
 use Rattle.tile_cover.specs.declared.runs.Run.{Run}
@@ -44,7 +45,8 @@ pub record AddsEvent (zoom : ℕ) (filled : Bool) (cursor : Cursor) (event : Eve
   pub row : next.row ≡ cursor.row
   pub edge : next.edge ≡ edge_after filled cursor event
   pub odd : next.odd ≡ (if event.span.straddles then not cursor.odd else cursor.odd)
-  pub tiles : (z x y : ℕ) → has new z x y ≡ (has old z x y || ((zoom == z) && ((cursor.row == y) && (nat_le (from_of filled cursor event) x && nat_le x event.span.last))))
+  pub tiles : (z x y : ℕ) → has new z x y ≡
+      (has old z x y || ((zoom == z) && ((cursor.row == y) && (nat_le (from_of filled cursor event) x && nat_le x event.span.last))))
 
 -- no run of a set begins behind the cursor
 abbrev pub StandsBefore : ℕ → Cursor → List Run → Type 0

@@ -2,7 +2,8 @@
 -- osm2pgsql manual, "Tile Expiry": a tile expires where a geometry touches it, and in mode full-area also where an area covers it.
 -- Sides of columns are compared after multiplying by the number of columns, so that all is told in whole numbers. A tile is
 -- closed: a place on a corner meets four.
-use Rattle.std.specs.Prelude.{ℕ, ◌+◌, ◌*◌, ◌^◌, ◌%◌, ◌==◌, ℤ, pos, ◌+ℤ◌, ◌*ℤ◌, int_lt, nat_lt, Bool, true, false, not, ◌&&◌, ◌||◌, List, [], ◌∷◌, map, count_by}
+use Rattle.std.specs.Prelude.{ℕ, ◌+◌, ◌*◌, ◌^◌, ◌%◌, ◌==◌, ℤ, pos, ◌+ℤ◌, ◌*ℤ◌, int_lt, nat_lt, Bool, true, false, not, ◌&&◌, ◌||◌, List, []}
+use Rattle.std.specs.Prelude.{◌∷◌, map, count_by}
 use Rattle.std.specs.Int.{int_min, int_max}
 use Rattle.std.specs.List.{list_any, list_all, flat_map}
 use Rattle.osm_base.specs.values.Place.{PlaceOf}
@@ -93,7 +94,8 @@ meets_box filled box all = list_any (touches box) all || (filled && is_filled bo
 
 -- whether a geometry meets a tile, in a mode
 abbrev pub met : BoundsOf → ℕ → ℕ → Geometry → Mode → Bool
-met table column row geometry mode = meets_box (counts_filled geometry mode) (tile_box table column row) (segments_of (2 ^ table.zoom) geometry)
+met table column row geometry mode = meets_box (counts_filled geometry mode) (tile_box table column row)
+    (segments_of (2 ^ table.zoom) geometry)
 
 -- the same of any three numbers: the zoom is the table's, and there is such a tile
 abbrev pub is_covered : BoundsOf → Geometry → Mode → ℕ → ℕ → ℕ → Bool

@@ -7,7 +7,8 @@ use Rattle.tile_cover.specs.declared.runs.Run.{Run}
 use Rattle.due_tiles.specs.Spelling.{set_bytes}
 use Rattle.chain_store.specs.declared.root.Root.{Root}
 use Rattle.bucket_store.specs.Image.{Image, with_root, with_text}
-use Rattle.bucket_store.proofs.Images.{maps_with_root, maps_with_text, root_with_root, root_with_text, texts_beside, texts_here, texts_with_root}
+use Rattle.bucket_store.proofs.Images.{maps_with_root, maps_with_text, root_with_root, root_with_text, texts_beside, texts_here}
+use Rattle.bucket_store.proofs.Images.{texts_with_root}
 use Rattle.store_maps.specs.Maps.{Maps}
 use Rattle.store_maps.specs.Stands.{Stands}
 use Rattle.kept_maps.specs.Kept.{HoldsMaps}
@@ -54,7 +55,8 @@ due_becomes held image runs due is set tiles = record {
 no_runs : IsTileSet []
 no_runs = record { each = tt; apart = tt }
 
-pub cleared_becomes : (held : Holding) (image : Image) → IsImported held image → IsImported (cleared held) (with_text DUE_TEXT (set_bytes []) image)
+pub cleared_becomes : (held : Holding) (image : Image) → IsImported held image
+    → IsImported (cleared held) (with_text DUE_TEXT (set_bytes []) image)
 cleared_becomes held image is = due_becomes held image [] no_tiles is no_runs (λ zoom x y. refl)
 
 -- there was another number of changes
@@ -68,7 +70,13 @@ count_becomes held image root number is counted same = record {
   few = is.few;
   style_text = texts_with_root root image STYLE_TEXT ∙ is.style_text;
   style = is.style;
-  due = record { runs = is.due.runs; is = is.due.is; bytes_are = texts_with_root root image DUE_TEXT ∙ is.due.bytes_are; tiles = is.due.tiles };
+  due = record {
+    runs = is.due.runs;
+    is = is.due.is;
+    bytes_are = texts_with_root root image DUE_TEXT ∙ is.due.bytes_are;
+    tiles =
+        is.due.tiles;
+  };
   others = λ n below not_style not_due. texts_with_root root image n ∙ is.others n below not_style not_due;
   ids = is.ids;
   maps = record {

@@ -35,7 +35,8 @@ module _ {D : Type 0} {g : Ghosts D} where
   whole_kept : (buckets : Buckets D g) (kept : Option Opened) → IsBackOf buckets kept → is_whole_store buckets → is_some kept ≡ true
   whole_kept buckets kept back whole = back.0 ∙ ap not whole
 
-  kept_back : (state : State) (buckets : Buckets D g) (kept : Option Opened) → IsBackOf buckets kept → is_whole_store buckets → RestsIn state buckets
+  kept_back : (state : State) (buckets : Buckets D g) (kept : Option Opened) → IsBackOf buckets kept → is_whole_store buckets
+      → RestsIn state buckets
       → IsKept state (view_in buckets) kept
   kept_back state buckets None back whole rests = absurd (cc (whole_kept buckets None back whole))
   kept_back state buckets (Some opened) back whole rests = record {
@@ -43,7 +44,8 @@ module _ {D : Type 0} {g : Ghosts D} where
     fits = (opened, refl, back.1 rests.image rests.at_rest);
   }
 
-  module _ {call : Option Step} (fault : Option FlowFault) (old new : Buckets D g) (kept : Option Opened) (back : IsBackOf new kept) (ends : EndsIn call fault old new) where
+  module _ {call : Option Step} (fault : Option FlowFault) (old new : Buckets D g) (kept : Option Opened) (back : IsBackOf new kept)
+      (ends : EndsIn call fault old new) where
     turns_here : (limits : LimitNumbers) (state : State) (step : Step) → TurnsIn limits state step fault old new
         → TurnsOn limits state step fault (view_in old) (view_in new) kept
     turns_here limits state step turns = record {

@@ -28,10 +28,13 @@ pages_one one other view first second =
     one_home one other first.0 first.1.home (subst (λ (b : List ℕ). Home other b) same second.1.home)
 
 -- from a disk that buckets took to the one that they gave back
-pub touched_on : {D : Type 0} {g : Ghosts D} (old new : Buckets D g) (held : Holding) (image : Image) (may : May) (pages : List (List ℕ)) (first last : D)
-    → disk_under (journal_of (chains_of old)) ≡ first → last ≡ disk_under (journal_of (chains_of new)) → Has image image old → IsImported held image
+pub touched_on : {D : Type 0} {g : Ghosts D} (old new : Buckets D g) (held : Holding) (image : Image) (may : May) (pages : List (List ℕ))
+    (first last : D)
+    → disk_under (journal_of (chains_of old)) ≡ first → last ≡ disk_under (journal_of (chains_of new)) → Has image image old
+    → IsImported held image
     → IsAtRest pages (g.view first)
-    → ((home : List (List ℕ)) → RestsWith home (journal_of (chains_of old)) → ReadsOnce (MayLoad may (bucket_count (chains_of old))) home (kept_of (chains_of old))
+    → ((home : List (List ℕ)) → RestsWith home (journal_of (chains_of old))
+    → ReadsOnce (MayLoad may (bucket_count (chains_of old))) home (kept_of (chains_of old))
     (disk_of (chains_of old)) (disk_of (chains_of new)))
     → ReadsTouched may held.buckets pages (g.view first) (g.view last)
 touched_on {D} {g} old new held image may pages first last taken given has is rests reads =
@@ -46,5 +49,6 @@ touched_on {D} {g} old new held image may pages first last taken given has is re
       kept,
       subst (λ (p : List (List ℕ)). Keeps p kept) same open_chains.keeps,
       subst (λ (d : D). ReadsOnce (MayLoad may held.buckets) pages kept (g.view first) (g.view d)) (sym given)
-          (subst (λ (d : D). ReadsOnce (MayLoad may held.buckets) pages kept (g.view d) (g.view (disk_under (journal_of (chains_of new))))) taken once),
+          (subst (λ (d : D). ReadsOnce (MayLoad may held.buckets) pages kept (g.view d) (g.view (disk_under (journal_of (chains_of new)))))
+          taken once),
     )

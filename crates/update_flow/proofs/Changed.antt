@@ -54,7 +54,8 @@ module _ (limits : LimitNumbers) (held : Holding) (bounds : BoundsOf) (change : 
   allowed_answers store.OutOfMemory allowed = tt
 
   -- a change that is refused answers as the state says
-  pub step_answers : (R : StoreFault → Type 0) (U : Type 0) (M : ℕ → Type 0) (why : StepFault StoreFault) → Ends R U M why → MayRefuse IsAllowed why
+  pub step_answers : (R : StoreFault → Type 0) (U : Type 0) (M : ℕ → Type 0) (why : StepFault StoreFault) → Ends R U M why
+      → MayRefuse IsAllowed why
       → ((value : ℕ) → M value → RefusesChange limits held change (Some (flow.TooMany value)))
       → MayAnswer limits (imported held) (Append bounds change) (Some (of_step why))
   step_answers R U M (steps.Store fault) ends allowed many = allowed_answers fault allowed
@@ -62,26 +63,32 @@ module _ (limits : LimitNumbers) (held : Holding) (bounds : BoundsOf) (change : 
   step_answers R U M steps.OutOfMemory ends allowed many = tt
 
 -- the store once a change is made and counted, and its tiles are due
-pub append_becomes : {D : Type 0} {g : Ghosts D} (held : Holding) (rest : Image) (bounds : BoundsOf) (change : List Entry) (number : ℕ) (runs : List Run)
+pub append_becomes : {D : Type 0} {g : Ghosts D} (held : Holding) (rest : Image) (bounds : BoundsOf) (change : List Entry) (number : ℕ)
+    (runs : List Run)
     (after : Maps) (buckets : Buckets D g) → (is : IsImported held rest)
     → (kept : HasMaps held.style.tables (record { rest = rest; root = rest.root; texts = rest.texts }) after buckets)
     → Stands held.style after (folded_all held.objects change) → IsTileSet runs
-    → ((zoom x y : ℕ) → has runs zoom x y ≡ both held.due (due_between held.style bounds held.objects (folded_all held.objects change)) zoom x y)
-    → held.changes + 1 ≡ number → number ≤ LAST_CHANGE → AreIdEntries change → IsImported (changed bounds change held) (settled number runs kept.now)
+    → ((zoom x y : ℕ) → has runs zoom x y ≡ both held.due
+    (due_between held.style bounds held.objects (folded_all held.objects change)) zoom x y)
+    → held.changes + 1 ≡ number → number ≤ LAST_CHANGE → AreIdEntries change
+    → IsImported (changed bounds change held) (settled number runs kept.now)
 append_becomes held rest bounds change number runs after buckets is kept stand set tiles next counted ids =
     let objects : ObjectSet = folded_all held.objects change in
     let due : Tiles = both held.due (due_between held.style bounds held.objects objects) in
     subst (λ (n : ℕ). IsImported (with_changes n (with_due due (with_objects objects held))) (settled number runs kept.now)) (sym next)
     (settled_becomes (with_objects objects held) kept.now runs due number
-    (objects_become held rest kept.now after objects is kept.root kept.texts kept.kept stand (ids_folded change held.objects is.ids ids)) set tiles counted)
+    (objects_become held rest kept.now after objects is kept.root kept.texts kept.kept stand (ids_folded change held.objects is.ids ids))
+    set tiles counted)
 
 pub append_old : (handle : Handle) (bounds : BoundsOf) (change : List Entry) → is_old handle ≡ true → (state : State) → IsOpen state handle
     → Takes state (Append bounds change) (Some flow.OldFormat) handle handle
 append_old handle bounds change is state opened = step_old handle (Append bounds change) (λ held. refl) state is opened
 
-module _ (old new : Handle) (kept : Option Opened) (whole : is_some kept ≡ is_whole new) (keeps : KeptFits kept (view_of new) → new.keeps) where
+module _ (old new : Handle) (kept : Option Opened) (whole : is_some kept ≡ is_whole new)
+    (keeps : KeptFits kept (view_of new) → new.keeps) where
   -- a change is made
-  module _ (is : is_imported old ≡ true) (fresh : is_old old ≡ false) (stays : is_old new ≡ is_old old) (style : style_of new ≡ style_of old) (fault : Option FlowFault)
+  module _ (is : is_imported old ≡ true) (fresh : is_old old ≡ false) (stays : is_old new ≡ is_old old)
+      (style : style_of new ≡ style_of old) (fault : Option FlowFault)
       (one_more : fault ≡ None → changes_of new ≡ changes_of old + 1) (as_many : fault ≢ None → changes_of new ≡ changes_of old) where
     shows_style : is_imported new ≡ true
     shows_style = ap (λ (o : Option StyleOf). is_some o) style ∙ is

@@ -9,7 +9,8 @@ use Rattle.std.proofs.lemmas.Option.{same_Some}
 use Rattle.bucket_store.specs.Opening.{Fits}
 use Rattle.bucket_store.specs.declared.opened.Opened.{Opened}
 use Rattle.update_flow.specs.AtRest.{HasFlowCause}
-use Rattle.update_flow.specs.Handle.{Handle, IsOpen, Looks, Shows, Takes, TellsAs, changes_of, is_imported, is_old, is_whole, limits_of, style_of, view_of}
+use Rattle.update_flow.specs.Handle.{Handle, IsOpen, Looks, Shows, Takes, TellsAs, changes_of, is_imported, is_old, is_whole, limits_of}
+use Rattle.update_flow.specs.Handle.{style_of, view_of}
 use Rattle.update_flow.specs.Needed.{FitsLimit, NeedsOn}
 use Rattle.update_flow.specs.Refusals.{IsCallFault, MayAnswer}
 use Rattle.update_flow.specs.State.{Clear, Holding, Migrate, State, Step, after, cleared, formatted, imported, outdated, was_old}
@@ -21,16 +22,19 @@ use Rattle.update_flow.proofs.Openings.{at_state}
 use Rattle.update_flow.proofs.Resting.{either_done, nothing_done}
 
 -- the disk has failed no call still
-pub whole_still : {T : Type 0} {call : Option Step} (r : Result T FlowFault) (old new : DiskView) (kept : Option Opened) (was : Bool) → was ≡ true
+pub whole_still : {T : Type 0} {call : Option Step} (r : Result T FlowFault) (old new : DiskView) (kept : Option Opened) (was : Bool)
+    → was ≡ true
     → EndsOn call (result_err r) old new kept → OnOk r (is_some kept ≡ was)
 whole_still (Ok t) old new kept was is ends = ends.whole tt ∙ sym is
 whole_still (Err fault) old new kept was is ends = tt
 
 -- nothing was done
-pub nothing_caused : (fault : FlowFault) (disk : DiskView) → (Some fault ≡ Some (flow.Store store.DiskFault) → ⊥) → HasFlowCause (Some fault) disk disk
+pub nothing_caused : (fault : FlowFault) (disk : DiskView) → (Some fault ≡ Some (flow.Store store.DiskFault) → ⊥)
+    → HasFlowCause (Some fault) disk disk
 nothing_caused fault disk other = record { later = omega arith; failed = λ is. absurd (other is) }
 
-pub takes_none : (state : State) (step : Step) (fault : FlowFault) (handle : Handle) → IsOpen state handle → MayAnswer (limits_of handle) state step (Some fault)
+pub takes_none : (state : State) (step : Step) (fault : FlowFault) (handle : Handle) → IsOpen state handle
+    → MayAnswer (limits_of handle) state step (Some fault)
     → FitsLimit (limits_of handle) (NeedsOn (view_of handle) (after state step)) (Some fault) → Takes state step (Some fault) handle handle
 takes_none state step fault handle opened may fits = record {
   answer = may;
@@ -59,7 +63,8 @@ module _ (handle : Handle) where
   told_new state new opened is = absurd (cc (is, opened.shows.old_is, new))
 
   -- an old store takes no step but one, and is not looked at
-  pub step_old : (step : Step) → ((held : Holding) → MayAnswer (limits_of handle) (outdated held) step (Some flow.OldFormat)) → (state : State)
+  pub step_old : (step : Step) → ((held : Holding) → MayAnswer (limits_of handle) (outdated held) step (Some flow.OldFormat))
+      → (state : State)
       → is_old handle ≡ true → IsOpen state handle → Takes state step (Some flow.OldFormat) handle handle
   step_old step may formatted is opened = absurd (told_new formatted refl opened is)
   step_old step may (imported held) is opened = absurd (told_new (imported held) refl opened is)
@@ -71,10 +76,17 @@ module _ (handle : Handle) where
   pub look_old : (state : State) → is_old handle ≡ true → IsOpen state handle → Looks state (Some flow.OldFormat) handle handle
   look_old formatted is opened = absurd (told_new formatted refl opened is)
   look_old (imported held) is opened = absurd (told_new (imported held) refl opened is)
-  look_old (outdated held) is opened = record { answer = refl; only = stays_same (view_of handle); stays = λ no. opened; moments = nothing_done (outdated held) (view_of handle) opened.at_rest }
+  look_old (outdated held) is opened = record {
+    answer = refl;
+    only = stays_same (view_of handle);
+    stays = λ no. opened;
+    moments =
+        nothing_done (outdated held) (view_of handle) opened.at_rest;
+  }
 
   -- and one that has the format of today is left as it is
-  pub migrate_none : (state : State) → is_imported handle ≡ true → is_old handle ≡ false → IsOpen state handle → Takes state Migrate None handle handle
+  pub migrate_none : (state : State) → is_imported handle ≡ true → is_old handle ≡ false → IsOpen state handle
+      → Takes state Migrate None handle handle
   migrate_none formatted begun is opened = absurd (told_blank opened begun)
   migrate_none (outdated held) begun is opened = absurd (told_old held opened is)
   migrate_none (imported held) begun is opened = record {
@@ -86,7 +98,8 @@ module _ (handle : Handle) where
     moments = either_done (imported held) (imported held) (view_of handle) opened.at_rest;
   }
 
-  pub migrate_unasked : (state : State) → is_imported handle ≡ false → IsOpen state handle → Takes state Migrate (Some flow.NotImported) handle handle
+  pub migrate_unasked : (state : State) → is_imported handle ≡ false → IsOpen state handle
+      → Takes state Migrate (Some flow.NotImported) handle handle
   migrate_unasked formatted is opened = takes_none formatted Migrate flow.NotImported handle opened refl tt
   migrate_unasked (imported held) is opened = absurd (cc (is, opened.shows.imported_is))
   migrate_unasked (outdated held) is opened = absurd (told_begun held opened is)
@@ -95,18 +108,26 @@ module _ (handle : Handle) where
   pub told_broken : (state : State) → IsOpen state handle → is_whole handle ≡ false → ⊥
   told_broken state opened is = absurd (cc (is, opened.sound))
 
-  pub clear_unasked : (state : State) → is_imported handle ≡ false → IsOpen state handle → Takes state Clear (Some flow.NotImported) handle handle
+  pub clear_unasked : (state : State) → is_imported handle ≡ false → IsOpen state handle
+      → Takes state Clear (Some flow.NotImported) handle handle
   clear_unasked formatted is opened = takes_none formatted Clear flow.NotImported handle opened refl tt
   clear_unasked (imported held) is opened = absurd (told_imported held opened is)
   clear_unasked (outdated held) is opened = absurd (told_begun held opened is)
 
   pub look_unasked : (state : State) → is_imported handle ≡ false → IsOpen state handle → Looks state (Some flow.NotImported) handle handle
-  look_unasked formatted is opened = record { answer = refl; only = stays_same (view_of handle); stays = λ no. opened; moments = nothing_done formatted (view_of handle) opened.at_rest }
+  look_unasked formatted is opened = record {
+    answer = refl;
+    only = stays_same (view_of handle);
+    stays = λ no. opened;
+    moments =
+        nothing_done formatted (view_of handle) opened.at_rest;
+  }
   look_unasked (imported held) is opened = absurd (told_imported held opened is)
   look_unasked (outdated held) is opened = absurd (told_begun held opened is)
 
 -- what was done on the disk was done to the store
-module _ (old new : Handle) (kept : Option Opened) (whole : is_some kept ≡ is_whole new) (keeps : KeptFits kept (view_of new) → new.keeps) where
+module _ (old new : Handle) (kept : Option Opened) (whole : is_some kept ≡ is_whole new)
+    (keeps : KeptFits kept (view_of new) → new.keeps) where
   open_kept : (state : State) → IsKept state (view_of new) kept → Shows state new → IsOpen state new
   open_kept state is shows = record {
     at_rest = at_state state (view_of new) is.holds;
@@ -115,7 +136,8 @@ module _ (old new : Handle) (kept : Option Opened) (whole : is_some kept ≡ is_
     fits = keeps is.fits;
   }
 
-  pub takes_on : (state : State) (step : Step) (fault : Option FlowFault) → TurnsOn (limits_of old) state step fault (view_of old) (view_of new) kept
+  pub takes_on : (state : State) (step : Step) (fault : Option FlowFault)
+      → TurnsOn (limits_of old) state step fault (view_of old) (view_of new) kept
       → (fault ≡ None → Shows (after state step) new) → (fault ≢ None → Shows state new) → Takes state step fault old new
   takes_on state step fault turns done refused = record {
     answer = turns.answer;
@@ -126,8 +148,15 @@ module _ (old new : Handle) (kept : Option Opened) (whole : is_some kept ≡ is_
     moments = turns.moments;
   }
 
-  pub looks_on : (state : State) (fault : Option FlowFault) → LooksOn state fault (view_of old) (view_of new) kept → Shows state new → Looks state fault old new
-  looks_on state fault looks shows = record { answer = looks.answer; only = looks.only; stays = λ no. open_kept state (looks.stays no) shows; moments = looks.moments }
+  pub looks_on : (state : State) (fault : Option FlowFault) → LooksOn state fault (view_of old) (view_of new) kept → Shows state new
+      → Looks state fault old new
+  looks_on state fault looks shows = record {
+    answer = looks.answer;
+    only = looks.only;
+    stays =
+        λ no. open_kept state (looks.stays no) shows;
+    moments = looks.moments;
+  }
 
   -- due tiles are cleared
   module _ (tells : TellsAs old new) (is : is_imported old ≡ true) (fresh : is_old old ≡ false) (fault : Option FlowFault) where
@@ -140,9 +169,16 @@ module _ (old new : Handle) (kept : Option Opened) (whole : is_some kept ≡ is_
     }
 
     shows_cleared : (held : Holding) → Shows (imported held) new → Shows (imported (cleared held)) new
-    shows_cleared held shows = record { changes_are = shows.changes_are; imported_is = shows.imported_is; old_is = shows.old_is; style_is = shows.style_is }
+    shows_cleared held shows = record {
+      changes_are = shows.changes_are;
+      imported_is = shows.imported_is;
+      old_is = shows.old_is;
+      style_is =
+          shows.style_is;
+    }
 
-    pub clear_taken : ((held : Holding) → IsOpen (imported held) old → TurnsOn (limits_of old) (imported held) Clear fault (view_of old) (view_of new) kept)
+    pub clear_taken : ((held : Holding) → IsOpen (imported held) old
+        → TurnsOn (limits_of old) (imported held) Clear fault (view_of old) (view_of new) kept)
         → (state : State) → IsOpen state old → Takes state Clear fault old new
     clear_taken turns formatted opened = absurd (told_blank old opened is)
     clear_taken turns (outdated held) opened = absurd (told_old old held opened fresh)
@@ -158,7 +194,8 @@ module _ (old new : Handle) (kept : Option Opened) (whole : is_some kept ≡ is_
 
   -- an old store is migrated
   pub migrate_taken : (fault : Option FlowFault) → is_old old ≡ true
-      → ((held : Holding) → IsOpen (outdated held) old → TurnsOn (limits_of old) (outdated held) Migrate fault (view_of old) (view_of new) kept)
+      → ((held : Holding) → IsOpen (outdated held) old
+      → TurnsOn (limits_of old) (outdated held) Migrate fault (view_of old) (view_of new) kept)
       → changes_of new ≡ changes_of old → is_imported new ≡ is_imported old → style_of new ≡ style_of old
       → (fault ≡ None → is_old new ≡ false) → (fault ≢ None → is_old new ≡ is_old old)
       → (state : State) → IsOpen state old → Takes state Migrate fault old new

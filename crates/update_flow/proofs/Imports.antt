@@ -1,5 +1,6 @@
 -- The first import, as a step of the store.
-use Rattle.std.proofs.Common.{◌≡◌, ◌≢◌, ◌≤◌, ◌<◌, ◌==◌, zero, suc, ℕ, nat_eq, true, false, List, [], Ok, Option, Some, None, IsTrue, refl, ap, ◌∙◌, arith}
+use Rattle.std.proofs.Common.{◌≡◌, ◌≢◌, ◌≤◌, ◌<◌, ◌==◌, zero, suc, ℕ, nat_eq, true, false, List, [], Ok, Option, Some, None, IsTrue, refl}
+use Rattle.std.proofs.Common.{ap, ◌∙◌, arith}
 use Rattle.std.specs.Int.{is_power_of_two}
 use Rattle.std.proofs.lemmas.Bool.Decides.{nat_tests}
 use Rattle.std.proofs.lemmas.Nat.{ones_le_self}
@@ -60,7 +61,8 @@ no_runs = record { each = tt; apart = tt }
 -- the store once its maps are filled, and it has a style
 pub begun_becomes : (style : StyleOf) (bytes : List ℕ) (buckets : ℕ) (entries : List Entry) (rest now : Image) (maps : Maps) → IsBlank rest
     → reading bytes ≡ Ok style → IsTrue (is_power_of_two buckets) → buckets ≤ 65536 → now.root.buckets ≡ buckets
-    → ((n : ℕ) → n < 8 → now.texts n ≡ rest.texts n) → HoldsMaps style.tables now.maps maps → Stands style maps (folded_all finite.empty entries)
+    → ((n : ℕ) → n < 8 → now.texts n ≡ rest.texts n) → HoldsMaps style.tables now.maps maps
+    → Stands style maps (folded_all finite.empty entries)
     → AreIdEntries entries → IsImported (fresh style bytes buckets entries) (begun bytes now)
 begun_becomes style bytes buckets entries rest now maps blank reads power few count texts kept stand ids =
     let root = fresh_root now.root.buckets in
@@ -86,7 +88,8 @@ begun_becomes style bytes buckets entries rest now maps blank reads power few co
       ids = ids_folded entries finite.empty ids_none ids;
       maps = record {
         maps = maps;
-        kept = kept_same style.tables now.maps (begun bytes now).maps maps (λ m. maps_with_root root text m ∙ maps_with_text STYLE_TEXT bytes now m) kept;
+        kept = kept_same style.tables now.maps (begun bytes now).maps maps
+            (λ m. maps_with_root root text m ∙ maps_with_text STYLE_TEXT bytes now m) kept;
         stand = stand;
       };
     }
@@ -102,7 +105,8 @@ module _ (limits : LimitNumbers) (step : Step) where
   allowed_begins store.OutOfMemory allowed = tt
 
   -- an import is refused for the disk or for want of memory alone
-  pub step_begins : (R : StoreFault → Type 0) (U : Type 0) (why : StepFault StoreFault) → Ends R U (λ value. ⊥) why → MayRefuse IsAllowed why
+  pub step_begins : (R : StoreFault → Type 0) (U : Type 0) (why : StepFault StoreFault) → Ends R U (λ value. ⊥) why
+      → MayRefuse IsAllowed why
       → MayAnswer limits formatted step (Some (of_step why))
   step_begins R U (steps.Store fault) ends allowed = allowed_begins fault allowed
   step_begins R U (steps.TooMany value) ends allowed = absurd ends.1
@@ -110,7 +114,8 @@ module _ (limits : LimitNumbers) (step : Step) where
 
 -- a store that was imported is imported no more
 pub import_unasked : (handle : Handle) (style : StyleOf) (bytes : List ℕ) (buckets : ℕ) (entries : List Entry) → is_imported handle ≡ true
-    → is_old handle ≡ false → (state : State) → IsOpen state handle → Takes state (Import style bytes buckets entries) (Some flow.AlreadyImported) handle handle
+    → is_old handle ≡ false → (state : State) → IsOpen state handle
+    → Takes state (Import style bytes buckets entries) (Some flow.AlreadyImported) handle handle
 import_unasked handle style bytes buckets entries is fresh formatted opened = absurd (told_blank handle opened is)
 import_unasked handle style bytes buckets entries is fresh (outdated held) opened = absurd (told_old handle held opened fresh)
 import_unasked handle style bytes buckets entries is fresh (imported held) opened =
@@ -118,12 +123,16 @@ import_unasked handle style bytes buckets entries is fresh (imported held) opene
 
 pub import_old : (handle : Handle) (style : StyleOf) (bytes : List ℕ) (buckets : ℕ) (entries : List Entry) → is_old handle ≡ true
     → (state : State) → IsOpen state handle → Takes state (Import style bytes buckets entries) (Some flow.OldFormat) handle handle
-import_old handle style bytes buckets entries is state opened = step_old handle (Import style bytes buckets entries) (λ held. refl) state is opened
+import_old handle style bytes buckets entries is state opened =
+    step_old handle (Import style bytes buckets entries) (λ held. refl) state is opened
 
 -- an import that was done on the disk was done to the store
-module _ (old new : Handle) (kept : Option Opened) (whole : is_some kept ≡ is_whole new) (keeps : KeptFits kept (view_of new) → new.keeps) where
-  pub import_taken : (style : StyleOf) (bytes : List ℕ) (buckets : ℕ) (entries : List Entry) (fault : Option FlowFault) → is_imported old ≡ false
-      → (IsOpen formatted old → TurnsOn (limits_of old) formatted (Import style bytes buckets entries) fault (view_of old) (view_of new) kept)
+module _ (old new : Handle) (kept : Option Opened) (whole : is_some kept ≡ is_whole new)
+    (keeps : KeptFits kept (view_of new) → new.keeps) where
+  pub import_taken : (style : StyleOf) (bytes : List ℕ) (buckets : ℕ) (entries : List Entry) (fault : Option FlowFault)
+      → is_imported old ≡ false
+      → (IsOpen formatted old → TurnsOn (limits_of old) formatted (Import style bytes buckets entries) fault (view_of old)
+      (view_of new) kept)
       → (fault ≡ None → Shows (imported (fresh style bytes buckets entries)) new) → (fault ≢ None → TellsAs old new)
       → (state : State) → IsOpen state old → Takes state (Import style bytes buckets entries) fault old new
   import_taken style bytes buckets entries fault is turns done tells (imported held) opened = absurd (told_imported old held opened is)

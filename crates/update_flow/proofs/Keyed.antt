@@ -20,7 +20,8 @@ no_object found is some = true≢false (sym (subst (λ (o : Option Object). IsSo
 id_one : (objects : ObjectSet) (entry : Entry) → HasIds objects → IsId entry.key.id → HasIds (folded objects entry)
 id_one objects entry ids own key some =
     elim (eq_by_cmp key_cmp key entry.key) as (λ b. eq_by_cmp key_cmp key entry.key ≡ b → IsId key.id) [
-      | true ↦ λ same. subst (λ (k : KeyOf). IsId k.id) (sym (key_cmp-IsAntisymmetric key entry.key ((Equal-is (key_cmp key entry.key)).0 same))) own
+      | true ↦ λ same. subst (λ (k : KeyOf). IsId k.id)
+          (sym (key_cmp-IsAntisymmetric key entry.key ((Equal-is (key_cmp key entry.key)).0 same))) own
       | false ↦ λ apart.
           ids key (subst (λ (o : Option Object). IsSome o)
           (get-with_object objects entry.key entry.object key ∙ ap (λ (b : Bool). cond b entry.object (finite.get objects key)) apart) some)

@@ -1,5 +1,6 @@
 -- The rows that are read of a store's maps are those of the tables.
-use Rattle.std.proofs.Common.{◌≡◌, ◌≢◌, ◌⊎◌, inl, inr, ◌+◌, ◌*◌, ◌/◌, ◌%◌, ℕ, Bool, true, false, List, [], ◌∷◌, Option, Some, None, refl, sym, ap, subst, ◌∙◌, arith, nat_eq}
+use Rattle.std.proofs.Common.{◌≡◌, ◌≢◌, ◌⊎◌, inl, inr, ◌+◌, ◌*◌, ◌/◌, ◌%◌, ℕ, Bool, true, false, List, [], ◌∷◌, Option, Some, None, refl}
+use Rattle.std.proofs.Common.{sym, ap, subst, ◌∙◌, arith, nat_eq}
 use Rattle.std.specs.Prelude.{if◌then◌else◌}
 use Rattle.std.specs.Option.{IsSome}
 use Rattle.std.specs.FinMap as map
@@ -38,10 +39,12 @@ wanted_row wanted maps spot = if is_wanted wanted spot.table then kept_row maps 
 
 row_in-or : (rows : List TableRow) (table : ℕ) → row_in rows table ≡ row_or rows table None
 row_in-or [] table = refl
-row_in-or (first ∷ rows) table = ap (λ (found : Option Row). if nat_eq first.table table then Some first.row else found) (row_in-or rows table)
+row_in-or (first ∷ rows) table = ap (λ (found : Option Row). if nat_eq first.table table then Some first.row else found)
+    (row_in-or rows table)
 
 -- what bytes say of a map of values
-decoded : {V : Type 0} (spell : V → List ℕ) (Is : V → Type 0) (found : Option (List ℕ)) (value : Option V) (bytes : List ℕ) → found ≡ Some bytes
+decoded : {V : Type 0} (spell : V → List ℕ) (Is : V → Type 0) (found : Option (List ℕ)) (value : Option V) (bytes : List ℕ)
+    → found ≡ Some bytes
     → Decodes spell Is found value → (own : V) × (value ≡ Some own) × Is own × (bytes ≡ spell own)
 decoded spell Is None value bytes is holds = absurd (cc (is))
 decoded spell Is (Some one) None bytes is holds = absurd holds
@@ -62,17 +65,21 @@ some_of : {X : Type 0} (found : Option X) → (found ≡ None → ⊥) → IsSom
 some_of None not = absurd (not refl)
 some_of (Some x) not = refl
 
-rows_id : (style : StyleOf) (maps : Maps) (objects : ObjectSet) → HoldsRows maps (rows_in style objects) → HasIds objects → (kind : Kind) (id : ℕ)
+rows_id : (style : StyleOf) (maps : Maps) (objects : ObjectSet) → HoldsRows maps (rows_in style objects) → HasIds objects
+    → (kind : Kind) (id : ℕ)
     (own : List TableRow) → rows_at maps kind id ≡ Some own → IsId id
 rows_id style maps objects holds ids kind id own is =
     let key : KeyOf = record { kind = kind; id = id } in
     ids key (some_of (map.get objects key) (λ none.
-    absurd (let empty : rows_at maps kind id ≡ None = holds.at kind id ∙ ap (λ (rows : List TableRow). unless_empty rows) (rows_in-none style objects key none) in
+    absurd (let empty : rows_at maps kind id ≡ None =
+    holds.at kind id ∙ ap (λ (rows : List TableRow). unless_empty rows) (rows_in-none style objects key none) in
     cc (is, empty))))
 
 -- bytes under the number of a key tell its rows
-told_at : (definitions : List TableDef) (wanted : Option ℕ) (maps : Maps) (which number : ℕ) (kind : Kind) (id : ℕ) (own : List TableRow) (bytes : List ℕ)
-    → key_of which number ≡ record { kind = kind; id = id } → rows_at maps kind id ≡ Some own → IsId id → AreRows definitions own → bytes ≡ rows_bytes own
+told_at : (definitions : List TableDef) (wanted : Option ℕ) (maps : Maps) (which number : ℕ) (kind : Kind) (id : ℕ) (own : List TableRow)
+    (bytes : List ℕ)
+    → key_of which number ≡ record { kind = kind; id = id } → rows_at maps kind id ≡ Some own → IsId id → AreRows definitions own
+    → bytes ≡ rows_bytes own
     → IsTold definitions wanted which (wanted_row wanted maps) number bytes
 told_at definitions wanted maps which number kind id own bytes is rows good are spelled = record {
   own = own;
@@ -105,27 +112,34 @@ cased false = inr refl
 abbrev other_key : Bool → ℕ → KeyOf
 other_key even half = if even then record { kind = kinds.Way; id = half } else record { kind = kinds.Relation; id = half }
 
-module _ (style : StyleOf) (wanted : Option ℕ) (kept : ℕ → BucketMap) (maps : Maps) (objects : ObjectSet) (holds : HoldsRows maps (rows_in style objects))
+module _ (style : StyleOf) (wanted : Option ℕ) (kept : ℕ → BucketMap) (maps : Maps) (objects : ObjectSet)
+    (holds : HoldsRows maps (rows_in style objects))
     (ids : HasIds objects) where
-  pub nodes_told : HoldsMap rows_bytes (AreRows style.tables) (kept 6) maps.node_rows → AreTold style.tables wanted 6 (wanted_row wanted maps) (kept 6)
+  pub nodes_told : HoldsMap rows_bytes (AreRows style.tables) (kept 6) maps.node_rows
+      → AreTold style.tables wanted 6 (wanted_row wanted maps) (kept 6)
   nodes_told held number bytes is =
-      let found = decoded rows_bytes (AreRows style.tables) (map.get (kept 6) number) (map.get maps.node_rows number) bytes is (held number) in
+      let found = decoded rows_bytes (AreRows style.tables) (map.get (kept 6) number) (map.get maps.node_rows number) bytes is
+      (held number) in
       told_at style.tables wanted maps 6 number kinds.Node number found.0 bytes refl found.1
       (rows_id style maps objects holds ids kinds.Node number found.0 found.1) found.2 found.3
 
-  pub others_told : HoldsMap rows_bytes (AreRows style.tables) (kept 7) maps.other_rows → AreTold style.tables wanted 7 (wanted_row wanted maps) (kept 7)
+  pub others_told : HoldsMap rows_bytes (AreRows style.tables) (kept 7) maps.other_rows
+      → AreTold style.tables wanted 7 (wanted_row wanted maps) (kept 7)
   others_told held number bytes is =
-      let found = decoded rows_bytes (AreRows style.tables) (map.get (kept 7) number) (map.get maps.other_rows number) bytes is (held number) in
+      let found = decoded rows_bytes (AreRows style.tables) (map.get (kept 7) number) (map.get maps.other_rows number) bytes is
+      (held number) in
       elim (cased (nat_eq (number % 2) 0)) [
         | inl even ↦
             let rows : rows_at maps kinds.Way (number / 2) ≡ Some found.0 =
             ap (λ (n : ℕ). map.get maps.other_rows n) (even_half number (even_tells number even)) ∙ found.1 in
-            told_at style.tables wanted maps 7 number kinds.Way (number / 2) found.0 bytes (ap (λ (b : Bool). other_key b (number / 2)) even) rows
+            told_at style.tables wanted maps 7 number kinds.Way (number / 2) found.0 bytes
+            (ap (λ (b : Bool). other_key b (number / 2)) even) rows
             (rows_id style maps objects holds ids kinds.Way (number / 2) found.0 rows) found.2 found.3
         | inr odd ↦
             let rows : rows_at maps kinds.Relation (number / 2) ≡ Some found.0 =
             ap (λ (n : ℕ). map.get maps.other_rows n) (odd_half number (odd_tells number odd)) ∙ found.1 in
-            told_at style.tables wanted maps 7 number kinds.Relation (number / 2) found.0 bytes (ap (λ (b : Bool). other_key b (number / 2)) odd) rows
+            told_at style.tables wanted maps 7 number kinds.Relation (number / 2) found.0 bytes
+            (ap (λ (b : Bool). other_key b (number / 2)) odd) rows
             (rows_id style maps objects holds ids kinds.Relation (number / 2) found.0 rows) found.2 found.3
       ]
 
@@ -162,8 +176,10 @@ relation_spot id table =
     ∙ ap (λ (n : ℕ). spot_of_key table (record { kind = kinds.Relation; id = n })) (halved_one id)
 
 -- a spot is filled where its number has bytes, and elsewhere there is no row
-module _ (rows : RowsBySpot) (definitions : List TableDef) (which : ℕ) (bytes : BucketMap) (values : map.FinMap nat_cmp (List TableRow)) (new : TableMap)
-    (held : HoldsMap rows_bytes (AreRows definitions) bytes values) (fills : Fills which rows (λ n. IsSome (map.get bytes n)) map.empty new) where
+module _ (rows : RowsBySpot) (definitions : List TableDef) (which : ℕ) (bytes : BucketMap) (values : map.FinMap nat_cmp (List TableRow))
+    (new : TableMap)
+    (held : HoldsMap rows_bytes (AreRows definitions) bytes values)
+    (fills : Fills which rows (λ n. IsSome (map.get bytes n)) map.empty new) where
   pub none_within : IsWithin rows map.empty
   none_within spot = inr (map.get-empty _ spot)
 
@@ -173,7 +189,8 @@ module _ (rows : RowsBySpot) (definitions : List TableDef) (which : ℕ) (bytes 
     | None ↦ λ is.
         elim (fills.within none_within spot) [
           | inl same ↦ same
-          | inr gone ↦ gone ∙ sym (none (none_decoded rows_bytes (AreRows definitions) (map.get bytes number) (map.get values number) is (held number)))
+          | inr gone ↦ gone ∙ sym (none (none_decoded rows_bytes (AreRows definitions) (map.get bytes number) (map.get values number) is
+              (held number)))
         ]
     | Some own ↦ λ is.
         subst (λ (s : SpotOf). map.get new s ≡ rows s) at
@@ -188,8 +205,10 @@ unwanted : (b : Bool) (found : Option Row) → found ≡ None → (if b then fou
 unwanted true found none = none
 unwanted false found none = refl
 
-module _ (style : StyleOf) (wanted : Option ℕ) (kept : ℕ → BucketMap) (maps : Maps) (objects : ObjectSet) (new : TableMap) (holds : HoldsRows maps (rows_in style objects))
-    (nodes : HoldsMap rows_bytes (AreRows style.tables) (kept 6) maps.node_rows) (others : HoldsMap rows_bytes (AreRows style.tables) (kept 7) maps.other_rows)
+module _ (style : StyleOf) (wanted : Option ℕ) (kept : ℕ → BucketMap) (maps : Maps) (objects : ObjectSet) (new : TableMap)
+    (holds : HoldsRows maps (rows_in style objects))
+    (nodes : HoldsMap rows_bytes (AreRows style.tables) (kept 6) maps.node_rows)
+    (others : HoldsMap rows_bytes (AreRows style.tables) (kept 7) maps.other_rows)
     (first : Fills 6 (wanted_row wanted maps) (λ n. IsSome (map.get (kept 6) n)) map.empty new)
     (second : Fills 7 (wanted_row wanted maps) (λ n. IsSome (map.get (kept 7) n)) map.empty new) where
   none_here : (table : ℕ) (found : Option Row) → found ≡ None → (if is_wanted wanted table then found else None) ≡ None
@@ -198,16 +217,20 @@ module _ (style : StyleOf) (wanted : Option ℕ) (kept : ℕ → BucketMap) (map
   loaded_at : (table : ℕ) (kind : Kind) (id : ℕ) → map.get new (record { table = table; key = record { kind = kind; id = id } })
       ≡ wanted_row wanted maps (record { table = table; key = record { kind = kind; id = id } })
   loaded_at table kinds.Node id =
-      filled_at (wanted_row wanted maps) style.tables 6 (kept 6) maps.node_rows new nodes first id (record { table = table; key = record { kind = kinds.Node; id = id } })
-      refl (λ none. none_here table (row_in (kept_rows (map.get maps.node_rows id)) table) (row_none (map.get maps.node_rows id) table none))
+      filled_at (wanted_row wanted maps) style.tables 6 (kept 6) maps.node_rows new nodes first id
+      (record { table = table; key = record { kind = kinds.Node; id = id } })
+      refl (λ none. none_here table (row_in (kept_rows (map.get maps.node_rows id)) table)
+      (row_none (map.get maps.node_rows id) table none))
   loaded_at table kinds.Way id =
       filled_at (wanted_row wanted maps) style.tables 7 (kept 7) maps.other_rows new others second (2 * id)
       (record { table = table; key = record { kind = kinds.Way; id = id } }) (way_spot id table)
-      (λ none. none_here table (row_in (kept_rows (map.get maps.other_rows (2 * id))) table) (row_none (map.get maps.other_rows (2 * id)) table none))
+      (λ none. none_here table (row_in (kept_rows (map.get maps.other_rows (2 * id))) table)
+      (row_none (map.get maps.other_rows (2 * id)) table none))
   loaded_at table kinds.Relation id =
       filled_at (wanted_row wanted maps) style.tables 7 (kept 7) maps.other_rows new others second (2 * id + 1)
       (record { table = table; key = record { kind = kinds.Relation; id = id } }) (relation_spot id table)
-      (λ none. none_here table (row_in (kept_rows (map.get maps.other_rows (2 * id + 1))) table) (row_none (map.get maps.other_rows (2 * id + 1)) table none))
+      (λ none. none_here table (row_in (kept_rows (map.get maps.other_rows (2 * id + 1))) table)
+      (row_none (map.get maps.other_rows (2 * id + 1)) table none))
 
   pub all_loaded : new ≡ wanted_of wanted (tables style objects)
   all_loaded =

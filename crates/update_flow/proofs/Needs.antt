@@ -26,7 +26,8 @@ use Rattle.update_flow.specs.declared.fault.FlowFault.{FlowFault}
 use Rattle.update_flow.specs.declared.fault.FlowFault.TheVariants as flow
 
 -- what is needed, told otherwise
-pub fits_as : (limits : LimitNumbers) (P Q : ℕ → Type 0) (fault : Option FlowFault) → ((many : ℕ) → P many → Q many) → FitsLimit limits P fault → FitsLimit limits Q fault
+pub fits_as : (limits : LimitNumbers) (P Q : ℕ → Type 0) (fault : Option FlowFault) → ((many : ℕ) → P many → Q many)
+    → FitsLimit limits P fault → FitsLimit limits Q fault
 fits_as limits P Q None turn fits = (fits.0, turn fits.0 fits.1, fits.2)
 fits_as limits P Q (Some (flow.Store store.NotFormatted)) turn fits = tt
 fits_as limits P Q (Some (flow.Store store.NotEmpty)) turn fits = tt
@@ -86,7 +87,8 @@ commit_fits limits before most now image store.Broken same fits = tt
 commit_fits limits before most now image store.OutOfMemory same fits = tt
 
 -- what a store on a disk needs a store of its state needs
-pub needs_from : (limits : LimitNumbers) (first : Option (List ℕ)) (state next : State) (disk : DiskView) (many : ℕ) → IsAt state disk → HasStood limits first disk
+pub needs_from : (limits : LimitNumbers) (first : Option (List ℕ)) (state next : State) (disk : DiskView) (many : ℕ) → IsAt state disk
+    → HasStood limits first disk
     → NeedsOn disk next many → NeedsFrom limits first state next many
 needs_from limits first state next disk many at stood on =
     let home : Home on.pages at.bytes =
@@ -123,11 +125,13 @@ stood_grown limits first one other old new was is grown = λ bytes told pages ho
     )).1
 
 -- behind the opening they are those that were told first
-pub stood_opened : (limits : LimitNumbers) (first : Option (List ℕ)) (disk : DiskView) → ((bytes : List ℕ) → first ≡ Some bytes → (gate bytes ≡ OPEN → ⊥) → disk.content ≡ first)
+pub stood_opened : (limits : LimitNumbers) (first : Option (List ℕ)) (disk : DiskView)
+    → ((bytes : List ℕ) → first ≡ Some bytes → (gate bytes ≡ OPEN → ⊥) → disk.content ≡ first)
     → HasStood limits first disk
 stood_opened limits first disk same = λ bytes told pages home.
     inr (λ own was shut. subst (λ (b : List ℕ). Home pages b) (same_Some bytes own (sym told ∙ same own was shut ∙ was)) home)
 
 -- a look changes none
-pub stood_stays : (limits : LimitNumbers) (first : Option (List ℕ)) (old new : DiskView) → Stays old new → HasStood limits first old → HasStood limits first new
+pub stood_stays : (limits : LimitNumbers) (first : Option (List ℕ)) (old new : DiskView) → Stays old new → HasStood limits first old
+    → HasStood limits first new
 stood_stays limits first old new stays stood = λ bytes told pages home. stood bytes (sym stays.content ∙ told) pages home

@@ -14,7 +14,8 @@ use Rattle.update_flow.specs.Within.{wanted_of}
 turned : (a b : ℕ) → nat_eq a b ≡ nat_eq b a
 turned a b = grind (arith, nat_tests)
 
-only_get : (table : ℕ) (all : TableMap) (spot : SpotOf) → map.get (only_table table all) spot ≡ (if nat_eq spot.table table then map.get all spot else None)
+only_get : (table : ℕ) (all : TableMap) (spot : SpotOf)
+    → map.get (only_table table all) spot ≡ (if nat_eq spot.table table then map.get all spot else None)
 only_get table all spot =
     map.get-from_entries spot_cmp_total _ spot
     ∙ find-where_key spot_cmp (λ (s : SpotOf). nat_eq s.table table) spot
@@ -22,7 +23,8 @@ only_get table all spot =
     ∙ ap (λ (found : Option Row). if nat_eq spot.table table then found else None) (sym (map.get-entries all spot))
 
 -- of the tables that are wanted stand the rows that all have there
-pub wanted_get : (wanted : Option ℕ) (all : TableMap) (spot : SpotOf) → map.get (wanted_of wanted all) spot ≡ (if is_wanted wanted spot.table then map.get all spot else None)
+pub wanted_get : (wanted : Option ℕ) (all : TableMap) (spot : SpotOf)
+    → map.get (wanted_of wanted all) spot ≡ (if is_wanted wanted spot.table then map.get all spot else None)
 wanted_get None all spot = refl
 wanted_get (Some table) all spot =
     only_get table all spot ∙ ap (λ (here : Bool). if here then map.get all spot else None) (turned spot.table table)

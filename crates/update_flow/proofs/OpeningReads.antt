@@ -42,17 +42,20 @@ module _ {D : Type 0} {g : Ghosts D} (old new : Buckets D g) (rest now : Image) 
   -- the style is read within a transaction
   pub text_read : MayRead (4096 * home_count (journal_of (chains_of old))) STYLE_TEXT (read_of (chains_of old)) (read_of (chains_of new))
       (disk_of (chains_of old)) (disk_of (chains_of new)) → OnlyRead (chains_of old) (chains_of new)
-      → ((pages : List (List ℕ)) → IsOpenStore pages old → IsOpenStore pages new) → ReadsStyle (disk_of (chains_of old)) (disk_of (chains_of new))
+      → ((pages : List (List ℕ)) → IsOpenStore pages old → IsOpenStore pages new)
+      → ReadsStyle (disk_of (chains_of old)) (disk_of (chains_of new))
   text_read (inl same) stays opens =
       let open_chains = has.opens.open_chains in
-      let own = kept_holds has.pages (kept_of (chains_of old)) rest.root has.strings open_chains.keeps has.state STYLE_TEXT (inl (omega arith)) (omega arith) in
+      let own = kept_holds has.pages (kept_of (chains_of old)) rest.root has.strings open_chains.keeps has.state STYLE_TEXT
+      (inl (omega arith)) (omega arith) in
       record {
         pages = has.pages;
         rests = open_chains.rests.0;
         style = own.ns;
         has = subst (λ (first : ℕ). HasPages (page_in has.pages) (length has.pages + 1) STYLE_TEXT first own.ns)
             (kept_style has.pages (kept_of (chains_of old)) open_chains.keeps.front) own.has;
-        count = reads_more 0 (length own.ns) (4096 * home_count (journal_of (chains_of old))) (4096 * (length has.pages + 1)) (disk_of (chains_of old)).reads
+        count = reads_more 0 (length own.ns) (4096 * home_count (journal_of (chains_of old))) (4096 * (length has.pages + 1))
+            (disk_of (chains_of old)).reads
             (disk_of (chains_of new)).reads (omega arith) (omega (arith, open_chains.rests.1)) same.1;
       }
   text_read (inr (none, chain)) stays opens =
@@ -64,15 +67,18 @@ module _ {D : Type 0} {g : Ghosts D} (old new : Buckets D g) (rest now : Image) 
         rests = open_chains.rests.0;
         style = chain.0;
         has = subst (λ (first : ℕ). HasPages (page_in has.pages) (length has.pages + 1) STYLE_TEXT first chain.0)
-            (ap (λ (kept : Kept). kept_first kept STYLE_TEXT) stays.kept ∙ kept_style has.pages (kept_of (chains_of old)) open_chains.keeps.front) known;
-        count = reads_more (length chain.0) (length chain.0) (4096 * home_count (journal_of (chains_of old))) (4096 * (length has.pages + 1))
+            (ap (λ (kept : Kept). kept_first kept STYLE_TEXT) stays.kept
+            ∙ kept_style has.pages (kept_of (chains_of old)) open_chains.keeps.front) known;
+        count = reads_more (length chain.0) (length chain.0) (4096 * home_count (journal_of (chains_of old)))
+            (4096 * (length has.pages + 1))
             (disk_of (chains_of old)).reads (disk_of (chains_of new)).reads (omega arith) (omega (arith, open_chains.rests.1)) chain.2;
       }
 
 module _ {D : Type 0} {g : Ghosts D} where
   -- from a disk that buckets took to the one that they gave back
   pub style_over : (old new : Buckets D g) (first last : D) → disk_under (journal_of (chains_of old)) ≡ first
-      → last ≡ disk_under (journal_of (chains_of new)) → ReadsStyle (disk_of (chains_of old)) (disk_of (chains_of new)) → ReadsStyle (g.view first) (g.view last)
+      → last ≡ disk_under (journal_of (chains_of new)) → ReadsStyle (disk_of (chains_of old)) (disk_of (chains_of new))
+      → ReadsStyle (g.view first) (g.view last)
   style_over old new first last taken given reads =
       subst (λ (d : D). ReadsStyle (g.view first) (g.view d)) (sym given)
       (subst (λ (d : D). ReadsStyle (g.view d) (g.view (disk_under (journal_of (chains_of new))))) taken reads)
@@ -94,7 +100,8 @@ style_unread state view holds =
 
 -- the first pages and the directories, and then the style
 pub opens_then : (bytes : List ℕ) (old mid new : DiskView) (found : Opened) → old.content ≡ Some bytes → Stays old mid
-    → (fits : Fits found mid) → ReadsAtMost (2 + directory_pages found) (length bytes) old mid → ReadsStyle mid new → ReadsToOpen bytes old new
+    → (fits : Fits found mid) → ReadsAtMost (2 + directory_pages found) (length bytes) old mid → ReadsStyle mid new
+    → ReadsToOpen bytes old new
 opens_then bytes old mid new found told stays fits first second =
     let here = fits.rests in
     let there = second.rests in
@@ -112,8 +119,10 @@ opens_then bytes old mid new found told stays fits first second =
       are = λ m below. subst (λ (front : List ℕ). HasPages (page_in fits.pages) (length fits.pages + 1) (8 + m) (directory_first front m)
           (pages_at found.kept.directories.items m)) fits.keeps.front (fits.keeps.has m below);
       style = second.style;
-      has = subst (λ (pages : List (List ℕ)). HasPages (page_in pages) (length pages + 1) STYLE_TEXT (text_first (page_in pages 1) STYLE_TEXT) second.style) one second.has;
+      has = subst (λ (pages : List (List ℕ)). HasPages (page_in pages) (length pages + 1) STYLE_TEXT
+          (text_first (page_in pages 1) STYLE_TEXT) second.style) one second.has;
       count = reads_then (2 + total) (length second.style) (length bytes) old.reads mid.reads new.reads first
-          (reads_more (length second.style) (length second.style) (4096 * (length second.pages + 1)) (length bytes) mid.reads new.reads (omega arith) other.holds
+          (reads_more (length second.style) (length second.style) (4096 * (length second.pages + 1)) (length bytes) mid.reads new.reads
+          (omega arith) other.holds
           second.count);
     }

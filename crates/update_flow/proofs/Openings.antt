@@ -1,5 +1,6 @@
 -- A store of a state is found where it is opened.
-use Rattle.std.proofs.Common.{◌≡◌, ◌⊎◌, ◌≤◌, ◌==◌, ◌&&◌, not, inl, inr, ℕ, Bool, true, false, List, Option, Some, None, Result, Ok, Err, refl, sym, ap, subst, ◌∙◌, arith, nat_le}
+use Rattle.std.proofs.Common.{◌≡◌, ◌⊎◌, ◌≤◌, ◌==◌, ◌&&◌, not, inl, inr, ℕ, Bool, true, false, List, Option, Some, None, Result, Ok, Err}
+use Rattle.std.proofs.Common.{refl, sym, ap, subst, ◌∙◌, arith, nat_le}
 use Rattle.std.proofs.lemmas.Bool.Decides.{nat_tests}
 use Rattle.std.proofs.lemmas.Option.{same_Some}
 use Rattle.std.specs.Prelude.{IfOk, IsErrOf, is_some}
@@ -66,7 +67,12 @@ holds_stays image old new stays holds = record {
 }
 
 pub state_stays : (state : State) (old new : DiskView) → Stays old new → HoldsState state old → HoldsState state new
-state_stays state old new stays holds = record { image = holds.image; holds = holds_stays holds.image old new stays holds.holds; means = holds.means }
+state_stays state old new stays holds = record {
+  image = holds.image;
+  holds = holds_stays holds.image old new stays holds.holds;
+  means =
+      holds.means;
+}
 
 pub fits_stays : (opened : Opened) (old new : DiskView) → Stays old new → Fits opened old → Fits opened new
 fits_stays opened old new stays fits = record {
@@ -92,12 +98,14 @@ blank_root image blank = ap (λ (r : Root). is_blank r) blank.root
 pub imported_root : (held : Holding) (image : Image) → IsImported held image → is_imported image.root ≡ true
 imported_root held image is =
     ap (λ (r : Root). is_imported r) is.root
-    ∙ two_not (held.buckets == 0) (nat_le held.changes LAST_CHANGE) (some_count held.buckets is.some) (low_count held.changes LAST_CHANGE is.counted)
+    ∙ two_not (held.buckets == 0) (nat_le held.changes LAST_CHANGE) (some_count held.buckets is.some)
+    (low_count held.changes LAST_CHANGE is.counted)
 
 pub old_root : (held : Holding) (image : Image) → IsOld held image → is_old image.root ≡ true
 old_root held image is =
     ap (λ (r : Root). is_old r) is.root
-    ∙ two_not (held.buckets == 0) (nat_le held.changes LAST_CHANGE) (some_count held.buckets is.some) (low_count held.changes LAST_CHANGE is.counted)
+    ∙ two_not (held.buckets == 0) (nat_le held.changes LAST_CHANGE) (some_count held.buckets is.some)
+    (low_count held.changes LAST_CHANGE is.counted)
 
 -- whether they are those of an old store
 pub tells_old : (state : State) (image : Image) → Means state image → is_old image.root ≡ was_old state
@@ -110,7 +118,8 @@ tells_count formatted image blank = ap (λ (r : Root). r.changes) blank.root
 tells_count (imported held) image is = ap (λ (r : Root). r.changes) is.root
 tells_count (outdated held) image is = ap (λ (r : Root). r.changes) is.root
 
-pub root_of : (state : State) (view : DiskView) (opened : Opened) → Fits opened view → (holds : HoldsState state view) → opened_root opened ≡ holds.image.root
+pub root_of : (state : State) (view : DiskView) (opened : Opened) → Fits opened view → (holds : HoldsState state view)
+    → opened_root opened ≡ holds.image.root
 root_of state view opened fits holds = root_found holds.image view opened fits holds.holds
 
 -- each outcome on the way is a store of one of two states
@@ -129,8 +138,10 @@ meant_either one other crashes within left meant = elim (within meant.one meant.
   | inr stands ↦ inr (stands.0, stands.1, meant.means stands.0 stands.2)
 ]
 
-pub goes_either : (one other : State) (old new : Crashes) → Within (IsOfEither one other) old → Goes (MeansOne old) old new → Goes (IsOfEither one other) old new
-goes_either one other old new within goes = goes_weaker (MeansOne old) (IsOfEither one other) old new goes (meant_either one other old within)
+pub goes_either : (one other : State) (old new : Crashes) → Within (IsOfEither one other) old → Goes (MeansOne old) old new
+    → Goes (IsOfEither one other) old new
+goes_either one other old new within goes =
+    goes_weaker (MeansOne old) (IsOfEither one other) old new goes (meant_either one other old within)
 
 -- refusals
 pub sound_breaks : (fault : FlowFault) (P : Type 0) → IsSound (Some fault) → OrBreaks (Some fault) P
@@ -171,13 +182,15 @@ sound_answer None sound = refl
 sound_answer (Some fault) sound = sound_breaks fault (Some fault ≡ None) sound
 
 -- what is told to be bad has the form of a store
-any_formed : (bytes : List ℕ) (page : ℕ) (R : List (List ℕ) → Type 0) → (JournalRefused bytes page ⊎ HomeRefused bytes page) ⊎ ((pages : List (List ℕ)) × Home pages bytes × R pages)
+any_formed : (bytes : List ℕ) (page : ℕ) (R : List (List ℕ) → Type 0)
+    → (JournalRefused bytes page ⊎ HomeRefused bytes page) ⊎ ((pages : List (List ℕ)) × Home pages bytes × R pages)
     → IsFormatted bytes
 any_formed bytes page R (inl (inl refused)) = refused.formatted
 any_formed bytes page R (inl (inr refused)) = refused.finish.formatted
 any_formed bytes page R (inr found) = found.1.formatted
 
-pub bad_formed : (T : Type 0) (bytes : List ℕ) (page : ℕ) (fault : StoreFault) → of_store fault ≡ flow.Store (store.BadStore page) → OpensStore {T = T} bytes (Err fault)
+pub bad_formed : (T : Type 0) (bytes : List ℕ) (page : ℕ) (fault : StoreFault) → of_store fault ≡ flow.Store (store.BadStore page)
+    → OpensStore {T = T} bytes (Err fault)
     → IsFormatted bytes
 bad_formed T bytes page store.NotFormatted is answers = absurd (cc (is))
 bad_formed T bytes page store.NotEmpty is answers = absurd (cc (is))
@@ -188,7 +201,8 @@ bad_formed T bytes page store.Broken is answers = absurd (cc (is))
 bad_formed T bytes page store.OutOfMemory is answers = absurd (cc (is))
 
 -- and whatever it holds, a store is opened or found bad, or the disk fails or memory runs out
-pub reads_alone : (T : Type 0) (broken : Bool) (fault : StoreFault) → broken ≡ false → IsReadAnswer {T = T} broken (Err fault) → MayFind (of_store fault)
+pub reads_alone : (T : Type 0) (broken : Bool) (fault : StoreFault) → broken ≡ false → IsReadAnswer {T = T} broken (Err fault)
+    → MayFind (of_store fault)
 reads_alone T broken store.NotFormatted whole alone = absurd alone
 reads_alone T broken store.NotEmpty whole alone = absurd alone
 reads_alone T broken (store.BadStore page) whole alone = tt
@@ -206,8 +220,10 @@ opens_as state mid new fault holds stays sound = record {
 }
 
 -- the same of one of two states
-pub opens_either : (one other : State) (old mid new : DiskView) (fault : Option FlowFault) → HoldsState one mid ⊎ HoldsState other mid → Stays mid new
-    → (((state : State) → HoldsState state mid → IsSound fault)) → Goes (IsOfEither one other) old.crashes mid.crashes → Opens one other fault old new
+pub opens_either : (one other : State) (old mid new : DiskView) (fault : Option FlowFault) → HoldsState one mid ⊎ HoldsState other mid
+    → Stays mid new
+    → (((state : State) → HoldsState state mid → IsSound fault)) → Goes (IsOfEither one other) old.crashes mid.crashes
+    → Opens one other fault old new
 opens_either one other old mid new fault (inl holds) stays sound goes = record {
   answer = sound_answer fault (sound one holds);
   found = λ none. inl (at_state one new (state_stays one mid new stays holds));
@@ -233,7 +249,8 @@ quiet_fault T store.OutOfMemory quiet = refl
 pub none_blank : (view : DiskView) (opened : Opened) (root : Root) → root ≡ opened_root opened → is_blank root ≡ false → Fits opened view
     → HoldsState formatted view → ⊥
 none_blank view opened root same blank fits holds =
-    let here : is_blank root ≡ is_blank holds.image.root = ap (λ (r : Root). is_blank r) (same ∙ root_of formatted view opened fits holds) in
+    let here : is_blank root ≡ is_blank holds.image.root =
+    ap (λ (r : Root). is_blank r) (same ∙ root_of formatted view opened fits holds) in
     let is : is_blank holds.image.root ≡ true = blank_root holds.image holds.means in
     absurd (cc (here, is, blank))
 
@@ -242,11 +259,13 @@ pub is_one : (state : State) (view : DiskView) (opened : Opened) (root : Root) �
     → is_old root ≡ false → is_imported root ≡ false → Fits opened view → HoldsState state view → ⊥
 is_one formatted view opened root same blank old other fits holds = none_blank view opened root same blank fits holds
 is_one (imported held) view opened root same blank old other fits holds =
-    let here : is_imported root ≡ is_imported holds.image.root = ap (λ (r : Root). is_imported r) (same ∙ root_of (imported held) view opened fits holds) in
+    let here : is_imported root ≡ is_imported holds.image.root =
+    ap (λ (r : Root). is_imported r) (same ∙ root_of (imported held) view opened fits holds) in
     let is : is_imported holds.image.root ≡ true = imported_root held holds.image holds.means in
     absurd (cc (here, is, other))
 is_one (outdated held) view opened root same blank old other fits holds =
-    let here : is_old root ≡ is_old holds.image.root = ap (λ (r : Root). is_old r) (same ∙ root_of (outdated held) view opened fits holds) in
+    let here : is_old root ≡ is_old holds.image.root =
+    ap (λ (r : Root). is_old r) (same ∙ root_of (outdated held) view opened fits holds) in
     let is : is_old holds.image.root ≡ true = old_root held holds.image holds.means in
     absurd (cc (here, is, old))
 
@@ -258,7 +277,8 @@ begun_state (imported held) view opened root same blank fits holds = refl
 begun_state (outdated held) view opened root same blank fits holds = refl
 
 -- what was found of an imported store is what was found of a store
-pub found_of : (root : Root) (view new : DiskView) (found : Opened) (dated : Bool) (result : Result Judged FlowFault) → root ≡ opened_root found
+pub found_of : (root : Root) (view new : DiskView) (found : Opened) (dated : Bool) (result : Result Judged FlowFault)
+    → root ≡ opened_root found
     → is_blank root ≡ false → dated ≡ is_old root → IfOk result (λ opened. opened.changes ≡ root.changes)
     → IfOk result (λ opened. opened.outdated ≡ dated)
     → IfOk result (λ opened. Fits found view → (state : State) → HoldsState state view → was_imported state ≡ true
@@ -285,7 +305,8 @@ sound_of root view found dated fault same blank is sound fits state holds =
     sound fits state holds (begun_state state view found root same blank fits holds) (sym old)
 
 -- the fields that were read are those of the root page of the bytes as they were
-pub root_told : (found : Opened) (bytes : List ℕ) (pages : List (List ℕ)) (old mid : DiskView) → old.content ≡ Some bytes → Stays old mid → Fits found mid → Home pages bytes
+pub root_told : (found : Opened) (bytes : List ℕ) (pages : List (List ℕ)) (old mid : DiskView) → old.content ≡ Some bytes → Stays old mid
+    → Fits found mid → Home pages bytes
     → opened_root found ≡ root_in (page_in pages 1)
 root_told found bytes pages old mid told stays fits home =
     let same : fits.rests.0 ≡ bytes = same_Some fits.rests.0 bytes (sym fits.rests.1.told ∙ stays.content ∙ told) in
@@ -300,8 +321,10 @@ kind_of None dated root some old new = absurd (cc (some))
 kind_of (Some style) false root some old new = new refl
 kind_of (Some style) true root some old new = old refl
 
-pub fields_of : (root stored : Root) (dated : Bool) (result : Result Judged FlowFault) → root ≡ stored → (dated ≡ true → is_old root ≡ true) → (dated ≡ false → is_imported root ≡ true)
-    → IfOk result (λ opened. opened.changes ≡ root.changes) → IfOk result (λ opened. opened.outdated ≡ dated) → IfOk result (λ opened. is_some opened.style ≡ true)
+pub fields_of : (root stored : Root) (dated : Bool) (result : Result Judged FlowFault) → root ≡ stored → (dated ≡ true → is_old root ≡ true)
+    → (dated ≡ false → is_imported root ≡ true)
+    → IfOk result (λ opened. opened.changes ≡ root.changes) → IfOk result (λ opened. opened.outdated ≡ dated)
+    → IfOk result (λ opened. is_some opened.style ≡ true)
     → IfOk result (λ opened. AreFieldsOf opened.style opened.outdated opened.changes stored)
 fields_of root stored dated (Err fault) same old new count is some = tt
 fields_of root stored dated (Ok opened) same old new count is some = record {
@@ -311,7 +334,8 @@ fields_of root stored dated (Ok opened) same old new count is some = record {
 }
 
 -- a disk that was only looked at held what it holds
-pub state_before : (state : State) (mid new : DiskView) (found : Opened) → Fits found mid → Stays mid new → IsAt state new → HoldsState state mid
+pub state_before : (state : State) (mid new : DiskView) (found : Opened) → Fits found mid → Stays mid new → IsAt state new
+    → HoldsState state mid
 unfolding StandsFor
 state_before state mid new found fits stays at =
     let here : at.bytes ≡ fits.rests.0 = same_Some at.bytes fits.rests.0 (sym at.told ∙ stays.content ∙ fits.rests.1.told) in
@@ -353,7 +377,8 @@ old_unreached (outdated held) image style is old read =
     ap (λ (s : StyleOf). reaches_nodes s) same ∙ is.maps.unreached
 
 -- no answer of a store that means a state is that it is bad
-pub bad_none : (T : Type 0) (result : Result T FlowFault) (page : ℕ) → IsErrOf result (flow.Store (store.BadStore page)) → IsSound (result_err result) → ⊥
+pub bad_none : (T : Type 0) (result : Result T FlowFault) (page : ℕ) → IsErrOf result (flow.Store (store.BadStore page))
+    → IsSound (result_err result) → ⊥
 bad_none T result page is sound = subst (λ (r : Result T FlowFault). IsSound (result_err r)) is sound
 
 -- a style tells that there was an import

@@ -48,20 +48,23 @@ module _ {D : Type 0} {g : Ghosts D} where
       one_home pages others one.0.0 one.0.1.home
       (subst (Home others) (sym (told_one (view_of journal).content one.0.0 other.0.0 one.0.1.told other.0.1.told)) other.0.1.home)
 
-  pub commit_reads : (rest now : Image) (old new : Buckets D g) → Has rest now old → ReadsFree (journal_of (chains_of old)) (kept_of (chains_of old)) (journal_of (chains_of new))
+  pub commit_reads : (rest now : Image) (old new : Buckets D g) → Has rest now old
+      → ReadsFree (journal_of (chains_of old)) (kept_of (chains_of old)) (journal_of (chains_of new))
       → ReadsToCommit (λ n. ⊥) old new
   commit_reads rest now old new has reads = record {
     read = read_of (chains_of old);
     each = λ n some. inl some;
     are = λ pages rests n ns is.
-        subst (λ (l : List (List ℕ)). HasChain l (kept_of (chains_of old)) n ns) (one_rest has.pages pages (journal_of (chains_of old)) has.opens.open_chains.rests rests)
+        subst (λ (l : List (List ℕ)). HasChain l (kept_of (chains_of old)) n ns)
+        (one_rest has.pages pages (journal_of (chains_of old)) has.opens.open_chains.rests rests)
         (has.opens.open_chains.known n ns is);
     free = reads.0;
     is_free = reads.1;
     count = λ first told. let now = reads.2 first told in (now.0, now.1, omega (arith, now.2));
   }
 
-  abbrev pub wider_commit : (P Q : ℕ → Type 0) (old new : Buckets D g) → ((n : ℕ) → P n → Q n) → ReadsToCommit P old new → ReadsToCommit Q old new
+  abbrev pub wider_commit : (P Q : ℕ → Type 0) (old new : Buckets D g) → ((n : ℕ) → P n → Q n) → ReadsToCommit P old new
+      → ReadsToCommit Q old new
   wider_commit P Q old new wider reads = record {
     read = reads.read;
     each = λ n some. elim (reads.each n some) [ inl before ↦ inl before | inr is ↦ inr (wider n is) ];
@@ -72,7 +75,8 @@ module _ {D : Type 0} {g : Ghosts D} where
   }
 
   -- with what was read before it
-  abbrev pub reads_before : (P : ℕ → Type 0) (old mid new : Buckets D g) → OnlyLooks old mid → ReadsOnly P (chains_of old) (chains_of mid) → ReadsToCommit P mid new → ReadsToCommit P old new
+  abbrev pub reads_before : (P : ℕ → Type 0) (old mid new : Buckets D g) → OnlyLooks old mid → ReadsOnly P (chains_of old) (chains_of mid)
+      → ReadsToCommit P mid new → ReadsToCommit P old new
   reads_before P old mid new looks reads later = record {
     read = later.read;
     each = λ n some. elim (later.each n some) [ inl between ↦ reads.each n between | inr is ↦ inr is ];
@@ -90,7 +94,8 @@ module _ {D : Type 0} {g : Ghosts D} where
   }
 
   -- a call that reads nothing
-  pub reads_root : (P : ℕ → Type 0) (old new : Buckets D g) → journal_of (chains_of new) ≡ journal_of (chains_of old) → read_of (chains_of new) ≡ read_of (chains_of old)
+  pub reads_root : (P : ℕ → Type 0) (old new : Buckets D g) → journal_of (chains_of new) ≡ journal_of (chains_of old)
+      → read_of (chains_of new) ≡ read_of (chains_of old)
       → ReadsOnly P (chains_of old) (chains_of new)
   reads_root P old new journal read = record {
     within = λ first told. (first, ap (λ (j : Journal D g). (view_of j).reads) journal ∙ told, omega (arith, ap pages_read read));
@@ -98,7 +103,8 @@ module _ {D : Type 0} {g : Ghosts D} where
   }
 
   -- the due tiles are read, then what the change touches, and then all is committed
-  module _ (may : May) (old mid last new : Buckets D g) (unread_yet : read_of (chains_of old) ≡ map.empty) (loads : ReadsOnly (λ n. n ≡ DUE_TEXT) (chains_of old) (chains_of mid)) where
+  module _ (may : May) (old mid last new : Buckets D g) (unread_yet : read_of (chains_of old) ≡ map.empty)
+      (loads : ReadsOnly (λ n. n ≡ DUE_TEXT) (chains_of old) (chains_of mid)) where
     pub none_loaded : HasReadOnly may mid
     none_loaded = record {
       each = λ goes n from some. elim (loads.each n some) [
@@ -113,11 +119,14 @@ module _ {D : Type 0} {g : Ghosts D} where
     pub change_reads : OnlyLooks old mid → OnlyLooks mid last → ReadsBuckets mid last → HasReadOnly may last → has_refused last ≡ false
         → bucket_count (chains_of last) ≡ bucket_count (chains_of old) → ReadsToCommit (λ n. n ≡ DUE_TEXT) last new
         → (pages : List (List ℕ)) → RestsWith pages (journal_of (chains_of old))
-        → ReadsOnce (MayLoad may (bucket_count (chains_of old))) pages (kept_of (chains_of old)) (view_of (journal_of (chains_of old))) (view_of (journal_of (chains_of new)))
+        → ReadsOnce (MayLoad may (bucket_count (chains_of old))) pages (kept_of (chains_of old)) (view_of (journal_of (chains_of old)))
+        (view_of (journal_of (chains_of new)))
     change_reads first second buckets only going same ends pages rests =
         let P : ℕ → Type 0 = λ n. (n ≡ DUE_TEXT) ⊎ (16 ≤ n) in
-        let all : ReadsToCommit P old new = reads_before P old mid new first (reads_wider (λ n. n ≡ DUE_TEXT) P (chains_of old) (chains_of mid) (λ n is. inl is) loads)
-        (reads_before P mid last new second (reads_wider (λ n. 16 ≤ n) P (chains_of mid) (chains_of last) (λ n is. inr is) buckets) (wider_commit (λ n. n ≡ DUE_TEXT) P last new (λ n is. inl is) ends)) in
+        let all : ReadsToCommit P old new = reads_before P old mid new first
+        (reads_wider (λ n. n ≡ DUE_TEXT) P (chains_of old) (chains_of mid) (λ n is. inl is) loads)
+        (reads_before P mid last new second (reads_wider (λ n. 16 ≤ n) P (chains_of mid) (chains_of last) (λ n is. inr is) buckets)
+        (wider_commit (λ n. n ≡ DUE_TEXT) P last new (λ n is. inl is) ends)) in
         record {
           read = ends.read;
           each = λ n some. elim (ends.each n some) [

@@ -32,7 +32,8 @@ module _ {D : Type 0} {g : Ghosts D} (old new : Buckets D g) (looks : OnlyLooks 
       → Runs old new (Some (flow.Store (store.BadStore page)))
   runs_unread page broken = record { looks = looks; alone = tt; whole = λ no. still_whole broken; failed = λ is. absurd (cc) }
 
-  pub runs_short : is_broken (journal_of (chains_of new)) ≡ (is_broken (journal_of (chains_of old)) || false) → Runs old new (Some flow.OutOfMemory)
+  pub runs_short : is_broken (journal_of (chains_of new)) ≡ (is_broken (journal_of (chains_of old)) || false)
+      → Runs old new (Some flow.OutOfMemory)
   runs_short broken = record { looks = looks; alone = tt; whole = λ no. still_whole broken; failed = λ is. absurd (cc) }
 
   -- the call was refused
@@ -42,7 +43,8 @@ module _ {D : Type 0} {g : Ghosts D} (old new : Buckets D g) (looks : OnlyLooks 
   runs_refused T store.NotFormatted alone broken cause = absurd alone
   runs_refused T store.NotEmpty alone broken cause = absurd alone
   runs_refused T (store.BadStore page) alone broken cause = runs_unread page broken
-  runs_refused T store.DiskFault alone broken cause = record { looks = looks; alone = tt; whole = λ no. absurd no; failed = λ is. cause.failed refl }
+  runs_refused T store.DiskFault alone broken cause =
+      record { looks = looks; alone = tt; whole = λ no. absurd no; failed = λ is. cause.failed refl }
   runs_refused T (store.StoreFull pages) alone broken cause = absurd alone
   runs_refused T store.Broken alone broken cause = absurd (cc (alone, whole))
   runs_refused T store.OutOfMemory alone broken cause = runs_short broken

@@ -25,7 +25,8 @@ none_spent buckets going whole some = λ i. going i || (whole i || some i)
 
 module _ {D : Type 0} {g : Ghosts D} (old new : Buckets D g) (looks : OnlyLooks old new) where
   -- a refusal of the maps
-  pub refusal_ends : {call : Option Step} (fault : StoreFault) → Causes new (faults_in old) fault → EndsIn call (Some (of_store fault)) old new
+  pub refusal_ends : {call : Option Step} (fault : StoreFault) → Causes new (faults_in old) fault
+      → EndsIn call (Some (of_store fault)) old new
   refusal_ends store.NotFormatted cause = absurd cause
   refusal_ends store.NotEmpty cause = absurd cause
   refusal_ends (store.BadStore page) cause = record {
@@ -54,7 +55,8 @@ module _ {D : Type 0} {g : Ghosts D} (old new : Buckets D g) (looks : OnlyLooks 
 
   -- and one of the step
   pub step_ends : (R : StoreFault → Type 0) (U : Type 0) (M : ℕ → Type 0) (why : StepFault StoreFault) → Ends R U M why
-      → ((fault : StoreFault) → R fault → Causes new (faults_in old) fault) → (U → is_whole_store new) → (call : Option Step) → ((value : ℕ) → M value → IsChange call)
+      → ((fault : StoreFault) → R fault → Causes new (faults_in old) fault) → (U → is_whole_store new) → (call : Option Step)
+      → ((value : ℕ) → M value → IsChange call)
       → EndsIn call (Some (of_step why)) old new
   step_ends R U M (steps.Store fault) ends causes whole call many = refusal_ends fault (causes fault ends)
   step_ends R U M (steps.TooMany value) ends causes whole call many = record {

@@ -1,5 +1,6 @@
 -- Steps and looks at a store at rest, put together of calls on its buckets.
-use Rattle.std.proofs.Common.{◌≡◌, ◌⊎◌, inl, inr, ℕ, ◌+◌, ◌≤◌, ◌||◌, Bool, false, List, length, Option, None, Some, Err, refl, sym, ap, subst, ◌∙◌, arith}
+use Rattle.std.proofs.Common.{◌≡◌, ◌⊎◌, inl, inr, ℕ, ◌+◌, ◌≤◌, ◌||◌, Bool, false, List, length, Option, None, Some, Err, refl, sym, ap}
+use Rattle.std.proofs.Common.{subst, ◌∙◌, arith}
 use Rattle.std.specs.Result.{IsErrOf}
 use Rattle.outside.specs.Causes.{Rose}
 use Rattle.outside.specs.Disk.{Goes}
@@ -34,7 +35,8 @@ use Rattle.update_flow.specs.declared.fault.FlowFault.{FlowFault}
 use Rattle.update_flow.specs.declared.fault.FlowFault.TheVariants as flow
 
 -- an answer of a commit is one of the step that it ends
-pub answered : (limits : LimitNumbers) (fault : Option FlowFault) (P Q : Type 0) → (P → Q) → OrBreaks fault (OrFull limits fault P) → OrBreaks fault (OrFull limits fault Q)
+pub answered : (limits : LimitNumbers) (fault : Option FlowFault) (P Q : Type 0) → (P → Q) → OrBreaks fault (OrFull limits fault P)
+    → OrBreaks fault (OrFull limits fault Q)
 answered limits None P Q to is = to is
 answered limits (Some (flow.Store store.NotFormatted)) P Q to is = to is
 answered limits (Some (flow.Store store.NotEmpty)) P Q to is = to is
@@ -51,7 +53,8 @@ answered limits (Some (flow.TooMany value)) P Q to is = to is
 answered limits (Some flow.OutOfMemory) P Q to is = tt
 
 -- a refusal of a store that means a state may answer any step
-pub sound_answers : (limits : LimitNumbers) (fault : FlowFault) (P : Type 0) → IsSound (Some fault) → OrBreaks (Some fault) (OrFull limits (Some fault) P)
+pub sound_answers : (limits : LimitNumbers) (fault : FlowFault) (P : Type 0) → IsSound (Some fault)
+    → OrBreaks (Some fault) (OrFull limits (Some fault) P)
 sound_answers limits (flow.Store store.NotFormatted) P sound = absurd sound
 sound_answers limits (flow.Store store.NotEmpty) P sound = absurd sound
 sound_answers limits (flow.Store (store.BadStore page)) P sound = absurd sound
@@ -77,7 +80,8 @@ commit_answers T limits most (store.StoreFull pages) P same sound = omega (arith
 commit_answers T limits most store.Broken P same sound = absurd sound
 commit_answers T limits most store.OutOfMemory P same sound = tt
 
-pub commit_ends : (step : Step) (T : Type 0) (most : ℕ) (fault : StoreFault) → IsCommitAnswer {T = T} false most (Err fault) → MayEnd (Some step) (Some (of_store fault))
+pub commit_ends : (step : Step) (T : Type 0) (most : ℕ) (fault : StoreFault) → IsCommitAnswer {T = T} false most (Err fault)
+    → MayEnd (Some step) (Some (of_store fault))
 commit_ends step T most store.NotFormatted alone = absurd alone
 commit_ends step T most store.NotEmpty alone = absurd alone
 commit_ends step T most (store.BadStore page) alone = tt
@@ -128,7 +132,8 @@ module _ {D : Type 0} {g : Ghosts D} where
       goes_weaker (λ left. HasImage rest left) (λ left. StandsFor left state) (view_in old).crashes (view_in new).crashes
       (moments_looked rest old new rests looks) (λ left has. (rest, means, has))
 
-  pub looked_rests : (state : State) (rest : Image) (old new : Buckets D g) → RestsAt rest old → Means state rest → OnlyLooks old new → RestsIn state new
+  pub looked_rests : (state : State) (rest : Image) (old new : Buckets D g) → RestsAt rest old → Means state rest → OnlyLooks old new
+      → RestsIn state new
   looked_rests state rest old new rests means looks = record { image = rest; at_rest = rests_later rest old new looks rests; means = means }
 
   looked_either : (state other : State) (rest : Image) (old new : Buckets D g) → RestsAt rest old → Means state rest → OnlyLooks old new
@@ -138,7 +143,8 @@ module _ {D : Type 0} {g : Ghosts D} where
       (looked_state state rest old new rests means looks) (λ left stands. inl stands)
 
   -- a step that is refused before its commit was never begun
-  pub turns_refused : (limits : LimitNumbers) (state : State) (step : Step) (fault : FlowFault) (rest : Image) (old new : Buckets D g) → RestsAt rest old
+  pub turns_refused : (limits : LimitNumbers) (state : State) (step : Step) (fault : FlowFault) (rest : Image) (old new : Buckets D g)
+      → RestsAt rest old
       → Means state rest → OnlyLooks old new → MayAnswer limits state step (Some fault)
       → FitsLimit limits (NeedsOn (view_in old) (after state step)) (Some fault) → TurnsIn limits state step (Some fault) old new
   turns_refused limits state step fault rest old new rests means looks may fits = record {
@@ -151,7 +157,8 @@ module _ {D : Type 0} {g : Ghosts D} where
   }
 
   -- so a commit before which something was refused
-  pub commits_refused : (limits : LimitNumbers) (fault : FlowFault) (rest now : Image) (old new : Buckets D g) → RestsAt rest old → OnlyLooks old new
+  pub commits_refused : (limits : LimitNumbers) (fault : FlowFault) (rest now : Image) (old new : Buckets D g) → RestsAt rest old
+      → OnlyLooks old new
       → IsSound (Some fault) → CommitsTo limits rest now (Some fault) old new
   commits_refused limits fault rest now old new rests looks sound = record {
     answer = sound_answers limits fault (Some fault ≡ None) sound;
@@ -160,12 +167,14 @@ module _ {D : Type 0} {g : Ghosts D} where
     grown = λ is. absurd (cc (is));
     refused = λ not no. looks;
     moments =
-        goes_weaker (λ left. HasImage rest left) (λ left. HasImage rest left ⊎ HasImage now left) (view_in old).crashes (view_in new).crashes
+        goes_weaker (λ left. HasImage rest left) (λ left. HasImage rest left ⊎ HasImage now left) (view_in old).crashes
+        (view_in new).crashes
         (moments_looked rest old new rests looks) (λ left has. inl has);
   }
 
   -- and one after looks
-  pub commits_after : (limits : LimitNumbers) (fault : Option FlowFault) (rest now : Image) (old mid new : Buckets D g) → RestsAt rest old → OnlyLooks old mid
+  pub commits_after : (limits : LimitNumbers) (fault : Option FlowFault) (rest now : Image) (old mid new : Buckets D g) → RestsAt rest old
+      → OnlyLooks old mid
       → CommitsTo limits rest now fault mid new → CommitsTo limits rest now fault old new
   commits_after limits fault rest now old mid new rests looks commits = record {
     answer = commits.answer;
@@ -175,7 +184,8 @@ module _ {D : Type 0} {g : Ghosts D} where
     refused = λ not no. looks_then old mid new looks (commits.refused not no);
     moments =
         goes_then (λ left. HasImage rest left ⊎ HasImage now left) (view_in old).crashes (view_in mid).crashes (view_in new).crashes
-        (goes_weaker (λ left. HasImage rest left) (λ left. HasImage rest left ⊎ HasImage now left) (view_in old).crashes (view_in mid).crashes
+        (goes_weaker (λ left. HasImage rest left) (λ left. HasImage rest left ⊎ HasImage now left) (view_in old).crashes
+        (view_in mid).crashes
         (moments_looked rest old mid rests looks) (λ left has. inl has))
         commits.moments;
   }
@@ -187,7 +197,8 @@ module _ {D : Type 0} {g : Ghosts D} where
     committed_moments : Goes (IsOfEither state (after state step)) (view_in mid).crashes (view_in new).crashes
     unfolding StandsFor
     committed_moments =
-        goes_weaker (λ left. HasImage rest left ⊎ HasImage now left) (IsOfEither state (after state step)) (view_in mid).crashes (view_in new).crashes
+        goes_weaker (λ left. HasImage rest left ⊎ HasImage now left) (IsOfEither state (after state step)) (view_in mid).crashes
+        (view_in new).crashes
         commits.moments (λ left has. elim has [
           | inl one ↦ inl (rest, means, one)
           | inr other ↦ inr (now, becomes, other)
@@ -199,9 +210,11 @@ module _ {D : Type 0} {g : Ghosts D} where
         let rested = commits.done is in
         let grown = commits.grown is in
         let first : length had + 1 ≡ home_in mid =
-        ap (λ (pages : List (List ℕ)). length pages + 1) (pages_one had rests.pages (view_in old) before rests.rests.0) ∙ rests.rests.1 ∙ sym looks.looked.pages in
+        ap (λ (pages : List (List ℕ)). length pages + 1) (pages_one had rests.pages (view_in old) before rests.rests.0) ∙ rests.rests.1
+        ∙ sym looks.looked.pages in
         let second : length has + 1 ≡ home_in new =
-        ap (λ (pages : List (List ℕ)). length pages + 1) (pages_one has rested.pages (view_in new) last rested.rests.0) ∙ rested.rests.1 in (
+        ap (λ (pages : List (List ℕ)). length pages + 1) (pages_one has rested.pages (view_in new) last rested.rests.0)
+        ∙ rested.rests.1 in (
           record {
             image = now;
             means = becomes;
@@ -254,7 +267,8 @@ module _ {D : Type 0} {g : Ghosts D} where
     same_disk = runs.looks.looked.same_disk;
   }
 
-  pub ends_then : {call : Option Step} (fault : Option FlowFault) (old mid new : Buckets D g) → OnlyLooks old mid → EndsIn call fault mid new → EndsIn call fault old new
+  pub ends_then : {call : Option Step} (fault : Option FlowFault) (old mid new : Buckets D g) → OnlyLooks old mid
+      → EndsIn call fault mid new → EndsIn call fault old new
   ends_then fault old mid new looks ends = record {
     alone = ends.alone;
     whole = ends.whole;
@@ -264,9 +278,11 @@ module _ {D : Type 0} {g : Ghosts D} where
   }
 
   -- a commit
-  module _ (old new : Buckets D g) (whole : is_whole_store old) (disk : loan_of (journal_of (chains_of new)) ≡ loan_of (journal_of (chains_of old))) where
+  module _ (old new : Buckets D g) (whole : is_whole_store old)
+      (disk : loan_of (journal_of (chains_of new)) ≡ loan_of (journal_of (chains_of old))) where
     pub committed_ends : (later : faults_in old ≤ faults_in new)
-        → is_broken (journal_of (chains_of new)) ≡ (is_broken (journal_of (chains_of old)) || false) → (step : Step) → EndsIn (Some step) None old new
+        → is_broken (journal_of (chains_of new)) ≡ (is_broken (journal_of (chains_of old)) || false) → (step : Step)
+        → EndsIn (Some step) None old new
     committed_ends later broken step = record {
       alone = tt;
       whole = λ no. both_false (is_broken (journal_of (chains_of new))) (is_broken (journal_of (chains_of old))) false broken whole refl;
@@ -275,12 +291,15 @@ module _ {D : Type 0} {g : Ghosts D} where
       same_disk = disk;
     }
 
-    pub uncommitted_ends : (T : Type 0) (most : ℕ) (fault : StoreFault) → IsCommitAnswer {T = T} (is_broken (journal_of (chains_of old))) most (Err fault)
+    pub uncommitted_ends : (T : Type 0) (most : ℕ) (fault : StoreFault)
+        → IsCommitAnswer {T = T} (is_broken (journal_of (chains_of old))) most (Err fault)
         → is_broken (journal_of (chains_of new)) ≡ (is_broken (journal_of (chains_of old)) || answers_disk_fault {T = T} (Err fault))
-        → HasDiskCause {T = T} (faults_in old) (faults_in new) (Err fault) → (step : Step) → EndsIn (Some step) (Some (of_store fault)) old new
+        → HasDiskCause {T = T} (faults_in old) (faults_in new) (Err fault) → (step : Step)
+        → EndsIn (Some step) (Some (of_store fault)) old new
     uncommitted_ends T most fault alone broken cause step = record {
       alone = commit_ends step T most fault (subst (λ (b : Bool). IsCommitAnswer {T = T} b most (Err fault)) whole alone);
-      whole = λ no. both_false (is_broken (journal_of (chains_of new))) (is_broken (journal_of (chains_of old))) (answers_disk_fault {T = T} (Err fault))
+      whole = λ no. both_false (is_broken (journal_of (chains_of new))) (is_broken (journal_of (chains_of old)))
+          (answers_disk_fault {T = T} (Err fault))
           broken whole (quiet_fault T fault no);
       later = cause.later;
       failed = λ is. cause.failed (disk_told T fault is);

@@ -16,8 +16,10 @@ only_table table all = finite.from_entries (filter (λ entry. nat_eq entry.0.tab
 
 -- the changes of rows are those that lead from these tables to those, and no other
 pub record AreChanges (old new : TableMap) (changes : List RowChange) : Type 0 where
-  pub each : AllByRecursion (λ (change : RowChange). (change.row ≡ finite.get new (spot_of change)) × (finite.get old (spot_of change) ≢ finite.get new (spot_of change))) changes
-  pub all : (spot : SpotOf) → finite.get old spot ≢ finite.get new spot → list_any (λ change. eq_by_cmp spot_cmp spot (spot_of change)) changes ≡ true
+  pub each : AllByRecursion (λ (change : RowChange). (change.row ≡ finite.get new (spot_of change))
+      × (finite.get old (spot_of change) ≢ finite.get new (spot_of change))) changes
+  pub all : (spot : SpotOf) → finite.get old spot ≢ finite.get new spot
+      → list_any (λ change. eq_by_cmp spot_cmp spot (spot_of change)) changes ≡ true
   pub applied : changed_all old changes ≡ new
 
 -- the delta of a change that has this number and makes those objects of these

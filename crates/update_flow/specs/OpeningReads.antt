@@ -31,7 +31,8 @@ pub record ReadsToOpen (bytes : List ℕ) (old new : DiskView) : Type 0 where
   pub home : Home pages bytes
   pub directories : List Walked
   pub eight : length directories ≡ 8
-  pub are : (m : ℕ) → m < 8 → HasPages (page_in pages) (length pages + 1) (8 + m) (directory_first (page_in pages 1) m) (pages_at directories m)
+  pub are : (m : ℕ) → m < 8 → HasPages (page_in pages) (length pages + 1) (8 + m) (directory_first (page_in pages 1) m)
+      (pages_at directories m)
   pub style : List ℕ
   pub has : HasPages (page_in pages) (length pages + 1) STYLE_TEXT (text_first (page_in pages 1) STYLE_TEXT) style
   pub count : ReadsAtMost (2 + page_total directories + length style) (length bytes) old new

@@ -24,7 +24,8 @@ HasChain pages kept n ns = HasPages (page_in pages) (length pages + 1) n (kept_f
 
 -- where the disk tells its reads, there were at most so many more
 abbrev pub ReadsMore : ℕ → DiskView → DiskView → Type 0
-ReadsMore count before after = (first : ReadLog) → before.reads ≡ Some first → (now : ReadLog) × (after.reads ≡ Some now) × (now.count ≤ first.count + count)
+ReadsMore count before after = (first : ReadLog) → before.reads ≡ Some first
+    → (now : ReadLog) × (after.reads ≡ Some now) × (now.count ≤ first.count + count)
 
 -- such chains of the store, each with its pages, and its free list were read, the disk at most once for each of their pages
 pub record ReadsOnce (P : ℕ → Type 0) (pages : List (List ℕ)) (kept : Kept) (before after : DiskView) : Type 0 where
@@ -43,7 +44,8 @@ pub record ReadsToCommit {D : Type 0} {g : Ghosts D} (P : ℕ → Type 0) (old n
       → HasChain pages (kept_of (chains_of old)) n ns
   pub free : List ℕ
   pub is_free : (pages : List (List ℕ)) → RestsWith pages (journal_of (chains_of old)) → HasChain pages (kept_of (chains_of old)) FREE free
-  pub count : (first : ReadLog) → (disk_of (chains_of old)).reads ≡ Some first → (now : ReadLog) × ((disk_of (chains_of new)).reads ≡ Some now)
+  pub count : (first : ReadLog) → (disk_of (chains_of old)).reads ≡ Some first
+      → (now : ReadLog) × ((disk_of (chains_of new)).reads ≡ Some now)
       × (now.count + pages_read (read_of (chains_of old)) ≤ first.count + (pages_read read + length free))
 
 -- the chains that a change may read: that of the due tiles, and the buckets of keys that may be asked

@@ -18,9 +18,11 @@ ArePending held change set = IsPendingOf held.style held.objects change set
 -- a change of an imported store is refused so, or not at all: there was the last change that can be counted, or more objects are
 -- pending than may be
 abbrev pub RefusesChange : LimitNumbers → Holding → List Entry → Option FlowFault → Type 0
-RefusesChange limits held change None = (held.changes ≢ LAST_CHANGE) × ((set : PendingOf) → ArePending held change set → size set ≤ limits.pending)
+RefusesChange limits held change None = (held.changes ≢ LAST_CHANGE)
+    × ((set : PendingOf) → ArePending held change set → size set ≤ limits.pending)
 RefusesChange limits held change (Some flow.LastChange) = held.changes ≡ LAST_CHANGE
-RefusesChange limits held change (Some (flow.TooMany value)) = (held.changes ≢ LAST_CHANGE) × AreTooMany limits.pending (ArePending held change) value
+RefusesChange limits held change (Some (flow.TooMany value)) =
+    (held.changes ≢ LAST_CHANGE) × AreTooMany limits.pending (ArePending held change) value
 RefusesChange limits held change _ = ⊥
 
 -- a step is refused so, or not at all, by the state alone

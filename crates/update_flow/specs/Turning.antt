@@ -53,7 +53,8 @@ pub record RestsIn {D : Type 0} {g : Ghosts D} (state : State) (buckets : Bucket
   pub means : Means state image
 
 -- what a transaction has made of a store at rest is made to stand, whole or not at all
-pub record CommitsTo {D : Type 0} {g : Ghosts D} (limits : LimitNumbers) (rest now : Image) (fault : Option FlowFault) (old new : Buckets D g) : Type 0 where
+pub record CommitsTo {D : Type 0} {g : Ghosts D} (limits : LimitNumbers) (rest now : Image) (fault : Option FlowFault)
+    (old new : Buckets D g) : Type 0 where
   pub answer : OrBreaks fault (OrFull limits fault (fault ≡ None))
   pub needs : FitsLimit limits (NeedsPages (home_in old) now) fault
   pub done : fault ≡ None → RestsAt now new
@@ -62,7 +63,8 @@ pub record CommitsTo {D : Type 0} {g : Ghosts D} (limits : LimitNumbers) (rest n
   pub moments : Goes (λ left. HasImage rest left ⊎ HasImage now left) (view_in old).crashes (view_in new).crashes
 
 -- the store under buckets is taken a step further, whole or not at all. One that is refused otherwise than by its disk was never begun.
-pub record TurnsIn {D : Type 0} {g : Ghosts D} (limits : LimitNumbers) (state : State) (step : Step) (fault : Option FlowFault) (old new : Buckets D g) : Type 0 where
+pub record TurnsIn {D : Type 0} {g : Ghosts D} (limits : LimitNumbers) (state : State) (step : Step) (fault : Option FlowFault)
+    (old new : Buckets D g) : Type 0 where
   pub answer : MayAnswer limits state step fault
   pub needs : FitsLimit limits (NeedsOn (view_in old) (after state step)) fault
   pub done : fault ≡ None → RestsIn (after state step) new
@@ -87,7 +89,8 @@ pub record EndsIn {D : Type 0} {g : Ghosts D} (call : Option Step) (fault : Opti
 
 -- what a transaction has made, with this done to it, is made to stand, whichever step it ends
 pub record CommitsWith {D : Type 0} {g : Ghosts D} (made : Image → Image) (fault : Option FlowFault) (old new : Buckets D g) : Type 0 where
-  pub commits : (limits : LimitNumbers) (rest now : Image) → limit_in old ≡ limits.pages → Has rest now old → CommitsTo limits rest (made now) fault old new
+  pub commits : (limits : LimitNumbers) (rest now : Image) → limit_in old ≡ limits.pages → Has rest now old
+      → CommitsTo limits rest (made now) fault old new
   pub ends : (step : Step) → EndsIn (Some step) fault old new
 
 -- a store at rest of this state is on the disk, and what is kept of it is so
@@ -96,7 +99,8 @@ pub record IsKept (state : State) (disk : DiskView) (kept : Option Opened) : Typ
   pub fits : KeptFits kept disk
 
 -- the store on a disk is taken a step further
-pub record TurnsOn (limits : LimitNumbers) (state : State) (step : Step) (fault : Option FlowFault) (old new : DiskView) (kept : Option Opened) : Type 0 where
+pub record TurnsOn (limits : LimitNumbers) (state : State) (step : Step) (fault : Option FlowFault) (old new : DiskView)
+    (kept : Option Opened) : Type 0 where
   pub answer : MayAnswer limits state step fault
   pub needs : FitsLimit limits (NeedsOn old (after state step)) fault
   pub done : fault ≡ None → IsKept (after state step) new kept

@@ -44,7 +44,8 @@ IsSound (Some (flow.Store store.DiskFault)) = Unit {0}
 IsSound (Some flow.OutOfMemory) = Unit {0}
 IsSound _ = ⊥
 
--- what each call within a transaction leaves, on a store whose disk had not failed before: the store at rest was only looked at, and but for a
+-- what each call within a transaction leaves, on a store whose disk had not failed before: the store at rest was only looked at, and but
+-- for a
 -- disk fault its disk has not failed since
 pub record Runs {D : Type 0} {g : Ghosts D} (old new : Buckets D g) (fault : Option FlowFault) : Type 0 where
   pub looks : OnlyLooks old new
@@ -53,7 +54,8 @@ pub record Runs {D : Type 0} {g : Ghosts D} (old new : Buckets D g) (fault : Opt
   pub failed : fault ≡ Some (flow.Store store.DiskFault) → Rose (faults_in old) (faults_in new)
 
 -- a text is these bytes from now on
-pub record StoresText {T D : Type 0} {g : Ghosts D} (n : ℕ) (bytes : List ℕ) (old new : Buckets D g) (result : Result T FlowFault) : Type 0 where
+pub record StoresText {T D : Type 0} {g : Ghosts D} (n : ℕ) (bytes : List ℕ) (old new : Buckets D g)
+    (result : Result T FlowFault) : Type 0 where
   pub stored : OnOk result ((rest now : Image) → Has rest now old → Has rest (with_text n bytes now) new)
   pub going : OnOk result (has_refused new ≡ false)
   pub sound : (rest now : Image) → Has rest now old → IsSound (result_err result)

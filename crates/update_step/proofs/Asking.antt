@@ -1,5 +1,6 @@
 -- Answers that are kept, one more and many more.
-use Rattle.std.proofs.Common.{◌≡◌, ◌<◌, ℕ, ◌+◌, true, false, cond, List, [], ◌∷◌, ◌++◌, append_assoc, get_or, length, map, take, Option, Some, refl, sym, ap, subst, ◌∙◌}
+use Rattle.std.proofs.Common.{◌≡◌, ◌<◌, ℕ, ◌+◌, true, false, cond, List, [], ◌∷◌, ◌++◌, append_assoc, get_or, length, map, take, Option}
+use Rattle.std.proofs.Common.{Some, refl, sym, ap, subst, ◌∙◌}
 use mathlib.Core.Bool.{false≢true}
 use Rattle.std.specs.Cmp.{IsTotalOrder, Equal-is, nat_cmp_total}
 use Rattle.std.specs.declared.cmp.Ordering.{Ordering}
@@ -16,21 +17,28 @@ use Rattle.osm_base.specs.values.Key.{KeyOf}
 use Rattle.osm_base.specs.values.KeyOrder.{key_cmp}
 use Rattle.osm_base.specs.values.Place.{PlaceOf}
 use Rattle.osm_base.proofs.KeyLaws.{key_cmp_total, key_cmp-IsAntisymmetric}
-use Rattle.update_step.specs.Gather.{AlongWay, AreAsked, AroundNode, Ask, AtNode, Gathered, Gathers, Grows, IsRight, OfKey, Same, joined, known_in, nothing_gathered, was_asked, with_along, with_around, with_form, with_place}
+use Rattle.update_step.specs.Gather.{AlongWay, AreAsked, AroundNode, Ask, AtNode, Gathered, Gathers, Grows, IsRight, OfKey, Same, joined}
+use Rattle.update_step.specs.Gather.{known_in, nothing_gathered, was_asked, with_along, with_around, with_form, with_place}
 
 -- a map with one answer more
-module _ {K X : Type 0} {R : K → K → Ordering} (total : IsTotalOrder R) (same : IsAntisymmetric R) (values : finite.FinMap R X) (key : K) (value : X) where
-  put_right : {Y : Type 0} (view : Option X → Y) (to : K → Y) → view (Some value) ≡ to key → (other : K) → (is_some (finite.get values other) ≡ true → view (finite.get values other) ≡ to other)
-      → is_some (finite.get (finite.insert values key value) other) ≡ true → view (finite.get (finite.insert values key value) other) ≡ to other
-  put_right view to is other right = subst (λ found. is_some found ≡ true → view found ≡ to other) (sym (finite.get-insert total values key value other))
-      (elim (eq_by_cmp R other key) as (λ b. eq_by_cmp R other key ≡ b → is_some (cond b (Some value) (finite.get values other)) ≡ true → view (cond b (Some value) (finite.get values other)) ≡ to other) [
+module _ {K X : Type 0} {R : K → K → Ordering} (total : IsTotalOrder R) (same : IsAntisymmetric R) (values : finite.FinMap R X) (key : K)
+    (value : X) where
+  put_right : {Y : Type 0} (view : Option X → Y) (to : K → Y) → view (Some value) ≡ to key → (other : K)
+      → (is_some (finite.get values other) ≡ true → view (finite.get values other) ≡ to other)
+      → is_some (finite.get (finite.insert values key value) other) ≡ true
+      → view (finite.get (finite.insert values key value) other) ≡ to other
+  put_right view to is other right = subst (λ found. is_some found ≡ true → view found ≡ to other)
+      (sym (finite.get-insert total values key value other))
+      (elim (eq_by_cmp R other key) as (λ b. eq_by_cmp R other key ≡ b → is_some (cond b (Some value) (finite.get values other)) ≡ true
+      → view (cond b (Some value) (finite.get values other)) ≡ to other) [
         | true ↦ λ tied _. is ∙ ap to (sym (same other key ((Equal-is (R other key)).0 tied)))
         | false ↦ λ _. right
       ] refl)
 
   put_grows : (other : K) → is_some (finite.get values other) ≡ true → is_some (finite.get (finite.insert values key value) other) ≡ true
   put_grows other there = subst (λ found. is_some found ≡ true) (sym (finite.get-insert total values key value other))
-      (elim (eq_by_cmp R other key) as (λ b. is_some (cond b (Some value) (finite.get values other)) ≡ true) [ true ↦ refl | false ↦ there ])
+      (elim (eq_by_cmp R other key) as (λ b. is_some (cond b (Some value) (finite.get values other)) ≡ true)
+      [ true ↦ refl | false ↦ there ])
 
   put_there : is_some (finite.get (finite.insert values key value) key) ≡ true
   put_there = subst (λ found. is_some found ≡ true) (sym (finite.get-insert total values key value key))
@@ -42,7 +50,8 @@ listed found = unwrap_or found []
 module _ (to : Known) (g : Gathered) where
   module _ (id : ℕ) (place : Option PlaceOf) (is : place ≡ to.place id) where
     place-right : IsRight g to → (ask : Ask) → was_asked (with_place g id place) ask ≡ true → Same (known_in (with_place g id place)) to ask
-    place-right right (AtNode other) asked = put_right nat_cmp_total nat_cmp-IsAntisymmetric g.places id place joined to.place is other (right (AtNode other)) asked
+    place-right right (AtNode other) asked =
+        put_right nat_cmp_total nat_cmp-IsAntisymmetric g.places id place joined to.place is other (right (AtNode other)) asked
     place-right right (OfKey own) asked = right (OfKey own) asked
     place-right right (AlongWay other) asked = right (AlongWay other) asked
     place-right right (AroundNode other) asked = right (AroundNode other) asked
@@ -54,12 +63,18 @@ module _ (to : Known) (g : Gathered) where
     place-grows (AroundNode other) asked = asked
 
     pub with_place-gathers : Gathers to g (with_place g id place) (AtNode id ∷ [])
-    with_place-gathers = record { right = place-right; grows = place-grows; asked = (put_there nat_cmp_total nat_cmp-IsAntisymmetric g.places id place, tt) }
+    with_place-gathers = record {
+      right = place-right;
+      grows = place-grows;
+      asked =
+          (put_there nat_cmp_total nat_cmp-IsAntisymmetric g.places id place, tt);
+    }
 
   module _ (key : KeyOf) (form : Option Object) (is : form ≡ to.object key) where
     form-right : IsRight g to → (ask : Ask) → was_asked (with_form g key form) ask ≡ true → Same (known_in (with_form g key form)) to ask
     form-right right (AtNode other) asked = right (AtNode other) asked
-    form-right right (OfKey own) asked = put_right key_cmp_total key_cmp-IsAntisymmetric g.forms key form joined to.object is own (right (OfKey own)) asked
+    form-right right (OfKey own) asked = put_right key_cmp_total key_cmp-IsAntisymmetric g.forms key form joined to.object is own
+        (right (OfKey own)) asked
     form-right right (AlongWay other) asked = right (AlongWay other) asked
     form-right right (AroundNode other) asked = right (AroundNode other) asked
 
@@ -70,14 +85,21 @@ module _ (to : Known) (g : Gathered) where
     form-grows (AroundNode other) asked = asked
 
     pub with_form-gathers : Gathers to g (with_form g key form) (OfKey key ∷ [])
-    with_form-gathers = record { right = form-right; grows = form-grows; asked = (put_there key_cmp_total key_cmp-IsAntisymmetric g.forms key form, tt) }
+    with_form-gathers = record {
+      right = form-right;
+      grows = form-grows;
+      asked =
+          (put_there key_cmp_total key_cmp-IsAntisymmetric g.forms key form, tt);
+    }
 
   module _ (id : ℕ) (ids : List ℕ) where
     module _ (is : ids ≡ to.relations_of_way id) where
       along-right : IsRight g to → (ask : Ask) → was_asked (with_along g id ids) ask ≡ true → Same (known_in (with_along g id ids)) to ask
       along-right right (AtNode other) asked = right (AtNode other) asked
       along-right right (OfKey own) asked = right (OfKey own) asked
-      along-right right (AlongWay other) asked = put_right nat_cmp_total nat_cmp-IsAntisymmetric g.along_ways id ids listed to.relations_of_way is other (right (AlongWay other)) asked
+      along-right right (AlongWay other) asked =
+          put_right nat_cmp_total nat_cmp-IsAntisymmetric g.along_ways id ids listed to.relations_of_way is other
+          (right (AlongWay other)) asked
       along-right right (AroundNode other) asked = right (AroundNode other) asked
 
       along-grows : Grows g (with_along g id ids)
@@ -87,14 +109,22 @@ module _ (to : Known) (g : Gathered) where
       along-grows (AroundNode other) asked = asked
 
       pub with_along-gathers : Gathers to g (with_along g id ids) (AlongWay id ∷ [])
-      with_along-gathers = record { right = along-right; grows = along-grows; asked = (put_there nat_cmp_total nat_cmp-IsAntisymmetric g.along_ways id ids, tt) }
+      with_along-gathers = record {
+        right = along-right;
+        grows = along-grows;
+        asked =
+            (put_there nat_cmp_total nat_cmp-IsAntisymmetric g.along_ways id ids, tt);
+      }
 
     module _ (is : ids ≡ to.relations_of_node id) where
-      around-right : IsRight g to → (ask : Ask) → was_asked (with_around g id ids) ask ≡ true → Same (known_in (with_around g id ids)) to ask
+      around-right : IsRight g to → (ask : Ask) → was_asked (with_around g id ids) ask ≡ true
+          → Same (known_in (with_around g id ids)) to ask
       around-right right (AtNode other) asked = right (AtNode other) asked
       around-right right (OfKey own) asked = right (OfKey own) asked
       around-right right (AlongWay other) asked = right (AlongWay other) asked
-      around-right right (AroundNode other) asked = put_right nat_cmp_total nat_cmp-IsAntisymmetric g.around_nodes id ids listed to.relations_of_node is other (right (AroundNode other)) asked
+      around-right right (AroundNode other) asked =
+          put_right nat_cmp_total nat_cmp-IsAntisymmetric g.around_nodes id ids listed to.relations_of_node is other
+          (right (AroundNode other)) asked
 
       around-grows : Grows g (with_around g id ids)
       around-grows (AtNode other) asked = asked
@@ -103,7 +133,12 @@ module _ (to : Known) (g : Gathered) where
       around-grows (AroundNode other) asked = put_grows nat_cmp_total nat_cmp-IsAntisymmetric g.around_nodes id ids other asked
 
       pub with_around-gathers : Gathers to g (with_around g id ids) (AroundNode id ∷ [])
-      with_around-gathers = record { right = around-right; grows = around-grows; asked = (put_there nat_cmp_total nat_cmp-IsAntisymmetric g.around_nodes id ids, tt) }
+      with_around-gathers = record {
+        right = around-right;
+        grows = around-grows;
+        asked =
+            (put_there nat_cmp_total nat_cmp-IsAntisymmetric g.around_nodes id ids, tt);
+      }
 
   -- what was asked before
   pub asked-gathers : (ask : Ask) → was_asked g ask ≡ true → Gathers to g g (ask ∷ [])
@@ -129,7 +164,8 @@ asked-grows old new [] grows all = tt
 asked-grows old new (ask ∷ asks) grows all = (grows ask all.0, asked-grows old new asks grows all.1)
 
 -- first these, and then more
-pub then-gathers : (to : Known) (first second third : Gathered) (asks more : List Ask) → Gathers to first second asks → Gathers to second third more → Gathers to first third (asks ++ more)
+pub then-gathers : (to : Known) (first second third : Gathered) (asks more : List Ask) → Gathers to first second asks
+    → Gathers to second third more → Gathers to first third (asks ++ more)
 then-gathers to first second third asks more one other = record {
   right = λ right. other.right (one.right right);
   grows = λ ask asked. other.grows ask (one.grows ask asked);
@@ -137,7 +173,8 @@ then-gathers to first second third asks more one other = record {
 }
 
 -- the order does not matter
-pub turned-gathers : (to : Known) (first second : Gathered) (asks more : List Ask) → Gathers to first second (asks ++ more) → Gathers to first second (more ++ asks)
+pub turned-gathers : (to : Known) (first second : Gathered) (asks more : List Ask) → Gathers to first second (asks ++ more)
+    → Gathers to first second (more ++ asks)
 turned-gathers to first second asks more all = record {
   right = all.right;
   grows = all.grows;
@@ -149,10 +186,13 @@ flat-append of [] ys = refl
 flat-append of (x ∷ xs) ys = ap (λ rest. of x ++ rest) (flat-append of xs ys) ∙ sym (append_assoc (of x) (flat_map of xs) (flat_map of ys))
 
 -- of one more in a list
-pub more-gathers : {X : Type 0} (of : X → List Ask) (to : Known) (first second third : Gathered) (xs : List X) (at : ℕ) (x default : X) → at < length xs → x ≡ get_or xs at default
-    → Gathers to first second (flat_map of (take at xs)) → Gathers to second third (of x) → Gathers to first third (flat_map of (take (at + 1) xs))
+pub more-gathers : {X : Type 0} (of : X → List Ask) (to : Known) (first second third : Gathered) (xs : List X) (at : ℕ) (x default : X)
+    → at < length xs → x ≡ get_or xs at default
+    → Gathers to first second (flat_map of (take at xs)) → Gathers to second third (of x)
+    → Gathers to first third (flat_map of (take (at + 1) xs))
 more-gathers of to first second third xs at x default below is one other =
-    subst (Gathers to first third) (sym (ap (flat_map of) (take_more xs at default below ∙ ap (λ own. take at xs ++ own ∷ []) (sym is)) ∙ flat-append of (take at xs) (x ∷ []) ∙ ap (λ rest. flat_map of (take at xs) ++ rest) (append-nil (of x))))
+    subst (Gathers to first third) (sym (ap (flat_map of) (take_more xs at default below ∙ ap (λ own. take at xs ++ own ∷ []) (sym is))
+    ∙ flat-append of (take at xs) (x ∷ []) ∙ ap (λ rest. flat_map of (take at xs) ++ rest) (append-nil (of x))))
     (then-gathers to first second third (flat_map of (take at xs)) (of x) one other)
 
 -- and so where each makes one ask
@@ -160,11 +200,14 @@ map-flat : {X : Type 0} (of : X → Ask) (xs : List X) → flat_map (λ x. of x 
 map-flat of [] = refl
 map-flat of (x ∷ xs) = ap (λ rest. of x ∷ rest) (map-flat of xs)
 
-pub one-more-gathers : {X : Type 0} (of : X → Ask) (to : Known) (first second third : Gathered) (xs : List X) (at : ℕ) (x default : X) → at < length xs → x ≡ get_or xs at default
-    → Gathers to first second (map of (take at xs)) → Gathers to second third (of x ∷ []) → Gathers to first third (map of (take (at + 1) xs))
+pub one-more-gathers : {X : Type 0} (of : X → Ask) (to : Known) (first second third : Gathered) (xs : List X) (at : ℕ) (x default : X)
+    → at < length xs → x ≡ get_or xs at default
+    → Gathers to first second (map of (take at xs)) → Gathers to second third (of x ∷ [])
+    → Gathers to first third (map of (take (at + 1) xs))
 one-more-gathers of to first second third xs at x default below is one other =
     subst (Gathers to first third) (map-flat of (take (at + 1) xs))
-    (more-gathers (λ x. of x ∷ []) to first second third xs at x default below is (subst (Gathers to first second) (sym (map-flat of (take at xs))) one) other)
+    (more-gathers (λ x. of x ∷ []) to first second third xs at x default below is
+    (subst (Gathers to first second) (sym (map-flat of (take at xs))) one) other)
 
 -- by nothing nothing is said
 never-asked : (ask : Ask) → was_asked nothing_gathered ask ≡ false

@@ -1,5 +1,6 @@
 -- The tiles that rows of keys make due are those that the tables do.
-use Rattle.std.proofs.Common.{◌≡◌, ◌<◌, ◌≤◌, ℕ, zero, suc, ◌+◌, Bool, true, false, not, ◌&&◌, ◌||◌, List, [], ◌∷◌, ◌++◌, length, Option, Some, None, refl, sym, ap, ◌∙◌, arith, inl, inr, ◌⊎◌}
+use Rattle.std.proofs.Common.{◌≡◌, ◌<◌, ◌≤◌, ℕ, zero, suc, ◌+◌, Bool, true, false, not, ◌&&◌, ◌||◌, List, [], ◌∷◌, ◌++◌, length, Option}
+use Rattle.std.proofs.Common.{Some, None, refl, sym, ap, ◌∙◌, arith, inl, inr, ◌⊎◌}
 use mathlib.Core.Bool.{false≢true}
 use Rattle.std.specs.Cmp.{Equal-is}
 use Rattle.std.specs.declared.cmp.Ordering.{Ordering}
@@ -50,21 +51,27 @@ any_one {A} {G} test (x ∷ xs) each e = elim (test x) as (λ b. test x ≡ b �
 ] refl e
 
 -- what is there passes
-any_there : {K : Type 0} {R : K → K → Ordering} → IsAntisymmetric R → (test : K → Bool) (own : K) (xs : List K) → list_any (eq_by_cmp R own) xs ≡ true → test own ≡ true → list_any test xs ≡ true
+any_there : {K : Type 0} {R : K → K → Ordering} → IsAntisymmetric R → (test : K → Bool) (own : K) (xs : List K)
+    → list_any (eq_by_cmp R own) xs ≡ true → test own ≡ true → list_any test xs ≡ true
 any_there same test own [] there is = absurd (false≢true there)
-any_there {R = R} same test own (x ∷ xs) there is = elim (eq_by_cmp R own x) as (λ b. eq_by_cmp R own x ≡ b → (b || list_any (eq_by_cmp R own) xs) ≡ true → (test x || list_any test xs) ≡ true) [
-  | true ↦ λ tied _. or-left (test x) (list_any test xs) (ap test (sym (same own x ((Equal-is (R own x)).0 tied))) ∙ is)
-  | false ↦ λ _ later. or-true (test x) (list_any test xs) (any_there same test own xs later is)
-] refl there
+any_there {R = R} same test own (x ∷ xs) there is =
+    elim (eq_by_cmp R own x) as (λ b. eq_by_cmp R own x ≡ b → (b || list_any (eq_by_cmp R own) xs) ≡ true
+    → (test x || list_any test xs) ≡ true) [
+      | true ↦ λ tied _. or-left (test x) (list_any test xs) (ap test (sym (same own x ((Equal-is (R own x)).0 tied))) ∙ is)
+      | false ↦ λ _ later. or-true (test x) (list_any test xs) (any_there same test own xs later is)
+    ] refl there
 
-in_range : (test : ℕ → Bool) (own first count : ℕ) → first ≤ own → own < first + count → test own ≡ true → list_any test (range_with_len first count) ≡ true
+in_range : (test : ℕ → Bool) (own first count : ℕ) → first ≤ own → own < first + count → test own ≡ true
+    → list_any test (range_with_len first count) ≡ true
 in_range test own first zero least most is = absurd (omega (arith, least, most))
 in_range test own first (suc count) least most is = elim (cases_eq own first) [
   | inl same ↦ or-left (test first) (list_any test (range_with_len (first + 1) count)) (ap test (sym same) ∙ is)
-  | inr other ↦ or-true (test first) (list_any test (range_with_len (first + 1) count)) (in_range test own (first + 1) count (omega (arith, least, other)) (omega (arith, most)) is)
+  | inr other ↦ or-true (test first) (list_any test (range_with_len (first + 1) count))
+      (in_range test own (first + 1) count (omega (arith, least, other)) (omega (arith, most)) is)
 ]
 
-some_met : (definition : Option TableDef) (bounds : BoundsOf) (row : Option Row) (zoom x y : ℕ) → met_under definition bounds row zoom x y ≡ true → is_some row ≡ true
+some_met : (definition : Option TableDef) (bounds : BoundsOf) (row : Option Row) (zoom x y : ℕ)
+    → met_under definition bounds row zoom x y ≡ true → is_some row ≡ true
 some_met None bounds row zoom x y e = absurd (false≢true e)
 some_met (Some definition) bounds None zoom x y e = absurd (false≢true e)
 some_met (Some definition) bounds (Some row) zoom x y e = refl
@@ -90,19 +97,26 @@ module _ (style : StyleOf) (bounds : BoundsOf) (before after : TableMap) (zoom x
   -- a spot that is due has a row before or after
   kept : (spot : SpotOf) → due spot ≡ true → list_any (eq_by_cmp spot_cmp spot) (finite.keys before ++ finite.keys after) ≡ true
   kept spot is =
-      let p = both (not (same_found (finite.get before spot) (finite.get after spot))) (met spot.table (finite.get before spot) || met spot.table (finite.get after spot)) is in
+      let p = both (not (same_found (finite.get before spot) (finite.get after spot)))
+      (met spot.table (finite.get before spot) || met spot.table (finite.get after spot)) is in
       list_any-append (eq_by_cmp spot_cmp spot) (finite.keys before) (finite.keys after)
       ∙ elim (one_of (met spot.table (finite.get before spot)) (met spot.table (finite.get after spot)) p.1) [
-        | inl old ↦ or-left (list_any (eq_by_cmp spot_cmp spot) (finite.keys before)) (list_any (eq_by_cmp spot_cmp spot) (finite.keys after))
-            (sym (finite.contains_key-keys before spot) ∙ some_met (slice_get style.tables spot.table) bounds (finite.get before spot) zoom x y old)
-        | inr new ↦ or-true (list_any (eq_by_cmp spot_cmp spot) (finite.keys before)) (list_any (eq_by_cmp spot_cmp spot) (finite.keys after))
-            (sym (finite.contains_key-keys after spot) ∙ some_met (slice_get style.tables spot.table) bounds (finite.get after spot) zoom x y new)
+        | inl old ↦ or-left (list_any (eq_by_cmp spot_cmp spot) (finite.keys before))
+            (list_any (eq_by_cmp spot_cmp spot) (finite.keys after))
+            (sym (finite.contains_key-keys before spot)
+            ∙ some_met (slice_get style.tables spot.table) bounds (finite.get before spot) zoom x y old)
+        | inr new ↦ or-true (list_any (eq_by_cmp spot_cmp spot) (finite.keys before))
+            (list_any (eq_by_cmp spot_cmp spot) (finite.keys after))
+            (sym (finite.contains_key-keys after spot)
+            ∙ some_met (slice_get style.tables spot.table) bounds (finite.get after spot) zoom x y new)
       ]
 
   differs : (spot : SpotOf) → due spot ≡ true → finite.get before spot ≡ finite.get after spot → ⊥
   differs spot is same =
-      let p = both (not (same_found (finite.get before spot) (finite.get after spot))) (met spot.table (finite.get before spot) || met spot.table (finite.get after spot)) is in
-      not_so (same_found (finite.get before spot) (finite.get after spot)) p.0 (ap (same_found (finite.get before spot)) (sym same) ∙ same_found-itself (finite.get before spot))
+      let p = both (not (same_found (finite.get before spot) (finite.get after spot)))
+      (met spot.table (finite.get before spot) || met spot.table (finite.get after spot)) is in
+      not_so (same_found (finite.get before spot) (finite.get after spot)) p.0
+      (ap (same_found (finite.get before spot)) (sym same) ∙ same_found-itself (finite.get before spot))
 
   module _ (keys : List KeyOf) where
     abbrev at_keys : Bool
@@ -113,30 +127,42 @@ module _ (style : StyleOf) (bounds : BoundsOf) (before after : TableMap) (zoom x
 
     forth : at_keys ≡ true → at_spots ≡ true
     forth is = any_one (λ key. list_any (λ table. due (at table key)) (range_with_len 0 (length style.tables))) keys
-        (λ key inner. any_one (λ table. due (at table key)) (range_with_len 0 (length style.tables)) (λ table here. any_there spot_cmp-IsAntisymmetric due (at table key) (finite.keys before ++ finite.keys after) (kept (at table key) here) here) inner) is
+        (λ key inner. any_one (λ table. due (at table key)) (range_with_len 0 (length style.tables))
+        (λ table here. any_there spot_cmp-IsAntisymmetric due (at table key) (finite.keys before ++ finite.keys after)
+        (kept (at table key) here) here) inner) is
 
     module _ (past : (spot : SpotOf) → length style.tables ≤ spot.table → finite.get before spot ≡ finite.get after spot)
-        (outside : (spot : SpotOf) → list_any (eq_by_cmp key_cmp spot.key) keys ≡ false → finite.get before spot ≡ finite.get after spot) where
-      here : (spot : SpotOf) → due spot ≡ true → at_keys ≡ true
-      here spot is = elim (cases_lt spot.table (length style.tables)) [
-        | inr behind ↦ absurd (differs spot is (past spot behind))
-        | inl below ↦ elim (list_any (eq_by_cmp key_cmp spot.key) keys) as (λ b. list_any (eq_by_cmp key_cmp spot.key) keys ≡ b → at_keys ≡ true) [
-          | true ↦ λ among. any_there key_cmp-IsAntisymmetric (λ key. list_any (λ table. due (at table key)) (range_with_len 0 (length style.tables))) spot.key keys among
-              (in_range (λ table. due (at table spot.key)) spot.table 0 (length style.tables) (omega arith) (omega (arith, below)) is)
-          | false ↦ λ none. absurd (differs spot is (outside spot none))
-        ] refl
-      ]
+        (outside : (spot : SpotOf) → list_any (eq_by_cmp key_cmp spot.key) keys ≡ false → finite.get before spot ≡ finite.get after spot)
+      where
+        here : (spot : SpotOf) → due spot ≡ true → at_keys ≡ true
+        here spot is = elim (cases_lt spot.table (length style.tables)) [
+          | inr behind ↦ absurd (differs spot is (past spot behind))
+          | inl below ↦ elim (list_any (eq_by_cmp key_cmp spot.key) keys) as
+              (λ b. list_any (eq_by_cmp key_cmp spot.key) keys ≡ b → at_keys ≡ true) [
+                | true ↦ λ among. any_there key_cmp-IsAntisymmetric
+                    (λ key. list_any (λ table. due (at table key)) (range_with_len 0 (length style.tables))) spot.key keys among
+                    (in_range (λ table. due (at table spot.key)) spot.table 0 (length style.tables) (omega arith) (omega (arith, below)) is)
+                | false ↦ λ none. absurd (differs spot is (outside spot none))
+              ] refl
+        ]
 
-      pub at_keys-is : at_keys ≡ due_of style bounds before after zoom x y
-      unfolding due_of
-      at_keys-is = alike at_keys at_spots forth (any_one due (finite.keys before ++ finite.keys after) here)
+        pub at_keys-is : at_keys ≡ due_of style bounds before after zoom x y
+        unfolding due_of
+        at_keys-is = alike at_keys at_spots forth (any_one due (finite.keys before ++ finite.keys after) here)
 
 -- with the rows of each key in lists
 pub due-of-keys : (style : StyleOf) (bounds : BoundsOf) (before after : TableMap) (old new : KeyOf → List TableRow) (keys : List KeyOf)
-    → ((spot : SpotOf) → row_in (old spot.key) spot.table ≡ finite.get before spot) → ((spot : SpotOf) → row_in (new spot.key) spot.table ≡ finite.get after spot)
-    → ((spot : SpotOf) → length style.tables ≤ spot.table → finite.get before spot ≡ finite.get after spot) → ((spot : SpotOf) → list_any (eq_by_cmp key_cmp spot.key) keys ≡ false → finite.get before spot ≡ finite.get after spot)
-    → (zoom x y : ℕ) → list_any (λ key. is_due_key style bounds (old key) (new key) zoom x y) keys ≡ due_of style bounds before after zoom x y
+    → ((spot : SpotOf) → row_in (old spot.key) spot.table ≡ finite.get before spot)
+    → ((spot : SpotOf) → row_in (new spot.key) spot.table ≡ finite.get after spot)
+    → ((spot : SpotOf) → length style.tables ≤ spot.table → finite.get before spot ≡ finite.get after spot)
+    → ((spot : SpotOf) → list_any (eq_by_cmp key_cmp spot.key) keys ≡ false → finite.get before spot ≡ finite.get after spot)
+    → (zoom x y : ℕ) → list_any (λ key. is_due_key style bounds (old key) (new key) zoom x y) keys
+    ≡ due_of style bounds before after zoom x y
 due-of-keys style bounds before after old new keys was is past outside zoom x y =
-    ap (λ (rows : RowsAt). list_any (λ key. list_any (λ table. differs_at style bounds table (rows (record { table = table; key = key })) (row_in (new key) table) zoom x y) (range_with_len 0 (length style.tables))) keys) (λ i spot. was spot i)
-    ∙ ap (λ (rows : RowsAt). list_any (λ key. list_any (λ table. differs_at style bounds table (finite.get before (record { table = table; key = key })) (rows (record { table = table; key = key })) zoom x y) (range_with_len 0 (length style.tables))) keys) (λ i spot. is spot i)
+    ap (λ (rows : RowsAt). list_any (λ key. list_any
+    (λ table. differs_at style bounds table (rows (record { table = table; key = key })) (row_in (new key) table) zoom x y)
+    (range_with_len 0 (length style.tables))) keys) (λ i spot. was spot i)
+    ∙ ap (λ (rows : RowsAt). list_any (λ key.
+    list_any (λ table. differs_at style bounds table (finite.get before (record { table = table; key = key }))
+    (rows (record { table = table; key = key })) zoom x y) (range_with_len 0 (length style.tables))) keys) (λ i spot. is spot i)
     ∙ at_keys-is style bounds before after zoom x y keys past outside

@@ -12,7 +12,8 @@ proper_from before (entry ∷ entries) rise = (rise.0, proper_from (Some entry.k
 pub change_proper : (entries : List Entry) → IsChange entries → AreProperEntries entries
 change_proper entries rise = proper_from None entries rise
 
-pub proper_at : (entries : List Entry) (at : ℕ) (own : Entry) → AreProperEntries entries → at < length entries → own ≡ slice_index_or entries at own → IsProper own
+pub proper_at : (entries : List Entry) (at : ℕ) (own : Entry) → AreProperEntries entries → at < length entries
+    → own ≡ slice_index_or entries at own → IsProper own
 proper_at [] at own all below is = absurd (omega (arith, below))
 proper_at (first ∷ rest) zero own all below is = subst IsProper (sym is) all.0
 proper_at (first ∷ rest) (suc at) own all below is = proper_at rest at own all.1 (omega (arith, below)) is

@@ -17,7 +17,8 @@ abbrev filled_by : List Entry → Maps
 filled_by entries = all_objects_on (all_listed_on empty_maps entries) entries
 
 -- one entry more
-module _ (entries : List Entry) (at : ℕ) (own : Entry) (rise : IsChange entries) (below : at < length entries) (is : own ≡ get_or entries at own) where
+module _ (entries : List Entry) (at : ℕ) (own : Entry) (rise : IsChange entries) (below : at < length entries)
+    (is : own ≡ get_or entries at own) where
   abbrev front : List Entry
   front = take at entries
 
@@ -30,7 +31,8 @@ module _ (entries : List Entry) (at : ℕ) (own : Entry) (rise : IsChange entrie
       ∙ fresh-entry (change_on empty_maps front) own (no-form entries at own rise below is)
       ∙ sym (fold-more entry_on empty_maps entries at own below is)
 
-front_filled : (first : Entry) (entries : List Entry) → IsChange entries → (at : ℕ) → at ≤ length entries → filled_by (take at entries) ≡ change_on empty_maps (take at entries)
+front_filled : (first : Entry) (entries : List Entry) → IsChange entries → (at : ℕ) → at ≤ length entries
+    → filled_by (take at entries) ≡ change_on empty_maps (take at entries)
 front_filled first entries rise zero within = refl
 front_filled first entries rise (suc at) within =
     let below : at < length entries = omega (arith, within) in
@@ -45,4 +47,5 @@ filled [] rise = refl
 filled (first ∷ rest) rise =
     let entries : List Entry = first ∷ rest in
     let whole : take (length entries) entries ≡ entries = take_all (length entries) entries (omega arith) in
-    subst (λ (own : List Entry). filled_by own ≡ change_on empty_maps own) whole (front_filled first entries rise (length entries) (omega arith))
+    subst (λ (own : List Entry). filled_by own ≡ change_on empty_maps own) whole
+    (front_filled first entries rise (length entries) (omega arith))

@@ -1,5 +1,6 @@
 -- Maps that were filled by entries stand for the objects of these.
-use Rattle.std.proofs.Common.{◌≡◌, ◌<◌, ◌+◌, ◌*◌, ℕ, true, false, cond, List, [], ◌∷◌, length, map, take, slice_index_or, None, refl, sym, ap, ◌∙◌}
+use Rattle.std.proofs.Common.{◌≡◌, ◌<◌, ◌+◌, ◌*◌, ℕ, true, false, cond, List, [], ◌∷◌, length, map, take, slice_index_or, None, refl, sym}
+use Rattle.std.proofs.Common.{ap, ◌∙◌}
 use Rattle.std.specs.Prelude.{if◌then◌else◌}
 use Rattle.std.specs.FinMap as finite
 use Rattle.std.specs.List.{AllByRecursion, list_any}
@@ -38,8 +39,10 @@ use Rattle.update_step.proofs.WantedEntries.{none-unwanted}
 
 -- A key that is not there has no form.
 
-none_listed : (listing : ListingOf) (by : Kind) (what : Object → List ℕ) (kind : Kind) (own : ℕ) → AllListed listing own (ids_for by what kind None)
-none_listed listing by what kind own = elim (is_kind by kind) as (λ b. AllListed listing own (if b then listed_by what None else [])) [ true ↦ tt | false ↦ tt ]
+none_listed : (listing : ListingOf) (by : Kind) (what : Object → List ℕ) (kind : Kind) (own : ℕ)
+    → AllListed listing own (ids_for by what kind None)
+none_listed listing by what kind own = elim (is_kind by kind) as
+    (λ b. AllListed listing own (if b then listed_by what None else [])) [ true ↦ tt | false ↦ tt ]
 
 -- what is not there lists nothing
 pub none-told : (maps : Maps) (own : KeyOf) → AreTold maps own None
@@ -49,10 +52,14 @@ none-told maps own = record {
   relations_of_ways = none_listed maps.relations_of_ways kinds.Relation (listed kinds.Way) own.kind own.id;
 }
 
-form_untouched : (maps : Maps) (entries : List Entry) → StandsOn true maps (folded_all finite.empty entries) → (kind : Kind) (id : ℕ) → Untouched (record { kind = kind; id = id }) entries → form_in maps kind id ≡ None
+form_untouched : (maps : Maps) (entries : List Entry) → StandsOn true maps (folded_all finite.empty entries) → (kind : Kind) (id : ℕ)
+    → Untouched (record { kind = kind; id = id }) entries → form_in maps kind id ≡ None
 form_untouched maps entries stands kinds.Node id untouched = refl
-form_untouched maps entries stands kinds.Way id untouched = stands.objects.ways id ∙ get-untouched finite.empty entries (way_key id) untouched ∙ finite.get-empty key_cmp (way_key id)
-form_untouched maps entries stands kinds.Relation id untouched = stands.objects.relations id ∙ get-untouched finite.empty entries (relation_key id) untouched ∙ finite.get-empty key_cmp (relation_key id)
+form_untouched maps entries stands kinds.Way id untouched =
+    stands.objects.ways id ∙ get-untouched finite.empty entries (way_key id) untouched ∙ finite.get-empty key_cmp (way_key id)
+form_untouched maps entries stands kinds.Relation id untouched =
+    stands.objects.relations id ∙ get-untouched finite.empty entries (relation_key id) untouched
+    ∙ finite.get-empty key_cmp (relation_key id)
 
 -- the entries before an entry have given its key no form
 pub no-form : (entries : List Entry) (at : ℕ) (own : Entry) → IsChange entries → at < length entries → own ≡ slice_index_or entries at own
@@ -64,7 +71,8 @@ no-form entries at own rise below is =
     own.key.kind own.key.id (front-untouched entries at own rise below is)
 
 -- a key that is to have no rows has none where other keys got theirs
-pub lacks-still : (rows : KeyOf → List TableRow) (keys : List KeyOf) (maps : Maps) → LacksRows maps rows → LacksRows (set_all_rows maps rows keys) rows
+pub lacks-still : (rows : KeyOf → List TableRow) (keys : List KeyOf) (maps : Maps) → LacksRows maps rows
+    → LacksRows (set_all_rows maps rows keys) rows
 lacks-still rows keys maps lacks own none =
     got-all rows keys maps own.kind own.id
     ∙ elim (list_any (eq_by_cmp key_cmp own) keys) as (λ b. cond b (unless_empty (rows own)) (rows_at maps own.kind own.id) ≡ None) [
@@ -84,12 +92,14 @@ lacks-first rows entries own none = rows_stay entries empty_maps own.kind own.id
 -- The rows of what is there.
 
 -- rows out of what is known of objects are those of the objects
-pub known-rows : (style : StyleOf) (objects : ObjectSet) (keys : List KeyOf) → map (rows_known style (known_of objects)) keys ≡ map (rows_in style objects) keys
+pub known-rows : (style : StyleOf) (objects : ObjectSet) (keys : List KeyOf)
+    → map (rows_known style (known_of objects)) keys ≡ map (rows_in style objects) keys
 unfolding rows_known rows_in
 known-rows style objects keys = refl
 
 -- they may be kept
-pub may-keep-all : (style : StyleOf) (known : Known) (keys : List KeyOf) → AllByRecursion (MayKeep style.tables) (map (rows_known style known) keys)
+pub may-keep-all : (style : StyleOf) (known : Known) (keys : List KeyOf)
+    → AllByRecursion (MayKeep style.tables) (map (rows_known style known) keys)
 may-keep-all style known [] = tt
 may-keep-all style known (own ∷ keys) = (may_keep style known own, may-keep-all style known keys)
 
@@ -105,14 +115,17 @@ stands_empty style = record {
 }
 
 -- nor what no table may want
-pub rows-unwanted : (style : StyleOf) (objects : ObjectSet) (own : KeyOf) → may_have_rows style (finite.get objects own) ≡ false → rows_in style objects own ≡ []
+pub rows-unwanted : (style : StyleOf) (objects : ObjectSet) (own : KeyOf) → may_have_rows style (finite.get objects own) ≡ false
+    → rows_in style objects own ≡ []
 unfolding rows_known rows_in
 rows-unwanted style objects own not = rows_known-unwanted style (known_of objects) own not
 
 -- all objects of entries are set, and the rows of the keys of those that a table may want
-pub imported-stands : (style : StyleOf) (entries : List Entry) (keys : List KeyOf) → IsChange entries → keys ≡ keys_named (wanted_among style entries)
+pub imported-stands : (style : StyleOf) (entries : List Entry) (keys : List KeyOf) → IsChange entries
+    → keys ≡ keys_named (wanted_among style entries)
     → Stands style (appended empty_maps entries (rows_in style (folded_all finite.empty entries)) keys) (folded_all finite.empty entries)
 imported-stands style entries keys rise are =
     appended_stands style empty_maps finite.empty entries keys (stands_empty style) (change_proper entries rise)
-    (λ own outside. rows-unwanted style (folded_all finite.empty entries) own (none-unwanted style entries own rise (ap (list_any (eq_by_cmp key_cmp own)) (sym are) ∙ outside))
+    (λ own outside. rows-unwanted style (folded_all finite.empty entries) own
+    (none-unwanted style entries own rise (ap (list_any (eq_by_cmp key_cmp own)) (sym are) ∙ outside))
     ∙ sym (rows-none style finite.empty own (finite.get-empty key_cmp own)))

@@ -1,5 +1,6 @@
 -- What a change touches, worked by hand: of two nodes and the way through them the second node moves.
-use Rattle.std.proofs.Common.{◌≡◌, ℕ, ◌*◌, Bool, true, false, cond, ◌||◌, ◌&&◌, List, [], ◌∷◌, Option, Some, None, refl, sym, ap, subst, ◌∙◌, nat_eq}
+use Rattle.std.proofs.Common.{◌≡◌, ℕ, ◌*◌, Bool, true, false, cond, ◌||◌, ◌&&◌, List, [], ◌∷◌, Option, Some, None, refl, sym, ap, subst}
+use Rattle.std.proofs.Common.{◌∙◌, nat_eq}
 use mathlib.Core.Bool.{false≢true}
 use Rattle.std.specs.Cmp.{unsigned_tied}
 use Rattle.std.specs.FinMap as finite
@@ -24,11 +25,14 @@ use Rattle.store_maps.specs.Maps.{block_of}
 use Rattle.store_maps.specs.Turns.{blocks_in, listed_by}
 use Rattle.store_maps.proofs.IdLists.{same_as}
 use Rattle.update_step.specs.Touch.{Touch, is_block_in_lists, is_listed_after}
-use Rattle.update_step.specs.Touch.Touch.{along, along_member, around, around_member, block, block_of_list, member, node, node_of_member, node_of_way, relation, relation_of_node, relation_of_way, rows_of_node, rows_of_relation, rows_of_way, way, way_of_block}
+use Rattle.update_step.specs.Touch.Touch.{along, along_member, around, around_member, block, block_of_list, member, node, node_of_member}
+use Rattle.update_step.specs.Touch.Touch.{node_of_way, relation, relation_of_node, relation_of_way, rows_of_node, rows_of_relation}
+use Rattle.update_step.specs.Touch.Touch.{rows_of_way, way, way_of_block}
 
 -- the keys that are asked: the numbers of a map and of a key of it
 abbrev touched : ℕ → ℕ → Bool
-touched number key = list_any (λ (own : ℕ × ℕ). nat_eq own.0 number && nat_eq own.1 key) ((0, 1) ∷ (0, 2) ∷ (1, 1) ∷ (3, 0) ∷ (4, 2) ∷ (5, 1) ∷ (6, 2) ∷ (7, 2) ∷ [])
+touched number key = list_any (λ (own : ℕ × ℕ). nat_eq own.0 number && nat_eq own.1 key)
+    ((0, 1) ∷ (0, 2) ∷ (1, 1) ∷ (3, 0) ∷ (4, 2) ∷ (5, 1) ∷ (6, 2) ∷ (7, 2) ∷ [])
 
 or-none : (b : Bool) → (b || false) ≡ b
 or-none true = refl
@@ -56,13 +60,16 @@ module _ (style : StyleOf) (first second moved : Option PlaceOf) (none road : Ta
 
   no_way : (id : ℕ) → finite.get nodes (way_key id) ≡ None
   no_way id =
-      finite.get-insert key_cmp_total (finite.insert finite.empty (node_key 1) (Node first none)) (node_key 2) (Node second none) (way_key id)
+      finite.get-insert key_cmp_total (finite.insert finite.empty (node_key 1) (Node first none)) (node_key 2) (Node second none)
+      (way_key id)
       ∙ finite.get-insert key_cmp_total finite.empty (node_key 1) (Node first none) (way_key id) ∙ finite.get-empty key_cmp (way_key id)
 
   no_relation : (id : ℕ) → finite.get nodes (relation_key id) ≡ None
   no_relation id =
-      finite.get-insert key_cmp_total (finite.insert finite.empty (node_key 1) (Node first none)) (node_key 2) (Node second none) (relation_key id)
-      ∙ finite.get-insert key_cmp_total finite.empty (node_key 1) (Node first none) (relation_key id) ∙ finite.get-empty key_cmp (relation_key id)
+      finite.get-insert key_cmp_total (finite.insert finite.empty (node_key 1) (Node first none)) (node_key 2) (Node second none)
+      (relation_key id)
+      ∙ finite.get-insert key_cmp_total finite.empty (node_key 1) (Node first none) (relation_key id)
+      ∙ finite.get-empty key_cmp (relation_key id)
 
   abbrev line_at : ℕ → Option Object
   line_at id = cond (nat_eq id 1) (Some line) None
@@ -84,7 +91,8 @@ module _ (style : StyleOf) (first second moved : Option PlaceOf) (none road : Ta
   -- What is pending.
 
   node_is : (id : ℕ) → is_pending_node style before change id ≡ nat_eq id 2
-  node_is id = ap (λ b. (b || false) || (reaches_nodes style && false)) (unsigned_tied id 2) ∙ ap (λ b. (nat_eq id 2 || false) || b) (and-none (reaches_nodes style)) ∙ or-none (nat_eq id 2 || false) ∙ or-none (nat_eq id 2)
+  node_is id = ap (λ b. (b || false) || (reaches_nodes style && false)) (unsigned_tied id 2)
+      ∙ ap (λ b. (nat_eq id 2 || false) || b) (and-none (reaches_nodes style)) ∙ or-none (nat_eq id 2 || false) ∙ or-none (nat_eq id 2)
 
   named_is : (id : ℕ) → is_named change (node_key id) ≡ nat_eq id 2
   named_is id = ap (λ b. b || false) (unsigned_tied id 2) ∙ or-none (nat_eq id 2)
@@ -94,10 +102,13 @@ module _ (style : StyleOf) (first second moved : Option PlaceOf) (none road : Ta
   lists_second false = refl
 
   way_is : (id : ℕ) → is_pending_way style before change id ≡ nat_eq id 1
-  way_is id = ap (λ (form : Option Object). (lists kinds.Node 2 form || false) || false) (way_after id) ∙ ap (λ b. (b || false) || false) (lists_second (nat_eq id 1)) ∙ or-none (nat_eq id 1 || false) ∙ or-none (nat_eq id 1)
+  way_is id = ap (λ (form : Option Object). (lists kinds.Node 2 form || false) || false) (way_after id)
+      ∙ ap (λ b. (b || false) || false) (lists_second (nat_eq id 1)) ∙ or-none (nat_eq id 1 || false) ∙ or-none (nat_eq id 1)
 
   relation_is : (id : ℕ) → is_pending_relation before change id ≡ false
-  relation_is id = ap (λ (form : Option Object). (lists kinds.Node 2 form || false) || list_any (λ own. lists kinds.Node 2 (finite.get after (way_key own)) || false) (ways_in form)) (relation_after id)
+  relation_is id = ap (λ (form : Option Object).
+      (lists kinds.Node 2 form || false) || list_any (λ own. lists kinds.Node 2 (finite.get after (way_key own)) || false) (ways_in form))
+      (relation_after id)
 
   never : (id : ℕ) → is_pending_relation before change id ≡ true → ⊥
   never id is = false≢true (sym (relation_is id) ∙ is)
@@ -105,16 +116,19 @@ module _ (style : StyleOf) (first second moved : Option PlaceOf) (none road : Ta
   -- What is listed.
 
   on_line : (own id : ℕ) → is_listed_after before change kinds.Node id (way_key own) ≡ true → (own ≡ 1) × (has (1 ∷ 2 ∷ []) id ≡ true)
-  on_line own id is = elim (nat_eq own 1) as (λ b. nat_eq own 1 ≡ b → lists kinds.Node id (cond b (Some line) None) ≡ true → (own ≡ 1) × (has (1 ∷ 2 ∷ []) id ≡ true)) [
-    | true ↦ λ same there. (same_as own 1 same, there)
-    | false ↦ λ _ there. absurd (false≢true there)
-  ] refl (sym (ap (lists kinds.Node id) (way_after own)) ∙ is)
+  on_line own id is = elim (nat_eq own 1) as
+      (λ b. nat_eq own 1 ≡ b → lists kinds.Node id (cond b (Some line) None) ≡ true → (own ≡ 1) × (has (1 ∷ 2 ∷ []) id ≡ true)) [
+        | true ↦ λ same there. (same_as own 1 same, there)
+        | false ↦ λ _ there. absurd (false≢true there)
+      ] refl (sym (ap (lists kinds.Node id) (way_after own)) ∙ is)
 
   in_block : (at id : ℕ) → is_block_in_lists before change at id ≡ true → nat_eq id 1 ≡ true
-  in_block at id is = elim (nat_eq id 1) as (λ b. (has (listed_by blocks_in (cond b (Some line) None)) at || has (listed_by blocks_in (cond b (Some line) None)) at) ≡ true → b ≡ true) [
-    | true ↦ λ _. refl
-    | false ↦ λ there. absurd (false≢true there)
-  ] (sym (λ i. has (listed_by blocks_in (way_before id i)) at || has (listed_by blocks_in (way_after id i)) at) ∙ is)
+  in_block at id is = elim (nat_eq id 1) as
+      (λ b. (has (listed_by blocks_in (cond b (Some line) None)) at || has (listed_by blocks_in (cond b (Some line) None)) at) ≡ true
+      → b ≡ true) [
+        | true ↦ λ _. refl
+        | false ↦ λ there. absurd (false≢true there)
+      ] (sym (λ i. has (listed_by blocks_in (way_before id i)) at || has (listed_by blocks_in (way_after id i)) at) ∙ is)
 
   unlisted : (kind : Kind) (own id : ℕ) → is_listed_after before change kind own (relation_key id) ≡ true → ⊥
   unlisted kind own id is = false≢true (sym (ap (lists kind own) (relation_after id)) ∙ is)

@@ -1,5 +1,6 @@
 -- Entries whose keys rise, and the objects that they make of a map without any.
-use Rattle.std.proofs.Common.{◌≡◌, ◌⊎◌, inl, inr, ◌<◌, ◌≤◌, ℕ, zero, suc, Bool, true, false, cond, List, [], ◌∷◌, length, slice_index_or, Option, Some, None, refl, sym, ap, ◌∙◌, arith}
+use Rattle.std.proofs.Common.{◌≡◌, ◌⊎◌, inl, inr, ◌<◌, ◌≤◌, ℕ, zero, suc, Bool, true, false, cond, List, [], ◌∷◌, length, slice_index_or}
+use Rattle.std.proofs.Common.{Option, Some, None, refl, sym, ap, ◌∙◌, arith}
 use mathlib.Core.Bool.{false≢true}
 use Rattle.std.specs.declared.cmp.Ordering.{Ordering}
 use Rattle.std.specs.declared.cmp.Ordering.TheVariants.{Less, Equal, Greater}
@@ -54,7 +55,8 @@ rises_from last (entry ∷ entries) (suc i) (suc j) rise order inside =
 
 module _ (entries : List Entry) (rise : IsChange entries) (key : KeyOf) where
   -- what holds at a place holds before it, or behind it
-  pub all_below : (middle k : ℕ) → middle < length entries → is_below (key_in entries middle) key ≡ true → k ≤ middle → is_below (key_in entries k) key ≡ true
+  pub all_below : (middle k : ℕ) → middle < length entries → is_below (key_in entries middle) key ≡ true → k ≤ middle
+      → is_below (key_in entries k) key ≡ true
   all_below middle k inside below within = elim (same_or_less k middle within) [
     | inl same ↦ ap (λ (n : ℕ). is_below (key_in entries n) key) same ∙ below
     | inr less ↦ below_all (key_in entries k) (key_in entries middle) key (rises_from None entries k middle rise less inside) below
@@ -63,11 +65,13 @@ module _ (entries : List Entry) (rise : IsChange entries) (key : KeyOf) where
       same_or_less : (a b : ℕ) → a ≤ b → (a ≡ b) ⊎ (a < b)
       same_or_less a b order = grind arith
 
-  pub none_below : (middle k : ℕ) → is_below (key_in entries middle) key ≡ false → middle ≤ k → k < length entries → is_below (key_in entries k) key ≡ false
+  pub none_below : (middle k : ℕ) → is_below (key_in entries middle) key ≡ false → middle ≤ k → k < length entries
+      → is_below (key_in entries k) key ≡ false
   none_below middle k not within inside = elim (same_or_less middle k within) [
     | inl same ↦ ap (λ (n : ℕ). is_below (key_in entries n) key) (sym same) ∙ not
     | inr less ↦ not_true (is_below (key_in entries k) key) (λ below.
-        false≢true (sym not ∙ below_all (key_in entries middle) (key_in entries k) key (rises_from None entries middle k rise less inside) below))
+        false≢true (sym not ∙ below_all (key_in entries middle) (key_in entries k) key
+        (rises_from None entries middle k rise less inside) below))
   ]
     where
       same_or_less : (a b : ℕ) → a ≤ b → (a ≡ b) ⊎ (a < b)
@@ -82,13 +86,15 @@ module _ (entries : List Entry) (rise : IsChange entries) (key : KeyOf) where
   untouched_of (entry ∷ own) each = (each 0 (omega arith), untouched_of own (λ k inside. each (suc k) (omega (arith, inside))))
 
   -- the key is none of theirs
-  pub get_none : ((k : ℕ) → k < length entries → eq_by_cmp key_cmp key (key_in entries k) ≡ false) → finite.get (folded_all finite.empty entries) key ≡ None
+  pub get_none : ((k : ℕ) → k < length entries → eq_by_cmp key_cmp key (key_in entries k) ≡ false)
+      → finite.get (folded_all finite.empty entries) key ≡ None
   get_none each = get-untouched finite.empty entries key (untouched_of entries each) ∙ finite.get-empty key_cmp key
 
   -- the first entries have lower keys, and the one behind them, if there is one, another
   pub get_apart : (place : ℕ) → ((k : ℕ) → k < place → is_below (key_in entries k) key ≡ true)
       → (place < length entries → is_below (key_in entries place) key ≡ false)
-      → (place < length entries → eq_by_cmp key_cmp key (key_in entries place) ≡ false) → finite.get (folded_all finite.empty entries) key ≡ None
+      → (place < length entries → eq_by_cmp key_cmp key (key_in entries place) ≡ false)
+      → finite.get (folded_all finite.empty entries) key ≡ None
   get_apart place below from apart = get_none (λ k inside. elim (three k place) [
     | inl less ↦ above_apart (key_in entries k) key (below k less)
     | inr (inl same) ↦ ap (λ (n : ℕ). eq_by_cmp key_cmp key (key_in entries n)) same ∙ apart (omega (arith, same, inside))
@@ -104,7 +110,8 @@ module _ (entries : List Entry) (rise : IsChange entries) (key : KeyOf) where
 
 -- the objects that are made
 
-untouched_above : (key last : KeyOf) (entries : List Entry) → is_below key last ≡ true → RiseFrom (Some last) entries → Untouched key entries
+untouched_above : (key last : KeyOf) (entries : List Entry) → is_below key last ≡ true → RiseFrom (Some last) entries
+    → Untouched key entries
 untouched_above key last [] below rise = tt
 untouched_above key last (entry ∷ entries) below rise =
     let above = below_all key last entry.key below rise.1 in
@@ -121,17 +128,21 @@ get_from objects last (entry ∷ entries) zero rise inside =
     get-untouched (folded objects entry) entries entry.key (untouched_from entry.key entries rise.2)
     ∙ get-with_object objects entry.key entry.object entry.key
     ∙ ap (λ (b : Bool). cond b entry.object (finite.get objects entry.key)) ((eq_by_cmp_equiv key_cmp_total).refl entry.key)
-get_from objects last (entry ∷ entries) (suc at) rise inside = get_from (folded objects entry) (Some entry.key) entries at rise.2 (omega (arith, inside))
+get_from objects last (entry ∷ entries) (suc at) rise inside =
+    get_from (folded objects entry) (Some entry.key) entries at rise.2 (omega (arith, inside))
 
 -- the entry of the key has its object
-pub get_here : (entries : List Entry) (at : ℕ) (key : KeyOf) → IsChange entries → at < length entries → eq_by_cmp key_cmp key (key_in entries at) ≡ true
+pub get_here : (entries : List Entry) (at : ℕ) (key : KeyOf) → IsChange entries → at < length entries
+    → eq_by_cmp key_cmp key (key_in entries at) ≡ true
     → finite.get (folded_all finite.empty entries) key ≡ (slice_index_or entries at no_entry).object
 get_here entries at key rise inside same =
-    ap (λ (k : KeyOf). finite.get (folded_all finite.empty entries) k) (same_key key (key_in entries at) same) ∙ get_from finite.empty None entries at rise inside
+    ap (λ (k : KeyOf). finite.get (folded_all finite.empty entries) k) (same_key key (key_in entries at) same)
+    ∙ get_from finite.empty None entries at rise inside
 
 -- Relations by themselves.
 
-get_relation : (one other : ObjectSet) (entries : List Entry) (id : ℕ) → finite.get one (key_named Relation id) ≡ finite.get other (key_named Relation id)
+get_relation : (one other : ObjectSet) (entries : List Entry) (id : ℕ)
+    → finite.get one (key_named Relation id) ≡ finite.get other (key_named Relation id)
     → finite.get (fold relation_folded one entries) (key_named Relation id) ≡ finite.get (folded_all other entries) (key_named Relation id)
 get_relation one other [] id same = same
 get_relation one other (entry ∷ entries) id same =
@@ -144,15 +155,20 @@ get_relation one other (entry ∷ entries) id same =
           ∙ sym (get-with_object other entry.key entry.object (key_named Relation id))
       | false ↦ λ is.
           same ∙ sym (get-with_object other entry.key entry.object (key_named Relation id)
-          ∙ ap (λ b. cond b entry.object (finite.get other (key_named Relation id))) (untied-kinds Relation entry.key.kind id entry.key.id is))
+          ∙ ap (λ b. cond b entry.object (finite.get other (key_named Relation id)))
+          (untied-kinds Relation entry.key.kind id entry.key.id is))
     ] refl)
 
 -- the relations that list an object are those of all objects
-pub relations-are : (entries : List Entry) (kind : Kind) (id : ℕ) → ids_of Relation kind id (relations_folded entries) ≡ ids_of Relation kind id (folded_all finite.empty entries)
+pub relations-are : (entries : List Entry) (kind : Kind) (id : ℕ)
+    → ids_of Relation kind id (relations_folded entries) ≡ ids_of Relation kind id (folded_all finite.empty entries)
 relations-are entries kind id =
-    listers-are (folded_all finite.empty entries) Relation kind id (ids_of Relation kind id (relations_folded entries)) (ids_of-rise (relations_folded entries) Relation kind id)
-    (λ own. has-ids_of (relations_folded entries) Relation kind id own ∙ ap (λ o. lists kind id o) (get_relation finite.empty finite.empty entries own refl))
+    listers-are (folded_all finite.empty entries) Relation kind id (ids_of Relation kind id (relations_folded entries))
+    (ids_of-rise (relations_folded entries) Relation kind id)
+    (λ own. has-ids_of (relations_folded entries) Relation kind id own
+    ∙ ap (λ o. lists kind id o) (get_relation finite.empty finite.empty entries own refl))
 
 -- the entry that was read at a place
-pub entry_there : (entries : List Entry) (at : ℕ) (own : Entry) → at < length entries → own ≡ slice_index_or entries at own → slice_index_or entries at no_entry ≡ own
+pub entry_there : (entries : List Entry) (at : ℕ) (own : Entry) → at < length entries → own ≡ slice_index_or entries at own
+    → slice_index_or entries at no_entry ≡ own
 entry_there entries at own inside is = get_or_default entries at no_entry own inside ∙ sym is

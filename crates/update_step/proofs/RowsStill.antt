@@ -19,7 +19,8 @@ use Rattle.store_maps.proofs.IdLists.{same_as}
 use Rattle.store_maps.proofs.RowMaps.{got-all, rows_stay}
 use Rattle.store_maps.proofs.Sets.{get-set}
 
-found_set : {X : Type 0} (values : finite.FinMap nat_cmp X) (key : ℕ) (found : Option X) → finite.get values key ≡ found → set values key found ≡ values
+found_set : {X : Type 0} (values : finite.FinMap nat_cmp X) (key : ℕ) (found : Option X) → finite.get values key ≡ found
+    → set values key found ≡ values
 found_set values key found is = finite.same_map nat_cmp_total nat_cmp-IsAntisymmetric (set values key found) values
     (λ own. get-set values key found own
     ∙ elim (nat_eq own key) as (λ b. nat_eq own key ≡ b → cond b found (finite.get values own) ≡ finite.get values own) [
@@ -28,20 +29,27 @@ found_set values key found is = finite.same_map nat_cmp_total nat_cmp-IsAntisymm
     ] refl)
 
 -- to set the rows that a key has changes nothing
-pub same-set : (maps : Maps) (kind : Kind) (id : ℕ) (rows : List TableRow) → rows_at maps kind id ≡ unless_empty rows → maps ≡ set_rows maps kind id rows
-same-set maps kinds.Node id rows is = sym (ap (λ values. record maps { node_rows = values }) (found_set maps.node_rows id (unless_empty rows) is))
-same-set maps kinds.Way id rows is = sym (ap (λ values. record maps { other_rows = values }) (found_set maps.other_rows (2 * id) (unless_empty rows) is))
-same-set maps kinds.Relation id rows is = sym (ap (λ values. record maps { other_rows = values }) (found_set maps.other_rows (2 * id + 1) (unless_empty rows) is))
+pub same-set : (maps : Maps) (kind : Kind) (id : ℕ) (rows : List TableRow) → rows_at maps kind id ≡ unless_empty rows
+    → maps ≡ set_rows maps kind id rows
+same-set maps kinds.Node id rows is = sym
+    (ap (λ values. record maps { node_rows = values }) (found_set maps.node_rows id (unless_empty rows) is))
+same-set maps kinds.Way id rows is = sym
+    (ap (λ values. record maps { other_rows = values }) (found_set maps.other_rows (2 * id) (unless_empty rows) is))
+same-set maps kinds.Relation id rows is =
+    sym (ap (λ values. record maps { other_rows = values }) (found_set maps.other_rows (2 * id + 1) (unless_empty rows) is))
 
 -- nor does it to set none where there are none
-pub none-set : (maps : Maps) (kind : Kind) (id : ℕ) (rows : List TableRow) → rows ≡ [] → rows_at maps kind id ≡ None → maps ≡ set_rows maps kind id rows
+pub none-set : (maps : Maps) (kind : Kind) (id : ℕ) (rows : List TableRow) → rows ≡ [] → rows_at maps kind id ≡ None
+    → maps ≡ set_rows maps kind id rows
 none-set maps kind id rows empty none = same-set maps kind id rows (none ∙ ap unless_empty (sym empty))
 
 -- a key whose rows are to stay has them, where other keys got theirs
-pub rows-still : (old new : KeyOf → List TableRow) (maps : Maps) (keys : List KeyOf) → HoldsRows maps old → (own : KeyOf) → old own ≡ new own → rows_at (set_all_rows maps new keys) own.kind own.id ≡ unless_empty (new own)
+pub rows-still : (old new : KeyOf → List TableRow) (maps : Maps) (keys : List KeyOf) → HoldsRows maps old → (own : KeyOf)
+    → old own ≡ new own → rows_at (set_all_rows maps new keys) own.kind own.id ≡ unless_empty (new own)
 rows-still old new maps keys has own same =
     got-all new keys maps own.kind own.id
-    ∙ elim (list_any (eq_by_cmp key_cmp own) keys) as (λ b. cond b (unless_empty (new own)) (rows_at maps own.kind own.id) ≡ unless_empty (new own)) [
+    ∙ elim (list_any (eq_by_cmp key_cmp own) keys) as
+    (λ b. cond b (unless_empty (new own)) (rows_at maps own.kind own.id) ≡ unless_empty (new own)) [
       | true ↦ refl
       | false ↦ has.at own.kind own.id ∙ ap unless_empty same
     ]
@@ -55,5 +63,6 @@ pub kept-were : (maps : Maps) (rows : KeyOf → List TableRow) → HoldsRows map
 kept-were maps rows has own = ap kept_rows (has.at own.kind own.id) ∙ kept_unless (rows own)
 
 -- entries leave all rows
-pub entries-keep : (maps : Maps) (change : List Entry) (rows : KeyOf → List TableRow) → HoldsRows maps rows → HoldsRows (change_on maps change) rows
+pub entries-keep : (maps : Maps) (change : List Entry) (rows : KeyOf → List TableRow) → HoldsRows maps rows
+    → HoldsRows (change_on maps change) rows
 entries-keep maps change rows has = record { at = λ kind id. rows_stay change maps kind id ∙ has.at kind id }

@@ -10,14 +10,19 @@ use Rattle.osm_base.specs.values.KeyOrder.{key_cmp}
 use Rattle.osm_base.proofs.Found.{found, inserted}
 use Rattle.osm_base.proofs.KeyLaws.{key_cmp_total, key_cmp-IsAntisymmetric, tree_cmp, tree_cmp-key_cmp}
 
-pub got_id : {X : Type 0} (tree : BTreeMap ℕ X) (id : ℕ) → get_by (nat_cmp id) tree ≡ finite.get (finite.from_entries {R = nat_cmp} tree.entries) id
+pub got_id : {X : Type 0} (tree : BTreeMap ℕ X) (id : ℕ)
+    → get_by (nat_cmp id) tree ≡ finite.get (finite.from_entries {R = nat_cmp} tree.entries) id
 got_id tree id = found nat_cmp nat_cmp_total nat_cmp-IsAntisymmetric id tree.entries
 
-pub got_key : {X : Type 0} (tree : BTreeMap KeyOf X) (key : KeyOf) → get_by (tree_cmp key) tree ≡ finite.get (finite.from_entries {R = key_cmp} tree.entries) key
+pub got_key : {X : Type 0} (tree : BTreeMap KeyOf X) (key : KeyOf)
+    → get_by (tree_cmp key) tree ≡ finite.get (finite.from_entries {R = key_cmp} tree.entries) key
 got_key tree key = ap (λ cmp. get_by (cmp key) tree) tree_cmp-key_cmp ∙ found key_cmp key_cmp_total key_cmp-IsAntisymmetric key tree.entries
 
-pub put_id : {X : Type 0} (old new : BTreeMap ℕ X) (id : ℕ) (value : X) → Updates nat_cmp old new id (Some value) → finite.from_entries {R = nat_cmp} new.entries ≡ finite.insert (finite.from_entries old.entries) id value
+pub put_id : {X : Type 0} (old new : BTreeMap ℕ X) (id : ℕ) (value : X) → Updates nat_cmp old new id (Some value)
+    → finite.from_entries {R = nat_cmp} new.entries ≡ finite.insert (finite.from_entries old.entries) id value
 put_id old new id value updates = inserted nat_cmp nat_cmp_total nat_cmp-IsAntisymmetric old new id value updates
 
-pub put_key : {X : Type 0} (old new : BTreeMap KeyOf X) (key : KeyOf) (value : X) → Updates tree_cmp old new key (Some value) → finite.from_entries {R = key_cmp} new.entries ≡ finite.insert (finite.from_entries old.entries) key value
-put_key old new key value updates = inserted key_cmp key_cmp_total key_cmp-IsAntisymmetric old new key value (subst (λ cmp. Updates cmp old new key (Some value)) tree_cmp-key_cmp updates)
+pub put_key : {X : Type 0} (old new : BTreeMap KeyOf X) (key : KeyOf) (value : X) → Updates tree_cmp old new key (Some value)
+    → finite.from_entries {R = key_cmp} new.entries ≡ finite.insert (finite.from_entries old.entries) key value
+put_key old new key value updates = inserted key_cmp key_cmp_total key_cmp-IsAntisymmetric old new key value
+    (subst (λ cmp. Updates cmp old new key (Some value)) tree_cmp-key_cmp updates)

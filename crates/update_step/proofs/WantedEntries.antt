@@ -1,5 +1,6 @@
 -- The entries of a change whose objects a table may want.
-use Rattle.std.proofs.Common.{◌≡◌, ◌<◌, ◌≤◌, ◌+◌, ℕ, Bool, true, false, ◌||◌, ◌&&◌, cond, List, [], ◌∷◌, ◌++◌, length, take, slice_index_or, Option, None, Some, refl, sym, ap, ◌∙◌, arith}
+use Rattle.std.proofs.Common.{◌≡◌, ◌<◌, ◌≤◌, ◌+◌, ℕ, Bool, true, false, ◌||◌, ◌&&◌, cond, List, [], ◌∷◌, ◌++◌, length, take, slice_index_or}
+use Rattle.std.proofs.Common.{Option, None, Some, refl, sym, ap, ◌∙◌, arith}
 use mathlib.Core.Bool.{false≢true}
 use Rattle.std.specs.Cmp.{Equal-is}
 use Rattle.std.specs.FinMap as finite
@@ -28,7 +29,8 @@ behind : (last : Option KeyOf) (own next : KeyOf) → Follows last own → Follo
 behind None own next one other = tt
 behind (Some first) own next one other = below_all first own next one other
 
-rise-behind : (last : Option KeyOf) (own : KeyOf) (entries : List Entry) → Follows last own → RiseFrom (Some own) entries → RiseFrom last entries
+rise-behind : (last : Option KeyOf) (own : KeyOf) (entries : List Entry) → Follows last own → RiseFrom (Some own) entries
+    → RiseFrom last entries
 rise-behind last own [] follows rise = tt
 rise-behind last own (entry ∷ entries) follows rise = (rise.0, behind last own entry.key follows rise.1, rise.2)
 
@@ -54,16 +56,23 @@ and_false : {X : Type 0} (b : Bool) (one other : X) → other ≡ cond (b && fal
 and_false true one other = refl
 and_false false one other = refl
 
-pub wanted-more : (style : StyleOf) (kind : Kind) (entries : List Entry) (at : ℕ) (own : Entry) → at < length entries → own ≡ slice_index_or entries at own
+pub wanted-more : (style : StyleOf) (kind : Kind) (entries : List Entry) (at : ℕ) (own : Entry) → at < length entries
+    → own ≡ slice_index_or entries at own
     → ids_named kind (wanted_among style (take (at + 1) entries))
-    ≡ cond (is_kind kind own.key.kind && may_have_rows style own.object) (ids_named kind (wanted_among style (take at entries)) ++ own.key.id ∷ []) (ids_named kind (wanted_among style (take at entries)))
+    ≡ cond (is_kind kind own.key.kind && may_have_rows style own.object)
+    (ids_named kind (wanted_among style (take at entries)) ++ own.key.id ∷ []) (ids_named kind (wanted_among style (take at entries)))
 wanted-more style kind entries at own below is =
     let front : List Entry = wanted_among style (take at entries) in
-    ap (λ (list : List Entry). ids_named kind (wanted_among style list)) (take_more entries at own below ∙ ap (λ (next : Entry). take at entries ++ next ∷ []) (sym is))
+    ap (λ (list : List Entry). ids_named kind (wanted_among style list))
+    (take_more entries at own below ∙ ap (λ (next : Entry). take at entries ++ next ∷ []) (sym is))
     ∙ ap (ids_named kind) (filter-append (λ (entry : Entry). may_have_rows style entry.object) (take at entries) (own ∷ []))
-    ∙ elim (may_have_rows style own.object) as (λ b. ids_named kind (front ++ cond b (own ∷ []) []) ≡ cond (is_kind kind own.key.kind && b) (ids_named kind front ++ own.key.id ∷ []) (ids_named kind front)) [
-      | true ↦ ids-push kind front own ∙ and_true (is_kind kind own.key.kind) (ids_named kind front ++ own.key.id ∷ []) (ids_named kind front)
-      | false ↦ ap (ids_named kind) (append-nil front) ∙ and_false (is_kind kind own.key.kind) (ids_named kind front ++ own.key.id ∷ []) (ids_named kind front)
+    ∙ elim (may_have_rows style own.object) as
+    (λ b. ids_named kind (front ++ cond b (own ∷ []) [])
+    ≡ cond (is_kind kind own.key.kind && b) (ids_named kind front ++ own.key.id ∷ []) (ids_named kind front)) [
+      | true ↦ ids-push kind front own ∙ and_true (is_kind kind own.key.kind) (ids_named kind front ++ own.key.id ∷ [])
+          (ids_named kind front)
+      | false ↦ ap (ids_named kind) (append-nil front)
+          ∙ and_false (is_kind kind own.key.kind) (ids_named kind front ++ own.key.id ∷ []) (ids_named kind front)
     ]
 
 -- They are no more than all.
@@ -90,29 +99,36 @@ module _ (style : StyleOf) (objects : ObjectSet) (own : KeyOf) where
   here : (entry : Entry) (wanted : List Entry) → eq_by_cmp key_cmp own entry.key ≡ true → finite.get objects entry.key ≡ entry.object
       → none_of (cond (may_have_rows style entry.object) (entry ∷ wanted) wanted) ≡ false → Unwanted
   here entry wanted same is none =
-      elim (may_have_rows style entry.object) as (λ b. may_have_rows style entry.object ≡ b → none_of (cond b (entry ∷ wanted) wanted) ≡ false → Unwanted) [
+      elim (may_have_rows style entry.object) as
+      (λ b. may_have_rows style entry.object ≡ b → none_of (cond b (entry ∷ wanted) wanted) ≡ false → Unwanted) [
         | true ↦ λ _ none. absurd (false≢true (sym none ∙ ap (λ b. b || none_of wanted) same))
-        | false ↦ λ unwanted _. ap (λ key. may_have_rows style (finite.get objects key)) (key_cmp-IsAntisymmetric own entry.key ((Equal-is (key_cmp own entry.key)).0 same)) ∙ ap (may_have_rows style) is ∙ unwanted
+        | false ↦ λ unwanted _. ap (λ key. may_have_rows style (finite.get objects key))
+            (key_cmp-IsAntisymmetric own entry.key ((Equal-is (key_cmp own entry.key)).0 same)) ∙ ap (may_have_rows style) is ∙ unwanted
       ] refl none
 
-  later : (b : Bool) (entry : Entry) (wanted : List Entry) → eq_by_cmp key_cmp own entry.key ≡ false → none_of (cond b (entry ∷ wanted) wanted) ≡ false → none_of wanted ≡ false
+  later : (b : Bool) (entry : Entry) (wanted : List Entry) → eq_by_cmp key_cmp own entry.key ≡ false
+      → none_of (cond b (entry ∷ wanted) wanted) ≡ false → none_of wanted ≡ false
   later true entry wanted apart none = sym (ap (λ b. b || none_of wanted) apart) ∙ none
   later false entry wanted apart none = none
 
-  go : (entries : List Entry) → AllByRecursion (λ (entry : Entry). finite.get objects entry.key ≡ entry.object) entries → none_of (wanted_among style entries) ≡ false → (Untouched own entries → Unwanted) → Unwanted
+  go : (entries : List Entry) → AllByRecursion (λ (entry : Entry). finite.get objects entry.key ≡ entry.object) entries
+      → none_of (wanted_among style entries) ≡ false → (Untouched own entries → Unwanted) → Unwanted
   go [] all none otherwise = otherwise tt
   go (entry ∷ entries) all none otherwise =
       elim (eq_by_cmp key_cmp own entry.key) as (λ b. eq_by_cmp key_cmp own entry.key ≡ b → Unwanted) [
         | true ↦ λ same. here entry (wanted_among style entries) same all.0 none
-        | false ↦ λ apart. go entries all.1 (later (may_have_rows style entry.object) entry (wanted_among style entries) apart none) (λ untouched. otherwise (apart, untouched))
+        | false ↦ λ apart. go entries all.1 (later (may_have_rows style entry.object) entry (wanted_among style entries) apart none)
+            (λ untouched. otherwise (apart, untouched))
       ] refl
 
 no_object : (style : StyleOf) → may_have_rows style None ≡ false
 unfolding may_have_rows
 no_object style = refl
 
-pub none-unwanted : (style : StyleOf) (entries : List Entry) (own : KeyOf) → IsChange entries → list_any (eq_by_cmp key_cmp own) (keys_named (wanted_among style entries)) ≡ false
+pub none-unwanted : (style : StyleOf) (entries : List Entry) (own : KeyOf) → IsChange entries
+    → list_any (eq_by_cmp key_cmp own) (keys_named (wanted_among style entries)) ≡ false
     → may_have_rows style (finite.get (folded_all finite.empty entries) own) ≡ false
 none-unwanted style entries own rise none =
     go style (folded_all finite.empty entries) own entries (forms-after finite.empty entries rise) none
-    (λ untouched. ap (may_have_rows style) (get-untouched finite.empty entries own untouched ∙ finite.get-empty key_cmp own) ∙ no_object style)
+    (λ untouched. ap (may_have_rows style) (get-untouched finite.empty entries own untouched ∙ finite.get-empty key_cmp own)
+    ∙ no_object style)

@@ -27,7 +27,8 @@ use Rattle.update_step.proofs.DueLaws.{due-of-keys}
 use Rattle.update_step.proofs.PendingKeys.{keys-rise, outside-kind}
 
 module _ (style : StyleOf) (objects : ObjectSet) (change : List Entry) (set : PendingOf)
-    (rising : AreRisingIds set.nodes × AreRisingIds set.ways × AreRisingIds set.relations) (leaves : LeavesRows style objects change set) where
+    (rising : AreRisingIds set.nodes × AreRisingIds set.ways × AreRisingIds set.relations)
+    (leaves : LeavesRows style objects change set) where
   abbrev after : ObjectSet
   after = folded_all objects change
 
@@ -42,11 +43,18 @@ module _ (style : StyleOf) (objects : ObjectSet) (change : List Entry) (set : Pe
       get-tables style objects spot ∙ row_from-past style spot.table (material_of style objects spot.key) spot.key behind
       ∙ sym (get-tables style after spot ∙ row_from-past style spot.table (material_of style after spot.key) spot.key behind)
 
-  outside : (spot : SpotOf) → list_any (eq_by_cmp key_cmp spot.key) (keys_of set) ≡ false → finite.get (tables style objects) spot ≡ finite.get (tables style after) spot
-  outside spot none = get-tables style objects spot ∙ sym (leaves spot.table spot.key (outside-kind set spot.key.kind spot.key.id none)) ∙ sym (get-tables style after spot)
+  outside : (spot : SpotOf) → list_any (eq_by_cmp key_cmp spot.key) (keys_of set) ≡ false
+      → finite.get (tables style objects) spot ≡ finite.get (tables style after) spot
+  outside spot none = get-tables style objects spot ∙ sym (leaves spot.table spot.key (outside-kind set spot.key.kind spot.key.id none))
+      ∙ sym (get-tables style after spot)
 
-  pub delta-is : IsDelta (finite.get (tables style objects)) (finite.get (tables style after)) (told_all (length style.tables) (rows_in style objects) (rows_in style after) (keys_of set))
-  delta-is = told-delta (rows_in style objects) (rows_in style after) (finite.get (tables style objects)) (finite.get (tables style after)) (length style.tables) (keys_of set) was is past outside (keys-rise set rising)
+  pub delta-is : IsDelta (finite.get (tables style objects)) (finite.get (tables style after))
+      (told_all (length style.tables) (rows_in style objects) (rows_in style after) (keys_of set))
+  delta-is = told-delta (rows_in style objects) (rows_in style after) (finite.get (tables style objects)) (finite.get (tables style after))
+      (length style.tables) (keys_of set) was is past outside (keys-rise set rising)
 
-  pub due-is : (bounds : BoundsOf) (zoom x y : ℕ) → list_any (λ (key : KeyOf). is_due_key style bounds (rows_in style objects key) (rows_in style after key) zoom x y) (keys_of set) ≡ due_between style bounds objects after zoom x y
-  due-is bounds zoom x y = due-of-keys style bounds (tables style objects) (tables style after) (rows_in style objects) (rows_in style after) (keys_of set) was is past outside zoom x y
+  pub due-is : (bounds : BoundsOf) (zoom x y : ℕ)
+      → list_any (λ (key : KeyOf). is_due_key style bounds (rows_in style objects key) (rows_in style after key) zoom x y) (keys_of set)
+      ≡ due_between style bounds objects after zoom x y
+  due-is bounds zoom x y = due-of-keys style bounds (tables style objects) (tables style after) (rows_in style objects)
+      (rows_in style after) (keys_of set) was is past outside zoom x y

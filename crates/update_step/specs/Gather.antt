@@ -1,5 +1,6 @@
 -- What rows are built of, as it is asked of a store and kept.
--- osm2pgsql manual, "Updating an Existing Database": an object that is processed again is read with all that its rows depend on: the nodes of
+-- osm2pgsql manual, "Updating an Existing Database": an object that is processed again is read with all that its rows depend on: the nodes
+-- of
 -- a way, the ways of a relation, and the relations that it is a member of.
 use Rattle.std.specs.Prelude.{◌≡◌, ℕ, Bool, true, List, [], ◌∷◌, ◌++◌, map, if◌then◌else◌, Option, None, Some}
 use Rattle.std.specs.FinMap as finite

@@ -1,5 +1,6 @@
 -- The keys of a change that have no rows before it.
--- osm2pgsql manual, "Updating an Existing Database": the rows of a changed object are deleted; of one that no table could want there are none.
+-- osm2pgsql manual, "Updating an Existing Database": the rows of a changed object are deleted; of one that no table could want there are
+-- none.
 use Rattle.std.specs.Prelude.{◌≡◌, List, []}
 use Rattle.std.specs.List.{AllByRecursion}
 use Rattle.osm_base.specs.declared.values.row.TableRow.{TableRow}

@@ -8,7 +8,8 @@ use Rattle.update_step.specs.declared.fault.StepFault.{StepFault}
 
 -- a call that only asks a store. Where it gives an answer the maps are as they were, and more may be asked. Else the store refused, for
 -- causes of its own, or memory ran out. Whatever it answers, below the maps it has only read.
-pub record Looks {S E A : Type 0} (own : store.Ghosts S E) (asked : back.Ghosts S E) (old new : S) (result : Result A (StepFault E)) : Type 0 where
+pub record Looks {S E A : Type 0} (own : store.Ghosts S E) (asked : back.Ghosts S E) (old new : S)
+    (result : Result A (StepFault E)) : Type 0 where
   pub holds : OnOk result ((under : own.Under) (maps : Maps) → own.holds old under maps → own.holds new under maps)
   pub looked : (first : S) → own.looked first old → own.looked first new
   pub spent : OnOk result (asked.spent new ≡ false)
@@ -26,7 +27,8 @@ pub record HasLooked {S E : Type 0} (own : store.Ghosts S E) (asked : back.Ghost
 
 -- a call that changes a store. Where it is done more may be asked. Else the store refused, for causes of its own, or there were too many
 -- keys, of whose number this is so, or memory ran out. Whatever it answers, below the maps it has only read.
-pub record Goes {S E A : Type 0} (own : store.Ghosts S E) (asked : back.Ghosts S E) (many : ℕ → Type 0) (old new : S) (result : Result A (StepFault E)) : Type 0 where
+pub record Goes {S E A : Type 0} (own : store.Ghosts S E) (asked : back.Ghosts S E) (many : ℕ → Type 0) (old new : S)
+    (result : Result A (StepFault E)) : Type 0 where
   pub looked : (first : S) → own.looked first old → own.looked first new
   pub spent : OnOk result (asked.spent new ≡ false)
   pub ends : IfErr result (Ends

@@ -12,4 +12,5 @@ use Rattle.update_step.specs.Gather.{AreAsked, Gathered, IsRight, all_needs, kno
 -- rows that are built of right answers to all that is asked of these keys are these
 abbrev pub IsBuilt : StyleOf → Maps → List KeyOf → (KeyOf → List TableRow) → Type 0
 IsBuilt style maps keys rows =
-    (g : Gathered) → IsRight g (known_on maps) → AreAsked g (all_needs style (reaches_nodes style) (known_on maps) keys) → map (rows_known style (known_in g)) keys ≡ map rows keys
+    (g : Gathered) → IsRight g (known_on maps) → AreAsked g (all_needs style (reaches_nodes style) (known_on maps) keys)
+    → map (rows_known style (known_in g)) keys ≡ map rows keys

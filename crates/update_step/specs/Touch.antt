@@ -30,33 +30,44 @@ is_in_lists objects change kind id own = lists kind id (finite.get objects own) 
 -- so is a node of this block, of a way
 abbrev pub is_block_in_lists : ObjectSet → List Entry → ℕ → ℕ → Bool
 is_block_in_lists objects change block way =
-    has (listed_by blocks_in (finite.get objects (way_key way))) block || has (listed_by blocks_in (finite.get (folded_all objects change) (way_key way))) block
+    has (listed_by blocks_in (finite.get objects (way_key way))) block || has
+    (listed_by blocks_in (finite.get (folded_all objects change) (way_key way))) block
 
 -- the keys of the maps that a change of these objects touches, by the number of the map
 pub data Touch (style : StyleOf) (objects : ObjectSet) (change : List Entry) : ℕ → ℕ → Type 0 where
   -- of the nodes those that are pending, those that a pending way lists, and those that a way lists which is a member of a pending relation
   node : (id : ℕ) → is_pending_node style objects change id ≡ true → Touch style objects change 0 id
-  node_of_way : (way id : ℕ) → is_pending_way style objects change way ≡ true → is_listed_after objects change kinds.Node id (way_key way) ≡ true → Touch style objects change 0 id
-  node_of_member : (relation way id : ℕ) → is_pending_relation objects change relation ≡ true → is_listed_after objects change kinds.Way way (relation_key relation) ≡ true
+  node_of_way : (way id : ℕ) → is_pending_way style objects change way ≡ true
+      → is_listed_after objects change kinds.Node id (way_key way) ≡ true → Touch style objects change 0 id
+  node_of_member : (relation way id : ℕ) → is_pending_relation objects change relation ≡ true
+      → is_listed_after objects change kinds.Way way (relation_key relation) ≡ true
       → is_listed_after objects change kinds.Node id (way_key way) ≡ true → Touch style objects change 0 id
   -- of the ways those that are pending, the members of pending relations, and those that list a node of the block of a node of the change
   way : (id : ℕ) → is_pending_way style objects change id ≡ true → Touch style objects change 1 id
-  member : (relation id : ℕ) → is_pending_relation objects change relation ≡ true → is_listed_after objects change kinds.Way id (relation_key relation) ≡ true → Touch style objects change 1 id
-  way_of_block : (node id : ℕ) → is_named change (node_key node) ≡ true → is_block_in_lists objects change (block_of node) id ≡ true → Touch style objects change 1 id
-  -- of the relations those that are pending, those with a pending way as a member, and, where selections reach nodes, those with a pending node
+  member : (relation id : ℕ) → is_pending_relation objects change relation ≡ true
+      → is_listed_after objects change kinds.Way id (relation_key relation) ≡ true → Touch style objects change 1 id
+  way_of_block : (node id : ℕ) → is_named change (node_key node) ≡ true → is_block_in_lists objects change (block_of node) id ≡ true
+      → Touch style objects change 1 id
+  -- of the relations those that are pending, those with a pending way as a member, and, where selections reach nodes, those with a pending
+  -- node
   relation : (id : ℕ) → is_pending_relation objects change id ≡ true → Touch style objects change 2 id
-  relation_of_way : (way id : ℕ) → is_pending_way style objects change way ≡ true → is_listed_after objects change kinds.Way way (relation_key id) ≡ true → Touch style objects change 2 id
-  relation_of_node : (node id : ℕ) → reaches_nodes style ≡ true → is_pending_node style objects change node ≡ true → is_listed_after objects change kinds.Node node (relation_key id) ≡ true
+  relation_of_way : (way id : ℕ) → is_pending_way style objects change way ≡ true
+      → is_listed_after objects change kinds.Way way (relation_key id) ≡ true → Touch style objects change 2 id
+  relation_of_node : (node id : ℕ) → reaches_nodes style ≡ true → is_pending_node style objects change node ≡ true
+      → is_listed_after objects change kinds.Node node (relation_key id) ≡ true
       → Touch style objects change 2 id
   -- of the ways by blocks those of the nodes of the change, and of the nodes in the lists of its ways
   block : (node : ℕ) → is_named change (node_key node) ≡ true → Touch style objects change 3 (block_of node)
-  block_of_list : (way node : ℕ) → is_named change (way_key way) ≡ true → is_in_lists objects change kinds.Node node (way_key way) ≡ true → Touch style objects change 3 (block_of node)
+  block_of_list : (way node : ℕ) → is_named change (way_key way) ≡ true → is_in_lists objects change kinds.Node node (way_key way) ≡ true
+      → Touch style objects change 3 (block_of node)
   -- of the relations by nodes those of pending nodes, and of the nodes in the lists of its relations
   around : (node : ℕ) → is_pending_node style objects change node ≡ true → Touch style objects change 4 node
-  around_member : (relation node : ℕ) → is_named change (relation_key relation) ≡ true → is_in_lists objects change kinds.Node node (relation_key relation) ≡ true → Touch style objects change 4 node
+  around_member : (relation node : ℕ) → is_named change (relation_key relation) ≡ true
+      → is_in_lists objects change kinds.Node node (relation_key relation) ≡ true → Touch style objects change 4 node
   -- so of the relations by ways
   along : (way : ℕ) → is_pending_way style objects change way ≡ true → Touch style objects change 5 way
-  along_member : (relation way : ℕ) → is_named change (relation_key relation) ≡ true → is_in_lists objects change kinds.Way way (relation_key relation) ≡ true → Touch style objects change 5 way
+  along_member : (relation way : ℕ) → is_named change (relation_key relation) ≡ true
+      → is_in_lists objects change kinds.Way way (relation_key relation) ≡ true → Touch style objects change 5 way
   -- and the rows of all that is pending
   rows_of_node : (id : ℕ) → is_pending_node style objects change id ≡ true → Touch style objects change 6 id
   rows_of_way : (id : ℕ) → is_pending_way style objects change id ≡ true → Touch style objects change 7 (2 * id)

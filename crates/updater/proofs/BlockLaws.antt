@@ -45,20 +45,24 @@ texts_many : (reader : ℕ) (blocks : List (List (List Answer))) → length (tex
 texts_many reader [] = refl
 texts_many reader (rounds ∷ blocks) = ap suc (texts_many (reader + 1) blocks)
 
-texts_all : (reader : ℕ) (blocks : List (List (List Answer))) → given_blocks reader blocks ≡ flat_map (λ (own : List ℕ). own) (texts_of reader blocks)
+texts_all : (reader : ℕ) (blocks : List (List (List Answer)))
+    → given_blocks reader blocks ≡ flat_map (λ (own : List ℕ). own) (texts_of reader blocks)
 texts_all reader [] = refl
 texts_all reader (rounds ∷ blocks) = ap (λ rest. rounds_text reader 1 (map given_text rounds) ++ rest) (texts_all (reader + 1) blocks)
 
-module _ (style : StyleOf) (front : FrontOf) (shown : List Holding) (last : Holding) (queries : List Query) (so : AreShown style front shown last) where
+module _ (style : StyleOf) (front : FrontOf) (shown : List Holding) (last : Holding) (queries : List Query)
+    (so : AreShown style front shown last) where
   -- an answer of a version of the history is that of a state of the store
-  given_one : (held : Holding) (number : ℕ) (query : Query) → IsShownAs style front number held → found_text (front.base + number) (answer style (after front.first (take number front.log)) query) ≡ answer_text held query
+  given_one : (held : Holding) (number : ℕ) (query : Query) → IsShownAs style front number held
+      → found_text (front.base + number) (answer style (after front.first (take number front.log)) query) ≡ answer_text held query
   given_one held number query is =
       let of_version = after front.first (take number front.log) in
       ap (λ (version : ℕ). found_text version (answer style of_version query)) (sym is.changes)
       ∙ ap (λ (own : StyleOf). found_text held.changes (answer own of_version query)) (sym is.style_is)
       ∙ ap (λ (own : TableMap). found_text held.changes (answer held.style own query)) is.tables
 
-  given_round : (asked : List Query) (numbers : List ℕ) → AllByRecursion (λ number. number ≤ length shown) numbers → given_text (answers_of style front asked numbers) ≡ round_text (version_at shown last) asked numbers
+  given_round : (asked : List Query) (numbers : List ℕ) → AllByRecursion (λ number. number ≤ length shown) numbers
+      → given_text (answers_of style front asked numbers) ≡ round_text (version_at shown last) asked numbers
   given_round [] numbers all = refl
   given_round (query ∷ asked) [] all = refl
   given_round (query ∷ asked) (number ∷ numbers) all =
@@ -77,7 +81,8 @@ module _ (style : StyleOf) (front : FrontOf) (shown : List Holding) (last : Hold
 
   last_shown : IsShownAs style front (length front.log) last
   last_shown =
-      subst (λ (own : Holding). IsShownAs style front (length front.log) own) (ap (version_at shown last) so.many ∙ get_added shown last last)
+      subst (λ (own : Holding). IsShownAs style front (length front.log) own)
+      (ap (version_at shown last) so.many ∙ get_added shown last last)
       (so.each (length front.log) (omega (arith, so.many)))
 
   given_last : (asked : List Query) → given_text (map (answer_of style front (length front.log)) asked) ≡ flat_map (answer_text last) asked
@@ -87,7 +92,8 @@ module _ (style : StyleOf) (front : FrontOf) (shown : List Holding) (last : Hold
       let rest = given_last asked in
       λ i. one i ++ rest i
 
-  block_is : (reader : ℕ) (rounds : ℕ) (own : List (List Answer)) → rounds ≡ length shown → AreServed style front queries rounds own → IsBlock queries shown last reader (rounds_text reader 1 (map given_text own))
+  block_is : (reader : ℕ) (rounds : ℕ) (own : List (List Answer)) → rounds ≡ length shown → AreServed style front queries rounds own
+      → IsBlock queries shown last reader (rounds_text reader 1 (map given_text own))
   block_is reader rounds own count is =
       let climbs : Climbs 0 (length shown) (flat_map (λ (round : List ℕ). round) is.earlier) =
       subst (λ (to : ℕ). Climbs 0 to (flat_map (λ (round : List ℕ). round) is.earlier)) so.many is.climbs in
@@ -100,14 +106,25 @@ module _ (style : StyleOf) (front : FrontOf) (shown : List Holding) (last : Hold
         whole = is.whole;
         climbs = climbs;
         is = ap (rounds_text reader 1)
-            (ap (map given_text) is.given ∙ map-append given_text (map (answers_of style front queries) is.earlier) (map (answer_of style front (length front.log)) queries ∷ []) ∙ (λ i. each i ++ final i ∷ []));
+            (ap (map given_text) is.given ∙ map-append given_text (map (answers_of style front queries) is.earlier)
+            (map (answer_of style front (length front.log)) queries ∷ []) ∙ (λ i. each i ++ final i ∷ []));
       }
 
-  blocks_from : (reader rounds : ℕ) (blocks : List (List (List Answer))) → rounds ≡ length shown → All (AreServed style front queries rounds) blocks → BlocksFrom queries shown last reader (texts_of reader blocks)
+  blocks_from : (reader rounds : ℕ) (blocks : List (List (List Answer))) → rounds ≡ length shown
+      → All (AreServed style front queries rounds) blocks → BlocksFrom queries shown last reader (texts_of reader blocks)
   blocks_from reader rounds [] count all = tt
-  blocks_from reader rounds (own ∷ blocks) count all =
-      (block_is reader rounds own count (All-head (AreServed style front queries rounds) own blocks all), blocks_from (reader + 1) rounds blocks count (All-tail (AreServed style front queries rounds) own blocks all))
+  blocks_from reader rounds (own ∷ blocks) count all = (
+    block_is reader rounds own count (All-head (AreServed style front queries rounds) own blocks all),
+    blocks_from (reader + 1) rounds blocks count (All-tail (AreServed style front queries rounds) own blocks all),
+  )
 
   -- the text is that of the blocks
-  pub blocks_are : (rounds readers : ℕ) (text : List ℕ) → rounds ≡ length shown → IsServed style front queries rounds readers text → AreBlocks readers queries shown last text
-  blocks_are rounds readers text count is = (texts_of 1 is.blocks, texts_many 1 is.blocks ∙ is.many, blocks_from 1 rounds is.blocks count is.served, is.is ∙ texts_all 1 is.blocks)
+  pub blocks_are : (rounds readers : ℕ) (text : List ℕ) → rounds ≡ length shown → IsServed style front queries rounds readers text
+      → AreBlocks readers queries shown last text
+  blocks_are rounds readers text count is = (
+    texts_of 1 is.blocks,
+    texts_many 1 is.blocks ∙ is.many,
+    blocks_from 1 rounds is.blocks count is.served,
+    is.is
+        ∙ texts_all 1 is.blocks,
+  )

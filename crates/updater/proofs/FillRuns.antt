@@ -38,34 +38,41 @@ made_never flow.LastChange P alone is = absurd alone
 made_never (flow.TooMany value) P alone is = absurd alone
 
 -- what was imported has a style
-pub has_style : (start done : Progress) (held : Holding) (next : ℕ) (old : Before) (files : FilesView) (updater : Handle) (output : SinkView) (P : Type 0)
+pub has_style : (start done : Progress) (held : Holding) (next : ℕ) (old : Before) (files : FilesView) (updater : Handle)
+    (output : SinkView) (P : Type 0)
     → IsHead start done (imported held) next old files updater output → None ≡ style_of updater → P
 has_style start done held next old files updater output P head is =
     let shown = shows_here done.store done.cut (imported held) updater head.here in
     absurd (let two : None ≡ Some held.style = is ∙ shown.style_is in cc)
 
 module _ (style : StyleOf × List ℕ) (bounds : BoundsOf) (first changes : ℕ) (start done : Progress) (old : Before)
-    (files : FilesView) (updater : Handle) (output : SinkView) (made : Leads (λ last. imports style 1024 first (onward last)) None start done (first + 1) old files updater output) where
+    (files : FilesView) (updater : Handle) (output : SinkView)
+    (made : Leads (λ last. imports style 1024 first (onward last)) None start done (first + 1) old files updater output) where
   abbrev Last : Onward
   Last = appending bounds (first + 1) changes (telling bounds.zoom)
 
   abbrev Appends : Option Fault → (next : ℕ) → FilesView → Handle → SinkView → Type 0
-  Appends fault next read after told = (old : Before) (start done : Progress) (held : Holding) → IsHead start done (imported held) (first + 1) old files updater output
+  Appends fault next read after told = (old : Before) (start done : Progress) (held : Holding)
+      → IsHead start done (imported held) (first + 1) old files updater output
       → Leads (λ last. appends bounds held (first + 1) changes (onward last)) fault start done next old read after told
 
   -- the run ends in a change
-  pub stops_appending : (fault : Fault) (next : ℕ) (read : FilesView) (after : Handle) (told : SinkView) → Appends (Some fault) next read after told
+  pub stops_appending : (fault : Fault) (next : ℕ) (read : FilesView) (after : Handle) (told : SinkView)
+      → Appends (Some fault) next read after told
       → GoesOn (fills style bounds first changes) start done (Some fault) old (world read (view_of after) told)
   stops_appending fault next read after told appended =
       goes_back (fills style bounds first changes) (onward Last made.1) start done made.0 (Some fault) old (world read (view_of after) told)
       (appended old start made.0 made.1 made.2 (telling bounds.zoom)) (made.3 Last)
 
   -- all are appended, and what the store holds is told
-  pub tells_whole : (next : ℕ) (read : FilesView) (after : Handle) (told : SinkView) → Appends None next read after told → (least : ℕ) → least ≡ bounds.zoom → (fault : Option Fault) (new : World)
-      → ((old : Before) (start done : Progress) (held : Holding) → IsHead start done (imported held) next old read after told → GoesOn (onward (telling least) held) start done fault old new)
+  pub tells_whole : (next : ℕ) (read : FilesView) (after : Handle) (told : SinkView) → Appends None next read after told → (least : ℕ)
+      → least ≡ bounds.zoom → (fault : Option Fault) (new : World)
+      → ((old : Before) (start done : Progress) (held : Holding) → IsHead start done (imported held) next old read after told
+      → GoesOn (onward (telling least) held) start done fault old new)
       → GoesOn (fills style bounds first changes) start done fault old new
   tells_whole next read after told appended least is fault new goes =
       let grown = appended old start made.0 made.1 made.2 in
       goes_back (fills style bounds first changes) (onward Last made.1) start done made.0 fault old new
       (goes_back (onward Last made.1) (onward (telling bounds.zoom) grown.1) start made.0 grown.0 fault old new
-      (subst (λ (own : ℕ). GoesOn (onward (telling own) grown.1) start grown.0 fault old new) is (goes old start grown.0 grown.1 grown.2)) (grown.3 (telling bounds.zoom))) (made.3 Last)
+      (subst (λ (own : ℕ). GoesOn (onward (telling own) grown.1) start grown.0 fault old new) is (goes old start grown.0 grown.1 grown.2))
+      (grown.3 (telling bounds.zoom))) (made.3 Last)

@@ -1,5 +1,6 @@
 -- How much of its store an append reads, turn by turn.
-use Rattle.std.proofs.Common.{◌≡◌, ◌≢◌, ◌≤◌, ◌+◌, ◌-◌, ℕ, Option, None, List, [], ◌∷◌, length, Result, Ok, Err, OnOk, refl, sym, ◌∙◌, subst, arith}
+use Rattle.std.proofs.Common.{◌≡◌, ◌≢◌, ◌≤◌, ◌+◌, ◌-◌, ℕ, Option, None, List, [], ◌∷◌, length, Result, Ok, Err, OnOk, refl, sym, ◌∙◌, subst}
+use Rattle.std.proofs.Common.{arith}
 use Rattle.std.specs.Result.{result_err}
 use Rattle.osm_base.specs.declared.values.object.Entry.{Entry}
 use Rattle.outside.specs.Bytes.{IfTold, IsTold}
@@ -35,7 +36,8 @@ pub on_ok_so : {T E : Type 0} (result : Result T E) (P Q : Type 0) → (P → Q)
 on_ok_so (Ok value) P Q f own = f own
 on_ok_so (Err fault) P Q f own = tt
 
-more_reads : (one two : ℕ) (first second third : Option ReadLog) → MoreReads one first second → MoreReads two second third → MoreReads (one + two) first third
+more_reads : (one two : ℕ) (first second third : Option ReadLog) → MoreReads one first second → MoreReads two second third
+    → MoreReads (one + two) first third
 more_reads one two first second third f g = λ log is.
     let here = f log is in
     let there = g here.0 here.1 in
@@ -44,12 +46,15 @@ more_reads one two first second third f g = λ log is.
     (there.0, there.1, omega (arith, low, high))
 
 -- no change costs nothing
-pub reads_none : (bounds : BoundsOf) (pages : List (List ℕ)) (held : Holding) (log : Option ReadLog) → ReadsEach bounds pages held [] log log
+pub reads_none : (bounds : BoundsOf) (pages : List (List ℕ)) (held : Holding) (log : Option ReadLog)
+    → ReadsEach bounds pages held [] log log
 reads_none bounds pages held log = λ mays touch. (0, refl, λ first is. (first, is, omega arith))
 
 -- a change, and those behind it
-reads_more : (bounds : BoundsOf) (held : Holding) (change : List Entry) (changes : List (List Entry)) (pages next : List (List ℕ)) (first second third : Option ReadLog)
-    → ReadsOne held change pages first second → IsNextStore pages next (changed bounds change held) → ReadsEach bounds next (changed bounds change held) changes second third
+reads_more : (bounds : BoundsOf) (held : Holding) (change : List Entry) (changes : List (List Entry)) (pages next : List (List ℕ))
+    (first second third : Option ReadLog)
+    → ReadsOne held change pages first second → IsNextStore pages next (changed bounds change held)
+    → ReadsEach bounds next (changed bounds change held) changes second third
     → ReadsEach bounds pages held (change ∷ changes) first third
 reads_more bounds held change changes pages next first second third one is later = λ mays touch.
     let here = one (mays 0) touch.0 in
@@ -58,7 +63,8 @@ reads_more bounds held change changes pages next first second third one is later
 
 -- what one change costs
 pub reads_one : (held : Holding) (change : List Entry) (pages : List (List ℕ)) (before after : DiskView)
-    → ((may : May) → MayTouch held.style held.objects change may → (pages : List (List ℕ)) → IsAtRest pages before → ReadsTouched may held.buckets pages before after)
+    → ((may : May) → MayTouch held.style held.objects change may → (pages : List (List ℕ)) → IsAtRest pages before
+    → ReadsTouched may held.buckets pages before after)
     → IsAtRest pages before → ReadsOne held change pages before.reads after.reads
 reads_one held change pages before after reads rests = λ may touch.
     let own = reads may touch pages rests in (
@@ -77,14 +83,19 @@ reads_one held change pages before after reads rests = λ may touch.
     )
 
 -- a store at rest has home pages
-store_at : (held : Holding) (view : DiskView) → IsAt (imported held) view → (pages : List (List ℕ)) × IsStore pages held × IsAtRest pages view
+store_at : (held : Holding) (view : DiskView) → IsAt (imported held) view
+    → (pages : List (List ℕ)) × IsStore pages held × IsAtRest pages view
 unfolding StandsFor
 store_at held view at =
-    let home = at.stands.2.state.home in
-    (at.stands.2.state.pages, record { bytes = at.bytes; home = home; stands = at.stands }, (at.bytes, record { told = at.told; only = at.only; shut = at.shut; home = home }))
+    let home = at.stands.2.state.home in (
+      at.stands.2.state.pages,
+      record { bytes = at.bytes; home = home; stands = at.stands },
+      (at.bytes, record { told = at.told; only = at.only; shut = at.shut; home = home }),
+    )
 
 -- nothing is appended yet
-pub appends_begin : (bounds : BoundsOf) (held : Holding) (pages : List (List ℕ)) (first : ℕ) (files : FilesView) (store : Handle) → IsOpen (imported held) store
+pub appends_begin : (bounds : BoundsOf) (held : Holding) (pages : List (List ℕ)) (first : ℕ) (files : FilesView) (store : Handle)
+    → IsOpen (imported held) store
     → IsAtRest pages (view_of store) → AppendsSoFar bounds held pages first first files files store store
 appends_begin bounds held pages first files store is rests = record {
   at = held;
@@ -96,9 +107,11 @@ appends_begin bounds held pages first files store is rests = record {
 }
 
 -- one more is
-pub appends_next : (bounds : BoundsOf) (held : Holding) (pages : List (List ℕ)) (first file : ℕ) (files now read : FilesView) (before store after : Handle)
+pub appends_next : (bounds : BoundsOf) (held : Holding) (pages : List (List ℕ)) (first file : ℕ) (files now read : FilesView)
+    (before store after : Handle)
     → AppendsSoFar bounds held pages first file files now before store
-    → ((at : Holding) (here : List (List ℕ)) → IsOpen (imported at) store → IsAtRest here (view_of store) → AppendsHere bounds at here file now read store after)
+    → ((at : Holding) (here : List (List ℕ)) → IsOpen (imported at) store → IsAtRest here (view_of store)
+    → AppendsHere bounds at here file now read store after)
     → AppendsSoFar bounds held pages first (file + 1) files read before after
 appends_next bounds held pages first file files now read before store after so next =
     let one = next so.at so.here so.opened so.rests in
@@ -108,22 +121,31 @@ appends_next bounds held pages first file files now read before store after so n
       opened = one.opened;
       here = left.0;
       rests = left.2;
-      others = λ other from. one.others other (λ is. absurd (let two : other ≡ file = is in omega (arith, from, two))) ∙ so.others other (omega (arith, from));
+      others = λ other from. one.others other (λ is. absurd (let two : other ≡ file = is in omega (arith, from, two)))
+          ∙ so.others other (omega (arith, from));
       leads = λ later last hold reads.
-          let led = so.leads (one.change ∷ later) last (subst (λ (told : Option (List ℕ)). IfTold told (λ bytes. IsChange file bytes (Ok one.change))) (so.others file (omega arith)) one.accepted, hold)
-          (reads_more bounds so.at one.change later so.here left.0 (view_of store).reads (view_of after).reads last one.reads (record { store = left.1; needed = one.needed left.0 left.2 }) reads) in
+          let led = so.leads (one.change ∷ later) last (
+            subst (λ (told : Option (List ℕ)). IfTold told (λ bytes. IsChange file bytes (Ok one.change)))
+                (so.others file (omega arith)) one.accepted,
+            hold,
+          )
+          (reads_more bounds so.at one.change later so.here left.0 (view_of store).reads (view_of after).reads last one.reads
+          (record { store = left.1; needed = one.needed left.0 left.2 }) reads) in
           (led.0, (let many = led.1 in omega (arith, many)), led.2, led.3);
     }
 
 -- all are
-pub appends_end : (bounds : BoundsOf) (held : Holding) (pages : List (List ℕ)) (first count file : ℕ) (files now : FilesView) (before after : Handle) → file ≡ first + count
-    → AppendsSoFar bounds held pages first file files now before after → AppendsThere bounds held pages first count files (view_of before).reads (view_of after).reads
+pub appends_end : (bounds : BoundsOf) (held : Holding) (pages : List (List ℕ)) (first count file : ℕ) (files now : FilesView)
+    (before after : Handle) → file ≡ first + count
+    → AppendsSoFar bounds held pages first file files now before after
+    → AppendsThere bounds held pages first count files (view_of before).reads (view_of after).reads
 appends_end bounds held pages first count file files now before after end so =
     let led = so.leads [] (view_of after).reads tt (reads_none bounds so.here so.at (view_of after).reads) in
     record { changes = led.0; many = (let many = led.1 in omega (arith, many, end)); hold = led.2; reads = led.3 }
 
 -- what files hold that were not touched meanwhile
-hold_back : (old new : FilesView) (file : ℕ) (changes : List (List Entry)) → ((other : ℕ) → file ≤ other → new.left other ≡ old.left other) → HoldChanges new file changes → HoldChanges old file changes
+hold_back : (old new : FilesView) (file : ℕ) (changes : List (List Entry)) → ((other : ℕ) → file ≤ other → new.left other ≡ old.left other)
+    → HoldChanges new file changes → HoldChanges old file changes
 hold_back old new file [] same hold = tt
 hold_back old new file (change ∷ changes) same hold = (
   subst (λ (told : Option (List ℕ)). IfTold told (λ bytes. IsChange file bytes (Ok change))) (same file (omega arith)) hold.0,
@@ -131,8 +153,10 @@ hold_back old new file (change ∷ changes) same hold = (
 )
 
 -- behind the reading of the boundaries
-pub appends_all : (own : Files) (held : Holding) (pages : List (List ℕ)) (bounds : BoundsOf) (old read : FilesView) (before after : Option ReadLog)
-    → IsRead (IsBounds own.first) own.first bounds old read → AppendsThere bounds held pages (own.first + 1) (own.count - 1) read before after
+pub appends_all : (own : Files) (held : Holding) (pages : List (List ℕ)) (bounds : BoundsOf) (old read : FilesView)
+    (before after : Option ReadLog)
+    → IsRead (IsBounds own.first) own.first bounds old read
+    → AppendsThere bounds held pages (own.first + 1) (own.count - 1) read before after
     → AppendsAll own held pages old before after
 appends_all own held pages bounds old read before after is there = record {
   bounds = bounds;
@@ -140,14 +164,17 @@ appends_all own held pages bounds old read before after is there = record {
   there = record {
     changes = there.changes;
     many = there.many;
-    hold = hold_back old read (own.first + 1) there.changes (λ other from. is.alone.others other (λ same. absurd (let two : other ≡ own.first = same in omega (arith, from, two)))) there.hold;
+    hold = hold_back old read (own.first + 1) there.changes
+        (λ other from. is.alone.others other (λ same. absurd (let two : other ≡ own.first = same in omega (arith, from, two)))) there.hold;
     reads = there.reads;
   };
 }
 
 -- behind the opening
-pub local_run : (own : Files) (old new : World) (between : DiskView) → ((bytes : List ℕ) (state : State) → Tells old.disk bytes → StandsFor bytes state → OpensAs state None between)
-    → ((bytes : List ℕ) (state : State) → Tells old.disk bytes → StandsFor bytes state → gate bytes ≢ OPEN → ReadsToOpen bytes old.disk between)
+pub local_run : (own : Files) (old new : World) (between : DiskView)
+    → ((bytes : List ℕ) (state : State) → Tells old.disk bytes → StandsFor bytes state → OpensAs state None between)
+    → ((bytes : List ℕ) (state : State) → Tells old.disk bytes → StandsFor bytes state → gate bytes ≢ OPEN
+    → ReadsToOpen bytes old.disk between)
     → ((bytes : List ℕ) → Tells old.disk bytes → gate bytes ≢ OPEN → between.content ≡ old.disk.content)
     → (IsTold old.disk.content → (held : Holding) (pages : List (List ℕ)) → IsAt (imported held) between → IsAtRest pages between
     → AppendsAll own held pages old.files between.reads new.disk.reads) → IsLocal own old new
@@ -159,7 +186,8 @@ local_run own old new between opens once same all = λ bytes held pages told shu
       bytes,
       record {
         told = same bytes told shut ∙ told;
-        only = subst (λ (b : List ℕ). Only b between.crashes) (same_Some at.bytes bytes (sym at.told ∙ same bytes told shut ∙ told)) at.only;
+        only = subst (λ (b : List ℕ). Only b between.crashes)
+            (same_Some at.bytes bytes (sym at.told ∙ same bytes told shut ∙ told)) at.only;
         shut = shut;
         home = home;
       },
@@ -183,9 +211,11 @@ local_run own old new between opens once same all = λ bytes held pages told shu
     )
 
 -- the same over the disk that was opened, and that is handed back
-pub local_over : {D : Type 0} {g : Ghosts D} (own : Files) (files : FilesView) (view : DiskView) (output : SinkView) (disk : D) (updater : Updater D g) → disk_of updater ≡ disk
+pub local_over : {D : Type 0} {g : Ghosts D} (own : Files) (files : FilesView) (view : DiskView) (output : SinkView) (disk : D)
+    (updater : Updater D g) → disk_of updater ≡ disk
     → ((bytes : List ℕ) (state : State) → Tells view bytes → StandsFor bytes state → OpensAs state None (g.view disk))
-    → ((bytes : List ℕ) (state : State) → Tells view bytes → StandsFor bytes state → gate bytes ≢ OPEN → ReadsToOpen bytes view (g.view disk))
+    → ((bytes : List ℕ) (state : State) → Tells view bytes → StandsFor bytes state → gate bytes ≢ OPEN
+    → ReadsToOpen bytes view (g.view disk))
     → ((bytes : List ℕ) → Tells view bytes → gate bytes ≢ OPEN → (g.view disk).content ≡ view.content)
     → (IsTold view.content → (state : State) → IsAt state (g.view disk) → IsOpen state (handle_of updater))
     → (final : Updater D g) (last : D) → last ≡ disk_of final → (now : FilesView) (told : SinkView)

@@ -9,7 +9,8 @@ pub command-plain : command (codes "points" ∷ codes "k" ∷ codes "f" ∷ []) 
 unfolding command
 command-plain = refl
 
-pub command-dashes : command (codes "points" ∷ codes "--" ∷ codes "a=b" ∷ codes "f" ∷ []) ≡ Some (points_of (codes "a=b") (record { first = 3; count = 1 }))
+pub command-dashes : command (codes "points" ∷ codes "--" ∷ codes "a=b" ∷ codes "f" ∷ [])
+    ≡ Some (points_of (codes "a=b") (record { first = 3; count = 1 }))
 unfolding command
 command-dashes = refl
 
@@ -17,6 +18,7 @@ pub command-option : command (codes "points" ∷ codes "a=b" ∷ codes "f" ∷ [
 unfolding command
 command-option = refl
 
-pub command-no_option : command (codes "points" ∷ codes "A=b" ∷ codes "f" ∷ []) ≡ Some (points_of (codes "A=b") (record { first = 2; count = 1 }))
+pub command-no_option : command (codes "points" ∷ codes "A=b" ∷ codes "f" ∷ [])
+    ≡ Some (points_of (codes "A=b") (record { first = 2; count = 1 }))
 unfolding command
 command-no_option = refl

@@ -1,5 +1,6 @@
 -- A store is opened.
-use Rattle.std.proofs.Common.{◌≡◌, ◌≤◌, ◌<◌, ◌⊎◌, ℕ, Bool, true, false, Option, Some, None, List, [], length, ⊎_elim, inl, inr, refl, sym, ap, subst, arith}
+use Rattle.std.proofs.Common.{◌≡◌, ◌≤◌, ◌<◌, ◌⊎◌, ℕ, Bool, true, false, Option, Some, None, List, [], length, ⊎_elim, inl, inr, refl, sym}
+use Rattle.std.proofs.Common.{ap, subst, arith}
 use Rattle.std.specs.Prelude.{is_some}
 use Rattle.std.specs.FinMap as finite
 use Rattle.std.proofs.lemmas.List.{length-take-le}
@@ -52,12 +53,15 @@ shown_state (Some style) true changes = outdated (shown_as style changes)
 abbrev pub TellsNone : Handle → Type 0
 TellsNone updater = is_imported updater ≡ false → (changes_of updater ≡ 0) × (is_old updater ≡ false)
 
-pub shows_it : (updater : Handle) (style : Option StyleOf) (of_old : Bool) → style_of updater ≡ style → is_old updater ≡ of_old → TellsNone updater → Shows (shown_state style of_old (changes_of updater)) updater
+pub shows_it : (updater : Handle) (style : Option StyleOf) (of_old : Bool) → style_of updater ≡ style → is_old updater ≡ of_old
+    → TellsNone updater → Shows (shown_state style of_old (changes_of updater)) updater
 shows_it updater None of_old is old_is none =
     let blank : is_imported updater ≡ false = ap (λ (style : Option StyleOf). is_some style) is in
     record { changes_are = (none blank).0; imported_is = blank; old_is = (none blank).1; style_is = is }
-shows_it updater (Some style) false is old_is none = record { changes_are = refl; imported_is = ap (λ (style : Option StyleOf). is_some style) is; old_is = old_is; style_is = is }
-shows_it updater (Some style) true is old_is none = record { changes_are = refl; imported_is = ap (λ (style : Option StyleOf). is_some style) is; old_is = old_is; style_is = is }
+shows_it updater (Some style) false is old_is none =
+    record { changes_are = refl; imported_is = ap (λ (style : Option StyleOf). is_some style) is; old_is = old_is; style_is = is }
+shows_it updater (Some style) true is old_is none =
+    record { changes_are = refl; imported_is = ap (λ (style : Option StyleOf). is_some style) is; old_is = old_is; style_is = is }
 
 -- what was opened tells what the root page of the bytes does
 pub record IsFoundIn (updater : Handle) (bytes : List ℕ) : Type 0 where
@@ -83,17 +87,23 @@ pub shows_state : (updater : Handle) → TellsNone updater → Shows (state_show
 shows_state updater none = shows_it updater (style_of updater) (is_old updater) refl refl none
 
 -- the bytes are those of one of two states: after the fewest steps, or after the most
-either_kept : (kept : Kept) → IsFit kept → (left : List ℕ) → IsOneOf kept left → IsOfEither (state_after (first kept.least kept.history)) (state_after (first kept.most kept.history)) left
+either_kept : (kept : Kept) → IsFit kept → (left : List ℕ) → IsOneOf kept left
+    → IsOfEither (state_after (first kept.least kept.history)) (state_after (first kept.most kept.history)) left
 either_kept kept fit left (steps, low, high, is) = ⊎_elim
-    (λ (below : steps < kept.most). inl (let same : steps ≡ kept.least = omega (arith, low, below, fit.one) in subst (λ (count : ℕ). StandsFor left (state_after (first count kept.history))) same is.stands))
-    (λ (above : kept.most ≤ steps). inr (let same : steps ≡ kept.most = omega (arith, high, above) in subst (λ (count : ℕ). StandsFor left (state_after (first count kept.history))) same is.stands))
+    (λ (below : steps < kept.most). inl (let same : steps ≡ kept.least = omega (arith, low, below, fit.one) in
+    subst (λ (count : ℕ). StandsFor left (state_after (first count kept.history))) same is.stands))
+    (λ (above : kept.most ≤ steps). inr (let same : steps ≡ kept.most = omega (arith, high, above) in
+    subst (λ (count : ℕ). StandsFor left (state_after (first count kept.history))) same is.stands))
     (cases_lt steps kept.most)
 
-kept_either : (kept : Kept) → IsFit kept → (left : List ℕ) → IsOfEither (state_after (first kept.least kept.history)) (state_after (first kept.most kept.history)) left → IsOneOf kept left
-kept_either kept fit left (inl stands) = (kept.least, omega arith, fit.order, record { within = omega (arith, fit.order, fit.last); stands = stands })
+kept_either : (kept : Kept) → IsFit kept → (left : List ℕ)
+    → IsOfEither (state_after (first kept.least kept.history)) (state_after (first kept.most kept.history)) left → IsOneOf kept left
+kept_either kept fit left (inl stands) =
+    (kept.least, omega arith, fit.order, record { within = omega (arith, fit.order, fit.last); stands = stands })
 kept_either kept fit left (inr stands) = (kept.most, fit.order, omega arith, record { within = omega (arith, fit.last); stands = stands })
 
-pub at_either : (disk : DiskView) (kept : Kept) → IsKept disk kept → IsAtEither (state_after (first kept.least kept.history)) (state_after (first kept.most kept.history)) disk
+pub at_either : (disk : DiskView) (kept : Kept) → IsKept disk kept
+    → IsAtEither (state_after (first kept.least kept.history)) (state_after (first kept.most kept.history)) disk
 at_either disk kept is = record { told = is.told; only = λ left out. either_kept kept is.fit left (is.keeps left out) }
 
 -- the store that was opened: at which state, and where the run goes on
@@ -103,12 +113,15 @@ pub record IsBegun (start : Progress) (next : ℕ) (old : Before) (files : Files
   pub head : IsHead start further state next old files updater output
   pub leads : (rest : State → Course) (ending : Ending) → Comes old (rest state) further ending → Comes old (opens rest) start ending
 
-module _ (files : FilesView) (view : DiskView) (output : SinkView) (only_now : (left : List ℕ) → view.crashes.outcomes_since view.crashes.moment left → view.crashes.outcomes left) where
+module _ (files : FilesView) (view : DiskView) (output : SinkView)
+    (only_now : (left : List ℕ) → view.crashes.outcomes_since view.crashes.moment left → view.crashes.outcomes left) where
   abbrev old : Before
   old = remembered (world files view output)
 
-  begun_leaves : (store : Standing) (cut : ℕ) (from : Standing) (least : ℕ) (fault : Option Fault) (now : DiskView) → StandsOn fault store old now → SurvivesFrom from cut store view.crashes.moment now.crashes
-      → HasCause old (world files now output) fault → view.faults ≤ now.faults → Leaves (begun from least) (at (begun store cut) fault) old (world files now output)
+  begun_leaves : (store : Standing) (cut : ℕ) (from : Standing) (least : ℕ) (fault : Option Fault) (now : DiskView)
+      → StandsOn fault store old now → SurvivesFrom from cut store view.crashes.moment now.crashes
+      → HasCause old (world files now output) fault → view.faults ≤ now.faults
+      → Leaves (begun from least) (at (begun store cut) fault) old (world files now output)
   begun_leaves store cut from least fault now stands moments cause later = record {
     output = took_nothing output.taken;
     at_end = λ file read. absurd read;
@@ -128,30 +141,40 @@ module _ (files : FilesView) (view : DiskView) (output : SinkView) (only_now : (
     abbrev other : State
     other = state_after (first kept.most kept.history)
 
-    begun_moments : (cut : ℕ) (store : Standing) (now : Crashes) → Goes (IsOfEither one other) view.crashes now → SurvivesFrom (keeps kept) cut store view.crashes.moment now
+    begun_moments : (cut : ℕ) (store : Standing) (now : Crashes) → Goes (IsOfEither one other) view.crashes now
+        → SurvivesFrom (keeps kept) cut store view.crashes.moment now
     begun_moments cut store now goes = record {
       later = goes.later;
-      each = λ left out. inl (⊎_elim (λ (earlier : view.crashes.outcomes_since view.crashes.moment left). is.keeps left (only_now left earlier))
-          (λ (either : IsOfEither one other left). kept_either kept is.fit left either) (goes.each view.crashes.moment left (omega arith) out));
+      each = λ left out. inl (⊎_elim (λ (earlier : view.crashes.outcomes_since view.crashes.moment left).
+          is.keeps left (only_now left earlier))
+          (λ (either : IsOfEither one other left). kept_either kept is.fit left either)
+          (goes.each view.crashes.moment left (omega arith) out));
     }
 
     module _ (updater : Handle) (next : ℕ) (limits : limits_of updater ≡ standard) (later : view.faults ≤ (view_of updater).faults)
         (goes : Goes (IsOfEither one other) view.crashes (view_of updater).crashes)
         (as_told : (bytes : List ℕ) → view.content ≡ Some bytes → (gate bytes ≡ OPEN → ⊥) → (view_of updater).content ≡ view.content) where
-      begun_at : (cut : ℕ) → kept.least ≤ cut → cut ≤ kept.most → IsOpen (state_after (first cut kept.history)) updater → IsBegun (begun (keeps kept) kept.least) next old files updater output
+      begun_at : (cut : ℕ) → kept.least ≤ cut → cut ≤ kept.most → IsOpen (state_after (first cut kept.history)) updater
+          → IsBegun (begun (keeps kept) kept.least) next old files updater output
       begun_at cut low high rests =
           let within : cut ≤ length kept.history.steps = omega (arith, high, is.fit.last) in
           record {
             state = state_after (first cut kept.history);
             further = opened kept cut (begun (keeps kept) kept.least);
             head = record {
-              here = record { all = refl; cut_within = (let long = length-take-le cut kept.history.steps within in omega (arith, long)); stands = refl; rests = rests };
+              here = record {
+                all = refl;
+                cut_within = (let long = length-take-le cut kept.history.steps within in omega (arith, long));
+                stands = refl;
+                rests = rests;
+              };
               vague = λ e. absurd (cc);
               limits = limits;
               stood = λ _. stood_opened standard view.content (view_of updater) as_told;
               unread = λ file above read. read;
               so_far = begun_leaves (keeps (whole (first cut kept.history))) cut (keeps kept) kept.least None (view_of updater) (
-                (λ left out. subst (λ (bytes : List ℕ). IsOneOf (whole (first cut kept.history)) bytes) (sym (rests.at_rest.only left out)) (one_of_all rests.at_rest.bytes (first cut kept.history) rests.at_rest.stands)),
+                (λ left out. subst (λ (bytes : List ℕ). IsOneOf (whole (first cut kept.history)) bytes) (sym (rests.at_rest.only left out))
+                    (one_of_all rests.at_rest.bytes (first cut kept.history) rests.at_rest.stands)),
                 λ _. (rests.at_rest.bytes, rests.at_rest.told),
               )
                   (begun_moments cut (keeps (whole (first cut kept.history))) (view_of updater).crashes goes) tt later;
@@ -159,42 +182,55 @@ module _ (files : FilesView) (view : DiskView) (output : SinkView) (only_now : (
             leads = λ rest ending comes. inr (cut, low, high, comes);
           }
 
-      pub begun_kept : (IsAt one (view_of updater) ⊎ IsAt other (view_of updater)) → ((state : State) → IsAt state (view_of updater) → IsOpen state updater)
+      pub begun_kept : (IsAt one (view_of updater) ⊎ IsAt other (view_of updater))
+          → ((state : State) → IsAt state (view_of updater) → IsOpen state updater)
           → IsBegun (begun (keeps kept) kept.least) next old files updater output
       begun_kept (inl rests) open_so = begun_at kept.least (omega arith) is.fit.order (open_so one rests)
       begun_kept (inr rests) open_so = begun_at kept.most is.fit.order (omega arith) (open_so other rests)
 
     -- the opening is refused
-    pub refused_kept : (fault : FlowFault) (now : DiskView) (rest : State → Course) → Opens one other (Some fault) view now → (IsNoDiskFault (Some fault) → IsTold now.content) → HasFlowCause (Some fault) view now
+    pub refused_kept : (fault : FlowFault) (now : DiskView) (rest : State → Course) → Opens one other (Some fault) view now
+        → (IsNoDiskFault (Some fault) → IsTold now.content) → HasFlowCause (Some fault) view now
         → GoesBy (opens rest) (begun (keeps kept) kept.least) (Some (flow_fault fault)) (world files view output) (world files now output)
     refused_kept (flow.Store stores.DiskFault) now rest opened told cause = (
       at (begun (keeps kept) kept.least) (Some faults.DiskFault),
       refl,
       inl (inl refl),
-      begun_leaves (keeps kept) kept.least (keeps kept) kept.least (Some faults.DiskFault) now ((λ left out. kept_either kept is.fit left (opened.moments.now left out)), λ not. absurd (not refl))
+      begun_leaves (keeps kept) kept.least (keeps kept) kept.least (Some faults.DiskFault) now
+          ((λ left out. kept_either kept is.fit left (opened.moments.now left out)), λ not. absurd (not refl))
           (begun_moments kept.least (keeps kept) now.crashes opened.moments) (cause.failed refl) cause.later,
     )
     refused_kept flow.OutOfMemory now rest opened told cause = (
       at (begun (keeps kept) kept.least) (Some faults.OutOfMemory),
       refl,
       inl (inr refl),
-      begun_leaves (keeps kept) kept.least (keeps kept) kept.least (Some faults.OutOfMemory) now ((λ left out. kept_either kept is.fit left (opened.moments.now left out)), λ not. told tt)
+      begun_leaves (keeps kept) kept.least (keeps kept) kept.least (Some faults.OutOfMemory) now
+          ((λ left out. kept_either kept is.fit left (opened.moments.now left out)), λ not. told tt)
           (begun_moments kept.least (keeps kept) now.crashes opened.moments) tt cause.later,
     )
-    refused_kept (flow.Store stores.NotFormatted) now rest opened told cause = absurd (let none : Some (flow.Store stores.NotFormatted) ≡ None = opened.answer in cc)
-    refused_kept (flow.Store stores.NotEmpty) now rest opened told cause = absurd (let none : Some (flow.Store stores.NotEmpty) ≡ None = opened.answer in cc)
-    refused_kept (flow.Store (stores.BadStore page)) now rest opened told cause = absurd (let none : Some (flow.Store (stores.BadStore page)) ≡ None = opened.answer in cc)
-    refused_kept (flow.Store (stores.StoreFull pages)) now rest opened told cause = absurd (let none : Some (flow.Store (stores.StoreFull pages)) ≡ None = opened.answer in cc)
-    refused_kept (flow.Store stores.Broken) now rest opened told cause = absurd (let none : Some (flow.Store stores.Broken) ≡ None = opened.answer in cc)
-    refused_kept (flow.Store stores.OutOfMemory) now rest opened told cause = absurd (let none : Some (flow.Store stores.OutOfMemory) ≡ None = opened.answer in cc)
+    refused_kept (flow.Store stores.NotFormatted) now rest opened told cause =
+        absurd (let none : Some (flow.Store stores.NotFormatted) ≡ None = opened.answer in cc)
+    refused_kept (flow.Store stores.NotEmpty) now rest opened told cause =
+        absurd (let none : Some (flow.Store stores.NotEmpty) ≡ None = opened.answer in cc)
+    refused_kept (flow.Store (stores.BadStore page)) now rest opened told cause =
+        absurd (let none : Some (flow.Store (stores.BadStore page)) ≡ None = opened.answer in cc)
+    refused_kept (flow.Store (stores.StoreFull pages)) now rest opened told cause =
+        absurd (let none : Some (flow.Store (stores.StoreFull pages)) ≡ None = opened.answer in cc)
+    refused_kept (flow.Store stores.Broken) now rest opened told cause =
+        absurd (let none : Some (flow.Store stores.Broken) ≡ None = opened.answer in cc)
+    refused_kept (flow.Store stores.OutOfMemory) now rest opened told cause =
+        absurd (let none : Some (flow.Store stores.OutOfMemory) ≡ None = opened.answer in cc)
     refused_kept flow.NotImported now rest opened told cause = absurd (let none : Some flow.NotImported ≡ None = opened.answer in cc)
-    refused_kept flow.AlreadyImported now rest opened told cause = absurd (let none : Some flow.AlreadyImported ≡ None = opened.answer in cc)
+    refused_kept flow.AlreadyImported now rest opened told cause =
+        absurd (let none : Some flow.AlreadyImported ≡ None = opened.answer in cc)
     refused_kept flow.OldFormat now rest opened told cause = absurd (let none : Some flow.OldFormat ≡ None = opened.answer in cc)
     refused_kept flow.LastChange now rest opened told cause = absurd (let none : Some flow.LastChange ≡ None = opened.answer in cc)
-    refused_kept (flow.TooMany value) now rest opened told cause = absurd (let none : Some (flow.TooMany value) ≡ None = opened.answer in cc)
+    refused_kept (flow.TooMany value) now rest opened told cause =
+        absurd (let none : Some (flow.TooMany value) ≡ None = opened.answer in cc)
 
   -- whatever the disk holds
-  pub begun_vague : (updater : Handle) (next : ℕ) → limits_of updater ≡ standard → is_whole updater ≡ true → TellsNone updater → view.faults ≤ (view_of updater).faults
+  pub begun_vague : (updater : Handle) (next : ℕ) → limits_of updater ≡ standard → is_whole updater ≡ true → TellsNone updater
+      → view.faults ≤ (view_of updater).faults
       → IsFound view.content updater → IsBegun (begun unknown 0) next old files updater output
   begun_vague updater next limits sound none later found = record {
     state = state_shown updater;
@@ -207,20 +243,41 @@ module _ (files : FilesView) (view : DiskView) (output : SinkView) (only_now : (
       unread = λ file above read. read;
       so_far = begun_leaves unknown 0 unknown 0 None (view_of updater) tt tt tt later;
     };
-    leads = λ rest ending comes. inr (inr (inr (state_shown updater, (λ bytes told. may_open (state_shown updater) updater bytes (shows_state updater none) (found bytes told)), comes)));
+    leads = λ rest ending comes. inr (inr (inr (
+      state_shown updater,
+      (λ bytes told. may_open (state_shown updater) updater bytes (shows_state updater none) (found bytes told)),
+      comes,
+    )));
   }
 
-  pub refused_vague : (fault : FlowFault) (now : DiskView) (rest : State → Course) → IsOpenFault fault → (fault ≡ flow.Store stores.NotFormatted → IfTold view.content (λ bytes. ¬ IsFormatted bytes))
+  pub refused_vague : (fault : FlowFault) (now : DiskView) (rest : State → Course) → IsOpenFault fault
+      → (fault ≡ flow.Store stores.NotFormatted → IfTold view.content (λ bytes. ¬ IsFormatted bytes))
       → ((page : ℕ) → fault ≡ flow.Store (stores.BadStore page) → IfTold view.content IsDamaged) → HasFlowCause (Some fault) view now
       → GoesBy (opens rest) (begun unknown 0) (Some (flow_fault fault)) (world files view output) (world files now output)
-  refused_vague (flow.Store stores.NotFormatted) now rest alone none bad cause =
-      (at (begun unknown 0) (Some faults.NotFormatted), refl, inr (inl (none refl, refl)), begun_leaves unknown 0 unknown 0 (Some faults.NotFormatted) now tt tt tt cause.later)
-  refused_vague (flow.Store (stores.BadStore page)) now rest alone none bad cause =
-      (at (begun unknown 0) (Some (faults.BadStore page)), refl, inr (inr (inl (bad page refl, (flow.Store (stores.BadStore page), tt, refl)))), begun_leaves unknown 0 unknown 0 (Some (faults.BadStore page)) now tt tt tt cause.later)
-  refused_vague (flow.Store stores.DiskFault) now rest alone none bad cause =
-      (at (begun unknown 0) (Some faults.DiskFault), refl, inl (inl refl), begun_leaves unknown 0 unknown 0 (Some faults.DiskFault) now tt tt (cause.failed refl) cause.later)
-  refused_vague flow.OutOfMemory now rest alone none bad cause =
-      (at (begun unknown 0) (Some faults.OutOfMemory), refl, inl (inr refl), begun_leaves unknown 0 unknown 0 (Some faults.OutOfMemory) now tt tt tt cause.later)
+  refused_vague (flow.Store stores.NotFormatted) now rest alone none bad cause = (
+    at (begun unknown 0) (Some faults.NotFormatted),
+    refl,
+    inr (inl (none refl, refl)),
+    begun_leaves unknown 0 unknown 0 (Some faults.NotFormatted) now tt tt tt cause.later,
+  )
+  refused_vague (flow.Store (stores.BadStore page)) now rest alone none bad cause = (
+    at (begun unknown 0) (Some (faults.BadStore page)),
+    refl,
+    inr (inr (inl (bad page refl, (flow.Store (stores.BadStore page), tt, refl)))),
+    begun_leaves unknown 0 unknown 0 (Some (faults.BadStore page)) now tt tt tt cause.later,
+  )
+  refused_vague (flow.Store stores.DiskFault) now rest alone none bad cause = (
+    at (begun unknown 0) (Some faults.DiskFault),
+    refl,
+    inl (inl refl),
+    begun_leaves unknown 0 unknown 0 (Some faults.DiskFault) now tt tt (cause.failed refl) cause.later,
+  )
+  refused_vague flow.OutOfMemory now rest alone none bad cause = (
+    at (begun unknown 0) (Some faults.OutOfMemory),
+    refl,
+    inl (inr refl),
+    begun_leaves unknown 0 unknown 0 (Some faults.OutOfMemory) now tt tt tt cause.later,
+  )
   refused_vague (flow.Store stores.NotEmpty) now rest alone none bad cause = absurd alone
   refused_vague (flow.Store (stores.StoreFull pages)) now rest alone none bad cause = absurd alone
   refused_vague (flow.Store stores.Broken) now rest alone none bad cause = absurd alone

@@ -32,64 +32,86 @@ use Rattle.run_promise.specs.World.{Before, World, remembered, world}
 use Rattle.updater.proofs.OpenDeeds.{IsBegun, IsFound, TellsNone, at_either, begun_kept, begun_vague, refused_kept, refused_vague}
 use Rattle.updater.proofs.VersionRuns.{goes_back}
 
-module _ (files : FilesView) (view : DiskView) (output : SinkView) (only_now : (left : List ℕ) → view.crashes.outcomes_since view.crashes.moment left → view.crashes.outcomes left)
+module _ (files : FilesView) (view : DiskView) (output : SinkView)
+    (only_now : (left : List ℕ) → view.crashes.outcomes_since view.crashes.moment left → view.crashes.outcomes left)
     (start : Progress) (begins : Begins old_store (world files view output) start) where
   abbrev Old : Before
   Old = remembered (world files view output)
 
   -- the opening is refused
-  pub unopened : (fault : FlowFault) (now : DiskView) (rest : State → Course) → ((one other : State) → IsAtEither one other view → Opens one other (Some fault) view now)
-      → (IsTold view.content → IsNoDiskFault (Some fault) → IsTold now.content) → IsOpenFault fault → (fault ≡ flow.Store stores.NotFormatted → IfTold view.content (λ bytes. ¬ IsFormatted bytes))
+  pub unopened : (fault : FlowFault) (now : DiskView) (rest : State → Course)
+      → ((one other : State) → IsAtEither one other view → Opens one other (Some fault) view now)
+      → (IsTold view.content → IsNoDiskFault (Some fault) → IsTold now.content) → IsOpenFault fault
+      → (fault ≡ flow.Store stores.NotFormatted → IfTold view.content (λ bytes. ¬ IsFormatted bytes))
       → ((page : ℕ) → fault ≡ flow.Store (stores.BadStore page) → IfTold view.content IsDamaged) → HasFlowCause (Some fault) view now
       → GoesBy (opens rest) start (Some (flow_fault fault)) (world files view output) (world files now output)
   unopened fault now rest opened told alone none bad cause = by begins
     where
-      by : Begins old_store (world files view output) start → GoesBy (opens rest) start (Some (flow_fault fault)) (world files view output) (world files now output)
-      by (inl is) = subst (λ (own : Progress). GoesBy (opens rest) own (Some (flow_fault fault)) (world files view output) (world files now output)) (sym is)
+      by : Begins old_store (world files view output) start
+          → GoesBy (opens rest) start (Some (flow_fault fault)) (world files view output) (world files now output)
+      by (inl is) = subst (λ (own : Progress).
+          GoesBy (opens rest) own (Some (flow_fault fault)) (world files view output) (world files now output)) (sym is)
           (refused_vague files view output only_now fault now rest alone none bad cause)
-      by (inr (kept, fits, is)) = subst (λ (own : Progress). GoesBy (opens rest) own (Some (flow_fault fault)) (world files view output) (world files now output)) (sym is)
+      by (inr (kept, fits, is)) = subst (λ (own : Progress).
+          GoesBy (opens rest) own (Some (flow_fault fault)) (world files view output) (world files now output)) (sym is)
           (refused_kept files view output only_now kept fits fault now rest (opened _ _ (at_either view kept fits)) (told fits.told) cause)
 
-  module _ (updater : Handle) (next : ℕ) (opened : (one other : State) → IsAtEither one other view → Opens one other None view (view_of updater))
-      (open_so : IsTold view.content → (state : State) → IsAt state (view_of updater) → IsOpen state updater) (limits : limits_of updater ≡ standard) (sound : is_whole updater ≡ true)
+  module _ (updater : Handle) (next : ℕ) (opened : (one other : State) → IsAtEither one other view
+      → Opens one other None view (view_of updater))
+      (open_so : IsTold view.content → (state : State) → IsAt state (view_of updater) → IsOpen state updater)
+      (limits : limits_of updater ≡ standard) (sound : is_whole updater ≡ true)
       (none : TellsNone updater) (cause : HasFlowCause None view (view_of updater)) (found : IsFound view.content updater)
       (as_told : (bytes : List ℕ) → view.content ≡ Some bytes → (gate bytes ≡ OPEN → ⊥) → (view_of updater).content ≡ view.content) where
     is_begun : IsBegun start next Old files updater output
     is_begun = by begins
       where
         by : Begins old_store (world files view output) start → IsBegun start next Old files updater output
-        by (inl is) = subst (λ (own : Progress). IsBegun own next Old files updater output) (sym is) (begun_vague files view output only_now updater next limits sound none cause.later found)
+        by (inl is) = subst (λ (own : Progress). IsBegun own next Old files updater output) (sym is)
+            (begun_vague files view output only_now updater next limits sound none cause.later found)
         by (inr (kept, fits, is)) = subst (λ (own : Progress). IsBegun own next Old files updater output) (sym is)
-            (let own = opened _ _ (at_either view kept fits) in begun_kept files view output only_now kept fits updater next limits cause.later own.moments as_told (own.found refl) (open_so fits.told))
+            (let own = opened _ _ (at_either view kept fits) in
+            begun_kept files view output only_now kept fits updater next limits cause.later own.moments as_told (own.found refl)
+            (open_so fits.told))
 
     -- the run goes on over the open store
     pub goes_opened : (rest : State → Course) (fault : Option Fault) (new : World)
-        → ((old : Before) (start done : Progress) (state : State) → IsHead start done state next old files updater output → GoesOn (rest state) start done fault old new)
+        → ((old : Before) (start done : Progress) (state : State) → IsHead start done state next old files updater output
+        → GoesOn (rest state) start done fault old new)
         → GoesBy (opens rest) start fault (world files view output) new
     goes_opened rest fault new goes =
         let own = is_begun in
-        goes_back (opens rest) (rest own.state) start start own.further fault Old new (goes Old start own.further own.state own.head) (own.leads rest)
+        goes_back (opens rest) (rest own.state) start start own.further fault Old new (goes Old start own.further own.state own.head)
+        (own.leads rest)
 
 -- the same over the disk that was opened, and that is handed back
 pub goes_over : {D : Type 0} {g : Ghosts D} (files : FilesView) (view : DiskView) (output : SinkView)
     (only_now : (left : List ℕ) → view.crashes.outcomes_since view.crashes.moment left → view.crashes.outcomes left)
-    (start : Progress) (begins : Begins old_store (world files view output) start) (disk : D) (updater : Updater D g) (next : ℕ) → disk_of updater ≡ disk
-    → ((one other : State) → IsAtEither one other view → Opens one other None view (g.view disk)) → (IsTold view.content → (state : State) → IsAt state (g.view disk) → IsOpen state (handle_of updater))
-    → limits_of (handle_of updater) ≡ standard → is_whole (handle_of updater) ≡ true → TellsNone (handle_of updater) → HasFlowCause None view (g.view disk)
-    → IsFound view.content (handle_of updater) → ((bytes : List ℕ) → view.content ≡ Some bytes → (gate bytes ≡ OPEN → ⊥) → (g.view disk).content ≡ view.content)
-    → (rest : State → Course) (fault : Option Fault) (final : Updater D g) (last : D) → last ≡ disk_of final → (read : FilesView) (told : SinkView)
-    → ((old : Before) (start done : Progress) (state : State) → IsHead start done state next old files (handle_of updater) output → GoesOn (rest state) start done fault old (world read (view_of (handle_of final)) told))
+    (start : Progress) (begins : Begins old_store (world files view output) start) (disk : D) (updater : Updater D g) (next : ℕ)
+    → disk_of updater ≡ disk
+    → ((one other : State) → IsAtEither one other view → Opens one other None view (g.view disk))
+    → (IsTold view.content → (state : State) → IsAt state (g.view disk) → IsOpen state (handle_of updater))
+    → limits_of (handle_of updater) ≡ standard → is_whole (handle_of updater) ≡ true → TellsNone (handle_of updater)
+    → HasFlowCause None view (g.view disk)
+    → IsFound view.content (handle_of updater)
+    → ((bytes : List ℕ) → view.content ≡ Some bytes → (gate bytes ≡ OPEN → ⊥) → (g.view disk).content ≡ view.content)
+    → (rest : State → Course) (fault : Option Fault) (final : Updater D g) (last : D) → last ≡ disk_of final
+    → (read : FilesView) (told : SinkView)
+    → ((old : Before) (start done : Progress) (state : State) → IsHead start done state next old files (handle_of updater) output
+    → GoesOn (rest state) start done fault old (world read (view_of (handle_of final)) told))
     → GoesBy (opens rest) start fault (world files view output) (world read (g.view last) told)
-goes_over {D} {g} files view output only_now start begins disk updater next same opened open_so limits sound none cause found as_told rest fault final last closed read told goes =
+goes_over {D} {g} files view output only_now start begins disk updater next same opened open_so limits sound none cause found as_told rest
+    fault final last closed read told goes =
     subst (λ (own : D). GoesBy (opens rest) start fault (world files view output) (world read (g.view own) told)) (sym closed)
     (goes_opened files view output only_now start begins (handle_of updater) next
     (λ one other at. subst (λ (own : D). Opens one other None view (g.view own)) (sym same) (opened one other at))
     (λ told_before state at. open_so told_before state (subst (λ (own : D). IsAt state (g.view own)) same at))
     limits sound none (subst (λ (own : D). HasFlowCause None view (g.view own)) (sym same) cause) found
-    (λ bytes here shut. ap (λ (own : D). (g.view own).content) same ∙ as_told bytes here shut) rest fault (world read (view_of (handle_of final)) told) goes)
+    (λ bytes here shut. ap (λ (own : D). (g.view own).content) same ∙ as_told bytes here shut) rest fault
+    (world read (view_of (handle_of final)) told) goes)
 
 -- what was opened tells what was found
-pub found_here : {D : Type 0} {g : Ghosts D} (opened : Opened) (updater : Updater D g) (content : Option (List ℕ)) → style_of (handle_of updater) ≡ opened.style
+pub found_here : {D : Type 0} {g : Ghosts D} (opened : Opened) (updater : Updater D g) (content : Option (List ℕ))
+    → style_of (handle_of updater) ≡ opened.style
     → is_old (handle_of updater) ≡ opened.outdated → changes_of (handle_of updater) ≡ opened.changes → IfTold content IsFormatted
     → IfTold content (RootTells opened.style opened.outdated opened.changes) → IsFound content (handle_of updater)
 found_here opened updater content style outdated changes formed fields = λ bytes told. record {

@@ -15,30 +15,38 @@ use Rattle.run_promise.specs.CommandOf.{AreBuckets, AreReaders, AreWorkers}
 use Rattle.updater.specs.Options.{AreInRange, with_option, with_options}
 
 -- the word that comes next is read, and then those behind it
-with_next : {A : Type 0} (view : A → List ℕ) (allowed : Allowed) (options : Options) (words : List A) (i : ℕ) (word : A) → i < length words → word ≡ get_or words i word
-    → with_options allowed options (each view (drop i words)) ≡ option_and_then (λ more. with_options allowed more (each view (drop (i + 1) words))) (with_option allowed options (view word))
+with_next : {A : Type 0} (view : A → List ℕ) (allowed : Allowed) (options : Options) (words : List A) (i : ℕ) (word : A) → i < length words
+    → word ≡ get_or words i word
+    → with_options allowed options (each view (drop i words))
+    ≡ option_and_then (λ more. with_options allowed more (each view (drop (i + 1) words))) (with_option allowed options (view word))
 with_next view allowed options words i word there is =
     ap (λ own. with_options allowed options (each view own)) (drop_more words i word there ∙ ap (λ own. own ∷ drop (i + 1) words) (sym is))
 
-pub with_more : {A : Type 0} (view : A → List ℕ) (allowed : Allowed) (options more : Options) (words : List A) (i : ℕ) (word : A) → i < length words → word ≡ get_or words i word → Some more ≡ with_option allowed options (view word)
+pub with_more : {A : Type 0} (view : A → List ℕ) (allowed : Allowed) (options more : Options) (words : List A) (i : ℕ) (word : A)
+    → i < length words → word ≡ get_or words i word → Some more ≡ with_option allowed options (view word)
     → with_options allowed options (each view (drop i words)) ≡ with_options allowed more (each view (drop (i + 1) words))
 with_more view allowed options more words i word there is read =
-    with_next view allowed options words i word there is ∙ ap (option_and_then (λ own. with_options allowed own (each view (drop (i + 1) words)))) (sym read)
+    with_next view allowed options words i word there is
+    ∙ ap (option_and_then (λ own. with_options allowed own (each view (drop (i + 1) words)))) (sym read)
 
-pub with_none : {A : Type 0} (view : A → List ℕ) (allowed : Allowed) (options : Options) (words : List A) (i : ℕ) (word : A) → i < length words → word ≡ get_or words i word → None ≡ with_option allowed options (view word)
+pub with_none : {A : Type 0} (view : A → List ℕ) (allowed : Allowed) (options : Options) (words : List A) (i : ℕ) (word : A)
+    → i < length words → word ≡ get_or words i word → None ≡ with_option allowed options (view word)
     → None ≡ with_options allowed options (each view (drop i words))
 with_none view allowed options words i word there is read =
-    sym (with_next view allowed options words i word there is ∙ ap (option_and_then (λ own. with_options allowed own (each view (drop (i + 1) words)))) (sym read))
+    sym (with_next view allowed options words i word there is
+    ∙ ap (option_and_then (λ own. with_options allowed own (each view (drop (i + 1) words)))) (sym read))
 
 -- a value that stands there, or the one that is meant where none does
-workers_among : (value : Option ℕ) (workers : ℕ) → IfSome value (λ workers. (1 ≤ workers) × (workers ≤ MAX_WORKERS)) → workers ≡ unwrap_or value WORKERS → AreWorkers workers
+workers_among : (value : Option ℕ) (workers : ℕ) → IfSome value (λ workers. (1 ≤ workers) × (workers ≤ MAX_WORKERS))
+    → workers ≡ unwrap_or value WORKERS → AreWorkers workers
 workers_among None workers h is = record { one = omega (arith, is); limit = omega (arith, is) }
 workers_among (Some value) workers h is = record { one = omega (arith, is, h.0); limit = omega (arith, is, h.1) }
 
 pub workers_fit : (options : Options) (workers : ℕ) → AreInRange options → workers ≡ unwrap_or options.workers WORKERS → AreWorkers workers
 workers_fit options workers range is = workers_among options.workers workers range.few_workers is
 
-readers_among : (value : Option ℕ) (readers : ℕ) → IfSome value (λ readers. (1 ≤ readers) × (readers ≤ MAX_READERS)) → readers ≡ unwrap_or value READERS → AreReaders readers
+readers_among : (value : Option ℕ) (readers : ℕ) → IfSome value (λ readers. (1 ≤ readers) × (readers ≤ MAX_READERS))
+    → readers ≡ unwrap_or value READERS → AreReaders readers
 readers_among None readers h is = record { one = omega (arith, is); limit = omega (arith, is) }
 readers_among (Some value) readers h is = record { one = omega (arith, is, h.0); limit = omega (arith, is, h.1) }
 
@@ -49,7 +57,8 @@ pub default_power : is_power_of_two 1024 ≡ true
 unfolding ones
 default_power = refl
 
-buckets_among : (value : Option ℕ) (buckets : ℕ) → IfSome value (λ buckets. (is_power_of_two buckets ≡ true) × (buckets ≤ MAX_BUCKETS)) → buckets ≡ unwrap_or value BUCKETS → AreBuckets buckets
+buckets_among : (value : Option ℕ) (buckets : ℕ) → IfSome value (λ buckets. (is_power_of_two buckets ≡ true) × (buckets ≤ MAX_BUCKETS))
+    → buckets ≡ unwrap_or value BUCKETS → AreBuckets buckets
 buckets_among None buckets h is = subst (λ (own : ℕ). AreBuckets own) (sym is) (record { power = default_power; limit = omega arith })
 buckets_among (Some value) buckets h is = subst (λ (own : ℕ). AreBuckets own) (sym is) (record { power = h.0; limit = h.1 })
 

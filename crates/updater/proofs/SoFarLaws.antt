@@ -1,5 +1,6 @@
 -- The deeds of a run between two of which its files and its output alone matter.
-use Rattle.std.proofs.Common.{◌≡◌, ◌≤◌, ◌+◌, ℕ, Option, Some, None, List, [], ◌∷◌, ◌++◌, Result, ⊎_elim, inl, inr, refl, sym, ◌∙◌, ap, subst, arith}
+use Rattle.std.proofs.Common.{◌≡◌, ◌≤◌, ◌+◌, ℕ, Option, Some, None, List, [], ◌∷◌, ◌++◌, Result, ⊎_elim, inl, inr, refl, sym, ◌∙◌, ap}
+use Rattle.std.proofs.Common.{subst, arith}
 use Rattle.std.specs.Io.KnownBytes.{Appends}
 use Rattle.std.proofs.lemmas.List.{append-nil}
 use Rattle.outside.specs.Bytes.{AppendsPrefix, BothKnown, IfTold}
@@ -14,7 +15,8 @@ use Rattle.run_promise.specs.Course.{Course, ends, refuses, reads, tells, writes
 use Rattle.updater.specs.FileReads.{IsRead, IsReadAlone, IsUnread, StopsFor}
 use Rattle.updater.specs.Heads.{GoesOn, IsSoFar}
 use Rattle.run_promise.specs.Leaves.{HasCause, Leaves, StandsOn}
-use Rattle.run_promise.specs.Progress.{Standing, unused, unknown, keeps, half_made, Progress, Ending, at, at_file, at_text, past, plus, IsIn}
+use Rattle.run_promise.specs.Progress.{Standing, unused, unknown, keeps, half_made, Progress, Ending, at, at_file, at_text, past, plus}
+use Rattle.run_promise.specs.Progress.{IsIn}
 use Rattle.run_promise.specs.World.{Before, GrewBy, world}
 use Rattle.run_promise.proofs.HistoryLaws.{append_more}
 
@@ -22,7 +24,8 @@ rose_later : (before between now : ℕ) → before ≤ between → Rose between 
 rose_later before between now p q = omega (arith, p, q)
 
 -- what stands after a run that is not at its end stands after a fault too
-stands_so : (fault : Fault) (store : Standing) (old : Before) (new : DiskView) → StandsOn None store old new → StandsOn (Some fault) store old new
+stands_so : (fault : Fault) (store : Standing) (old : Before) (new : DiskView) → StandsOn None store old new
+    → StandsOn (Some fault) store old new
 stands_so fault unused old new h = h
 stands_so fault unknown old new h = tt
 stands_so fault (keeps kept) old new h = (h.0, λ _. h.1 (λ e. absurd (cc)))
@@ -35,9 +38,11 @@ front_nil (byte ∷ front) rest is = absurd (cc)
 
 -- what was taken is what was written
 took_whole : (one two written : List ℕ) → GrewBy written [] one two → two ≡ one ++ written
-took_whole one two written took = took.grown ∙ ap (λ (own : List ℕ). one ++ written ++ own) (front_nil took.front took.rest took.cut) ∙ append-nil (one ++ written)
+took_whole one two written took = took.grown ∙ ap (λ (own : List ℕ). one ++ written ++ own) (front_nil took.front took.rest took.cut)
+    ∙ append-nil (one ++ written)
 
-took_more : (first second third : Option (List ℕ)) (written text : List ℕ) → BothKnown first second (GrewBy written []) → Appends second third text → BothKnown first third (GrewBy (written ++ text) [])
+took_more : (first second third : Option (List ℕ)) (written text : List ℕ) → BothKnown first second (GrewBy written [])
+    → Appends second third text → BothKnown first third (GrewBy (written ++ text) [])
 took_more None second third written text took more = tt
 took_more (Some one) None third written text took more = absurd took
 took_more (Some one) (Some two) None written text took more = absurd more
@@ -45,15 +50,23 @@ took_more (Some one) (Some two) (Some three) written text took more = record {
   front = [];
   rest = [];
   cut = refl;
-  grown = more ∙ ap (λ (own : List ℕ). own ++ text) (took_whole one two written took) ∙ append_more one written text ∙ sym (append-nil (one ++ (written ++ text)));
+  grown = more ∙ ap (λ (own : List ℕ). own ++ text) (took_whole one two written took) ∙ append_more one written text
+      ∙ sym (append-nil (one ++ (written ++ text)));
 }
 
-took_half : (first second third : Option (List ℕ)) (written text : List ℕ) → BothKnown first second (GrewBy written []) → AppendsPrefix second third text → BothKnown first third (GrewBy written text)
+took_half : (first second third : Option (List ℕ)) (written text : List ℕ) → BothKnown first second (GrewBy written [])
+    → AppendsPrefix second third text → BothKnown first third (GrewBy written text)
 took_half None second third written text took more = tt
 took_half (Some one) None third written text took more = absurd took
 took_half (Some one) (Some two) None written text took more = absurd more
 took_half (Some one) (Some two) (Some three) written text took more =
-    record { front = more.0; rest = more.1; cut = more.2; grown = more.3 ∙ ap (λ (own : List ℕ). own ++ more.0) (took_whole one two written took) }
+    record {
+      front = more.0;
+      rest = more.1;
+      cut = more.2;
+      grown =
+          more.3 ∙ ap (λ (own : List ℕ). own ++ more.0) (took_whole one two written took);
+    }
 
 module _ (start done : Progress) (next : ℕ) (old : Before) (files : FilesView) (disk : DiskView) (output : SinkView)
     (head : IsSoFar start done next old files disk output) where
@@ -62,7 +75,8 @@ module _ (start done : Progress) (next : ℕ) (old : Before) (files : FilesView)
   ends_here = (at done None, refl, refl, head.so_far)
 
   -- with a fault that blames nothing outside
-  pub leaves_here : (fault : Fault) → HasCause old (world files disk output) (Some fault) → Leaves start (at done (Some fault)) old (world files disk output)
+  pub leaves_here : (fault : Fault) → HasCause old (world files disk output) (Some fault)
+      → Leaves start (at done (Some fault)) old (world files disk output)
   leaves_here fault cause = record {
     output = head.so_far.output;
     at_end = head.so_far.at_end;
@@ -75,7 +89,8 @@ module _ (start done : Progress) (next : ℕ) (old : Before) (files : FilesView)
     disk = head.so_far.disk;
   }
 
-  pub refuses_here : (fault : Fault) → HasCause old (world files disk output) (Some fault) → GoesOn (refuses fault) start done (Some fault) old (world files disk output)
+  pub refuses_here : (fault : Fault) → HasCause old (world files disk output) (Some fault)
+      → GoesOn (refuses fault) start done (Some fault) old (world files disk output)
   refuses_here fault cause = (at done (Some fault), refl, refl, leaves_here fault cause)
 
   -- a file is read
@@ -92,13 +107,16 @@ module _ (start done : Progress) (next : ℕ) (old : Before) (files : FilesView)
     -- to its end
     pub past_file : (found : A) → IsRead Reads file found files new → IsSoFar start (past file done) (file + 1) old new disk output
     past_file found read = record {
-      unread = λ other high own. ⊎_elim (λ (same : other ≡ file). omega (arith, same, high)) (λ (in_it : IsIn done.read other). head.unread other (omega (arith, above, high)) in_it) own;
+      unread = λ other high own. ⊎_elim (λ (same : other ≡ file). omega (arith, same, high))
+          (λ (in_it : IsIn done.read other). head.unread other (omega (arith, above, high)) in_it) own;
       so_far = record {
         output = head.so_far.output;
         at_end = λ other own. ⊎_elim
-            (λ (same : other ≡ file). subst (λ (own : ℕ). IfTold (old.left own) (λ _. new.left own ≡ Some [])) (sym same) (λ bytes told. read.at_end bytes (as_before ∙ told)))
+            (λ (same : other ≡ file). subst (λ (own : ℕ). IfTold (old.left own) (λ _. new.left own ≡ Some [])) (sym same)
+            (λ bytes told. read.at_end bytes (as_before ∙ told)))
             (λ (in_it : IsIn done.read other) bytes told. elsewhere read.alone other in_it ∙ head.so_far.at_end other in_it bytes told) own;
-        others = λ other not reading. read.alone.others other (λ same. not (inl same)) ∙ head.so_far.others other (λ in_it. not (inr in_it)) reading;
+        others = λ other not reading. read.alone.others other (λ same. not (inl same))
+            ∙ head.so_far.others other (λ in_it. not (inr in_it)) reading;
         store = head.so_far.store;
         moments = head.so_far.moments;
         cause = tt;
@@ -108,11 +126,13 @@ module _ (start done : Progress) (next : ℕ) (old : Before) (files : FilesView)
       };
     }
 
-    pub leads_file : (found : A) → IsRead Reads file found files new → (rest : A → Course) (ending : Ending) → Comes old (rest found) (past file done) ending → Comes old (reads file Reads rest) done ending
+    pub leads_file : (found : A) → IsRead Reads file found files new → (rest : A → Course) (ending : Ending)
+        → Comes old (rest found) (past file done) ending → Comes old (reads file Reads rest) done ending
     leads_file found read rest ending comes = inr (found, (λ bytes told. read.accepted bytes (as_before ∙ told)), comes)
 
     -- or the run ends in it
-    leaves_file : (fault : Fault) → IsReadAlone file files new → HasCause old (world new disk output) (Some fault) → Leaves start (at_file file done fault) old (world new disk output)
+    leaves_file : (fault : Fault) → IsReadAlone file files new → HasCause old (world new disk output) (Some fault)
+        → Leaves start (at_file file done fault) old (world new disk output)
     leaves_file fault alone cause = record {
       output = head.so_far.output;
       at_end = λ other read bytes told. elsewhere alone other read ∙ head.so_far.at_end other read bytes told;
@@ -127,13 +147,21 @@ module _ (start done : Progress) (next : ℕ) (old : Before) (files : FilesView)
 
     stops_why : (rest : A → Course) (fault : Fault) → StopsFor Reads file fault files new → IsReadAlone file files new
         → BreaksIn A file (old.left file) Reads done (at_file file done fault) × HasCause old (world new disk output) (Some fault)
-    stops_why rest (faults.ReadFault own) why alone = (unread (ap (λ (at : ℕ). at_file file done (faults.ReadFault at)) why.0), rose_later old.read_faults files.faults new.faults head.so_far.reads why.1)
+    stops_why rest (faults.ReadFault own) why alone = (
+      unread (ap (λ (at : ℕ). at_file file done (faults.ReadFault at)) why.0),
+      rose_later old.read_faults files.faults new.faults head.so_far.reads why.1,
+    )
     stops_why rest faults.OutOfMemory why alone = (short refl, tt)
-    stops_why rest (faults.Malformed own line cause) why alone = (refused (faults.Malformed own line cause) why.0 (λ bytes told. why.1 bytes (as_before ∙ told)) refl, tt)
-    stops_why rest (faults.BadStyle own cause part) why alone = (refused (faults.BadStyle own cause part) why.0 (λ bytes told. why.1 bytes (as_before ∙ told)) refl, tt)
-    stops_why rest (faults.BadBounds own line) why alone = (refused (faults.BadBounds own line) why.0 (λ bytes told. why.1 bytes (as_before ∙ told)) refl, tt)
-    stops_why rest (faults.BadQuery own line cause) why alone = (refused (faults.BadQuery own line cause) why.0 (λ bytes told. why.1 bytes (as_before ∙ told)) refl, tt)
-    stops_why rest (faults.Limit which value) why alone = (refused (faults.Limit which value) why.0 (λ bytes told. why.1 bytes (as_before ∙ told)) refl, tt)
+    stops_why rest (faults.Malformed own line cause) why alone =
+        (refused (faults.Malformed own line cause) why.0 (λ bytes told. why.1 bytes (as_before ∙ told)) refl, tt)
+    stops_why rest (faults.BadStyle own cause part) why alone =
+        (refused (faults.BadStyle own cause part) why.0 (λ bytes told. why.1 bytes (as_before ∙ told)) refl, tt)
+    stops_why rest (faults.BadBounds own line) why alone =
+        (refused (faults.BadBounds own line) why.0 (λ bytes told. why.1 bytes (as_before ∙ told)) refl, tt)
+    stops_why rest (faults.BadQuery own line cause) why alone =
+        (refused (faults.BadQuery own line cause) why.0 (λ bytes told. why.1 bytes (as_before ∙ told)) refl, tt)
+    stops_why rest (faults.Limit which value) why alone =
+        (refused (faults.Limit which value) why.0 (λ bytes told. why.1 bytes (as_before ∙ told)) refl, tt)
     stops_why rest faults.Usage why alone = absurd why.0
     stops_why rest faults.NotFormatted why alone = absurd why.0
     stops_why rest faults.NotEmpty why alone = absurd why.0
@@ -145,13 +173,15 @@ module _ (start done : Progress) (next : ℕ) (old : Before) (files : FilesView)
     stops_why rest faults.WriteFault why alone = absurd why.0
     stops_why rest faults.DiskFault why alone = absurd why.0
 
-    pub stops_in_file : (fault : Fault) → IsUnread Reads file fault files new → (rest : A → Course) → GoesOn (reads file Reads rest) start done (Some fault) old (world new disk output)
+    pub stops_in_file : (fault : Fault) → IsUnread Reads file fault files new → (rest : A → Course)
+        → GoesOn (reads file Reads rest) start done (Some fault) old (world new disk output)
     stops_in_file fault stop rest =
         let why = stops_why rest fault stop.why stop.alone in
         (at_file file done fault, refl, inl why.0, leaves_file fault stop.alone why.1)
 
   -- a text is told
-  pub past_text : (text : List ℕ) (new : SinkView) → Appends output.taken new.taken text → output.faults ≤ new.faults → IsSoFar start (plus text done) next old files disk new
+  pub past_text : (text : List ℕ) (new : SinkView) → Appends output.taken new.taken text → output.faults ≤ new.faults
+      → IsSoFar start (plus text done) next old files disk new
   past_text text new all later = record {
     unread = head.unread;
     so_far = record {
@@ -167,7 +197,8 @@ module _ (start done : Progress) (next : ℕ) (old : Before) (files : FilesView)
     };
   }
 
-  leaves_text : (text : List ℕ) (new : SinkView) → AppendsPrefix output.taken new.taken text → output.faults ≤ new.faults → Rose output.faults new.faults → Leaves start (at_text text done faults.WriteFault) old (world files disk new)
+  leaves_text : (text : List ℕ) (new : SinkView) → AppendsPrefix output.taken new.taken text → output.faults ≤ new.faults
+      → Rose output.faults new.faults → Leaves start (at_text text done faults.WriteFault) old (world files disk new)
   leaves_text text new front later rose = record {
     output = took_half old.taken output.taken new.taken done.written text head.so_far.output front;
     at_end = head.so_far.at_end;
@@ -180,13 +211,18 @@ module _ (start done : Progress) (next : ℕ) (old : Before) (files : FilesView)
     disk = head.so_far.disk;
   }
 
-  pub stops_in_line : (text : List ℕ) (new : SinkView) (rest : Course) → AppendsPrefix output.taken new.taken text → output.faults ≤ new.faults → Rose output.faults new.faults
+  pub stops_in_line : (text : List ℕ) (new : SinkView) (rest : Course) → AppendsPrefix output.taken new.taken text
+      → output.faults ≤ new.faults → Rose output.faults new.faults
       → GoesOn (tells text rest) start done (Some faults.WriteFault) old (world files disk new)
-  stops_in_line text new rest front later rose = (at_text text done faults.WriteFault, refl, inl refl, leaves_text text new front later rose)
+  stops_in_line text new rest front later rose =
+      (at_text text done faults.WriteFault, refl, inl refl, leaves_text text new front later rose)
 
-  pub stops_in_text : (Fits : List ℕ → Type 0) (text : List ℕ) (new : SinkView) (rest : Course) → (AreTold old done.read → IsCertain done.store → Fits text) → AppendsPrefix output.taken new.taken text → output.faults ≤ new.faults
+  pub stops_in_text : (Fits : List ℕ → Type 0) (text : List ℕ) (new : SinkView) (rest : Course)
+      → (AreTold old done.read → IsCertain done.store → Fits text) → AppendsPrefix output.taken new.taken text → output.faults ≤ new.faults
       → Rose output.faults new.faults → GoesOn (writes Fits rest) start done (Some faults.WriteFault) old (world files disk new)
-  stops_in_text Fits text new rest fits front later rose = (at_text text done faults.WriteFault, refl, inr (text, fits, inl refl), leaves_text text new front later rose)
+  stops_in_text Fits text new rest fits front later rose =
+      (at_text text done faults.WriteFault, refl, inr (text, fits, inl refl), leaves_text text new front later rose)
 
-  pub stops_short : (Fits : List ℕ → Type 0) (rest : Course) → GoesOn (writes Fits rest) start done (Some faults.OutOfMemory) old (world files disk output)
+  pub stops_short : (Fits : List ℕ → Type 0) (rest : Course)
+      → GoesOn (writes Fits rest) start done (Some faults.OutOfMemory) old (world files disk output)
   stops_short Fits rest = (at done (Some faults.OutOfMemory), refl, inl refl, leaves_here faults.OutOfMemory tt)

@@ -1,5 +1,6 @@
 -- The deeds of a run on its open store.
-use Rattle.std.proofs.Common.{◌≡◌, ◌≤◌, ◌+◌, ◌⊎◌, ℕ, true, false, Option, Some, None, List, [], ◌∷◌, length, ⊎_elim, inl, inr, refl, sym, ◌∙◌, ap, subst, arith}
+use Rattle.std.proofs.Common.{◌≡◌, ◌≤◌, ◌+◌, ◌⊎◌, ℕ, true, false, Option, Some, None, List, [], ◌∷◌, length, ⊎_elim, inl, inr, refl, sym}
+use Rattle.std.proofs.Common.{◌∙◌, ap, subst, arith}
 use Rattle.osm_base.specs.bounds.Limits.{standard}
 use Rattle.osm_base.specs.declared.bounds.limits.LimitNumbers.{LimitNumbers}
 use Rattle.outside.specs.Causes.{Rose}
@@ -34,12 +35,15 @@ record IsPlain (fault : FlowFault) : Type 1 where
   step : IsStepFault fault
   causeless : (old : Before) (new : World) → HasCause old new (Some (flow_fault fault))
   no_disk : IsNoDiskFault (Some fault)
-  answers : (limits : LimitNumbers) (state : State) (step : Step) → MayAnswer limits state step (Some fault) → OrFull limits (Some fault) (Refuses limits state step (Some fault))
+  answers : (limits : LimitNumbers) (state : State) (step : Step) → MayAnswer limits state step (Some fault)
+      → OrFull limits (Some fault) (Refuses limits state step (Some fault))
   looks_so : (state : State) → MayLook state (Some fault) → RefusesLook state (Some fault)
 
 -- what is needed of an open store
-needed_here : (limits : LimitNumbers) (store : Handle) → limits ≡ standard → (first : Option (List ℕ)) → HasStood standard first (view_of store) → (fault : Option FlowFault) (state : State) (step : Step) → IsOpen state store
-    → FitsLimit limits (NeedsOn (view_of store) (after state step)) fault → FitsLimit standard (NeedsFrom standard first state (after state step)) fault
+needed_here : (limits : LimitNumbers) (store : Handle) → limits ≡ standard → (first : Option (List ℕ))
+    → HasStood standard first (view_of store) → (fault : Option FlowFault) (state : State) (step : Step) → IsOpen state store
+    → FitsLimit limits (NeedsOn (view_of store) (after state step)) fault
+    → FitsLimit standard (NeedsFrom standard first state (after state step)) fault
 needed_here limits store same first stood fault state step opened fits =
     fits_as standard (NeedsOn (view_of store) (after state step)) (NeedsFrom standard first state (after state step)) fault
     (λ many. needs_from standard first state (after state step) (view_of store) many opened.at_rest stood)
@@ -57,28 +61,38 @@ kind_of (flow.Store stores.Broken) call sound new = absurd (sound refl)
 kind_of (flow.Store stores.NotFormatted) call sound new = absurd call
 kind_of (flow.Store stores.NotEmpty) call sound new = absurd call
 kind_of (flow.Store stores.OutOfMemory) call sound new = absurd call
-kind_of (flow.Store (stores.BadStore page)) call sound new = plain (record { step = tt; causeless = λ old new. tt; no_disk = tt; answers = λ limits state step h. h; looks_so = λ state h. h })
-kind_of (flow.Store (stores.StoreFull pages)) call sound new = plain (record { step = tt; causeless = λ old new. tt; no_disk = tt; answers = λ limits state step h. h; looks_so = λ state h. h })
-kind_of flow.NotImported call sound new = plain (record { step = tt; causeless = λ old new. tt; no_disk = tt; answers = λ limits state step h. h; looks_so = λ state h. h })
-kind_of flow.AlreadyImported call sound new = plain (record { step = tt; causeless = λ old new. tt; no_disk = tt; answers = λ limits state step h. h; looks_so = λ state h. h })
+kind_of (flow.Store (stores.BadStore page)) call sound new =
+    plain (record { step = tt; causeless = λ old new. tt; no_disk = tt; answers = λ limits state step h. h; looks_so = λ state h. h })
+kind_of (flow.Store (stores.StoreFull pages)) call sound new =
+    plain (record { step = tt; causeless = λ old new. tt; no_disk = tt; answers = λ limits state step h. h; looks_so = λ state h. h })
+kind_of flow.NotImported call sound new =
+    plain (record { step = tt; causeless = λ old new. tt; no_disk = tt; answers = λ limits state step h. h; looks_so = λ state h. h })
+kind_of flow.AlreadyImported call sound new =
+    plain (record { step = tt; causeless = λ old new. tt; no_disk = tt; answers = λ limits state step h. h; looks_so = λ state h. h })
 kind_of flow.OldFormat call sound new = absurd (new refl)
-kind_of flow.LastChange call sound new = plain (record { step = tt; causeless = λ old new. tt; no_disk = tt; answers = λ limits state step h. h; looks_so = λ state h. h })
-kind_of (flow.TooMany value) call sound new = plain (record { step = tt; causeless = λ old new. tt; no_disk = tt; answers = λ limits state step h. h; looks_so = λ state h. h })
+kind_of flow.LastChange call sound new =
+    plain (record { step = tt; causeless = λ old new. tt; no_disk = tt; answers = λ limits state step h. h; looks_so = λ state h. h })
+kind_of (flow.TooMany value) call sound new =
+    plain (record { step = tt; causeless = λ old new. tt; no_disk = tt; answers = λ limits state step h. h; looks_so = λ state h. h })
 
 -- what was so at each moment is so when the run goes on
-moments_on : (from : Standing) (cut : ℕ) (store further : Standing) (moment : ℕ) (one other : Crashes) (P : List ℕ → Type 0) → SurvivesFrom from cut store moment one → Goes P one other
-    → ((left : List ℕ) → IsPast cut store left → IsPast cut further left) → ((left : List ℕ) → P left → IsPast cut further left) → SurvivesFrom from cut further moment other
+moments_on : (from : Standing) (cut : ℕ) (store further : Standing) (moment : ℕ) (one other : Crashes) (P : List ℕ → Type 0)
+    → SurvivesFrom from cut store moment one → Goes P one other
+    → ((left : List ℕ) → IsPast cut store left → IsPast cut further left) → ((left : List ℕ) → P left → IsPast cut further left)
+    → SurvivesFrom from cut further moment other
 moments_on unused cut store further moment one other P so_far goes lifts news = tt
 moments_on unknown cut store further moment one other P so_far goes lifts news = tt
 moments_on half_made cut store further moment one other P so_far goes lifts news = tt
 moments_on (keeps kept) cut store further moment one other P so_far goes lifts news = record {
   later = omega (arith, so_far.later, goes.later);
   each = λ left out. ⊎_elim
-      (λ (earlier : one.outcomes_since moment left). ⊎_elim (λ (own : IsOneOf kept left). inl own) (λ (own : IsPast cut store left). inr (lifts left own)) (so_far.each left earlier))
+      (λ (earlier : one.outcomes_since moment left).
+      ⊎_elim (λ (own : IsOneOf kept left). inl own) (λ (own : IsPast cut store left). inr (lifts left own)) (so_far.each left earlier))
       (λ (own : P left). inr (news left own)) (goes.each moment left so_far.later out);
 }
 
-no_moments : (from : Standing) (cut : ℕ) (store : Standing) (moment : ℕ) (crashes : Crashes) → KeptNone from → SurvivesFrom from cut store moment crashes
+no_moments : (from : Standing) (cut : ℕ) (store : Standing) (moment : ℕ) (crashes : Crashes) → KeptNone from
+    → SurvivesFrom from cut store moment crashes
 no_moments unused cut store moment crashes none = tt
 no_moments unknown cut store moment crashes none = tt
 no_moments half_made cut store moment crashes none = tt
@@ -97,8 +111,10 @@ standing store cut done = record { store = store; cut = cut; read = done.read; w
 
 module _ (start done : Progress) (state : State) (next : ℕ) (old : Before) (files : FilesView) (before now : Handle) (output : SinkView)
     (head : IsHead start done state next old files before output) where
-  store_leaves : (store : Standing) (cut : ℕ) (fault : Option Fault) → StandsOn fault store old (view_of now) → SurvivesFrom start.store cut store old.moment (view_of now).crashes
-      → HasCause old (world files (view_of now) output) fault → (view_of before).faults ≤ (view_of now).faults → Leaves start (at (standing store cut done) fault) old (world files (view_of now) output)
+  store_leaves : (store : Standing) (cut : ℕ) (fault : Option Fault) → StandsOn fault store old (view_of now)
+      → SurvivesFrom start.store cut store old.moment (view_of now).crashes
+      → HasCause old (world files (view_of now) output) fault → (view_of before).faults ≤ (view_of now).faults
+      → Leaves start (at (standing store cut done) fault) old (world files (view_of now) output)
   store_leaves store cut fault stands moments cause later = record {
     output = head.so_far.output;
     at_end = head.so_far.at_end;
@@ -113,8 +129,10 @@ module _ (start done : Progress) (state : State) (next : ℕ) (old : Before) (fi
 
   -- nothing is known of the store
   module _ (is : done.store ≡ unknown) (later : (view_of before).faults ≤ (view_of now).faults) where
-    vague_leaves : (fault : Option Fault) → HasCause old (world files (view_of now) output) fault → Leaves start (at done fault) old (world files (view_of now) output)
-    vague_leaves fault cause = store_leaves done.store done.cut fault (subst (λ (store : Standing). StandsOn fault store old (view_of now)) (sym is) tt)
+    vague_leaves : (fault : Option Fault) → HasCause old (world files (view_of now) output) fault
+        → Leaves start (at done fault) old (world files (view_of now) output)
+    vague_leaves fault cause = store_leaves done.store done.cut fault
+        (subst (λ (store : Standing). StandsOn fault store old (view_of now)) (sym is) tt)
         (no_moments start.store done.cut done.store old.moment (view_of now).crashes (head.vague is)) cause later
 
     vague_head : (other : State) → IsShown other now → limits_of now ≡ limits_of before → IsHead start done other next old files now output
@@ -128,7 +146,8 @@ module _ (start done : Progress) (state : State) (next : ℕ) (old : Before) (fi
     }
 
   -- the store keeps a history
-  module _ (kept : Kept) (is : done.store ≡ keeps kept) (here : IsRested kept done.cut state before) (later : (view_of before).faults ≤ (view_of now).faults) where
+  module _ (kept : Kept) (is : done.store ≡ keeps kept) (here : IsRested kept done.cut state before)
+      (later : (view_of before).faults ≤ (view_of now).faults) where
     past_here : (left : List ℕ) → IsPast done.cut done.store left → (steps : ℕ) × (done.cut ≤ steps) × Is left kept.history steps
     past_here left past = subst (λ (store : Standing). IsPast done.cut store left) is past
 
@@ -136,26 +155,34 @@ module _ (start done : Progress) (state : State) (next : ℕ) (old : Before) (fi
     all_here left stands = is_all left kept.history (subst (λ (own : State). StandsFor left own) (sym here.stands) stands)
 
     past_there : (left : List ℕ) → StandsFor left state → IsPast done.cut done.store left
-    past_there left stands = subst (λ (store : Standing). IsPast done.cut store left) (sym is) (length kept.history.steps, here.cut_within, all_here left stands)
+    past_there left stands = subst (λ (store : Standing). IsPast done.cut store left) (sym is)
+        (length kept.history.steps, here.cut_within, all_here left stands)
 
     -- and rests at its state
     rested_stands : (fault : Option Fault) → IsAt state (view_of now) → StandsOn fault done.store old (view_of now)
     rested_stands fault rests = subst (λ (store : Standing). StandsOn fault store old (view_of now)) (sym is) (
-      (λ left out. subst (λ (own : Kept). IsOneOf own left) (sym here.all) (subst (λ (bytes : List ℕ). IsOneOf (whole kept.history) bytes) (sym (rests.only left out))
+      (λ left out. subst (λ (own : Kept). IsOneOf own left) (sym here.all)
+          (subst (λ (bytes : List ℕ). IsOneOf (whole kept.history) bytes) (sym (rests.only left out))
           (one_of_all rests.bytes kept.history (subst (λ (own : State). StandsFor rests.bytes own) (sym here.stands) rests.stands)))),
       λ _. (rests.bytes, rests.told),
     )
 
-    rested_moments : RestsAt state (view_of before) (view_of now) → SurvivesFrom start.store done.cut done.store old.moment (view_of now).crashes
-    rested_moments goes = moments_on start.store done.cut done.store done.store old.moment (view_of before).crashes (view_of now).crashes (λ left. StandsFor left state) head.so_far.moments goes (λ left past. past) past_there
+    rested_moments : RestsAt state (view_of before) (view_of now)
+        → SurvivesFrom start.store done.cut done.store old.moment (view_of now).crashes
+    rested_moments goes = moments_on start.store done.cut done.store done.store old.moment (view_of before).crashes (view_of now).crashes
+        (λ left. StandsFor left state) head.so_far.moments goes (λ left past. past) past_there
 
-    rested_leaves : (fault : Option Fault) → IsAt state (view_of now) → RestsAt state (view_of before) (view_of now) → HasCause old (world files (view_of now) output) fault
+    rested_leaves : (fault : Option Fault) → IsAt state (view_of now) → RestsAt state (view_of before) (view_of now)
+        → HasCause old (world files (view_of now) output) fault
         → Leaves start (at done fault) old (world files (view_of now) output)
-    rested_leaves fault rests goes cause = store_leaves done.store done.cut fault (rested_stands fault rests) (rested_moments goes) cause later
+    rested_leaves fault rests goes cause = store_leaves done.store done.cut fault (rested_stands fault rests)
+        (rested_moments goes) cause later
 
-    rested_head : IsOpen state now → RestsAt state (view_of before) (view_of now) → Stays (view_of before) (view_of now) → limits_of now ≡ limits_of before → IsHead start done state next old files now output
+    rested_head : IsOpen state now → RestsAt state (view_of before) (view_of now) → Stays (view_of before) (view_of now)
+        → limits_of now ≡ limits_of before → IsHead start done state next old files now output
     rested_head rests goes only same = record {
-      here = subst (λ (store : Standing). IsHere store done.cut state now) (sym is) (record { all = here.all; cut_within = here.cut_within; stands = here.stands; rests = rests });
+      here = subst (λ (store : Standing). IsHere store done.cut state now) (sym is)
+          (record { all = here.all; cut_within = here.cut_within; stands = here.stands; rests = rests });
       vague = head.vague;
       limits = same ∙ head.limits;
       stood = λ certain. stood_stays standard old.content (view_of before) (view_of now) only (head.stood certain);
@@ -168,25 +195,46 @@ module _ (start done : Progress) (state : State) (next : ℕ) (old : Before) (fi
         → Leaves start (at done (Some faults.DiskFault)) old (world files (view_of now) output)
     failed_leaves goes cause = store_leaves done.store done.cut (Some faults.DiskFault)
         (subst (λ (store : Standing). StandsOn (Some faults.DiskFault) store old (view_of now)) (sym is) (
-          (λ left out. subst (λ (own : Kept). IsOneOf own left) (sym here.all) (one_of_all left kept.history (subst (λ (own : State). StandsFor left own) (sym here.stands) (goes.now left out)))),
+          (λ left out. subst (λ (own : Kept). IsOneOf own left) (sym here.all)
+              (one_of_all left kept.history (subst (λ (own : State). StandsFor left own) (sym here.stands) (goes.now left out)))),
           λ not. absurd (not refl),
         ))
         (rested_moments goes) cause later
 
     -- a step was begun
     module _ (step : Step) (goes : Goes (IsOfEither state (after state step)) (view_of before).crashes (view_of now).crashes) where
-      next_here : (left : List ℕ) → StandsFor left (after state step) → Is left (with_steps (step ∷ []) kept.history) (length kept.history.steps + 1)
-      next_here left stands = is_next left kept.history step (subst (λ (own : State). StandsFor left (after own step)) (sym here.stands) stands)
+      next_here : (left : List ℕ) → StandsFor left (after state step)
+          → Is left (with_steps (step ∷ []) kept.history) (length kept.history.steps + 1)
+      next_here left stands = is_next left kept.history step
+          (subst (λ (own : State). StandsFor left (after own step)) (sym here.stands) stands)
 
-      grown_moments : (other : Kept) → other.history ≡ with_steps (step ∷ []) kept.history → SurvivesFrom start.store done.cut (keeps other) old.moment (view_of now).crashes
-      grown_moments other same = moments_on start.store done.cut done.store (keeps other) old.moment (view_of before).crashes (view_of now).crashes (IsOfEither state (after state step)) head.so_far.moments goes
-          (λ left past. let own = past_here left past in (own.0, own.1, subst (λ (history : History). Is left history own.0) (sym same) (is_more left kept.history (step ∷ []) own.0 own.2)))
+      grown_moments : (other : Kept) → other.history ≡ with_steps (step ∷ []) kept.history
+          → SurvivesFrom start.store done.cut (keeps other) old.moment (view_of now).crashes
+      grown_moments other same = moments_on start.store done.cut done.store (keeps other) old.moment (view_of before).crashes
+          (view_of now).crashes (IsOfEither state (after state step)) head.so_far.moments goes
+          (λ left past. let own = past_here left past in (
+            own.0,
+            own.1,
+            subst (λ (history : History). Is left history own.0) (sym same)
+                (is_more left kept.history (step ∷ []) own.0 own.2),
+          ))
           (λ left either. ⊎_elim
-          (λ (stands : StandsFor left state). (length kept.history.steps, here.cut_within, subst (λ (history : History). Is left history (length kept.history.steps)) (sym same) (is_more left kept.history (step ∷ []) (length kept.history.steps) (all_here left stands))))
-          (λ (stands : StandsFor left (after state step)). (length kept.history.steps + 1, omega (arith, here.cut_within), subst (λ (history : History). Is left history (length kept.history.steps + 1)) (sym same) (next_here left stands))) either)
+          (λ (stands : StandsFor left state). (
+            length kept.history.steps,
+            here.cut_within,
+            subst (λ (history : History). Is left history (length kept.history.steps)) (sym same)
+                (is_more left kept.history (step ∷ []) (length kept.history.steps) (all_here left stands)),
+          ))
+          (λ (stands : StandsFor left (after state step)). (
+            length kept.history.steps + 1,
+            omega (arith, here.cut_within),
+            subst (λ (history : History). Is left history (length kept.history.steps + 1)) (sym same) (next_here left stands),
+          ))
+          either)
 
       -- and is done
-      stepped_head : IsOpen (after state step) now → Grows standard (after state step) (view_of before) (view_of now) → limits_of now ≡ limits_of before → IsHead start (committed step kept done) (after state step) next old files now output
+      stepped_head : IsOpen (after state step) now → Grows standard (after state step) (view_of before) (view_of now)
+          → limits_of now ≡ limits_of before → IsHead start (committed step kept done) (after state step) next old files now output
       stepped_head rests grown same = record {
         here = record {
           all = refl;
@@ -196,29 +244,39 @@ module _ (start done : Progress) (state : State) (next : ℕ) (old : Before) (fi
         };
         vague = λ e. absurd (cc);
         limits = same ∙ head.limits;
-        stood = λ _. stood_grown standard old.content state (after state step) (view_of before) (view_of now) here.rests.at_rest rests.at_rest grown;
+        stood = λ _. stood_grown standard old.content state (after state step) (view_of before)
+            (view_of now) here.rests.at_rest rests.at_rest grown;
         unread = head.unread;
         so_far = store_leaves (keeps (with_step step kept)) done.cut None (
           (λ left out. subst (λ (bytes : List ℕ). IsOneOf (with_step step kept) bytes) (sym (rests.at_rest.only left out))
               (one_of_all rests.at_rest.bytes (with_steps (step ∷ []) kept.history)
-              (subst (λ (own : State). StandsFor rests.at_rest.bytes own) (sym (state-more step kept.history ∙ ap (λ (own : State). after own step) here.stands)) rests.at_rest.stands))),
+              (subst (λ (own : State). StandsFor rests.at_rest.bytes own)
+              (sym (state-more step kept.history ∙ ap (λ (own : State). after own step) here.stands)) rests.at_rest.stands))),
           λ _. (rests.at_rest.bytes, rests.at_rest.told),
         )
             (grown_moments (with_step step kept) refl) tt later;
       }
 
       -- or the disk failed in it
-      doubt_leaves : HasCause old (world files (view_of now) output) (Some faults.DiskFault) → Leaves start (at (in_doubt step kept done) (Some faults.DiskFault)) old (world files (view_of now) output)
+      doubt_leaves : HasCause old (world files (view_of now) output) (Some faults.DiskFault)
+          → Leaves start (at (in_doubt step kept done) (Some faults.DiskFault)) old (world files (view_of now) output)
       doubt_leaves cause = store_leaves (keeps (perhaps step kept)) done.cut (Some faults.DiskFault) (
         (λ left out. ⊎_elim
-            (λ (stands : StandsFor left state). (length kept.history.steps, omega arith, omega arith, is_more left kept.history (step ∷ []) (length kept.history.steps) (all_here left stands)))
-            (λ (stands : StandsFor left (after state step)). (length kept.history.steps + 1, omega arith, omega arith, next_here left stands)) (goes.now left out)),
+            (λ (stands : StandsFor left state). (
+              length kept.history.steps,
+              omega arith,
+              omega arith,
+              is_more left kept.history (step ∷ []) (length kept.history.steps) (all_here left stands),
+            ))
+            (λ (stands : StandsFor left (after state step)).
+            (length kept.history.steps + 1, omega arith, omega arith, next_here left stands)) (goes.now left out)),
         λ not. absurd (not refl),
       )
           (grown_moments (perhaps step kept) refl) cause later
 
 -- a step that was taken: how far the run has come, and where it goes on
-pub record IsStepped (start done : Progress) (state : State) (next : ℕ) (old : Before) (files : FilesView) (updater : Handle) (output : SinkView) (step : Step) : Type 1 where
+pub record IsStepped (start done : Progress) (state : State) (next : ℕ) (old : Before) (files : FilesView) (updater : Handle)
+    (output : SinkView) (step : Step) : Type 1 where
   pub further : Progress
   pub head : IsHead start further (after state step) next old files updater output
   pub leads : (rest : Course) (ending : Ending) → Comes old rest further ending → Comes old (commits step rest) done ending
@@ -226,7 +284,8 @@ pub record IsStepped (start done : Progress) (state : State) (next : ℕ) (old :
 
 module _ (start done : Progress) (state : State) (next : ℕ) (old : Before) (files : FilesView) (before now : Handle) (output : SinkView)
     (head : IsHead start done state next old files before output) where
-  rose_disk : (fault : FlowFault) → fault ≡ flow.Store stores.DiskFault → HasFlowCause (Some fault) (view_of before) (view_of now) → Rose old.disk_faults (view_of now).faults
+  rose_disk : (fault : FlowFault) → fault ≡ flow.Store stores.DiskFault → HasFlowCause (Some fault) (view_of before) (view_of now)
+      → Rose old.disk_faults (view_of now).faults
   rose_disk fault is cause = let rose = cause.failed (ap Some is) in omega (arith, head.so_far.disk, rose)
 
   sound_here : (store : Standing) → IsHere store done.cut state before → is_whole before ≡ true
@@ -239,39 +298,52 @@ module _ (start done : Progress) (state : State) (next : ℕ) (old : Before) (fi
   not_broken fault broken is = absurd (let two : true ≡ false = sym (sound_here done.store head.here) ∙ broken is in cc)
 
   -- a store of this format is not refused as one of the old
-  pub not_outdated : was_old state ≡ false → (fault : FlowFault) → (fault ≡ flow.OldFormat → is_old before ≡ true) → fault ≡ flow.OldFormat → ⊥
-  not_outdated new fault refused is = absurd (let two : true ≡ false = sym (refused is) ∙ (shows_here done.store done.cut state before head.here).old_is ∙ new in cc)
+  pub not_outdated : was_old state ≡ false → (fault : FlowFault) → (fault ≡ flow.OldFormat → is_old before ≡ true) → fault ≡ flow.OldFormat
+      → ⊥
+  not_outdated new fault refused is = absurd
+      (let two : true ≡ false = sym (refused is) ∙ (shows_here done.store done.cut state before head.here).old_is ∙ new in cc)
 
   -- what is known of the store
   certain_here : (kept : Kept) → done.store ≡ keeps kept → IsCertain done.store
   certain_here kept is = subst (λ (store : Standing). IsCertain store) (sym is) tt
 
   -- a step is taken
-  module _ (step : Step) (writes : Writes state step) (takes : (own : State) → IsOpen own before → Takes own step None before now) (shows : Shows state before → Shows (after state step) now)
-      (sound : is_whole now ≡ is_whole before) (same : limits_of now ≡ limits_of before) (cause : HasFlowCause None (view_of before) (view_of now)) where
-    taken_by : (store : Standing) → done.store ≡ store → IsHere store done.cut state before → IsStepped start done state next old files now output step
+  module _ (step : Step) (writes : Writes state step) (takes : (own : State) → IsOpen own before → Takes own step None before now)
+      (shows : Shows state before → Shows (after state step) now)
+      (sound : is_whole now ≡ is_whole before) (same : limits_of now ≡ limits_of before)
+      (cause : HasFlowCause None (view_of before) (view_of now)) where
+    taken_by : (store : Standing) → done.store ≡ store → IsHere store done.cut state before
+        → IsStepped start done state next old files now output step
     taken_by unused is here = absurd here
     taken_by half_made is here = absurd here
     taken_by unknown is here = record {
       further = done;
-      head = vague_head start done state next old files before now output head is cause.later (after state step) (record { shows = shows here.shows; whole = sound ∙ here.whole }) same;
+      head = vague_head start done state next old files before now output head is cause.later (after state step)
+          (record { shows = shows here.shows; whole = sound ∙ here.whole }) same;
       leads = λ rest ending comes. inr (subst (λ (store : Standing). ByStore store
-          (λ kept. (ending ≡ at (in_doubt step kept done) (Some faults.DiskFault)) ⊎ IsRefusedFor (IsRefusal old (state_after kept.history) step) done ending
+          (λ kept. (ending ≡ at (in_doubt step kept done) (Some faults.DiskFault))
+          ⊎ IsRefusedFor (IsRefusal old (state_after kept.history) step) done ending
           ⊎ (MayTake old (state_after kept.history) step × Comes old rest (committed step kept done) ending))
           (IsRefusedFor IsStepFault done ending ⊎ Comes old rest done ending)) (sym is) (inr comes));
       certain = λ certain. certain;
     }
     taken_by (keeps kept) is here =
         let own = takes state here.rests in
-        let answer : Refuses standard state step None = subst (λ (limits : LimitNumbers). Refuses limits state step None) head.limits own.answer in
-        let need : IsOfNeed old state step None = λ writes. needed_here (limits_of before) before head.limits old.content (head.stood (certain_here kept is)) None state step here.rests (own.needs writes) in
+        let answer : Refuses standard state step None =
+        subst (λ (limits : LimitNumbers). Refuses limits state step None) head.limits own.answer in
+        let need : IsOfNeed old state step None =
+        λ writes. needed_here (limits_of before) before head.limits old.content
+        (head.stood (certain_here kept is)) None state step here.rests (own.needs writes) in
         let grown : Grows standard (after state step) (view_of before) (view_of now) =
-        subst (λ (limits : LimitNumbers). Grows limits (after state step) (view_of before) (view_of now)) head.limits (own.grown writes refl) in
+        subst (λ (limits : LimitNumbers). Grows limits (after state step) (view_of before) (view_of now)) head.limits
+        (own.grown writes refl) in
         record {
           further = committed step kept done;
-          head = stepped_head start done state next old files before now output head kept is here cause.later step own.moments (own.done refl) grown same;
+          head = stepped_head start done state next old files before now output head kept is here cause.later step own.moments
+              (own.done refl) grown same;
           leads = λ rest ending comes. inr (subst (λ (store : Standing). ByStore store
-              (λ kept. (ending ≡ at (in_doubt step kept done) (Some faults.DiskFault)) ⊎ IsRefusedFor (IsRefusal old (state_after kept.history) step) done ending
+              (λ kept. (ending ≡ at (in_doubt step kept done) (Some faults.DiskFault))
+              ⊎ IsRefusedFor (IsRefusal old (state_after kept.history) step) done ending
               ⊎ (MayTake old (state_after kept.history) step × Comes old rest (committed step kept done) ending))
               (IsRefusedFor IsStepFault done ending ⊎ Comes old rest done ending)) (sym is)
               (inr (inr (subst (λ (own : State). MayTake old own step) (sym here.stands) (answer, need), comes))));
@@ -282,13 +354,16 @@ module _ (start done : Progress) (state : State) (next : ℕ) (old : Before) (fi
     taken = taken_by done.store refl head.here
 
   -- a step is refused
-  module _ (step : Step) (fault : FlowFault) (takes : (own : State) → IsOpen own before → Takes own step (Some fault) before now) (call : IsCallFault fault)
-      (broken : fault ≡ flow.Store stores.Broken → is_whole before ≡ false) (never : fault ≡ flow.OldFormat → ⊥) (cause : HasFlowCause (Some fault) (view_of before) (view_of now)) (rest : Course) where
+  module _ (step : Step) (fault : FlowFault) (takes : (own : State) → IsOpen own before → Takes own step (Some fault) before now)
+      (call : IsCallFault fault)
+      (broken : fault ≡ flow.Store stores.Broken → is_whole before ≡ false) (never : fault ≡ flow.OldFormat → ⊥)
+      (cause : HasFlowCause (Some fault) (view_of before) (view_of now)) (rest : Course) where
     abbrev Goal : Type 0
     Goal = GoesOn (commits step rest) start done (Some (flow_fault fault)) old (world files (view_of now) output)
 
     abbrev Known : Ending → Kept → Type 0
-    Known ending kept = (ending ≡ at (in_doubt step kept done) (Some faults.DiskFault)) ⊎ IsRefusedFor (IsRefusal old (state_after kept.history) step) done ending
+    Known ending kept = (ending ≡ at (in_doubt step kept done) (Some faults.DiskFault))
+        ⊎ IsRefusedFor (IsRefusal old (state_after kept.history) step) done ending
         ⊎ (MayTake old (state_after kept.history) step × Comes old rest (committed step kept done) ending)
 
     abbrev Vague : Ending → Type 0
@@ -299,7 +374,8 @@ module _ (start done : Progress) (state : State) (next : ℕ) (old : Before) (fi
       at done (Some faults.DiskFault),
       ap Some (sym (ap flow_fault own)),
       inl (inl refl),
-      vague_leaves start done state next old files before now output head is cause.later (Some faults.DiskFault) (rose_disk fault own cause),
+      vague_leaves start done state next old files before now output head is cause.later (Some faults.DiskFault)
+          (rose_disk fault own cause),
     )
     refused_vague is (of_memory own) = (
       at done (Some faults.OutOfMemory),
@@ -310,32 +386,41 @@ module _ (start done : Progress) (state : State) (next : ℕ) (old : Before) (fi
     refused_vague is (plain own) = (
       at done (Some (flow_fault fault)),
       refl,
-      inr (subst (λ (store : Standing). ByStore store (Known (at done (Some (flow_fault fault)))) (Vague (at done (Some (flow_fault fault))))) (sym is) (inl (fault, own.step, refl))),
-      vague_leaves start done state next old files before now output head is cause.later (Some (flow_fault fault)) (own.causeless old (world files (view_of now) output)),
+      inr (subst (λ (store : Standing). ByStore store (Known (at done (Some (flow_fault fault))))
+          (Vague (at done (Some (flow_fault fault))))) (sym is) (inl (fault, own.step, refl))),
+      vague_leaves start done state next old files before now output head is cause.later (Some (flow_fault fault))
+          (own.causeless old (world files (view_of now) output)),
     )
 
     refused_known : (kept : Kept) → done.store ≡ keeps kept → IsRested kept done.cut state before → Kinds fault → Goal
     refused_known kept is here (of_disk own) = (
       at (in_doubt step kept done) (Some faults.DiskFault),
       ap Some (sym (ap flow_fault own)),
-      inr (subst (λ (store : Standing). ByStore store (Known (at (in_doubt step kept done) (Some faults.DiskFault))) (Vague (at (in_doubt step kept done) (Some faults.DiskFault)))) (sym is) (inl refl)),
-      doubt_leaves start done state next old files before now output head kept is here cause.later step (takes state here.rests).moments (rose_disk fault own cause),
+      inr (subst (λ (store : Standing). ByStore store (Known (at (in_doubt step kept done) (Some faults.DiskFault)))
+          (Vague (at (in_doubt step kept done) (Some faults.DiskFault)))) (sym is) (inl refl)),
+      doubt_leaves start done state next old files before now output head kept is here cause.later step (takes state here.rests).moments
+          (rose_disk fault own cause),
     )
     refused_known kept is here (of_memory own) =
-        let rested = (takes state here.rests).refused (λ e. absurd (cc)) (subst (λ (own : FlowFault). IsNoDiskFault (Some own)) (sym own) tt) in (
+        let rested = (takes state here.rests).refused (λ e. absurd (cc))
+        (subst (λ (own : FlowFault). IsNoDiskFault (Some own)) (sym own) tt) in (
           at done (Some faults.OutOfMemory),
           ap Some (sym (ap flow_fault own)),
           inl (inr refl),
-          rested_leaves start done state next old files before now output head kept is here cause.later (Some faults.OutOfMemory) rested.0.at_rest rested.1 tt,
+          rested_leaves start done state next old files before now output head kept is here cause.later
+              (Some faults.OutOfMemory) rested.0.at_rest rested.1 tt,
         )
     refused_known kept is here (plain own) =
         let rested = (takes state here.rests).refused (λ e. absurd (cc)) own.no_disk in
-        let why = own.answers standard state step (subst (λ (limits : LimitNumbers). MayAnswer limits state step (Some fault)) head.limits (takes state here.rests).answer) in
+        let why = own.answers standard state step
+        (subst (λ (limits : LimitNumbers). MayAnswer limits state step (Some fault)) head.limits (takes state here.rests).answer) in
         let need : IsOfNeed old state step (Some fault) = λ writes.
-        needed_here (limits_of before) before head.limits old.content (head.stood (certain_here kept is)) (Some fault) state step here.rests ((takes state here.rests).needs writes) in (
+        needed_here (limits_of before) before head.limits old.content (head.stood (certain_here kept is)) (Some fault) state step here.rests
+        ((takes state here.rests).needs writes) in (
           at done (Some (flow_fault fault)),
           refl,
-          inr (subst (λ (store : Standing). ByStore store (Known (at done (Some (flow_fault fault)))) (Vague (at done (Some (flow_fault fault))))) (sym is)
+          inr (subst (λ (store : Standing). ByStore store (Known (at done (Some (flow_fault fault))))
+              (Vague (at done (Some (flow_fault fault))))) (sym is)
               (inr (inl (
                 fault,
                 (
@@ -345,7 +430,8 @@ module _ (start done : Progress) (state : State) (next : ℕ) (old : Before) (fi
                 ),
                 refl,
               )))),
-          rested_leaves start done state next old files before now output head kept is here cause.later (Some (flow_fault fault)) rested.0.at_rest rested.1 (own.causeless old (world files (view_of now) output)),
+          rested_leaves start done state next old files before now output head kept is here cause.later
+              (Some (flow_fault fault)) rested.0.at_rest rested.1 (own.causeless old (world files (view_of now) output)),
         )
 
     refused_by : (store : Standing) → done.store ≡ store → IsHere store done.cut state before → Goal
@@ -360,22 +446,28 @@ module _ (start done : Progress) (state : State) (next : ℕ) (old : Before) (fi
 module _ (start done : Progress) (held : Holding) (next : ℕ) (old : Before) (files : FilesView) (before now : Handle) (output : SinkView)
     (head : IsHead start done (imported held) next old files before output) where
   -- the store is looked at
-  module _ (looked : (own : State) → IsOpen own before → Looks own None before now) (shows : Shows (imported held) before → Shows (imported held) now)
-      (sound : is_whole now ≡ is_whole before) (same : limits_of now ≡ limits_of before) (cause : HasFlowCause None (view_of before) (view_of now)) where
-    looked_by : (store : Standing) → done.store ≡ store → IsHere store done.cut (imported held) before → IsHead start done (imported held) next old files now output
+  module _ (looked : (own : State) → IsOpen own before → Looks own None before now)
+      (shows : Shows (imported held) before → Shows (imported held) now)
+      (sound : is_whole now ≡ is_whole before) (same : limits_of now ≡ limits_of before)
+      (cause : HasFlowCause None (view_of before) (view_of now)) where
+    looked_by : (store : Standing) → done.store ≡ store → IsHere store done.cut (imported held) before
+        → IsHead start done (imported held) next old files now output
     looked_by unused is here = absurd here
     looked_by half_made is here = absurd here
-    looked_by unknown is here = vague_head start done (imported held) next old files before now output head is cause.later (imported held) (record { shows = shows here.shows; whole = sound ∙ here.whole }) same
+    looked_by unknown is here = vague_head start done (imported held) next old files before now output head is cause.later (imported held)
+        (record { shows = shows here.shows; whole = sound ∙ here.whole }) same
     looked_by (keeps kept) is here =
         let own = looked (imported held) here.rests in
-        rested_head start done (imported held) next old files before now output head kept is here cause.later (own.stays tt) own.moments own.only same
+        rested_head start done (imported held) next old files before now output head kept is here cause.later
+        (own.stays tt) own.moments own.only same
 
     pub looked_at : IsHead start done (imported held) next old files now output
     looked_at = looked_by done.store refl head.here
 
   -- a look is refused
   module _ (fault : FlowFault) (looked : (own : State) → IsOpen own before → Looks own (Some fault) before now) (call : IsCallFault fault)
-      (broken : fault ≡ flow.Store stores.Broken → is_whole before ≡ false) (refused : fault ≡ flow.OldFormat → is_old before ≡ true) (cause : HasFlowCause (Some fault) (view_of before) (view_of now)) (rest : Course) where
+      (broken : fault ≡ flow.Store stores.Broken → is_whole before ≡ false) (refused : fault ≡ flow.OldFormat → is_old before ≡ true)
+      (cause : HasFlowCause (Some fault) (view_of before) (view_of now)) (rest : Course) where
     abbrev Unlooked : Type 0
     Unlooked = GoesOn (looks rest) start done (Some (flow_fault fault)) old (world files (view_of now) output)
 
@@ -396,8 +488,10 @@ module _ (start done : Progress) (held : Holding) (next : ℕ) (old : Before) (f
     unlooked_vague is (plain own) = (
       at done (Some (flow_fault fault)),
       refl,
-      inr (inl (subst (λ (store : Standing). IfUnknown store (IsRefusedFor IsStepFault done (at done (Some (flow_fault fault))))) (sym is) (fault, own.step, refl))),
-      vague_leaves start done (imported held) next old files before now output head is cause.later (Some (flow_fault fault)) (own.causeless old (world files (view_of now) output)),
+      inr (inl (subst (λ (store : Standing). IfUnknown store (IsRefusedFor IsStepFault done (at done (Some (flow_fault fault))))) (sym is)
+          (fault, own.step, refl))),
+      vague_leaves start done (imported held) next old files before now output head is cause.later (Some (flow_fault fault))
+          (own.causeless old (world files (view_of now) output)),
     )
 
     unlooked_known : (kept : Kept) → done.store ≡ keeps kept → IsRested kept done.cut (imported held) before → Kinds fault → Unlooked
@@ -405,7 +499,8 @@ module _ (start done : Progress) (held : Holding) (next : ℕ) (old : Before) (f
       at done (Some faults.DiskFault),
       ap Some (sym (ap flow_fault own)),
       inl (inl refl),
-      failed_leaves start done (imported held) next old files before now output head kept is here cause.later (looked (imported held) here.rests).moments
+      failed_leaves start done (imported held) next old files before now output head kept is here cause.later
+          (looked (imported held) here.rests).moments
           (rose_disk start done (imported held) next old files before now output head fault own cause),
     )
     unlooked_known kept is here (of_memory own) =
@@ -413,9 +508,11 @@ module _ (start done : Progress) (held : Holding) (next : ℕ) (old : Before) (f
           at done (Some faults.OutOfMemory),
           ap Some (sym (ap flow_fault own)),
           inl (inr refl),
-          rested_leaves start done (imported held) next old files before now output head kept is here cause.later (Some faults.OutOfMemory) rested.at_rest (looked (imported held) here.rests).moments tt,
+          rested_leaves start done (imported held) next old files before now output head kept is here cause.later
+              (Some faults.OutOfMemory) rested.at_rest (looked (imported held) here.rests).moments tt,
         )
-    unlooked_known kept is here (plain own) = absurd (let none : Some fault ≡ None = own.looks_so (imported held) (looked (imported held) here.rests).answer in cc)
+    unlooked_known kept is here (plain own) =
+        absurd (let none : Some fault ≡ None = own.looks_so (imported held) (looked (imported held) here.rests).answer in cc)
 
     kind_here : Kinds fault
     kind_here = kind_of fault call (not_broken start done (imported held) next old files before now output head fault broken)

@@ -1,5 +1,6 @@
 -- The commands over a store that is there, once it is open.
-use Rattle.std.proofs.Common.{◌≡◌, ◌≤◌, ◌+◌, ℕ, true, false, Option, Some, None, List, Result, Ok, Err, OnOk, OnErr, IfErr, inr, refl, sym, ◌∙◌, ap, subst, arith}
+use Rattle.std.proofs.Common.{◌≡◌, ◌≤◌, ◌+◌, ℕ, true, false, Option, Some, None, List, Result, Ok, Err, OnOk, OnErr, IfErr, inr, refl, sym}
+use Rattle.std.proofs.Common.{◌∙◌, ap, subst, arith}
 use Rattle.std.specs.Result.{result_err}
 use Rattle.std.specs.Io.KnownBytes.{Appends}
 use Rattle.outside.specs.Bytes.{AppendsPrefix}
@@ -11,7 +12,8 @@ use Rattle.style_read.specs.Style.{StyleOf, table_of}
 use Rattle.update_flow.specs.AtRest.{HasFlowCause}
 use Rattle.update_flow.specs.Refusals.{IsCallFault}
 use Rattle.update_flow.specs.State.{Holding, State, formatted, imported, outdated, Clear, after}
-use Rattle.update_flow.specs.Handle.{Handle, IsOpen, Looks, Shows, Takes, TellsAs, is_imported, is_old, is_whole, limits_of, style_of, view_of}
+use Rattle.update_flow.specs.Handle.{Handle, IsOpen, Looks, Shows, Takes, TellsAs, is_imported, is_old, is_whole, limits_of, style_of}
+use Rattle.update_flow.specs.Handle.{view_of}
 use Rattle.update_flow.specs.declared.fault.FlowFault.{FlowFault}
 use Rattle.update_flow.specs.declared.fault.FlowFault.TheVariants as flow
 use Rattle.run_promise.specs.declared.fault.Fault.{Fault}
@@ -32,8 +34,10 @@ pub true_not : (P : Type 0) → true ≡ false → P
 true_not P is = absurd (cc)
 
 -- where nothing comes behind, the next head is the end
-pub leads_ends : (course : Onward → Course) (fault : Option Fault) (start done : Progress) (next : ℕ) (old : Before) (files : FilesView) (updater : Handle) (output : SinkView)
-    → Leads course fault start done next old files updater output → GoesOn (course finished) start done fault old (world files (view_of updater) output)
+pub leads_ends : (course : Onward → Course) (fault : Option Fault) (start done : Progress) (next : ℕ) (old : Before) (files : FilesView)
+    (updater : Handle) (output : SinkView)
+    → Leads course fault start done next old files updater output
+    → GoesOn (course finished) start done fault old (world files (view_of updater) output)
 leads_ends course None start done next old files updater output own =
     goes_back (course finished) ends start done own.0 None old (world files (view_of updater) output)
     (ends_here start own.0 (imported own.1) next old files updater output own.2) (own.3 finished)
@@ -50,58 +54,76 @@ module _ (start done : Progress) (next : ℕ) (old : Before) (files : FilesView)
   shown state head = shows_here done.store done.cut state updater head.here
 
   -- the store is one of the old format
-  pub outdated_new : (rest : Course) (state : State) → Here state → is_old updater ≡ true → GoesOn (if_formatted rest state) start done (Some faults.OldFormat) old Now
+  pub outdated_new : (rest : Course) (state : State) → Here state → is_old updater ≡ true
+      → GoesOn (if_formatted rest state) start done (Some faults.OldFormat) old Now
   outdated_new rest formatted head is = true_not _ (sym is ∙ (shown formatted head).old_is)
   outdated_new rest (imported held) head is = true_not _ (sym is ∙ (shown (imported held) head).old_is)
   outdated_new rest (outdated held) head is = refuses_here start done (outdated held) next old files updater output head faults.OldFormat tt
 
-  pub outdated_there : (rest : Holding → Course) (state : State) → Here state → is_old updater ≡ true → GoesOn (if_imported rest state) start done (Some faults.OldFormat) old Now
+  pub outdated_there : (rest : Holding → Course) (state : State) → Here state → is_old updater ≡ true
+      → GoesOn (if_imported rest state) start done (Some faults.OldFormat) old Now
   outdated_there rest formatted head is = true_not _ (sym is ∙ (shown formatted head).old_is)
   outdated_there rest (imported held) head is = true_not _ (sym is ∙ (shown (imported held) head).old_is)
-  outdated_there rest (outdated held) head is = refuses_here start done (outdated held) next old files updater output head faults.OldFormat tt
+  outdated_there rest (outdated held) head is =
+      refuses_here start done (outdated held) next old files updater output head faults.OldFormat tt
 
   -- something was imported before
-  pub already : (rest : Course) (state : State) → Here state → is_old updater ≡ false → is_imported updater ≡ true → GoesOn (if_formatted rest state) start done (Some faults.AlreadyImported) old Now
+  pub already : (rest : Course) (state : State) → Here state → is_old updater ≡ false → is_imported updater ≡ true
+      → GoesOn (if_formatted rest state) start done (Some faults.AlreadyImported) old Now
   already rest formatted head new is = true_not _ (sym is ∙ (shown formatted head).imported_is)
-  already rest (imported held) head new is = refuses_here start done (imported held) next old files updater output head faults.AlreadyImported tt
+  already rest (imported held) head new is =
+      refuses_here start done (imported held) next old files updater output head faults.AlreadyImported tt
   already rest (outdated held) head new is = true_not _ (sym (shown (outdated held) head).old_is ∙ new)
 
   -- into a store that was just made
-  pub never_blank : (rest : Course) (state : State) → Here state → is_imported updater ≡ true → GoesOn (if_blank rest state) start done (Some faults.AlreadyImported) old Now
+  pub never_blank : (rest : Course) (state : State) → Here state → is_imported updater ≡ true
+      → GoesOn (if_blank rest state) start done (Some faults.AlreadyImported) old Now
   never_blank rest formatted head is = true_not _ (sym is ∙ (shown formatted head).imported_is)
-  never_blank rest (imported held) head is = refuses_here start done (imported held) next old files updater output head faults.AlreadyImported tt
-  never_blank rest (outdated held) head is = refuses_here start done (outdated held) next old files updater output head faults.AlreadyImported tt
+  never_blank rest (imported held) head is =
+      refuses_here start done (imported held) next old files updater output head faults.AlreadyImported tt
+  never_blank rest (outdated held) head is =
+      refuses_here start done (outdated held) next old files updater output head faults.AlreadyImported tt
 
   -- nothing was
-  pub not_yet : (rest : Holding → Course) (state : State) → Here state → is_old updater ≡ false → is_imported updater ≡ false → GoesOn (if_imported rest state) start done (Some faults.NotImported) old Now
+  pub not_yet : (rest : Holding → Course) (state : State) → Here state → is_old updater ≡ false → is_imported updater ≡ false
+      → GoesOn (if_imported rest state) start done (Some faults.NotImported) old Now
   not_yet rest formatted head new is = refuses_here start done formatted next old files updater output head faults.NotImported tt
   not_yet rest (imported held) head new is = true_not _ (sym (shown (imported held) head).imported_is ∙ is)
   not_yet rest (outdated held) head new is = true_not _ (sym (shown (outdated held) head).old_is ∙ new)
 
   -- what is so where nothing was imported, or where something was
-  pub if_new : (rest : Course) (fault : Option Fault) (new : World) (state : State) → Here state → is_old updater ≡ false → is_imported updater ≡ false → (Here formatted → GoesOn rest start done fault old new) → GoesOn (if_formatted rest state) start done fault old new
+  pub if_new : (rest : Course) (fault : Option Fault) (new : World) (state : State) → Here state → is_old updater ≡ false
+      → is_imported updater ≡ false → (Here formatted → GoesOn rest start done fault old new)
+      → GoesOn (if_formatted rest state) start done fault old new
   if_new rest fault new formatted head current is goes = goes head
   if_new rest fault new (imported held) head current is goes = true_not _ (sym (shown (imported held) head).imported_is ∙ is)
   if_new rest fault new (outdated held) head current is goes = true_not _ (sym (shown (outdated held) head).old_is ∙ current)
 
-  pub if_made : (rest : Course) (fault : Option Fault) (new : World) (state : State) → Here state → is_imported updater ≡ false → (Here formatted → GoesOn rest start done fault old new) → GoesOn (if_blank rest state) start done fault old new
+  pub if_made : (rest : Course) (fault : Option Fault) (new : World) (state : State) → Here state → is_imported updater ≡ false
+      → (Here formatted → GoesOn rest start done fault old new) → GoesOn (if_blank rest state) start done fault old new
   if_made rest fault new formatted head is goes = goes head
   if_made rest fault new (imported held) head is goes = true_not _ (sym (shown (imported held) head).imported_is ∙ is)
   if_made rest fault new (outdated held) head is goes = true_not _ (sym (shown (outdated held) head).imported_is ∙ is)
 
-  pub if_there : (rest : Holding → Course) (fault : Option Fault) (new : World) (state : State) → Here state → is_old updater ≡ false → is_imported updater ≡ true
-      → ((held : Holding) → Here (imported held) → GoesOn (rest held) start done fault old new) → GoesOn (if_imported rest state) start done fault old new
+  pub if_there : (rest : Holding → Course) (fault : Option Fault) (new : World) (state : State) → Here state → is_old updater ≡ false
+      → is_imported updater ≡ true
+      → ((held : Holding) → Here (imported held) → GoesOn (rest held) start done fault old new)
+      → GoesOn (if_imported rest state) start done fault old new
   if_there rest fault new formatted head current is goes = true_not _ (sym is ∙ (shown formatted head).imported_is)
   if_there rest fault new (imported held) head current is goes = goes held head
   if_there rest fault new (outdated held) head current is goes = true_not _ (sym (shown (outdated held) head).old_is ∙ current)
 
   -- a file is read first, and then the run goes on
-  module _ {A : Type 0} (Reads : List ℕ → Result A Fault → Type 0) (rest : A → Course) (state : State) (head : Here state) (read : FilesView) where
-    pub first_unread : (fault : Fault) → IsUnread Reads next fault files read → GoesOn (reads next Reads rest) start done (Some fault) old (world read (view_of updater) output)
-    first_unread fault stop = stops_in_file start done state next old files updater output head Reads next (omega arith) read fault stop rest
+  module _ {A : Type 0} (Reads : List ℕ → Result A Fault → Type 0) (rest : A → Course) (state : State) (head : Here state)
+      (read : FilesView) where
+    pub first_unread : (fault : Fault) → IsUnread Reads next fault files read
+        → GoesOn (reads next Reads rest) start done (Some fault) old (world read (view_of updater) output)
+    first_unread fault stop = stops_in_file start done state next old files updater output head Reads next
+        (omega arith) read fault stop rest
 
     pub first_read : (found : A) → IsRead Reads next found files read → (fault : Option Fault) (new : World)
-        → (IsHead start (past next done) state (next + 1) old read updater output → GoesOn (rest found) start (past next done) fault old new) → GoesOn (reads next Reads rest) start done fault old new
+        → (IsHead start (past next done) state (next + 1) old read updater output
+        → GoesOn (rest found) start (past next done) fault old new) → GoesOn (reads next Reads rest) start done fault old new
     first_read found own fault new goes =
         goes_back (reads next Reads rest) (rest found) start done (past next done) fault old new
         (goes (past_file start done state next old files updater output head Reads next (omega arith) read found own))
@@ -112,20 +134,26 @@ module _ (start done : Progress) (next : ℕ) (old : Before) (files : FilesView)
     pub short_text : GoesOn (writes Fits rest) start done (Some faults.OutOfMemory) old Now
     short_text = stops_short start done state next old files updater output head Fits rest
 
-    pub untold_text : (text : List ℕ) (new : SinkView) → (AreTold old done.read → IsCertain done.store → Fits text) → AppendsPrefix output.taken new.taken text
-        → HasCauseOf {T = Unit {0}} {E = Fault} output.faults new.faults (Err faults.WriteFault) → GoesOn (writes Fits rest) start done (Some faults.WriteFault) old (world files (view_of updater) new)
-    untold_text text new fits front cause = stops_in_text start done state next old files updater output head Fits text new rest fits front cause.later cause.failed
+    pub untold_text : (text : List ℕ) (new : SinkView) → (AreTold old done.read → IsCertain done.store → Fits text)
+        → AppendsPrefix output.taken new.taken text
+        → HasCauseOf {T = Unit {0}} {E = Fault} output.faults new.faults (Err faults.WriteFault)
+        → GoesOn (writes Fits rest) start done (Some faults.WriteFault) old (world files (view_of updater) new)
+    untold_text text new fits front cause = stops_in_text start done state next old files updater output head Fits text new rest fits front
+        cause.later cause.failed
 
-    pub told_text : (text : List ℕ) (new : SinkView) → (AreTold old done.read → IsCertain done.store → Fits text) → Appends output.taken new.taken text
+    pub told_text : (text : List ℕ) (new : SinkView) → (AreTold old done.read → IsCertain done.store → Fits text)
+        → Appends output.taken new.taken text
         → HasCauseOf {T = Unit {0}} {E = Fault} output.faults new.faults (Ok tt) → (fault : Option Fault) (world_new : World)
-        → (IsHead start (plus text done) state next old files updater new → GoesOn rest start (plus text done) fault old world_new) → GoesOn (writes Fits rest) start done fault old world_new
+        → (IsHead start (plus text done) state next old files updater new → GoesOn rest start (plus text done) fault old world_new)
+        → GoesOn (writes Fits rest) start done fault old world_new
     told_text text new fits all cause fault world_new goes =
         goes_back (writes Fits rest) rest start done (plus text done) fault old world_new
         (goes (past_text start done state next old files updater output head text new all cause.later))
         (λ ending comes. inr (text, fits, inr comes))
 
 -- what was imported is certain where a store is
-pub held_certain : (done : Progress) (held : Holding) (updater : Handle) → IsHere done.store done.cut (imported held) updater → IsCertain done.store → IsOpen (imported held) updater
+pub held_certain : (done : Progress) (held : Holding) (updater : Handle) → IsHere done.store done.cut (imported held) updater
+    → IsCertain done.store → IsOpen (imported held) updater
 held_certain done held updater here certain = by done.store here certain
   where
     by : (store : Standing) → IsHere store done.cut (imported held) updater → IsCertain store → IsOpen (imported held) updater
@@ -137,40 +165,61 @@ held_certain done held updater here certain = by done.store here certain
 -- the store is looked at, and what it holds is written
 module _ (start done : Progress) (held : Holding) (next : ℕ) (old : Before) (files : FilesView) (before now : Handle) (output : SinkView)
     (head : IsHead start done (imported held) next old files before output) where
-  pub look_refused : (fault : FlowFault) → ((own : State) → IsOpen own before → Looks own (Some fault) before now) → IsCallFault fault → (fault ≡ flow.Store stores.Broken → is_whole before ≡ false) → (fault ≡ flow.OldFormat → is_old before ≡ true)
-      → HasFlowCause (Some fault) (view_of before) (view_of now) → (rest : Course) → GoesOn (looks rest) start done (Some (flow_fault fault)) old (world files (view_of now) output)
-  look_refused fault looked call broken refused cause rest = unlooked start done held next old files before now output head fault looked call broken refused cause rest
+  pub look_refused : (fault : FlowFault) → ((own : State) → IsOpen own before → Looks own (Some fault) before now) → IsCallFault fault
+      → (fault ≡ flow.Store stores.Broken → is_whole before ≡ false) → (fault ≡ flow.OldFormat → is_old before ≡ true)
+      → HasFlowCause (Some fault) (view_of before) (view_of now) → (rest : Course)
+      → GoesOn (looks rest) start done (Some (flow_fault fault)) old (world files (view_of now) output)
+  look_refused fault looked call broken refused cause rest =
+      unlooked start done held next old files before now output head fault looked call broken refused cause rest
 
-  pub look_done : ((own : State) → IsOpen own before → Looks own None before now) → TellsAs before now → is_whole now ≡ is_whole before → limits_of now ≡ limits_of before → HasFlowCause None (view_of before) (view_of now)
+  pub look_done : ((own : State) → IsOpen own before → Looks own None before now) → TellsAs before now → is_whole now ≡ is_whole before
+      → limits_of now ≡ limits_of before → HasFlowCause None (view_of before) (view_of now)
       → IsHead start done (imported held) next old files now output
   look_done looked tells sound same cause = looked_at start done held next old files before now output head looked
-      (λ shows. record { changes_are = tells.changes_same ∙ shows.changes_are; imported_is = tells.imported_same ∙ shows.imported_is; old_is = tells.old_same ∙ shows.old_is; style_is = tells.style_same ∙ shows.style_is }) sound same cause
+      (λ shows. record {
+        changes_are = tells.changes_same ∙ shows.changes_are;
+        imported_is = tells.imported_same ∙ shows.imported_is;
+        old_is = tells.old_same ∙ shows.old_is;
+        style_is = tells.style_same ∙ shows.style_is;
+      }) sound same cause
 
   -- the text of what was looked at
   module _ (Fits : List ℕ → Type 0) (rest : Course) (sure : IsHead start done (imported held) next old files now output) where
-    looks_on : (fault : Option Fault) (new : World) → GoesOn (writes Fits rest) start done fault old new → GoesOn (looks (writes Fits rest)) start done fault old new
-    looks_on fault new goes = goes_back (looks (writes Fits rest)) (writes Fits rest) start done done fault old new goes (λ ending comes. inr (inr comes))
+    looks_on : (fault : Option Fault) (new : World) → GoesOn (writes Fits rest) start done fault old new
+        → GoesOn (looks (writes Fits rest)) start done fault old new
+    looks_on fault new goes = goes_back (looks (writes Fits rest)) (writes Fits rest) start done done fault old new goes
+        (λ ending comes. inr (inr comes))
 
     pub look_short : GoesOn (looks (writes Fits rest)) start done (Some faults.OutOfMemory) old (world files (view_of now) output)
-    look_short = looks_on (Some faults.OutOfMemory) (world files (view_of now) output) (short_text start done next old files now output (imported held) sure Fits rest)
+    look_short = looks_on (Some faults.OutOfMemory) (world files (view_of now) output)
+        (short_text start done next old files now output (imported held) sure Fits rest)
 
-    pub look_untold : (text : List ℕ) (new : SinkView) (fault : Fault) → (AreTold old done.read → IsCertain done.store → Fits text) → AppendsPrefix output.taken new.taken text → fault ≡ faults.WriteFault
-        → HasCauseOf {T = Unit {0}} {E = Fault} output.faults new.faults (Err fault) → GoesOn (looks (writes Fits rest)) start done (Some fault) old (world files (view_of now) new)
+    pub look_untold : (text : List ℕ) (new : SinkView) (fault : Fault) → (AreTold old done.read → IsCertain done.store → Fits text)
+        → AppendsPrefix output.taken new.taken text → fault ≡ faults.WriteFault
+        → HasCauseOf {T = Unit {0}} {E = Fault} output.faults new.faults (Err fault)
+        → GoesOn (looks (writes Fits rest)) start done (Some fault) old (world files (view_of now) new)
     look_untold text new fault fits front is cause =
         subst (λ (own : Fault). GoesOn (looks (writes Fits rest)) start done (Some own) old (world files (view_of now) new)) (sym is)
         (looks_on (Some faults.WriteFault) (world files (view_of now) new)
-        (untold_text start done next old files now output (imported held) sure Fits rest text new fits front (record { later = cause.later; failed = cause.failed })))
+        (untold_text start done next old files now output (imported held) sure Fits rest text new fits front
+        (record { later = cause.later; failed = cause.failed })))
 
-    pub look_told : (text : List ℕ) (new : SinkView) → (AreTold old done.read → IsCertain done.store → Fits text) → Appends output.taken new.taken text → output.faults ≤ new.faults → (fault : Option Fault) (after_all : World)
-        → (IsHead start (plus text done) (imported held) next old files now new → GoesOn rest start (plus text done) fault old after_all) → GoesOn (looks (writes Fits rest)) start done fault old after_all
+    pub look_told : (text : List ℕ) (new : SinkView) → (AreTold old done.read → IsCertain done.store → Fits text)
+        → Appends output.taken new.taken text → output.faults ≤ new.faults → (fault : Option Fault) (after_all : World)
+        → (IsHead start (plus text done) (imported held) next old files now new → GoesOn rest start (plus text done) fault old after_all)
+        → GoesOn (looks (writes Fits rest)) start done fault old after_all
     look_told text new fits all later fault after_all goes = looks_on fault after_all
-        (told_text start done next old files now output (imported held) sure Fits rest text new fits all (record { later = later; failed = tt }) fault after_all goes)
+        (told_text start done next old files now output (imported held) sure Fits rest text new fits all
+        (record { later = later; failed = tt }) fault after_all goes)
 
   -- a text at the end
-  pub look_ends : (Fits : List ℕ → Type 0) → IsHead start done (imported held) next old files now output → (text : List ℕ) (new : SinkView) (result : Result (Unit {0}) Fault) → (AreTold old done.read → IsCertain done.store → Fits text)
-      → OnOk result (Appends output.taken new.taken text) → OnErr result (AppendsPrefix output.taken new.taken text) → IfErr result (λ fault. fault ≡ faults.WriteFault) → HasCauseOf output.faults new.faults result
+  pub look_ends : (Fits : List ℕ → Type 0) → IsHead start done (imported held) next old files now output
+      → (text : List ℕ) (new : SinkView) (result : Result (Unit {0}) Fault) → (AreTold old done.read → IsCertain done.store → Fits text)
+      → OnOk result (Appends output.taken new.taken text) → OnErr result (AppendsPrefix output.taken new.taken text)
+      → IfErr result (λ fault. fault ≡ faults.WriteFault) → HasCauseOf output.faults new.faults result
       → GoesOn (looks (writes Fits ends)) start done (result_err result) old (world files (view_of now) new)
-  look_ends Fits sure text new (Ok value) fits all front alone cause = look_told Fits ends sure text new fits all cause.later None (world files (view_of now) new)
+  look_ends Fits sure text new (Ok value) fits all front alone cause =
+      look_told Fits ends sure text new fits all cause.later None (world files (view_of now) new)
       (λ head. ends_here start (plus text done) (imported held) next old files now new head)
   look_ends Fits sure text new (Err fault) fits all front alone cause = look_untold Fits ends sure text new fault fits front alone cause
 
@@ -178,31 +227,45 @@ module _ (start done : Progress) (held : Holding) (next : ℕ) (old : Before) (f
 module _ (start done : Progress) (held : Holding) (next : ℕ) (old : Before) (files : FilesView) (updater : Handle) (output : SinkView)
     (head : IsHead start done (imported held) next old files updater output) where
   pub same_style : (style : StyleOf) → Some style ≡ style_of updater → style ≡ held.style
-  same_style style is = let two : Some style ≡ Some held.style = is ∙ (shows_here done.store done.cut (imported held) updater head.here).style_is in cc
+  same_style style is = let two : Some style ≡ Some held.style =
+      is ∙ (shows_here done.store done.cut (imported held) updater head.here).style_is in cc
 
-  pub found_table : (style : StyleOf) (table : List ℕ) (found : Option ℕ) → Some style ≡ style_of updater → found ≡ table_of style.tables table → found ≡ table_of held.style.tables table
+  pub found_table : (style : StyleOf) (table : List ℕ) (found : Option ℕ) → Some style ≡ style_of updater
+      → found ≡ table_of style.tables table → found ≡ table_of held.style.tables table
   found_table style table found is named = named ∙ ap (λ (own : StyleOf). table_of own.tables table) (same_style style is)
 
-  pub exports_found : (table : List ℕ) (found : Option ℕ) → found ≡ table_of held.style.tables table → (fault : Option Fault) (new : World) → GoesOn (exports held found) start done fault old new
+  pub exports_found : (table : List ℕ) (found : Option ℕ) → found ≡ table_of held.style.tables table → (fault : Option Fault) (new : World)
+      → GoesOn (exports held found) start done fault old new
       → GoesOn (exports held (table_of held.style.tables table)) start done fault old new
   exports_found table found is fault new goes = subst (λ (own : Option ℕ). GoesOn (exports held own) start done fault old new) is goes
 
-  pub unknown_table : (table : List ℕ) → None ≡ table_of held.style.tables table → GoesOn (exports held (table_of held.style.tables table)) start done (Some faults.UnknownTable) old (world files (view_of updater) output)
+  pub unknown_table : (table : List ℕ) → None ≡ table_of held.style.tables table
+      → GoesOn (exports held (table_of held.style.tables table)) start done (Some faults.UnknownTable) old
+      (world files (view_of updater) output)
   unknown_table table is = exports_found table None is (Some faults.UnknownTable) (world files (view_of updater) output)
       (refuses_here start done (imported held) next old files updater output head faults.UnknownTable tt)
 
 -- no tile is due any more
 module _ (start done : Progress) (held : Holding) (next : ℕ) (old : Before) (files : FilesView) (before now : Handle) (output : SinkView)
     (head : IsHead start done (imported held) next old files before output) where
-  pub clear_done : ((own : State) → IsOpen own before → Takes own Clear None before now) → TellsAs before now → is_whole now ≡ is_whole before → limits_of now ≡ limits_of before → HasFlowCause None (view_of before) (view_of now)
+  pub clear_done : ((own : State) → IsOpen own before → Takes own Clear None before now) → TellsAs before now
+      → is_whole now ≡ is_whole before → limits_of now ≡ limits_of before → HasFlowCause None (view_of before) (view_of now)
       → GoesOn (clears true) start done None old (world files (view_of now) output)
   clear_done takes tells sound same cause =
       let own = taken start done (imported held) next old files before now output head Clear tt takes
-      (λ shows. record { changes_are = tells.changes_same ∙ shows.changes_are; imported_is = tells.imported_same ∙ shows.imported_is; old_is = tells.old_same ∙ shows.old_is; style_is = tells.style_same ∙ shows.style_is }) sound same cause in
+      (λ shows. record {
+        changes_are = tells.changes_same ∙ shows.changes_are;
+        imported_is = tells.imported_same ∙ shows.imported_is;
+        old_is = tells.old_same ∙ shows.old_is;
+        style_is = tells.style_same ∙ shows.style_is;
+      }) sound same cause in
       goes_back (clears true) ends start done own.further None old (world files (view_of now) output)
       (ends_here start own.further (after (imported held) Clear) next old files now output own.head) (own.leads ends)
 
-  pub clear_refused : (fault : FlowFault) → ((own : State) → IsOpen own before → Takes own Clear (Some fault) before now) → IsCallFault fault → (fault ≡ flow.Store stores.Broken → is_whole before ≡ false) → (fault ≡ flow.OldFormat → is_old before ≡ true)
-      → HasFlowCause (Some fault) (view_of before) (view_of now) → GoesOn (clears true) start done (Some (flow_fault fault)) old (world files (view_of now) output)
-  clear_refused fault takes call broken refused cause = refused_step start done (imported held) next old files before now output head Clear fault takes call broken
+  pub clear_refused : (fault : FlowFault) → ((own : State) → IsOpen own before → Takes own Clear (Some fault) before now)
+      → IsCallFault fault → (fault ≡ flow.Store stores.Broken → is_whole before ≡ false) → (fault ≡ flow.OldFormat → is_old before ≡ true)
+      → HasFlowCause (Some fault) (view_of before) (view_of now)
+      → GoesOn (clears true) start done (Some (flow_fault fault)) old (world files (view_of now) output)
+  clear_refused fault takes call broken refused cause =
+      refused_step start done (imported held) next old files before now output head Clear fault takes call broken
       (not_outdated start done (imported held) next old files before now output head refl fault refused) cause ends

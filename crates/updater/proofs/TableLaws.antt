@@ -27,7 +27,8 @@ module _ {K X : Type 0} (cmp : K → K → Ordering) (test : K × X → Bool) wh
   below_filter key (entry ∷ entries) h =
       let rest = below_filter key entries (both_right (is_lt (cmp key entry.0)) (below_all cmp key entries) h) in
       elim (test entry) as (λ b. T (below_all cmp key (cond b (entry ∷ filter test entries) (filter test entries)))) [
-        | true ↦ both (is_lt (cmp key entry.0)) (below_all cmp key (filter test entries)) (both_left (is_lt (cmp key entry.0)) (below_all cmp key entries) h) rest
+        | true ↦ both (is_lt (cmp key entry.0)) (below_all cmp key (filter test entries))
+            (both_left (is_lt (cmp key entry.0)) (below_all cmp key entries) h) rest
         | false ↦ rest
       ]
 
@@ -46,17 +47,21 @@ module _ {K X : Type 0} (cmp : K → K → Ordering) (test : K × X → Bool) wh
 filter_twice : {A : Type 0} (test : A → Bool) (items : List A) → filter test (filter test items) ≡ filter test items
 filter_twice test [] = refl
 filter_twice test (item ∷ items) =
-    elim (test item) as (λ b. test item ≡ b → filter test (cond b (item ∷ filter test items) (filter test items)) ≡ cond b (item ∷ filter test items) (filter test items)) [
-      | true ↦ λ e. ap (λ b. cond b (item ∷ filter test (filter test items)) (filter test (filter test items))) e ∙ ap (λ rest. item ∷ rest) (filter_twice test items)
+    elim (test item) as (λ b. test item ≡ b → filter test (cond b (item ∷ filter test items) (filter test items))
+    ≡ cond b (item ∷ filter test items) (filter test items)) [
+      | true ↦ λ e. ap (λ b. cond b (item ∷ filter test (filter test items)) (filter test (filter test items))) e
+          ∙ ap (λ rest. item ∷ rest) (filter_twice test items)
       | false ↦ λ e. filter_twice test items
     ] refl
 
 only_rows : (all : TableMap) (table : ℕ) → rows_of (only_table table all) table ≡ rows_of all table
 only_rows all table =
     let here : SpotOf × Row → Bool = λ entry. nat_eq entry.0.table table in
-    ap (rows_among table) (entries-from_entries spot_cmp spot_cmp_total spot_cmp-IsAntisymmetric (filter here (finite.entries all)) (sorted_filter spot_cmp here (finite.entries all) (finite.entries_sorted all)))
+    ap (rows_among table) (entries-from_entries spot_cmp spot_cmp_total spot_cmp-IsAntisymmetric (filter here (finite.entries all))
+    (sorted_filter spot_cmp here (finite.entries all) (finite.entries_sorted all)))
     ∙ ap (map (λ (entry : SpotOf × Row). (entry.0.key, entry.1))) (filter_twice here (finite.entries all))
 
 pub only_text : (style : StyleOf) (all : TableMap) (table : ℕ) → table_text style (only_table table all) table ≡ table_text style all table
 only_text style all table =
-    ap (λ (rows : List (KeyOf × Row)). lines_of (has_areas style table) (finite.entries (finite.from_entries {R = by_number (has_areas style table)} rows))) (only_rows all table)
+    ap (λ (rows : List (KeyOf × Row)). lines_of (has_areas style table)
+    (finite.entries (finite.from_entries {R = by_number (has_areas style table)} rows))) (only_rows all table)

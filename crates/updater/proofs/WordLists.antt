@@ -38,10 +38,12 @@ module _ {A : Type 0} (view : A → List ℕ) (name : A) (later options form : L
   within = let few_bytes : length (view name ∷ each view later) ≤ 4096 = omega (arith, the_size, few) in grind (arith, nat_tests)
 
   command-row : command (view name ∷ each view later)
-      ≡ named (view name) (options_of (each view later)) (form_of (each view later)) (length (view name ∷ each view later) - length (form_of (each view later)))
+      ≡ named (view name) (options_of (each view later)) (form_of (each view later))
+      (length (view name ∷ each view later) - length (form_of (each view later)))
   unfolding command
   command-row =
-      ap (λ b. cond b None (named (view name) (options_of (each view later)) (form_of (each view later)) (length (view name ∷ each view later) - length (form_of (each view later))))) within
+      ap (λ b. cond b None (named (view name) (options_of (each view later)) (form_of (each view later))
+      (length (view name ∷ each view later) - length (form_of (each view later))))) within
 
   pub command-words : named (view name) (each view options) (each view form) (size - length form) ≡ command (each view (name ∷ later))
   command-words =

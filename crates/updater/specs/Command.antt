@@ -3,7 +3,8 @@
 -- an option, up to the first word that is none. If that word is `--`, it is dropped. The words that remain are the form.
 -- An option has to belong to the command, to stand once and to have a value in range, and the form has to be the
 -- command's. Words that fit no command are a wrong use of the program, and so are more than MAX_WORDS.
-use Rattle.std.specs.Prelude.{ℕ, ◌-◌, Bool, nat_lt, nat_le, ◌&&◌, if◌then◌else◌, Option, None, List, [], ◌∷◌, length, drop, take_while, codes, nat_eq}
+use Rattle.std.specs.Prelude.{ℕ, ◌-◌, Bool, nat_lt, nat_le, ◌&&◌, if◌then◌else◌, Option, None, List, [], ◌∷◌, length, drop, take_while}
+use Rattle.std.specs.Prelude.{codes, nat_eq}
 use Rattle.std.specs.List.{prefix_len, starts_with}
 use Rattle.std.specs.Str.{bytes_eq}
 use Rattle.updater.specs.commands.Append as append
@@ -18,9 +19,11 @@ use Rattle.updater.specs.commands.Replay as replay
 use Rattle.updater.specs.commands.Serve as serve
 use Rattle.updater.specs.commands.Tiles as tiles
 use Rattle.updater.specs.declared.words.Command.{Command}
-use Rattle.updater.specs.declared.words.Command.TheVariants.{Points, Lines, Init, Import, Append, Export, Tiles, Query, Serve, Replay, Migrate}
+use Rattle.updater.specs.declared.words.Command.TheVariants.{Points, Lines, Init, Import, Append, Export, Tiles, Query, Serve, Replay}
+use Rattle.updater.specs.declared.words.Command.TheVariants.{Migrate}
 use Rattle.updater.specs.declared.words.TheConstants.{MAX_WORDS}
-use Rattle.run_promise.specs.CommandOf.{CommandOf, points_of, lines_of, init_of, import_of, append_of, export_of, tiles_of, query_of, serve_of, replay_of, migrate_of}
+use Rattle.run_promise.specs.CommandOf.{CommandOf, points_of, lines_of, init_of, import_of, append_of, export_of, tiles_of, query_of}
+use Rattle.run_promise.specs.CommandOf.{serve_of, replay_of, migrate_of}
 
 -- a command of the program, as contracts see it
 abbrev pub seen : Command → CommandOf

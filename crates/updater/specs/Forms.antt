@@ -7,7 +7,8 @@ use Rattle.updater.specs.declared.forms.TheConstants.{MAX_KEY}
 -- `KEY INPUT CHANGE*`: no option, and a KEY of 1 to MAX_KEY bytes; place is that of the first word of the form
 abbrev pub keyed : (List ℕ → Files → CommandOf) → (options form : List (List ℕ)) → (place : ℕ) → Option CommandOf
 keyed command [] (key ∷ input ∷ changes) place =
-    if nat_le 1 (length key) && nat_le (length key) MAX_KEY then Some (command key (record { first = place + 1; count = length changes + 1 })) else None
+    if nat_le 1 (length key) && nat_le (length key) MAX_KEY
+    then Some (command key (record { first = place + 1; count = length changes + 1 })) else None
 keyed command _ _ _ = None
 
 -- `STORE`: no option
@@ -18,4 +19,5 @@ stored command _ _ = None
 -- `STORE` and so many files or more; no other word is of the form
 abbrev pub stored_files : (fewest : ℕ) → (form : List (List ℕ)) → (place : ℕ) → Option (List ℕ × Files)
 stored_files fewest [] place = None
-stored_files fewest (store ∷ files) place = if nat_lt (length files) fewest then None else Some (store, record { first = place + 1; count = length files })
+stored_files fewest (store ∷ files) place =
+    if nat_lt (length files) fewest then None else Some (store, record { first = place + 1; count = length files })

@@ -44,13 +44,15 @@ KeptNone _ = Unit {0}
 
 -- Were the run to end here, the outside would be as an ending leaves it, with so much done, and the files from the next one on were
 -- not touched.
-pub record IsSoFar (start done : Progress) (next : ℕ) (old : Before) (files : FilesView) (disk : DiskView) (output : SinkView) : Type 0 where
+pub record IsSoFar (start done : Progress) (next : ℕ) (old : Before) (files : FilesView) (disk : DiskView)
+    (output : SinkView) : Type 0 where
   pub unread : (file : ℕ) → next ≤ file → ¬ IsIn done.read file
   pub so_far : Leaves start (at done None) old (world files disk output)
 
 -- Were the run to end here, the outside would be as an ending leaves it, with so much done; the store is open at this state; and
 -- the files from the next one on were not touched.
-pub record IsHead (start done : Progress) (state : State) (next : ℕ) (old : Before) (files : FilesView) (updater : Handle) (output : SinkView) : Type 0 where
+pub record IsHead (start done : Progress) (state : State) (next : ℕ) (old : Before) (files : FilesView) (updater : Handle)
+    (output : SinkView) : Type 0 where
   pub here : IsHere done.store done.cut state updater
   pub vague : done.store ≡ unknown → KeptNone start.store
   pub limits : limits_of updater ≡ standard
@@ -60,10 +62,12 @@ pub record IsHead (start done : Progress) (state : State) (next : ℕ) (old : Be
 
 -- the run goes on from here by this course, to an end that the course may have
 abbrev pub GoesOn : Course → (start done : Progress) → Option Fault → Before → World → Type 0
-GoesOn course start done fault old new = (ending : Ending) × (ending.fault ≡ fault) × Comes old course done ending × Leaves start ending old new
+GoesOn course start done fault old new =
+    (ending : Ending) × (ending.fault ≡ fault) × Comes old course done ending × Leaves start ending old new
 
 -- a call on the store goes on to the head of a next turn, from which all that may come by the course comes; or the run ends in it
-abbrev pub Leads : (course : Onward → Course) → Option Fault → (start done : Progress) → (next : ℕ) → Before → FilesView → Handle → SinkView → Type 0
+abbrev pub Leads : (course : Onward → Course) → Option Fault → (start done : Progress) → (next : ℕ) → Before → FilesView → Handle → SinkView
+    → Type 0
 Leads course None start done next old files updater output = (further : Progress) × (held : Holding)
     × IsHead start further (imported held) next old files updater output
     × ((last : Onward) (ending : Ending) → Comes old (onward last held) further ending → Comes old (course last) done ending)
@@ -72,7 +76,8 @@ Leads course (Some fault) start done next old files updater output =
 
 -- Some of so many change files are appended and told, and so many are left, from this one on. Whatever ending the rest of the course
 -- has from here, the whole course has from its beginning.
-pub record IsVersion (bounds : BoundsOf) (held : Holding) (first count : ℕ) (start done : Progress) (file left : ℕ) (old : Before) (files : FilesView) (updater : Handle) (output : SinkView) : Type 0 where
+pub record IsVersion (bounds : BoundsOf) (held : Holding) (first count : ℕ) (start done : Progress) (file left : ℕ) (old : Before)
+    (files : FilesView) (updater : Handle) (output : SinkView) : Type 0 where
   pub further : Progress
   pub now : Holding
   pub head : IsHead start further (imported now) file old files updater output

@@ -1,7 +1,8 @@
 -- The options of a command: `workers=` a number from 1 to MAX_WORKERS, `readers=` one from 1 to MAX_READERS, `buckets=` a power of two
 -- up to MAX_BUCKETS, `clear=yes`.
 -- Each has to belong to the command, and stands once at most.
-use Rattle.std.specs.Prelude.{◌≡◌, ◌≤◌, ℕ, true, false, not, nat_lt, ◌||◌, if◌then◌else◌, Option, Some, None, IfSome, is_some, List, [], ◌∷◌, length, take, drop, codes, nat_eq}
+use Rattle.std.specs.Prelude.{◌≡◌, ◌≤◌, ℕ, true, false, not, nat_lt, ◌||◌, if◌then◌else◌, Option, Some, None, IfSome, is_some, List, []}
+use Rattle.std.specs.Prelude.{◌∷◌, length, take, drop, codes, nat_eq}
 use Rattle.std.specs.Cmp.Lexicographic.{pointwise}
 use Rattle.std.specs.Int.{is_power_of_two}
 use Rattle.std.specs.Option.{option_and_then}
@@ -47,7 +48,8 @@ with_named allowed options None None None = None
 -- with a word more
 unfoldable pub with_option : Allowed → Options → List ℕ → Option Options
 with_option allowed options word = if bytes_eq word (codes "clear=yes") then with_clear allowed options else
-    with_named allowed options (behind_name (codes "workers=") word) (behind_name (codes "buckets=") word) (behind_name (codes "readers=") word)
+    with_named allowed options (behind_name (codes "workers=") word) (behind_name (codes "buckets=") word)
+    (behind_name (codes "readers=") word)
 
 -- with all words
 abbrev pub with_options : Allowed → Options → List (List ℕ) → Option Options

@@ -33,10 +33,12 @@ pub record IsNext (held next : Holding) (delta : Delta) : Type 0 where
   pub tables : changed_all (tables held.style held.objects) delta.changes ≡ tables next.style next.objects
 
 -- a file was appended and told, by such a delta, and the run goes on; or it ends in it
-abbrev pub LeadsBy : BoundsOf → (file : ℕ) → Result Delta Fault → (start done : Progress) → Holding → Before → FilesView → Handle → SinkView → Type 0
+abbrev pub LeadsBy : BoundsOf → (file : ℕ) → Result Delta Fault → (start done : Progress) → Holding → Before → FilesView → Handle → SinkView
+    → Type 0
 LeadsBy bounds file (Ok delta) start done held old files updater output = (further : Progress) × (next : Holding)
     × IsHead start further (imported next) (file + 1) old files updater output
-    × ((last : Onward) (ending : Ending) → Comes old (onward last next) further ending → Comes old (appends_one bounds held file (onward last)) done ending)
+    × ((last : Onward) (ending : Ending) → Comes old (onward last next) further ending
+    → Comes old (appends_one bounds held file (onward last)) done ending)
     × (IsCertain further.store → IsCertain done.store × IsNext held next delta)
 LeadsBy bounds file (Err fault) start done held old files updater output =
     (last : Onward) → GoesOn (appends_one bounds held file (onward last)) start done (Some fault) old (world files (view_of updater) output)
@@ -46,13 +48,17 @@ abbrev pub with_delta : FrontOf → Delta → FrontOf
 with_delta front delta = record front { log = front.log ++ delta ∷ [] }
 
 -- a file was appended, told and shown, and the run goes on; or it ends in it, whatever is served
-abbrev pub Publishes : BoundsOf → (file : ℕ) → Option Fault → (start done : Progress) → Holding → Before → FilesView → Handle → SinkView → (before now : FrontOf) → Type 0
+abbrev pub Publishes : BoundsOf → (file : ℕ) → Option Fault → (start done : Progress) → Holding → Before → FilesView → Handle → SinkView
+    → (before now : FrontOf) → Type 0
 Publishes bounds file None start done held old files updater output before now = (further : Progress) × (next : Holding)
     × IsHead start further (imported next) (file + 1) old files updater output
-    × ((last : Onward) (ending : Ending) → Comes old (onward last next) further ending → Comes old (appends_one bounds held file (onward last)) done ending)
+    × ((last : Onward) (ending : Ending) → Comes old (onward last next) further ending
+    → Comes old (appends_one bounds held file (onward last)) done ending)
     × ((delta : Delta) × (now ≡ with_delta before delta) × (IsCertain further.store → IsCertain done.store × IsNext held next delta))
-Publishes bounds file (Some fault) start done held old files updater output before now = (queries : List Query) (readers : ℕ) (shown : List Holding) (count : ℕ)
-    → GoesOn (appends_one bounds held file (onward (serving bounds queries readers shown (file + 1) count))) start done (Some fault) old (world files (view_of updater) output)
+Publishes bounds file (Some fault) start done held old files updater output before now =
+    (queries : List Query) (readers : ℕ) (shown : List Holding) (count : ℕ)
+    → GoesOn (appends_one bounds held file (onward (serving bounds queries readers shown (file + 1) count))) start done (Some fault) old
+    (world files (view_of updater) output)
 
 -- a version of the history is a state of the store
 pub record IsShownAs (style : StyleOf) (front : FrontOf) (number : ℕ) (held : Holding) : Type 0 where
@@ -67,25 +73,30 @@ pub record AreShown (style : StyleOf) (front : FrontOf) (shown : List Holding) (
 
 -- Some of so many change files are appended, told and shown, and so many are left, from this one on. Whatever ending the rest of the
 -- course has from here, the whole course has from its beginning.
-pub record IsServing (bounds : BoundsOf) (queries : List Query) (readers : ℕ) (held : Holding) (first count : ℕ) (start done : Progress) (file left : ℕ) (old : Before) (files : FilesView) (updater : Handle) (output : SinkView) (before now : FrontOf) : Type 0 where
+pub record IsServing (bounds : BoundsOf) (queries : List Query) (readers : ℕ) (held : Holding) (first count : ℕ) (start done : Progress)
+    (file left : ℕ) (old : Before) (files : FilesView) (updater : Handle) (output : SinkView) (before now : FrontOf) : Type 0 where
   pub further : Progress
   pub shown : List Holding
   pub last : Holding
   pub many : length shown + left ≡ count
   pub head : IsHead start further (imported last) file old files updater output
-  pub leads : (ending : Ending) → Comes old (serves bounds queries readers shown last file left) further ending → Comes old (serves bounds queries readers [] held first count) done ending
+  pub leads : (ending : Ending) → Comes old (serves bounds queries readers shown last file left) further ending
+      → Comes old (serves bounds queries readers [] held first count) done ending
   pub certain : IsCertain further.store → IsCertain done.store × (AreShown held.style before [] held → AreShown held.style now shown last)
 
 -- all of them are; or the run ends in one
-abbrev pub Serves : BoundsOf → (queries : List Query) → (readers : ℕ) → Option Fault → Holding → (first count : ℕ) → (start done : Progress) → Before → FilesView → Handle → SinkView → (before now : FrontOf) → Type 0
+abbrev pub Serves : BoundsOf → (queries : List Query) → (readers : ℕ) → Option Fault → Holding → (first count : ℕ) → (start done : Progress)
+    → Before → FilesView → Handle → SinkView → (before now : FrontOf) → Type 0
 Serves bounds queries readers None held first count start done old files updater output before now =
     IsServing bounds queries readers held first count start done (first + count) 0 old files updater output before now
 Serves bounds queries readers (Some fault) held first count start done old files updater output before now =
     GoesOn (serves bounds queries readers [] held first count) start done (Some fault) old (world files (view_of updater) output)
 
 -- so many files from this one on are appended, told and shown, or the run ends in one, wherever it began
-pub record Shows {D : Type 0} {g : Ghosts D} (bounds : BoundsOf) (first count : ℕ) (fault : Option Fault) (files read : FilesView) (store now_store : Updater D g) (output told : SinkView) (before now : FrontOf) : Type 0 where
-  pub each : (old : Before) (start done : Progress) (held : Holding) (queries : List Query) (readers : ℕ) → IsHead start done (imported held) first old files (handle_of store) output
+pub record Shows {D : Type 0} {g : Ghosts D} (bounds : BoundsOf) (first count : ℕ) (fault : Option Fault) (files read : FilesView)
+    (store now_store : Updater D g) (output told : SinkView) (before now : FrontOf) : Type 0 where
+  pub each : (old : Before) (start done : Progress) (held : Holding) (queries : List Query) (readers : ℕ)
+      → IsHead start done (imported held) first old files (handle_of store) output
       → Serves bounds queries readers fault held first count start done old read (handle_of now_store) told before now
 
 -- the text of what so many readers answered in their rounds

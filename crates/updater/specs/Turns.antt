@@ -11,7 +11,8 @@ use Rattle.run_promise.specs.World.{Before}
 
 -- So many files are left, from this one on, and none of them was touched; those before it are read to their ends. `now` is what
 -- was made of their entries. Whatever ending the rest of the course has from here, the whole course has from its beginning.
-pub record IsTurn {K : Type 0} (after : K → Entry → K) (start : K) (rest : List Entry → Course) (course : Course) (file count : ℕ) (old : Before) (now : K) (files : FilesView) : Type 0 where
+pub record IsTurn {K : Type 0} (after : K → Entry → K) (start : K) (rest : List Entry → Course) (course : Course) (file count : ℕ)
+    (old : Before) (now : K) (files : FilesView) : Type 0 where
   pub done : Progress
   pub entries : List Entry
   pub untouched : done.store ≡ unused

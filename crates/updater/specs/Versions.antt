@@ -20,20 +20,25 @@ ReadsOne held change pages before after =
     (may : May) → MayTouch held.style held.objects change may → (count : ℕ) × IsCost may held pages count × MoreReads count before after
 
 -- a change file was appended to an open store with these home pages
-pub record AppendsHere (bounds : BoundsOf) (held : Holding) (pages : List (List ℕ)) (file : ℕ) (files read : FilesView) (before after : Handle) : Type 0 where
+pub record AppendsHere (bounds : BoundsOf) (held : Holding) (pages : List (List ℕ)) (file : ℕ) (files read : FilesView)
+    (before after : Handle) : Type 0 where
   pub change : List Entry
   pub accepted : IfTold (files.left file) (λ bytes. IsChange file bytes (Ok change))
   pub others : (other : ℕ) → other ≢ file → read.left other ≡ files.left other
   pub opened : IsOpen (imported (changed bounds change held)) after
-  pub needed : (next : List (List ℕ)) → IsAtRest next (view_of after) → Needs (length pages + 1) (imported (changed bounds change held)) (length next + 1)
+  pub needed : (next : List (List ℕ)) → IsAtRest next (view_of after)
+      → Needs (length pages + 1) (imported (changed bounds change held)) (length next + 1)
   pub reads : ReadsOne held change pages (view_of before).reads (view_of after).reads
 
 -- change files so far, and what comes behind them
-pub record AppendsSoFar (bounds : BoundsOf) (held : Holding) (pages : List (List ℕ)) (first file : ℕ) (files now : FilesView) (before after : Handle) : Type 0 where
+pub record AppendsSoFar (bounds : BoundsOf) (held : Holding) (pages : List (List ℕ)) (first file : ℕ) (files now : FilesView)
+    (before after : Handle) : Type 0 where
   pub at : Holding
   pub opened : IsOpen (imported at) after
   pub here : List (List ℕ)
   pub rests : IsAtRest here (view_of after)
   pub others : (other : ℕ) → file ≤ other → now.left other ≡ files.left other
-  pub leads : (later : List (List Entry)) (last : Option ReadLog) → HoldChanges files file later → ReadsEach bounds here at later (view_of after).reads last
-      → (changes : List (List Entry)) × (length changes + first ≡ file + length later) × HoldChanges files first changes × ReadsEach bounds pages held changes (view_of before).reads last
+  pub leads : (later : List (List Entry)) (last : Option ReadLog) → HoldChanges files file later
+      → ReadsEach bounds here at later (view_of after).reads last
+      → (changes : List (List Entry)) × (length changes + first ≡ file + length later) × HoldChanges files first changes
+      × ReadsEach bounds pages held changes (view_of before).reads last

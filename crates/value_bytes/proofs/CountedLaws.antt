@@ -19,12 +19,15 @@ unfolding counted_bytes
 counted_front bytes count behind counted rest front long cut = record {
   begins = record {
     is = omega (arith, long, front.begins.is);
-    bytes_are = front.begins.bytes_are ∙ ap (λ (n : ℕ). number_bytes n ++ behind) (sym long) ∙ ap (λ (l : List ℕ). number_bytes (length counted) ++ l) cut
+    bytes_are = front.begins.bytes_are ∙ ap (λ (n : ℕ). number_bytes n ++ behind) (sym long)
+        ∙ ap (λ (l : List ℕ). number_bytes (length counted) ++ l) cut
         ∙ sym (append_assoc (number_bytes (length counted)) counted rest);
   };
   alone = λ other after begins.
-      let same = front.alone (length other) (other ++ after) (counted_number bytes other after begins) in
-      (front_same other counted after rest (same.0 ∙ sym long) (same.1 ∙ cut), behind_same other counted after rest (same.0 ∙ sym long) (same.1 ∙ cut));
+      let same = front.alone (length other) (other ++ after) (counted_number bytes other after begins) in (
+        front_same other counted after rest (same.0 ∙ sym long) (same.1 ∙ cut),
+        behind_same other counted after rest (same.0 ∙ sym long) (same.1 ∙ cut),
+      );
 }
 
 pub counted_frontless : (bytes : List ℕ) → IsFrontless number_bytes IsNumber bytes → IsFrontless counted_bytes IsCounted bytes

@@ -6,17 +6,21 @@ use Rattle.value_bytes.specs.declared.fault.ValueFault.{ValueFault}
 use Rattle.value_bytes.specs.declared.fault.ValueFault.TheVariants.{NotSpelled, OutOfMemory}
 
 -- what begins with both begins with the first, and behind it with the second
-pub begins_first : {V W : Type 0} (spell : V → List ℕ) (Is : V → Type 0) (tell : W → List ℕ) (Are : W → Type 0) (bytes : List ℕ) (p : V × W) (rest : List ℕ)
+pub begins_first : {V W : Type 0} (spell : V → List ℕ) (Is : V → Type 0) (tell : W → List ℕ) (Are : W → Type 0) (bytes : List ℕ) (p : V × W)
+    (rest : List ℕ)
     → Begins (both_bytes spell tell) (Both Is Are) bytes p rest → Begins spell Is bytes p.0 (tell p.1 ++ rest)
-begins_first spell Is tell Are bytes p rest begins = record { is = begins.is.0; bytes_are = begins.bytes_are ∙ append_assoc (spell p.0) (tell p.1) rest }
+begins_first spell Is tell Are bytes p rest begins =
+    record { is = begins.is.0; bytes_are = begins.bytes_are ∙ append_assoc (spell p.0) (tell p.1) rest }
 
 pub front_both : {V W : Type 0} (spell : V → List ℕ) (Is : V → Type 0) (tell : W → List ℕ) (Are : W → Type 0)
     (bytes : List ℕ) (one : V) (middle : List ℕ) (two : W) (rest : List ℕ)
-    → IsFront spell Is bytes one middle → IsFront tell Are middle two rest → IsFront (both_bytes spell tell) (Both Is Are) bytes (one, two) rest
+    → IsFront spell Is bytes one middle → IsFront tell Are middle two rest
+    → IsFront (both_bytes spell tell) (Both Is Are) bytes (one, two) rest
 front_both spell Is tell Are bytes one middle two rest first second = record {
   begins = record {
     is = (first.begins.is, second.begins.is);
-    bytes_are = first.begins.bytes_are ∙ ap (λ (l : List ℕ). spell one ++ l) second.begins.bytes_are ∙ sym (append_assoc (spell one) (tell two) rest);
+    bytes_are = first.begins.bytes_are ∙ ap (λ (l : List ℕ). spell one ++ l) second.begins.bytes_are
+        ∙ sym (append_assoc (spell one) (tell two) rest);
   };
   alone = λ other behind begins.
       let same = first.alone other.0 (tell other.1 ++ behind) (begins_first spell Is tell Are bytes other behind begins) in
@@ -26,7 +30,8 @@ front_both spell Is tell Are bytes one middle two rest first second = record {
 
 pub frontless_first : {V W : Type 0} (spell : V → List ℕ) (Is : V → Type 0) (tell : W → List ℕ) (Are : W → Type 0) (bytes : List ℕ)
     → IsFrontless spell Is bytes → IsFrontless (both_bytes spell tell) (Both Is Are) bytes
-frontless_first spell Is tell Are bytes none p rest begins = none p.0 (tell p.1 ++ rest) (begins_first spell Is tell Are bytes p rest begins)
+frontless_first spell Is tell Are bytes none p rest begins =
+    none p.0 (tell p.1 ++ rest) (begins_first spell Is tell Are bytes p rest begins)
 
 pub frontless_second : {V W : Type 0} (spell : V → List ℕ) (Is : V → Type 0) (tell : W → List ℕ) (Are : W → Type 0)
     (bytes : List ℕ) (one : V) (middle : List ℕ)

@@ -3,7 +3,8 @@ use Rattle.std.proofs.Common.{◌≡◌, ℕ, List, ap, sym, ◌∙◌, subst}
 use Rattle.value_bytes.specs.Forms.{Spells, IsNoValue}
 
 -- each value of these is made of parts that spell it
-pub record AreMade {V W : Type 0} (spell : V → List ℕ) (Is : V → Type 0) (tell : W → List ℕ) (Are : W → Type 0) (make : V → W) : Type 0 where
+pub record AreMade {V W : Type 0} (spell : V → List ℕ) (Is : V → Type 0) (tell : W → List ℕ) (Are : W → Type 0)
+    (make : V → W) : Type 0 where
   pub parts : (value : W) → Are value → (part : V) × Is part × (value ≡ make part)
   pub told : (part : V) → tell (make part) ≡ spell part
 

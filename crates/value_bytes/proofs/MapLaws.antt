@@ -42,16 +42,20 @@ pub held_insert : {V : Type 0} (spell : V → List ℕ) (Is : V → Type 0) (byt
     → HoldsMap spell Is (map.insert bytes key (spell value)) (map.insert values key value)
 held_insert {V} spell Is bytes values key value held is other =
     let here = eq_by_cmp nat_cmp other key in
-    subst (λ (o : Option (List ℕ)). Decodes spell Is o (map.get (map.insert values key value) other)) (sym (map.get-insert nat_cmp_total bytes key (spell value) other))
-    (subst (λ (o : Option V). Decodes spell Is (cond here (Some (spell value)) (map.get bytes other)) o) (sym (map.get-insert nat_cmp_total values key value other))
+    subst (λ (o : Option (List ℕ)). Decodes spell Is o (map.get (map.insert values key value) other))
+    (sym (map.get-insert nat_cmp_total bytes key (spell value) other))
+    (subst (λ (o : Option V). Decodes spell Is (cond here (Some (spell value)) (map.get bytes other)) o)
+    (sym (map.get-insert nat_cmp_total values key value other))
     (decodes_either spell Is here (Some (spell value)) (map.get bytes other) (Some value) (map.get values other) (is, refl) (held other)))
 
 pub held_remove : {V : Type 0} (spell : V → List ℕ) (Is : V → Type 0) (bytes : map.FinMap nat_cmp (List ℕ)) (values : map.FinMap nat_cmp V)
     (key : ℕ) → HoldsMap spell Is bytes values → HoldsMap spell Is (map.remove bytes key) (map.remove values key)
 held_remove {V} spell Is bytes values key held other =
     let here = eq_by_cmp nat_cmp other key in
-    subst (λ (o : Option (List ℕ)). Decodes spell Is o (map.get (map.remove values key) other)) (sym (map.get-remove nat_cmp_total bytes key other))
-    (subst (λ (o : Option V). Decodes spell Is (cond here None (map.get bytes other)) o) (sym (map.get-remove nat_cmp_total values key other))
+    subst (λ (o : Option (List ℕ)). Decodes spell Is o (map.get (map.remove values key) other))
+    (sym (map.get-remove nat_cmp_total bytes key other))
+    (subst (λ (o : Option V). Decodes spell Is (cond here None (map.get bytes other)) o)
+    (sym (map.get-remove nat_cmp_total values key other))
     (decodes_either spell Is here None (map.get bytes other) None (map.get values other) tt (held other)))
 
 -- no values

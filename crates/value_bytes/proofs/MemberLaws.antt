@@ -41,7 +41,8 @@ one_key one two same =
     λ i. record { kind = kinds i; id = ids i }
 
 pub key_front : (bytes : List ℕ) (byte : ℕ) (behind : List ℕ) (id : ℕ) (rest : List ℕ) (key : KeyOf) → bytes ≡ byte ∷ behind
-    → IsFront number_bytes IsNumber behind id rest → kind_byte key.kind ≡ byte → key.id ≡ id → IsKey key → IsFront key_bytes IsKey bytes key rest
+    → IsFront number_bytes IsNumber behind id rest → kind_byte key.kind ≡ byte → key.id ≡ id → IsKey key
+    → IsFront key_bytes IsKey bytes key rest
 key_front bytes byte behind id rest key cut second kind number is =
     let here : numbers key ≡ (byte, id) = λ i. (kind i, number i) in
     front_seen (both_bytes byte_bytes number_bytes) (Both IsByte IsNumber) key_bytes IsKey numbers keys_seen bytes (byte, id) rest
@@ -103,7 +104,8 @@ member_no_key bytes none =
     frontless_seen (both_bytes key_bytes text_bytes) (Both IsKey IsText) member_bytes IsMember parts members_seen bytes
     (frontless_first key_bytes IsKey text_bytes IsText bytes none)
 
-pub member_no_role : (bytes : List ℕ) (key : KeyOf) (behind : List ℕ) → IsFront key_bytes IsKey bytes key behind → IsFrontless text_bytes IsText behind
+pub member_no_role : (bytes : List ℕ) (key : KeyOf) (behind : List ℕ) → IsFront key_bytes IsKey bytes key behind
+    → IsFrontless text_bytes IsText behind
     → IsFrontless member_bytes IsMember bytes
 member_no_role bytes key behind first none =
     frontless_seen (both_bytes key_bytes text_bytes) (Both IsKey IsText) member_bytes IsMember parts members_seen bytes

@@ -30,10 +30,12 @@ behind_same xs ys after behind long same =
 
 -- two numbers of one spelling are one
 pub number_same : (one two : ℕ) → IsNumber one → IsNumber two → number_bytes one ≡ number_bytes two → one ≡ two
-number_same one two is-one is-two same = sym (number_again one is-one) ∙ ap (λ (l : List ℕ). from_le_bytes w64 l) same ∙ number_again two is-two
+number_same one two is-one is-two same =
+    sym (number_again one is-one) ∙ ap (λ (l : List ℕ). from_le_bytes w64 l) same ∙ number_again two is-two
 
 -- bytes that begin with a number begin with no other
-pub number_front : (bytes : List ℕ) (number : ℕ) (rest : List ℕ) → Begins number_bytes IsNumber bytes number rest → IsFront number_bytes IsNumber bytes number rest
+pub number_front : (bytes : List ℕ) (number : ℕ) (rest : List ℕ) → Begins number_bytes IsNumber bytes number rest
+    → IsFront number_bytes IsNumber bytes number rest
 number_front bytes number rest begins = record {
   begins = begins;
   alone = λ other behind others.
@@ -69,7 +71,8 @@ pub int_front : (bytes : List ℕ) (number : ℕ) (rest : List ℕ) → IsFront 
     → IsFront int_bytes IsInt bytes (cast_signed w64 number) rest
 int_front bytes number rest front =
     let again = of_z-to_z w64 number front.begins.is in
-    front_seen number_bytes IsNumber int_bytes IsInt (λ number. cast_unsigned w64 number) ints_seen bytes number rest front (cast_signed w64 number)
+    front_seen number_bytes IsNumber int_bytes IsInt (λ number. cast_unsigned w64 number) ints_seen bytes number rest front
+    (cast_signed w64 number)
     (sfits_to_z {w = w64} (record { fits = front.begins.is })) again
     (λ other fits here. sym (to_z-of_z w64 other fits) ∙ ap (λ n. cast_signed w64 n) here)
 

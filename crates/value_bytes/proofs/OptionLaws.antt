@@ -5,12 +5,14 @@ use Rattle.value_bytes.specs.Options.{option_bytes, IsOption}
 use Rattle.value_bytes.proofs.Variants.{IsVariant, nothing, IsNothing}
 
 only_absent : {V : Type 0} (spell : V → List ℕ) (Is : V → Type 0) (other : Option V) (rest behind : List ℕ) → IsOption Is other
-    → option_bytes spell other ++ rest ≡ 0 ∷ behind → (value : Unit {0}) × IsNothing value × (other ≡ None) × (behind ≡ nothing value ++ rest)
+    → option_bytes spell other ++ rest ≡ 0 ∷ behind
+    → (value : Unit {0}) × IsNothing value × (other ≡ None) × (behind ≡ nothing value ++ rest)
 unfolding option_bytes
 only_absent spell Is None rest behind is same = (tt, tt, refl, cc)
 only_absent spell Is (Some value) rest behind is same = absurd (cc)
 
-pub absent : {V : Type 0} (spell : V → List ℕ) (Is : V → Type 0) → IsVariant 0 nothing IsNothing (option_bytes spell) (IsOption Is) (λ _. None)
+pub absent : {V : Type 0} (spell : V → List ℕ) (Is : V → Type 0)
+    → IsVariant 0 nothing IsNothing (option_bytes spell) (IsOption Is) (λ _. None)
 unfolding option_bytes IsOption
 absent spell Is = record { is = λ value is. tt; told = λ value. refl; only = only_absent spell Is }
 
@@ -31,7 +33,8 @@ unfolding option_bytes
 other_option spell Is bytes byte behind cut no_zero no_one None rest begins = no_zero (cc (begins.bytes_are))
 other_option spell Is bytes byte behind cut no_zero no_one (Some value) rest begins = no_one (cc (begins.bytes_are))
 
-pub no_option : {V : Type 0} (spell : V → List ℕ) (Is : V → Type 0) (bytes : List ℕ) → bytes ≡ [] → IsFrontless (option_bytes spell) (IsOption Is) bytes
+pub no_option : {V : Type 0} (spell : V → List ℕ) (Is : V → Type 0) (bytes : List ℕ) → bytes ≡ []
+    → IsFrontless (option_bytes spell) (IsOption Is) bytes
 unfolding option_bytes
 no_option spell Is bytes none None rest begins = absurd (cc (begins.bytes_are))
 no_option spell Is bytes none (Some value) rest begins = absurd (cc (begins.bytes_are))
@@ -41,7 +44,8 @@ pub option_absent : {V : Type 0} (spell : V → List ℕ) (old : List ℕ) → o
 unfolding option_bytes
 option_absent spell old = refl
 
-pub option_present : {V : Type 0} (spell : V → List ℕ) (value : V) (old : List ℕ) → (old ++ 1 ∷ []) ++ spell value ≡ old ++ option_bytes spell (Some value)
+pub option_present : {V : Type 0} (spell : V → List ℕ) (value : V) (old : List ℕ)
+    → (old ++ 1 ∷ []) ++ spell value ≡ old ++ option_bytes spell (Some value)
 unfolding option_bytes
 option_present spell value old = append_assoc old (1 ∷ []) (spell value)
 

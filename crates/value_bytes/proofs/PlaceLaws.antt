@@ -1,5 +1,6 @@
 -- The laws of places in bytes.
-use Rattle.std.proofs.Common.{◌≡◌, ℕ, ℤ, ◌^◌, ◌<◌, List, ◌++◌, length, refl, sym, ap, ◌∙◌, arith, length-append, append_assoc, subst, pos, negsuc}
+use Rattle.std.proofs.Common.{◌≡◌, ℕ, ℤ, ◌^◌, ◌<◌, List, ◌++◌, length, refl, sym, ap, ◌∙◌, arith, length-append, append_assoc, subst, pos}
+use Rattle.std.proofs.Common.{negsuc}
 use Rattle.std.proofs.lemmas.Nat.{from_le_bytes-to_le_bytes_4}
 use Rattle.std.proofs.lemmas.Int.{of_z-to_z, to_z-of_z, ints}
 use Rattle.std.specs.Int.{w32, from_le_bytes, cast_signed, cast_unsigned}
@@ -23,7 +24,8 @@ four_again number small = from_le_bytes-to_le_bytes_4 number small
 four_same : (one two : ℕ) → IsFour one → IsFour two → four_bytes one ≡ four_bytes two → one ≡ two
 four_same one two is-one is-two same = sym (four_again one is-one) ∙ ap (λ (l : List ℕ). from_le_bytes w32 l) same ∙ four_again two is-two
 
-pub four_front : (bytes : List ℕ) (number : ℕ) (rest : List ℕ) → Begins four_bytes IsFour bytes number rest → IsFront four_bytes IsFour bytes number rest
+pub four_front : (bytes : List ℕ) (number : ℕ) (rest : List ℕ) → Begins four_bytes IsFour bytes number rest
+    → IsFront four_bytes IsFour bytes number rest
 four_front bytes number rest begins = record {
   begins = begins;
   alone = λ other behind others.

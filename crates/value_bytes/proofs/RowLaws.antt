@@ -47,7 +47,8 @@ unfolding cell_bytes IsCell
 int_cell = record { is = λ value is. is; told = λ value. refl; only = only_int }
 
 -- another byte is in front of no cell
-pub other_cell : (bytes : List ℕ) (byte : ℕ) (behind : List ℕ) → bytes ≡ byte ∷ behind → byte ≢ 0 → byte ≢ 1 → byte ≢ 2 → IsFrontless cell_bytes IsCell bytes
+pub other_cell : (bytes : List ℕ) (byte : ℕ) (behind : List ℕ) → bytes ≡ byte ∷ behind → byte ≢ 0 → byte ≢ 1 → byte ≢ 2
+    → IsFrontless cell_bytes IsCell bytes
 unfolding cell_bytes
 other_cell bytes byte behind cut no_null no_text no_int cells.Null rest begins = no_null (cc (begins.bytes_are))
 other_cell bytes byte behind cut no_null no_text no_int (cells.Text text) rest begins = no_text (cc (begins.bytes_are))
@@ -96,7 +97,8 @@ unfolding geometry_bytes IsGeometry
 lines = record { is = λ value is. is; told = λ value. refl; only = only_lines }
 
 only_area : (other : Geometry) (rest behind : List ℕ) → IsGeometry other → geometry_bytes other ++ rest ≡ 4 ∷ behind
-    → (polygons : List (List (List PlaceOf))) × IsList AreLines polygons × (other ≡ Area polygons) × (behind ≡ list_bytes lines_bytes polygons ++ rest)
+    → (polygons : List (List (List PlaceOf))) × IsList AreLines polygons × (other ≡ Area polygons)
+    × (behind ≡ list_bytes lines_bytes polygons ++ rest)
 unfolding geometry_bytes IsGeometry
 only_area (Point place) rest behind is same = absurd (cc)
 only_area (Line places) rest behind is same = absurd (cc)

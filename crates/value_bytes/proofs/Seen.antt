@@ -3,7 +3,8 @@ use Rattle.std.proofs.Common.{◌≡◌, ℕ, List, ◌++◌, ap, sym, ◌∙◌
 use Rattle.value_bytes.specs.Forms.{Begins, IsFront, IsFrontless}
 
 -- each value is spelled by its parts
-pub record AreSeen {V W : Type 0} (spell : V → List ℕ) (Is : V → Type 0) (tell : W → List ℕ) (Are : W → Type 0) (parts : W → V) : Type 0 where
+pub record AreSeen {V W : Type 0} (spell : V → List ℕ) (Is : V → Type 0) (tell : W → List ℕ) (Are : W → Type 0)
+    (parts : W → V) : Type 0 where
   pub is : (value : W) → Are value → Is (parts value)
   pub told : (value : W) → tell value ≡ spell (parts value)
 

@@ -19,12 +19,14 @@ pub tags_front : (bytes : List ℕ) (pairs : TagPairs) (rest : List ℕ) → T (
 unfolding AreTags
 tags_front bytes pairs rest rising front =
     let again = entries-from_entries pairs rising in
-    front_seen (list_bytes tag_bytes) (IsList IsTag) tags_bytes AreTags (λ tags. map.entries tags) tags_seen bytes pairs rest front (map.from_entries pairs)
+    front_seen (list_bytes tag_bytes) (IsList IsTag) tags_bytes AreTags (λ tags. map.entries tags) tags_seen bytes pairs rest front
+    (map.from_entries pairs)
     (subst (λ l. IsList IsTag l) (sym again) front.begins.is) again
     (λ other are here. map.same_entries_map other (map.from_entries pairs) (here ∙ sym again))
 
 pub tags_frontless : (bytes : List ℕ) → IsFrontless (list_bytes tag_bytes) (IsList IsTag) bytes → IsFrontless tags_bytes AreTags bytes
-tags_frontless bytes none = frontless_seen (list_bytes tag_bytes) (IsList IsTag) tags_bytes AreTags (λ tags. map.entries tags) tags_seen bytes none
+tags_frontless bytes none = frontless_seen (list_bytes tag_bytes) (IsList IsTag) tags_bytes AreTags
+    (λ tags. map.entries tags) tags_seen bytes none
 
 pub tags_unseen : (bytes : List ℕ) (pairs : TagPairs) (rest : List ℕ) → (T (map.is_sorted (slice_cmp nat_cmp) pairs) → ⊥)
     → IsFront (list_bytes tag_bytes) (IsList IsTag) bytes pairs rest → IsFrontless tags_bytes AreTags bytes

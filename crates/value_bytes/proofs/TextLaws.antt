@@ -22,9 +22,11 @@ text_front bytes text rest utf8 front =
 pub text_frontless : (bytes : List ℕ) → IsFrontless counted_bytes IsCounted bytes → IsFrontless text_bytes IsText bytes
 text_frontless bytes none = frontless_seen counted_bytes IsCounted text_bytes IsText encode_utf8_all texts_seen bytes none
 
-pub text_unseen : (bytes text rest : List ℕ) → (IsUtf8 text → ⊥) → IsFront counted_bytes IsCounted bytes text rest → IsFrontless text_bytes IsText bytes
+pub text_unseen : (bytes text rest : List ℕ) → (IsUtf8 text → ⊥) → IsFront counted_bytes IsCounted bytes text rest
+    → IsFrontless text_bytes IsText bytes
 text_unseen bytes text rest none front =
-    unseen counted_bytes IsCounted text_bytes IsText encode_utf8_all texts_seen bytes text rest front (λ other is here. none (other, (is.scalar, here)))
+    unseen counted_bytes IsCounted text_bytes IsText encode_utf8_all texts_seen bytes text rest front
+    (λ other is here. none (other, (is.scalar, here)))
 
 -- bytes that were put are those of the characters
 pub text_put : (text : List ℕ) → IsUtf8 text → counted_bytes text ≡ text_bytes (chars text)

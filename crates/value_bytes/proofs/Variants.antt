@@ -3,7 +3,8 @@ use Rattle.std.proofs.Common.{◌≡◌, ℕ, List, [], ◌∷◌, ◌++◌, ap,
 use Rattle.value_bytes.specs.Forms.{IsFront, IsFrontless}
 
 -- behind this byte stand just the values of one form
-pub record IsVariant {V W : Type 0} (byte : ℕ) (spell : V → List ℕ) (Is : V → Type 0) (tell : W → List ℕ) (Are : W → Type 0) (make : V → W) : Type 0 where
+pub record IsVariant {V W : Type 0} (byte : ℕ) (spell : V → List ℕ) (Is : V → Type 0) (tell : W → List ℕ) (Are : W → Type 0)
+    (make : V → W) : Type 0 where
   pub is : (value : V) → Is value → Are (make value)
   pub told : (value : V) → tell (make value) ≡ byte ∷ spell value
   pub only : (other : W) (rest behind : List ℕ) → Are other → tell other ++ rest ≡ byte ∷ behind
@@ -23,8 +24,10 @@ variant_front byte spell Is tell Are make variant bytes behind value rest cut fr
       (made ∙ ap make same.0, same.1);
 }
 
-pub variant_frontless : {V W : Type 0} (byte : ℕ) (spell : V → List ℕ) (Is : V → Type 0) (tell : W → List ℕ) (Are : W → Type 0) (make : V → W)
-    → IsVariant byte spell Is tell Are make → (bytes behind : List ℕ) → bytes ≡ byte ∷ behind → IsFrontless spell Is behind → IsFrontless tell Are bytes
+pub variant_frontless : {V W : Type 0} (byte : ℕ) (spell : V → List ℕ) (Is : V → Type 0) (tell : W → List ℕ) (Are : W → Type 0)
+    (make : V → W)
+    → IsVariant byte spell Is tell Are make → (bytes behind : List ℕ) → bytes ≡ byte ∷ behind → IsFrontless spell Is behind
+    → IsFrontless tell Are bytes
 variant_frontless byte spell Is tell Are make variant bytes behind cut none other rest begins =
     let (inner, is, made, split) = variant.only other rest behind begins.is (sym begins.bytes_are ∙ cut) in
     none inner rest (record { is = is; bytes_are = split })

@@ -37,7 +37,8 @@ lists kind id (Some object) = has (listed kind object) id
 
 -- the ids of the objects of one kind that list this one, rising as the keys of the map do
 abbrev pub ids_of : Kind → Kind → ℕ → ObjectSet → List ℕ
-ids_of by kind id objects = map (λ key. key.id) (filter (λ key. is_kind by key.kind && lists kind id (finite.get objects key)) (finite.keys objects))
+ids_of by kind id objects = map (λ key. key.id)
+    (filter (λ key. is_kind by key.kind && lists kind id (finite.get objects key)) (finite.keys objects))
 
 -- the ways that list a node, the relations that have it as a member, and those that have a way as a member
 abbrev pub index_of : ObjectSet → Index

@@ -1,6 +1,7 @@
 -- The text of a coordinate, which is a whole number of units of 1e-7 degree: `-` where it is negative, the whole
 -- degrees, and where the rest is not zero a point and its seven digits without the zeros at their end.
-use Rattle.std.specs.Prelude.{ℕ, ℤ, ◌-◌, ◌/◌, ◌%◌, Bool, ◌==◌, if◌then◌else◌, List, [], ◌++◌, length, drop, reverse, replicate, codes, decimal, unsigned_abs}
+use Rattle.std.specs.Prelude.{ℕ, ℤ, ◌-◌, ◌/◌, ◌%◌, Bool, ◌==◌, if◌then◌else◌, List, [], ◌++◌, length, drop, reverse, replicate, codes}
+use Rattle.std.specs.Prelude.{decimal, unsigned_abs}
 use Rattle.std.specs.List.{prefix_len}
 use Rattle.std.specs.Int.{is_negative}
 

@@ -13,5 +13,6 @@ allowed = record { workers = true; readers = false; buckets = false; clear = fal
 
 -- the form of its words
 abbrev pub form : (options words : List (List ℕ)) → (place : ℕ) → Option CommandOf
-form options words place = option_and_then (λ own. option_and_then (λ (store, files). Some (replay_of store files (unwrap_or own.workers WORKERS)))
+form options words place = option_and_then
+    (λ own. option_and_then (λ (store, files). Some (replay_of store files (unwrap_or own.workers WORKERS)))
     (stored_files 3 words place)) (options_read allowed options)

@@ -13,5 +13,6 @@ allowed = record { workers = true; readers = true; buckets = false; clear = fals
 
 -- the form of its words
 abbrev pub form : (options words : List (List ℕ)) → (place : ℕ) → Option CommandOf
-form options words place = option_and_then (λ own. option_and_then (λ (store, files). Some (serve_of store files (unwrap_or own.workers WORKERS) (unwrap_or own.readers READERS)))
+form options words place = option_and_then
+    (λ own. option_and_then (λ (store, files). Some (serve_of store files (unwrap_or own.workers WORKERS) (unwrap_or own.readers READERS)))
     (stored_files 2 words place)) (options_read allowed options)

@@ -14,7 +14,8 @@ allowed = record { workers = false; readers = false; buckets = false; clear = tr
 
 -- the form of its words, once the options are read
 abbrev pub form_with : List (List ℕ) → Options → Option CommandOf
-form_with (store ∷ zoom ∷ []) options = option_and_then (λ least. if nat_lt MAX_ZOOM least then None else Some (tiles_of store least options.clear)) (number zoom)
+form_with (store ∷ zoom ∷ []) options = option_and_then
+    (λ least. if nat_lt MAX_ZOOM least then None else Some (tiles_of store least options.clear)) (number zoom)
 form_with _ options = None
 
 -- the form of its words

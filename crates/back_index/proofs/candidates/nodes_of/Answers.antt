@@ -32,7 +32,10 @@ returns-in-Err-read_nodes-clause-touches g c = record {
       let bad : ℕ → Type 0 = λ at. (¬ ((nodes : List ℕ) × HasNodes found nodes)) × (at ≡ c.args.page) in
       subst (Refuses bad) (sym c.refused.ensures.fault)
       (needs_refuses bad _ c.in-Err-read_nodes.fault c.args.page c.in-Err-read_nodes.ensures.refused
-      (λ none. ((λ nodes. nodeless_not found nodes.0 (none rest now (c.in_default.ensures.brings.keeps.has refl rest now owns)) nodes.1), refl)));
+      (λ none. (
+        (λ nodes. nodeless_not found nodes.0 (none rest now (c.in_default.ensures.brings.keeps.has refl rest now owns)) nodes.1),
+        refl,
+      )));
 }
 
 pub returns-in-Err-clause-within : goal.returns-in-Err-clause-within
@@ -41,7 +44,8 @@ returns-in-Err-clause-within g c may allowed only =
 
 pub returns-in-Ok-clause-within : goal.returns-in-Ok-clause-within
 returns-in-Ok-clause-within g c may allowed only =
-    reads_key may c.args.buckets.now c.bring.new.self WAYS c.args.way c.requires.going allowed c.in_default.ensures.touches.stays {T = Unit {0}} (Ok tt) c.in_default.ensures.touches.reads c.in_default.ensures.touches.refused only
+    reads_key may c.args.buckets.now c.bring.new.self WAYS c.args.way c.requires.going allowed c.in_default.ensures.touches.stays {T =
+    Unit {0}} (Ok tt) c.in_default.ensures.touches.reads c.in_default.ensures.touches.refused only
 
 pub returns-in-Err-read_nodes-clause-within : goal.returns-in-Err-read_nodes-clause-within
 returns-in-Err-read_nodes-clause-within g c may allowed only =

@@ -40,10 +40,12 @@ returns-clause-ids g c =
     let ways = c.as_slice.result.now in
     let given : List ℕ → Type 0 = λ ids. (rest now : Image) → Has rest now c.listers.new.buckets → (maps : Maps) → HoldsWays now maps
     → ids ≡ filter (list_it maps c.args.id) ways in
-    let wanted : List ℕ → Type 0 = λ ids. (rest now : Image) → Has rest now c.args.buckets.now → (maps : Maps) → HoldsIndex now maps → HoldsWays now maps
+    let wanted : List ℕ → Type 0 = λ ids. (rest now : Image) → Has rest now c.args.buckets.now → (maps : Maps) → HoldsIndex now maps
+    → HoldsWays now maps
     → ids ≡ (index_on maps).ways_of_node c.args.id in
     if_ok (List ℕ) given wanted c.ways_with.result
-    (λ ids is rest now owns maps index holds. is rest now (c.in-Ok.ensures.has refl rest now owns) maps holds ∙ ap (filter (list_it maps c.args.id))
+    (λ ids is rest now owns maps index holds. is rest now (c.in-Ok.ensures.has refl rest now owns) maps holds
+    ∙ ap (filter (list_it maps c.args.id))
     (c.as_slice.ensures.items ∙ reads_one (finite.get (now.maps WAYS_OF_BLOCKS) block) c.in-Ok.ways (finite.get maps.ways_of_blocks block)
     (c.in-Ok.ensures.ids rest now owns) (index.ways_of_blocks block)))
     c.ways_with.ensures.ids
@@ -52,14 +54,16 @@ pub returns-clause-touches : goal.returns-clause-touches
 returns-clause-touches g c = record {
   answers = search rules;
   reads =
-      reads_then c.args.buckets.now c.listers.new.buckets c.ways_with.new.buckets c.ways_with.result c.in-Ok.ensures.touches.reads c.ways_with.ensures.touches.reads;
+      reads_then c.args.buckets.now c.listers.new.buckets c.ways_with.new.buckets c.ways_with.result c.in-Ok.ensures.touches.reads
+      c.ways_with.ensures.touches.reads;
   stops = λ rest now owns.
       let old = c.args.buckets.now in
       let block = c.args.id / BLOCK in
       let ways = c.as_slice.result.now in
       let found = finite.get (now.maps WAYS_OF_BLOCKS) block in
       let fine : ℕ → Type 0 = λ way. (nodes : List ℕ) × HasNodes (finite.get (now.maps WAYS) way) nodes in
-      refuses_result (List ℕ) (StopsAt fine (λ way. c.page_of-page.result) ways) (λ at. HasUnread old now at ⊎ HasNodeless old now at) c.ways_with.result
+      refuses_result (List ℕ) (StopsAt fine (λ way. c.page_of-page.result) ways)
+      (λ at. HasUnread old now at ⊎ HasNodeless old now at) c.ways_with.result
       (λ at stops. inr (record {
         block = block;
         ids = ways;
@@ -67,7 +71,8 @@ returns-clause-touches g c = record {
         way = stops.thing;
         said = ap (λ (l : List ℕ). has l stops.thing) stops.parts ∙ has_part stops.front stops.thing stops.behind;
         none = stops.bad;
-        page_is = stops.page_is ∙ c.page_of-page.ensures ∙ page_same old c.listers.new.buckets WAYS_OF_BLOCKS block c.in-Ok.ensures.touches.answers.stays;
+        page_is = stops.page_is ∙ c.page_of-page.ensures
+            ∙ page_same old c.listers.new.buckets WAYS_OF_BLOCKS block c.in-Ok.ensures.touches.answers.stays;
       })) (c.ways_with.ensures.touches.stops rest now (c.in-Ok.ensures.has refl rest now owns));
 }
 
@@ -78,6 +83,8 @@ returns-in-Err-clause-within g c rest now owns maps index may allowed only =
 pub returns-clause-within : goal.returns-clause-within
 returns-clause-within g c rest now owns maps index may allowed only =
     let block = c.args.id / BLOCK in
-    let ways : c.as_slice.result.now ≡ listers maps.ways_of_blocks block = c.as_slice.ensures.items ∙ reads_one (finite.get (now.maps WAYS_OF_BLOCKS) block) c.in-Ok.ways (finite.get maps.ways_of_blocks block)
+    let ways : c.as_slice.result.now ≡ listers maps.ways_of_blocks block =
+    c.as_slice.ensures.items ∙ reads_one (finite.get (now.maps WAYS_OF_BLOCKS) block) c.in-Ok.ways
+    (finite.get maps.ways_of_blocks block)
     (c.in-Ok.ensures.ids rest now owns) (index.ways_of_blocks block) in
     c.ways_with.ensures.within may (subst (MayEach may WAYS) (sym ways) allowed.1) (c.in-Ok.ensures.within may allowed.0 only)

@@ -1,5 +1,6 @@
 -- One way after another is looked at.
-use Rattle.std.proofs.Common.{◌≡◌, ◌≤◌, ◌<◌, ◌++◌, ◌∷◌, [], ◌∙◌, ℕ, List, Ok, true, length, take, get_or, if◌then◌else◌, sym, ap, subst, refl, rules}
+use Rattle.std.proofs.Common.{◌≡◌, ◌≤◌, ◌<◌, ◌++◌, ◌∷◌, [], ◌∙◌, ℕ, List, Ok, true, length, take, get_or, if◌then◌else◌, sym, ap, subst}
+use Rattle.std.proofs.Common.{refl, rules}
 use Rattle.std.specs.List.{AllByRecursion, filter}
 use Rattle.std.specs.FinMap as finite
 use Rattle.std.specs.Ordering.{nat_cmp}
@@ -57,12 +58,14 @@ loop-way-preserved g c =
       fine = λ rest now owns.
           let fine : ℕ → Type 0 = λ way. (nodes : List ℕ) × HasNodes (finite.get (now.maps WAYS) way) nodes in
           let found = did.found rest now (inv.has_still rest now owns) in
-          subst (λ (l : List ℕ). AllByRecursion fine l) (sym more) (each_more fine (take k ways) way (inv.fine rest now owns) (found.0, found.1));
+          subst (λ (l : List ℕ). AllByRecursion fine l) (sym more)
+          (each_more fine (take k ways) way (inv.fine rest now owns) (found.0, found.1));
       filtered = λ rest now owns maps holds.
           let test = list_it maps node in
           let found = did.found rest now (inv.has_still rest now owns) in
           found.2 ∙ ap (λ (l : List ℕ). l ++ (if has found.0 node then way ∷ [] else [])) (inv.filtered rest now owns maps holds)
-          ∙ sym (filter_more test (take k ways) way (has found.0 node) (way_lists now maps way node found.0 holds found.1)) ∙ sym (ap (filter test) more);
+          ∙ sym (filter_more test (take k ways) way (has found.0 node) (way_lists now maps way node found.0 holds found.1))
+          ∙ sym (ap (filter test) more);
     }
 
 pub returns-clause-ids : goal.returns-clause-ids
@@ -70,8 +73,10 @@ returns-clause-ids g c rest now owns maps holds =
     let ways = c.args.ways.now in
     let test = list_it maps c.args.node in
     let items : c.loop-way.found.items ≡ filter test ways
-    = c.loop-way.invariant.filtered rest now owns maps holds ∙ ap (filter test) (take_all c.loop-way.way-index ways c.loop-way-test.false) in
-    c.into_ids.ensures.ids ∙ same_rising c.from_vec.result (filter test ways) c.from_vec.ensures.rise (IsStrictlySortedBy-filter nat_cmp test ways c.requires.rising.0)
+    = c.loop-way.invariant.filtered rest now owns maps holds
+    ∙ ap (filter test) (take_all c.loop-way.way-index ways c.loop-way-test.false) in
+    c.into_ids.ensures.ids ∙ same_rising c.from_vec.result (filter test ways) c.from_vec.ensures.rise
+    (IsStrictlySortedBy-filter nat_cmp test ways c.requires.rising.0)
     (λ id. c.from_vec.ensures.same id ∙ ap (λ (l : List ℕ). has l id) items)
 
 pub returns-clause-rising : goal.returns-clause-rising
@@ -81,7 +86,8 @@ returns-clause-rising g c =
 
 pub returns-in-Err-clause-within : goal.returns-in-Err-clause-within
 returns-in-Err-clause-within g c may all only =
-    c.in-Err.ensures.within may (at_place (λ (id : ℕ). may WAYS id ≡ true) c.args.ways.now c.loop-way.way-index 0 c.loop-way-test.true all) (c.loop-way.invariant.within may all only)
+    c.in-Err.ensures.within may (at_place (λ (id : ℕ). may WAYS id ≡ true) c.args.ways.now c.loop-way.way-index 0 c.loop-way-test.true all)
+    (c.loop-way.invariant.within may all only)
 
 pub loop-way-init : goal.loop-way-init
 loop-way-init g c =

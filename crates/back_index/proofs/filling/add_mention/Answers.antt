@@ -45,9 +45,11 @@ returns-clause-runs g c =
       λ done runs.
           let all = runs_kept done run.id run.ids.items kept.0 (now.maps which) (after.maps which) runs kept.1
           (λ id. kept.2 id ∙ ap (λ (l : List ℕ). has l id) taken) sets.here sets.beside in
-          subst (λ (ids : List ℕ). Runs (done ++ own ∷ []) c.push-2.new.run.id ids (after.maps which)) (sym (pushed ∙ ap (λ (l : List ℕ). l ++ own.own ∷ []) none))
+          subst (λ (ids : List ℕ). Runs (done ++ own ∷ []) c.push-2.new.run.id ids (after.maps which))
+          (sym (pushed ∙ ap (λ (l : List ℕ). l ++ own.own ∷ []) none))
           (subst (λ (at : ℕ). Runs (done ++ own ∷ []) at ([] ++ own.own ∷ []) (after.maps which)) (sym c.push-2.ensures.at)
-          (runs_more done own.id [] (after.maps which) own refl (runs_next done run.id own.id run.ids.items (now.maps which) (after.maps which) runs lt all))),
+          (runs_more done own.id [] (after.maps which) own refl
+          (runs_next done run.id own.id run.ids.items (now.maps which) (after.maps which) runs lt all))),
     ))
     c.push-2.ensures.ids
 

@@ -40,4 +40,5 @@ pub returns-clause-within : goal.returns-clause-within
 returns-clause-within g c may all only =
     let entries = c.args.entries.now in
     c.fill_members-2.ensures.within may (ways_may may entries all)
-    (c.in_default-fill_members.ensures.within may (nodes_may may entries all) (c.in_default.ensures.within may (blocks_may may entries all) only))
+    (c.in_default-fill_members.ensures.within may (nodes_may may entries all)
+    (c.in_default.ensures.within may (blocks_may may entries all) only))

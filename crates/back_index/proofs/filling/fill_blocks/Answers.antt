@@ -16,13 +16,15 @@ returns-in-Ok-clause-fills g c =
       filled.0,
       filled.1,
       filled.2,
-      λ void. kept_as (mentions_tell c.in-Ok.mentions.items) (entries_tell kinds.Way blocks_in c.args.entries.now) (filled.0.maps WAYS_OF_BLOCKS) c.in-Ok.ensures.told (filled.3 void),
+      λ void. kept_as (mentions_tell c.in-Ok.mentions.items) (entries_tell kinds.Way blocks_in c.args.entries.now)
+          (filled.0.maps WAYS_OF_BLOCKS) c.in-Ok.ensures.told (filled.3 void),
     ))
     c.fill_map.ensures.fills
 
 pub returns-in-Ok-clause-within : goal.returns-in-Ok-clause-within
 returns-in-Ok-clause-within g c may all only =
-    c.fill_map.ensures.within may (may_as may WAYS_OF_BLOCKS (mentions_tell c.in-Ok.mentions.items) (entries_tell kinds.Way blocks_in c.args.entries.now) c.in-Ok.ensures.told all) only
+    c.fill_map.ensures.within may (may_as may WAYS_OF_BLOCKS (mentions_tell c.in-Ok.mentions.items)
+    (entries_tell kinds.Way blocks_in c.args.entries.now) c.in-Ok.ensures.told all) only
 
 pub returns-in-Err-clause-within : goal.returns-in-Err-clause-within
 returns-in-Err-clause-within g c may all only = reads_refused may c.refused.new.buckets c.refused.ensures.marks.refused

@@ -15,13 +15,15 @@ returns-in-Ok-clause-fills g c =
       filled.0,
       filled.1,
       filled.2,
-      λ void. kept_as (mentions_tell c.in-Ok.mentions.items) (entries_tell kinds.Relation (listed c.args.kind) c.args.entries.now) (filled.0.maps c.args.which) c.in-Ok.ensures.told (filled.3 void),
+      λ void. kept_as (mentions_tell c.in-Ok.mentions.items) (entries_tell kinds.Relation (listed c.args.kind) c.args.entries.now)
+          (filled.0.maps c.args.which) c.in-Ok.ensures.told (filled.3 void),
     ))
     c.fill_map.ensures.fills
 
 pub returns-in-Ok-clause-within : goal.returns-in-Ok-clause-within
 returns-in-Ok-clause-within g c may all only =
-    c.fill_map.ensures.within may (may_as may c.args.which (mentions_tell c.in-Ok.mentions.items) (entries_tell kinds.Relation (listed c.args.kind) c.args.entries.now) c.in-Ok.ensures.told all) only
+    c.fill_map.ensures.within may (may_as may c.args.which (mentions_tell c.in-Ok.mentions.items)
+    (entries_tell kinds.Relation (listed c.args.kind) c.args.entries.now) c.in-Ok.ensures.told all) only
 
 pub returns-in-Err-clause-within : goal.returns-in-Err-clause-within
 returns-in-Err-clause-within g c may all only = reads_refused may c.refused.new.buckets c.refused.ensures.marks.refused

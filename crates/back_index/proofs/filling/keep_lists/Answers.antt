@@ -49,7 +49,8 @@ add_mention-requires-clause-own g c =
     let items : List Mention = c.args.mentions.now in
     let k : ℕ = c.loop-mention.mention-index in
     let own : Mention = get_or items k no_mention in
-    c.requires.ids own.id own.own (told_there items k own c.loop-mention-test.true (get_or_default items k no_mention own c.loop-mention-test.true))
+    c.requires.ids own.id own.own (told_there items k own c.loop-mention-test.true
+    (get_or_default items k no_mention own c.loop-mention-test.true))
 
 pub loop-mention-preserved : goal.loop-mention-preserved
 loop-mention-preserved g c =
@@ -69,12 +70,14 @@ loop-mention-preserved g c =
       answers = answers_then c.args.buckets.now before after tt (Ok tt) inv.answers did.touches.answers;
       reads = reads_more c.args.buckets.now before after inv.reads did.touches.reads;
       at = λ may all.
-          subst (λ (n : ℕ). may which n ≡ true) (sym did.at) (all own.id own.own (told_there items k own within (get_or_default items k no_mention own within)));
+          subst (λ (n : ℕ). may which n ≡ true) (sym did.at)
+          (all own.id own.own (told_there items k own within (get_or_default items k no_mention own within)));
       within = λ may all only. did.within may (inv.at may all) (inv.within may all only);
       ids = did.ids;
       order = λ other next.
           let rises = c.requires.order k (k + 1) other (omega arith) next in
-          let at : c.add_mention.new.run.id ≡ (get_or items k other).id = did.at ∙ ap (λ (m : Mention). m.id) (get_or_default items k no_mention other within) in
+          let at : c.add_mention.new.run.id ≡ (get_or items k other).id =
+          did.at ∙ ap (λ (m : Mention). m.id) (get_or_default items k no_mention other within) in
           subst (λ (n : ℕ). n ≤ (get_or items (k + 1) other).id) (sym at) rises;
       runs = λ rest now owns.
           let was = inv.runs rest now owns in
@@ -82,7 +85,8 @@ loop-mention-preserved g c =
             next.0,
             next.1,
             only_then which now was.0 next.0 was.2 next.2,
-            λ void. subst (λ (l : List Mention). Runs l c.add_mention.new.run.id c.add_mention.new.run.ids.items (next.0.maps which)) (sym more) (next.3 (take k items) (was.3 void)),
+            λ void. subst (λ (l : List Mention). Runs l c.add_mention.new.run.id c.add_mention.new.run.ids.items (next.0.maps which))
+                (sym more) (next.3 (take k items) (was.3 void)),
           );
     }
 
@@ -99,7 +103,8 @@ pub returns-clause-touches : goal.returns-clause-touches
 returns-clause-touches g c = record {
   answers = search rules;
   reads =
-      reads_then c.args.buckets.now c.loop-mention.buckets c.keep_run.new.buckets c.keep_run.result c.loop-mention.invariant.reads c.keep_run.ensures.touches.reads;
+      reads_then c.args.buckets.now c.loop-mention.buckets c.keep_run.new.buckets c.keep_run.result c.loop-mention.invariant.reads
+      c.keep_run.ensures.touches.reads;
   stops = λ rest now owns.
       let was = c.loop-mention.invariant.runs rest now owns in
       c.keep_run.ensures.touches.stops rest was.0 was.1;
@@ -121,7 +126,8 @@ returns-clause-keeps g c =
       kept.3,
       only_then which now was.0 after was.2 sets.only,
       λ void. subst (λ (l : List Mention). AreKept (mentions_tell l) (after.maps which)) (take_all k items c.loop-mention-test.false)
-          (runs_kept (take k items) run.id run.ids.items kept.0 (was.0.maps which) (after.maps which) (was.3 void) kept.1 kept.2 sets.here sets.beside),
+          (runs_kept (take k items) run.id run.ids.items kept.0 (was.0.maps which) (after.maps which)
+          (was.3 void) kept.1 kept.2 sets.here sets.beside),
     ))
     c.keep_run.ensures.keeps
 

@@ -9,6 +9,8 @@ pub returns-clause-keeps : goal.returns-clause-keeps
 returns-clause-keeps g c =
     let ids : List ℕ = c.args.ids.items in
     let list : List ℕ = c.as_slice.result.now in
-    let same : (own : ℕ) → has list own ≡ has ids own = λ own. ap (λ (l : List ℕ). has l own) c.as_slice.ensures.ids ∙ c.from_vec-ids.ensures.same own in
+    let same : (own : ℕ) → has list own ≡ has ids own =
+    λ own. ap (λ (l : List ℕ). has l own) c.as_slice.ensures.ids ∙ c.from_vec-ids.ensures.same own in
     let rise : IsRising list = subst IsRising (sym c.as_slice.ensures.ids) c.as_slice.ensures.rise in
-    on_ok (Unit {0}) _ _ c.keep_list.result (λ keeps rest now owns. (list, rising_ids list ids rise same c.requires.ids, same, keeps rest now owns)) c.keep_list.ensures.keeps
+    on_ok (Unit {0}) _ _ c.keep_list.result (λ keeps rest now owns.
+    (list, rising_ids list ids rise same c.requires.ids, same, keeps rest now owns)) c.keep_list.ensures.keeps

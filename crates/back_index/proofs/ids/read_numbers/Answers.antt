@@ -14,4 +14,5 @@ returns-then-not-is_empty-clause-refused c =
 
 pub returns-clause-numbers : goal.returns-clause-numbers
 returns-clause-numbers c =
-    numbers_spelled c.args.bytes.now c.in-Ok.found.0 c.in-Ok.found.1.now c.in-Ok.ensures.values (nothing_left c.in-Ok.found.1.now c.if-not-is_empty.ensures)
+    numbers_spelled c.args.bytes.now c.in-Ok.found.0 c.in-Ok.found.1.now c.in-Ok.ensures.values
+    (nothing_left c.in-Ok.found.1.now c.if-not-is_empty.ensures)

@@ -23,7 +23,8 @@ returns-in-Err-clause-touches g c = record {
 
 pub returns-in-Ok-clause-within : goal.returns-in-Ok-clause-within
 returns-in-Ok-clause-within g c may allowed only =
-    reads_key may c.args.buckets.now c.remove.new.self c.args.which c.args.id c.requires.going allowed c.in-Ok.ensures.touches.stays {T = Unit {0}} (Ok tt) c.in-Ok.ensures.touches.reads c.in-Ok.ensures.touches.refused only
+    reads_key may c.args.buckets.now c.remove.new.self c.args.which c.args.id c.requires.going allowed c.in-Ok.ensures.touches.stays {T =
+    Unit {0}} (Ok tt) c.in-Ok.ensures.touches.reads c.in-Ok.ensures.touches.refused only
 
 pub returns-in-Err-clause-within : goal.returns-in-Err-clause-within
 returns-in-Err-clause-within g c may allowed only =
@@ -31,7 +32,8 @@ returns-in-Err-clause-within g c may allowed only =
 
 pub returns-in-Ok-ids_bytes-clause-within : goal.returns-in-Ok-ids_bytes-clause-within
 returns-in-Ok-ids_bytes-clause-within g c may allowed only =
-    reads_key may c.args.buckets.now c.put.new.self c.args.which c.args.id c.requires.going allowed c.put.ensures.touches.stays c.put.result c.put.ensures.touches.reads c.put.ensures.touches.refused only
+    reads_key may c.args.buckets.now c.put.new.self c.args.which c.args.id c.requires.going allowed c.put.ensures.touches.stays c.put.result
+    c.put.ensures.touches.reads c.put.ensures.touches.refused only
 
 pub returns-in-Err-ids_bytes-clause-within : goal.returns-in-Err-ids_bytes-clause-within
 returns-in-Err-ids_bytes-clause-within g c may allowed only =

@@ -33,7 +33,11 @@ returns-in-Err-read_list-clause-touches g c = record {
       let bad : ℕ → Type 0 = λ at. IsUnread (map.get (now.maps c.args.which) c.args.id) × (at ≡ page_in old c.args.which c.args.id) in
       subst (Refuses bad) (sym c.refused.ensures.fault)
       (needs_refuses bad _ c.in-Err-read_list.fault c.page_of-page.result c.in-Err-read_list.ensures.refused
-      (λ unread. (unread rest now (c.in_default.ensures.brings.keeps.has refl rest now has), c.page_of-page.ensures ∙ page_same old new c.args.which c.args.id c.in_default.ensures.touches.stays)));
+      (λ unread. (
+        unread rest now (c.in_default.ensures.brings.keeps.has refl rest now has),
+        c.page_of-page.ensures
+            ∙ page_same old new c.args.which c.args.id c.in_default.ensures.touches.stays,
+      )));
 }
 
 pub returns-in-Err-clause-within : goal.returns-in-Err-clause-within
@@ -42,7 +46,8 @@ returns-in-Err-clause-within g c may allowed only =
 
 pub returns-in-Ok-clause-within : goal.returns-in-Ok-clause-within
 returns-in-Ok-clause-within g c may allowed only =
-    reads_key may c.args.buckets.now c.bring.new.self c.args.which c.args.id c.requires.going allowed c.in_default.ensures.touches.stays {T = Unit {0}} (Ok tt) c.in_default.ensures.touches.reads c.in_default.ensures.touches.refused only
+    reads_key may c.args.buckets.now c.bring.new.self c.args.which c.args.id c.requires.going allowed c.in_default.ensures.touches.stays
+    {T = Unit {0}} (Ok tt) c.in_default.ensures.touches.reads c.in_default.ensures.touches.refused only
 
 pub returns-in-Err-read_list-clause-within : goal.returns-in-Err-read_list-clause-within
 returns-in-Err-read_list-clause-within g c may allowed only =

@@ -19,7 +19,8 @@ returns-in-Some-clause-refused g c =
     c.in-Some.ensures.found c.read_ids.result c.read_ids.ensures.refused
 
 pub returns-in-None-clause-ids : goal.returns-in-None-clause-ids
-returns-in-None-clause-ids g c rest now has = subst (λ o. ReadsIds o c.new.result) (sym (c.in-None.ensures.found rest now has)) c.new.ensures.empty
+returns-in-None-clause-ids g c rest now has =
+    subst (λ o. ReadsIds o c.new.result) (sym (c.in-None.ensures.found rest now has)) c.new.ensures.empty
 
 pub returns-in-None-clause-rising : goal.returns-in-None-clause-rising
 returns-in-None-clause-rising g c = subst AreRisingIds (sym c.new.ensures.empty) no_ids

@@ -8,6 +8,7 @@ use Rattle.back_index.proofs.mentions.members_told.Given as goal
 -- what the entries so far tell
 abbrev pub invariant-loop-entry : goal.invariant-loop-entry
 invariant-loop-entry l = record {
-  told : (id by : ℕ) → mentions_tell l.mentions.items id by ≡ entries_tell kinds.Relation (listed l.kind) (take l.entry-index l.entries) id by;
+  told : (id by : ℕ) → mentions_tell l.mentions.items id by
+      ≡ entries_tell kinds.Relation (listed l.kind) (take l.entry-index l.entries) id by;
   ids : ByIds (mentions_tell l.mentions.items);
 }

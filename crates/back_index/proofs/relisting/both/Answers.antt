@@ -10,6 +10,7 @@ pub returns-clause-both : goal.returns-clause-both
 returns-clause-both c =
     let all = c.args.ids.now ++ c.args.others.now in
     let items : c.extend_from_slice.new.self.items ≡ all
-    = c.in_ok-extend_from_slice.ensures.items ∙ (λ i. (c.in_ok-all.ensures.items ∙ c.as_slice.ensures.ids) i ++ c.as_slice-2.ensures.ids i) in
+    = c.in_ok-extend_from_slice.ensures.items
+    ∙ (λ i. (c.in_ok-all.ensures.items ∙ c.as_slice.ensures.ids) i ++ c.as_slice-2.ensures.ids i) in
     same_rising c.from_vec.result (in_order all) c.from_vec.ensures.rise (in_order-rise all)
     (λ id. c.from_vec.ensures.same id ∙ ap (λ (l : List ℕ). has l id) items ∙ sym (has-in_order all id))

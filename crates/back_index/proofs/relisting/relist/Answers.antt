@@ -12,7 +12,8 @@ use Rattle.back_index.specs.declared.visit.TheConstants.{WAYS_OF_BLOCKS, RELATIO
 use Rattle.back_index.specs.declared.visit.Visit.{Visit}
 use Rattle.back_index.proofs.Chained.{page_same}
 use Rattle.back_index.proofs.Reading.{on_ok, refuses_more, refuses_result}
-use Rattle.back_index.proofs.Relists.{apart, at_kind, fine_as, node_relists, nodes_stop, relation_relists, stops_as, turned_fine, way_relists, way_stops, ways_stop}
+use Rattle.back_index.proofs.Relists.{apart, at_kind, fine_as, node_relists, nodes_stop, relation_relists, stops_as, turned_fine}
+use Rattle.back_index.proofs.Relists.{way_relists, way_stops, ways_stop}
 use Rattle.store_maps.specs.Asked.{MayEach}
 use Rattle.store_maps.specs.Turns.{ids_for}
 use Rattle.osm_base.specs.declared.values.key.Kind.{Kind}
@@ -55,9 +56,11 @@ returns-in-Way-clause-touches g c = record {
       let fine = IsFine now key.id in
       let page = page_at c.args.buckets.now in
       let is : key.kind ≡ kinds.Way = cc (c.in-Way.is) in
-      refuses_result (Unit {0}) (StopsAt fine page (visits WAYS_OF_BLOCKS (listed_by blocks_in old) (listed_by blocks_in new))) (StopsAt (IsFine now c.args.key.id) page (all_visits c.args.key old new))
+      refuses_result (Unit {0}) (StopsAt fine page (visits WAYS_OF_BLOCKS (listed_by blocks_in old) (listed_by blocks_in new)))
+      (StopsAt (IsFine now c.args.key.id) page (all_visits c.args.key old new))
       c.relist_blocks.result
-      (λ at stops. subst (λ (k : KeyOf). StopsAt (IsFine now k.id) page (all_visits k old new) at) c.key.view_is (way_stops fine page key old new at is stops)) (c.relist_blocks.ensures.touches.stops rest now owns);
+      (λ at stops. subst (λ (k : KeyOf). StopsAt (IsFine now k.id) page (all_visits k old new) at) c.key.view_is
+      (way_stops fine page key old new at is stops)) (c.relist_blocks.ensures.touches.stops rest now owns);
 }
 
 pub returns-in-Err-clause-touches : goal.returns-in-Err-clause-touches
@@ -73,7 +76,8 @@ returns-in-Err-clause-touches g c = record {
       let is : key.kind ≡ kinds.Relation = cc (c.in-Relation.is) in
       refuses_more (StopsAt fine page (visits RELATIONS_OF_NODES (listed_by (listed kinds.Node) old) (listed_by (listed kinds.Node) new)))
       (StopsAt (IsFine now c.args.key.id) page (all_visits c.args.key old new))
-      (λ at stops. subst (λ (k : KeyOf). StopsAt (IsFine now k.id) page (all_visits k old new) at) c.key.view_is (nodes_stop fine page key old new at is stops))
+      (λ at stops. subst (λ (k : KeyOf). StopsAt (IsFine now k.id) page (all_visits k old new) at) c.key.view_is
+      (nodes_stop fine page key old new at is stops))
       c.in-Err.fault (c.in-Err.ensures.touches.stops rest now owns);
 }
 
@@ -97,7 +101,8 @@ pub returns-in_default-clause-touches : goal.returns-in_default-clause-touches
 returns-in_default-clause-touches g c = record {
   answers = search rules;
   reads =
-      reads_then c.args.buckets.now c.relist_members.new.buckets c.relist_members-in-Relation.new.buckets c.relist_members-in-Relation.result c.in_default.ensures.touches.reads c.relist_members-in-Relation.ensures.touches.reads;
+      reads_then c.args.buckets.now c.relist_members.new.buckets c.relist_members-in-Relation.new.buckets
+      c.relist_members-in-Relation.result c.in_default.ensures.touches.reads c.relist_members-in-Relation.ensures.touches.reads;
   stops = λ rest now owns.
       let key : KeyOf = record { kind = c.key.inside.kind; id = c.key.inside.id } in
       let own = key.id in
@@ -111,12 +116,15 @@ returns-in_default-clause-touches g c = record {
       let is : key.kind ≡ kinds.Relation = cc (c.in-Relation.is) in
       let pages : page_at mid ≡ page_at c.args.buckets.now
       = λ i visit. page_same c.args.buckets.now mid visit.which visit.id c.in_default.ensures.touches.answers.stays i in
-      refuses_result (Unit {0}) (StopsAt (IsFine first.0 own) (page_at mid) lists) (StopsAt (IsFine now c.args.key.id) (page_at c.args.buckets.now) (all_visits c.args.key old new))
+      refuses_result (Unit {0}) (StopsAt (IsFine first.0 own) (page_at mid) lists)
+      (StopsAt (IsFine now c.args.key.id) (page_at c.args.buckets.now) (all_visits c.args.key old new))
       c.relist_members-in-Relation.result
-      (λ at stops. subst (λ (k : KeyOf). StopsAt (IsFine now k.id) (page_at c.args.buckets.now) (all_visits k old new) at) c.key.view_is (ways_stop (IsFine now own) (page_at c.args.buckets.now) key old new at is
+      (λ at stops. subst (λ (k : KeyOf). StopsAt (IsFine now k.id) (page_at c.args.buckets.now) (all_visits k old new) at) c.key.view_is
+      (ways_stop (IsFine now own) (page_at c.args.buckets.now) key old new at is
       (turned_fine now own RELATIONS_OF_NODES nodes_old nodes_new (first.0.maps RELATIONS_OF_NODES) first.3)
       (stops_as (IsFine first.0 own) (IsFine now own) (page_at c.args.buckets.now) lists at
-      (fine_as now first.0 own RELATIONS_OF_WAYS RELATIONS_OF_NODES (listed_by (listed kinds.Way) old) (listed_by (listed kinds.Way) new) first.2
+      (fine_as now first.0 own RELATIONS_OF_WAYS RELATIONS_OF_NODES (listed_by (listed kinds.Way) old)
+      (listed_by (listed kinds.Way) new) first.2
       (apart RELATIONS_OF_WAYS RELATIONS_OF_NODES refl))
       (subst (λ (p : Visit → ℕ). StopsAt (IsFine first.0 own) p lists at) pages stops))))
       (c.relist_members-in-Relation.ensures.touches.stops rest first.0 first.1);
@@ -126,21 +134,28 @@ pub returns-in-Way-clause-within : goal.returns-in-Way-clause-within
 returns-in-Way-clause-within g c may olds news only =
     let is : c.args.key.kind ≡ kinds.Way = subst (λ (own : KeyOf). own.kind ≡ kinds.Way) c.key.view_is (cc (c.in-Way.is)) in
     let of : Option Object → Kind → Type 0 = λ form kind. MayEach may WAYS_OF_BLOCKS (ids_for kinds.Way blocks_in kind form) in
-    c.relist_blocks.ensures.within may (subst (of c.args.old.now) is olds.ways_of_blocks) (subst (of c.args.new.now) is news.ways_of_blocks) only
+    c.relist_blocks.ensures.within may (subst (of c.args.old.now) is olds.ways_of_blocks)
+    (subst (of c.args.new.now) is news.ways_of_blocks) only
 
 pub returns-in-Err-clause-within : goal.returns-in-Err-clause-within
 returns-in-Err-clause-within g c may olds news only =
     let is : c.args.key.kind ≡ kinds.Relation = subst (λ (own : KeyOf). own.kind ≡ kinds.Relation) c.key.view_is (cc (c.in-Relation.is)) in
-    let of : Option Object → Kind → Type 0 = λ form kind. MayEach may RELATIONS_OF_NODES (ids_for kinds.Relation (listed kinds.Node) kind form) in
-    c.in-Err.ensures.within may (subst (of c.args.old.now) is olds.relations_of_nodes) (subst (of c.args.new.now) is news.relations_of_nodes) only
+    let of : Option Object → Kind → Type 0 =
+    λ form kind. MayEach may RELATIONS_OF_NODES (ids_for kinds.Relation (listed kinds.Node) kind form) in
+    c.in-Err.ensures.within may (subst (of c.args.old.now) is olds.relations_of_nodes)
+    (subst (of c.args.new.now) is news.relations_of_nodes) only
 
 pub returns-in_default-clause-within : goal.returns-in_default-clause-within
 returns-in_default-clause-within g c may olds news only =
     let is : c.args.key.kind ≡ kinds.Relation = subst (λ (own : KeyOf). own.kind ≡ kinds.Relation) c.key.view_is (cc (c.in-Relation.is)) in
-    let nodes : Option Object → Kind → Type 0 = λ form kind. MayEach may RELATIONS_OF_NODES (ids_for kinds.Relation (listed kinds.Node) kind form) in
-    let ways : Option Object → Kind → Type 0 = λ form kind. MayEach may RELATIONS_OF_WAYS (ids_for kinds.Relation (listed kinds.Way) kind form) in
-    c.relist_members-in-Relation.ensures.within may (subst (ways c.args.old.now) is olds.relations_of_ways) (subst (ways c.args.new.now) is news.relations_of_ways)
-    (c.in_default.ensures.within may (subst (nodes c.args.old.now) is olds.relations_of_nodes) (subst (nodes c.args.new.now) is news.relations_of_nodes) only)
+    let nodes : Option Object → Kind → Type 0 =
+    λ form kind. MayEach may RELATIONS_OF_NODES (ids_for kinds.Relation (listed kinds.Node) kind form) in
+    let ways : Option Object → Kind → Type 0 =
+    λ form kind. MayEach may RELATIONS_OF_WAYS (ids_for kinds.Relation (listed kinds.Way) kind form) in
+    c.relist_members-in-Relation.ensures.within may (subst (ways c.args.old.now) is olds.relations_of_ways)
+    (subst (ways c.args.new.now) is news.relations_of_ways)
+    (c.in_default.ensures.within may (subst (nodes c.args.old.now) is olds.relations_of_nodes)
+    (subst (nodes c.args.new.now) is news.relations_of_nodes) only)
 
 pub returns-in-Node-clause-touches : goal.returns-in-Node-clause-touches
 returns-in-Node-clause-touches g c = record {

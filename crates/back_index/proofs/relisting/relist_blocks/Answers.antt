@@ -18,8 +18,13 @@ returns-clause-turns g c =
     let old = listed_by blocks_in c.args.old.now in
     let new = listed_by blocks_in c.args.new.now in
     on_ok (Unit {0}) _ _ c.relist_map.result
-    (λ turns rest now owns. let was = turns rest now owns in
-    (was.0, was.1, was.2, turns_same olds news old new c.in-Ok.ensures.same c.in-Ok-rising_blocks.ensures.same c.args.own (now.maps which) (was.0.maps which) was.3))
+    (λ turns rest now owns. let was = turns rest now owns in (
+      was.0,
+      was.1,
+      was.2,
+      turns_same olds news old new c.in-Ok.ensures.same c.in-Ok-rising_blocks.ensures.same c.args.own (now.maps which)
+          (was.0.maps which) was.3,
+    ))
     c.relist_map.ensures.turns
 
 pub returns-clause-touches : goal.returns-clause-touches
@@ -35,7 +40,8 @@ returns-clause-touches g c = record {
       let fine = IsFine now c.args.own in
       let page = page_at c.args.buckets.now in
       refuses_result (Unit {0}) (StopsAt fine page (visits which olds news)) (StopsAt fine page (visits which old new)) c.relist_map.result
-      (λ at stops. subst (λ (l : List Visit). StopsAt fine page l at) (visits_same olds news old new c.in-Ok.ensures.same c.in-Ok-rising_blocks.ensures.same which) stops)
+      (λ at stops. subst (λ (l : List Visit). StopsAt fine page l at)
+      (visits_same olds news old new c.in-Ok.ensures.same c.in-Ok-rising_blocks.ensures.same which) stops)
       (c.relist_map.ensures.touches.stops rest now owns);
 }
 

@@ -17,10 +17,12 @@ returns-in-Ok-clause-turns g c =
     let new = c.args.new.now in
     let ids = c.as_slice.result.now in
     let all : ids ≡ in_order (old ++ new) = c.as_slice.ensures.ids ∙ c.in-Ok.ensures.both in
-    let same : (id : ℕ) → has (old ++ new) id ≡ has ids id = λ id. sym (has-in_order (old ++ new) id) ∙ ap (λ (l : List ℕ). has l id) (sym all) in
+    let same : (id : ℕ) → has (old ++ new) id ≡ has ids id =
+    λ id. sym (has-in_order (old ++ new) id) ∙ ap (λ (l : List ℕ). has l id) (sym all) in
     on_ok (Unit {0}) _ _ c.turn_all.result
     (λ turns rest now owns. let was = turns rest now owns in
-    (was.0, was.1, was.2, turns_done c.args.own old new ids (old ++ new) (now.maps which) (was.0.maps which) same was.3)) c.turn_all.ensures.turns
+    (was.0, was.1, was.2, turns_done c.args.own old new ids (old ++ new) (now.maps which) (was.0.maps which) same was.3))
+    c.turn_all.ensures.turns
 
 pub returns-in-Ok-clause-touches : goal.returns-in-Ok-clause-touches
 returns-in-Ok-clause-touches g c = record {
@@ -34,8 +36,10 @@ returns-in-Ok-clause-touches g c = record {
       let all : ids ≡ in_order (old ++ new) = c.as_slice.ensures.ids ∙ c.in-Ok.ensures.both in
       let fine = IsFine now c.args.own in
       let page = page_at c.args.buckets.now in
-      refuses_result (Unit {0}) (StopsAt fine page (map (visit_of which old new) ids)) (StopsAt fine page (visits which old new)) c.turn_all.result
-      (λ at stops. subst (λ (l : List ℕ). StopsAt fine page (map (visit_of which old new) l) at) all stops) (c.turn_all.ensures.touches.stops rest now owns);
+      refuses_result (Unit {0}) (StopsAt fine page (map (visit_of which old new) ids))
+      (StopsAt fine page (visits which old new)) c.turn_all.result
+      (λ at stops. subst (λ (l : List ℕ). StopsAt fine page (map (visit_of which old new) l) at) all stops)
+      (c.turn_all.ensures.touches.stops rest now owns);
 }
 
 pub returns-in-Ok-clause-within : goal.returns-in-Ok-clause-within

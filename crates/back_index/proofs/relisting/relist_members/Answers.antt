@@ -18,8 +18,13 @@ returns-clause-turns g c =
     let old = listed_by (listed c.args.kind) c.args.old.now in
     let new = listed_by (listed c.args.kind) c.args.new.now in
     on_ok (Unit {0}) _ _ c.relist_map.result
-    (λ turns rest now owns. let was = turns rest now owns in
-    (was.0, was.1, was.2, turns_same olds news old new c.in-Ok.ensures.same c.in-Ok-rising_listed.ensures.same c.args.own (now.maps which) (was.0.maps which) was.3))
+    (λ turns rest now owns. let was = turns rest now owns in (
+      was.0,
+      was.1,
+      was.2,
+      turns_same olds news old new c.in-Ok.ensures.same c.in-Ok-rising_listed.ensures.same c.args.own (now.maps which)
+          (was.0.maps which) was.3,
+    ))
     c.relist_map.ensures.turns
 
 pub returns-clause-touches : goal.returns-clause-touches
@@ -35,15 +40,18 @@ returns-clause-touches g c = record {
       let fine = IsFine now c.args.own in
       let page = page_at c.args.buckets.now in
       refuses_result (Unit {0}) (StopsAt fine page (visits which olds news)) (StopsAt fine page (visits which old new)) c.relist_map.result
-      (λ at stops. subst (λ (l : List Visit). StopsAt fine page l at) (visits_same olds news old new c.in-Ok.ensures.same c.in-Ok-rising_listed.ensures.same which) stops)
+      (λ at stops. subst (λ (l : List Visit). StopsAt fine page l at)
+      (visits_same olds news old new c.in-Ok.ensures.same c.in-Ok-rising_listed.ensures.same which) stops)
       (c.relist_map.ensures.touches.stops rest now owns);
 }
 
 pub returns-clause-within : goal.returns-clause-within
 returns-clause-within g c may olds news only =
     let allowed : ℕ → Type 0 = λ id. may c.args.which id ≡ true in
-    c.relist_map.ensures.within may (all_among allowed c.in-Ok.ids (listed_by (listed c.args.kind) c.args.old.now) c.in-Ok.ensures.same olds)
-    (all_among allowed c.in-Ok-rising_listed.ids (listed_by (listed c.args.kind) c.args.new.now) c.in-Ok-rising_listed.ensures.same news) only
+    c.relist_map.ensures.within may (all_among allowed c.in-Ok.ids
+    (listed_by (listed c.args.kind) c.args.old.now) c.in-Ok.ensures.same olds)
+    (all_among allowed c.in-Ok-rising_listed.ids (listed_by (listed c.args.kind) c.args.new.now) c.in-Ok-rising_listed.ensures.same news)
+    only
 
 pub returns-in-Err-clause-within : goal.returns-in-Err-clause-within
 returns-in-Err-clause-within g c may olds news only =

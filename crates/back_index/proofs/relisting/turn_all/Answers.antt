@@ -23,7 +23,12 @@ loop-id-init g c = record {
   answers = answers_none {T = Unit {0}} c.args.buckets.now tt c.requires.going;
   reads = reads_none c.args.buckets.now;
   within = λ may all only. only;
-  turns = λ rest now owns. (now, owns, only_none c.args.which now, turns_none c.args.own c.args.old.now c.args.new.now (now.maps c.args.which));
+  turns = λ rest now owns. (
+    now,
+    owns,
+    only_none c.args.which now,
+    turns_none c.args.own c.args.old.now c.args.new.now (now.maps c.args.which),
+  );
   fine = λ rest now owns. tt;
 }
 
@@ -44,11 +49,14 @@ loop-id-preserved g c =
     let inv = c.loop-id.invariant in
     let did = c.in_default.ensures in
     let can_of : (rest now : Image) (owns : Has rest now c.args.buckets.now) → CanTurn (has old id) own
-    (finite.get ((inv.turns rest now owns).0.maps which) id) (did.turns rest (inv.turns rest now owns).0 (inv.turns rest now owns).1).2 = λ rest now owns.
-    subst (λ (b : Bool). CanTurn b own (finite.get ((inv.turns rest now owns).0.maps which) id) (did.turns rest (inv.turns rest now owns).0 (inv.turns rest now owns).1).2)
+    (finite.get ((inv.turns rest now owns).0.maps which) id) (did.turns rest (inv.turns rest now owns).0 (inv.turns rest now owns).1).2 =
+    λ rest now owns.
+    subst (λ (b : Bool). CanTurn b own (finite.get ((inv.turns rest now owns).0.maps which) id)
+    (did.turns rest (inv.turns rest now owns).0 (inv.turns rest now owns).1).2)
     c.contains.ensures.value (did.turns rest (inv.turns rest now owns).0 (inv.turns rest now owns).1).3 in
     let sets_of : (rest now : Image) (owns : Has rest now c.args.buckets.now)
-    → Sets which id (kept_list (turned (has old id) (has new id) own (did.turns rest (inv.turns rest now owns).0 (inv.turns rest now owns).1).2))
+    → Sets which id (kept_list (turned (has old id) (has new id) own
+    (did.turns rest (inv.turns rest now owns).0 (inv.turns rest now owns).1).2))
     (inv.turns rest now owns).0 (did.turns rest (inv.turns rest now owns).0 (inv.turns rest now owns).1).0 = λ rest now owns.
     let turns = did.turns rest (inv.turns rest now owns).0 (inv.turns rest now owns).1 in
     subst (λ (v : Option (List ℕ)). Sets which id v (inv.turns rest now owns).0 turns.0)
@@ -66,14 +74,16 @@ loop-id-preserved g c =
             turns.1,
             only_then which now was.0 turns.0 was.2 turns.4.only,
             subst (λ (l : List ℕ). TurnsAt own old new l (now.maps which) (turns.0.maps which)) (sym more)
-                (turns_more own which old new (take k ids) now was.0 turns.0 id turns.2 fresh was.3 (can_of rest now owns) (sets_of rest now owns)),
+                (turns_more own which old new (take k ids) now was.0 turns.0 id turns.2 fresh was.3 (can_of rest now owns)
+                (sets_of rest now owns)),
           );
       fine = λ rest now owns.
           let was = inv.turns rest now owns in
           let turns = did.turns rest was.0 was.1 in
           subst (λ (l : List ℕ). AllByRecursion (IsFine now own) (map (visit_of which old new) l)) (sym more)
           (all_more (IsFine now own) (visit_of which old new) (take k ids) id (inv.fine rest now owns)
-          (fine_more own which old new (take k ids) now was.0 turns.0 id turns.2 fresh was.3 (can_of rest now owns) (sets_of rest now owns)));
+          (fine_more own which old new (take k ids) now was.0 turns.0 id turns.2 fresh was.3 (can_of rest now owns)
+          (sets_of rest now owns)));
     }
 
 pub returns-in-Err-clause-touches : goal.returns-in-Err-clause-touches
@@ -100,8 +110,10 @@ returns-in-Err-clause-touches g c = record {
       ) in
       refuses_more (λ at. (¬ IsFine was.0 own visit) × (at ≡ page_at c.loop-id.buckets visit))
       (StopsAt (IsFine now own) (page_at c.args.buckets.now) (map (visit_of which old new) ids))
-      (λ at bad. stops_there (IsFine now own) (page_at c.args.buckets.now) (visit_of which old new) ids k id at within (get_or_default ids k 0 id within)
-      (inv.fine rest now owns) (λ fine. bad.0 (still fine)) (bad.1 ∙ page_same c.args.buckets.now c.loop-id.buckets which id inv.answers.stays))
+      (λ at bad. stops_there (IsFine now own) (page_at c.args.buckets.now) (visit_of which old new) ids k id at within
+      (get_or_default ids k 0 id within)
+      (inv.fine rest now owns) (λ fine. bad.0 (still fine))
+      (bad.1 ∙ page_same c.args.buckets.now c.loop-id.buckets which id inv.answers.stays))
       c.in-Err.fault (c.in-Err.ensures.touches.stops rest was.0 was.1);
 }
 
@@ -117,4 +129,5 @@ returns-clause-turns g c rest now owns =
 
 pub returns-in-Err-clause-within : goal.returns-in-Err-clause-within
 returns-in-Err-clause-within g c may all only =
-    c.in-Err.ensures.within may (at_place (λ (id : ℕ). may c.args.which id ≡ true) c.args.ids.now c.loop-id.id-index 0 c.loop-id-test.true all) (c.loop-id.invariant.within may all only)
+    c.in-Err.ensures.within may (at_place (λ (id : ℕ). may c.args.which id ≡ true) c.args.ids.now c.loop-id.id-index 0 c.loop-id-test.true
+    all) (c.loop-id.invariant.within may all only)

@@ -20,5 +20,6 @@ invariant-loop-id g l = record {
   within : (may : May) → MayEach may l.which l.ids → HasReadOnly may l.initial.buckets → HasReadOnly may l.buckets;
   turns : (rest now : Image) → Has rest now l.initial.buckets → (after : Image) × Has rest after l.buckets × OnlyMap l.which now after
       × TurnsAt l.own l.old l.new (take l.id-index l.ids) (now.maps l.which) (after.maps l.which);
-  fine : (rest now : Image) → Has rest now l.initial.buckets → AllByRecursion (IsFine now l.own) (map (visit_of l.which l.old l.new) (take l.id-index l.ids));
+  fine : (rest now : Image) → Has rest now l.initial.buckets
+      → AllByRecursion (IsFine now l.own) (map (visit_of l.which l.old l.new) (take l.id-index l.ids));
 }

@@ -37,13 +37,16 @@ returns-then-not-contains-clause-touches g c = record {
       let own = c.args.own in
       let found = finite.get (now.maps which) id in
       let bad : ℕ → Type 0 = λ at. (¬ IsFine now own c.args.visit) × (at ≡ page_at old c.args.visit) in
-      let listed : c.from_vec-ids.result ≡ c.in-Ok.ids = same_rising c.from_vec-ids.result c.in-Ok.ids c.from_vec-ids.ensures.rise c.in-Ok.ensures.rising.0
+      let listed : c.from_vec-ids.result ≡ c.in-Ok.ids =
+      same_rising c.from_vec-ids.result c.in-Ok.ids c.from_vec-ids.ensures.rise c.in-Ok.ensures.rising.0
       (λ x. c.from_vec-ids.ensures.same x ∙ ap (λ (l : List ℕ). has l x) c.into_vec.ensures.items) in
-      let lacks : has c.in-Ok.ids own ≡ false = ap (λ (l : List ℕ). has l own) (sym listed) ∙ sym c.contains.ensures.value ∙ c.if-not-contains.true in
+      let lacks : has c.in-Ok.ids own ≡ false =
+      ap (λ (l : List ℕ). has l own) (sym listed) ∙ sym c.contains.ensures.value ∙ c.if-not-contains.true in
       let not_fine : ¬ IsFine now own c.args.visit = λ fine.
       let same = reads_same found fine.0 c.in-Ok.ids fine.1.reads (c.in-Ok.ensures.ids rest now owns) in
       true_not (has c.in-Ok.ids own) (ap (λ (l : List ℕ). has l own) (sym same) ∙ fine.1.there c.if-visit.true) lacks in
-      subst (Refuses bad) (sym c.refused.ensures.fault) (not_fine, c.page_of-page.ensures ∙ page_same old c.listers.new.buckets which id c.in-Ok.ensures.touches.answers.stays);
+      subst (Refuses bad) (sym c.refused.ensures.fault)
+      (not_fine, c.page_of-page.ensures ∙ page_same old c.listers.new.buckets which id c.in-Ok.ensures.touches.answers.stays);
 }
 
 pub returns-then-visit-2-clause-turns : goal.returns-then-visit-2-clause-turns
@@ -52,7 +55,8 @@ returns-then-visit-2-clause-turns g c rest now owns =
     let which = c.args.visit.which in
     let id = c.args.visit.id in
     let found = finite.get (now.maps which) id in
-    let listed : c.from_vec-ids.result ≡ c.in-Ok.ids = same_rising c.from_vec-ids.result c.in-Ok.ids c.from_vec-ids.ensures.rise c.in-Ok.ensures.rising.0
+    let listed : c.from_vec-ids.result ≡ c.in-Ok.ids =
+    same_rising c.from_vec-ids.result c.in-Ok.ids c.from_vec-ids.ensures.rise c.in-Ok.ensures.rising.0
     (λ x. c.from_vec-ids.ensures.same x ∙ ap (λ (l : List ℕ). has l x) c.into_vec.ensures.items) in
     let there : c.args.visit.was ≡ true → has c.in-Ok.ids own ≡ true = elim c.else-visit.branch [
       | else-visit-via-then-visit+else-not-contains w ↦ λ was.
@@ -76,7 +80,8 @@ returns-clause-turns g c =
     let id = c.args.visit.id in
     let was = c.args.visit.was in
     let is = c.args.visit.is in
-    let listed : c.from_vec-ids.result ≡ c.in-Ok.ids = same_rising c.from_vec-ids.result c.in-Ok.ids c.from_vec-ids.ensures.rise c.in-Ok.ensures.rising.0
+    let listed : c.from_vec-ids.result ≡ c.in-Ok.ids =
+    same_rising c.from_vec-ids.result c.in-Ok.ids c.from_vec-ids.ensures.rise c.in-Ok.ensures.rising.0
     (λ x. c.from_vec-ids.ensures.same x ∙ ap (λ (l : List ℕ). has l x) c.into_vec.ensures.items) in
     let there : was ≡ true → has c.in-Ok.ids own ≡ true = elim c.else-visit.branch [
       | else-visit-via-then-visit+else-not-contains w ↦ λ was.
@@ -85,7 +90,8 @@ returns-clause-turns g c =
     ] in
     let apart : was ≢ is = beq_apart was is c.if-visit-2.false in
     let now_ids : c.as_slice.result.now ≡ turned was is own c.in-Ok.ids
-    = c.as_slice.ensures.ids ∙ c.in_default.ensures.turned ∙ turned_one was is own c.from_vec-ids.result apart ∙ ap (turned was is own) listed in
+    = c.as_slice.ensures.ids ∙ c.in_default.ensures.turned ∙ turned_one was is own c.from_vec-ids.result apart
+    ∙ ap (turned was is own) listed in
     on_ok (Unit {0}) _ _ c.keep_list.result
     (λ keeps rest now owns. (
       with_value which id (kept_list c.as_slice.result.now) now,
@@ -100,9 +106,11 @@ pub returns-clause-touches : goal.returns-clause-touches
 returns-clause-touches g c = record {
   answers = search rules;
   reads =
-      reads_then c.args.buckets.now c.listers.new.buckets c.keep_list.new.buckets c.keep_list.result c.in-Ok.ensures.touches.reads c.keep_list.ensures.touches.reads;
+      reads_then c.args.buckets.now c.listers.new.buckets c.keep_list.new.buckets c.keep_list.result c.in-Ok.ensures.touches.reads
+      c.keep_list.ensures.touches.reads;
   stops = λ rest now owns.
-      refuses_result (Unit {0}) (λ at. ⊥) (λ at. (¬ IsFine now c.args.own c.args.visit) × (at ≡ page_at c.args.buckets.now c.args.visit)) c.keep_list.result
+      refuses_result (Unit {0}) (λ at. ⊥) (λ at. (¬ IsFine now c.args.own c.args.visit) × (at ≡ page_at c.args.buckets.now c.args.visit))
+      c.keep_list.result
       (λ at none. absurd none) (c.keep_list.ensures.touches.stops rest now (c.in-Ok.ensures.has refl rest now owns));
 }
 

@@ -6,7 +6,8 @@ use Rattle.bucket_records.proofs.bucket.recorded.Goals as goal
 pub returns-then-place-len : goal.returns-then-place-len
 returns-then-place-len c =
     get-map_of c.args.records.now c.args.key c.len.ensures.rise
-    ∙ place_past c.args.records.now c.args.key c.seek-place.result.0 c.seek-place.ensures.place (omega (arith, c.if-place-len.true, c.len.ensures.len))
+    ∙ place_past c.args.records.now c.args.key c.seek-place.result.0 c.seek-place.ensures.place
+    (omega (arith, c.if-place-len.true, c.len.ensures.len))
 
 pub returns-then-own-key : goal.returns-then-own-key
 returns-then-own-key c =

@@ -12,7 +12,8 @@ loop-rest-init c =
 
 pub returns-in_default-clause-refused : goal.returns-in_default-clause-refused
 returns-in_default-clause-refused c =
-    refused_recordless c.args.buckets c.args.bucket c.args.bytes.now c.loop-rest.rest.now c.loop-rest.least c.loop-rest.count c.loop-rest.last
+    refused_recordless c.args.buckets c.args.bucket c.args.bytes.now c.loop-rest.rest.now c.loop-rest.least c.loop-rest.count
+    c.loop-rest.last
     c.loop-rest.marks.items c.loop-rest.invariant.0
     (λ none. absurd (let yes = eq-eqb (length c.loop-rest.rest.now) 0 (ap (λ (l : List ℕ). length l) none) in
     cc (yes, c.is_empty.ensures, c.loop-rest-test.true))) (c.in_default.ensures.none refl)
@@ -37,7 +38,8 @@ loop-rest-smaller c =
 pub loop-rest-preserved : goal.loop-rest-preserved
 loop-rest-preserved c =
     let fits = c.fits.ensures.0 c.if-not-fits.false in
-    let more = found_more c.args.buckets c.args.bucket c.args.bytes.now c.loop-rest.rest.now c.loop-rest.least c.loop-rest.count c.loop-rest.last
+    let more = found_more c.args.buckets c.args.bucket c.args.bytes.now c.loop-rest.rest.now c.loop-rest.least c.loop-rest.count
+    c.loop-rest.last
     c.loop-rest.marks.items c.in-Some.key
     c.in-Some.field-0-1.now c.in-Some.behind.now c.mark.new.marks.items (length c.args.bytes.now - length c.loop-rest.rest.now)
     c.loop-rest.invariant.0 c.in-Some.ensures.found fits.0 fits.1 refl c.in-Ok.ensures.ok in (

@@ -8,7 +8,8 @@ use Rattle.bucket_records.proofs.listing.known_records.Goals as goal
 
 pub unreachable-requires : goal.unreachable-requires
 unreachable-requires c =
-    subst (λ fault. NeedsFor (IsNoBucket 1 0 c.args.bytes.items) fault) c.in-Err-NotSpelled.field-0-is c.in-Err-NotSpelled.ensures.refused c.requires.0
+    subst (λ fault. NeedsFor (IsNoBucket 1 0 c.args.bytes.items) fault) c.in-Err-NotSpelled.field-0-is c.in-Err-NotSpelled.ensures.refused
+    c.requires.0
     (record { rise = c.requires.1; own = one_bucket 0 c.requires.0 c.requires.1; bytes_are = c.requires.2 })
 
 pub returns-in-Ok : goal.returns-in-Ok

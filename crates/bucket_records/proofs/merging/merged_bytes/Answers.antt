@@ -33,7 +33,8 @@ loop-key-preserved c =
       can = tt;
       finite = tt;
       within = added.within;
-      written = subst (λ (n : ℕ). c.put_change.new.out.items ++ records_bytes (merged (drop c.in_ok-at.at c.args.records.now) (drop n entries))
+      written = subst (λ (n : ℕ). c.put_change.new.out.items
+          ++ records_bytes (merged (drop c.in_ok-at.at c.args.records.now) (drop n entries))
           ≡ records_bytes (merged c.args.records.now entries)) (sym more)
           (merge_step c.args.records.now entries (length yielded) c.loop-key.at c.in_ok-at.at c.in-Some.key.now c.in-Some.change.now
           c.loop-key.out.items c.put_change.new.out.items (records_bytes (merged c.args.records.now entries)) turn.1 added.bytes added.next
@@ -57,7 +58,8 @@ returns c =
     let are = entries_merged records entries c.len.ensures.rise rise made in
     record {
       bytes = merge_end records entries (length c.loop-key.yielded) c.loop-key.at c.len.result c.loop-key.out.items
-          c.extend_from_slice.new.self.items c.between.result.now (records_bytes (merged records entries)) (omega (arith, end.1)) c.len.ensures.len
+          c.extend_from_slice.new.self.items c.between.result.now (records_bytes (merged records entries))
+          (omega (arith, end.1)) c.len.ensures.len
           c.in_ok-extend_from_slice.ensures.items c.between.ensures.bytes c.loop-key.invariant.written
           ∙ ap records_bytes (sym are);
       rise = subst (λ (l : List (ℕ × List ℕ)). AreRecords 0 l) (sym are) (merged_rise records entries c.len.ensures.rise rise made);

@@ -19,7 +19,8 @@ returns-in-Ok-clause-bytes c =
 pub returns-in-Ok-clause-are : goal.returns-in-Ok-clause-are
 returns-in-Ok-clause-are c =
     let own = c.in-Some.value in
-    let is : IsRecord (c.args.key, own.items) = subst (λ (l : List ℕ). IsRecord (c.args.key, l)) c.as_slice.ensures.value c.in-Ok.ensures.is in
+    let is : IsRecord (c.args.key, own.items) =
+    subst (λ (l : List ℕ). IsRecord (c.args.key, l)) c.as_slice.ensures.value c.in-Ok.ensures.is in
     subst (λ (o : Option (Vec ℕ Global)). AreRecords c.args.key (made c.args.key o)) (sym c.in-Some.is)
     (AreRecords-one c.args.key c.args.key own.items (omega arith) is)
 

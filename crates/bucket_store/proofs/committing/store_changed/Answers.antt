@@ -40,9 +40,11 @@ loop-n-preserved g c =
           (ap (λ (r : Root). r.buckets) (sym done.leaves.root))
           (buckets_less (bucket_count c.loop-n.chains) c.loop-n.cache c.pop.new.self c.in-Some.n c.in-Some.ensures.rest so-far.buckets);
       going = done.leaves.going;
-      written = λ n. after_same c.loop-n.cache c.pop.new.self (written_of c.loop-n.chains) (written_of c.store_bucket.new.chains) c.in-Some.n
+      written = λ n. after_same c.loop-n.cache c.pop.new.self (written_of c.loop-n.chains)
+          (written_of c.store_bucket.new.chains) c.in-Some.n
           c.in-Some.cached c.in-Some.ensures.there c.in-Some.ensures.rest done.written n ∙ so-far.written n;
-      rise = λ n own there changed. rise_less c.loop-n.cache c.pop.new.self c.in-Some.n c.in-Some.cached n own (AreRecords 0 (map.entries own.bucket.values))
+      rise = λ n own there changed. rise_less c.loop-n.cache c.pop.new.self c.in-Some.n c.in-Some.cached n own
+          (AreRecords 0 (map.entries own.bucket.values))
           c.in-Some.ensures.there c.in-Some.ensures.rest
           (λ same. subst (λ (it : Cached). AreRecords 0 (map.entries it.bucket.values)) same
           (done.rise (subst (λ (it : Cached). IsTrue it.changed) (sym same) changed)))
@@ -50,7 +52,8 @@ loop-n-preserved g c =
       opens = λ pages was had.
           let here = so-far.opens pages was had in (
             done.open pages here.0 (here.1 c.in-Some.n c.in-Some.cached c.in-Some.ensures.there),
-            origins_less pages c.loop-n.chains c.store_bucket.new.chains c.loop-n.cache c.pop.new.self c.in-Some.n c.in-Some.cached c.in-Some.ensures.rest
+            origins_less pages c.loop-n.chains c.store_bucket.new.chains c.loop-n.cache c.pop.new.self c.in-Some.n c.in-Some.cached
+                c.in-Some.ensures.rest
                 done.leaves.kept done.written here.1,
           );
       reads = λ all.
@@ -60,16 +63,19 @@ loop-n-preserved g c =
           let one = done.reads (subst (λ (l : Lists). IsSome (map.get l c.in-Some.n)) (sym so.0) here) in (
             one.0 ∙ so.0,
             all_less (read_of c.args.chains.now) c.loop-n.cache c.pop.new.self c.in-Some.n c.in-Some.ensures.rest so.1,
-            reads_then 0 0 (4096 * home_count (journal_of c.args.chains.now)) (disk_of c.args.chains.now).reads (disk_of c.loop-n.chains).reads
+            reads_then 0 0 (4096 * home_count (journal_of c.args.chains.now)) (disk_of c.args.chains.now).reads
+                (disk_of c.loop-n.chains).reads
                 (disk_of c.store_bucket.new.chains).reads so.2
-                (subst (λ (n : ℕ). ReadsAtMost 0 (4096 * n) (disk_of c.loop-n.chains) (disk_of c.store_bucket.new.chains)) so-far.looked.pages one.1),
+                (subst (λ (n : ℕ). ReadsAtMost 0 (4096 * n) (disk_of c.loop-n.chains) (disk_of c.store_bucket.new.chains))
+                so-far.looked.pages one.1),
           );
       kept = done.leaves.kept ∙ so-far.kept;
       root = done.leaves.root ∙ so-far.root;
       still = still_then (is_broken (journal_of c.args.chains.now)) (is_broken (journal_of c.loop-n.chains))
           (is_broken (journal_of c.store_bucket.new.chains)) so-far.still done.leaves.broken;
       later = omega (arith, so-far.later, done.leaves.cause.later);
-      looked = looked_then (journal_of c.args.chains.now) (journal_of c.loop-n.chains) (journal_of c.store_bucket.new.chains) so-far.looked done.leaves.looked;
+      looked = looked_then (journal_of c.args.chains.now) (journal_of c.loop-n.chains)
+          (journal_of c.store_bucket.new.chains) so-far.looked done.leaves.looked;
     }
 
 pub returns-clause-written : goal.returns-clause-written
@@ -78,7 +84,8 @@ returns-clause-written g c n =
 
 pub returns-clause-rise : goal.returns-clause-rise
 returns-clause-rise g c n own there changed =
-    rise_end c.loop-n.cache n own (AreRecords 0 (map.entries own.bucket.values)) (c.in_default.ensures.none refl) (c.loop-n.invariant.rise n own there changed)
+    rise_end c.loop-n.cache n own (AreRecords 0 (map.entries own.bucket.values)) (c.in_default.ensures.none refl)
+    (c.loop-n.invariant.rise n own there changed)
 
 pub returns-clause-reads : goal.returns-clause-reads
 returns-clause-reads g c all =
@@ -113,7 +120,8 @@ returns-in-Err-clause-leaves g c =
       root = done.root ∙ so-far.root;
       going = tt;
       alone = subst (λ (b : Bool). IsReadAnswer {T = Unit {0}} b (Err fault)) so-far.still done.alone;
-      looked = looked_then (journal_of c.args.chains.now) (journal_of c.loop-n.chains) (journal_of c.store_bucket.new.chains) so-far.looked done.looked;
+      looked = looked_then (journal_of c.args.chains.now) (journal_of c.loop-n.chains)
+          (journal_of c.store_bucket.new.chains) so-far.looked done.looked;
       broken = done.broken ∙ ap (λ (b : Bool). b || answers_disk_fault {T = Unit {0}} (Err fault)) so-far.still;
       cause = record {
         later = omega (arith, so-far.later, done.cause.later);

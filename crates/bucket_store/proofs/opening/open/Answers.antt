@@ -14,9 +14,11 @@ use Rattle.bucket_store.proofs.opening.open.Goals as goal
 pub returns-in-Err-clause-image : goal.returns-in-Err-clause-image
 returns-in-Err-clause-image g c = record {
   found = tt;
-  sound = λ bytes told image has. sound_open Opened c.in-Err.fault bytes has.state.pages has.state.home (c.in-Err.ensures.answers bytes told);
+  sound = λ bytes told image has. sound_open Opened c.in-Err.fault bytes has.state.pages has.state.home
+      (c.in-Err.ensures.answers bytes told);
   any_moment = λ bytes told meant.
-      goes_meant (g.D.Disk.view c.args.disk.now).crashes (g.D.Disk.view c.open.new.disk).crashes meant (c.open.ensures.any_moment bytes told);
+      goes_meant (g.D.Disk.view c.args.disk.now).crashes (g.D.Disk.view c.open.new.disk).crashes meant
+      (c.open.ensures.any_moment bytes told);
 }
 
 pub returns-in-Err-clause-leaves : goal.returns-in-Err-clause-leaves
@@ -50,7 +52,8 @@ returns-in-Ok-kept_on-clause-image g c =
           holds_found image bytes done.0 new has done.1 (rests_stays done.0 mid new done.3 c.kept_on.ensures.stays);
       sound = λ bytes told image has. tt;
       any_moment = λ bytes told meant.
-          goes_stays (MeansOne old) old mid new (goes_meant old mid.crashes meant (c.open.ensures.any_moment bytes told)) c.kept_on.ensures.stays;
+          goes_stays (MeansOne old) old mid new (goes_meant old mid.crashes meant (c.open.ensures.any_moment bytes told))
+          c.kept_on.ensures.stays;
     }
 
 pub returns-in-Ok-kept_on-clause-leaves : goal.returns-in-Ok-kept_on-clause-leaves
@@ -77,7 +80,8 @@ returns-in-Err-kept_on-clause-image g c =
           sound_kept image.root has.strings done.0 (image_state image bytes done.0 has done.1) Opened c.in-Err-kept_on.fault
           (c.in-Err-kept_on.ensures.answers done.0 done.3 done.2) c.in-Err-kept_on.ensures.alone;
       any_moment = λ bytes told meant.
-          goes_stays (MeansOne old) old mid new (goes_meant old mid.crashes meant (c.open.ensures.any_moment bytes told)) c.kept_on.ensures.stays;
+          goes_stays (MeansOne old) old mid new (goes_meant old mid.crashes meant (c.open.ensures.any_moment bytes told))
+          c.kept_on.ensures.stays;
     }
 
 pub returns-in-Err-kept_on-clause-leaves : goal.returns-in-Err-kept_on-clause-leaves

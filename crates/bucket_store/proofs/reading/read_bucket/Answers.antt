@@ -12,8 +12,10 @@ use Rattle.bucket_store.proofs.reading.read_bucket.Goals as goal
 pub returns-in-Ok-read-clause-own : goal.returns-in-Ok-read-clause-own
 returns-in-Ok-read-clause-own g c =
     keys_of_bucket (bucket_count c.args.chains.now) (bucket_in c.args.n) c.in-Ok.bytes c.in-Ok-read.bucket.values
-    (keys_given c.root-buckets.result.buckets (bucket_count c.args.chains.now) c.bucket_of.result (bucket_in c.args.n) c.into_vec.result.items c.in-Ok.bytes
-    c.in-Ok-read.bucket.values (ap (λ r. r.buckets) c.root-buckets.ensures) c.bucket_of.ensures c.into_vec.ensures.items c.in-Ok-read.ensures.map)
+    (keys_given c.root-buckets.result.buckets (bucket_count c.args.chains.now) c.bucket_of.result
+    (bucket_in c.args.n) c.into_vec.result.items c.in-Ok.bytes
+    c.in-Ok-read.bucket.values (ap (λ r. r.buckets) c.root-buckets.ensures) c.bucket_of.ensures c.into_vec.ensures.items
+    c.in-Ok-read.ensures.map)
 
 pub returns-in-Err-clause-leaves : goal.returns-in-Err-clause-leaves
 returns-in-Err-clause-leaves g c =

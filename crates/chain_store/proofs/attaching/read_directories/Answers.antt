@@ -1,4 +1,5 @@
-use Rattle.std.proofs.Common.{Bool, ◌||◌, ◌≡◌, ◌∷◌, [], ◌++◌, ◌+◌, ◌*◌, ◌<◌, ℕ, List, length, sym, ap, subst, ◌∙◌, arith, length-append, rules}
+use Rattle.std.proofs.Common.{Bool, ◌||◌, ◌≡◌, ◌∷◌, [], ◌++◌, ◌+◌, ◌*◌, ◌<◌, ℕ, List, length, sym, ap, subst, ◌∙◌, arith, length-append}
+use Rattle.std.proofs.Common.{rules}
 use Rattle.std.proofs.Math.Bool.{or-false}
 use Rattle.outside.specs.Disk.{ReadsAtMost}
 use Rattle.page_journal.specs.Answers.{is_disk_fault}
@@ -9,7 +10,8 @@ use Rattle.chain_store.specs.Answers.{HaveRead}
 use Rattle.chain_store.specs.Chain.{AreBehindRoot}
 use Rattle.chain_store.specs.Kept.{bytes_at, pages_at, page_total}
 use Rattle.chain_store.specs.declared.walking.Walked.{Walked}
-use Rattle.chain_store.proofs.Attached.{bad_directory, bytes_at-last, bytes_at-push, directory_read, more_of, page_total-push, pages_at-last, pages_at-push, read_more}
+use Rattle.chain_store.proofs.Attached.{bad_directory, bytes_at-last, bytes_at-push, directory_read, more_of, page_total-push}
+use Rattle.chain_store.proofs.Attached.{pages_at-last, pages_at-push, read_more}
 use Rattle.chain_store.proofs.Looks.{looked_then, rests_looked}
 use Rattle.chain_store.proofs.attaching.read_directories.Goals as goal
 
@@ -38,10 +40,12 @@ loop-m-preserved g c =
       many = ap (λ (ds : List Walked). length ds) pushed ∙ length-append old (here ∷ []) ∙ omega (arith, inv.many);
       long = subst (λ (ds : List Walked). (m : ℕ) → m < c.loop-m.m + 1 → length (bytes_at ds m) ≡ 8 * c.args.buckets) (sym pushed)
           (more_of (λ k l. length l ≡ 8 * c.args.buckets) bytes_at old (old ++ here ∷ []) c.loop-m.m here.bytes.items
-          (λ k below. bytes_at-push old here k (omega (arith, below, inv.many))) (bytes_at-last old here c.loop-m.m (sym inv.many)) inv.long ok.long);
+          (λ k below. bytes_at-push old here k (omega (arith, below, inv.many)))
+          (bytes_at-last old here c.loop-m.m (sym inv.many)) inv.long ok.long);
       inside = subst (λ (ds : List Walked). (m : ℕ) → m < c.loop-m.m + 1 → AreBehindRoot count (pages_at ds m)) (sym pushed)
           (more_of (λ k l. AreBehindRoot count l) pages_at old (old ++ here ∷ []) c.loop-m.m here.pages.items
-          (λ k below. pages_at-push old here k (omega (arith, below, inv.many))) (pages_at-last old here c.loop-m.m (sym inv.many)) inv.inside
+          (λ k below. pages_at-push old here k (omega (arith, below, inv.many)))
+          (pages_at-last old here c.loop-m.m (sym inv.many)) inv.inside
           (subst (λ (n : ℕ). AreBehindRoot n here.pages.items) inv.looked.pages ok.inside));
       looked = looked_then c.args.journal.now c.loop-m.journal c.read_directory.new.journal inv.looked ok.looks.looked;
       broken = ok.looks.broken ∙ or-false (is_broken c.loop-m.journal) ∙ inv.broken;
@@ -50,13 +54,15 @@ loop-m-preserved g c =
           (sym (ap (λ (ds : List Walked). page_total ds) pushed ∙ page_total-push old here))
           (reads_then (page_total old) (length here.pages.items) (4096 * count) (view_of c.args.journal.now).reads
           (view_of c.loop-m.journal).reads (view_of c.read_directory.new.journal).reads inv.reads
-          (subst (λ (n : ℕ). ReadsAtMost (length here.pages.items) (4096 * n) (view_of c.loop-m.journal) (view_of c.read_directory.new.journal)) inv.looked.pages ok.reads));
+          (subst (λ (n : ℕ). ReadsAtMost (length here.pages.items) (4096 * n) (view_of c.loop-m.journal)
+          (view_of c.read_directory.new.journal)) inv.looked.pages ok.reads));
       later = omega (arith, inv.later, ok.looks.cause.later);
     }
 
 pub returns-in-Err-clause-looks : goal.returns-in-Err-clause-looks
 returns-in-Err-clause-looks g c = record {
-  looked = looked_then c.args.journal.now c.loop-m.journal c.read_directory.new.journal c.loop-m.invariant.looked c.read_directory.ensures.looks.looked;
+  looked = looked_then c.args.journal.now c.loop-m.journal c.read_directory.new.journal c.loop-m.invariant.looked
+      c.read_directory.ensures.looks.looked;
   alone = search rules;
   broken = c.in-Err.ensures.looks.broken ∙ ap (λ (b : Bool). b || is_disk_fault c.in-Err.fault) c.loop-m.invariant.broken;
   cause = search rules;
@@ -64,7 +70,8 @@ returns-in-Err-clause-looks g c = record {
 
 pub returns-in_err-push-clause-looks : goal.returns-in_err-push-clause-looks
 returns-in_err-push-clause-looks g c = record {
-  looked = looked_then c.args.journal.now c.loop-m.journal c.read_directory.new.journal c.loop-m.invariant.looked c.read_directory.ensures.looks.looked;
+  looked = looked_then c.args.journal.now c.loop-m.journal c.read_directory.new.journal c.loop-m.invariant.looked
+      c.read_directory.ensures.looks.looked;
   alone = search rules;
   broken = search rules;
   cause = search rules;

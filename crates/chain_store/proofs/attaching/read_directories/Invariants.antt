@@ -16,6 +16,7 @@ invariant-loop-m g l = record {
   inside : (m : ℕ) → m < l.m → AreBehindRoot (home_count l.initial.journal) (pages_at l.directories.items m);
   looked : Looked l.initial.journal l.journal;
   broken : is_broken l.journal ≡ is_broken l.initial.journal;
-  reads : ReadsAtMost (page_total l.directories.items) (4096 * home_count l.initial.journal) (view_of l.initial.journal) (view_of l.journal);
+  reads : ReadsAtMost (page_total l.directories.items) (4096 * home_count l.initial.journal) (view_of l.initial.journal)
+      (view_of l.journal);
   later : (view_of l.initial.journal).faults ≤ (view_of l.journal).faults;
 }

@@ -17,7 +17,8 @@ returns-then-len-buckets-clause-answers g c = λ pages rests is.
       c.in-Ok.walked.bytes.items,
       record {
         ns = c.in-Ok.walked.pages.items;
-        has = subst (λ (first : ℕ). HasPages (page_in pages) (length pages + 1) (8 + c.args.m) first c.in-Ok.walked.pages.items) first_is walks.0;
+        has = subst (λ (first : ℕ). HasPages (page_in pages) (length pages + 1) (8 + c.args.m) first c.in-Ok.walked.pages.items) first_is
+            walks.0;
         held = walks.1;
       },
       λ same. c.if-len-buckets.true (let many : length c.in-Ok.walked.bytes.items ≡ 8 * number (page_in pages 1) 32 = same in

@@ -4,6 +4,7 @@ use Rattle.chain_store.proofs.gathering.directory_parts.Given as goal
 
 abbrev pub invariant-loop-directory : goal.invariant-loop-directory
 invariant-loop-directory l = record {
-  all : l.parts.items ++ base_parts l.same l.count l.number (drop l.directory-index l.directories) ≡ base_parts l.same l.count 8 l.directories;
+  all : l.parts.items ++ base_parts l.same l.count l.number (drop l.directory-index l.directories)
+      ≡ base_parts l.same l.count 8 l.directories;
   number : l.number ≡ 8 + l.directory-index;
 }

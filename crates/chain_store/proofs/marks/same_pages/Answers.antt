@@ -8,9 +8,12 @@ pub loop-preserved : goal.loop-preserved
 loop-preserved c =
     let many : ℕ = c.page_count-many.result in
     let left : many - c.loop.counter ≡ suc (many - (c.loop.counter + 1)) = omega (arith, c.loop-test.true) in
-    ap (λ (l : List ℕ). l ++ same_from (many - (c.loop.counter + 1)) c.cut.result.1.now c.cut-in-loop.result.1.now) c.in_ok-push.ensures.items
-    ∙ same-more c.loop.marks.items c.mark_of.result (many - (c.loop.counter + 1)) (many - c.loop.counter) c.loop.rest_before.now c.loop.rest.now
-    c.cut.result.0.now c.cut-in-loop.result.0.now c.cut.result.1.now c.cut-in-loop.result.1.now left c.cut.ensures.held c.cut-in-loop.ensures.held
+    ap (λ (l : List ℕ). l ++ same_from (many - (c.loop.counter + 1)) c.cut.result.1.now c.cut-in-loop.result.1.now)
+    c.in_ok-push.ensures.items
+    ∙ same-more c.loop.marks.items c.mark_of.result (many - (c.loop.counter + 1))
+    (many - c.loop.counter) c.loop.rest_before.now c.loop.rest.now
+    c.cut.result.0.now c.cut-in-loop.result.0.now c.cut.result.1.now c.cut-in-loop.result.1.now left c.cut.ensures.held
+    c.cut-in-loop.ensures.held
     c.cut.ensures.behind c.cut-in-loop.ensures.behind c.mark_of.ensures
     ∙ c.loop.invariant
 

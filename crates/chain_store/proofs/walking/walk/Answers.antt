@@ -1,4 +1,5 @@
-use Rattle.std.proofs.Common.{Bool, ◌||◌, ◌≡◌, ◌∷◌, [], ◌+◌, ◌*◌, ◌<◌, ◌≤◌, ◌++◌, ℕ, List, length, refl, sym, ap, subst, ◌∙◌, arith, length-append, rules}
+use Rattle.std.proofs.Common.{Bool, ◌||◌, ◌≡◌, ◌∷◌, [], ◌+◌, ◌*◌, ◌<◌, ◌≤◌, ◌++◌, ℕ, List, length, refl, sym, ap, subst, ◌∙◌, arith}
+use Rattle.std.proofs.Common.{length-append, rules}
 use Rattle.page_journal.specs.Pages.{number}
 use Rattle.std.proofs.Math.Bool.{or-false}
 use Rattle.std.proofs.lemmas.List.Elements.{All-push}
@@ -17,18 +18,21 @@ loop-at-preserved g c =
     let inv = c.loop-at.invariant in
     let may = c.if-not-may_follow.ensures.0 refl in
     let pushed : c.push.new.self.items ≡ c.loop-at.pages.items ++ c.loop-at.at ∷ [] = c.in_ok-push.ensures.items in
-    let many : length c.push.new.self.items ≡ length c.loop-at.pages.items + 1 = ap (λ (l : List ℕ). length l) pushed ∙ simp length-append in
+    let many : length c.push.new.self.items ≡ length c.loop-at.pages.items + 1 =
+    ap (λ (l : List ℕ). length l) pushed ∙ simp length-append in
     let inside : (2 ≤ c.loop-at.at) × (c.loop-at.at < home_count c.args.journal.now) = (may.0, omega (arith, may.1, inv.home)) in
     record {
       answers = λ pages rests.
           let so_far = inv.answers pages rests in
-          let here = c.in_default.ensures.answers pages (rests_looked pages c.args.journal.now c.loop-at.journal rests inv.looked) (omega (arith, may.0)) in
+          let here = c.in_default.ensures.answers pages (rests_looked pages c.args.journal.now c.loop-at.journal rests inv.looked)
+          (omega (arith, may.0)) in
           let good : IsGood (page_in pages) (length pages + 1) c.args.chain c.loop-at.at =
           record { above = may.0; below = omega (arith, inside.1, rests.1); link = here.1 } in
           let next : c.number_at-at.result ≡ next_of (page_in pages c.loop-at.at) =
           c.number_at-at.ensures ∙ ap (λ (l : List ℕ). number l 0) here.0 in (
             subst (λ (ns : List ℕ). Path (page_in pages) (length pages + 1) c.args.chain c.args.first ns c.number_at-at.result) (sym pushed)
-                (subst (λ (at : ℕ). Path (page_in pages) (length pages + 1) c.args.chain c.args.first (c.loop-at.pages.items ++ c.loop-at.at ∷ []) at) (sym next)
+                (subst (λ (at : ℕ). Path (page_in pages) (length pages + 1) c.args.chain c.args.first
+                (c.loop-at.pages.items ++ c.loop-at.at ∷ []) at) (sym next)
                 (path_push (page_in pages) (length pages + 1) c.args.chain c.args.first c.loop-at.pages.items c.loop-at.at so_far.0 good)),
             ap (λ (ns : List ℕ). data_in (page_in pages) ns) pushed
                 ∙ data_push (page_in pages) (length pages + 1) c.args.chain c.loop-at.pages.items c.loop-at.at
@@ -44,10 +48,12 @@ loop-at-preserved g c =
           (All-push (IsBehindRoot (home_count c.args.journal.now)) c.loop-at.pages.items c.loop-at.at inv.inside inside);
       looked = looked_then c.args.journal.now c.loop-at.journal c.look_at.new.journal inv.looked c.look_at.ensures.looks.looked;
       broken = c.in_default.ensures.looks.broken ∙ or-false (is_broken c.loop-at.journal) ∙ inv.broken;
-      reads = subst (λ (n : ℕ). ReadsAtMost n (4096 * home_count c.args.journal.now) (view_of c.args.journal.now) (view_of c.look_at.new.journal)) (sym many)
+      reads = subst (λ (n : ℕ). ReadsAtMost n (4096 * home_count c.args.journal.now) (view_of c.args.journal.now)
+          (view_of c.look_at.new.journal)) (sym many)
           (reads_then (length c.loop-at.pages.items) 1 (4096 * home_count c.args.journal.now) (view_of c.args.journal.now).reads
           (view_of c.loop-at.journal).reads (view_of c.look_at.new.journal).reads inv.reads
-          (subst (λ (n : ℕ). ReadsAtMost 1 (4096 * n) (view_of c.loop-at.journal) (view_of c.look_at.new.journal)) inv.looked.pages c.in_default.ensures.reads));
+          (subst (λ (n : ℕ). ReadsAtMost 1 (4096 * n) (view_of c.loop-at.journal) (view_of c.look_at.new.journal)) inv.looked.pages
+          c.in_default.ensures.reads));
       later = omega (arith, inv.later, c.in_default.ensures.looks.cause.later);
     }
 

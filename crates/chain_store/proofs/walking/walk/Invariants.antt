@@ -9,7 +9,8 @@ use Rattle.chain_store.proofs.walking.walk.Given as goal
 abbrev pub invariant-loop-at : goal.invariant-loop-at
 invariant-loop-at g l = record {
   answers : (pages : List (List ℕ)) → RestsWith pages l.initial.journal
-      → Path (page_in pages) (length pages + 1) l.chain l.fn.first l.pages.items l.at × (data_in (page_in pages) l.pages.items ≡ l.bytes.items);
+      → Path (page_in pages) (length pages + 1) l.chain l.fn.first l.pages.items l.at
+      × (data_in (page_in pages) l.pages.items ≡ l.bytes.items);
   home : l.home ≡ home_count l.initial.journal;
   some : 2 ≤ l.home;
   few : length l.pages.items ≤ l.home - 2;

@@ -11,7 +11,8 @@ returns-in_err-moved-clause-asked_some g c =
     on_err c.from_residual.result _ (
       [],
       λ index knows way there. absurd (false≢true there),
-      asks_first g.B.Back.asks c.args.back.now c.ways_due.new.back (of_nodes c.args.change.now) (of_members c.args.change.now ++ of_ways []) c.in_err-moved.ensures.asked_some,
+      asks_first g.B.Back.asks c.args.back.now c.ways_due.new.back (of_nodes c.args.change.now)
+          (of_members c.args.change.now ++ of_ways []) c.in_err-moved.ensures.asked_some,
     )
 
 pub returns-in_err-relations-clause-asked_some : goal.returns-in_err-relations-clause-asked_some
@@ -19,8 +20,10 @@ returns-in_err-relations-clause-asked_some g c =
     let change = c.args.change.now in
     on_err c.from_residual-in_err-relations.result _ (
       c.as_slice.result.now,
-      λ index knows way there. sym (c.in_ok-moved.ensures.due.due index knows way) ∙ subst (λ (own : List ℕ). has own way ≡ true) c.as_slice.ensures.items there,
-      asks_later g.B.Back.asks g.met.B.Back.asks_then c.args.back.now c.ways_due.new.back c.relations_due.new.back (of_nodes change) (of_members change ++ of_ways c.as_slice.result.now)
+      λ index knows way there. sym (c.in_ok-moved.ensures.due.due index knows way)
+          ∙ subst (λ (own : List ℕ). has own way ≡ true) c.as_slice.ensures.items there,
+      asks_later g.B.Back.asks g.met.B.Back.asks_then c.args.back.now c.ways_due.new.back c.relations_due.new.back (of_nodes change)
+          (of_members change ++ of_ways c.as_slice.result.now)
           c.in_ok-moved.ensures.asks.asked c.in_err-relations.ensures.asked_some,
     )
 
@@ -30,9 +33,11 @@ returns-in_err-nodes-clause-asked_some g c =
     let moved = c.as_slice.result.now in
     on_err c.from_residual-in_err-nodes.result _ (
       moved,
-      λ index knows way there. sym (c.in_ok-moved.ensures.due.due index knows way) ∙ subst (λ (own : List ℕ). has own way ≡ true) c.as_slice.ensures.items there,
+      λ index knows way there. sym (c.in_ok-moved.ensures.due.due index knows way)
+          ∙ subst (λ (own : List ℕ). has own way ≡ true) c.as_slice.ensures.items there,
       asks_whole g.B.Back.asks c.args.back.now c.relations_due.new.back (of_all change moved)
-          (g.met.B.Back.asks_then c.args.back.now c.ways_due.new.back c.relations_due.new.back (of_nodes change) (of_members change ++ of_ways moved) c.in_ok-moved.ensures.asks.asked c.in_ok-relations.ensures.asks.asked),
+          (g.met.B.Back.asks_then c.args.back.now c.ways_due.new.back c.relations_due.new.back (of_nodes change)
+          (of_members change ++ of_ways moved) c.in_ok-moved.ensures.asks.asked c.in_ok-relations.ensures.asks.asked),
     )
 
 pub returns-in_err-ways-clause-asked_some : goal.returns-in_err-ways-clause-asked_some
@@ -41,7 +46,9 @@ returns-in_err-ways-clause-asked_some g c =
     let moved = c.as_slice.result.now in
     on_err c.from_residual-in_err-ways.result _ (
       moved,
-      λ index knows way there. sym (c.in_ok-moved.ensures.due.due index knows way) ∙ subst (λ (own : List ℕ). has own way ≡ true) c.as_slice.ensures.items there,
+      λ index knows way there. sym (c.in_ok-moved.ensures.due.due index knows way)
+          ∙ subst (λ (own : List ℕ). has own way ≡ true) c.as_slice.ensures.items there,
       asks_whole g.B.Back.asks c.args.back.now c.relations_due.new.back (of_all change moved)
-          (g.met.B.Back.asks_then c.args.back.now c.ways_due.new.back c.relations_due.new.back (of_nodes change) (of_members change ++ of_ways moved) c.in_ok-moved.ensures.asks.asked c.in_ok-relations.ensures.asks.asked),
+          (g.met.B.Back.asks_then c.args.back.now c.ways_due.new.back c.relations_due.new.back (of_nodes change)
+          (of_members change ++ of_ways moved) c.in_ok-moved.ensures.asks.asked c.in_ok-relations.ensures.asks.asked),
     )

@@ -13,5 +13,6 @@ returns-clause-rising c =
       | else-reaches_nodes w ↦ rw w.nodes-is c.in_ok-nodes.ensures.ids
     ] in (
       subst IsRising (sym c.into_ids.ensures.ids) c.into_ids.ensures.rise,
-      same-ids c.if-reaches_nodes.nodes.items c.into_ids.result (λ id. ap (λ ids. has ids id) c.into_ids.ensures.ids ∙ c.from_vec.ensures.same id) all,
+      same-ids c.if-reaches_nodes.nodes.items c.into_ids.result
+          (λ id. ap (λ ids. has ids id) c.into_ids.ensures.ids ∙ c.from_vec.ensures.same id) all,
     )

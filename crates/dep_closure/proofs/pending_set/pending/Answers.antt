@@ -16,7 +16,8 @@ returns-clause-pending g c =
     let change = c.args.change.now in
     if_ok-then c.within.result c.within.ensures.few (λ kept is objects has_old knows.
     subst (λ (own : PendingOf). IsPendingOf c.args.style.now objects change own) (sym is.0)
-    (gathered-pending objects change c.args.style.now c.args.old.now c.in_ok-set.set c.entries-entries.ensures.rise has_old (c.in_ok-set.ensures.gathered (index_of (folded_all objects change)) knows)))
+    (gathered-pending objects change c.args.style.now c.args.old.now c.in_ok-set.set c.entries-entries.ensures.rise has_old
+    (c.in_ok-set.ensures.gathered (index_of (folded_all objects change)) knows)))
 
 pub returns-clause-others : goal.returns-clause-others
 returns-clause-others g c =
@@ -24,7 +25,8 @@ returns-clause-others g c =
     if_ok-then c.within.result c.within.ensures.few (λ kept is objects has_old knows.
     subst (λ (own : PendingOf). LeavesRows c.args.style.now objects change own) (sym is.0)
     (leaves-rows c.args.style.now objects change c.in_ok-set.set
-    (gathered-pending objects change c.args.style.now c.args.old.now c.in_ok-set.set c.entries-entries.ensures.rise has_old (c.in_ok-set.ensures.gathered (index_of (folded_all objects change)) knows))))
+    (gathered-pending objects change c.args.style.now c.args.old.now c.in_ok-set.set c.entries-entries.ensures.rise has_old
+    (c.in_ok-set.ensures.gathered (index_of (folded_all objects change)) knows))))
 
 pub returns-clause-asks : goal.returns-clause-asks
 returns-clause-asks g c =
@@ -33,7 +35,8 @@ returns-clause-asks g c =
     let bears = g.B.Back.bears c.gathered.new.back (g.B.Back.faults c.args.back.now) in
     let are_pending = ArePending (g.B.Back.knows c.args.back.now) c.args.style.now c.args.old.now change in
     let pending : are_pending c.in_ok-set.set = λ objects has_old knows.
-    gathered-pending objects change c.args.style.now c.args.old.now c.in_ok-set.set c.entries-entries.ensures.rise has_old (c.in_ok-set.ensures.gathered (index_of (folded_all objects change)) knows) in
+    gathered-pending objects change c.args.style.now c.args.old.now c.in_ok-set.set c.entries-entries.ensures.rise has_old
+    (c.in_ok-set.ensures.gathered (index_of (folded_all objects change)) knows) in
     record {
       only = record {
         index = c.in_ok-set.ensures.asks.only.index;
@@ -41,7 +44,8 @@ returns-clause-asks g c =
         unspent = search rules;
         faults = search rules;
         stopped = if_err-then c.within.result c.within.ensures.many (λ why is.
-            subst (λ own. Stops bears (AreTooMany limit are_pending) own) (sym is.0) (record { set = c.in_ok-set.set; pending = pending; number = refl; over = is.1 }));
+            subst (λ own. Stops bears (AreTooMany limit are_pending) own) (sym is.0)
+            (record { set = c.in_ok-set.set; pending = pending; number = refl; over = is.1 }));
       };
       asked = search rules;
     }

@@ -13,5 +13,6 @@ returns-in_err-add_way-clause-asked_some g c =
       of_ways (take at ways) ++ asked,
       of_ways (drop (suc at) ways),
       map-cut RelationsOfWay ways at 0 c.loop-way-test.true,
-      g.met.B.Back.asks_then c.args.back.now c.loop-way.back c.add_way.new.back (of_ways (take at ways)) asked c.loop-way.invariant.asks.asked c.add_way.ensures.asked,
+      g.met.B.Back.asks_then c.args.back.now c.loop-way.back c.add_way.new.back
+          (of_ways (take at ways)) asked c.loop-way.invariant.asks.asked c.add_way.ensures.asked,
     )

@@ -8,6 +8,7 @@ use Rattle.dep_closure.proofs.relations.add_along.Given as goal
 -- the relations that have one of the ways so far, by an index that stays
 abbrev pub invariant-loop-way : goal.invariant-loop-way
 invariant-loop-way g l = record {
-  due : AddsDue (g.B.Back.knows l.initial.back) (λ index. is_along index (take l.way-index l.ways)) l.initial.relations.items l.relations.items;
+  due : AddsDue (g.B.Back.knows l.initial.back)
+      (λ index. is_along index (take l.way-index l.ways)) l.initial.relations.items l.relations.items;
   asks : HasAsked g.B.Back (of_ways (take l.way-index l.ways)) l.initial.back l.back;
 }

@@ -11,6 +11,8 @@ returns-in_err-add_entry-clause-asked_some g c =
     on_err c.from_residual.result _ (
       of_members (take at entries) ++ of_member entry,
       of_members (drop (suc at) entries),
-      ap of_members (sym c.entries-entries.ensures.entries) ∙ flat_map-cut of_member entries at entry c.loop-entry-test.true c.entry-item.is,
-      g.met.B.Back.asks_then c.args.back.now c.loop-entry.back c.add_entry.new.back (of_members (take at entries)) (of_member entry) c.loop-entry.invariant.asks.asked c.add_entry.ensures.asked,
+      ap of_members (sym c.entries-entries.ensures.entries)
+          ∙ flat_map-cut of_member entries at entry c.loop-entry-test.true c.entry-item.is,
+      g.met.B.Back.asks_then c.args.back.now c.loop-entry.back c.add_entry.new.back (of_members (take at entries))
+          (of_member entry) c.loop-entry.invariant.asks.asked c.add_entry.ensures.asked,
     )

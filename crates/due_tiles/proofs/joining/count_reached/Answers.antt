@@ -9,5 +9,7 @@ pub returns-clause-behind : goal.returns-clause-behind
 returns-clause-behind c =
     let none : Run = record { zoom = 0; y = 0; first = 0; last = 0 } in
     let end = end_of c.args.run in
-    let point = IsPartitionPoint-from_clause (is_begun end) _ _ c.partition_point.ensures.partitioned (begun_first c.args.runs.now end c.requires.set) (λ a r q k. search rules) in
-    all_left (Follows c.args.run) c.args.runs.now c.partition_point.result none (λ k h i. behind_is end (get_or c.args.runs.now k none) (point.1 k none h i))
+    let point = IsPartitionPoint-from_clause (is_begun end) _ _ c.partition_point.ensures.partitioned
+    (begun_first c.args.runs.now end c.requires.set) (λ a r q k. search rules) in
+    all_left (Follows c.args.run) c.args.runs.now c.partition_point.result none
+    (λ k h i. behind_is end (get_or c.args.runs.now k none) (point.1 k none h i))

@@ -6,7 +6,8 @@ use Rattle.due_tiles.proofs.spelling.front_run.Goals as goal
 
 pub returns-in-Err-NotSpelled-clause-refused : goal.returns-in-Err-NotSpelled-clause-refused
 returns-in-Err-NotSpelled-clause-refused c =
-    run_frontless c.args.bytes.now (subst (NeedsFor (IsFrontless four_bytes IsFour c.args.bytes.now)) c.in-Err-NotSpelled.field-0-is c.in-Err-NotSpelled.ensures.refused)
+    run_frontless c.args.bytes.now (subst (NeedsFor (IsFrontless four_bytes IsFour c.args.bytes.now)) c.in-Err-NotSpelled.field-0-is
+    c.in-Err-NotSpelled.ensures.refused)
 
 pub returns-in-Some-clause-run : goal.returns-in-Some-clause-run
 returns-in-Some-clause-run c =

@@ -5,4 +5,7 @@ use Rattle.due_tiles.proofs.spelling.is_behind.Goals as goal
 pub returns : goal.returns
 returns c =
     let runs = c.args.runs.now in
-    record { behind = behind_is runs c.args.run (length runs - 1) (record { zoom = 0; y = 0; first = 0; last = 0 }) c.follows.result c.requires.set (omega arith) c.follows.ensures.follows }
+    record {
+      behind = behind_is runs c.args.run (length runs - 1)
+          (record { zoom = 0; y = 0; first = 0; last = 0 }) c.follows.result c.requires.set (omega arith) c.follows.ensures.follows;
+    }

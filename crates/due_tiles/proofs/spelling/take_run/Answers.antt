@@ -13,4 +13,5 @@ pub returns-then-not-is_behind-clause-refused : goal.returns-then-not-is_behind-
 returns-then-not-is_behind-clause-refused c =
     let found = c.in-Ok.found in
     not_behind c.args.set.now c.args.rest.now found.0 found.1.now c.in-Ok.ensures.run
-    (λ all. false≢true (c.if-not-is_behind.ensures.behind.1 (subst (λ (runs : List Run). AllByRecursion (λ before. Follows before found.0) runs) (sym c.as_slice.ensures.runs) all)))
+    (λ all. false≢true (c.if-not-is_behind.ensures.behind.1
+    (subst (λ (runs : List Run). AllByRecursion (λ before. Follows before found.0) runs) (sym c.as_slice.ensures.runs) all)))

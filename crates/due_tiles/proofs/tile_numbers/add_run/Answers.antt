@@ -7,4 +7,5 @@ pub add_row-requires-clause-row : goal.add_row-requires-clause-row
 add_row-requires-clause-row c =
     let run = c.args.run in
     let zoom = c.args.zoom in
-    subst (λ (side : ℕ). run.y / 2 ^ (run.zoom - zoom) < side) (sym c.side_of.ensures.power) (lifted_below run.zoom zoom run.y (omega arith) c.requires.run.row)
+    subst (λ (side : ℕ). run.y / 2 ^ (run.zoom - zoom) < side) (sym c.side_of.ensures.power)
+    (lifted_below run.zoom zoom run.y (omega arith) c.requires.run.row)

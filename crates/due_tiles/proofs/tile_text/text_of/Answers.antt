@@ -7,5 +7,6 @@ pub loop-zoom-preserved : goal.loop-zoom-preserved
 loop-zoom-preserved c =
     let runs = c.args.runs.now in
     let zoom = c.loop-zoom.zoom in
-    text_step c.loop-zoom.text.items (zoom_text runs zoom) (zooms_text runs (zoom + 1) (17 - (zoom + 1))) c.push_zoom.new.text.items (tile_text runs c.args.least) c.in_ok-push_zoom.ensures.ok
+    text_step c.loop-zoom.text.items (zoom_text runs zoom) (zooms_text runs (zoom + 1) (17 - (zoom + 1))) c.push_zoom.new.text.items
+    (tile_text runs c.args.least) c.in_ok-push_zoom.ensures.ok
     (ap (λ (lines : List ℕ). c.loop-zoom.text.items ++ lines) (sym (zooms-step runs zoom c.loop-zoom-test.true)) ∙ c.loop-zoom.invariant)

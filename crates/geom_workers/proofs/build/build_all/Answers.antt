@@ -21,4 +21,5 @@ returns-clause-rows g c =
 
 pub returns-clause-agreeing : goal.returns-clause-agreeing
 returns-clause-agreeing g c =
-    λ objects suffices. returns-clause-rows g c ∙ agree c.args.style.now (g.L.Lookup.known c.args.lookup.now) (keys_of c.args.pending.now) objects suffices
+    λ objects suffices. returns-clause-rows g c
+    ∙ agree c.args.style.now (g.L.Lookup.known c.args.lookup.now) (keys_of c.args.pending.now) objects suffices

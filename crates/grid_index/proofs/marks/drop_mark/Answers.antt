@@ -7,6 +7,7 @@ use Rattle.grid_index.proofs.marks.drop_mark.Goals as goal
 
 pub returns : goal.returns
 returns c = record {
-  others = subst (λ cmp. (other : Mark) → contains cmp c.remove.new.self other ≡ cond (is_at (cmp c.args.mark) other) false (contains cmp c.args.marks.now other)) tree_cmp-mark_cmp
+  others = subst (λ cmp. (other : Mark) → contains cmp c.remove.new.self other
+      ≡ cond (is_at (cmp c.args.mark) other) false (contains cmp c.args.marks.now other)) tree_cmp-mark_cmp
       c.remove.ensures.updates.0;
 }

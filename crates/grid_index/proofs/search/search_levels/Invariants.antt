@@ -7,5 +7,6 @@ use Rattle.grid_index.proofs.search.search_levels.Given as goal
 abbrev pub invariant-loop-level : goal.invariant-loop-level
 invariant-loop-level l =
     IsPart (wanted (passes l.search.exact l.search.asked) (boxes_in l.search.boxes.now) l.search.table) (boxes_in l.found)
-    × ((level : ℕ) → level < l.level → CoversLevel l.search.marks.now.keys l.search.table (wanted (passes l.search.exact l.search.asked) (boxes_in l.search.boxes.now) l.search.table)
+    × ((level : ℕ) → level < l.level → CoversLevel l.search.marks.now.keys l.search.table
+    (wanted (passes l.search.exact l.search.asked) (boxes_in l.search.boxes.now) l.search.table)
     (boxes_in l.found) level l.cells)

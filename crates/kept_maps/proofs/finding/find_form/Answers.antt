@@ -13,12 +13,18 @@ use Rattle.kept_maps.proofs.finding.find_form.Goals as goal
 pub returns-in-Node-clause-finds : goal.returns-in-Node-clause-finds
 returns-in-Node-clause-finds g c definitions = record {
   found = λ under maps had.
-      subst (λ (k : KeyOf). None ≡ form_in maps k.kind k.id) c.key.view_is (node_form maps c.key.inside.kind c.key.inside.id (cc (c.in-Node.is)));
+      subst (λ (k : KeyOf). None ≡ form_in maps k.kind k.id) c.key.view_is
+      (node_form maps c.key.inside.kind c.key.inside.id (cc (c.in-Node.is)));
   sound = λ under maps had. tt;
 }
 
 pub returns-in-Node-clause-asks : goal.returns-in-Node-clause-asks
-returns-in-Node-clause-asks g c = record { has = λ rest now has. has; within = λ may allowed only. only; touched = touched_none c.args.buckets.now None c.requires.live.going }
+returns-in-Node-clause-asks g c = record {
+  has = λ rest now has. has;
+  within = λ may allowed only. only;
+  touched =
+      touched_none c.args.buckets.now None c.requires.live.going;
+}
 
 pub get-requires-clause-kind : goal.get-requires-clause-kind
 get-requires-clause-kind g c = subst (λ (k : KeyOf). k.kind ≡ kinds.Node → ⊥) c.key.view_is c.in_default.not-Node
@@ -30,6 +36,10 @@ returns-in_default-clause-finds g c definitions =
 
 pub returns-in_default-clause-asks : goal.returns-in_default-clause-asks
 returns-in_default-clause-asks g c =
-    asks_key c.args.buckets.now c.get.new.buckets object_bytes (IsStored c.args.key.kind) (map_of c.args.key.kind) c.args.key.id c.get.result
+    asks_key c.args.buckets.now c.get.new.buckets object_bytes (IsStored c.args.key.kind)
+    (map_of c.args.key.kind) c.args.key.id c.get.result
     c.get.ensures.value c.get.ensures.touches (λ may. MayObject may c.args.key)
-    (λ may allowed only. within_touched may c.args.buckets.now c.get.new.buckets c.requires.live.going (map_of c.args.key.kind) c.args.key.id c.get.result (object_allowed may c.args.key.kind c.args.key.id (subst (λ (k : KeyOf). k.kind ≡ kinds.Node → ⊥) c.key.view_is c.in_default.not-Node) allowed) c.get.ensures.touches only)
+    (λ may allowed only. within_touched may c.args.buckets.now c.get.new.buckets c.requires.live.going
+    (map_of c.args.key.kind) c.args.key.id c.get.result
+    (object_allowed may c.args.key.kind c.args.key.id
+    (subst (λ (k : KeyOf). k.kind ≡ kinds.Node → ⊥) c.key.view_is c.in_default.not-Node) allowed) c.get.ensures.touches only)

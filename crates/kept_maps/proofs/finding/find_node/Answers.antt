@@ -19,7 +19,8 @@ returns-in-Ok-clause-finds g c definitions = record {
 pub returns-in-Ok-clause-asks : goal.returns-in-Ok-clause-asks
 returns-in-Ok-clause-asks g c = record {
   has = c.in-Ok.ensures.value.keeps.has refl;
-  within = λ may allowed only. within_touched may c.args.buckets.now c.get.new.buckets c.requires.live.going 0 c.args.id _ allowed c.in-Ok.ensures.touches only;
+  within = λ may allowed only. within_touched may c.args.buckets.now c.get.new.buckets c.requires.live.going 0 c.args.id _ allowed
+      c.in-Ok.ensures.touches only;
   touched = told_ok c.args.buckets.now c.get.new.buckets c.in-Ok.found c.node_in.result
       (touched_key c.args.buckets.now c.get.new.buckets 0 c.args.id _ c.in-Ok.ensures.touches);
 }
@@ -33,7 +34,8 @@ returns-in-Err-clause-finds g c definitions = record {
 pub returns-in-Err-clause-asks : goal.returns-in-Err-clause-asks
 returns-in-Err-clause-asks g c = record {
   has = tt;
-  within = λ may allowed only. within_touched may c.args.buckets.now c.get.new.buckets c.requires.live.going 0 c.args.id _ allowed c.in-Err.ensures.touches only;
+  within = λ may allowed only. within_touched may c.args.buckets.now c.get.new.buckets c.requires.live.going 0 c.args.id _ allowed
+      c.in-Err.ensures.touches only;
   touched = told_err c.args.buckets.now c.get.new.buckets (Option NodeRecord) (Option Object) c.in-Err.fault
       (touched_key c.args.buckets.now c.get.new.buckets 0 c.args.id _ c.in-Err.ensures.touches);
 }

@@ -16,7 +16,8 @@ returns-in-Node-clause-finds g c definitions =
     let old = c.args.buckets.now in
     let is : c.key.inside.kind ≡ kinds.Node = cc (c.in-Node.is) in
     subst (λ (k : KeyOf). Finds definitions (λ maps. object_in maps k.kind k.id) old c.find_node.result) c.key.view_is
-    (subst (λ (k : Kind). Finds definitions (λ maps. object_in maps k c.key.inside.id) old c.find_node.result) (sym is) (c.find_node.ensures.finds definitions))
+    (subst (λ (k : Kind). Finds definitions (λ maps. object_in maps k c.key.inside.id) old c.find_node.result) (sym is)
+    (c.find_node.ensures.finds definitions))
 
 pub returns-in_default-clause-finds : goal.returns-in_default-clause-finds
 returns-in_default-clause-finds g c definitions =
@@ -24,7 +25,8 @@ returns-in_default-clause-finds g c definitions =
     record {
       found = if_ok (Option Object) _ _ c.find_form.result
           (λ found is under maps had. is under maps had
-          ∙ object_form maps c.args.key.kind c.args.key.id (subst (λ (k : KeyOf). k.kind ≡ kinds.Node → ⊥) c.key.view_is c.in_default.not-Node)) form.found;
+          ∙ object_form maps c.args.key.kind c.args.key.id
+          (subst (λ (k : KeyOf). k.kind ≡ kinds.Node → ⊥) c.key.view_is c.in_default.not-Node)) form.found;
       sound = form.sound;
     }
 
@@ -33,6 +35,8 @@ returns-in-Node-clause-asks g c =
     let asks = c.find_node.ensures.asks in
     record {
       has = asks.has;
-      within = λ may allowed only. asks.within may (node_allowed may (record { kind = c.key.inside.kind; id = c.key.inside.id }) c.args.key c.key.view_is (cc (c.in-Node.is)) allowed) only;
+      within = λ may allowed only. asks.within may
+          (node_allowed may (record { kind = c.key.inside.kind; id = c.key.inside.id }) c.args.key c.key.view_is
+          (cc (c.in-Node.is)) allowed) only;
       touched = asks.touched;
     }

@@ -14,4 +14,6 @@ pub returns-clause-asks : goal.returns-clause-asks
 returns-clause-asks g c =
     asks_key c.args.buckets.now c.get.new.buckets rows_bytes (AreRows c.args.style.now.tables) (map_of c.args.key.kind)
     (number_of c.args.key.kind c.args.key.id) c.get.result c.get.ensures.value c.get.ensures.touches (λ may. MayRows may c.args.key)
-    (λ may allowed only. within_touched may c.args.buckets.now c.get.new.buckets c.requires.live.going (map_of c.args.key.kind) (number_of c.args.key.kind c.args.key.id) c.get.result (rows_allowed may c.args.key.kind c.args.key.id allowed) c.get.ensures.touches only)
+    (λ may allowed only. within_touched may c.args.buckets.now c.get.new.buckets c.requires.live.going (map_of c.args.key.kind)
+    (number_of c.args.key.kind c.args.key.id) c.get.result
+    (rows_allowed may c.args.key.kind c.args.key.id allowed) c.get.ensures.touches only)

@@ -40,7 +40,8 @@ returns-in-Err-clause-sound g c definitions under maps had =
     let was = c.loop-bucket.invariant.renews under.rest had.now had.has in
     old_sound definitions under maps c.args.buckets.now had c.in-Err.fault
     (unread_next c.args.buckets.now c.loop-bucket.buckets had.now was.0 c.loop-bucket.bucket c.in-Err.fault
-    (omega (arith, c.loop-bucket-test.true, count)) c.loop-bucket.invariant.once.looks.stays was.2 (c.in-Err.ensures.stops under.rest was.0 was.1))
+    (omega (arith, c.loop-bucket-test.true, count)) c.loop-bucket.invariant.once.looks.stays was.2
+    (c.in-Err.ensures.stops under.rest was.0 was.1))
 
 pub returns-in-Err-clause-stops : goal.returns-in-Err-clause-stops
 returns-in-Err-clause-stops g c rest now owns =
@@ -51,7 +52,8 @@ returns-in-Err-clause-stops g c rest now owns =
 
 pub returns-in-Err-clause-once : goal.returns-in-Err-clause-once
 returns-in-Err-clause-once g c =
-    once_then {T = Unit {0}} c.args.buckets.now c.loop-bucket.buckets c.renew_bucket.new.buckets (Err c.in-Err.fault) c.loop-bucket.invariant.once
+    once_then {T = Unit {0}} c.args.buckets.now c.loop-bucket.buckets c.renew_bucket.new.buckets
+    (Err c.in-Err.fault) c.loop-bucket.invariant.once
     c.in-Err.ensures.once
 
 pub returns-clause-renews : goal.returns-clause-renews
@@ -61,7 +63,8 @@ returns-clause-renews g c rest now owns =
     let was = c.loop-bucket.invariant.renews rest now owns in (
       was.0,
       was.1,
-      renews_all now was.0 c.loop-bucket.bucket (omega (arith, c.requires.some, own)) (omega (arith, c.loop-bucket-test.false, count)) was.2,
+      renews_all now was.0 c.loop-bucket.bucket (omega (arith, c.requires.some, own))
+          (omega (arith, c.loop-bucket-test.false, count)) was.2,
     )
 
 pub returns-clause-becomes : goal.returns-clause-becomes
@@ -71,7 +74,8 @@ returns-clause-becomes g c definitions under maps had =
     let count : c.root-count.result.buckets ≡ now.root.buckets = ap (λ (r : Root). r.buckets) (c.root-count.ensures ∙ owns.root) in
     let own : bucket_count (chains_of c.args.buckets.now) ≡ now.root.buckets = ap (λ (r : Root). r.buckets) owns.root in
     let was = c.loop-bucket.invariant.renews under.rest now owns in
-    let all = renews_all now was.0 c.loop-bucket.bucket (omega (arith, c.requires.some, own)) (omega (arith, c.loop-bucket-test.false, count)) was.2 in
+    let all = renews_all now was.0 c.loop-bucket.bucket (omega (arith, c.requires.some, own))
+    (omega (arith, c.loop-bucket-test.false, count)) was.2 in
     record {
       now = was.0;
       has = was.1;

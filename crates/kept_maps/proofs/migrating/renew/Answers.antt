@@ -15,11 +15,13 @@ use Rattle.kept_maps.proofs.migrating.renew.Goals as goal
 pub returns-in-Ok-clause-renews : goal.returns-in-Ok-clause-renews
 returns-in-Ok-clause-renews g c =
     on_ok (Unit {0}) _ _ c.put.result
-    (λ has rest now owns. (c.in-Ok.place, c.in-Ok.ensures.place.is, c.in-Ok.ensures.place.bytes_are, has rest now owns)) c.put.ensures.value.has
+    (λ has rest now owns. (c.in-Ok.place, c.in-Ok.ensures.place.is, c.in-Ok.ensures.place.bytes_are, has rest now owns))
+    c.put.ensures.value.has
 
 pub returns-in-Ok-clause-stops : goal.returns-in-Ok-clause-stops
 returns-in-Ok-clause-stops g c rest now owns =
-    sound_result (Unit {0}) (λ at. IsNoValue old_bytes IsOldPlace c.args.bytes.now × (at ≡ page_in c.args.buckets.now NODES c.args.id)) c.put.result
+    sound_result (Unit {0}) (λ at. IsNoValue old_bytes IsOldPlace c.args.bytes.now × (at ≡ page_in c.args.buckets.now NODES c.args.id))
+    c.put.result
     (c.put.ensures.value.sound rest now owns)
 
 pub returns-in-Ok-clause-once : goal.returns-in-Ok-clause-once
@@ -27,10 +29,13 @@ returns-in-Ok-clause-once g c = once_key NODES c.args.id c.args.buckets.now c.pu
 
 pub returns-in-Err-clause-stops : goal.returns-in-Err-clause-stops
 returns-in-Err-clause-stops g c rest now owns =
-    refuses_value (IsNoValue old_bytes IsOldPlace c.args.bytes.now) (page_in c.args.buckets.now NODES c.args.id) c.in-Err.fault c.refuse_value.result
+    refuses_value (IsNoValue old_bytes IsOldPlace c.args.bytes.now)
+    (page_in c.args.buckets.now NODES c.args.id) c.in-Err.fault c.refuse_value.result
     c.refuse_value.ensures.refusal c.in-Err.ensures.refused
 
 pub returns-in-Err-clause-once : goal.returns-in-Err-clause-once
 returns-in-Err-clause-once g c =
-    value_once c.args.buckets.now c.refuse_value.new.buckets (first_of (chains_of c.args.buckets.now) (bucket_at c.args.buckets.now NODES c.args.id))
-    c.refuse_value.ensures.chains c.refuse_value.ensures.refused c.refuse_value.ensures.same c.in-Err.fault c.refuse_value.result c.refuse_value.ensures.refusal
+    value_once c.args.buckets.now c.refuse_value.new.buckets
+    (first_of (chains_of c.args.buckets.now) (bucket_at c.args.buckets.now NODES c.args.id))
+    c.refuse_value.ensures.chains c.refuse_value.ensures.refused c.refuse_value.ensures.same c.in-Err.fault c.refuse_value.result
+    c.refuse_value.ensures.refusal

@@ -36,7 +36,8 @@ returns-clause-stops g c rest now owns =
     let records = c.in-Ok.records.items in
     let are = c.in-Ok.ensures.records.found rest now owns in
     let same : c.as_slice.result.now ≡ records = cc (c.as_slice.ensures.value) in
-    let there = subst (λ (l : List (ℕ × List ℕ)). AreThere now l) (sym same) (records_there now (c.args.bucket % now.root.buckets) records are) in
+    let there = subst (λ (l : List (ℕ × List ℕ)). AreThere now l) (sym same)
+    (records_there now (c.args.bucket % now.root.buckets) records are) in
     unread_bucket c.args.buckets.now c.records.new.self now c.args.bucket records are c.renew_records.result c.in-Ok.ensures.touches.stays
     (subst (λ (l : List (ℕ × List ℕ)). IfErr c.renew_records.result (Refuses (HasOldUnread (Among l) c.records.new.self now))) same
     (c.renew_records.ensures.stops rest now (c.in-Ok.ensures.records.keeps.has refl rest now owns) there))

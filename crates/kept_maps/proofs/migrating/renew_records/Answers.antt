@@ -39,7 +39,8 @@ loop-id-preserved g c =
       renews = λ rest now owns there.
           let was = inv.renews rest now owns there in
           let done = did.renews rest was.0 was.1 in
-          let here = told_at (λ (e : ℕ × List ℕ). finite.get (now.maps NODES) e.0 ≡ Some e.1) records c.loop-id.id-index one there c.loop-id-test.true c.loop-id-item.is in (
+          let here = told_at (λ (e : ℕ × List ℕ). finite.get (now.maps NODES) e.0 ≡ Some e.1) records c.loop-id.id-index one there
+          c.loop-id-test.true c.loop-id-item.is in (
             _,
             done.3,
             renews_more records c.loop-id.id-index one now was.0 one.1 done.0 c.loop-id-test.true c.loop-id-item.is was.2 here done.1
@@ -54,8 +55,10 @@ returns-in-Err-clause-stops g c rest now owns there =
     let mid = c.loop-id.buckets in
     let one = c.loop-id-item.result in
     let was = inv.renews rest now owns there in
-    let here = told_at (λ (e : ℕ × List ℕ). finite.get (now.maps NODES) e.0 ≡ Some e.1) c.args.records.now c.loop-id.id-index one there c.loop-id-test.true c.loop-id-item.is in
-    refuses_more (λ at. IsNoValue old_bytes IsOldPlace c.as_slice.result.now × (at ≡ page_in mid NODES one.0)) (HasOldUnread (Among c.args.records.now) old now)
+    let here = told_at (λ (e : ℕ × List ℕ). finite.get (now.maps NODES) e.0 ≡ Some e.1) c.args.records.now c.loop-id.id-index one there
+    c.loop-id-test.true c.loop-id-item.is in
+    refuses_more (λ at. IsNoValue old_bytes IsOldPlace c.as_slice.result.now × (at ≡ page_in mid NODES one.0))
+    (HasOldUnread (Among c.args.records.now) old now)
     (λ at bad. record {
       id = one.0;
       among = among_at c.args.records.now c.loop-id.id-index one c.loop-id-test.true c.loop-id-item.is;
@@ -67,12 +70,14 @@ returns-in-Err-clause-stops g c rest now owns there =
 
 pub returns-in-Err-clause-once : goal.returns-in-Err-clause-once
 returns-in-Err-clause-once g c =
-    once_then {T = Unit {0}} c.args.buckets.now c.loop-id.buckets c.renew.new.buckets (Err c.in-Err.fault) c.loop-id.invariant.once c.in-Err.ensures.once
+    once_then {T = Unit {0}} c.args.buckets.now c.loop-id.buckets c.renew.new.buckets
+    (Err c.in-Err.fault) c.loop-id.invariant.once c.in-Err.ensures.once
 
 pub returns-clause-renews : goal.returns-clause-renews
 returns-clause-renews g c rest now owns there =
     let was = c.loop-id.invariant.renews rest now owns there in (
       was.0,
       was.1,
-      subst (λ (l : List (ℕ × List ℕ)). Renews (Among l) now was.0) (take_all c.loop-id.id-index c.args.records.now c.loop-id-test.false) was.2,
+      subst (λ (l : List (ℕ × List ℕ)). Renews (Among l) now was.0)
+          (take_all c.loop-id.id-index c.args.records.now c.loop-id-test.false) was.2,
     )

@@ -7,7 +7,8 @@ use Rattle.kept_maps.proofs.setting.fill_lists.Goals as goal
 pub returns-clause-sets : goal.returns-clause-sets
 returns-clause-sets g c =
     on_ok (Unit {0}) _ _ c.fill.result
-    (λ fills definitions under maps had none. fills_set c.args.buckets.now c.fill.new.buckets definitions c.args.entries.now under maps fills had none)
+    (λ fills definitions under maps had none.
+    fills_set c.args.buckets.now c.fill.new.buckets definitions c.args.entries.now under maps fills had none)
     c.fill.ensures.fills
 
 pub returns-clause-puts : goal.returns-clause-puts

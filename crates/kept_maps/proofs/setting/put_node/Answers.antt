@@ -15,14 +15,16 @@ returns-in-Ok-clause-sets g c =
     let new = c.put.new.buckets in
     both_ok _ _ _ c.put.result
     (λ has is definitions under maps had. subst (λ (tags : TagMap).
-    HasMaps definitions under (record maps { nodes = set maps.nodes c.args.id (Some (record { place = c.args.place; tags = Some tags })) }) new) c.in-Ok.ensures.equal
+    HasMaps definitions under (record maps { nodes = set maps.nodes c.args.id (Some (record { place = c.args.place; tags = Some tags })) })
+    new) c.in-Ok.ensures.equal
     (node_set old new definitions under maps c.args.id (Some (record { place = c.args.place; tags = Some c.in-Ok.tags })) is has had))
     c.put.ensures.value.has c.put.ensures.is
 
 pub returns-in-Ok-clause-puts : goal.returns-in-Ok-clause-puts
 returns-in-Ok-clause-puts g c = record {
   sound = c.put.ensures.value.sound;
-  within = λ may allowed only. within_touched may c.args.buckets.now c.put.new.buckets c.requires.live.going 0 c.args.id c.put.result allowed c.put.ensures.touches only;
+  within = λ may allowed only. within_touched may c.args.buckets.now c.put.new.buckets c.requires.live.going 0 c.args.id c.put.result
+      allowed c.put.ensures.touches only;
   touched = touched_key c.args.buckets.now c.put.new.buckets 0 c.args.id c.put.result c.put.ensures.touches;
 }
 

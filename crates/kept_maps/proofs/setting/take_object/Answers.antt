@@ -12,7 +12,8 @@ returns-in-Node-clause-sets g c =
     let inside : KeyOf = record { kind = c.key.inside.kind; id = c.key.inside.id } in
     let is : inside.kind ≡ kinds.Node = cc (c.in-Node.is) in
     on_ok (Unit {0}) _ _ c.take_node.result
-    (λ takes definitions under maps had. node_taken c.args.buckets.now c.take_node.new.buckets definitions under maps c.args.key inside c.key.view_is is
+    (λ takes definitions under maps had. node_taken c.args.buckets.now c.take_node.new.buckets definitions under maps c.args.key inside
+    c.key.view_is is
     (takes definitions under maps had)) c.take_node.ensures.sets
 
 pub take_form-requires-clause-kind : goal.take_form-requires-clause-kind
@@ -23,6 +24,8 @@ returns-in-Node-clause-puts g c =
     let puts = c.take_node.ensures.puts in
     record {
       sound = puts.sound;
-      within = λ may allowed only. puts.within may (node_allowed may (record { kind = c.key.inside.kind; id = c.key.inside.id }) c.args.key c.key.view_is (cc (c.in-Node.is)) allowed) only;
+      within = λ may allowed only. puts.within may
+          (node_allowed may (record { kind = c.key.inside.kind; id = c.key.inside.id }) c.args.key c.key.view_is
+          (cc (c.in-Node.is)) allowed) only;
       touched = puts.touched;
     }

@@ -20,4 +20,5 @@ returns-clause-sides c =
     let e13 = as_raised c.args.fourth.south c.raise-14.result c.raise-14.ensures.raised (search rules) in
     let e14 = as_raised c.args.fourth.east c.raise-15.result c.raise-15.ensures.raised (search rules) in
     let e15 = as_raised c.args.fourth.north c.raise-16.result c.raise-16.ensures.raised (search rules) in
-    λ i. e0 i ∷ (e1 i ∷ (e2 i ∷ (e3 i ∷ (e4 i ∷ (e5 i ∷ (e6 i ∷ (e7 i ∷ (e8 i ∷ (e9 i ∷ (e10 i ∷ (e11 i ∷ (e12 i ∷ (e13 i ∷ (e14 i ∷ (e15 i ∷ [])))))))))))))))
+    λ i. e0 i ∷ (e1 i ∷ (e2 i ∷ (e3 i ∷ (e4 i
+    ∷ (e5 i ∷ (e6 i ∷ (e7 i ∷ (e8 i ∷ (e9 i ∷ (e10 i ∷ (e11 i ∷ (e12 i ∷ (e13 i ∷ (e14 i ∷ (e15 i ∷ [])))))))))))))))

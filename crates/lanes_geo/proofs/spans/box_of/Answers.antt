@@ -5,10 +5,12 @@ use Rattle.lanes_geo.proofs.Around.{west_fits, south_fits, east_fits, north_fits
 use Rattle.lanes_geo.proofs.spans.box_of.Goals as goal
 
 pub units-requires-clause-number : goal.units-requires-clause-number
-units-requires-clause-number c = west_fits c.args.places.now _ (grind (arith, nat_tests, c.if-is_empty.ensures)) c.sides_of-sides.ensures.on_earth c.sides_of-sides.ensures.west
+units-requires-clause-number c = west_fits c.args.places.now _
+    (grind (arith, nat_tests, c.if-is_empty.ensures)) c.sides_of-sides.ensures.on_earth c.sides_of-sides.ensures.west
 
 pub units-requires-2-clause-number : goal.units-requires-2-clause-number
-units-requires-2-clause-number c = south_fits c.args.places.now _ (grind (arith, nat_tests, c.if-is_empty.ensures)) c.sides_of-sides.ensures.on_earth c.sides_of-sides.ensures.south
+units-requires-2-clause-number c = south_fits c.args.places.now _
+    (grind (arith, nat_tests, c.if-is_empty.ensures)) c.sides_of-sides.ensures.on_earth c.sides_of-sides.ensures.south
 
 pub units-requires-3-clause-number : goal.units-requires-3-clause-number
 units-requires-3-clause-number c = east_fits c.args.places.now _ c.sides_of-sides.ensures.on_earth c.sides_of-sides.ensures.east

@@ -10,10 +10,14 @@ loop-at-preserved c =
     let ps = c.args.places.now in
     let at = c.loop-at.at in
     let lanes = c.loop-at.invariant.lanes in
-    let west = least_more east_of ps at c.loop-at.west c.lower-west.result c.easts-easts.result lanes.0 (omega arith) c.loop-at.invariant.west c.easts-easts.ensures.easts c.lower-west.ensures in
-    let south = least_more north_of ps at c.loop-at.south c.lower-south.result c.norths-norths.result lanes.1 (omega arith) c.loop-at.invariant.south c.norths-norths.ensures.norths c.lower-south.ensures in
-    let east = greatest_more east_of ps at c.loop-at.east c.higher-east.result c.easts-easts.result lanes.2 (omega arith) c.loop-at.invariant.east c.easts-easts.ensures.easts c.higher-east.ensures in
-    let north = greatest_more north_of ps at c.loop-at.north c.higher-north.result c.norths-norths.result lanes.3 (omega arith) c.loop-at.invariant.north c.norths-norths.ensures.norths c.higher-north.ensures in
+    let west = least_more east_of ps at c.loop-at.west c.lower-west.result c.easts-easts.result lanes.0
+    (omega arith) c.loop-at.invariant.west c.easts-easts.ensures.easts c.lower-west.ensures in
+    let south = least_more north_of ps at c.loop-at.south c.lower-south.result c.norths-norths.result lanes.1
+    (omega arith) c.loop-at.invariant.south c.norths-norths.ensures.norths c.lower-south.ensures in
+    let east = greatest_more east_of ps at c.loop-at.east c.higher-east.result c.easts-easts.result lanes.2
+    (omega arith) c.loop-at.invariant.east c.easts-easts.ensures.easts c.higher-east.ensures in
+    let north = greatest_more north_of ps at c.loop-at.north c.higher-north.result c.norths-norths.result lanes.3
+    (omega arith) c.loop-at.invariant.north c.norths-norths.ensures.norths c.higher-north.ensures in
     record {
       within = omega arith;
       lanes = (west.0, south.0, east.0, north.0);
@@ -25,13 +29,17 @@ loop-at-preserved c =
     }
 
 pub returns-clause-west : goal.returns-clause-west
-returns-clause-west c = least_end east_of c.args.places.now c.loop-at.at c.lowest.result c.stretched.result.west _ c.split_at.ensures.back (c.lowest.ensures ∙ c.loop-at.invariant.west) c.stretched.ensures.west
+returns-clause-west c = least_end east_of c.args.places.now c.loop-at.at c.lowest.result c.stretched.result.west _ c.split_at.ensures.back
+    (c.lowest.ensures ∙ c.loop-at.invariant.west) c.stretched.ensures.west
 
 pub returns-clause-south : goal.returns-clause-south
-returns-clause-south c = least_end north_of c.args.places.now c.loop-at.at c.lowest-2.result c.stretched.result.south _ c.split_at.ensures.back (c.lowest-2.ensures ∙ c.loop-at.invariant.south) c.stretched.ensures.south
+returns-clause-south c = least_end north_of c.args.places.now c.loop-at.at c.lowest-2.result c.stretched.result.south _
+    c.split_at.ensures.back (c.lowest-2.ensures ∙ c.loop-at.invariant.south) c.stretched.ensures.south
 
 pub returns-clause-east : goal.returns-clause-east
-returns-clause-east c = greatest_end east_of c.args.places.now c.loop-at.at c.highest.result c.stretched.result.east _ c.split_at.ensures.back (c.highest.ensures ∙ c.loop-at.invariant.east) c.stretched.ensures.east
+returns-clause-east c = greatest_end east_of c.args.places.now c.loop-at.at c.highest.result c.stretched.result.east _
+    c.split_at.ensures.back (c.highest.ensures ∙ c.loop-at.invariant.east) c.stretched.ensures.east
 
 pub returns-clause-north : goal.returns-clause-north
-returns-clause-north c = greatest_end north_of c.args.places.now c.loop-at.at c.highest-2.result c.stretched.result.north _ c.split_at.ensures.back (c.highest-2.ensures ∙ c.loop-at.invariant.north) c.stretched.ensures.north
+returns-clause-north c = greatest_end north_of c.args.places.now c.loop-at.at c.highest-2.result c.stretched.result.north _
+    c.split_at.ensures.back (c.highest-2.ensures ∙ c.loop-at.invariant.north) c.stretched.ensures.north

@@ -10,7 +10,9 @@ invariant-loop-place l = record {
   south_fits : l.south ≤ 4294967295;
   west : min l.west (least_of (map east_of (drop l.place-index l.places))) ≡ min l.fn.sides.west (least_of (map east_of l.places));
   south : min l.south (least_of (map north_of (drop l.place-index l.places))) ≡ min l.fn.sides.south (least_of (map north_of l.places));
-  east : max l.most_east (greatest_of (map east_of (drop l.place-index l.places))) ≡ max l.fn.sides.east (greatest_of (map east_of l.places));
-  north : max l.most_north (greatest_of (map north_of (drop l.place-index l.places))) ≡ max l.fn.sides.north (greatest_of (map north_of l.places));
+  east : max l.most_east (greatest_of (map east_of (drop l.place-index l.places)))
+      ≡ max l.fn.sides.east (greatest_of (map east_of l.places));
+  north : max l.most_north (greatest_of (map north_of (drop l.place-index l.places)))
+      ≡ max l.fn.sides.north (greatest_of (map north_of l.places));
   on_earth : AllByRecursion IsPlace (take l.place-index l.places);
 }

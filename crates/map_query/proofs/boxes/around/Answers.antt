@@ -19,8 +19,12 @@ returns c =
     let other_north : FitsSigned w32 c.args.other.north = search rules in
     record {
       sides = around_is c.args.one c.args.other _ _ _ _
-          (to_z-of_z w32 c.min.result west ∙ (rw (to_z-of_z w32 c.args.one.west one_west, to_z-of_z w32 c.args.other.west other_west) at c.min.ensures.value))
-          (to_z-of_z w32 c.min-2.result south ∙ (rw (to_z-of_z w32 c.args.one.south one_south, to_z-of_z w32 c.args.other.south other_south) at c.min-2.ensures.value))
-          (to_z-of_z w32 c.max.result east ∙ (rw (to_z-of_z w32 c.args.one.east one_east, to_z-of_z w32 c.args.other.east other_east) at c.max.ensures.value))
-          (to_z-of_z w32 c.max-2.result north ∙ (rw (to_z-of_z w32 c.args.one.north one_north, to_z-of_z w32 c.args.other.north other_north) at c.max-2.ensures.value));
+          (to_z-of_z w32 c.min.result west ∙ (rw (to_z-of_z w32 c.args.one.west one_west, to_z-of_z w32 c.args.other.west other_west) at
+          c.min.ensures.value))
+          (to_z-of_z w32 c.min-2.result south ∙ (rw
+          (to_z-of_z w32 c.args.one.south one_south, to_z-of_z w32 c.args.other.south other_south) at c.min-2.ensures.value))
+          (to_z-of_z w32 c.max.result east ∙ (rw (to_z-of_z w32 c.args.one.east one_east, to_z-of_z w32 c.args.other.east other_east) at
+          c.max.ensures.value))
+          (to_z-of_z w32 c.max-2.result north ∙ (rw
+          (to_z-of_z w32 c.args.one.north one_north, to_z-of_z w32 c.args.other.north other_north) at c.max-2.ensures.value));
     }

@@ -7,4 +7,5 @@ use Rattle.map_query.proofs.boxes.box_of_lines.Goals as goal
 pub loop-line-preserved : goal.loop-line-preserved
 loop-line-preserved c =
     c.joined-around.ensures.sides ∙ ap (joined c.loop-line.around) (c.box_of.ensures.sides ∙ ap box_of c.as_slice.ensures.items)
-    ∙ box_more (λ line. line) c.args.lines.now c.loop-line.line-index c.line-item.result c.loop-line.around (omega arith) c.line-item.is c.loop-line.invariant
+    ∙ box_more (λ line. line) c.args.lines.now c.loop-line.line-index c.line-item.result c.loop-line.around
+    (omega arith) c.line-item.is c.loop-line.invariant

@@ -16,8 +16,12 @@ use Rattle.map_query.proofs.near.rows_near.Goals as goal
 pub ordered_at-requires : goal.ordered_at-requires
 ordered_at-requires c =
     let tables = c.args.tables.now in
-    let keys : c.as_slice.result.now ≡ grid.found_in c.args.boxes.now c.args.table c.args.asked = c.as_slice.ensures.items ∙ c.in_ok-keys.ensures.keys in
-    record { rising = subst (λ (keys : List KeyOf). T (is_sorted key_cmp (rows_at tables c.args.table keys))) (sym keys) (rising tables c.args.boxes.now c.args.table c.args.asked c.requires.boxed) }
+    let keys : c.as_slice.result.now ≡ grid.found_in c.args.boxes.now c.args.table c.args.asked =
+    c.as_slice.ensures.items ∙ c.in_ok-keys.ensures.keys in
+    record {
+      rising = subst (λ (keys : List KeyOf). T (is_sorted key_cmp (rows_at tables c.args.table keys))) (sym keys)
+          (rising tables c.args.boxes.now c.args.table c.args.asked c.requires.boxed);
+    }
 
 pub returns : goal.returns
 returns c =
@@ -27,7 +31,12 @@ returns c =
     let asked = c.args.asked in
     let of_areas = has_areas style table in
     let keys : c.as_slice.result.now ≡ grid.found_in c.args.boxes.now table asked = c.as_slice.ensures.items ∙ c.in_ok-keys.ensures.keys in
-    let ordered : List KeyOf → List (KeyOf × Row) = λ keys. finite.entries (finite.from_entries {R = by_number of_areas} (rows_at tables table keys)) in
+    let ordered : List KeyOf → List (KeyOf × Row) =
+    λ keys. finite.entries (finite.from_entries {R = by_number of_areas} (rows_at tables table keys)) in
     let path : map seen c.as_slice-2.result.now ≡ filter (λ own. is_in asked own.1) (rows_by_number of_areas tables table) =
-    ap (map seen) c.as_slice-2.ensures.value ∙ (c.in_ok-rows.ensures.rows ∙ (ap ordered keys ∙ found_in_order tables c.args.boxes.now table asked c.requires.boxed of_areas)) in
-    record { rows = subst (λ (rows : List (KeyOf × Row)). IfOk c.with_numbers.result (λ found. found ≡ numbered style table rows)) path c.with_numbers.ensures.rows }
+    ap (map seen) c.as_slice-2.ensures.value
+    ∙ (c.in_ok-rows.ensures.rows ∙ (ap ordered keys ∙ found_in_order tables c.args.boxes.now table asked c.requires.boxed of_areas)) in
+    record {
+      rows = subst (λ (rows : List (KeyOf × Row)). IfOk c.with_numbers.result (λ found. found ≡ numbered style table rows)) path
+          c.with_numbers.ensures.rows;
+    }

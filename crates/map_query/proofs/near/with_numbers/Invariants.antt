@@ -5,4 +5,5 @@ use Rattle.map_query.proofs.near.with_numbers.Given as goal
 
 -- what is copied, and then what is left, is all
 abbrev pub invariant-loop-own : goal.invariant-loop-own
-invariant-loop-own l = l.rows ++ numbered l.style l.table (map seen (drop l.own-index l.ordered)) ≡ numbered l.style l.table (map seen l.ordered)
+invariant-loop-own l = l.rows ++ numbered l.style l.table (map seen (drop l.own-index l.ordered))
+    ≡ numbered l.style l.table (map seen l.ordered)

@@ -4,4 +4,5 @@ use Rattle.map_query.proofs.reading.read_queries.Goals as goal
 
 pub returns-clause-queries : goal.returns-clause-queries
 returns-clause-queries c =
-    ap (map Ok) c.from_vec.ensures.items ∙ all_read c.args.style.now c.args.bytes.now c.loop-rest.rest.now c.loop-rest.queries.items c.loop-rest.invariant (omega arith)
+    ap (map Ok) c.from_vec.ensures.items ∙ all_read c.args.style.now c.args.bytes.now c.loop-rest.rest.now c.loop-rest.queries.items
+    c.loop-rest.invariant (omega arith)

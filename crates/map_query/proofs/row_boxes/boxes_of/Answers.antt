@@ -11,5 +11,6 @@ returns c =
     let rows = c.rows.result.now in
     let tables : rows_in rows ≡ c.args.tables.now = c.rows.ensures.rows in
     let all : IsBoxed (rows_in rows) (boxes_from rows.entries) = boxed_from rows.entries in
-    let here : IsBoxed c.args.tables.now (boxes_from rows.entries) = subst (λ (tables : TableMap). IsBoxed tables (boxes_from rows.entries)) tables all in
+    let here : IsBoxed c.args.tables.now (boxes_from rows.entries) =
+    subst (λ (tables : TableMap). IsBoxed tables (boxes_from rows.entries)) tables all in
     record { boxes = subst (λ (boxes : BoxMap). IsBoxed c.args.tables.now boxes) (sym c.in_ok-boxes.ensures.boxes) here }

@@ -8,5 +8,6 @@ space_is_ascii = omega arith
 
 pub returns : goal.returns
 returns c = record {
-  words = cut_words c.args.text.now c.split_once.result (split_once_first 32 c.args.text.now c.split_once.result c.split_once.ensures.cases space_is_ascii);
+  words = cut_words c.args.text.now c.split_once.result
+      (split_once_first 32 c.args.text.now c.split_once.result c.split_once.ensures.cases space_is_ascii);
 }

@@ -13,18 +13,21 @@ returns-in-Err-clause-value g c =
 
 pub returns-in-Ok-clause-value : goal.returns-in-Ok-clause-value
 returns-in-Ok-clause-value g c =
-    value_found record_bytes IsRecord (λ bytes. bytes.now) NODES c.args.id c.args.buckets.now c.bring.new.self c.value.result c.in_default.ensures.brings
+    value_found record_bytes IsRecord (λ bytes. bytes.now) NODES c.args.id c.args.buckets.now c.bring.new.self c.value.result
+    c.in_default.ensures.brings
     c.value.ensures.found c.in-Ok.found c.in-Ok.ensures.reads
 
 pub returns-in-Err-read-clause-answers : goal.returns-in-Err-read-clause-answers
 returns-in-Err-read-clause-answers g c =
     let done = c.in_default.ensures in
     gets_refused record_bytes IsRecord (λ bytes. bytes.now) NODES c.args.id c.args.buckets.now c.bring.new.self c.value.result done.brings
-    done.touches.stays c.value.ensures.value c.in-Err-read.fault c.in-Err-read.ensures.reads c.refuse_value.result c.refuse_value.ensures.refusal
+    done.touches.stays c.value.ensures.value c.in-Err-read.fault c.in-Err-read.ensures.reads c.refuse_value.result
+    c.refuse_value.ensures.refusal
 
 pub returns-in-Err-read-clause-value : goal.returns-in-Err-read-clause-value
 returns-in-Err-read-clause-value g c =
     let refused = c.refuse_value.ensures in
-    value_refused record_bytes IsRecord (λ bytes. bytes.now) NODES c.args.id c.args.buckets.now c.bring.new.self c.value.result c.in_default.ensures.brings
+    value_refused record_bytes IsRecord (λ bytes. bytes.now) NODES c.args.id c.args.buckets.now c.bring.new.self c.value.result
+    c.in_default.ensures.brings
     c.refuse_value.new.buckets refused.chains refused.cached c.value.ensures.found c.in-Err-read.fault c.in-Err-read.ensures.reads
     c.refuse_value.result (first_of (chains_of c.bring.new.self) (bucket_at c.bring.new.self NODES c.args.id)) refused.refusal

@@ -22,5 +22,6 @@ returns-in_ok-push_both-in-Relation-clause-ok c =
 pub returns-in_ok-push_both-in-Relation-clause-is : goal.returns-in_ok-push_both-in-Relation-clause-is
 returns-in_ok-push_both-in-Relation-clause-is c =
     subst (λ object. IsStored c.args.kind object) (sym c.in-Relation.is)
-    (kept_relation c.args.kind c.in-Relation.members c.in-Relation.tags (subst (λ object. IsKept c.args.kind object) c.in-Relation.is c.requires)
+    (kept_relation c.args.kind c.in-Relation.members c.in-Relation.tags
+    (subst (λ object. IsKept c.args.kind object) c.in-Relation.is c.requires)
     c.in_ok-push_both-in-Relation.ensures.one c.in_ok-push_both-in-Relation.ensures.two)

@@ -17,7 +17,8 @@ pub returns-then-not-are_ids-clause-refused : goal.returns-then-not-are_ids-clau
 returns-then-not-are_ids-clause-refused c =
     unmade way_parts AreWayParts object_bytes (IsStored kinds.Way) way_of ways_made c.args.bytes.now c.in-Ok.found c.in-Ok.ensures.value
     (λ stored. absurd (cc (
-      c.are_ids.ensures.ids.1 (subst (λ l. AllByRecursion IsId l) (sym c.as_slice.ensures.items) (way_ids c.in-Ok.found.0 c.in-Ok.found.1 stored)),
+      c.are_ids.ensures.ids.1 (subst (λ l. AllByRecursion IsId l) (sym c.as_slice.ensures.items)
+          (way_ids c.in-Ok.found.0 c.in-Ok.found.1 stored)),
       c.if-not-are_ids.true,
     )))
 

@@ -12,7 +12,8 @@ pub returns-in-Err-clause-listings : goal.returns-in-Err-clause-listings
 returns-in-Err-clause-listings c =
     let objects = objects_in c.args.objects.now in
     subst (λ (own : ObjectSet). AreListingsOf own c.take_out.new.self) (sym c.in-Err.ensures.err) (record {
-      told = undone-answers objects c.args.key c.in_ok-old.old c.in_ok-old.ensures.ids c.args.listings.now c.insert.new.listings c.take_out.new.self c.in_ok-new.new
+      told = undone-answers objects c.args.key c.in_ok-old.old c.in_ok-old.ensures.ids c.args.listings.now c.insert.new.listings
+          c.take_out.new.self c.in_ok-new.new
           c.requires.told c.in-Err.ensures.some c.take_out.ensures.turns;
       ids = c.requires.ids;
     })
@@ -22,7 +23,8 @@ returns-clause-listings c =
     let objects = objects_in c.args.objects.now in
     subst (λ (own : ObjectSet). AreListingsOf own c.take_out-2.new.self) (sym c.in_default.ensures.ok) (record {
       told = set-answers objects c.args.key c.in_ok-old.old c.in_ok-old.ensures.ids c.args.object c.in_ok-new.new c.in_ok-new.ensures.ids
-          c.args.listings.now c.insert.new.listings c.take_out-2.new.self c.requires.told c.in_default.ensures.listed c.take_out-2.ensures.turns;
+          c.args.listings.now c.insert.new.listings c.take_out-2.new.self c.requires.told c.in_default.ensures.listed
+          c.take_out-2.ensures.turns;
       ids = set-ids objects c.requires.ids c.args.key c.args.object (subst (λ (own : KeyOf). IsId own.id) c.key.view_is c.key.invariant);
     })
 

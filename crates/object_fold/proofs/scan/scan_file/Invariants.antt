@@ -16,8 +16,10 @@ invariant-loop-progress g l = record {
   room : length l.buffer.items ≤ PIECE;
   takes : TakesNext g.K.Keeper.takes l.progress.passed.last l.keeper;
   entries : BothKnown ((g.I.Inputs.view l.fn.inputs).left l.file) ((g.I.Inputs.view l.inputs).left l.file)
-      (λ bytes rest. kept_all g.K.Keeper.after l.fn.keeper (entries_of l.limits bytes) ≡ kept_all g.K.Keeper.after l.keeper (entries_left l.limits l.progress rest));
-  read : HasRead g.K.Keeper.after l.limits l.fn.keeper l.progress l.keeper ((g.I.Inputs.view l.fn.inputs).left l.file) ((g.I.Inputs.view l.inputs).left l.file);
+      (λ bytes rest. kept_all g.K.Keeper.after l.fn.keeper (entries_of l.limits bytes)
+      ≡ kept_all g.K.Keeper.after l.keeper (entries_left l.limits l.progress rest));
+  read : HasRead g.K.Keeper.after l.limits l.fn.keeper l.progress l.keeper ((g.I.Inputs.view l.fn.inputs).left l.file)
+      ((g.I.Inputs.view l.inputs).left l.file);
   reads : ((count : ℕ) × g.I.Inputs.reads l.fn.inputs (replicate count l.file) l.inputs);
   later : (g.I.Inputs.view l.fn.inputs).faults ≤ (g.I.Inputs.view l.inputs).faults;
   others : (other : ℕ) → other ≢ l.file → (g.I.Inputs.view l.inputs).left other ≡ (g.I.Inputs.view l.fn.inputs).left other;

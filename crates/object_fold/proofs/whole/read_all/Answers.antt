@@ -29,12 +29,14 @@ returns-in_err-add_piece-clause-left g c =
     let rest = (g.I.Inputs.view c.add_piece.new.inputs).left c.args.file in
     on_err c.from_residual-in_err-add_piece.result _
     (reads_behind c.args.max PIECE c.loop-bytes.bytes.items start left rest c.loop-bytes.invariant.within c.loop-bytes.invariant.whole
-    (reads_within (length c.deref_mut.result.now) PIECE left rest (omega (arith, ap length c.deref_mut.ensures.value, c.loop-bytes.invariant.room)) c.in_err-add_piece.ensures.left))
+    (reads_within (length c.deref_mut.result.now) PIECE left rest
+    (omega (arith, ap length c.deref_mut.ensures.value, c.loop-bytes.invariant.room)) c.in_err-add_piece.ensures.left))
 
 pub returns-in_err-add_piece-clause-read : goal.returns-in_err-add_piece-clause-read
 returns-in_err-add_piece-clause-read g c =
     let laws = g.met.I.Inputs g.world.𝓛 g.world.𝓜 g.world.𝓡 ((λ s x. x), (λ x. x), (λ x. x), λ x. x) in
-    read_again g.I.Inputs.reads laws.reads_then c.args.file c.args.inputs.now c.loop-bytes.inputs c.add_piece.new.inputs c.loop-bytes.invariant.reads c.add_piece.ensures.read
+    read_again g.I.Inputs.reads laws.reads_then c.args.file c.args.inputs.now c.loop-bytes.inputs c.add_piece.new.inputs
+    c.loop-bytes.invariant.reads c.add_piece.ensures.read
 
 pub loop-bytes-preserved : goal.loop-bytes-preserved
 loop-bytes-preserved g c =
@@ -46,8 +48,10 @@ loop-bytes-preserved g c =
       some = grind (arith, common_steps);
       room = grind (arith, common_steps);
       within = c.in_ok-add_piece.ensures.within;
-      whole = whole_more c.loop-bytes.bytes.items c.add_piece.new.bytes.items c.in_ok-add_piece.field-0 start left rest c.loop-bytes.invariant.whole c.in_ok-add_piece.ensures.bytes;
-      reads = read_again g.I.Inputs.reads laws.reads_then c.args.file c.args.inputs.now c.loop-bytes.inputs c.add_piece.new.inputs c.loop-bytes.invariant.reads c.in_ok-add_piece.ensures.read;
+      whole = whole_more c.loop-bytes.bytes.items c.add_piece.new.bytes.items c.in_ok-add_piece.field-0 start left rest
+          c.loop-bytes.invariant.whole c.in_ok-add_piece.ensures.bytes;
+      reads = read_again g.I.Inputs.reads laws.reads_then c.args.file c.args.inputs.now c.loop-bytes.inputs c.add_piece.new.inputs
+          c.loop-bytes.invariant.reads c.in_ok-add_piece.ensures.read;
       later = omega (arith, c.loop-bytes.invariant.later, c.in_ok-add_piece.ensures.later);
       others = λ other differs. c.in_ok-add_piece.ensures.others other differs ∙ c.loop-bytes.invariant.others other differs;
     }
@@ -55,4 +59,5 @@ loop-bytes-preserved g c =
 pub returns-clause-read : goal.returns-clause-read
 returns-clause-read g c =
     let laws = g.met.I.Inputs g.world.𝓛 g.world.𝓜 g.world.𝓡 ((λ s x. x), (λ x. x), (λ x. x), λ x. x) in
-    read_again g.I.Inputs.reads laws.reads_then c.args.file c.args.inputs.now c.loop-bytes.inputs c.add_piece.new.inputs c.loop-bytes.invariant.reads c.in_ok-add_piece.ensures.read
+    read_again g.I.Inputs.reads laws.reads_then c.args.file c.args.inputs.now c.loop-bytes.inputs c.add_piece.new.inputs
+    c.loop-bytes.invariant.reads c.in_ok-add_piece.ensures.read

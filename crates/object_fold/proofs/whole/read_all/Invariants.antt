@@ -9,7 +9,8 @@ invariant-loop-bytes g l = record {
   some : 0 < length l.buffer.items;
   room : length l.buffer.items ≤ PIECE;
   within : length l.bytes.items ≤ l.max;
-  whole : BothKnown ((g.I.Inputs.view l.fn.inputs).left l.file) ((g.I.Inputs.view l.inputs).left l.file) (λ before after. before ≡ l.bytes.items ++ after);
+  whole : BothKnown ((g.I.Inputs.view l.fn.inputs).left l.file) ((g.I.Inputs.view l.inputs).left l.file)
+      (λ before after. before ≡ l.bytes.items ++ after);
   reads : ((count : ℕ) × g.I.Inputs.reads l.fn.inputs (replicate count l.file) l.inputs);
   later : (g.I.Inputs.view l.fn.inputs).faults ≤ (g.I.Inputs.view l.inputs).faults;
   others : (other : ℕ) → other ≢ l.file → (g.I.Inputs.view l.inputs).left other ≡ (g.I.Inputs.view l.fn.inputs).left other;

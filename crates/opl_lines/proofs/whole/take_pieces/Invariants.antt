@@ -7,6 +7,8 @@ use Rattle.opl_lines.proofs.whole.take_pieces.Given as goal
 
 abbrev pub invariant-loop-piece : goal.invariant-loop-piece
 invariant-loop-piece l =
-    (texts l.lines.items ++ lines_of (begun l.reader ++ flat_map (λ piece. piece.now) (drop l.piece-index l.pieces)) ≡ lines_of (flat_map (λ piece. piece.now) l.pieces))
-    × (limit_left l.reader (flat_map (λ piece. piece.now) (drop l.piece-index l.pieces)) ≡ limit_passed l.limits.line_bytes l.limits.lines (lines_of (flat_map (λ piece. piece.now) l.pieces)))
+    (texts l.lines.items ++ lines_of (begun l.reader ++ flat_map (λ piece. piece.now) (drop l.piece-index l.pieces))
+    ≡ lines_of (flat_map (λ piece. piece.now) l.pieces))
+    × (limit_left l.reader (flat_map (λ piece. piece.now) (drop l.piece-index l.pieces))
+    ≡ limit_passed l.limits.line_bytes l.limits.lines (lines_of (flat_map (λ piece. piece.now) l.pieces)))
     × (l.reader.failed ≡ None)

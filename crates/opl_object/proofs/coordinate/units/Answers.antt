@@ -15,9 +15,12 @@ pub returns-then-rounds_up : goal.returns-then-rounds_up
 returns-then-rounds_up c =
     let three : c.value_after-value-3.result ≡ min (digits_value 10 (c.args.whole.now ++ seven c.args.decimals.now)) CAP
     = c.value_after-value-3.ensures.value
-    ∙ ap (λ n. min (digits_value_after 10 n (take (7 - c.min-shown.result) (replicate 7 48))) CAP) (c.value_after-value-2.ensures.value ∙ ap (λ n. min (digits_value_after 10 n (take c.min-shown.result c.args.decimals.now)) CAP) c.value_after-value.ensures.value)
+    ∙ ap (λ n. min (digits_value_after 10 n (take (7 - c.min-shown.result) (replicate 7 48))) CAP)
+    (c.value_after-value-2.ensures.value ∙ ap
+    (λ n. min (digits_value_after 10 n (take c.min-shown.result c.args.decimals.now)) CAP) c.value_after-value.ensures.value)
     ∙ capped_parts CAP c.args.whole.now (take c.min-shown.result c.args.decimals.now) (take (7 - c.min-shown.result) (replicate 7 48))
-    ∙ ap (λ ds. min (digits_value 10 (c.args.whole.now ++ ds)) CAP) (sym (seven_parts c.args.decimals.now c.min-shown.result (omega (arith, c.min-shown.ensures)))) in
+    ∙ ap (λ ds. min (digits_value 10 (c.args.whole.now ++ ds)) CAP)
+    (sym (seven_parts c.args.decimals.now c.min-shown.result (omega (arith, c.min-shown.ensures)))) in
     let round : leb 53 (slice_index c.args.decimals.now 7) ≡ true = sym c.rounds_up.ensures.value ∙ c.if-rounds_up.true in
     let all = digits_value 10 (c.args.whole.now ++ seven c.args.decimals.now) in
     let sum : units c.args.whole.now c.args.decimals.now ≡ all + 1 = ap (λ b. all + cond b 1 0) round in
@@ -27,9 +30,12 @@ pub returns-else-rounds_up : goal.returns-else-rounds_up
 returns-else-rounds_up c =
     let three : c.value_after-value-3.result ≡ min (digits_value 10 (c.args.whole.now ++ seven c.args.decimals.now)) CAP
     = c.value_after-value-3.ensures.value
-    ∙ ap (λ n. min (digits_value_after 10 n (take (7 - c.min-shown.result) (replicate 7 48))) CAP) (c.value_after-value-2.ensures.value ∙ ap (λ n. min (digits_value_after 10 n (take c.min-shown.result c.args.decimals.now)) CAP) c.value_after-value.ensures.value)
+    ∙ ap (λ n. min (digits_value_after 10 n (take (7 - c.min-shown.result) (replicate 7 48))) CAP)
+    (c.value_after-value-2.ensures.value ∙ ap
+    (λ n. min (digits_value_after 10 n (take c.min-shown.result c.args.decimals.now)) CAP) c.value_after-value.ensures.value)
     ∙ capped_parts CAP c.args.whole.now (take c.min-shown.result c.args.decimals.now) (take (7 - c.min-shown.result) (replicate 7 48))
-    ∙ ap (λ ds. min (digits_value 10 (c.args.whole.now ++ ds)) CAP) (sym (seven_parts c.args.decimals.now c.min-shown.result (omega (arith, c.min-shown.ensures)))) in
+    ∙ ap (λ ds. min (digits_value 10 (c.args.whole.now ++ ds)) CAP)
+    (sym (seven_parts c.args.decimals.now c.min-shown.result (omega (arith, c.min-shown.ensures)))) in
     let round : leb 53 (slice_index c.args.decimals.now 7) ≡ false = sym c.rounds_up.ensures.value ∙ c.if-rounds_up.false in
     let all = digits_value 10 (c.args.whole.now ++ seven c.args.decimals.now) in
     let sum : units c.args.whole.now c.args.decimals.now ≡ all + 0 = ap (λ b. all + cond b 1 0) round in

@@ -14,8 +14,13 @@ loop-digit-preserved c =
     let rest = drop (c.loop-digit.digit-index + 1) c.args.digits.now in
     let r = digit_at c.args.digits.now c.loop-digit.digit-index all c.loop-digit-test.true in
     let worth : digit_value byte ≡ c.from.result = digit_value-digit byte r.0 r.1 ∙ sym c.from.ensures in
-    let step : min (digits_value_after 10 (min (c.loop-digit.value * 10 + c.from.result) CAP) rest) CAP ≡ min (digits_value_after 10 c.loop-digit.value (drop c.loop-digit.digit-index c.args.digits.now)) CAP
+    let step : min (digits_value_after 10 (min (c.loop-digit.value * 10 + c.from.result) CAP) rest) CAP
+    ≡ min (digits_value_after 10 c.loop-digit.value (drop c.loop-digit.digit-index c.args.digits.now)) CAP
     = capped_after CAP (c.loop-digit.value * 10 + c.from.result) rest
     ∙ ap (λ d. min (digits_value_after 10 (c.loop-digit.value * 10 + d) rest) CAP) (sym worth)
-    ∙ ap (λ ds. min (digits_value_after 10 c.loop-digit.value ds) CAP) (sym (drop_more c.args.digits.now c.loop-digit.digit-index 0 c.loop-digit-test.true)) in
-    (omega (arith, c.min-value.ensures), ap (λ n. min (digits_value_after 10 n rest) CAP) c.min-value.ensures ∙ step ∙ c.loop-digit.invariant.1)
+    ∙ ap (λ ds. min (digits_value_after 10 c.loop-digit.value ds) CAP)
+    (sym (drop_more c.args.digits.now c.loop-digit.digit-index 0 c.loop-digit-test.true)) in (
+      omega (arith, c.min-value.ensures),
+      ap (λ n. min (digits_value_after 10 n rest) CAP) c.min-value.ensures ∙ step
+          ∙ c.loop-digit.invariant.1,
+    )

@@ -4,7 +4,14 @@ use Rattle.opl_object.specs.Escapes.{is_bare}
 use Rattle.opl_object.proofs.escapes.bare_len.Goals as goal
 
 pub returns-then-not-is_bare : goal.returns-then-not-is_bare
-returns-then-not-is_bare c = record { len = sym (position_or_len_is ((λ byte. not (is_bare byte))) c.args.text.now c.loop-place.place 0 (omega arith) c.loop-place.invariant (λ _. search rules)) }
+returns-then-not-is_bare c = record {
+  len =
+      sym (position_or_len_is ((λ byte. not (is_bare byte))) c.args.text.now c.loop-place.place 0 (omega arith) c.loop-place.invariant
+      (λ _. search rules));
+}
 
 pub returns : goal.returns
-returns c = record { len = sym (position_or_len_is ((λ byte. not (is_bare byte))) c.args.text.now _ 0 (omega arith) (λ k lt. c.loop-place.invariant k (omega arith)) (λ lt. absurd (omega arith))) }
+returns c = record {
+  len = sym (position_or_len_is ((λ byte. not (is_bare byte))) c.args.text.now _ 0 (omega arith)
+      (λ k lt. c.loop-place.invariant k (omega arith)) (λ lt. absurd (omega arith)));
+}

@@ -31,7 +31,8 @@ returns-in_default-clause-ok g c =
     let bare = c.split_bare.result.0.now in
     let behind = c.split_bare.result.1.now in
     c.loop-code.invariant.1 _ (
-    subst (Appends _ _) (sym (written_end c.loop-code.rest.now bare behind c.split_bare.ensures.whole c.split_bare.ensures.bare c.in_default.ensures.first))
+    subst (Appends _ _) (sym (written_end c.loop-code.rest.now bare behind c.split_bare.ensures.whole c.split_bare.ensures.bare
+    c.in_default.ensures.first))
     (rw c.as_bytes.ensures.value at c.in_ok-put_all.ensures.ok)
     )
 
@@ -50,7 +51,8 @@ returns-in_err-put_escape-clause-err g c =
 
 pub loop-code-smaller : goal.loop-code-smaller
 loop-code-smaller g c =
-    shorter_step c.loop-code.rest.now c.split_bare.result.0.now c.split_bare.result.1.now c.split_bare.ensures.whole c.split_bare.ensures.bare
+    shorter_step c.loop-code.rest.now c.split_bare.result.0.now c.split_bare.result.1.now c.split_bare.ensures.whole
+    c.split_bare.ensures.bare
     c.in-Some.code c.in-Some.after.now c.in-Some.ensures.first c.split_bare.ensures.text c.split_bare.ensures.stop
 
 pub loop-code-preserved : goal.loop-code-preserved
@@ -66,6 +68,7 @@ loop-code-preserved g c =
       λ end rest. c.loop-code.invariant.1 end (subst (Appends _ end) (sym whole)
           (Appends-then _ _ end bare (escape ++ later) front (Appends-then _ _ end escape later c.in_ok-put_escape.ensures.ok rest))),
       λ end rest. c.loop-code.invariant.2 end (subst (AppendsPrefix _ end) (sym whole)
-          (AppendsPrefix-then _ _ end bare (escape ++ later) front (AppendsPrefix-then _ _ end escape later c.in_ok-put_escape.ensures.ok rest))),
+          (AppendsPrefix-then _ _ end bare (escape ++ later) front
+          (AppendsPrefix-then _ _ end escape later c.in_ok-put_escape.ensures.ok rest))),
       omega (arith, c.loop-code.invariant.3, c.in_ok-put_all.ensures.cause.later, c.in_ok-put_escape.ensures.cause.later),
     )

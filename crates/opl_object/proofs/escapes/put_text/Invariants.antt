@@ -11,8 +11,10 @@ use Rattle.opl_object.proofs.escapes.put_text.Given as goal
 abbrev pub invariant-loop-code : goal.invariant-loop-code
 invariant-loop-code g l =
     shadow (Utf8 l.rest)
-    × ((after : Option (List ℕ)) → Appends (g.S.Sink.view l.out).taken after (written_text (chars l.rest)) → Appends (g.S.Sink.view l.initial.out).taken after (written_text (chars l.text)))
-    × ((after : Option (List ℕ)) → AppendsPrefix (g.S.Sink.view l.out).taken after (written_text (chars l.rest)) → AppendsPrefix (g.S.Sink.view l.initial.out).taken after (written_text (chars l.text)))
+    × ((after : Option (List ℕ)) → Appends (g.S.Sink.view l.out).taken after (written_text (chars l.rest))
+    → Appends (g.S.Sink.view l.initial.out).taken after (written_text (chars l.text)))
+    × ((after : Option (List ℕ)) → AppendsPrefix (g.S.Sink.view l.out).taken after (written_text (chars l.rest))
+    → AppendsPrefix (g.S.Sink.view l.initial.out).taken after (written_text (chars l.text)))
     × ((g.S.Sink.view l.initial.out).faults ≤ (g.S.Sink.view l.out).faults)
 
 abbrev pub decreases-loop-code : goal.decreases-loop-code

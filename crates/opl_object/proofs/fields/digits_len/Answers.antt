@@ -4,7 +4,15 @@ use Rattle.std.proofs.lemmas.List.Sums.{position_or_len_is}
 use Rattle.opl_object.proofs.fields.digits_len.Goals as goal
 
 pub returns-then-not-is_ascii_digit : goal.returns-then-not-is_ascii_digit
-returns-then-not-is_ascii_digit c = record { place = sym (position_or_len_is ((λ byte. not (is_ascii_digit byte))) c.args.text.now c.loop-place.place 0 (omega arith) c.loop-place.invariant (λ _. search rules)) }
+returns-then-not-is_ascii_digit c = record {
+  place =
+      sym (position_or_len_is ((λ byte. not (is_ascii_digit byte))) c.args.text.now c.loop-place.place 0 (omega arith)
+      c.loop-place.invariant
+      (λ _. search rules));
+}
 
 pub returns : goal.returns
-returns c = record { place = sym (position_or_len_is ((λ byte. not (is_ascii_digit byte))) c.args.text.now _ 0 (omega arith) (λ k lt. c.loop-place.invariant k (omega arith)) (λ lt. absurd (omega arith))) }
+returns c = record {
+  place = sym (position_or_len_is ((λ byte. not (is_ascii_digit byte))) c.args.text.now _ 0 (omega arith)
+      (λ k lt. c.loop-place.invariant k (omega arith)) (λ lt. absurd (omega arith)));
+}

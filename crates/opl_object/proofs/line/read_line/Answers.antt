@@ -14,10 +14,12 @@ pub returns-clause-read : goal.returns-clause-read
 returns-clause-read c = λ entry s. again_gives c.args.line.now entry c.read_counted.result s c.read_counted.ensures.exact
 
 pub returns-clause-in_order : goal.returns-clause-in_order
-returns-clause-in_order c = λ earlier later e. never_order c.args.line.now earlier later c.read_counted.result c.read_counted.ensures.exact e
+returns-clause-in_order c = λ earlier later e.
+    never_order c.args.line.now earlier later c.read_counted.result c.read_counted.ensures.exact e
 
 pub returns-clause-writable : goal.returns-clause-writable
-returns-clause-writable c = found_writable c.args.line.now c.read_counted.result (found_spells c.args.line.now c.read_counted.result c.read_counted.ensures.exact)
+returns-clause-writable c = found_writable c.args.line.now c.read_counted.result
+    (found_spells c.args.line.now c.read_counted.result c.read_counted.ensures.exact)
 
 pub returns-then-is_skipped-clause-refused : goal.returns-then-is_skipped-clause-refused
 returns-then-is_skipped-clause-refused c = λ why f. absurd (f.counts (sym c.is_skipped.ensures.value ∙ c.if-is_skipped.true))

@@ -9,5 +9,6 @@ returns-in-Ok c = record { text = rw (is_utf8-from_IsUtf8 c.args.line.now c.in-O
 
 pub returns-in-Err : goal.returns-in-Err
 returns-in-Err c =
-    let no : is_utf8 c.args.line.now ≡ false = false_from_ne_true _ (λ e. c.in-Err.ensures.cases.0 (IsUtf8-from_is_utf8 c.args.line.now e)) in
+    let no : is_utf8 c.args.line.now ≡ false =
+    false_from_ne_true _ (λ e. c.in-Err.ensures.cases.0 (IsUtf8-from_is_utf8 c.args.line.now e)) in
     record { text = rw no refl }

@@ -7,4 +7,5 @@ use Rattle.opl_object.proofs.lists.put_key.Goals as goal
 pub returns-in_err-put_all-clause-err : goal.returns-in_err-put_all-clause-err
 returns-in_err-put_all-clause-err g c =
     rw (← c.key.view_is)
-    (err-first c.from_residual.result _ _ (kind_byte c.key.inside.kind ∷ []) (decimal c.key.inside.id) (rw c.kind_byte.ensures.letter at c.in_err-put_all.ensures.err))
+    (err-first c.from_residual.result _ _ (kind_byte c.key.inside.kind ∷ []) (decimal c.key.inside.id)
+    (rw c.kind_byte.ensures.letter at c.in_err-put_all.ensures.err))

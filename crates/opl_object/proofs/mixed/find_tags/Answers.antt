@@ -18,22 +18,29 @@ pub loop-left-preserved : goal.loop-left-preserved
 loop-left-preserved c =
     let tags = tags_in c.loop-left.found.items in
     let so_far = c.loop-left.invariant
-    ∙ ap (λ left. with_tags map.empty tags >>= λ tags. each_piece with_piece tags (later_pieces (is COMMA) (option_map (λ text. text.now) left))) c.in-Some.is
+    ∙ ap (λ left. with_tags map.empty tags >>= λ tags.
+    each_piece with_piece tags (later_pieces (is COMMA) (option_map (λ text. text.now) left))) c.in-Some.is
     ∙ ap (λ pieces. with_tags map.empty tags >>= λ tags. each_piece with_piece tags pieces) c.cut.ensures.pieces in
     let pushed = tags_in-push c.loop-left.found.items _ in
     gathers tags c.cut.result.0.now _ _ so_far (tags_in c.push.new.self.items)
-    (listed-tag tags c.cut.result.0.now (tag_of c.cut.result.0.now) c.in-Ok.ensures.tag ∙ ap Ok (sym (ap tags_in c.in_ok-push-in-Ok.ensures.items ∙ pushed)))
+    (listed-tag tags c.cut.result.0.now (tag_of c.cut.result.0.now) c.in-Ok.ensures.tag
+    ∙ ap Ok (sym (ap tags_in c.in_ok-push-in-Ok.ensures.items ∙ pushed)))
 
 pub returns-in-Err : goal.returns-in-Err
 returns-in-Err c =
     let tags = tags_in c.loop-left.found.items in
     let so_far = c.loop-left.invariant
-    ∙ ap (λ left. with_tags map.empty tags >>= λ tags. each_piece with_piece tags (later_pieces (is COMMA) (option_map (λ text. text.now) left))) c.in-Some.is
+    ∙ ap (λ left. with_tags map.empty tags >>= λ tags.
+    each_piece with_piece tags (later_pieces (is COMMA) (option_map (λ text. text.now) left))) c.in-Some.is
     ∙ ap (λ pieces. with_tags map.empty tags >>= λ tags. each_piece with_piece tags pieces) c.cut.ensures.pieces in
-    record { tags = stops tags c.cut.result.0.now _ _ so_far c.in-Err.why (listed-none tags c.cut.result.0.now c.in-Err.why c.in-Err.ensures.tag) }
+    record {
+      tags = stops tags c.cut.result.0.now _ _ so_far c.in-Err.why
+          (listed-none tags c.cut.result.0.now c.in-Err.why c.in-Err.ensures.tag);
+    }
 
 pub returns : goal.returns
 returns c =
     let tags = tags_in c.loop-left.found.items in
-    let left = ap (λ left. with_tags map.empty tags >>= λ tags. each_piece with_piece tags (later_pieces (is COMMA) (option_map (λ text. text.now) left))) c.in_default.is in
+    let left = ap (λ left. with_tags map.empty tags >>= λ tags.
+    each_piece with_piece tags (later_pieces (is COMMA) (option_map (λ text. text.now) left))) c.in_default.is in
     record { tags = ends tags _ (c.loop-left.invariant ∙ left) }

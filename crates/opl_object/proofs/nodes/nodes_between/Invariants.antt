@@ -8,7 +8,8 @@ use Rattle.opl_object.proofs.nodes.nodes_between.Given as goal
 
 -- the pieces that are left lead to the same, behind what is there
 abbrev pub invariant-loop-left : goal.invariant-loop-left
-invariant-loop-left l = each_piece with_node l.nodes.items (later_pieces (is 44) (option_map (λ text. text.now) l.left)) ≡ each_piece with_node [] (slice_split (is 44) l.fn.text)
+invariant-loop-left l = each_piece with_node l.nodes.items (later_pieces (is 44) (option_map (λ text. text.now) l.left))
+    ≡ each_piece with_node [] (slice_split (is 44) l.fn.text)
 
 abbrev pub decreases-loop-left : goal.decreases-loop-left
 decreases-loop-left l = option_map_or (λ text. length text.now + 1) l.left 0

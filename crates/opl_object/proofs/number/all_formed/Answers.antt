@@ -10,13 +10,17 @@ pub returns-then-not-is_formed : goal.returns-then-not-is_formed
 returns-then-not-is_formed c =
     let pair = get_or-zip TIME_FORM c.args.text.now c.loop-place.place (0, 0) (omega arith) (omega arith) in
     let lt : c.loop-place.place < length (zip TIME_FORM c.args.text.now) = rw length-zip (omega arith) in
-    record { value = one_fails is_formed (zip TIME_FORM c.args.text.now) c.loop-place.place (0, 0) lt (ap is_formed pair ∙ sym c.is_formed.ensures.value ∙ c.if-not-is_formed.true) }
+    record {
+      value = one_fails is_formed (zip TIME_FORM c.args.text.now) c.loop-place.place (0, 0) lt
+          (ap is_formed pair ∙ sym c.is_formed.ensures.value ∙ c.if-not-is_formed.true);
+    }
 
 pub loop-place-preserved : goal.loop-place-preserved
 loop-place-preserved c =
     let pair = get_or-zip TIME_FORM c.args.text.now c.loop-place.place (0, 0) (omega arith) (omega arith) in
     let lt : c.loop-place.place < length (zip TIME_FORM c.args.text.now) = rw length-zip (omega arith) in
-    one_passes is_formed (zip TIME_FORM c.args.text.now) c.loop-place.place (0, 0) lt c.loop-place.invariant (ap is_formed pair ∙ sym c.is_formed.ensures.value ∙ c.if-not-is_formed.false)
+    one_passes is_formed (zip TIME_FORM c.args.text.now) c.loop-place.place (0, 0) lt c.loop-place.invariant
+    (ap is_formed pair ∙ sym c.is_formed.ensures.value ∙ c.if-not-is_formed.false)
 
 pub returns : goal.returns
 returns c = record { value = all_pass is_formed (zip TIME_FORM c.args.text.now) _ (rw length-zip (omega arith)) c.loop-place.invariant }

@@ -12,7 +12,8 @@ use Rattle.opl_object.proofs.parts.read_fields.Given as goal
 -- the fields that are left say the same, behind those before them
 abbrev pub invariant-loop-field : goal.invariant-loop-field
 invariant-loop-field l = shadow (Utf8 l.left) × AreOnEarth l.parts
-    × (each_piece (with_field l.kind) (stands l.seen, l.parts) (fields_of l.left) ≡ each_piece (with_field l.kind) (none_stood, nothing) (fields_of l.fn.text))
+    × (each_piece (with_field l.kind) (stands l.seen, l.parts) (fields_of l.left)
+    ≡ each_piece (with_field l.kind) (none_stood, nothing) (fields_of l.fn.text))
 
 abbrev pub decreases-loop-field : goal.decreases-loop-field
 decreases-loop-field l = length l.left

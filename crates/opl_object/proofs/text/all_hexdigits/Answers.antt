@@ -4,10 +4,15 @@ use Rattle.opl_object.proofs.Passes.{one_fails, one_passes, all_pass}
 use Rattle.opl_object.proofs.text.all_hexdigits.Goals as goal
 
 pub returns-then-not-is_ascii_hexdigit : goal.returns-then-not-is_ascii_hexdigit
-returns-then-not-is_ascii_hexdigit c = record { value = one_fails is_ascii_hexdigit c.args.text.now c.loop-byte.byte-index 0 c.loop-byte-test.true (sym c.is_ascii_hexdigit.ensures.value ∙ c.if-not-is_ascii_hexdigit.true) }
+returns-then-not-is_ascii_hexdigit c = record {
+  value =
+      one_fails is_ascii_hexdigit c.args.text.now c.loop-byte.byte-index 0 c.loop-byte-test.true
+      (sym c.is_ascii_hexdigit.ensures.value ∙ c.if-not-is_ascii_hexdigit.true);
+}
 
 pub loop-byte-preserved : goal.loop-byte-preserved
-loop-byte-preserved c = one_passes is_ascii_hexdigit c.args.text.now c.loop-byte.byte-index 0 c.loop-byte-test.true c.loop-byte.invariant (sym c.is_ascii_hexdigit.ensures.value ∙ c.if-not-is_ascii_hexdigit.false)
+loop-byte-preserved c = one_passes is_ascii_hexdigit c.args.text.now c.loop-byte.byte-index 0 c.loop-byte-test.true c.loop-byte.invariant
+    (sym c.is_ascii_hexdigit.ensures.value ∙ c.if-not-is_ascii_hexdigit.false)
 
 pub returns : goal.returns
 returns c = record { value = all_pass is_ascii_hexdigit c.args.text.now c.loop-byte.byte-index (omega arith) c.loop-byte.invariant }

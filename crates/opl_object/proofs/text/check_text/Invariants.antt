@@ -9,7 +9,8 @@ use denote.Text.{Utf8}
 
 -- what is left is a text where all is
 abbrev pub invariant-loop-escape : goal.invariant-loop-escape
-invariant-loop-escape l = shadow (Utf8 l.rest) × (kept_none (resolved [] (slice_split (is 37) l.rest)) ≡ kept_none (resolved [] (slice_split (is 37) l.fn.spelled)))
+invariant-loop-escape l = shadow (Utf8 l.rest)
+    × (kept_none (resolved [] (slice_split (is 37) l.rest)) ≡ kept_none (resolved [] (slice_split (is 37) l.fn.spelled)))
 
 abbrev pub decreases-loop-escape : goal.decreases-loop-escape
 decreases-loop-escape l = length l.rest

@@ -10,4 +10,5 @@ pub returns-in_err-put_degrees-clause-err : goal.returns-in_err-put_degrees-clau
 returns-in_err-put_degrees-clause-err g c =
     let fits : SFits w32 c.place.inside.lon = record { sfits = c.place.ranges.0.1 } in
     rw (c.in-Some.is, ← c.place.view_is)
-    (err-first c.from_residual-in_err-put_degrees.result _ _ (codes " x" ++ degrees c.place.inside.lon) (codes " y" ++ degrees c.place.inside.lat) (rw (to_z-of_z w32 c.place.inside.lon fits) at c.in_err-put_degrees.ensures.err))
+    (err-first c.from_residual-in_err-put_degrees.result _ _ (codes " x" ++ degrees c.place.inside.lon)
+    (codes " y" ++ degrees c.place.inside.lat) (rw (to_z-of_z w32 c.place.inside.lon fits) at c.in_err-put_degrees.ensures.err))

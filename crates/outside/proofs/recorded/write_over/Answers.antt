@@ -28,7 +28,14 @@ returns-in-Ok-clause-kept c = λ start same.
 pub returns-in-Ok-clause-small : goal.returns-in-Ok-clause-small
 returns-in-Ok-clause-small c = λ small.
     let size = length-padded (max (length c.args.bytes.now.items) (c.args.at + length c.args.piece.now)) c.args.bytes.now.items in
-    omega (arith, c.requires, ap length c.in_ok-grow.ensures.ok, size, ap length c.put_over.ensures, length-overlaid c.args.at c.args.piece.now c.grow.new.bytes.items)
+    omega (
+      arith,
+      c.requires,
+      ap length c.in_ok-grow.ensures.ok,
+      size,
+      ap length c.put_over.ensures,
+      length-overlaid c.args.at c.args.piece.now c.grow.new.bytes.items,
+    )
 
 pub returns-in-Ok-clause-crash : goal.returns-in-Ok-clause-crash
 returns-in-Ok-clause-crash c = λ start left may.
@@ -41,7 +48,8 @@ returns-in-Err-clause-err c =
     let long : length c.args.bytes.now.items ≤ max (length c.args.bytes.now.items) (c.args.at + length c.args.piece.now) = omega arith in
     let whole : c.len-len.result ≡ length c.args.bytes.now.items = omega (arith, c.len-len.ensures, c.args.bytes.now.ok.0) in
     c.truncate.ensures.items ∙ ap (λ (l : List ℕ). take c.len-len.result l) c.in_ok-grow.ensures.ok
-    ∙ ap (λ (n : ℕ). take n (padded (max (length c.args.bytes.now.items) (c.args.at + length c.args.piece.now)) c.args.bytes.now.items)) whole
+    ∙ ap (λ (n : ℕ). take n (padded (max (length c.args.bytes.now.items) (c.args.at + length c.args.piece.now)) c.args.bytes.now.items))
+    whole
     ∙ take-padded (max (length c.args.bytes.now.items) (c.args.at + length c.args.piece.now)) c.args.bytes.now.items long
 
 pub returns-in-Err-clause-kept : goal.returns-in-Err-clause-kept
@@ -50,6 +58,7 @@ returns-in-Err-clause-kept c = λ start same.
     let whole : c.len-len.result ≡ length c.args.bytes.now.items = omega (arith, c.len-len.ensures, c.args.bytes.now.ok.0) in
     let cut : c.truncate.new.self.items ≡ c.args.bytes.now.items =
     c.truncate.ensures.items ∙ ap (λ (l : List ℕ). take c.len-len.result l) c.in_ok-grow.ensures.ok
-    ∙ ap (λ (n : ℕ). take n (padded (max (length c.args.bytes.now.items) (c.args.at + length c.args.piece.now)) c.args.bytes.now.items)) whole
+    ∙ ap (λ (n : ℕ). take n (padded (max (length c.args.bytes.now.items) (c.args.at + length c.args.piece.now)) c.args.bytes.now.items))
+    whole
     ∙ take-padded (max (length c.args.bytes.now.items) (c.args.at + length c.args.piece.now)) c.args.bytes.now.items long in
     ap (λ (calls : List Call). (run (fresh start) calls).seen) c.in-Err.ensures.err ∙ same ∙ sym cut

@@ -7,8 +7,10 @@ use Rattle.outside.proofs.sink.put_all.Given as goal
 abbrev pub invariant-loop-rest : goal.invariant-loop-rest
 invariant-loop-rest g l =
     record {
-      all : (after : Option (List ℕ)) → Appends (g.S.Sink.view l.out).taken after l.rest → Appends (g.S.Sink.view l.initial.out).taken after l.bytes;
-      front : (after : Option (List ℕ)) → AppendsPrefix (g.S.Sink.view l.out).taken after l.rest → AppendsPrefix (g.S.Sink.view l.initial.out).taken after l.bytes;
+      all : (after : Option (List ℕ)) → Appends (g.S.Sink.view l.out).taken after l.rest
+          → Appends (g.S.Sink.view l.initial.out).taken after l.bytes;
+      front : (after : Option (List ℕ)) → AppendsPrefix (g.S.Sink.view l.out).taken after l.rest
+          → AppendsPrefix (g.S.Sink.view l.initial.out).taken after l.bytes;
       later : (g.S.Sink.view l.initial.out).faults ≤ (g.S.Sink.view l.out).faults;
     }
 

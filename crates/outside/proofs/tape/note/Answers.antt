@@ -18,7 +18,8 @@ returns-clause-runs c = λ start. run_push c.args.call start _ _ c.in_ok-push.en
 
 pub returns-clause-idle : goal.returns-clause-idle
 returns-clause-idle c = λ still start.
-    ap (λ (medium : Medium). medium.seen) (run_push c.args.call start _ _ c.in_ok-push.ensures.items) ∙ still (run (fresh start) c.args.calls.now.items)
+    ap (λ (medium : Medium). medium.seen) (run_push c.args.call start _ _ c.in_ok-push.ensures.items)
+    ∙ still (run (fresh start) c.args.calls.now.items)
 
 pub returns-clause-time : goal.returns-clause-time
 returns-clause-time c = λ start. elapses_more c.args.call start _ _ c.in_ok-push.ensures.items

@@ -28,7 +28,8 @@ returns-in_err-write_bodies-clause-writes g c = record {
       let one = c.write_numbers.ensures.writes.crash (4096 * c.args.home) base start within in
       goes_then P _ _ _ one (c.write_bodies.ensures.writes.crash (4096 * c.args.home) base behind one.now);
   reads = c.write_bodies.ensures.writes.reads ∙ c.write_numbers.ensures.writes.reads;
-  cause = caused _ _ _ _ c.write_numbers.ensures.writes.cause.later c.write_bodies.ensures.writes.cause.later c.in_err-write_bodies.ensures.writes.cause.failed;
+  cause = caused _ _ _ _ c.write_numbers.ensures.writes.cause.later c.write_bodies.ensures.writes.cause.later
+      c.in_err-write_bodies.ensures.writes.cause.failed;
 }
 
 pub returns-in_err-write_fields-clause-writes : goal.returns-in_err-write_fields-clause-writes
@@ -41,7 +42,8 @@ returns-in_err-write_fields-clause-writes g c = record {
       let two = goes_then P _ _ _ one (c.write_bodies.ensures.writes.crash (4096 * c.args.home) base behind one.now) in
       goes_then P _ _ _ two ((c.write_fields.ensures.writes (4096 * c.args.home)).crash base two.now);
   reads = (c.write_fields.ensures.writes 0).reads ∙ (c.write_bodies.ensures.writes.reads ∙ c.write_numbers.ensures.writes.reads);
-  cause = caused _ _ _ _ (le_trans c.write_numbers.ensures.writes.cause.later c.write_bodies.ensures.writes.cause.later) (c.write_fields.ensures.writes 0).cause.later
+  cause = caused _ _ _ _ (le_trans c.write_numbers.ensures.writes.cause.later c.write_bodies.ensures.writes.cause.later)
+      (c.write_fields.ensures.writes 0).cause.later
       (c.in_err-write_fields.ensures.writes 0).cause.failed;
 }
 
@@ -54,7 +56,8 @@ returns-clause-put g c =
     let mid = g.D.Disk.view c.write_fields.new.disk in
     let new = g.D.Disk.view c.sync.new.self in
     on_ok ((content : List ℕ) → Tells mid content → Only content new.crashes)
-    ((bytes : List ℕ) → Tells old bytes → (now : List ℕ) × Tells new now × Only now new.crashes × JournalPut entries count home bytes now) c.sync.result
+    ((bytes : List ℕ) → Tells old bytes → (now : List ℕ) × Tells new now × Only now new.crashes × JournalPut entries count home bytes now)
+    c.sync.result
     (λ durable bytes told.
     let one = c.in_ok-write_numbers.ensures.put bytes told in
     let two = c.in_ok-write_bodies.ensures.put one.0 one.1 in
@@ -68,7 +71,8 @@ returns-clause-put g c =
       three.0,
       c.sync.ensures.content ∙ three.1,
       durable three.0 three.1,
-      journal_put entries count home c.bodies_at-bodies.result bytes one.0 two.0 three.0 (omega (arith, c.requires.fits.some, c.requires.fits.few))
+      journal_put entries count home c.bodies_at-bodies.result bytes one.0 two.0 three.0
+          (omega (arith, c.requires.fits.some, c.requires.fits.few))
           c.requires.fits.some at-is numbers two.2 fields,
     ))
     c.sync.ensures.durable
@@ -83,7 +87,9 @@ returns-clause-writes g c = record {
       let two = goes_then P _ _ _ one (c.write_bodies.ensures.writes.crash (4096 * c.args.home) base behind one.now) in
       let three = goes_then P _ _ _ two ((c.write_fields.ensures.writes (4096 * c.args.home)).crash base two.now) in
       goes_quiet P _ _ _ three c.sync.ensures.time c.sync.ensures.crash;
-  reads = c.sync.ensures.reads ∙ ((c.write_fields.ensures.writes 0).reads ∙ (c.write_bodies.ensures.writes.reads ∙ c.write_numbers.ensures.writes.reads));
+  reads = c.sync.ensures.reads ∙ ((c.write_fields.ensures.writes 0).reads
+      ∙ (c.write_bodies.ensures.writes.reads ∙ c.write_numbers.ensures.writes.reads));
   cause = cause_after _ _ _ c.sync.result
-      (le_trans c.write_numbers.ensures.writes.cause.later (le_trans c.write_bodies.ensures.writes.cause.later (c.write_fields.ensures.writes 0).cause.later)) c.sync.ensures.cause;
+      (le_trans c.write_numbers.ensures.writes.cause.later
+      (le_trans c.write_bodies.ensures.writes.cause.later (c.write_fields.ensures.writes 0).cause.later)) c.sync.ensures.cause;
 }

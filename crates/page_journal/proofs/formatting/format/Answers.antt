@@ -12,5 +12,9 @@ returns-clause-fresh g c = λ bytes told.
     let now : List ℕ = overlaid 0 new bytes in
     let tells : (g.D.Disk.view c.write_at.new.self).content ≡ Some now =
     told_written (overlaid 0 new) _ _ bytes (c.len.ensures.content ∙ told) c.in_ok-write_at.ensures.written in
-    let is : IsFresh now = subst (λ (l : List ℕ). IsFresh l) (sym (overlaid-none new bytes none)) c.fresh_bytes-bytes.ensures in
-    (now, is, fresh_settled now (g.D.Disk.view c.sync.new.self) is (c.sync.ensures.content ∙ tells) (c.in_ok-sync.ensures.durable now tells))
+    let is : IsFresh now = subst (λ (l : List ℕ). IsFresh l) (sym (overlaid-none new bytes none)) c.fresh_bytes-bytes.ensures in (
+      now,
+      is,
+      fresh_settled now (g.D.Disk.view c.sync.new.self) is (c.sync.ensures.content ∙ tells)
+          (c.in_ok-sync.ensures.durable now tells),
+    )

@@ -27,7 +27,8 @@ returns-clause-others c = λ other below.
     let size = length-overlaid (8 * c.args.place) new c.args.bytes.now in
     ap (λ (l : List ℕ). number l (8 * other)) (
     put_mid-overlaid (8 * c.args.place) 8 c.args.bytes.now new (omega (arith, c.told-bytes)) long
-    ) ∙ number_same c.args.bytes.now (overlaid (8 * c.args.place) new c.args.bytes.now) (8 * other) (8 * other) (omega (arith, c.told-bytes, c.requires))
+    ) ∙ number_same c.args.bytes.now (overlaid (8 * c.args.place) new c.args.bytes.now) (8 * other) (8 * other)
+    (omega (arith, c.told-bytes, c.requires))
     (omega (arith, c.told-bytes, c.requires))
     (λ k inside. overlaid-beside (8 * c.args.place) new c.args.bytes.now (8 * other + k) (inl (omega arith)))
 

@@ -25,8 +25,10 @@ loop-number-init g c =
       put = λ bytes told. (
         bytes,
         told,
-        subst (λ (at : ℕ). NumbersHeld (plain c.args.pages.now.entries) 0 c.args.at at page.filled page.bytes bytes bytes) (sym c.new-page.ensures.place)
-            (subst (λ (n : ℕ). NumbersHeld (plain c.args.pages.now.entries) 0 c.args.at c.args.at n page.bytes bytes bytes) (sym c.new-page.ensures.none)
+        subst (λ (at : ℕ). NumbersHeld (plain c.args.pages.now.entries) 0 c.args.at at page.filled page.bytes bytes bytes)
+            (sym c.new-page.ensures.place)
+            (subst (λ (n : ℕ). NumbersHeld (plain c.args.pages.now.entries) 0 c.args.at c.args.at n page.bytes bytes bytes)
+            (sym c.new-page.ensures.none)
             (held_start (plain c.args.pages.now.entries) c.args.at page.bytes bytes c.new-page.ensures.long c.new-page.ensures.zero)),
       );
       crash = λ low base le within. started (Spares (BesideJournal low) base) _ within;
@@ -56,7 +58,8 @@ loop-number-preserved g c =
           let next = added.put held.0 held.1 in (
             next.0,
             next.1,
-            subst (λ (n : ℕ). NumbersHeld (plain entries) n c.args.at c.add_number.new.page.at c.add_number.new.page.filled c.add_number.new.page.bytes bytes next.0) (sym more)
+            subst (λ (n : ℕ). NumbersHeld (plain entries) n c.args.at c.add_number.new.page.at c.add_number.new.page.filled
+                c.add_number.new.page.bytes bytes next.0) (sym more)
                 (next.2 (plain entries) (length yielded) c.args.at bytes held.2 (sym here)),
           );
       crash = λ low base le within.
@@ -81,7 +84,8 @@ returns-in_err-add_number-clause-writes g c = record {
       let run = so_far.crash low base le within in
       goes_then (Spares (BesideJournal low) base) _ _ _ run (c.add_number.ensures.writes.crash low base (le_trans le so_far.from) run.now);
   reads = c.add_number.ensures.writes.reads ∙ c.loop-number.invariant.reads;
-  cause = caused _ _ _ _ c.loop-number.invariant.later c.add_number.ensures.writes.cause.later c.in_err-add_number.ensures.writes.cause.failed;
+  cause = caused _ _ _ _ c.loop-number.invariant.later c.add_number.ensures.writes.cause.later
+      c.in_err-add_number.ensures.writes.cause.failed;
 }
 
 pub returns-then-page-eq0-clause-put : goal.returns-then-page-eq0-clause-put
@@ -96,7 +100,8 @@ returns-then-page-eq0-clause-put g c = λ bytes told.
       held.0,
       held.1,
       subst (λ (n : ℕ). NumbersPut (plain entries) n c.args.at bytes held.0) end.1
-          (held_none (plain entries) (length c.loop-number.yielded) c.args.at page.at page.filled page.bytes bytes held.0 held.2 c.if-page-eq0.true),
+          (held_none (plain entries) (length c.loop-number.yielded) c.args.at page.at page.filled page.bytes bytes held.0 held.2
+          c.if-page-eq0.true),
     )
 
 pub returns-then-page-eq0-clause-writes : goal.returns-then-page-eq0-clause-writes
@@ -125,14 +130,16 @@ returns-clause-put g c =
     let end = iter_end deref_pair entries c.loop-number.yielded c.into_iter-number-iterator.result _ _ _ start c.loop-number.yielded_by
     c.in-None.is c.next.ensures.steps in
     on_ok (new.content ≡ option_map (overlaid page.at page.bytes) mid.content)
-    ((bytes : List ℕ) → Tells old bytes → (now : List ℕ) × Tells new now × NumbersPut (plain entries) (length entries) c.args.at bytes now) c.flush.result
+    ((bytes : List ℕ) → Tells old bytes → (now : List ℕ) × Tells new now × NumbersPut (plain entries) (length entries) c.args.at bytes now)
+    c.flush.result
     (λ written bytes told.
     let so_far = c.loop-number.invariant in
     let held = so_far.put bytes told in (
       overlaid page.at page.bytes held.0,
       told_written (overlaid page.at page.bytes) _ _ held.0 held.1 written,
       subst (λ (n : ℕ). NumbersPut (plain entries) n c.args.at bytes (overlaid page.at page.bytes held.0)) end.1
-          (held_last (plain entries) (length c.loop-number.yielded) c.args.at page.at page.filled page.bytes bytes held.0 held.2 (omega (arith, so_far.room))),
+          (held_last (plain entries) (length c.loop-number.yielded) c.args.at page.at page.filled page.bytes bytes held.0 held.2
+          (omega (arith, so_far.room))),
     ))
     c.flush.ensures.written
 

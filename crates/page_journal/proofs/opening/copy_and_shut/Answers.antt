@@ -20,7 +20,8 @@ returns-clause-any_moment g c = λ bytes pages told only home is_open first-is c
     goes_then (Home pages) _ _ _
     (go_copy bytes c.args.first c.args.count first-is count-is pages home is_open _ _ only
     (c.copy_home.ensures.crash bytes told (home.journal is_open) first-is count-is))
-    (go_shut bytes c.args.first c.args.count first-is count-is pages home is_open copied.0 _ _ copied.2 copied.3 c.set_gate.ensures.writes.crash)
+    (go_shut bytes c.args.first c.args.count first-is count-is pages home is_open copied.0 _ _ copied.2 copied.3
+    c.set_gate.ensures.writes.crash)
 
 pub returns-clause-done : goal.returns-clause-done
 returns-clause-done g c =
@@ -30,7 +31,8 @@ returns-clause-done g c =
     let mid = g.D.Disk.view c.copy_home.new.disk in
     let new = g.D.Disk.view c.set_gate.new.disk in
     on_ok ((bytes : List ℕ) → Tells mid bytes → (now : List ℕ) × Tells new now × Only now new.crashes × GatePut 0 bytes now)
-    ((bytes : List ℕ) → Tells old bytes → IsFormatted bytes → IsWellFormed bytes → gate bytes ≡ OPEN → first ≡ first_page bytes → count ≡ page_count bytes
+    ((bytes : List ℕ) → Tells old bytes → IsFormatted bytes → IsWellFormed bytes → gate bytes ≡ OPEN → first ≡ first_page bytes
+    → count ≡ page_count bytes
     → (now : List ℕ) × Tells new now × Only now new.crashes × Finished bytes now) c.set_gate.result
     (λ put bytes told formatted well is_open first-is count-is.
     let copied = c.in_ok-copy_home.ensures.put bytes told well first-is count-is in

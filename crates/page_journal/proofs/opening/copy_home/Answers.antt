@@ -30,7 +30,8 @@ loop-place-preserved g c = record {
       let inside : place < count = c.loop-place-test.true in
       let left = c.loop-place.invariant.put bytes told well first-is count-is in
       let value = c.in_ok-number.number in
-      let is = c.in_ok-number.ensures.value left.0 left.1 (number_fits bytes first count first-is count-is well place left.0 inside left.2) in
+      let is = c.in_ok-number.ensures.value left.0 left.1
+      (number_fits bytes first count first-is count-is well place left.0 inside left.2) in
       let to = c.min.result * 4096 in
       let to-is : to ≡ 4096 * entry bytes place =
       ap (λ (n : ℕ). n * 4096) c.min.ensures ∙ copy_to bytes first count first-is count-is well place value left.0 inside left.2 is in
@@ -51,19 +52,22 @@ loop-place-preserved g c = record {
       let inside : place < count = c.loop-place-test.true in
       let left = c.loop-place.invariant.put bytes told well first-is count-is in
       let value = c.in_ok-number.number in
-      let is = c.in_ok-number.ensures.value left.0 left.1 (number_fits bytes first count first-is count-is well place left.0 inside left.2) in
+      let is = c.in_ok-number.ensures.value left.0 left.1
+      (number_fits bytes first count first-is count-is well place left.0 inside left.2) in
       let to = c.min.result * 4096 in
       let to-is : to ≡ 4096 * entry bytes place =
       ap (λ (n : ℕ). n * 4096) c.min.ensures ∙ copy_to bytes first count first-is count-is well place value left.0 inside left.2 is in
       goes_write (BesidePages count (entry bytes)) bytes to 4096 _ _ _
-      (goes_stays (Spares (BesidePages count (entry bytes)) bytes) _ _ _ (c.loop-place.invariant.crash bytes told well first-is count-is within) c.read_number.ensures.reads.stays)
+      (goes_stays (Spares (BesidePages count (entry bytes)) bytes) _ _ _
+      (c.loop-place.invariant.crash bytes told well first-is count-is within) c.read_number.ensures.reads.stays)
       c.copy_page.ensures.time c.copy_page.ensures.torn (beside_page count (entry bytes) place to 4096 inside to-is refl);
   reads =
       let place = c.loop-place.place in
       let first = c.args.first in
       let end = 4096 * (first + number_pages c.args.count + c.args.count) in
       let one = reads_more 1 1 _ end _ _ (omega arith) (omega (arith, c.loop-place-test.true)) c.read_number.ensures.reads.reads in
-      let two = reads_more 1 1 _ end _ _ (omega arith) (omega (arith, c.loop-place-test.true, c.number_page_count.ensures)) c.copy_page.ensures.copies.reads in
+      let two = reads_more 1 1 _ end _ _ (omega arith)
+      (omega (arith, c.loop-place-test.true, c.number_page_count.ensures)) c.copy_page.ensures.copies.reads in
       reads_more (2 * place + (1 + 1)) (2 * (place + 1)) end end _ _ (omega arith) (omega arith)
       (reads_then (2 * place) (1 + 1) end _ _ _ c.loop-place.invariant.reads (reads_then 1 1 end _ _ _ one two));
   later = omega (arith, c.loop-place.invariant.later, c.read_number.ensures.reads.cause.later, c.copy_page.ensures.copies.cause.later);
@@ -87,7 +91,8 @@ returns-in_err-copy_page-clause-crash g c = λ bytes told well first-is count-is
     let to-is : to ≡ 4096 * entry bytes place =
     ap (λ (n : ℕ). n * 4096) c.min.ensures ∙ copy_to bytes first count first-is count-is well place value left.0 inside left.2 is in
     goes_write (BesidePages count (entry bytes)) bytes to 4096 _ _ _
-    (goes_stays (Spares (BesidePages count (entry bytes)) bytes) _ _ _ (c.loop-place.invariant.crash bytes told well first-is count-is within) c.read_number.ensures.reads.stays)
+    (goes_stays (Spares (BesidePages count (entry bytes)) bytes) _ _ _
+    (c.loop-place.invariant.crash bytes told well first-is count-is within) c.read_number.ensures.reads.stays)
     c.copy_page.ensures.time c.copy_page.ensures.torn (beside_page count (entry bytes) place to 4096 inside to-is refl)
 
 pub returns-clause-crash : goal.returns-clause-crash

@@ -14,7 +14,8 @@ returns-clause-put g c =
     let new = g.D.Disk.view c.write_at.new.self in
     let page = c.read_at.new.buf in
     on_ok (new.content ≡ option_map (overlaid c.args.to page) mid.content)
-    ((bytes : List ℕ) → Tells old bytes → c.args.from + 4096 ≤ length bytes → Tells new (overlaid c.args.to (page_from bytes c.args.from) bytes))
+    ((bytes : List ℕ) → Tells old bytes → c.args.from + 4096 ≤ length bytes
+    → Tells new (overlaid c.args.to (page_from bytes c.args.from) bytes))
     c.write_at.result
     (λ written bytes told fits.
     let is : page ≡ page_from bytes c.args.from =

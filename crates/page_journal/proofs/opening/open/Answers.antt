@@ -65,11 +65,17 @@ returns-in-Ok-count_home-clause-answers g c = λ bytes told.
     let ready = c.in-Ok.ensures.answers bytes told in
     let told1 = c.prepare.ensures.looks.stays.content ∙ told in
     let formatted = ready.0 in
-    let can : CanFinish bytes = record { formatted = formatted; journal = c.in-Ok-finish.ensures.answers bytes told1 formatted ready.1 (c.in-Ok.ensures.head bytes told) } in
-    let done = c.in-Ok-finish.ensures.done bytes told1 (c.in-Ok.ensures.durable bytes told) formatted ready.1 (c.in-Ok.ensures.head bytes told) in
+    let can : CanFinish bytes = record {
+      formatted = formatted;
+      journal =
+          c.in-Ok-finish.ensures.answers bytes told1 formatted ready.1 (c.in-Ok.ensures.head bytes told);
+    } in
+    let done = c.in-Ok-finish.ensures.done bytes told1 (c.in-Ok.ensures.durable bytes told) formatted ready.1
+    (c.in-Ok.ensures.head bytes told) in
     let long : 8192 ≤ length done.0 = omega (arith, formatted.long, done.3.long) in
     let same : c.in-Ok-finish.moved ≡ false → c.prepare.new.head ≡ head_of done.0 = λ idle.
-    c.in-Ok.ensures.head bytes told ∙ ap (λ (l : List ℕ). head_of l) (told_is done.0 bytes (sym done.1 ∙ ((c.in-Ok-finish.ensures.moves.idle idle).content ∙ told1))) in
+    c.in-Ok.ensures.head bytes told ∙ ap (λ (l : List ℕ). head_of l)
+    (told_is done.0 bytes (sym done.1 ∙ ((c.in-Ok-finish.ensures.moves.idle idle).content ∙ told1))) in
     let home = c.in-Ok-count_home.home in
     let counts = c.in-Ok-count_home.ensures.answers done.0 done.1 long same in
     let fits : 4096 * home ≤ length bytes = omega (arith, counts.2, ready.1) in
@@ -80,11 +86,17 @@ returns-in-Ok-count_home-clause-done g c = λ bytes told.
     let ready = c.in-Ok.ensures.answers bytes told in
     let told1 = c.prepare.ensures.looks.stays.content ∙ told in
     let formatted = ready.0 in
-    let can : CanFinish bytes = record { formatted = formatted; journal = c.in-Ok-finish.ensures.answers bytes told1 formatted ready.1 (c.in-Ok.ensures.head bytes told) } in
-    let done = c.in-Ok-finish.ensures.done bytes told1 (c.in-Ok.ensures.durable bytes told) formatted ready.1 (c.in-Ok.ensures.head bytes told) in
+    let can : CanFinish bytes = record {
+      formatted = formatted;
+      journal =
+          c.in-Ok-finish.ensures.answers bytes told1 formatted ready.1 (c.in-Ok.ensures.head bytes told);
+    } in
+    let done = c.in-Ok-finish.ensures.done bytes told1 (c.in-Ok.ensures.durable bytes told) formatted ready.1
+    (c.in-Ok.ensures.head bytes told) in
     let long : 8192 ≤ length done.0 = omega (arith, formatted.long, done.3.long) in
     let same : c.in-Ok-finish.moved ≡ false → c.prepare.new.head ≡ head_of done.0 = λ idle.
-    c.in-Ok.ensures.head bytes told ∙ ap (λ (l : List ℕ). head_of l) (told_is done.0 bytes (sym done.1 ∙ ((c.in-Ok-finish.ensures.moves.idle idle).content ∙ told1))) in
+    c.in-Ok.ensures.head bytes told ∙ ap (λ (l : List ℕ). head_of l)
+    (told_is done.0 bytes (sym done.1 ∙ ((c.in-Ok-finish.ensures.moves.idle idle).content ∙ told1))) in
     let home = c.in-Ok-count_home.home in
     let counts = c.in-Ok-count_home.ensures.answers done.0 done.1 long same in
     let fits : 4096 * home ≤ length bytes = omega (arith, counts.2, ready.1) in (
@@ -107,12 +119,19 @@ returns-in-Err-count_home-clause-answers g c = λ bytes told.
     let ready = c.in-Ok.ensures.answers bytes told in
     let told1 = c.prepare.ensures.looks.stays.content ∙ told in
     let formatted = ready.0 in
-    let can : CanFinish bytes = record { formatted = formatted; journal = c.in-Ok-finish.ensures.answers bytes told1 formatted ready.1 (c.in-Ok.ensures.head bytes told) } in
-    let done = c.in-Ok-finish.ensures.done bytes told1 (c.in-Ok.ensures.durable bytes told) formatted ready.1 (c.in-Ok.ensures.head bytes told) in
+    let can : CanFinish bytes = record {
+      formatted = formatted;
+      journal =
+          c.in-Ok-finish.ensures.answers bytes told1 formatted ready.1 (c.in-Ok.ensures.head bytes told);
+    } in
+    let done = c.in-Ok-finish.ensures.done bytes told1 (c.in-Ok.ensures.durable bytes told) formatted ready.1
+    (c.in-Ok.ensures.head bytes told) in
     let long : 8192 ≤ length done.0 = omega (arith, formatted.long, done.3.long) in
     let same : c.in-Ok-finish.moved ≡ false → c.prepare.new.head ≡ head_of done.0 = λ idle.
-    c.in-Ok.ensures.head bytes told ∙ ap (λ (l : List ℕ). head_of l) (told_is done.0 bytes (sym done.1 ∙ ((c.in-Ok-finish.ensures.moves.idle idle).content ∙ told1))) in
-    opens_count bytes done.0 c.in-Ok.len c.in-Err-count_home.fault can done.3 ready.1 (c.in-Err-count_home.ensures.answers done.0 done.1 long same)
+    c.in-Ok.ensures.head bytes told ∙ ap (λ (l : List ℕ). head_of l)
+    (told_is done.0 bytes (sym done.1 ∙ ((c.in-Ok-finish.ensures.moves.idle idle).content ∙ told1))) in
+    opens_count bytes done.0 c.in-Ok.len c.in-Err-count_home.fault can done.3 ready.1
+    (c.in-Err-count_home.ensures.answers done.0 done.1 long same)
 
 pub returns-in-Err-clause-reads : goal.returns-in-Err-clause-reads
 returns-in-Err-clause-reads g c = λ bytes told.
@@ -150,7 +169,8 @@ returns-in-Err-finish-clause-reads g c = λ bytes told.
     let ready = c.in-Ok.ensures.answers bytes told in
     let head = c.in-Ok.ensures.head bytes told in
     reads_more (1 + 3 * page_count bytes) (2 + 3 * page_count bytes) _ _ _ _ (omega arith) (omega arith)
-    (reads_then 1 (3 * page_count bytes) (length bytes) _ _ _ (c.prepare.ensures.reads bytes told) (c.finish.ensures.reads bytes ready.0 ready.1 head))
+    (reads_then 1 (3 * page_count bytes) (length bytes) _ _ _ (c.prepare.ensures.reads bytes told)
+    (c.finish.ensures.reads bytes ready.0 ready.1 head))
 
 pub returns-in-Ok-count_home-clause-opens : goal.returns-in-Ok-count_home-clause-opens
 returns-in-Ok-count_home-clause-opens g c = record {
@@ -159,12 +179,14 @@ returns-in-Ok-count_home-clause-opens g c = record {
       let ready = c.in-Ok.ensures.answers bytes told in
       let told1 = c.prepare.ensures.looks.stays.content ∙ told in
       let head = c.in-Ok.ensures.head bytes told in
-      stays_then _ _ _ (stays_then _ _ _ c.prepare.ensures.looks.stays (c.finish.ensures.looked bytes told1 ready.0 ready.1 head none)) c.count_home.ensures.looks.stays;
+      stays_then _ _ _ (stays_then _ _ _ c.prepare.ensures.looks.stays (c.finish.ensures.looked bytes told1 ready.0 ready.1 head none))
+      c.count_home.ensures.looks.stays;
   refused = search rules;
   told = λ bytes told quiet.
       let ready = c.in-Ok.ensures.answers bytes told in
       let told1 = c.prepare.ensures.looks.stays.content ∙ told in
-      let done = c.in-Ok-finish.ensures.done bytes told1 (c.in-Ok.ensures.durable bytes told) ready.0 ready.1 (c.in-Ok.ensures.head bytes told) in
+      let done = c.in-Ok-finish.ensures.done bytes told1 (c.in-Ok.ensures.durable bytes told) ready.0 ready.1
+      (c.in-Ok.ensures.head bytes told) in
       (done.0, c.count_home.ensures.looks.stays.content ∙ done.1);
   cause = search rules;
 }
@@ -174,13 +196,15 @@ returns-in-Ok-count_home-clause-one_read g c = λ bytes told shut.
     let ready = c.in-Ok.ensures.answers bytes told in
     let head = c.in-Ok.ensures.head bytes told in
     let idle = c.in-Ok-finish.ensures.shut bytes ready.0 head shut in
-    reads_quiet 1 (length bytes) _ _ _ (reads_quiet 1 (length bytes) _ _ _ (c.prepare.ensures.reads bytes told) idle.1) (c.count_home.ensures.unread idle.0)
+    reads_quiet 1 (length bytes) _ _ _ (reads_quiet 1 (length bytes) _ _ _ (c.prepare.ensures.reads bytes told) idle.1)
+    (c.count_home.ensures.unread idle.0)
 
 pub returns-in-Ok-count_home-clause-reads : goal.returns-in-Ok-count_home-clause-reads
 returns-in-Ok-count_home-clause-reads g c = λ bytes told.
     let ready = c.in-Ok.ensures.answers bytes told in
     let head = c.in-Ok.ensures.head bytes told in
-    let first = reads_then 1 (3 * page_count bytes) (length bytes) _ _ _ (c.prepare.ensures.reads bytes told) (c.finish.ensures.reads bytes ready.0 ready.1 head) in
+    let first = reads_then 1 (3 * page_count bytes) (length bytes) _ _ _ (c.prepare.ensures.reads bytes told)
+    (c.finish.ensures.reads bytes ready.0 ready.1 head) in
     let last = reads_more 1 1 8192 (length bytes) _ _ (omega arith) (omega (arith, ready.0.long)) c.count_home.ensures.reads in
     reads_more (1 + 3 * page_count bytes + 1) (2 + 3 * page_count bytes) _ _ _ _ (omega arith) (omega arith)
     (reads_then (1 + 3 * page_count bytes) 1 (length bytes) _ _ _ first last)
@@ -192,12 +216,14 @@ returns-in-Err-count_home-clause-opens g c = record {
       let ready = c.in-Ok.ensures.answers bytes told in
       let told1 = c.prepare.ensures.looks.stays.content ∙ told in
       let head = c.in-Ok.ensures.head bytes told in
-      stays_then _ _ _ (stays_then _ _ _ c.prepare.ensures.looks.stays (c.finish.ensures.looked bytes told1 ready.0 ready.1 head none)) c.count_home.ensures.looks.stays;
+      stays_then _ _ _ (stays_then _ _ _ c.prepare.ensures.looks.stays (c.finish.ensures.looked bytes told1 ready.0 ready.1 head none))
+      c.count_home.ensures.looks.stays;
   refused = search rules;
   told = λ bytes told quiet.
       let ready = c.in-Ok.ensures.answers bytes told in
       let told1 = c.prepare.ensures.looks.stays.content ∙ told in
-      let done = c.in-Ok-finish.ensures.done bytes told1 (c.in-Ok.ensures.durable bytes told) ready.0 ready.1 (c.in-Ok.ensures.head bytes told) in
+      let done = c.in-Ok-finish.ensures.done bytes told1 (c.in-Ok.ensures.durable bytes told) ready.0 ready.1
+      (c.in-Ok.ensures.head bytes told) in
       (done.0, c.count_home.ensures.looks.stays.content ∙ done.1);
   cause = search rules;
 }
@@ -207,13 +233,15 @@ returns-in-Err-count_home-clause-one_read g c = λ bytes told shut.
     let ready = c.in-Ok.ensures.answers bytes told in
     let head = c.in-Ok.ensures.head bytes told in
     let idle = c.in-Ok-finish.ensures.shut bytes ready.0 head shut in
-    reads_quiet 1 (length bytes) _ _ _ (reads_quiet 1 (length bytes) _ _ _ (c.prepare.ensures.reads bytes told) idle.1) (c.count_home.ensures.unread idle.0)
+    reads_quiet 1 (length bytes) _ _ _ (reads_quiet 1 (length bytes) _ _ _ (c.prepare.ensures.reads bytes told) idle.1)
+    (c.count_home.ensures.unread idle.0)
 
 pub returns-in-Err-count_home-clause-reads : goal.returns-in-Err-count_home-clause-reads
 returns-in-Err-count_home-clause-reads g c = λ bytes told.
     let ready = c.in-Ok.ensures.answers bytes told in
     let head = c.in-Ok.ensures.head bytes told in
-    let first = reads_then 1 (3 * page_count bytes) (length bytes) _ _ _ (c.prepare.ensures.reads bytes told) (c.finish.ensures.reads bytes ready.0 ready.1 head) in
+    let first = reads_then 1 (3 * page_count bytes) (length bytes) _ _ _ (c.prepare.ensures.reads bytes told)
+    (c.finish.ensures.reads bytes ready.0 ready.1 head) in
     let last = reads_more 1 1 8192 (length bytes) _ _ (omega arith) (omega (arith, ready.0.long)) c.count_home.ensures.reads in
     reads_more (1 + 3 * page_count bytes + 1) (2 + 3 * page_count bytes) _ _ _ _ (omega arith) (omega arith)
     (reads_then (1 + 3 * page_count bytes) 1 (length bytes) _ _ _ first last)

@@ -26,7 +26,8 @@ loop-place-preserved g c =
           let value = c.in_ok-number.ensures.value bytes (so_far.stays.content ∙ told) (omega (arith, long, c.loop-place-test.true))
           ∙ ap (λ (at : ℕ). number bytes at) at-is in
           let next = c.is_next.ensures.0 c.if-not-is_next.false in
-          rising_more bytes first place c.loop-place.last c.in_ok-number.number (so_far.so_far bytes told long) so_far.zero (so_far.last bytes told long) value next.0 next.1;
+          rising_more bytes first place c.loop-place.last c.in_ok-number.number (so_far.so_far bytes told long) so_far.zero
+          (so_far.last bytes told long) value next.0 next.1;
       zero = λ is. absurd (omega (arith, is));
       last = λ bytes told long some.
           let back : place + 1 - 1 ≡ place = omega arith in

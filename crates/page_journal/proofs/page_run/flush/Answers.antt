@@ -19,4 +19,5 @@ returns-clause-tells g c = λ content shows.
     let run = c.args.run.now in
     let some : 0 < run.filled = omega (arith, c.if-run-eq0.false) in
     let inside : run.filled ≤ length run.bytes = omega (arith, c.requires.size, c.requires.inside) in
-    tells_written run.at run.filled run.bytes (take run.filled run.bytes) content _ (g.D.Disk.view c.write_at.new.self) shows some inside refl c.in_ok-write_at.ensures.written
+    tells_written run.at run.filled run.bytes (take run.filled run.bytes) content _
+    (g.D.Disk.view c.write_at.new.self) shows some inside refl c.in_ok-write_at.ensures.written

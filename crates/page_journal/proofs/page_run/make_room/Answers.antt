@@ -15,7 +15,8 @@ returns-then-lies_behind-clause-writes g c = record {
 
 pub returns-clause-shows : goal.returns-clause-shows
 returns-clause-shows g c = λ content shows.
-    shows_none c.args.at c.flush.new.run.filled c.flush.new.run.bytes content _ c.in_ok-flush.ensures.none (c.in_ok-flush.ensures.tells content shows)
+    shows_none c.args.at c.flush.new.run.filled c.flush.new.run.bytes content _ c.in_ok-flush.ensures.none
+    (c.in_ok-flush.ensures.tells content shows)
 
 pub returns-clause-start : goal.returns-clause-start
 returns-clause-start g c = inl refl

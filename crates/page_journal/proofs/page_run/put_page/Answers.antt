@@ -16,7 +16,8 @@ returns-clause-shows g c = λ content shows.
     let made = c.in_ok-make_room.ensures in
     let run = c.make_room.new.run in
     let inside : run.filled ≤ length run.bytes = omega (arith, made.size, made.room) in
-    shows_more run.at run.filled c.args.at run.bytes c.put_behind.new.bytes c.args.page.now content _ (made.shows content shows) made.end inside
+    shows_more run.at run.filled c.args.at run.bytes c.put_behind.new.bytes c.args.page.now content _
+    (made.shows content shows) made.end inside
     c.requires.size c.put_behind.ensures.held
 
 pub returns-clause-grows : goal.returns-clause-grows

@@ -11,7 +11,8 @@ use Rattle.page_journal.proofs.pages.set_gate.Goals as goal
 pub returns-in_err-write_at-clause-writes : goal.returns-in_err-write_at-clause-writes
 returns-in_err-write_at-clause-writes g c = record {
   crash = λ base within.
-      goes_write BesideGate base 4095 1 _ _ _ (started (Spares BesideGate base) _ within) c.write_at.ensures.time c.write_at.ensures.crash beside_gate;
+      goes_write BesideGate base 4095 1 _ _ _ (started (Spares BesideGate base) _ within) c.write_at.ensures.time c.write_at.ensures.crash
+      beside_gate;
   reads = search rules;
   cause = search rules;
 }
@@ -22,7 +23,8 @@ returns-clause-put g c =
     let mid = g.D.Disk.view c.write_at.new.self in
     let new = g.D.Disk.view c.sync.new.self in
     on_ok ((content : List ℕ) → Tells mid content → Only content new.crashes)
-    ((bytes : List ℕ) → Tells old bytes → (now : List ℕ) × Tells new now × Only now new.crashes × GatePut c.args.value bytes now) c.sync.result
+    ((bytes : List ℕ) → Tells old bytes → (now : List ℕ) × Tells new now × Only now new.crashes × GatePut c.args.value bytes now)
+    c.sync.result
     (λ durable bytes told.
     let now : List ℕ = overlaid 4095 (c.args.value ∷ []) bytes in
     let tells : mid.content ≡ Some now =
@@ -34,7 +36,8 @@ pub returns-clause-writes : goal.returns-clause-writes
 returns-clause-writes g c = record {
   crash = λ base within.
       goes_quiet (Spares BesideGate base) _ _ _
-      (goes_write BesideGate base 4095 1 _ _ _ (started (Spares BesideGate base) _ within) c.write_at.ensures.time c.write_at.ensures.crash beside_gate)
+      (goes_write BesideGate base 4095 1 _ _ _
+      (started (Spares BesideGate base) _ within) c.write_at.ensures.time c.write_at.ensures.crash beside_gate)
       c.sync.ensures.time c.sync.ensures.crash;
   reads = c.sync.ensures.reads ∙ c.write_at.ensures.reads;
   cause = cause_after _ _ _ c.sync.result c.write_at.ensures.cause.later c.sync.ensures.cause;

@@ -85,7 +85,8 @@ loop-page-preserved g c =
                 (bodies_more (plain entries) (length yielded) c.args.at next c.as_slice.result.now bytes now.0 now.2 so_far.place is size),
           );
       crash = λ low base le within.
-          goes_write (BesideJournal low) base run.at run.filled _ _ _ (so_far.crash low base le within) c.put_page.ensures.writes.time c.put_page.ensures.writes.crash
+          goes_write (BesideJournal low) base run.at run.filled _ _ _
+          (so_far.crash low base le within) c.put_page.ensures.writes.time c.put_page.ensures.writes.crash
           (λ i keeps. let below = keeps.1 in inl (omega (arith, below, le, so_far.from)));
       reads = c.put_page.ensures.writes.reads ∙ so_far.reads;
       later = omega (arith, so_far.later, c.put_page.ensures.writes.cause.later);
@@ -96,7 +97,8 @@ returns-in_err-put_page-clause-writes g c = record {
   crash = λ low base le within.
       let so_far = c.loop-page.invariant in
       let run = c.loop-page.run in
-      goes_write (BesideJournal low) base run.at run.filled _ _ _ (so_far.crash low base le within) c.put_page.ensures.writes.time c.put_page.ensures.writes.crash
+      goes_write (BesideJournal low) base run.at run.filled _ _ _
+      (so_far.crash low base le within) c.put_page.ensures.writes.time c.put_page.ensures.writes.crash
       (λ i keeps. let below = keeps.1 in inl (omega (arith, below, le, so_far.from)));
   reads = c.put_page.ensures.writes.reads ∙ c.loop-page.invariant.reads;
   cause = caused _ _ _ _ c.loop-page.invariant.later c.put_page.ensures.writes.cause.later c.in_err-put_page.ensures.writes.cause.failed;
@@ -107,7 +109,8 @@ returns-clause-writes g c = record {
   crash = λ low base le within.
       let so_far = c.loop-page.invariant in
       let run = c.loop-page.run in
-      goes_write (BesideJournal low) base run.at run.filled _ _ _ (so_far.crash low base le within) c.flush.ensures.writes.time c.flush.ensures.writes.crash
+      goes_write (BesideJournal low) base run.at run.filled _ _ _
+      (so_far.crash low base le within) c.flush.ensures.writes.time c.flush.ensures.writes.crash
       (λ i keeps. let below = keeps.1 in inl (omega (arith, below, le, so_far.from)));
   reads = c.flush.ensures.writes.reads ∙ c.loop-page.invariant.reads;
   cause = cause_after _ _ _ c.flush.result c.loop-page.invariant.later c.flush.ensures.writes.cause;
@@ -121,7 +124,8 @@ returns-clause-put g c =
     let mid = g.D.Disk.view c.loop-page.disk in
     let new = g.D.Disk.view c.flush.new.disk in
     on_ok ((content : List ℕ) → Shows run.at run.filled run.bytes mid content → Tells new content)
-    ((bytes : List ℕ) → Tells old bytes → (now : List ℕ) × Tells new now × PagesPut (plain entries) (length entries) c.args.at bytes now) c.flush.result
+    ((bytes : List ℕ) → Tells old bytes → (now : List ℕ) × Tells new now × PagesPut (plain entries) (length entries) c.args.at bytes now)
+    c.flush.result
     (λ tells bytes told.
     let start : c.into_iter-page-iterator.result ≡ entries = c.into_iter-page-iterator.ensures.into_iter_gives.0 in
     let end = iter_end deref_pair entries c.loop-page.yielded c.into_iter-page-iterator.result _ _ _ start c.loop-page.yielded_by

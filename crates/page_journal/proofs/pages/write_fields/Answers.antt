@@ -13,7 +13,8 @@ returns-clause-put g c =
     let mid = g.D.Disk.view c.write_number.new.disk in
     let new = g.D.Disk.view c.write_number-2.new.disk in
     on_ok ((bytes : List ℕ) → Tells mid bytes → (now : List ℕ) × Tells new now × NumberPut 16 c.args.count bytes now)
-    ((bytes : List ℕ) → Tells old bytes → (now : List ℕ) × Tells new now × FieldsPut c.args.first c.args.count bytes now) c.write_number-2.result
+    ((bytes : List ℕ) → Tells old bytes → (now : List ℕ) × Tells new now × FieldsPut c.args.first c.args.count bytes now)
+    c.write_number-2.result
     (λ put bytes told.
     let one = c.in_ok-write_number.ensures.put bytes told in
     let two = put one.0 one.1 in
@@ -26,7 +27,8 @@ returns-in_err-write_number-clause-writes g c = λ low. record {
   reads = (c.write_number.ensures.writes low).reads;
   cause =
       let before = (g.D.Disk.view c.args.disk.now).faults in
-      caused before before _ _ (omega arith) (c.write_number.ensures.writes low).cause.later (c.in_err-write_number.ensures.writes low).cause.failed;
+      caused before before _ _ (omega arith) (c.write_number.ensures.writes low).cause.later
+      (c.in_err-write_number.ensures.writes low).cause.failed;
 }
 
 pub returns-clause-writes : goal.returns-clause-writes
@@ -36,5 +38,6 @@ returns-clause-writes g c = λ low. record {
       let one = (c.write_number.ensures.writes low).crash base within in
       goes_then P _ _ _ one ((c.write_number-2.ensures.writes low).crash base one.now);
   reads = (c.write_number-2.ensures.writes low).reads ∙ (c.write_number.ensures.writes low).reads;
-  cause = cause_after _ _ _ c.write_number-2.result (c.write_number.ensures.writes low).cause.later (c.write_number-2.ensures.writes low).cause;
+  cause = cause_after _ _ _ c.write_number-2.result (c.write_number.ensures.writes low).cause.later
+      (c.write_number-2.ensures.writes low).cause;
 }

@@ -61,7 +61,8 @@ loop-number-init g c =
         shows_none run.at run.filled run.bytes bytes _ c.new-run.ensures.none told,
         home_none (number_at (plain c.args.pages.now.entries)) (page_at (plain c.args.pages.now.entries)) bytes,
       );
-      crash = λ base within. started (Spares (BesidePages (length c.args.pages.now.entries) (number_at (plain c.args.pages.now.entries))) base) _ within;
+      crash = λ base within. started (Spares (BesidePages (length c.args.pages.now.entries) (number_at (plain c.args.pages.now.entries)))
+          base) _ within;
       reads = search rules;
       later = omega arith;
     }
@@ -96,12 +97,14 @@ loop-number-preserved g c =
           let now = so_far.put bytes told in (
             overlaid at c.as_slice.result.now now.0,
             added.shows now.0 now.1,
-            subst (λ (n : ℕ). HomePut (number_at (plain entries)) (page_at (plain entries)) n bytes (overlaid at c.as_slice.result.now now.0)) (sym more)
+            subst (λ (n : ℕ). HomePut (number_at (plain entries)) (page_at (plain entries)) n bytes
+                (overlaid at c.as_slice.result.now now.0)) (sym more)
                 (home_more (number_at (plain entries)) (page_at (plain entries)) (length yielded) at c.as_slice.result.now bytes now.0 now.2
                 (λ place below. c.requires.rises place (length yielded) below inside) at-is is size),
           );
       crash = λ base within.
-          goes_write beside base run.at run.filled _ _ _ (so_far.crash base within) c.put_page.ensures.writes.time c.put_page.ensures.writes.crash so_far.spared;
+          goes_write beside base run.at run.filled _ _ _
+          (so_far.crash base within) c.put_page.ensures.writes.time c.put_page.ensures.writes.crash so_far.spared;
       reads = c.put_page.ensures.writes.reads ∙ so_far.reads;
       later = omega (arith, so_far.later, c.put_page.ensures.writes.cause.later);
     }
@@ -137,7 +140,8 @@ returns-clause-writes g c = record {
       let entries = c.args.pages.now.entries in
       let beside = BesidePages (length entries) (number_at (plain entries)) in
       let run = c.loop-number.run in
-      let flushed = goes_write beside base run.at run.filled _ _ _ (so_far.crash base within) c.flush.ensures.writes.time c.flush.ensures.writes.crash so_far.spared in
+      let flushed = goes_write beside base run.at run.filled _ _ _
+      (so_far.crash base within) c.flush.ensures.writes.time c.flush.ensures.writes.crash so_far.spared in
       goes_quiet (Spares beside base) _ _ _ flushed c.sync.ensures.time c.sync.ensures.crash;
   reads = c.sync.ensures.reads ∙ (c.flush.ensures.writes.reads ∙ c.loop-number.invariant.reads);
   cause = cause_after _ _ _ c.sync.result (le_trans c.loop-number.invariant.later c.flush.ensures.writes.cause.later) c.sync.ensures.cause;

@@ -21,7 +21,8 @@ returns-clause-put g c =
     (λ written bytes told. (
       overlaid at c.to_le_bytes.result bytes,
       told_written (overlaid at c.to_le_bytes.result) _ _ bytes told written,
-      subst (λ (l : List ℕ). NumberPut at value bytes (overlaid at l bytes)) (sym spelled) (number_is_put at value bytes (omega (arith, c.ranges.value.fits))),
+      subst (λ (l : List ℕ). NumberPut at value bytes (overlaid at l bytes)) (sym spelled)
+          (number_is_put at value bytes (omega (arith, c.ranges.value.fits))),
     ))
     c.write_at.ensures.written
 
@@ -32,7 +33,8 @@ returns-clause-writes g c = λ low. record {
       let eight : length spelled ≡ 8 = refl in
       let long : length c.to_le_bytes.result ≡ 8 = ap length c.to_le_bytes.ensures ∙ eight in
       goes_write (BesideJournal low) base c.args.at (length c.to_le_bytes.result) _ _ _ (started (Spares (BesideJournal low) base) _ within)
-      c.write_at.ensures.time c.write_at.ensures.crash (beside_field low c.args.at (length c.to_le_bytes.result) c.requires.low c.requires.high long);
+      c.write_at.ensures.time c.write_at.ensures.crash
+      (beside_field low c.args.at (length c.to_le_bytes.result) c.requires.low c.requires.high long);
   reads = search rules;
   cause = search rules;
 }

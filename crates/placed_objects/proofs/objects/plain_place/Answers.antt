@@ -6,4 +6,7 @@ use Rattle.placed_objects.proofs.objects.plain_place.Goals as goal
 pub returns-in-Some-Node : goal.returns-in-Some-Node
 returns-in-Some-Node c =
     let there : c.args.entry.now.object ≡ Some (objects.Node c.in-Some-Node.place c.in-Some-Node.tags) = search rules in
-    record { plain = plain-of c.args.entry.now.object c.in-Some-Node.place c.in-Some-Node.tags there (c.is_empty.ensures.none.0 c.if-is_empty.true) }
+    record {
+      plain = plain-of c.args.entry.now.object c.in-Some-Node.place c.in-Some-Node.tags there
+          (c.is_empty.ensures.none.0 c.if-is_empty.true);
+    }

@@ -7,4 +7,5 @@ use Rattle.reader_rounds.proofs.settling.settle_round.Given as goal
 abbrev pub invariant-loop-own : goal.invariant-loop-own
 invariant-loop-own l =
     (l.index + length (into_iter_items l.own-iterator) ≡ length l.queries)
-    × (l.given ++ settled_all l.style l.tables l.version (drop l.index l.queries) (into_iter_items l.own-iterator) ≡ settled_all l.style l.tables l.version l.queries l.fn.round)
+    × (l.given ++ settled_all l.style l.tables l.version (drop l.index l.queries) (into_iter_items l.own-iterator)
+    ≡ settled_all l.style l.tables l.version l.queries l.fn.round)

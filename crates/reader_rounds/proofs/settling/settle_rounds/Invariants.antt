@@ -7,5 +7,6 @@ use Rattle.reader_rounds.proofs.settling.settle_rounds.Given as goal
 -- what is given, and then what will be of the rounds that are left, are all
 abbrev pub invariant-loop-round : goal.invariant-loop-round
 invariant-loop-round l =
-    (l.given ++ map (settled_all l.style l.tables l.version l.queries) (into_iter_items l.round-iterator) ≡ map (settled_all l.style l.tables l.version l.queries) l.fn.rounds)
+    (l.given ++ map (settled_all l.style l.tables l.version l.queries) (into_iter_items l.round-iterator)
+    ≡ map (settled_all l.style l.tables l.version l.queries) l.fn.rounds)
     × AllByRecursion (HasLength (length l.queries)) (into_iter_items l.round-iterator)

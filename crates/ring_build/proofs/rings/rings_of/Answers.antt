@@ -18,7 +18,8 @@ returns-then-not-is_ring-clause-rings c =
     let others = lines_by ring_begun c.begun.new.unused in
     let more = lines_by-more ring_begun ring_begun-Grows _ _ _ _ _ c.in-Some.ensures.first c.in_ok-ring.ensures.ring c.rings.rings in
     let all = sym (sym (append_assoc c.rings.rings (ring ∷ []) others) ∙ more ∙ c.rings.invariant.all) in
-    let odd = odd-open c.args.pieces.now _ _ _ _ _ c.in-Some.ensures.points c.in-Some.ensures.first c.in_ok-ring.ensures.ring c.rings.invariant.alike in
+    let odd = odd-open c.args.pieces.now _ _ _ _ _ c.in-Some.ensures.points c.in-Some.ensures.first c.in_ok-ring.ensures.ring
+    c.rings.invariant.alike in
     sym (rings-not c.args.pieces.now c.rings.rings others ring all odd (λ own.
     let h : false ≡ true = c.if-not-is_ring.ensures.ring.1 (subst IsRing (sym c.deref.ensures.value) own) in (cc)))
 
@@ -31,11 +32,13 @@ rings-preserved c =
     let ring = c.in_ok-ring.ring.items in
     let kept = c.rings.invariant in
     let own = subst IsRing c.deref.ensures.value (c.if-not-is_ring.ensures.ring.0 refl) in
-    let pushed : c.push.new.self ≡ c.rings.rings ++ ring ∷ [] = c.in_ok-push.ensures.ok ∙ ap (λ (line : Line). c.rings.rings ++ line ∷ []) c.from_vec.ensures.items in
+    let pushed : c.push.new.self ≡ c.rings.rings ++ ring ∷ [] =
+    c.in_ok-push.ensures.ok ∙ ap (λ (line : Line). c.rings.rings ++ line ∷ []) c.from_vec.ensures.items in
     let more = lines_by-more ring_begun ring_begun-Grows _ _ _ _ _ c.in-Some.ensures.first c.in_ok-ring.ensures.ring c.rings.rings in
     record {
       all = ap (λ rings. rings ++ lines_by ring_begun c.begun.new.unused) pushed ∙ more ∙ kept.all;
-      alike = AreAlike-closed c.args.pieces.now _ _ _ _ _ c.in-Some.ensures.points c.in-Some.ensures.first c.in_ok-ring.ensures.ring kept.alike own.closed;
+      alike = AreAlike-closed c.args.pieces.now _ _ _ _ _ c.in-Some.ensures.points c.in-Some.ensures.first c.in_ok-ring.ensures.ring
+          kept.alike own.closed;
       four = ap (list_all has_four_points) pushed ∙ four-more c.rings.rings ring kept.four own.points;
       closed = subst (λ (rings : List Line). All IsRing rings) (sym pushed) (All-push IsRing c.rings.rings ring kept.closed own);
     }
@@ -43,6 +46,7 @@ rings-preserved c =
 pub returns-clause-rings : goal.returns-clause-rings
 returns-clause-rings c =
     let kept = c.rings.invariant in
-    let done : c.rings.rings ++ lines_by ring_begun [] ≡ lines_by ring_begun c.args.pieces.now = ap (λ unused. c.rings.rings ++ lines_by ring_begun unused) (sym c.in_default.ensures.first) ∙ kept.all in
+    let done : c.rings.rings ++ lines_by ring_begun [] ≡ lines_by ring_begun c.args.pieces.now =
+    ap (λ unused. c.rings.rings ++ lines_by ring_begun unused) (sym c.in_default.ensures.first) ∙ kept.all in
     let all = sym done ∙ ap (λ rest. c.rings.rings ++ rest) (lines_by-none ring_begun ring_begun-Grows) ∙ append-nil c.rings.rings in
     sym (rings-all c.args.pieces.now c.rings.rings all (subst (AreAlike c.args.pieces.now) c.in_default.ensures.first kept.alike) kept.four)

@@ -8,7 +8,10 @@ use Rattle.ring_nest.proofs.holders.holders_of_all.Goals as goal
 pub tree_of-requires : goal.tree_of-requires
 tree_of-requires c =
     let rings = c.args.rings.now in
-    record { within = rw (c.in_ok-numbers_below.ensures, c.requires.boxes, length-map rings around) (range_below 0 (length rings) (length rings) (omega arith)) }
+    record {
+      within = rw (c.in_ok-numbers_below.ensures, c.requires.boxes, length-map rings around)
+          (range_below 0 (length rings) (length rings) (omega arith));
+    }
 
 pub returns : goal.returns
 returns c =

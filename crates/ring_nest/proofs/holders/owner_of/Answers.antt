@@ -12,7 +12,9 @@ loop-number-preserved c =
     let test = is_above c.args.depths.now c.args.depth in
     elim c.if-depths-number.branch [
       | then-depths-number w ↦ rw (w.owner-is, w.lesser.ensures)
-          (least_more test numbers at c.loop-number.owner c.loop-number-test.true (one_above deep c.args.depth w.if-depths-number.true c.requires.held) c.loop-number.invariant)
+          (least_more test numbers at c.loop-number.owner c.loop-number-test.true
+          (one_above deep c.args.depth w.if-depths-number.true c.requires.held) c.loop-number.invariant)
       | else-depths-number w ↦ rw w.owner-is
-          (least_same test numbers at c.loop-number.owner c.loop-number-test.true (not_above deep c.args.depth w.if-depths-number.false c.requires.held) c.loop-number.invariant)
+          (least_same test numbers at c.loop-number.owner c.loop-number-test.true
+          (not_above deep c.args.depth w.if-depths-number.false c.requires.held) c.loop-number.invariant)
     ]

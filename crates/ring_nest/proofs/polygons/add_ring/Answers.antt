@@ -11,7 +11,8 @@ pub owner_of-requires-clause-within : goal.owner_of-requires-clause-within
 owner_of-requires-clause-within c =
     let rings = c.args.rings.now in
     rw (c.as_slice.ensures.items, c.requires.depths, length-map rings (depth rings))
-    (holders_below rings c.args.holders.now c.args.at c.index-rings-at.result c.index-holders-at.result c.requires.holders c.requires.at c.index-rings-at.is c.index-holders-at.is)
+    (holders_below rings c.args.holders.now c.args.at c.index-rings-at.result c.index-holders-at.result c.requires.holders c.requires.at
+    c.index-rings-at.is c.index-holders-at.is)
 
 pub slot_at-requires : goal.slot_at-requires
 slot_at-requires c =
@@ -19,9 +20,11 @@ slot_at-requires c =
     let ring = c.index-rings-at.result in
     let inner = inner_is rings c.args.depths.now c.args.at ring c.requires.depths c.requires.at c.index-rings-at.is c.if-depth-eq0.false in
     let least = rw c.as_slice.ensures.items at c.in-Some.ensures in
-    let owned = owner_is rings c.args.holders.now c.args.depths.now c.args.at ring c.index-holders-at.result (Some c.in-Some.number) c.requires.holders c.requires.depths
+    let owned = owner_is rings c.args.holders.now c.args.depths.now c.args.at ring c.index-holders-at.result
+    (Some c.in-Some.number) c.requires.holders c.requires.depths
     c.requires.at c.index-rings-at.is c.index-holders-at.is least in
-    let slot = slot_of rings (take c.args.at rings) ring c.args.depths.now c.args.slots.now c.in-Some.number c.requires.depths c.requires.slots inner owned in
+    let slot = slot_of rings (take c.args.at rings) ring c.args.depths.now c.args.slots.now c.in-Some.number c.requires.depths
+    c.requires.slots inner owned in
     slot.0
 
 pub add_inner-requires : goal.add_inner-requires
@@ -30,9 +33,11 @@ add_inner-requires c =
     let ring = c.index-rings-at.result in
     let inner = inner_is rings c.args.depths.now c.args.at ring c.requires.depths c.requires.at c.index-rings-at.is c.if-depth-eq0.false in
     let least = rw c.as_slice.ensures.items at c.in-Some.ensures in
-    let owned = owner_is rings c.args.holders.now c.args.depths.now c.args.at ring c.index-holders-at.result (Some c.in-Some.number) c.requires.holders c.requires.depths
+    let owned = owner_is rings c.args.holders.now c.args.depths.now c.args.at ring c.index-holders-at.result
+    (Some c.in-Some.number) c.requires.holders c.requires.depths
     c.requires.at c.index-rings-at.is c.index-holders-at.is least in
-    let slot = slot_of rings (take c.args.at rings) ring c.args.depths.now c.args.slots.now c.in-Some.number c.requires.depths c.requires.slots inner owned in
+    let slot = slot_of rings (take c.args.at rings) ring c.args.depths.now c.args.slots.now c.in-Some.number c.requires.depths
+    c.requires.slots inner owned in
     rw (c.slot_at.ensures, c.requires.so_far) slot.1.within
 
 pub returns-in-None-clause-placed : goal.returns-in-None-clause-placed
@@ -41,7 +46,8 @@ returns-in-None-clause-placed c =
     let ring = c.index-rings-at.result in
     let inner = inner_is rings c.args.depths.now c.args.at ring c.requires.depths c.requires.at c.index-rings-at.is c.if-depth-eq0.false in
     let least = rw c.as_slice.ensures.items at c.in-None.ensures in
-    let owned = owner_is rings c.args.holders.now c.args.depths.now c.args.at ring c.index-holders-at.result None c.requires.holders c.requires.depths
+    let owned = owner_is rings c.args.holders.now c.args.depths.now c.args.at ring c.index-holders-at.result None c.requires.holders
+    c.requires.depths
     c.requires.at c.index-rings-at.is c.index-holders-at.is least in
     let here = ring_is rings c.args.at ring c.requires.at c.index-rings-at.is in
     rw (here, inner, owned)
@@ -52,7 +58,8 @@ returns-in_ok-add_inner-in-Some-clause-placed c =
     let ring = c.index-rings-at.result in
     let inner = inner_is rings c.args.depths.now c.args.at ring c.requires.depths c.requires.at c.index-rings-at.is c.if-depth-eq0.false in
     let least = rw c.as_slice.ensures.items at c.in-Some.ensures in
-    let owned = owner_is rings c.args.holders.now c.args.depths.now c.args.at ring c.index-holders-at.result (Some c.in-Some.number) c.requires.holders c.requires.depths
+    let owned = owner_is rings c.args.holders.now c.args.depths.now c.args.at ring c.index-holders-at.result
+    (Some c.in-Some.number) c.requires.holders c.requires.depths
     c.requires.at c.index-rings-at.is c.index-holders-at.is least in
     let here = ring_is rings c.args.at ring c.requires.at c.index-rings-at.is in
     rw (here, inner, owned)
@@ -63,8 +70,17 @@ returns-in_ok-add_inner-in-Some-clause-added c placed =
     let ring = c.index-rings-at.result in
     let inner = inner_is rings c.args.depths.now c.args.at ring c.requires.depths c.requires.at c.index-rings-at.is c.if-depth-eq0.false in
     let least = rw c.as_slice.ensures.items at c.in-Some.ensures in
-    let owned = owner_is rings c.args.holders.now c.args.depths.now c.args.at ring c.index-holders-at.result (Some c.in-Some.number) c.requires.holders c.requires.depths
+    let owned = owner_is rings c.args.holders.now c.args.depths.now c.args.at ring c.index-holders-at.result
+    (Some c.in-Some.number) c.requires.holders c.requires.depths
     c.requires.at c.index-rings-at.is c.index-holders-at.is least in
-    let slot = slot_of rings (take c.args.at rings) ring c.args.depths.now c.args.slots.now c.in-Some.number c.requires.depths c.requires.slots inner owned in
-    rw (c.in_ok-add_inner-in-Some.ensures, c.slot_at.ensures, c.requires.so_far, c.in_ok-copy-in-Some.ensures.equal, next_of rings c.args.at ring c.requires.at, ← c.index-rings-at.is)
+    let slot = slot_of rings (take c.args.at rings) ring c.args.depths.now c.args.slots.now c.in-Some.number c.requires.depths
+    c.requires.slots inner owned in
+    rw (
+      c.in_ok-add_inner-in-Some.ensures,
+      c.slot_at.ensures,
+      c.requires.so_far,
+      c.in_ok-copy-in-Some.ensures.equal,
+      next_of rings c.args.at ring c.requires.at,
+      ← c.index-rings-at.is,
+    )
     (sym slot.1.change)

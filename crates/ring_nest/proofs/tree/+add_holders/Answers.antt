@@ -14,6 +14,7 @@ returns-then-not-is_met t c =
     let asked = c.requires.asked in
     let apart = rw (asked.around_it, c.around_of.ensures) at c.if-not-is_met.ensures in
     let none : filter (is_holder rings (ring_at rings c.args.number)) (numbers_of tree) ≡ [] =
-    none_in rings (box_of_tree tree) (ring_at rings c.args.number) (numbers_of tree) asked.boxed (boxed_at rings c.args.number asked.boxed asked.within)
+    none_in rings (box_of_tree tree) (ring_at rings c.args.number) (numbers_of tree) asked.boxed
+    (boxed_at rings c.args.number asked.boxed asked.within)
     (tree_covers (map around rings) tree c.requires.is_tree) (sym apart) in
     rw (none, append-nil)

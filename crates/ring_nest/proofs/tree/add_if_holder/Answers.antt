@@ -18,5 +18,6 @@ returns-then-not-is_met c =
 pub returns-then-other-number : goal.returns-then-other-number
 returns-then-other-number c =
     let rings = c.args.rings.now in
-    let none : is_holder rings (ring_at rings c.args.number) c.args.other ≡ false = rw c.if-other-number.true (not_itself (ring_at rings c.args.number)) in
+    let none : is_holder rings (ring_at rings c.args.number) c.args.other ≡ false =
+    rw c.if-other-number.true (not_itself (ring_at rings c.args.number)) in
     rw (none, append-nil)

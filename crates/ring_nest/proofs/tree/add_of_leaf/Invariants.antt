@@ -8,7 +8,8 @@ use Rattle.ring_nest.proofs.tree.add_of_leaf.Given as goal
 abbrev pub invariant-loop-at : goal.invariant-loop-at
 invariant-loop-at l = record {
   within : l.at ≤ length l.leaf.numbers.items;
-  holders_so_far : l.found.items ≡ l.initial.found.items ++ filter (is_holder l.rings (ring_at l.rings l.number)) (take l.at l.leaf.numbers.items);
+  holders_so_far : l.found.items ≡ l.initial.found.items
+      ++ filter (is_holder l.rings (ring_at l.rings l.number)) (take l.at l.leaf.numbers.items);
 }
 
 abbrev pub decreases-loop-at : goal.decreases-loop-at

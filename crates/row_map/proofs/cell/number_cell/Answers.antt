@@ -9,7 +9,10 @@ use Rattle.row_map.proofs.cell.number_cell.Goals as goal
 pub returns-in-Some : goal.returns-in-Some
 returns-in-Some c =
     let bytes = c.as_bytes.ensures.value ∙ sym (encodes-chars c.args.value.now c.utf8.value) in
-    record { cell = c.int_cell.ensures.cell ∙ ap cells.Int (to_z-of_z c.in-Some.ensures.fits) ∙ ap (λ found. option_map_or cells.Int found cells.Null) (c.in-Some.ensures.number ∙ ap number_of bytes) }
+    record {
+      cell = c.int_cell.ensures.cell ∙ ap cells.Int (to_z-of_z c.in-Some.ensures.fits)
+          ∙ ap (λ found. option_map_or cells.Int found cells.Null) (c.in-Some.ensures.number ∙ ap number_of bytes);
+    }
 
 pub returns-in-None : goal.returns-in-None
 returns-in-None c =

@@ -8,4 +8,5 @@ use Rattle.row_map.proofs.condition.all_hold.Given as goal
 abbrev pub invariant-loop-condition : goal.invariant-loop-condition
 invariant-loop-condition g l =
     let selecting = selecting_among l.relations.selections.now (g.L.Lookup.known l.relations.lookup.now).object l.relations.ids.now in
-    list_all (holds (is_selected selecting) l.tags) (drop l.condition-index l.conditions) ≡ list_all (holds (is_selected selecting) l.tags) l.conditions
+    list_all (holds (is_selected selecting) l.tags) (drop l.condition-index l.conditions)
+    ≡ list_all (holds (is_selected selecting) l.tags) l.conditions

@@ -6,4 +6,5 @@ use Rattle.row_map.proofs.condition.meets.Given as goal
 -- whether those that are left hold decides
 abbrev pub invariant-loop-condition : goal.invariant-loop-condition
 invariant-loop-condition l =
-    list_all (holds (λ _. false) l.tags) (drop l.condition-index l.condition-items) ≡ list_all (holds (λ _. false) l.tags) l.selection.conditions
+    list_all (holds (λ _. false) l.tags) (drop l.condition-index l.condition-items)
+    ≡ list_all (holds (λ _. false) l.tags) l.selection.conditions

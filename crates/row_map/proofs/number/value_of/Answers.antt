@@ -7,13 +7,24 @@ pub overflow_mul-value : goal.overflow_mul-value
 overflow_mul-value c =
     let test : are_digits c.args.digits.now ≡ true = search rules in
     let digits = AreDigits-test c.args.digits.now test in
-    omega (arith, digits.front_below (c.loop-digit.digit-index + 1), digits.more c.loop-digit.digit-index c.loop-digit-test.true, c.loop-digit.invariant)
+    omega (
+      arith,
+      digits.front_below (c.loop-digit.digit-index + 1),
+      digits.more c.loop-digit.digit-index c.loop-digit-test.true,
+      c.loop-digit.invariant,
+    )
 
 pub overflow_add-value : goal.overflow_add-value
 overflow_add-value c =
     let test : are_digits c.args.digits.now ≡ true = search rules in
     let digits = AreDigits-test c.args.digits.now test in
-    omega (arith, digits.front_below (c.loop-digit.digit-index + 1), digits.more c.loop-digit.digit-index c.loop-digit-test.true, c.loop-digit.invariant, c.from.ensures)
+    omega (
+      arith,
+      digits.front_below (c.loop-digit.digit-index + 1),
+      digits.more c.loop-digit.digit-index c.loop-digit-test.true,
+      c.loop-digit.invariant,
+      c.from.ensures,
+    )
 
 pub loop-digit-preserved : goal.loop-digit-preserved
 loop-digit-preserved c =

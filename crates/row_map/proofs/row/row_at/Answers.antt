@@ -10,6 +10,8 @@ returns-in_ok-row_in-in-Some g c =
     let selections = c.args.selections.now in
     record {
       row = c.in_ok-row_in-in-Some.ensures.row
-          ∙ ap (λ ids. row_of selections (material_among selections known ids) c.args.table.now c.args.key c.in-Some.object.now) c.relations_with.ensures.ids
-          ∙ ap (option_and_then (row_of selections (material_among selections known (relations_with known c.args.key)) c.args.table.now c.args.key)) c.in-Some.ensures.object;
+          ∙ ap (λ ids. row_of selections (material_among selections known ids) c.args.table.now c.args.key c.in-Some.object.now)
+          c.relations_with.ensures.ids
+          ∙ ap (option_and_then (row_of selections
+          (material_among selections known (relations_with known c.args.key)) c.args.table.now c.args.key)) c.in-Some.ensures.object;
     }

@@ -16,6 +16,7 @@ returns-then-not-may_have_geometry g c =
     let table = c.args.table.now in
     let object = c.args.object.now in
     record {
-      row = no_row (is_of_kind c.args.key.kind object && wants from table object) (cells_of selections from table object) (geometry_of known.place known.object table.source object)
+      row = no_row (is_of_kind c.args.key.kind object && wants from table object) (cells_of selections from table object)
+          (geometry_of known.place known.object table.source object)
           (shapeless known.place known.object table.source object (sym c.may_have_geometry.ensures.may ∙ c.if-not-may_have_geometry.true));
     }

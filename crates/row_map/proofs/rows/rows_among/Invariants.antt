@@ -9,4 +9,5 @@ invariant-loop-table g l =
     let selections = l.relations.selections.now in
     let material = material_among selections (g.L.Lookup.known l.relations.lookup.now) l.relations.ids.now in
     (l.number ≡ l.table-index)
-    × (l.rows ++ rows_from selections material l.key l.object l.table-index (drop l.table-index l.tables) ≡ rows_from selections material l.key l.object 0 l.tables)
+    × (l.rows ++ rows_from selections material l.key l.object l.table-index (drop l.table-index l.tables)
+    ≡ rows_from selections material l.key l.object 0 l.tables)

@@ -11,7 +11,8 @@ use Rattle.row_map.proofs.tags_text.tags_text.Goals as goal
 pub loop-index-preserved : goal.loop-index-preserved
 loop-index-preserved c = (
   c.write_tag.ensures.before ∙ c.loop-index.invariant.0,
-  written-more (map.entries c.args.tags.now) c.loop-index.index _ _ _ _ _ c.nth.ensures.tag c.in_ok-write_tag.ensures.member c.loop-index.invariant.1,
+  written-more (map.entries c.args.tags.now) c.loop-index.index _ _ _ _ _ c.nth.ensures.tag c.in_ok-write_tag.ensures.member
+      c.loop-index.invariant.1,
 )
 
 pub from_utf8_unchecked-requires : goal.from_utf8_unchecked-requires
@@ -28,4 +29,7 @@ returns c =
     let count = c.len-index-end.ensures.count ∙ map.len-entries c.args.tags.now in
     let passed : length tags ≤ c.loop-index.index = omega (arith, count, c.loop-index-test.false) in
     let all = c.in_ok-end_object.ensures.ok ∙ written-all tags c.loop-index.index _ _ passed c.loop-index.invariant.1 in
-    record { text = ap (λ bytes. bytes.items) c.from_utf8_unchecked.ensures.value ∙ items ∙ ap print all ∙ print-outline (object (members_of tags)) }
+    record {
+      text = ap (λ bytes. bytes.items) c.from_utf8_unchecked.ensures.value ∙ items ∙ ap print all
+          ∙ print-outline (object (members_of tags));
+    }

@@ -10,4 +10,5 @@ use Rattle.row_map.proofs.tags_text.tags_text.Given as goal
 abbrev pub invariant-loop-index : goal.invariant-loop-index
 invariant-loop-index l =
     (l.writer.before ≡ [])
-    × (l.writer.tokens ++ members_tokens (members_outline (members_of (drop l.index (map.entries l.tags)))) ≡ json_tokens (outline (object (members_of (map.entries l.tags)))))
+    × (l.writer.tokens ++ members_tokens (members_outline (members_of (drop l.index (map.entries l.tags))))
+    ≡ json_tokens (outline (object (members_of (map.entries l.tags)))))

@@ -11,4 +11,5 @@ returns-clause-member c =
     ∙ ap (λ front. front ++ tokens.string c.args.value.now ∷ []) c.in_ok-key.ensures.ok
     ∙ append_assoc old (tokens.key c.args.key.now ∷ []) (tokens.string c.args.value.now ∷ [])
     ∙ ap (λ key. old ++ tokens.key key ∷ tokens.string c.args.value.now ∷ []) (sym (encodes-chars c.args.key.now c.utf8.key))
-    ∙ ap (λ value. old ++ tokens.key (encode_utf8_all (chars c.args.key.now)) ∷ tokens.string value ∷ []) (sym (encodes-chars c.args.value.now c.utf8.value))
+    ∙ ap (λ value. old ++ tokens.key (encode_utf8_all (chars c.args.key.now)) ∷ tokens.string value ∷ [])
+    (sym (encodes-chars c.args.value.now c.utf8.value))

@@ -14,5 +14,6 @@ returns c =
     let same = λ (x y : Bor (List ℕ)). bytes_eq x.now y.now in
     record {
       distinct = ap (map seen) (dedup_is same c.sort_unstable.new.self.items c.dedup.new.self.items c.dedup.ensures.filtered)
-          ∙ distinct-seen seen same (λ x y. sym (is_eq-slice_cmp x.now y.now)) c.args.values.items c.sort_unstable.new.self.items c.sort_unstable.ensures.permutation c.sort_unstable.ensures.sorted;
+          ∙ distinct-seen seen same (λ x y. sym (is_eq-slice_cmp x.now y.now)) c.args.values.items c.sort_unstable.new.self.items
+          c.sort_unstable.ensures.permutation c.sort_unstable.ensures.sorted;
     }

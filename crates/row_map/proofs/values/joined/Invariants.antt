@@ -7,4 +7,5 @@ use Rattle.row_map.proofs.values.joined.Given as goal
 -- what is joined, and then the values that are left, each behind a comma
 abbrev pub invariant-loop-value : goal.invariant-loop-value
 invariant-loop-value l =
-    string_bytes l.text ++ flat_map (λ value. COMMA ∷ value.now) (drop l.value-index l.rest) ≡ string_bytes l.initial.text ++ flat_map (λ value. COMMA ∷ value.now) l.rest
+    string_bytes l.text ++ flat_map (λ value. COMMA ∷ value.now) (drop l.value-index l.rest) ≡ string_bytes l.initial.text
+    ++ flat_map (λ value. COMMA ∷ value.now) l.rest

@@ -5,4 +5,5 @@ use Rattle.row_map.proofs.wanted.any_may_hold.Given as goal
 
 -- whether one of those that are left may hold decides
 abbrev pub invariant-loop-condition : goal.invariant-loop-condition
-invariant-loop-condition l = list_any (holds (λ _. true) l.tags) (drop l.condition-index l.conditions) ≡ list_any (holds (λ _. true) l.tags) l.conditions
+invariant-loop-condition l = list_any (holds (λ _. true) l.tags) (drop l.condition-index l.conditions)
+    ≡ list_any (holds (λ _. true) l.tags) l.conditions

@@ -8,22 +8,27 @@ use Rattle.row_store.proofs.calls.get_from.Goals as goal
 
 pub returns-in-Err-clause-value : goal.returns-in-Err-clause-value
 returns-in-Err-clause-value g c =
-    value_unbrought rows_bytes (AreRows c.args.style.now.tables) c.args.which c.args.number c.args.buckets.now c.bring.new.self c.in-Err.fault c.in-Err.ensures.brings
+    value_unbrought rows_bytes (AreRows c.args.style.now.tables) c.args.which c.args.number c.args.buckets.now c.bring.new.self
+    c.in-Err.fault c.in-Err.ensures.brings
 
 pub returns-in-Ok-clause-value : goal.returns-in-Ok-clause-value
 returns-in-Ok-clause-value g c =
-    value_found rows_bytes (AreRows c.args.style.now.tables) (λ bytes. bytes.now) c.args.which c.args.number c.args.buckets.now c.bring.new.self c.value.result c.in_default.ensures.brings
+    value_found rows_bytes (AreRows c.args.style.now.tables)
+    (λ bytes. bytes.now) c.args.which c.args.number c.args.buckets.now c.bring.new.self c.value.result c.in_default.ensures.brings
     c.value.ensures.found c.in-Ok.found c.in-Ok.ensures.reads
 
 pub returns-in-Err-read-clause-answers : goal.returns-in-Err-read-clause-answers
 returns-in-Err-read-clause-answers g c =
     let done = c.in_default.ensures in
-    gets_refused rows_bytes (AreRows c.args.style.now.tables) (λ bytes. bytes.now) c.args.which c.args.number c.args.buckets.now c.bring.new.self c.value.result done.brings
-    done.touches.stays c.value.ensures.value c.in-Err-read.fault c.in-Err-read.ensures.reads c.refuse_value.result c.refuse_value.ensures.refusal
+    gets_refused rows_bytes (AreRows c.args.style.now.tables)
+    (λ bytes. bytes.now) c.args.which c.args.number c.args.buckets.now c.bring.new.self c.value.result done.brings
+    done.touches.stays c.value.ensures.value c.in-Err-read.fault c.in-Err-read.ensures.reads c.refuse_value.result
+    c.refuse_value.ensures.refusal
 
 pub returns-in-Err-read-clause-value : goal.returns-in-Err-read-clause-value
 returns-in-Err-read-clause-value g c =
     let refused = c.refuse_value.ensures in
-    value_refused rows_bytes (AreRows c.args.style.now.tables) (λ bytes. bytes.now) c.args.which c.args.number c.args.buckets.now c.bring.new.self c.value.result c.in_default.ensures.brings
+    value_refused rows_bytes (AreRows c.args.style.now.tables)
+    (λ bytes. bytes.now) c.args.which c.args.number c.args.buckets.now c.bring.new.self c.value.result c.in_default.ensures.brings
     c.refuse_value.new.buckets refused.chains refused.cached c.value.ensures.found c.in-Err-read.fault c.in-Err-read.ensures.reads
     c.refuse_value.result (first_of (chains_of c.bring.new.self) (bucket_at c.bring.new.self c.args.which c.args.number)) refused.refusal

@@ -21,7 +21,8 @@ returns-in-Ok-add_records-clause-filled g c rest now rows has told =
     let same : c.as_slice.result.now ≡ records = cc (c.as_slice.ensures.value) in
     let each = records_told definitions c.args.wanted c.args.which rows now bucket records are told in
     let filled = c.in-Ok-add_records.ensures.filled rows
-    (subst (λ (l : List (ℕ × List ℕ)). AllByRecursion (λ one. IsTold definitions c.args.wanted c.args.which rows one.0 one.1) l) (sym same) each) in
+    (subst (λ (l : List (ℕ × List ℕ)). AllByRecursion (λ one. IsTold definitions c.args.wanted c.args.which rows one.0 one.1) l)
+    (sym same) each) in
     bucket_fills definitions c.args.wanted c.args.which rows now bucket records are c.args.tables.now c.add_records.new.tables
     (subst (λ (l : List (ℕ × List ℕ)). Fills c.args.which rows (Among l) c.args.tables.now c.add_records.new.tables) same filled)
 
@@ -34,6 +35,8 @@ returns-clause-sound g c rest now rows has told =
     let same : c.as_slice.result.now ≡ records = cc (c.as_slice.ensures.value) in
     let each = records_told definitions c.args.wanted c.args.which rows now bucket records are told in
     let memory = c.in-Err-add_records.ensures.sound rows
-    (subst (λ (l : List (ℕ × List ℕ)). AllByRecursion (λ one. IsTold definitions c.args.wanted c.args.which rows one.0 one.1) l) (sym same) each) in
-    memory_sound c.in-Err-add_records.fault (first_of (chains_of c.records.new.self) (bucket_at c.records.new.self c.args.which c.args.bucket))
+    (subst (λ (l : List (ℕ × List ℕ)). AllByRecursion (λ one. IsTold definitions c.args.wanted c.args.which rows one.0 one.1) l)
+    (sym same) each) in
+    memory_sound c.in-Err-add_records.fault (first_of (chains_of c.records.new.self)
+    (bucket_at c.records.new.self c.args.which c.args.bucket))
     c.refuse_value.result c.refuse_value.ensures.refusal memory

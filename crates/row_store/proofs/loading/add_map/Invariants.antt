@@ -16,7 +16,8 @@ invariant-loop-bucket g l = record {
   same : OnlyLooks l.initial.buckets l.buckets;
   stays : OnlyRead (chains_of l.initial.buckets) (chains_of l.buckets);
   has : (rest now : Image) → Has rest now l.initial.buckets → Has rest now l.buckets;
-  filled : (rest now : Image) (rows : RowsBySpot) → Has rest now l.initial.buckets → AreTold l.style.tables l.wanted l.which rows (now.maps l.which)
+  filled : (rest now : Image) (rows : RowsBySpot) → Has rest now l.initial.buckets
+      → AreTold l.style.tables l.wanted l.which rows (now.maps l.which)
       → Fills l.which rows (λ n. IsSome (map.get (now.maps l.which) n) × (n % now.root.buckets < l.bucket)) l.initial.tables l.tables;
 }
 

@@ -12,14 +12,17 @@ loop-number-preserved c rows each =
     let one = c.loop-number-item.result in
     let here = told_at (λ (e : ℕ × List ℕ). IsTold definitions c.args.wanted c.args.which rows e.0 e.1) records place one each
     c.loop-number-test.true c.loop-number-item.is in
-    let told = subst (λ (bytes : List ℕ). IsTold definitions c.args.wanted c.args.which rows one.0 bytes) (sym c.as_slice.ensures.items) here in
+    let told = subst (λ (bytes : List ℕ). IsTold definitions c.args.wanted c.args.which rows one.0 bytes)
+    (sym c.as_slice.ensures.items) here in
     fills_then c.args.which rows (Among (take place records)) (λ n. one.0 ≡ n) (Among (take (place + 1) records))
-    c.args.tables.now c.loop-number.tables c.add_record.new.tables (c.loop-number.invariant rows each) (c.in_default.ensures.filled rows told)
+    c.args.tables.now c.loop-number.tables c.add_record.new.tables (c.loop-number.invariant rows each)
+    (c.in_default.ensures.filled rows told)
     (λ n among. among_more records place one n c.loop-number-test.true c.loop-number-item.is among)
 
 pub returns-clause-filled : goal.returns-clause-filled
 returns-clause-filled c rows each =
     let records = c.args.records.now in
     let place = c.loop-number.number-index in
-    fills_fewer c.args.which rows (Among records) (Among (take place records)) c.args.tables.now c.loop-number.tables (c.loop-number.invariant rows each)
+    fills_fewer c.args.which rows (Among records) (Among (take place records)) c.args.tables.now c.loop-number.tables
+    (c.loop-number.invariant rows each)
     (λ n among. among_all records place n (omega (arith, c.loop-number-test.false)) among)

@@ -7,9 +7,11 @@ returns-in-Err-clause-refused c = needs_more c.in-Err.fault (row_no_cells c.args
 
 pub returns-in-Err-front-clause-refused : goal.returns-in-Err-front-clause-refused
 returns-in-Err-front-clause-refused c =
-    needs_more c.in-Err-front.fault (row_no_geometry c.args.columns c.args.bytes.now c.in-Ok.found.0 c.in-Ok.found.1.now c.in-Ok.ensures.values)
+    needs_more c.in-Err-front.fault (row_no_geometry c.args.columns c.args.bytes.now c.in-Ok.found.0 c.in-Ok.found.1.now
+    c.in-Ok.ensures.values)
     c.in-Err-front.ensures.refused
 
 pub returns-clause-row : goal.returns-clause-row
 returns-clause-row c =
-    row_front c.args.columns c.args.bytes.now c.in-Ok.found.1.now c.in-Ok-front.found.1.now _ c.in-Ok.ensures.values c.in-Ok-front.ensures.value
+    row_front c.args.columns c.args.bytes.now c.in-Ok.found.1.now c.in-Ok-front.found.1.now _ c.in-Ok.ensures.values
+    c.in-Ok-front.ensures.value

@@ -5,7 +5,8 @@ use Rattle.row_store.proofs.row.whole_row.Goals as goal
 use Rattle.value_bytes.proofs.Fronts.{needs_more, no_value, no_value_behind}
 
 pub returns-in-Err-clause-refused : goal.returns-in-Err-clause-refused
-returns-in-Err-clause-refused c = needs_more c.in-Err.fault (no_value row_bytes (IsRow c.args.columns) c.args.bytes.now) c.in-Err.ensures.refused
+returns-in-Err-clause-refused c = needs_more c.in-Err.fault
+    (no_value row_bytes (IsRow c.args.columns) c.args.bytes.now) c.in-Err.ensures.refused
 
 pub returns-then-not-is_empty-clause-refused : goal.returns-then-not-is_empty-clause-refused
 returns-then-not-is_empty-clause-refused c =

@@ -10,7 +10,8 @@ returns-in_default-clause-refused c = table_row_no_number c.args.tables.now (ome
 
 pub returns-then-table-tables-clause-refused : goal.returns-then-table-tables-clause-refused
 returns-then-table-tables-clause-refused c =
-    table_row_no_table c.args.tables.now (omega arith) c.args.bytes.now c.in-Some.table c.in-Some.behind.now (omega arith) c.in-Some.ensures.number
+    table_row_no_table c.args.tables.now (omega arith) c.args.bytes.now c.in-Some.table c.in-Some.behind.now
+    (omega arith) c.in-Some.ensures.number
 
 pub returns-in-Err-clause-refused : goal.returns-in-Err-clause-refused
 returns-in-Err-clause-refused c =
@@ -21,7 +22,8 @@ returns-in-Err-clause-refused c =
 
 pub returns-clause-row : goal.returns-clause-row
 returns-clause-row c =
-    table_row_front c.args.tables.now (omega arith) c.args.bytes.now c.in-Some.table c.in-Some.behind.now c.in-Ok.found.0 c.in-Ok.found.1.now
+    table_row_front c.args.tables.now (omega arith) c.args.bytes.now c.in-Some.table c.in-Some.behind.now c.in-Ok.found.0
+    c.in-Ok.found.1.now
     (omega arith) c.in-Some.ensures.number
     (subst (λ n. IsFront row_bytes (IsRow n) c.in-Some.behind.now c.in-Ok.found.0 c.in-Ok.found.1.now) c.columns_of-columns.ensures.columns
     c.in-Ok.ensures.row)

@@ -13,7 +13,9 @@ loop-row-preserved c =
     record {
       put = c.in_ok-push_table_row.ensures.ok ∙ ap (λ (l : List ℕ). l ++ table_row_bytes row) c.loop-row.invariant.put
           ∙ append_assoc c.args.out.now.items (rows_bytes (take place rows)) (table_row_bytes row)
-          ∙ ap (λ (l : List ℕ). c.args.out.now.items ++ l) (sym (bytes_more table_row_bytes rows place row c.loop-row-test.true c.row-item.is));
+          ∙ ap (λ (l : List ℕ). c.args.out.now.items ++ l)
+          (sym (bytes_more table_row_bytes rows place row c.loop-row-test.true c.row-item.is));
       are = each_more (IsTableRow tables) rows place row c.loop-row-test.true c.row-item.is c.loop-row.invariant.are
-          (row_spelled tables row (fits_at tables rows place row c.requires c.loop-row-test.true c.row-item.is) c.in_ok-push_table_row.ensures.is);
+          (row_spelled tables row (fits_at tables rows place row c.requires c.loop-row-test.true c.row-item.is)
+          c.in_ok-push_table_row.ensures.is);
     }

@@ -13,15 +13,18 @@ returns-then-is_ge c =
     let first = c.index-rows-place.result in
     let second = c.index-rows-place-in-loop-place.result in
     let next : c.loop-place.place ≡ n + 1 = omega (arith, c.loop-place.invariant.0) in
-    let seen_keys : order (get_or c.args.rows.now n first).key (get_or c.args.rows.now c.loop-place.place second).key ≡ order first.key second.key =
+    let seen_keys : order (get_or c.args.rows.now n first).key (get_or c.args.rows.now c.loop-place.place second).key
+    ≡ order first.key second.key =
     ap (λ own. order own.key (get_or c.args.rows.now c.loop-place.place second).key) (sym c.index-rows-place.is)
     ∙ ap (λ own. order first.key own.key) (sym c.index-rows-place-in-loop-place.is) in
     record {
       rising = (
         λ no. absurd (search rules),
         λ rising. absurd (stops order (by_number_total c.args.of_areas) (by_number-IsAntisymmetric c.args.of_areas) seen c.args.rows.now n
-            first second (omega arith) c.index-rows-place.is (c.index-rows-place-in-loop-place.is ∙ ap (λ k. get_or c.args.rows.now k second) next)
-            (subst (λ o. o ≢ Less) (c.order.ensures.order ∙ seen_keys) (not_below c.order.result (sym c.is_ge.ensures ∙ c.if-is_ge.true))) rising),
+            first second (omega arith) c.index-rows-place.is
+            (c.index-rows-place-in-loop-place.is ∙ ap (λ k. get_or c.args.rows.now k second) next)
+            (subst (λ o. o ≢ Less) (c.order.ensures.order ∙ seen_keys) (not_below c.order.result (sym c.is_ge.ensures ∙ c.if-is_ge.true)))
+            rising),
       );
     }
 
@@ -32,14 +35,17 @@ loop-place-preserved c =
     let first = c.index-rows-place.result in
     let second = c.index-rows-place-in-loop-place.result in
     let next : c.loop-place.place ≡ n + 1 = omega (arith, c.loop-place.invariant.0) in
-    let seen_keys : order (get_or c.args.rows.now n first).key (get_or c.args.rows.now c.loop-place.place second).key ≡ order first.key second.key =
+    let seen_keys : order (get_or c.args.rows.now n first).key (get_or c.args.rows.now c.loop-place.place second).key
+    ≡ order first.key second.key =
     ap (λ own. order own.key (get_or c.args.rows.now c.loop-place.place second).key) (sym c.index-rows-place.is)
     ∙ ap (λ own. order first.key own.key) (sym c.index-rows-place-in-loop-place.is) in
     let after : c.loop-place.place + 1 - 1 ≡ n + 1 = omega (arith, next) in (
       omega arith,
       λ rest. goes_on order (by_number_total c.args.of_areas) (by_number-IsAntisymmetric c.args.of_areas) seen c.args.rows.now n
-          first second (omega arith) c.index-rows-place.is (c.index-rows-place-in-loop-place.is ∙ ap (λ k. get_or c.args.rows.now k second) next)
-          (sym (c.order.ensures.order ∙ seen_keys) ∙ below_of c.order.result (sym c.is_ge.ensures ∙ c.if-is_ge.false)) c.loop-place.invariant.1
+          first second (omega arith) c.index-rows-place.is
+          (c.index-rows-place-in-loop-place.is ∙ ap (λ k. get_or c.args.rows.now k second) next)
+          (sym (c.order.ensures.order ∙ seen_keys) ∙ below_of c.order.result (sym c.is_ge.ensures ∙ c.if-is_ge.false))
+          c.loop-place.invariant.1
           (subst (λ k. T (is_sorted order (drop k (map seen c.args.rows.now)))) after rest),
     )
 
@@ -48,7 +54,8 @@ returns c =
     let order = by_number c.args.of_areas in
     record {
       rising = (
-        λ _. c.loop-place.invariant.1 (is_sorted-last order (by_number_total c.args.of_areas) (by_number-IsAntisymmetric c.args.of_areas) seen
+        λ _. c.loop-place.invariant.1 (is_sorted-last order (by_number_total c.args.of_areas)
+            (by_number-IsAntisymmetric c.args.of_areas) seen
             c.args.rows.now (c.loop-place.place - 1) (omega (arith, c.loop-place.invariant.0))),
         λ _. search rules,
       );

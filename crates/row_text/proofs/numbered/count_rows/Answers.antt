@@ -16,6 +16,7 @@ returns c =
     let all : map deref_pair c.loop-spot.yielded ≡ c.range-spot-items.result = search (rules, iter_end) in
     record {
       count = c.loop-spot.invariant ∙ ap length (ap (rows_among c.args.table) (all ∙ c.range-spot-items.ensures.between tt)
-          ∙ rows_in_range c.rows.result.now c.args.table _ _ c.range-spot-items.ensures.ordered c.before-2.ensures.front c.behind.ensures.back)
+          ∙ rows_in_range c.rows.result.now c.args.table _ _ c.range-spot-items.ensures.ordered c.before-2.ensures.front
+          c.behind.ensures.back)
           ∙ ap (λ tables. length (rows_of tables c.args.table)) c.rows.ensures.rows;
     }

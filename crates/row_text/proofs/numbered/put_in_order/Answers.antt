@@ -11,7 +11,8 @@ settle-requires c =
     let order = by_number c.args.of_areas in
     let total = by_number_total c.args.of_areas in
     let same = by_number-IsAntisymmetric c.args.of_areas in
-    IsOnce-IsPermutation order total same _ _ (IsPermutation-map seen c.args.rows.now c.turn_relations.new.rows c.turn_relations.ensures.permutation)
+    IsOnce-IsPermutation order total same _ _
+    (IsPermutation-map seen c.args.rows.now c.turn_relations.new.rows c.turn_relations.ensures.permutation)
     (once-rising order total same key_cmp key_cmp_total _ c.requires)
 
 pub returns : goal.returns
@@ -19,7 +20,8 @@ returns c =
     let order = by_number c.args.of_areas in
     let total = by_number_total c.args.of_areas in
     let same = by_number-IsAntisymmetric c.args.of_areas in
-    let moved = IsPermutation-trans c.args.rows.now c.turn_relations.new.rows c.settle.new.rows c.turn_relations.ensures.permutation c.settle.ensures.permutation in
+    let moved = IsPermutation-trans c.args.rows.now c.turn_relations.new.rows c.settle.new.rows c.turn_relations.ensures.permutation
+    c.settle.ensures.permutation in
     record {
       order = in_order order total same _ _ (IsPermutation-map seen c.args.rows.now c.settle.new.rows moved)
           (once-rising order total same key_cmp key_cmp_total _ c.requires) c.settle.ensures.rising;

@@ -16,5 +16,6 @@ returns c =
     let all : map deref_pair c.loop-spot.yielded ≡ c.range-spot-items.result = search (rules, iter_end) in
     record {
       rows = c.loop-spot.invariant ∙ ap (rows_among c.args.table) (all ∙ c.range-spot-items.ensures.between tt)
-          ∙ rows_in_range c.args.rows.now c.args.table _ _ c.range-spot-items.ensures.ordered c.before-2.ensures.front c.behind.ensures.back;
+          ∙ rows_in_range c.args.rows.now c.args.table _ _ c.range-spot-items.ensures.ordered c.before-2.ensures.front
+          c.behind.ensures.back;
     }

@@ -10,4 +10,5 @@ returns-clause-rising c =
     let total = by_number_total c.args.of_areas in
     let same = by_number-IsAntisymmetric c.args.of_areas in
     rising-once order total same seen c.sort.new.rows c.sort.ensures.sorted
-    (IsOnce-IsPermutation order total same _ _ (IsPermutation-map seen c.args.rows.now c.sort.new.rows c.sort.ensures.permutation) c.requires)
+    (IsOnce-IsPermutation order total same _ _
+    (IsPermutation-map seen c.args.rows.now c.sort.new.rows c.sort.ensures.permutation) c.requires)

@@ -2,4 +2,7 @@ use Rattle.run_promise.proofs.EndLaws.{appended_well}
 use Rattle.run_promise.proofs.laws.appends_end_well.Goals as goal
 
 pub returns : goal.returns
-returns c = record { appended = λ old store files workers kept ending comes well. appended_well old ending well store files workers kept comes }
+returns c = record {
+  appended = λ old store files workers kept ending comes well.
+      appended_well old ending well store files workers kept comes;
+}

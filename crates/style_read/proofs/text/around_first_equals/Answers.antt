@@ -5,5 +5,6 @@ use Rattle.style_read.proofs.text.around_first_equals.Goals as goal
 
 pub returns : goal.returns
 returns c = record {
-  parts = around_first-split 61 c.args.text.now c.split_once.result (split_parts 61 c.args.text.now c.split_once.result c.split_once.ensures.cases (omega arith));
+  parts = around_first-split 61 c.args.text.now c.split_once.result
+      (split_parts 61 c.args.text.now c.split_once.result c.split_once.ensures.cases (omega arith));
 }

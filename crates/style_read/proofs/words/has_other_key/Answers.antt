@@ -12,5 +12,6 @@ returns-in-Some c =
     let test : List ℕ → Bool = λ key. not (is_key_of c.args.level key) in
     let table = c.in-Some.table.now in
     rw (sym c.as_table.ensures ∙ ap (option_map (λ m. table_view m.now)) c.in-Some.is) record {
-      other = c.table_has_other_key.ensures.other ∙ sym (ap (list_any test) (keys_in_table_view table) ∙ list_any_over test string_bytes (keys table));
+      other = c.table_has_other_key.ensures.other
+          ∙ sym (ap (list_any test) (keys_in_table_view table) ∙ list_any_over test string_bytes (keys table));
     }

@@ -11,7 +11,8 @@ returns-in-Err-Shut-clause-answers g c =
     let old : ReaderOf = g.E.Reads.state c.args.reader.now in
     let now : ReaderOf = g.E.Reads.state c.loop-query.reader in
     let new : ReaderOf = g.E.Reads.state c.look.new.self in
-    let refused = subst (λ (why : LookRefused). IsRefused now.refusals new.refusals (new.seen ≡ now.seen) why) c.in-Err-Shut.field-0-is c.in-Err-Shut.ensures.shut in
+    let refused = subst (λ (why : LookRefused). IsRefused now.refusals new.refusals (new.seen ≡ now.seen) why) c.in-Err-Shut.field-0-is
+    c.in-Err-Shut.ensures.shut in
     asked_shut old now new c.args.queries.now c.loop-query.query-index c.loop-query.answers c.loop-query.invariant refused.1
 
 pub loop-query-preserved : goal.loop-query-preserved
@@ -22,12 +23,14 @@ loop-query-preserved g c =
     let queries = c.args.queries.now in
     let index = c.loop-query.query-index in
     let more = asked_more old now new queries index c.loop-query.answers c.query-item.result c.in-Ok.answer c.loop-query.invariant
-    c.loop-query-test.true c.query-item.is c.in-Ok.ensures.same c.in-Ok.ensures.seen c.in-Ok.ensures.later c.in-Ok.ensures.told c.in-Ok.ensures.handle c.in-Ok.ensures.answer in
+    c.loop-query-test.true c.query-item.is c.in-Ok.ensures.same c.in-Ok.ensures.seen c.in-Ok.ensures.later c.in-Ok.ensures.told
+    c.in-Ok.ensures.handle c.in-Ok.ensures.answer in
     subst (λ (answers : List Answer). Asked old new queries (index + 1) answers) (sym c.in_ok-push-in-Ok.ensures.ok) more
 
 pub returns-clause-answers : goal.returns-clause-answers
 returns-clause-answers g c =
-    asked_so_far (g.E.Reads.state c.args.reader.now) (g.E.Reads.state c.loop-query.reader) c.args.queries.now c.loop-query.query-index c.loop-query.answers c.loop-query.invariant
+    asked_so_far (g.E.Reads.state c.args.reader.now)
+    (g.E.Reads.state c.loop-query.reader) c.args.queries.now c.loop-query.query-index c.loop-query.answers c.loop-query.invariant
 
 pub returns-in-Err-Shut-clause-handle : goal.returns-in-Err-Shut-clause-handle
 returns-in-Err-Shut-clause-handle g c = c.loop-query.invariant.handle

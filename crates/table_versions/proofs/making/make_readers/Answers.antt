@@ -15,8 +15,11 @@ loop-preserved c =
     let before : List ReaderOf = c.loop.made.items in
     let reader : ReaderOf = c.new-reader.result in
     let items : c.add_reader.new.made.items ≡ before ++ reader ∷ [] = c.if-not-add_reader.ensures.added in
-    let count : length c.add_reader.new.made.items ≡ c.loop.counter + 1 = omega (arith, ap length items, length-append before (reader ∷ []), so_far.3) in
-    let new : IsNewReader style front reader = subst (λ (own : StyleOf). IsNewReader own front reader) c.in-Ok.ensures.equal c.new-reader.ensures.new in
+    let count : length c.add_reader.new.made.items ≡ c.loop.counter + 1 =
+    omega (arith, ap length items, length-append before (reader ∷ []), so_far.3) in
+    let new : IsNewReader style front reader =
+    subst (λ (own : StyleOf). IsNewReader own front reader) c.in-Ok.ensures.equal c.new-reader.ensures.new in
     let all : All (IsNewReader style front) c.add_reader.new.made.items =
-    subst (λ (made : List ReaderOf). All (IsNewReader style front) made) (sym items) (more_readers style front before reader so_far.4 new) in
+    subst (λ (made : List ReaderOf). All (IsNewReader style front) made) (sym items)
+    (more_readers style front before reader so_far.4 new) in
     (kept.0 ∙ so_far.0, kept.1 ∙ so_far.1, kept.2 ∙ so_far.2, count, all)

@@ -6,4 +6,5 @@ use Rattle.table_versions.proofs.publisher.queue_changes.Given as goal
 -- the steps that are handed in, and then those of the changes that are left, are all
 abbrev pub invariant-loop-change : goal.invariant-loop-change
 invariant-loop-change l =
-    (l.board.desk ≡ l.fn.board.desk) × (drop l.board.behind l.board.log.items ++ steps_of_all (into_iter_items l.change-iterator) ≡ steps_of_all l.fn.changes)
+    (l.board.desk ≡ l.fn.board.desk) × (drop l.board.behind l.board.log.items ++ steps_of_all (into_iter_items l.change-iterator)
+    ≡ steps_of_all l.fn.changes)

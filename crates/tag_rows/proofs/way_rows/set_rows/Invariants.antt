@@ -7,4 +7,5 @@ use Rattle.tag_rows.proofs.way_rows.set_rows.Given as goal
 
 -- the rows of the ways so far are built anew
 abbrev pub invariant-loop-id : goal.invariant-loop-id
-invariant-loop-id l = (id : ℕ) → map.get l.rows id ≡ cond (has (take l.id-index l.due) id) (some_row (row_at (chars l.key) l.objects id)) (map.get l.initial.rows id)
+invariant-loop-id l = (id : ℕ) → map.get l.rows id
+    ≡ cond (has (take l.id-index l.due) id) (some_row (row_at (chars l.key) l.objects id)) (map.get l.initial.rows id)

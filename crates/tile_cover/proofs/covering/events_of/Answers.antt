@@ -7,4 +7,6 @@ pub returns-clause-events : goal.returns-clause-events
 returns-clause-events c = each_permuted (2 ^ c.args.bounds.now.zoom) _ _ c.sort.ensures.permutation c.in_ok-add_geometry.ensures.events
 
 pub returns-clause-gains : goal.returns-clause-gains
-returns-clause-gains c = gains_permuted c.args.bounds.now (segments_of (2 ^ c.args.bounds.now.zoom) c.args.geometry.now) [] _ _ c.sort.ensures.permutation (rw c.new-events.ensures.items at c.in_ok-add_geometry.ensures.ok)
+returns-clause-gains c = gains_permuted c.args.bounds.now
+    (segments_of (2 ^ c.args.bounds.now.zoom) c.args.geometry.now) [] _ _ c.sort.ensures.permutation
+    (rw c.new-events.ensures.items at c.in_ok-add_geometry.ensures.ok)

@@ -9,6 +9,7 @@ use Rattle.tile_cover.proofs.events.add_polygons.Given as goal
 abbrev pub invariant-loop-polygon : goal.invariant-loop-polygon
 invariant-loop-polygon l = record {
   events : AllByRecursion (IsEvent (2 ^ l.bounds.zoom)) l.events.items;
-  gains : (final : List Event) → Gains l.bounds (flat_map (lines_segments (2 ^ l.bounds.zoom)) (drop l.polygon-index l.polygons)) l.events.items final
+  gains : (final : List Event) → Gains l.bounds
+      (flat_map (lines_segments (2 ^ l.bounds.zoom)) (drop l.polygon-index l.polygons)) l.events.items final
       → Gains l.bounds (flat_map (lines_segments (2 ^ l.bounds.zoom)) l.polygons) l.initial.events.items final;
 }

@@ -13,12 +13,15 @@ loop-row-init c = record {
 pub loop-row-preserved : goal.loop-row-preserved
 loop-row-preserved c = record {
   events = c.in_ok-add_row.ensures.events;
-  gains = gains_in_more c.args.bounds.now c.rows_from-from.result.0 c.loop-row.row (segment_of c.climb_of-climb.result) c.args.events.now.items c.loop-row.events.items c.add_row.new.events.items c.loop-row.auto.row c.loop-row.invariant.gains c.in_ok-add_row.ensures.ok;
+  gains = gains_in_more c.args.bounds.now c.rows_from-from.result.0 c.loop-row.row
+      (segment_of c.climb_of-climb.result) c.args.events.now.items c.loop-row.events.items c.add_row.new.events.items c.loop-row.auto.row
+      c.loop-row.invariant.gains c.in_ok-add_row.ensures.ok;
 }
 
 pub returns-clause-ok : goal.returns-clause-ok
 returns-clause-ok c =
-    let end : c.loop-row.row ≡ c.rows_from-from.result.1 = omega (arith, c.rows_from-from.ensures.ordered, c.loop-row.auto.row-end c.rows_from-from.ensures.ordered) in
+    let end : c.loop-row.row ≡ c.rows_from-from.result.1 =
+    omega (arith, c.rows_from-from.ensures.ordered, c.loop-row.auto.row-end c.rows_from-from.ensures.ordered) in
     let power = c.columns.ensures.power in
     gains_in_all c.args.bounds.now c.rows_from-from.result.0 c.rows_from-from.result.1
     (record { start = widened (2 ^ c.args.bounds.now.zoom) c.args.start; end = widened (2 ^ c.args.bounds.now.zoom) c.args.end })

@@ -8,4 +8,5 @@ use Rattle.tile_cover.proofs.runs.replace_runs.Goals as goal
 pub returns-clause-ok : goal.returns-clause-ok
 returns-clause-ok c =
     let put = c.in_ok-splice.ensures.items in
-    put.4 ∙ ap (splice c.args.runs.now.items c.args.from c.args.to) (all_drained into_iter_steps into_iter_items put.0 put.1 put.2.3 put.3 ∙ put.2.0)
+    put.4 ∙ ap (splice c.args.runs.now.items c.args.from c.args.to)
+    (all_drained into_iter_steps into_iter_items put.0 put.1 put.2.3 put.3 ∙ put.2.0)

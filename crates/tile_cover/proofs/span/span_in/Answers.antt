@@ -45,4 +45,5 @@ returns-clause-told c = λ x h.
     } in
     let first = rw (c.lon_at-low.ensures.lon, c.lon_at-high.ensures.lon) at c.span_between.ensures.first x in
     let last = rw (c.lon_at-low.ensures.lon, c.lon_at-high.ensures.lon) at c.span_between.ensures.last x h in
-    tells_part c.args.climb c.span_between.result c.args.south c.args.north x lo hi (lo - a) (b - lo) (hi - a) (b - hi) (b - a) c.requires.row part (omega arith) (omega arith) first last c.span_between.ensures.straddles
+    tells_part c.args.climb c.span_between.result c.args.south c.args.north x lo hi (lo - a) (b - lo) (hi - a) (b - hi)
+    (b - a) c.requires.row part (omega arith) (omega arith) first last c.span_between.ensures.straddles

@@ -8,7 +8,8 @@ use Rattle.tile_cover.proofs.sweep.runs_of.Given as goal
 abbrev pub invariant-loop-at : goal.invariant-loop-at
 invariant-loop-at l = record {
   within : l.at ≤ length l.events;
-  tiles : (other x y : ℕ) → (has l.set other x y || ((l.zoom == other) && (is_open l.cursor y x && is_told l.filled (drop l.at l.events) y x)))
+  tiles : (other x y : ℕ) → (has l.set other x y ||
+      ((l.zoom == other) && (is_open l.cursor y x && is_told l.filled (drop l.at l.events) y x)))
       ≡ ((l.zoom == other) && is_told l.filled l.events y x);
   before : StandsBefore l.zoom l.cursor l.set;
   odd : l.cursor.odd ≡ is_odd_row l.cursor.row (drop l.at l.events);

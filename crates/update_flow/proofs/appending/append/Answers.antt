@@ -32,8 +32,10 @@ use Rattle.update_flow.proofs.appending.append.Goals as goal
 pub change_maps-requires-clause-spent : goal.change_maps-requires-clause-spent
 change_maps-requires-clause-spent g c =
     λ lifetimes within.
-    over_none (stop_of c.args.maps.now) (is_spent c.load_due.new.buckets) c.requires.fresh (none_spent c.load_due.new.buckets c.in-Ok.ensures.going (c.in-Ok.ensures.runs.whole tt)
-    (not_zero (bucket_count (chains_of c.load_due.new.buckets)) (λ zero. c.if-root-eq0.false (ap (λ (r : Root). r.buckets) c.root.ensures ∙ zero))))
+    over_none (stop_of c.args.maps.now) (is_spent c.load_due.new.buckets) c.requires.fresh
+    (none_spent c.load_due.new.buckets c.in-Ok.ensures.going (c.in-Ok.ensures.runs.whole tt)
+    (not_zero (bucket_count (chains_of c.load_due.new.buckets))
+    (λ zero. c.if-root-eq0.false (ap (λ (r : Root). r.buckets) c.root.ensures ∙ zero))))
 
 pub settle-requires : goal.settle-requires
 settle-requires g c = record {
@@ -46,7 +48,8 @@ settle-requires g c = record {
 -- the due tiles are not read
 pub returns-in-Err-clause-turns : goal.returns-in-Err-clause-turns
 returns-in-Err-clause-turns g c held rest same was is style next =
-    turns_refused c.args.limits.now (imported held) (Append c.args.bounds.now c.args.change.now) c.in-Err.fault rest (buckets_of c.args.maps.now) c.load_due.new.buckets
+    turns_refused c.args.limits.now (imported held) (Append c.args.bounds.now c.args.change.now) c.in-Err.fault rest
+    (buckets_of c.args.maps.now) c.load_due.new.buckets
     (rests_under rest rest (buckets_of c.args.maps.now) was) is c.in-Err.ensures.runs.looks
     (sound_answers c.args.limits.now c.in-Err.fault _ (c.in-Err.ensures.sound rest rest held was is))
     (sound_fits c.args.limits.now _ c.in-Err.fault (c.in-Err.ensures.sound rest rest held was is))
@@ -68,7 +71,8 @@ returns-in-Err-change_maps-clause-turns g c held rest same was is style next =
     let keeps : HasMaps (style_in c.args.maps.now).tables under is.maps.maps mid =
     subst (λ (s : StyleOf). HasMaps s.tables under is.maps.maps mid) (sym own)
     (record { now = rest; has = c.in-Ok.ensures.has rest rest was; root = refl; texts = λ n below. refl; kept = is.maps.kept }) in
-    let stand : Stands c.args.style.now is.maps.maps held.objects = subst (λ (s : StyleOf). Stands s is.maps.maps held.objects) style is.maps.stand in
+    let stand : Stands c.args.style.now is.maps.maps held.objects =
+    subst (λ (s : StyleOf). Stands s is.maps.maps held.objects) style is.maps.stand in
     let answers = step_answers limits held c.args.bounds.now change _ _ _ c.in-Err-change_maps.why c.in-Err-change_maps.ensures.goes.ends
     (c.in-Err-change_maps.ensures.changes under is.maps.maps held.objects keeps stand).allowed
     (λ value many. (
@@ -76,10 +80,12 @@ returns-in-Err-change_maps-clause-turns g c held rest same was is style next =
       subst (λ (s : StyleOf). AreTooMany limits.pending (λ set. IsPendingOf s held.objects change set) value) (sym style)
           (many under is.maps.maps held.objects keeps stand),
     )) in
-    subst (λ (f : FlowFault). TurnsIn limits (imported held) (Append c.args.bounds.now change) (Some f) old (buckets_of last)) (sym c.step_fault.ensures)
+    subst (λ (f : FlowFault). TurnsIn limits (imported held) (Append c.args.bounds.now change) (Some f) old (buckets_of last))
+    (sym c.step_fault.ensures)
     (turns_refused limits (imported held) (Append c.args.bounds.now change) _ rest old (buckets_of last) (rests_under rest rest old was) is
     (looks_then old mid (buckets_of last) c.in-Ok.ensures.runs.looks later.looks) answers
-    (step_fits limits _ c.in-Err-change_maps.why (c.in-Err-change_maps.ensures.changes under is.maps.maps held.objects keeps stand).allowed))
+    (step_fits limits _ c.in-Err-change_maps.why
+    (c.in-Err-change_maps.ensures.changes under is.maps.maps held.objects keeps stand).allowed))
 
 pub returns-in-Err-change_maps-clause-ends : goal.returns-in-Err-change_maps-clause-ends
 returns-in-Err-change_maps-clause-ends g c =
@@ -87,10 +93,12 @@ returns-in-Err-change_maps-clause-ends g c =
     let mid = c.load_due.new.buckets in
     let last = c.change_maps.new.store in
     let later = c.change_maps.ensures.goes.looked _ (later_same _) in
-    subst (λ (f : FlowFault). EndsIn (Some (Append c.args.bounds.now c.args.change.now)) (Some f) old (buckets_of last)) (sym c.step_fault.ensures)
+    subst (λ (f : FlowFault). EndsIn (Some (Append c.args.bounds.now c.args.change.now)) (Some f) old (buckets_of last))
+    (sym c.step_fault.ensures)
     (ends_then _ old mid (buckets_of last) c.in-Ok.ensures.runs.looks
     (step_ends mid (buckets_of last) later.looks _ _ _ c.in-Err-change_maps.why c.in-Err-change_maps.ensures.goes.ends
-    (λ fault refused. (refused _ (later_same _)).1) (λ fresh. over_whole last fresh) (Some (Append c.args.bounds.now c.args.change.now)) (λ value many. tt)))
+    (λ fault refused. (refused _ (later_same _)).1) (λ fresh. over_whole last fresh) (Some (Append c.args.bounds.now c.args.change.now))
+    (λ value many. tt)))
 
 -- all is committed, or nothing
 pub returns-in-Ok-settle-clause-changes : goal.returns-in-Ok-settle-clause-changes
@@ -102,10 +110,12 @@ returns-in-Ok-settle-clause-changes g c held rest was is style =
     let keeps : HasMaps (style_in c.args.maps.now).tables under is.maps.maps mid =
     subst (λ (s : StyleOf). HasMaps s.tables under is.maps.maps mid) (sym own)
     (record { now = rest; has = c.in-Ok.ensures.has rest rest was; root = refl; texts = λ n below. refl; kept = is.maps.kept }) in
-    let stand : Stands c.args.style.now is.maps.maps held.objects = subst (λ (s : StyleOf). Stands s is.maps.maps held.objects) style is.maps.stand in
+    let stand : Stands c.args.style.now is.maps.maps held.objects =
+    subst (λ (s : StyleOf). Stands s is.maps.maps held.objects) style is.maps.stand in
     let done = c.in-Ok-change_maps.ensures.changes under is.maps.maps held.objects keeps stand in
     let told = done.told in
-    subst (λ (s : StyleOf). AreChanges (tables s held.objects) (tables s (folded_all held.objects change)) c.in-Ok-change_maps.told) (sym style)
+    subst (λ (s : StyleOf). AreChanges (tables s held.objects) (tables s (folded_all held.objects change)) c.in-Ok-change_maps.told)
+    (sym style)
     (record { each = told.each; all = told.all; applied = done.applied })
 
 pub returns-in-Ok-settle-clause-turns : goal.returns-in-Ok-settle-clause-turns
@@ -122,7 +132,8 @@ returns-in-Ok-settle-clause-turns g c held rest same was is style next =
     let keeps : HasMaps (style_in c.args.maps.now).tables under is.maps.maps mid =
     subst (λ (s : StyleOf). HasMaps s.tables under is.maps.maps mid) (sym own)
     (record { now = rest; has = c.in-Ok.ensures.has rest rest was; root = refl; texts = λ n below. refl; kept = is.maps.kept }) in
-    let stand : Stands c.args.style.now is.maps.maps held.objects = subst (λ (s : StyleOf). Stands s is.maps.maps held.objects) style is.maps.stand in
+    let stand : Stands c.args.style.now is.maps.maps held.objects =
+    subst (λ (s : StyleOf). Stands s is.maps.maps held.objects) style is.maps.stand in
     let made = (done.changes under is.maps.maps held.objects keeps stand).stands in
     let after = made.0 in
     let kept : HasMaps held.style.tables under after (buckets_of last) =
@@ -130,18 +141,22 @@ returns-in-Ok-settle-clause-turns g c held rest same was is style next =
     let stands : Stands held.style after (folded_all held.objects change) =
     subst (λ (s : StyleOf). Stands s after (folded_all held.objects change)) (sym style) made.2 in
     let due = c.change_maps.new.due in
-    let tiles : (zoom x y : ℕ) → has due zoom x y ≡ both held.due (due_between held.style c.args.bounds.now held.objects (folded_all held.objects change)) zoom x y = λ zoom x y.
+    let tiles : (zoom x y : ℕ) → has due zoom x y
+    ≡ both held.due (due_between held.style c.args.bounds.now held.objects (folded_all held.objects change)) zoom x y = λ zoom x y.
     (done.changes under is.maps.maps held.objects keeps stand).due zoom x y
     ∙ ap (λ (b : Bool). b || due_between c.args.style.now c.args.bounds.now held.objects (folded_all held.objects change) zoom x y)
     (c.in-Ok.ensures.due rest rest held was is zoom x y)
-    ∙ ap (λ (s : StyleOf). held.due zoom x y || due_between s c.args.bounds.now held.objects (folded_all held.objects change) zoom x y) (sym style) in
-    let becomes = append_becomes held rest c.args.bounds.now change c.args.number due after (buckets_of last) is kept stands (subst (λ (l : List Run). IsTileSet l) c.as_slice-runs.ensures.runs c.as_slice-runs.ensures.tiles) tiles next c.requires.counted
+    ∙ ap (λ (s : StyleOf). held.due zoom x y || due_between s c.args.bounds.now held.objects (folded_all held.objects change) zoom x y)
+    (sym style) in
+    let becomes = append_becomes held rest c.args.bounds.now change c.args.number due after (buckets_of last) is kept stands
+    (subst (λ (l : List Run). IsTileSet l) c.as_slice-runs.ensures.runs c.as_slice-runs.ensures.tiles) tiles next c.requires.counted
     (subst (λ (l : List Entry). AreIdEntries l) c.entries.ensures.entries c.known_ids.ensures) in
     let looks = looks_then old mid (buckets_of last) c.in-Ok.ensures.runs.looks later.looks in
     turns_committed limits (imported held) (Append c.args.bounds.now change) _ rest _ old (buckets_of last) c.settle.new.buckets
     (rests_under rest rest old was) is looks becomes (
       (λ last. absurd (omega (arith, last, next, c.requires.counted))),
-      (λ set pending. (done.changes under is.maps.maps held.objects keeps stand).few set (subst (λ (s : StyleOf). IsPendingOf s held.objects change set) style pending)),
+      (λ set pending. (done.changes under is.maps.maps held.objects keeps stand).few set
+          (subst (λ (s : StyleOf). IsPendingOf s held.objects change set) style pending)),
     )
     (c.in-Ok-settle.ensures.commits.commits limits rest kept.now (looks.looked.limit ∙ same) kept.has)
 
@@ -149,7 +164,9 @@ pub returns-in-Ok-settle-clause-ends : goal.returns-in-Ok-settle-clause-ends
 returns-in-Ok-settle-clause-ends g c =
     let later = c.change_maps.ensures.goes.looked _ (later_same _) in
     ends_then _ (buckets_of c.args.maps.now) (buckets_of c.change_maps.new.store) c.settle.new.buckets
-    (looks_then (buckets_of c.args.maps.now) c.load_due.new.buckets (buckets_of c.change_maps.new.store) c.in-Ok.ensures.runs.looks later.looks) (c.in-Ok-settle.ensures.commits.ends (Append c.args.bounds.now c.args.change.now))
+    (looks_then (buckets_of c.args.maps.now) c.load_due.new.buckets
+    (buckets_of c.change_maps.new.store) c.in-Ok.ensures.runs.looks later.looks)
+    (c.in-Ok-settle.ensures.commits.ends (Append c.args.bounds.now c.args.change.now))
 
 pub returns-clause-turns : goal.returns-clause-turns
 returns-clause-turns g c held rest same was is style next =
@@ -165,7 +182,8 @@ returns-clause-turns g c held rest same was is style next =
     let keeps : HasMaps (style_in c.args.maps.now).tables under is.maps.maps mid =
     subst (λ (s : StyleOf). HasMaps s.tables under is.maps.maps mid) (sym own)
     (record { now = rest; has = c.in-Ok.ensures.has rest rest was; root = refl; texts = λ n below. refl; kept = is.maps.kept }) in
-    let stand : Stands c.args.style.now is.maps.maps held.objects = subst (λ (s : StyleOf). Stands s is.maps.maps held.objects) style is.maps.stand in
+    let stand : Stands c.args.style.now is.maps.maps held.objects =
+    subst (λ (s : StyleOf). Stands s is.maps.maps held.objects) style is.maps.stand in
     let made = (done.changes under is.maps.maps held.objects keeps stand).stands in
     let after = made.0 in
     let kept : HasMaps held.style.tables under after (buckets_of last) =
@@ -173,18 +191,22 @@ returns-clause-turns g c held rest same was is style next =
     let stands : Stands held.style after (folded_all held.objects change) =
     subst (λ (s : StyleOf). Stands s after (folded_all held.objects change)) (sym style) made.2 in
     let due = c.change_maps.new.due in
-    let tiles : (zoom x y : ℕ) → has due zoom x y ≡ both held.due (due_between held.style c.args.bounds.now held.objects (folded_all held.objects change)) zoom x y = λ zoom x y.
+    let tiles : (zoom x y : ℕ) → has due zoom x y
+    ≡ both held.due (due_between held.style c.args.bounds.now held.objects (folded_all held.objects change)) zoom x y = λ zoom x y.
     (done.changes under is.maps.maps held.objects keeps stand).due zoom x y
     ∙ ap (λ (b : Bool). b || due_between c.args.style.now c.args.bounds.now held.objects (folded_all held.objects change) zoom x y)
     (c.in-Ok.ensures.due rest rest held was is zoom x y)
-    ∙ ap (λ (s : StyleOf). held.due zoom x y || due_between s c.args.bounds.now held.objects (folded_all held.objects change) zoom x y) (sym style) in
-    let becomes = append_becomes held rest c.args.bounds.now change c.args.number due after (buckets_of last) is kept stands (subst (λ (l : List Run). IsTileSet l) c.as_slice-runs.ensures.runs c.as_slice-runs.ensures.tiles) tiles next c.requires.counted
+    ∙ ap (λ (s : StyleOf). held.due zoom x y || due_between s c.args.bounds.now held.objects (folded_all held.objects change) zoom x y)
+    (sym style) in
+    let becomes = append_becomes held rest c.args.bounds.now change c.args.number due after (buckets_of last) is kept stands
+    (subst (λ (l : List Run). IsTileSet l) c.as_slice-runs.ensures.runs c.as_slice-runs.ensures.tiles) tiles next c.requires.counted
     (subst (λ (l : List Entry). AreIdEntries l) c.entries.ensures.entries c.known_ids.ensures) in
     let looks = looks_then old mid (buckets_of last) c.in-Ok.ensures.runs.looks later.looks in
     turns_committed limits (imported held) (Append c.args.bounds.now change) _ rest _ old (buckets_of last) c.settle.new.buckets
     (rests_under rest rest old was) is looks becomes (
       (λ last. absurd (omega (arith, last, next, c.requires.counted))),
-      (λ set pending. (done.changes under is.maps.maps held.objects keeps stand).few set (subst (λ (s : StyleOf). IsPendingOf s held.objects change set) style pending)),
+      (λ set pending. (done.changes under is.maps.maps held.objects keeps stand).few set
+          (subst (λ (s : StyleOf). IsPendingOf s held.objects change set) style pending)),
     )
     (c.in-Err-settle.ensures.commits.commits limits rest kept.now (looks.looked.limit ∙ same) kept.has)
 
@@ -201,16 +223,22 @@ returns-in-Ok-settle-clause-reads g c held rest was is style unread may touched 
     let keeps : HasMaps (style_in c.args.maps.now).tables under is.maps.maps mid =
     subst (λ (s : StyleOf). HasMaps s.tables under is.maps.maps mid) (sym own)
     (record { now = rest; has = c.in-Ok.ensures.has rest rest was; root = refl; texts = λ n below. refl; kept = is.maps.kept }) in
-    let stand : Stands c.args.style.now is.maps.maps held.objects = subst (λ (s : StyleOf). Stands s is.maps.maps held.objects) style is.maps.stand in
+    let stand : Stands c.args.style.now is.maps.maps held.objects =
+    subst (λ (s : StyleOf). Stands s is.maps.maps held.objects) style is.maps.stand in
     let made = (done.changes under is.maps.maps held.objects keeps stand).stands.1 in
     let going = over_going last done.goes.spent in
     let loads = c.in-Ok.ensures.reads in
-    let only = c.change_maps.ensures.within under is.maps.maps held.objects keeps stand may touched (none_loaded may old mid (buckets_of last) c.settle.new.buckets unread loads) in
-    change_reads may old mid (buckets_of last) c.settle.new.buckets unread loads c.in-Ok.ensures.runs.looks later.looks (later.reads going) only going
-    (ap (λ (r : Root). r.buckets) (made.has.root ∙ made.root ∙ sym was.root)) (c.in-Ok-settle.ensures.reads rest made.now made.has) pages rests
+    let only = c.change_maps.ensures.within under is.maps.maps held.objects keeps stand may touched
+    (none_loaded may old mid (buckets_of last) c.settle.new.buckets unread loads) in
+    change_reads may old mid (buckets_of last) c.settle.new.buckets unread loads c.in-Ok.ensures.runs.looks later.looks
+    (later.reads going) only going
+    (ap (λ (r : Root). r.buckets) (made.has.root ∙ made.root ∙ sym was.root))
+    (c.in-Ok-settle.ensures.reads rest made.now made.has) pages rests
 
 pub returns-clause-ends : goal.returns-clause-ends
 returns-clause-ends g c =
     let later = c.change_maps.ensures.goes.looked _ (later_same _) in
     ends_then _ (buckets_of c.args.maps.now) (buckets_of c.change_maps.new.store) c.settle.new.buckets
-    (looks_then (buckets_of c.args.maps.now) c.load_due.new.buckets (buckets_of c.change_maps.new.store) c.in-Ok.ensures.runs.looks later.looks) (c.in-Err-settle.ensures.commits.ends (Append c.args.bounds.now c.args.change.now))
+    (looks_then (buckets_of c.args.maps.now) c.load_due.new.buckets
+    (buckets_of c.change_maps.new.store) c.in-Ok.ensures.runs.looks later.looks)
+    (c.in-Err-settle.ensures.commits.ends (Append c.args.bounds.now c.args.change.now))

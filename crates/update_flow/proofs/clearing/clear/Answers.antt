@@ -17,14 +17,17 @@ returns-in-Ok-clause-turns g c limits held rest same has is =
     let looks = c.in-Ok.ensures.stores.runs.looks in
     let now = with_text DUE_TEXT (set_bytes []) rest in
     let mid : Has rest now c.store_due.new.buckets =
-    subst (λ (runs : List Run). Has rest (with_text DUE_TEXT (set_bytes runs) rest) c.store_due.new.buckets) c.new-none.ensures.none (c.in-Ok.ensures.stores.stored rest rest has) in
-    turns_committed limits (imported held) Clear (result_err c.finish.result) rest now c.args.buckets.now c.store_due.new.buckets c.finish.new.buckets
+    subst (λ (runs : List Run). Has rest (with_text DUE_TEXT (set_bytes runs) rest) c.store_due.new.buckets) c.new-none.ensures.none
+    (c.in-Ok.ensures.stores.stored rest rest has) in
+    turns_committed limits (imported held) Clear
+    (result_err c.finish.result) rest now c.args.buckets.now c.store_due.new.buckets c.finish.new.buckets
     (rests_under rest rest c.args.buckets.now has) is looks (cleared_becomes held rest is) refl
     (c.finish.ensures.commits.commits limits rest now (looks.looked.limit ∙ same) mid)
 
 pub returns-in-Ok-clause-ends : goal.returns-in-Ok-clause-ends
 returns-in-Ok-clause-ends g c =
-    ends_then (result_err c.finish.result) c.args.buckets.now c.store_due.new.buckets c.finish.new.buckets c.in-Ok.ensures.stores.runs.looks (c.finish.ensures.commits.ends Clear)
+    ends_then (result_err c.finish.result) c.args.buckets.now c.store_due.new.buckets c.finish.new.buckets c.in-Ok.ensures.stores.runs.looks
+    (c.finish.ensures.commits.ends Clear)
 
 pub returns-clause-turns : goal.returns-clause-turns
 returns-clause-turns g c limits held rest same has is =

@@ -14,7 +14,8 @@ use Rattle.update_flow.proofs.due_text.load_due.Goals as goal
 
 pub returns-in-Err-clause-sound : goal.returns-in-Err-clause-sound
 returns-in-Err-clause-sound g c = λ rest now held has is.
-    subst (λ (f : FlowFault). IsSound (Some f)) (sym c.store_fault.ensures) (sound_store (List ℕ) c.in-Err.fault (c.in-Err.ensures.text.sound rest now has))
+    subst (λ (f : FlowFault). IsSound (Some f)) (sym c.store_fault.ensures)
+    (sound_store (List ℕ) c.in-Err.fault (c.in-Err.ensures.text.sound rest now has))
 
 pub returns-in-Err-clause-runs : goal.returns-in-Err-clause-runs
 returns-in-Err-clause-runs g c =
@@ -29,15 +30,18 @@ returns-in-Ok-decode-clause-due g c = λ rest now held was is zoom x y.
     sym (ap (λ (runs : List Run). has runs zoom x y) (c.in-Ok-decode.ensures.set.alone is.due.runs is.due.is bytes)) ∙ is.due.tiles zoom x y
 
 pub returns-in-Ok-decode-clause-runs : goal.returns-in-Ok-decode-clause-runs
-returns-in-Ok-decode-clause-runs g c = runs_done c.args.buckets.now c.load.new.self c.load.ensures.touches.same c.requires.ready.whole c.in-Ok.ensures.touches.broken
+returns-in-Ok-decode-clause-runs g c = runs_done c.args.buckets.now c.load.new.self c.load.ensures.touches.same c.requires.ready.whole
+    c.in-Ok.ensures.touches.broken
 
 pub returns-in-Err-NotSpelled-clause-sound : goal.returns-in-Err-NotSpelled-clause-sound
 returns-in-Err-NotSpelled-clause-sound g c = λ rest now held was is.
-    absurd ((rw c.in-Err-NotSpelled.field-0-is at c.in-Err-NotSpelled.ensures.refused) is.due.runs is.due.is (c.as_slice.ensures.items ∙ c.in-Ok.ensures.text.found rest now was ∙ is.due.bytes_are))
+    absurd ((rw c.in-Err-NotSpelled.field-0-is at c.in-Err-NotSpelled.ensures.refused) is.due.runs is.due.is
+    (c.as_slice.ensures.items ∙ c.in-Ok.ensures.text.found rest now was ∙ is.due.bytes_are))
 
 pub returns-in-Err-NotSpelled-clause-runs : goal.returns-in-Err-NotSpelled-clause-runs
 returns-in-Err-NotSpelled-clause-runs g c =
     runs_unread c.args.buckets.now c.load.new.self c.load.ensures.touches.same c.requires.ready.whole 1 c.in-Ok.ensures.touches.broken
 
 pub returns-in-Ok-decode-clause-reads : goal.returns-in-Ok-decode-clause-reads
-returns-in-Ok-decode-clause-reads g c = reads_call _ DUE_TEXT (chains_of c.args.buckets.now) (chains_of c.load.new.self) c.in-Ok.ensures.touches.reads
+returns-in-Ok-decode-clause-reads g c = reads_call _ DUE_TEXT (chains_of c.args.buckets.now)
+    (chains_of c.load.new.self) c.in-Ok.ensures.touches.reads

@@ -19,7 +19,8 @@ returns-in-Ok-clause-commits g c = record {
     refused = λ not no. absurd (not refl);
     moments = c.commit.ensures.image.any_moment rest now has;
   };
-  ends = committed_ends c.args.buckets.now c.commit.new.self c.requires.ready.whole c.commit.ensures.ends.same_disk c.commit.ensures.ends.cause.later c.in-Ok.ensures.ends.broken;
+  ends = committed_ends c.args.buckets.now c.commit.new.self c.requires.ready.whole c.commit.ensures.ends.same_disk
+      c.commit.ensures.ends.cause.later c.in-Ok.ensures.ends.broken;
 }
 
 pub returns-in-Err-clause-commits : goal.returns-in-Err-clause-commits
@@ -28,7 +29,8 @@ returns-in-Err-clause-commits g c =
     (record {
       commits = λ limits rest now same has. record {
         answer = commit_answers (Unit {0}) limits _ c.in-Err.fault _ same (c.in-Err.ensures.image.sound rest now has);
-        needs = commit_fits limits (home_in c.args.buckets.now) _ (home_in c.commit.new.self) now c.in-Err.fault same (c.in-Err.ensures.image.needs rest now has);
+        needs = commit_fits limits (home_in c.args.buckets.now) _ (home_in c.commit.new.self) now c.in-Err.fault same
+            (c.in-Err.ensures.image.needs rest now has);
         done = λ is. absurd (cc (is));
         grown = λ is. absurd (cc (is));
         refused = λ not no. c.in-Err.ensures.ends.same refl (quiet_fault (Unit {0}) c.in-Err.fault no);

@@ -18,15 +18,19 @@ returns-in-Ok g c = record {
         let stored = c.in-Ok.ensures.stores.stored rest now has in
         let rooted = c.set_root.ensures.has rest text stored in
         let root : fresh_root c.root-root.result.buckets ≡ fresh_root now.root.buckets =
-        ap (λ (r : Root). fresh_root r.buckets) (c.root-root.ensures ∙ stored.root ∙ root_with_text STYLE_TEXT c.args.style_bytes.now now) in
-        let looks = looks_then c.args.buckets.now c.store_style.new.buckets c.set_root.new.self c.in-Ok.ensures.stores.runs.looks c.set_root.ensures.fields.same in
-        commits_after limits (result_err c.finish.result) rest (begun c.args.style_bytes.now now) c.args.buckets.now c.set_root.new.self c.finish.new.buckets
+        ap (λ (r : Root). fresh_root r.buckets) (c.root-root.ensures ∙ stored.root
+        ∙ root_with_text STYLE_TEXT c.args.style_bytes.now now) in
+        let looks = looks_then c.args.buckets.now c.store_style.new.buckets c.set_root.new.self c.in-Ok.ensures.stores.runs.looks
+        c.set_root.ensures.fields.same in
+        commits_after limits (result_err c.finish.result) rest
+        (begun c.args.style_bytes.now now) c.args.buckets.now c.set_root.new.self c.finish.new.buckets
         (rests_under rest now c.args.buckets.now has) looks
         (c.finish.ensures.commits.commits limits rest (begun c.args.style_bytes.now now) (looks.looked.limit ∙ same)
         (subst (λ (r : Root). Has rest (with_root r text) c.set_root.new.self) root rooted));
     ends = λ step.
         ends_then (result_err c.finish.result) c.args.buckets.now c.set_root.new.self c.finish.new.buckets
-        (looks_then c.args.buckets.now c.store_style.new.buckets c.set_root.new.self c.in-Ok.ensures.stores.runs.looks c.set_root.ensures.fields.same) (c.finish.ensures.commits.ends step);
+        (looks_then c.args.buckets.now c.store_style.new.buckets c.set_root.new.self c.in-Ok.ensures.stores.runs.looks
+        c.set_root.ensures.fields.same) (c.finish.ensures.commits.ends step);
   };
 }
 

@@ -31,12 +31,17 @@ returns-then-root-ne0-clause-turns g c limits rest same has blank =
 pub import_maps-requires-clause-spent : goal.import_maps-requires-clause-spent
 import_maps-requires-clause-spent g c lifetimes lives =
     over_none c.args.maps.now.indexed.stopped (is_spent c.set_buckets.new.self) c.requires.fresh
-    (none_spent c.set_buckets.new.self c.set_buckets.ensures.fields.going (ap (λ j. is_broken j) c.set_buckets.ensures.fields.journal ∙ c.requires.ready.whole)
+    (none_spent c.set_buckets.new.self c.set_buckets.ensures.fields.going
+    (ap (λ j. is_broken j) c.set_buckets.ensures.fields.journal ∙ c.requires.ready.whole)
     (ap (λ (r : Root). nat_eq r.buckets 0) c.set_buckets.ensures.fields.root ∙ power_counts c.args.buckets c.requires.asked.power))
 
 pub begin-requires : goal.begin-requires
 begin-requires g c = record {
-  ready = record { going = over_going c.import_maps.new.store c.in-Ok.ensures.goes.spent; whole = over_whole c.import_maps.new.store c.in-Ok.ensures.goes.spent };
+  ready = record {
+    going = over_going c.import_maps.new.store c.in-Ok.ensures.goes.spent;
+    whole =
+        over_whole c.import_maps.new.store c.in-Ok.ensures.goes.spent;
+  };
 }
 
 pub returns-in-Ok-clause-turns : goal.returns-in-Ok-clause-turns
@@ -57,24 +62,30 @@ returns-in-Ok-clause-turns g c limits rest same has blank =
       has = c.set_buckets.ensures.has rest rest has;
       root = root;
       texts = λ n below. texts n;
-      kept = empty_kept (style_in c.args.maps.now).tables numbered.maps (λ m below. maps_with_root (with_buckets count rest.root) rest m ∙ has.none none m below);
+      kept = empty_kept (style_in c.args.maps.now).tables numbered.maps
+          (λ m below. maps_with_root (with_buckets count rest.root) rest m ∙ has.none none m below);
     } in
     let made = c.in-Ok.ensures.stands under keeps in
     let after = made.0 in
     let kept : HasMaps c.args.style.now.tables under after (buckets_of last) =
     subst (λ (s : StyleOf). HasMaps s.tables under after (buckets_of last)) (later.same_style ∙ c.requires.style) made.1 in
-    let becomes = begun_becomes c.args.style.now c.args.style_bytes.now count c.args.change rest kept.now after blank c.requires.asked.reads c.requires.asked.power
+    let becomes = begun_becomes c.args.style.now c.args.style_bytes.now count c.args.change rest kept.now after blank c.requires.asked.reads
+    c.requires.asked.power
     c.requires.asked.few_buckets (ap (λ (r : Root). r.buckets) kept.root) kept.texts kept.kept made.2
     (subst (λ (l : List Entry). AreIdEntries l) c.entries.ensures.entries c.known_ids.ensures) in
     let looks = looks_then old mid (buckets_of last) c.set_buckets.ensures.fields.same later.looks in
-    turns_committed limits formatted (Import c.args.style.now c.args.style_bytes.now count c.args.change) _ rest _ old (buckets_of last) c.begin.new.buckets
-    (rests_under rest rest old has) blank looks becomes refl (c.begin.ensures.commits.commits limits rest kept.now (looks.looked.limit ∙ same) kept.has)
+    turns_committed limits formatted (Import c.args.style.now c.args.style_bytes.now count c.args.change) _ rest _ old
+    (buckets_of last) c.begin.new.buckets
+    (rests_under rest rest old has) blank looks becomes refl
+    (c.begin.ensures.commits.commits limits rest kept.now (looks.looked.limit ∙ same) kept.has)
 
 pub returns-in-Ok-clause-ends : goal.returns-in-Ok-clause-ends
 returns-in-Ok-clause-ends g c =
     let later = c.import_maps.ensures.goes.looked _ (later_same _) in
     ends_then _ (buckets_of c.args.maps.now) (buckets_of c.import_maps.new.store) c.begin.new.buckets
-    (looks_then (buckets_of c.args.maps.now) c.set_buckets.new.self (buckets_of c.import_maps.new.store) c.set_buckets.ensures.fields.same later.looks) (c.begin.ensures.commits.ends (Import c.args.style.now c.args.style_bytes.now c.args.buckets c.args.change))
+    (looks_then (buckets_of c.args.maps.now) c.set_buckets.new.self
+    (buckets_of c.import_maps.new.store) c.set_buckets.ensures.fields.same later.looks)
+    (c.begin.ensures.commits.ends (Import c.args.style.now c.args.style_bytes.now c.args.buckets c.args.change))
 
 pub returns-in-Err-clause-turns : goal.returns-in-Err-clause-turns
 returns-in-Err-clause-turns g c limits rest same has blank =
@@ -93,7 +104,8 @@ returns-in-Err-clause-turns g c limits rest same has blank =
       has = c.set_buckets.ensures.has rest rest has;
       root = root_with_root (with_buckets count rest.root) rest;
       texts = λ n below. texts_with_root (with_buckets count rest.root) rest n;
-      kept = empty_kept (style_in c.args.maps.now).tables numbered.maps (λ m below. maps_with_root (with_buckets count rest.root) rest m ∙ has.none none m below);
+      kept = empty_kept (style_in c.args.maps.now).tables numbered.maps
+          (λ m below. maps_with_root (with_buckets count rest.root) rest m ∙ has.none none m below);
     } in
     subst (λ (f : FlowFault). TurnsIn limits formatted step (Some f) old (buckets_of last)) (sym c.step_fault.ensures)
     (turns_refused limits formatted step _ rest old (buckets_of last) (rests_under rest rest old has) blank

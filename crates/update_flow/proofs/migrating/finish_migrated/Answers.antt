@@ -13,11 +13,13 @@ returns g c = record {
   commits = record {
     commits = λ limits rest now same has.
         let looks = c.set_root.ensures.fields.same in
-        let root : migrated_root c.root-root.result ≡ migrated_root now.root = ap (λ (r : Root). migrated_root r) (c.root-root.ensures ∙ has.root) in
+        let root : migrated_root c.root-root.result ≡ migrated_root now.root =
+        ap (λ (r : Root). migrated_root r) (c.root-root.ensures ∙ has.root) in
         commits_after limits (result_err c.finish.result) rest (migrated now) c.args.buckets.now c.set_root.new.self c.finish.new.buckets
         (rests_under rest now c.args.buckets.now has) looks
         (c.finish.ensures.commits.commits limits rest (migrated now) (looks.looked.limit ∙ same)
         (subst (λ (r : Root). Has rest (with_root r now) c.set_root.new.self) root (c.set_root.ensures.has rest now has)));
-    ends = λ step. ends_then (result_err c.finish.result) c.args.buckets.now c.set_root.new.self c.finish.new.buckets c.set_root.ensures.fields.same (c.finish.ensures.commits.ends step);
+    ends = λ step. ends_then (result_err c.finish.result) c.args.buckets.now c.set_root.new.self c.finish.new.buckets
+        c.set_root.ensures.fields.same (c.finish.ensures.commits.ends step);
   };
 }

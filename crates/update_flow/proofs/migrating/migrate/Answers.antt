@@ -19,7 +19,8 @@ returns-then-root-eq0-clause-turns g c limits held rest same has is =
     absurd (omega (arith, is.some, ap (λ (r : Root). r.buckets) (c.root.ensures ∙ has.root ∙ is.root), c.if-root-eq0.true))
 
 pub returns-then-root-eq0-clause-ends : goal.returns-then-root-eq0-clause-ends
-returns-then-root-eq0-clause-ends g c = runs_ended _ c.args.buckets.now c.args.buckets.now (runs_unfit c.args.buckets.now 1 c.requires.ready.whole)
+returns-then-root-eq0-clause-ends g c = runs_ended _ c.args.buckets.now c.args.buckets.now
+    (runs_unfit c.args.buckets.now 1 c.requires.ready.whole)
 
 pub returns-in-Ok-clause-turns : goal.returns-in-Ok-clause-turns
 returns-in-Ok-clause-turns g c limits held rest same has is =
@@ -63,6 +64,7 @@ pub finish_migrated-requires : goal.finish_migrated-requires
 finish_migrated-requires g c = record {
   ready = record {
     going = search rules;
-    whole = (runs_done c.args.buckets.now c.migrate_nodes.new.buckets c.migrate_nodes.ensures.once.looks.same c.requires.ready.whole c.in-Ok.ensures.once.looks.broken).whole tt;
+    whole = (runs_done c.args.buckets.now c.migrate_nodes.new.buckets c.migrate_nodes.ensures.once.looks.same c.requires.ready.whole
+        c.in-Ok.ensures.once.looks.broken).whole tt;
   };
 }

@@ -25,7 +25,8 @@ returns-then-is_blank-clause-finds g c = record {
 pub returns-then-is_old-clause-found : goal.returns-then-is_old-clause-found
 returns-then-is_old-clause-found g c =
     found_of c.root-root.result (g.D.Disk.view c.args.disk.now) (g.D.Disk.view c.with_style.new.disk) c.args.found true c.with_style.result
-    c.root-root.ensures (sym c.if-is_blank.ensures) c.if-is_old.ensures c.with_style.ensures.changes c.with_style.ensures.outdated c.with_style.ensures.found
+    c.root-root.ensures (sym c.if-is_blank.ensures) c.if-is_old.ensures c.with_style.ensures.changes c.with_style.ensures.outdated
+    c.with_style.ensures.found
 
 pub returns-then-is_old-clause-fields : goal.returns-then-is_old-clause-fields
 returns-then-is_old-clause-fields g c =
@@ -40,13 +41,17 @@ returns-then-is_old-clause-sound g c =
 -- one of this format
 pub returns-then-is_imported-clause-found : goal.returns-then-is_imported-clause-found
 returns-then-is_imported-clause-found g c =
-    found_of c.root-root.result (g.D.Disk.view c.args.disk.now) (g.D.Disk.view c.with_style-then-is_imported.new.disk) c.args.found false c.with_style-then-is_imported.result
-    c.root-root.ensures (sym c.if-is_blank.ensures) c.if-is_old.ensures c.with_style-then-is_imported.ensures.changes c.with_style-then-is_imported.ensures.outdated c.with_style-then-is_imported.ensures.found
+    found_of c.root-root.result (g.D.Disk.view c.args.disk.now)
+    (g.D.Disk.view c.with_style-then-is_imported.new.disk) c.args.found false c.with_style-then-is_imported.result
+    c.root-root.ensures (sym c.if-is_blank.ensures) c.if-is_old.ensures c.with_style-then-is_imported.ensures.changes
+    c.with_style-then-is_imported.ensures.outdated c.with_style-then-is_imported.ensures.found
 
 pub returns-then-is_imported-clause-fields : goal.returns-then-is_imported-clause-fields
 returns-then-is_imported-clause-fields g c =
-    fields_of c.root-root.result _ false c.with_style-then-is_imported.result c.root-root.ensures (λ is. absurd (cc (is))) (λ _. sym c.if-is_imported.ensures)
-    c.with_style-then-is_imported.ensures.changes c.with_style-then-is_imported.ensures.outdated c.with_style-then-is_imported.ensures.styled
+    fields_of c.root-root.result _ false c.with_style-then-is_imported.result c.root-root.ensures (λ is. absurd (cc (is)))
+    (λ _. sym c.if-is_imported.ensures)
+    c.with_style-then-is_imported.ensures.changes c.with_style-then-is_imported.ensures.outdated
+    c.with_style-then-is_imported.ensures.styled
 
 pub returns-then-is_imported-clause-sound : goal.returns-then-is_imported-clause-sound
 returns-then-is_imported-clause-sound g c =

@@ -25,7 +25,8 @@ use Rattle.update_flow.specs.declared.fault.FlowFault.TheVariants as flow
 use Rattle.update_flow.specs.declared.opened.Opened.{Opened}
 use Rattle.update_flow.specs.OpeningReads.{ReadsStyle, ReadsToOpen}
 use Rattle.update_flow.proofs.OpeningReads.{opens_then}
-use Rattle.update_flow.proofs.Openings.{bad_formed, bad_none, each_meant, goes_either, opens_as, opens_either, quiet_fault, root_told, sound_answer, sound_store, state_before}
+use Rattle.update_flow.proofs.Openings.{bad_formed, bad_none, each_meant, goes_either, opens_as, opens_either, quiet_fault, root_told}
+use Rattle.update_flow.proofs.Openings.{sound_answer, sound_store, state_before}
 use Rattle.update_flow.proofs.opening.open.Goals as goal
 
 -- what holds anyway holds of an answer
@@ -46,7 +47,9 @@ returns-in-Ok-clause-any g c = record {
       (λ opened. IfTold old.content (RootTells opened.style opened.outdated opened.changes))
       (λ opened own bytes told shut pages home.
       subst (λ (root : Root). AreFieldsOf opened.style opened.outdated opened.changes root)
-      (root_told c.in-Ok.found bytes pages old mid told (c.open.ensures.leaves.looked bytes told (λ (opened : HasOpenJournal bytes). shut opened.is_open)) (c.in-Ok.ensures.fits bytes told) home) own)
+      (root_told c.in-Ok.found bytes pages old mid told
+      (c.open.ensures.leaves.looked bytes told (λ (opened : HasOpenJournal bytes). shut opened.is_open))
+      (c.in-Ok.ensures.fits bytes told) home) own)
       c.judged.ensures.fields;
   untouched = search rules;
   told = λ told no.
@@ -56,13 +59,19 @@ returns-in-Ok-clause-any g c = record {
     formed = (c.in-Ok.ensures.answers bytes told).1.formatted;
     none = λ state stands.
         let mid = g.D.Disk.view c.open.new.disk in
-        let holds : HoldsState state mid = record { image = stands.0; holds = c.in-Ok.ensures.image.found bytes told stands.0 stands.2; means = stands.1 } in
+        let holds : HoldsState state mid = record {
+          image = stands.0;
+          holds = c.in-Ok.ensures.image.found bytes told stands.0 stands.2;
+          means = stands.1;
+        } in
         bad_none Opened c.judged.result page is (c.judged.ensures.sound (c.in-Ok.ensures.fits bytes told) state holds);
   };
   same = λ bytes told shut.
-      c.judged.ensures.finds.stays.content ∙ (c.open.ensures.leaves.looked bytes told (λ (opened : HasOpenJournal bytes). shut opened.is_open)).content;
+      c.judged.ensures.finds.stays.content ∙ (c.open.ensures.leaves.looked bytes told
+      (λ (opened : HasOpenJournal bytes). shut opened.is_open)).content;
   looked = λ bytes told shut.
-      stays_then (g.D.Disk.view c.args.disk.now) (g.D.Disk.view c.open.new.disk) (g.D.Disk.view c.judged.new.disk) (c.open.ensures.leaves.looked bytes told shut) c.judged.ensures.finds.stays;
+      stays_then (g.D.Disk.view c.args.disk.now) (g.D.Disk.view c.open.new.disk) (g.D.Disk.view c.judged.new.disk)
+      (c.open.ensures.leaves.looked bytes told shut) c.judged.ensures.finds.stays;
   cause = search rules;
 }
 
@@ -75,7 +84,8 @@ returns-in-Err-clause-any g c = record {
   fields = search rules;
   untouched = search rules;
   told = λ told no.
-      c.in-Err.ensures.leaves.told told.0 told.1 (quiet_fault Stored c.in-Err.fault (subst (λ (f : FlowFault). IsNoDiskFault (Some f)) c.store_fault.ensures no));
+      c.in-Err.ensures.leaves.told told.0 told.1
+      (quiet_fault Stored c.in-Err.fault (subst (λ (f : FlowFault). IsNoDiskFault (Some f)) c.store_fault.ensures no));
   bad = λ page is bytes told. record {
     formed =
         let own : c.store_fault.result ≡ flow.Store (store.BadStore page) = cc (is) in
@@ -95,7 +105,12 @@ pub returns-in-Ok-clause-reads : goal.returns-in-Ok-clause-reads
 unfolding StandsFor
 returns-in-Ok-clause-reads g c = λ bytes state told stands.
     let mid = g.D.Disk.view c.open.new.disk in
-    let holds : HoldsState state mid = record { image = stands.0; holds = c.in-Ok.ensures.image.found bytes told stands.0 stands.2; means = stands.1 } in
+    let holds : HoldsState state mid = record {
+      image = stands.0;
+      holds = c.in-Ok.ensures.image.found bytes told stands.0 stands.2;
+      means =
+          stands.1;
+    } in
     opens_as state mid (g.D.Disk.view c.judged.new.disk) (result_err c.judged.result) holds c.judged.ensures.finds.stays
     (c.judged.ensures.sound (c.in-Ok.ensures.fits bytes told) state holds)
 
@@ -108,7 +123,8 @@ returns-in-Ok-clause-opens g c = λ one other either.
     let bytes = either.told.0 in
     let told = either.told.1 in
     let goes : Goes (IsOfEither one other) old.crashes mid.crashes =
-    goes_either one other old.crashes mid.crashes either.only (c.open.ensures.image.any_moment bytes told (each_meant one other old.crashes either.only)) in
+    goes_either one other old.crashes mid.crashes either.only
+    (c.open.ensures.image.any_moment bytes told (each_meant one other old.crashes either.only)) in
     let here : (state : State) → StandsFor bytes state → HoldsState state mid = λ state stands.
     record { image = stands.0; holds = c.in-Ok.ensures.image.found bytes told stands.0 stands.2; means = stands.1 } in
     let holds : HoldsState one mid ⊎ HoldsState other mid = elim (either.only bytes (g.met.D.Disk.reads_stay c.args.disk.now bytes told)) [
@@ -145,7 +161,8 @@ returns-in-Err-clause-opens g c = λ one other either.
     let new = g.D.Disk.view c.open.new.disk in
     let bytes = either.told.0 in
     let told = either.told.1 in
-    let meant : IsSoundAnswer {T = Stored} (Err c.in-Err.fault) = elim (either.only bytes (g.met.D.Disk.reads_stay c.args.disk.now bytes told)) [
+    let meant : IsSoundAnswer {T = Stored} (Err c.in-Err.fault) =
+    elim (either.only bytes (g.met.D.Disk.reads_stay c.args.disk.now bytes told)) [
       | inl stands ↦ c.in-Err.ensures.image.sound bytes told stands.0 stands.2
       | inr stands ↦ c.in-Err.ensures.image.sound bytes told stands.0 stands.2
     ] in
@@ -154,7 +171,8 @@ returns-in-Err-clause-opens g c = λ one other either.
     record {
       answer = sound_answer (Some c.store_fault.result) sound;
       found = λ none. absurd {A = IsAt one new ⊎ IsAt other new} (cc);
-      moments = goes_either one other old.crashes new.crashes either.only (c.open.ensures.image.any_moment bytes told (each_meant one other old.crashes either.only));
+      moments = goes_either one other old.crashes new.crashes either.only
+          (c.open.ensures.image.any_moment bytes told (each_meant one other old.crashes either.only));
     }
 
 pub returns-in-Ok-clause-once : goal.returns-in-Ok-clause-once
@@ -164,10 +182,17 @@ returns-in-Ok-clause-once g c =
     let mid = g.D.Disk.view c.open.new.disk in
     let new = g.D.Disk.view c.judged.new.disk in
     on_ok_weaker {P = (state : State) → Fits c.in-Ok.found mid → HoldsState state mid → ReadsStyle mid new}
-    {Q = (bytes : List ℕ) (state : State) → Tells old bytes → StandsFor bytes state → gate bytes ≢ OPEN → ReadsToOpen bytes old new} c.judged.result
+    {Q = (bytes : List ℕ) (state : State) → Tells old bytes → StandsFor bytes state → gate bytes ≢ OPEN → ReadsToOpen bytes old new}
+    c.judged.result
     (λ reads bytes state told stands shut.
-    let holds : HoldsState state mid = record { image = stands.0; holds = c.in-Ok.ensures.image.found bytes told stands.0 stands.2; means = stands.1 } in
+    let holds : HoldsState state mid = record {
+      image = stands.0;
+      holds = c.in-Ok.ensures.image.found bytes told stands.0 stands.2;
+      means =
+          stands.1;
+    } in
     let fits = c.in-Ok.ensures.fits bytes told in
-    opens_then bytes old mid new c.in-Ok.found told (c.open.ensures.leaves.looked bytes told (λ (opened : HasOpenJournal bytes). shut opened.is_open)) fits
+    opens_then bytes old mid new c.in-Ok.found told
+    (c.open.ensures.leaves.looked bytes told (λ (opened : HasOpenJournal bytes). shut opened.is_open)) fits
     (c.in-Ok.ensures.reads bytes told shut) (reads state fits holds))
     c.judged.ensures.finds.once

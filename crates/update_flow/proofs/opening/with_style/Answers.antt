@@ -18,10 +18,13 @@ pub returns-clause-found : goal.returns-clause-found
 returns-clause-found g c = λ before state holds begun.
     let after = c.load_style-read.new.buckets in
     let fits : (image : Image) → RestsAt image after → Fits c.in-Some.store (disk_of (chains_of after)) =
-    subst (λ (o : Option Opened). IfSome o (λ opened. (image : Image) → RestsAt image after → Fits opened (disk_of (chains_of after)))) c.in-Some.is
+    subst (λ (o : Option Opened). IfSome o (λ opened. (image : Image) → RestsAt image after → Fits opened (disk_of (chains_of after))))
+    c.in-Some.is
     c.hand_back-disk.ensures.fits in
-    let own = found_styled c.on-buckets.result after c.args.disk.now c.hand_back-disk.result.now c.on-buckets.ensures.disk c.hand_back-disk.ensures.disk
-    state c.args.found c.in-Some.store c.in-Ok.style begun c.on-buckets.ensures.rests c.on-buckets.ensures.has c.load_style-read.ensures.runs.looks
+    let own = found_styled c.on-buckets.result after c.args.disk.now c.hand_back-disk.result.now c.on-buckets.ensures.disk
+    c.hand_back-disk.ensures.disk
+    state c.args.found c.in-Some.store c.in-Ok.style begun c.on-buckets.ensures.rests c.on-buckets.ensures.has
+    c.load_style-read.ensures.runs.looks
     c.in-Ok.ensures.style fits before holds in
     let here : Fits c.in-Some.store (g.D.Disk.view c.hand_back-disk.result.now) = own.1 in
     (own.0, search (rules, here))
@@ -45,7 +48,8 @@ returns-clause-finds g c = record {
   once = λ state fits holds.
       let after = c.load_style-read.new.buckets in
       let here : ReadsStyle (g.D.Disk.view c.args.disk.now) (g.D.Disk.view c.hand_back-disk.result.now) =
-      style_over c.on-buckets.result after c.args.disk.now c.hand_back-disk.result.now c.on-buckets.ensures.disk c.hand_back-disk.ensures.disk
+      style_over c.on-buckets.result after c.args.disk.now c.hand_back-disk.result.now c.on-buckets.ensures.disk
+      c.hand_back-disk.ensures.disk
       (c.in-Ok.ensures.reads holds.image holds.image (c.on-buckets.ensures.has holds.image fits holds.holds)) in
       search (rules, here);
   cause = search rules;

@@ -24,14 +24,17 @@ returns-clause-turns g c =
     (subst (λ b. IsBackOf b c.hand_back-disk.new.kept) c.close.ensures (c.hand_back-disk.ensures.whole, c.hand_back-disk.ensures.fits))
     c.append-told.ensures.ends c.args.limits.now (imported held) (Append c.args.bounds.now c.args.change.now)
     (c.append-told.ensures.turns held holds.image (ap (λ b. limit_in b) c.over-maps.ensures.buckets ∙ c.on-buckets.ensures.limit)
-    (subst (λ b. Has holds.image holds.image b) (sym c.over-maps.ensures.buckets) (c.on-buckets.ensures.has holds.image fits holds.holds)) holds.means same next)
-    c.args.disk.now c.disk-1.given.0 (ap (λ b. disk_under (journal_of (chains_of b))) c.over-maps.ensures.buckets ∙ c.on-buckets.ensures.disk) last
+    (subst (λ b. Has holds.image holds.image b) (sym c.over-maps.ensures.buckets) (c.on-buckets.ensures.has holds.image fits holds.holds))
+    holds.means same next)
+    c.args.disk.now c.disk-1.given.0 (ap (λ b. disk_under (journal_of (chains_of b))) c.over-maps.ensures.buckets
+    ∙ c.on-buckets.ensures.disk) last
 
 pub returns-clause-changes : goal.returns-clause-changes
 returns-clause-changes g c =
     ok_then c.append-told.result _ _
     (λ told changes held fits holds same. changes held holds.image
-    (subst (λ b. Has holds.image holds.image b) (sym c.over-maps.ensures.buckets) (c.on-buckets.ensures.has holds.image fits holds.holds)) holds.means same)
+    (subst (λ b. Has holds.image holds.image b) (sym c.over-maps.ensures.buckets) (c.on-buckets.ensures.has holds.image fits holds.holds))
+    holds.means same)
     c.append-told.ensures.changes
 
 pub returns-clause-ends : goal.returns-clause-ends

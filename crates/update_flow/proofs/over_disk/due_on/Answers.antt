@@ -20,9 +20,12 @@ returns-clause-looks g c =
     let old = c.on-buckets.result in
     let new = c.load_due-due.new.buckets in
     let has = c.on-buckets.ensures.has holds.image fits holds.holds in
-    looks_on fault old new c.hand_back-disk.new.kept (c.hand_back-disk.ensures.whole, c.hand_back-disk.ensures.fits) (runs_ended {call = None} fault old new c.load_due-due.ensures.runs)
-    (imported held) (looks_at held fault holds.image old new (rests_under holds.image holds.image old has) holds.means c.load_due-due.ensures.runs.looks
-    (sound_answer fault (c.load_due-due.ensures.sound holds.image holds.image held has holds.means))) c.args.disk.now c.disk-1.given.0 c.on-buckets.ensures.disk last
+    looks_on fault old new c.hand_back-disk.new.kept (c.hand_back-disk.ensures.whole, c.hand_back-disk.ensures.fits)
+    (runs_ended {call = None} fault old new c.load_due-due.ensures.runs)
+    (imported held) (looks_at held fault holds.image old new
+    (rests_under holds.image holds.image old has) holds.means c.load_due-due.ensures.runs.looks
+    (sound_answer fault (c.load_due-due.ensures.sound holds.image holds.image held has holds.means))) c.args.disk.now c.disk-1.given.0
+    c.on-buckets.ensures.disk last
 
 pub returns-clause-due : goal.returns-clause-due
 returns-clause-due g c =
@@ -35,10 +38,13 @@ returns-clause-ends g c =
     search (
       rules,
       ends_on (result_err c.load_due-due.result) c.on-buckets.result c.load_due-due.new.buckets c.hand_back-disk.new.kept
-          (c.hand_back-disk.ensures.whole, c.hand_back-disk.ensures.fits) (runs_ended {call = None} (result_err c.load_due-due.result) c.on-buckets.result c.load_due-due.new.buckets c.load_due-due.ensures.runs),
+          (c.hand_back-disk.ensures.whole, c.hand_back-disk.ensures.fits)
+          (runs_ended {call = None} (result_err c.load_due-due.result) c.on-buckets.result c.load_due-due.new.buckets
+          c.load_due-due.ensures.runs),
     )
 
 pub returns-clause-stays : goal.returns-clause-stays
 returns-clause-stays g c =
     let last : disk_under (journal_of (chains_of c.load_due-due.new.buckets)) ≡ c.disk-1.given.0 = search rules in
-    looked_stays c.on-buckets.result c.load_due-due.new.buckets c.args.disk.now c.disk-1.given.0 c.on-buckets.ensures.disk (sym last) c.load_due-due.ensures.runs.looks
+    looked_stays c.on-buckets.result c.load_due-due.new.buckets c.args.disk.now c.disk-1.given.0 c.on-buckets.ensures.disk
+    (sym last) c.load_due-due.ensures.runs.looks

@@ -27,15 +27,19 @@ returns-clause-turns g c fits holds =
     let first = c.over-maps.ensures.buckets in
     let limits = c.args.limits.now in
     let step = Import c.args.style.now c.args.style_bytes.now c.args.buckets c.args.change in
-    let ends : EndsIn (Some step) fault old new = subst (λ b. EndsIn (Some step) fault b new) first (subst (λ b. EndsIn (Some step) fault (buckets_of maps) b) (sym c.close.ensures) c.import-done.ensures.ends) in
+    let ends : EndsIn (Some step) fault old new =
+    subst (λ b. EndsIn (Some step) fault b new) first
+    (subst (λ b. EndsIn (Some step) fault (buckets_of maps) b) (sym c.close.ensures) c.import-done.ensures.ends) in
     let had : Has holds.image holds.image (buckets_of maps) =
     subst (λ b. Has holds.image holds.image b) (sym first) (c.on-opened.ensures.has holds.image fits holds.holds) in
     let turned : TurnsIn limits formatted step fault (buckets_of maps) done =
     c.import-done.ensures.turns limits holds.image (ap (λ b. limit_in b) first ∙ c.on-opened.ensures.limit) had holds.means in
     let turns : TurnsIn limits formatted step fault old new =
-    subst (λ b. TurnsIn limits formatted step fault b new) first (subst (λ b. TurnsIn limits formatted step fault (buckets_of maps) b) (sym c.close.ensures) turned) in
+    subst (λ b. TurnsIn limits formatted step fault b new) first
+    (subst (λ b. TurnsIn limits formatted step fault (buckets_of maps) b) (sym c.close.ensures) turned) in
     let last : disk_under (journal_of (chains_of new)) ≡ c.disk-1.given.0 = search rules in
-    turns_on fault old new c.hand_back-disk.new.kept (c.hand_back-disk.ensures.whole, c.hand_back-disk.ensures.fits) ends limits formatted step turns
+    turns_on fault old new c.hand_back-disk.new.kept
+    (c.hand_back-disk.ensures.whole, c.hand_back-disk.ensures.fits) ends limits formatted step turns
     c.args.disk.now c.disk-1.given.0 c.on-opened.ensures.disk last
 
 pub returns-clause-ends : goal.returns-clause-ends
@@ -46,7 +50,9 @@ returns-clause-ends g c =
     let new = c.close.result in
     let step = Import c.args.style.now c.args.style_bytes.now c.args.buckets c.args.change in
     let ends : EndsIn (Some step) fault old new =
-    subst (λ b. EndsIn (Some step) fault b new) c.over-maps.ensures.buckets (subst (λ b. EndsIn (Some step) fault (buckets_of maps) b) (sym c.close.ensures) c.import-done.ensures.ends) in
+    subst (λ b. EndsIn (Some step) fault b new) c.over-maps.ensures.buckets
+    (subst (λ b. EndsIn (Some step) fault (buckets_of maps) b) (sym c.close.ensures) c.import-done.ensures.ends) in
     let last : disk_under (journal_of (chains_of new)) ≡ c.disk-1.given.0 = search rules in
-    ends_on fault old new c.hand_back-disk.new.kept (c.hand_back-disk.ensures.whole, c.hand_back-disk.ensures.fits) ends c.args.disk.now c.disk-1.given.0
+    ends_on fault old new c.hand_back-disk.new.kept
+    (c.hand_back-disk.ensures.whole, c.hand_back-disk.ensures.fits) ends c.args.disk.now c.disk-1.given.0
     c.on-opened.ensures.disk last

@@ -13,7 +13,8 @@ returns-clause-turns g c =
     let last : disk_under (journal_of (chains_of c.migrate-migrated.new.buckets)) ≡ c.disk-1.given.0 = search rules in
     λ held fits holds.
     turns_on (result_err c.migrate-migrated.result) c.on-buckets.result c.migrate-migrated.new.buckets c.hand_back-disk.new.kept
-    (c.hand_back-disk.ensures.whole, c.hand_back-disk.ensures.fits) c.migrate-migrated.ensures.ends c.args.limits.now (outdated held) Migrate
+    (c.hand_back-disk.ensures.whole, c.hand_back-disk.ensures.fits) c.migrate-migrated.ensures.ends c.args.limits.now
+    (outdated held) Migrate
     (c.migrate-migrated.ensures.turns c.args.limits.now held holds.image c.on-buckets.ensures.limit
     (c.on-buckets.ensures.has holds.image fits holds.holds) holds.means) c.args.disk.now c.disk-1.given.0 c.on-buckets.ensures.disk last
 

@@ -20,14 +20,18 @@ returns-clause-looks g c =
     let old = c.on-buckets.result in
     let new = c.load_rows-rows.new.buckets in
     let has = c.on-buckets.ensures.has holds.image fits holds.holds in
-    looks_on fault old new c.hand_back-disk.new.kept (c.hand_back-disk.ensures.whole, c.hand_back-disk.ensures.fits) (runs_ended {call = None} fault old new c.load_rows-rows.ensures.runs)
-    (imported held) (looks_at held fault holds.image old new (rests_under holds.image holds.image old has) holds.means c.load_rows-rows.ensures.runs.looks
-    (sound_answer fault (c.load_rows-rows.ensures.sound holds.image holds.image held has holds.means same))) c.args.disk.now c.disk-1.given.0 c.on-buckets.ensures.disk last
+    looks_on fault old new c.hand_back-disk.new.kept (c.hand_back-disk.ensures.whole, c.hand_back-disk.ensures.fits)
+    (runs_ended {call = None} fault old new c.load_rows-rows.ensures.runs)
+    (imported held) (looks_at held fault holds.image old new
+    (rests_under holds.image holds.image old has) holds.means c.load_rows-rows.ensures.runs.looks
+    (sound_answer fault (c.load_rows-rows.ensures.sound holds.image holds.image held has holds.means same))) c.args.disk.now
+    c.disk-1.given.0 c.on-buckets.ensures.disk last
 
 pub returns-clause-tables : goal.returns-clause-tables
 returns-clause-tables g c =
     ok_then c.load_rows-rows.result _ _
-    (λ found told held fits holds same. told holds.image holds.image held (c.on-buckets.ensures.has holds.image fits holds.holds) holds.means same)
+    (λ found told held fits holds same. told holds.image holds.image held
+    (c.on-buckets.ensures.has holds.image fits holds.holds) holds.means same)
     c.load_rows-rows.ensures.tables
 
 pub returns-clause-ends : goal.returns-clause-ends
@@ -35,10 +39,13 @@ returns-clause-ends g c =
     search (
       rules,
       ends_on (result_err c.load_rows-rows.result) c.on-buckets.result c.load_rows-rows.new.buckets c.hand_back-disk.new.kept
-          (c.hand_back-disk.ensures.whole, c.hand_back-disk.ensures.fits) (runs_ended {call = None} (result_err c.load_rows-rows.result) c.on-buckets.result c.load_rows-rows.new.buckets c.load_rows-rows.ensures.runs),
+          (c.hand_back-disk.ensures.whole, c.hand_back-disk.ensures.fits)
+          (runs_ended {call = None} (result_err c.load_rows-rows.result) c.on-buckets.result c.load_rows-rows.new.buckets
+          c.load_rows-rows.ensures.runs),
     )
 
 pub returns-clause-stays : goal.returns-clause-stays
 returns-clause-stays g c =
     let last : disk_under (journal_of (chains_of c.load_rows-rows.new.buckets)) ≡ c.disk-1.given.0 = search rules in
-    looked_stays c.on-buckets.result c.load_rows-rows.new.buckets c.args.disk.now c.disk-1.given.0 c.on-buckets.ensures.disk (sym last) c.load_rows-rows.ensures.runs.looks
+    looked_stays c.on-buckets.result c.load_rows-rows.new.buckets c.args.disk.now c.disk-1.given.0 c.on-buckets.ensures.disk
+    (sym last) c.load_rows-rows.ensures.runs.looks

@@ -28,18 +28,23 @@ told_others style wanted image held is same =
     subst (λ (s : StyleOf). AreTold s.tables wanted 7 (wanted_row wanted is.maps.maps) (image.maps 7)) same
     (others_told held.style wanted image.maps is.maps.maps held.objects is.maps.stand.rows is.ids is.maps.kept.other_rows)
 
-filled : (which : ℕ) (rows : RowsBySpot) (image : Image) (old new : TableMap) → old ≡ map.empty → Fills which rows (λ n. IsSome (map.get (image.maps which) n)) old new
+filled : (which : ℕ) (rows : RowsBySpot) (image : Image) (old new : TableMap) → old ≡ map.empty
+    → Fills which rows (λ n. IsSome (map.get (image.maps which) n)) old new
     → Fills which rows (λ n. IsSome (map.get (image.maps which) n)) map.empty new
-filled which rows image old new none fills = subst (λ (t : TableMap). Fills which rows (λ n. IsSome (map.get (image.maps which) n)) t new) none fills
+filled which rows image old new none fills =
+    subst (λ (t : TableMap). Fills which rows (λ n. IsSome (map.get (image.maps which) n)) t new) none fills
 
 pub returns-in-Ok-clause-tables : goal.returns-in-Ok-clause-tables
 returns-in-Ok-clause-tables g c = λ rest now held has is same.
     let rows = wanted_row c.args.wanted is.maps.maps in
     let nodes = told_nodes c.args.style.now c.args.wanted now held is same in
     let others = told_others c.args.style.now c.args.wanted now held is same in
-    all_loaded held.style c.args.wanted now.maps is.maps.maps held.objects c.load.new.tables is.maps.stand.rows is.maps.kept.node_rows is.maps.kept.other_rows
-    (filled 6 rows now c.new-tables.result c.load.new.tables c.new-tables.ensures.empty (c.in-Ok.ensures.nodes rest now rows has nodes others))
-    (filled 7 rows now c.new-tables.result c.load.new.tables c.new-tables.ensures.empty (c.in-Ok.ensures.others rest now rows has nodes others))
+    all_loaded held.style c.args.wanted now.maps is.maps.maps held.objects c.load.new.tables is.maps.stand.rows is.maps.kept.node_rows
+    is.maps.kept.other_rows
+    (filled 6 rows now c.new-tables.result c.load.new.tables c.new-tables.ensures.empty
+    (c.in-Ok.ensures.nodes rest now rows has nodes others))
+    (filled 7 rows now c.new-tables.result c.load.new.tables c.new-tables.ensures.empty
+    (c.in-Ok.ensures.others rest now rows has nodes others))
 
 pub returns-in-Ok-clause-runs : goal.returns-in-Ok-clause-runs
 returns-in-Ok-clause-runs g c =

@@ -19,15 +19,19 @@ returns-in-Ok-clause-commits g c = record {
       let stored = c.in-Ok.ensures.stores.stored rest now has in
       let rooted = c.set_root.ensures.has rest text stored in
       let root : counted_to c.args.number c.root-root.result ≡ counted_to c.args.number now.root =
-      ap (λ (r : Root). counted_to c.args.number r) (c.root-root.ensures ∙ stored.root ∙ root_with_text DUE_TEXT (set_bytes c.args.due.now) now) in
-      let looks = looks_then c.args.buckets.now c.store_due.new.buckets c.set_root.new.self c.in-Ok.ensures.stores.runs.looks c.set_root.ensures.fields.same in
-      commits_after limits (result_err c.finish.result) rest (settled c.args.number c.args.due.now now) c.args.buckets.now c.set_root.new.self c.finish.new.buckets
+      ap (λ (r : Root). counted_to c.args.number r)
+      (c.root-root.ensures ∙ stored.root ∙ root_with_text DUE_TEXT (set_bytes c.args.due.now) now) in
+      let looks = looks_then c.args.buckets.now c.store_due.new.buckets c.set_root.new.self c.in-Ok.ensures.stores.runs.looks
+      c.set_root.ensures.fields.same in
+      commits_after limits (result_err c.finish.result) rest
+      (settled c.args.number c.args.due.now now) c.args.buckets.now c.set_root.new.self c.finish.new.buckets
       (rests_under rest now c.args.buckets.now has) looks
       (c.finish.ensures.commits.commits limits rest (settled c.args.number c.args.due.now now) (looks.looked.limit ∙ same)
       (subst (λ (r : Root). Has rest (with_root r text) c.set_root.new.self) root rooted));
   ends = λ step.
       ends_then (result_err c.finish.result) c.args.buckets.now c.set_root.new.self c.finish.new.buckets
-      (looks_then c.args.buckets.now c.store_due.new.buckets c.set_root.new.self c.in-Ok.ensures.stores.runs.looks c.set_root.ensures.fields.same) (c.finish.ensures.commits.ends step);
+      (looks_then c.args.buckets.now c.store_due.new.buckets c.set_root.new.self c.in-Ok.ensures.stores.runs.looks
+      c.set_root.ensures.fields.same) (c.finish.ensures.commits.ends step);
 }
 
 pub returns-in-Err-clause-commits : goal.returns-in-Err-clause-commits
@@ -49,5 +53,6 @@ returns-in-Ok-clause-reads g c =
     let last = c.set_root.new.self in
     let new = c.finish.new.buckets in
     reads_before due old mid new c.in-Ok.ensures.stores.runs.looks c.in-Ok.ensures.reads
-    (reads_before due mid last new c.set_root.ensures.fields.same (reads_root due mid last c.set_root.ensures.fields.journal c.set_root.ensures.fields.read)
+    (reads_before due mid last new c.set_root.ensures.fields.same
+    (reads_root due mid last c.set_root.ensures.fields.journal c.set_root.ensures.fields.read)
     (wider_commit (λ _. ⊥) due last new (λ n none. absurd none) (reads rest _ rooted))))

@@ -14,11 +14,13 @@ use Rattle.update_flow.proofs.style_text.load_style.Goals as goal
 
 pub returns-in-Err-clause-sound : goal.returns-in-Err-clause-sound
 returns-in-Err-clause-sound g c = λ rest now style has is.
-    subst (λ (f : FlowFault). IsSound (Some f)) (sym c.store_fault.ensures) (sound_store (List ℕ) c.in-Err.fault (c.in-Err.ensures.text.sound rest now has))
+    subst (λ (f : FlowFault). IsSound (Some f)) (sym c.store_fault.ensures)
+    (sound_store (List ℕ) c.in-Err.fault (c.in-Err.ensures.text.sound rest now has))
 
 pub returns-in-Ok-read_style-clause-style : goal.returns-in-Ok-read_style-clause-style
 returns-in-Ok-read_style-clause-style g c = λ rest now has.
-    ap (λ (b : List ℕ). reading b) (sym (c.in-Ok.ensures.text.found rest now has) ∙ sym c.as_slice.ensures.items) ∙ c.in-Ok-read_style.ensures.exact
+    ap (λ (b : List ℕ). reading b) (sym (c.in-Ok.ensures.text.found rest now has) ∙ sym c.as_slice.ensures.items)
+    ∙ c.in-Ok-read_style.ensures.exact
 
 pub returns-in-Err-Bad-clause-sound : goal.returns-in-Err-Bad-clause-sound
 returns-in-Err-Bad-clause-sound g c = λ rest now style has is.
@@ -31,8 +33,10 @@ returns-in-Err-Bad-clause-sound g c = λ rest now style has is.
 pub returns-in-Err-clause-alone : goal.returns-in-Err-clause-alone
 returns-in-Err-clause-alone g c =
     subst (λ (f : FlowFault). MayFind f) (sym c.store_fault.ensures)
-    (reads_alone (List ℕ) (is_broken (journal_of (chains_of c.args.buckets.now))) c.in-Err.fault c.requires.ready.whole c.in-Err.ensures.touches.alone)
+    (reads_alone (List ℕ) (is_broken (journal_of (chains_of c.args.buckets.now))) c.in-Err.fault c.requires.ready.whole
+    c.in-Err.ensures.touches.alone)
 
 pub returns-in-Ok-read_style-clause-reads : goal.returns-in-Ok-read_style-clause-reads
 returns-in-Ok-read_style-clause-reads g c = λ rest now has.
-    text_read c.args.buckets.now c.load.new.self rest now has c.in-Ok.ensures.touches.reads c.in-Ok.ensures.touches.stays c.in-Ok.ensures.touches.opens
+    text_read c.args.buckets.now c.load.new.self rest now has c.in-Ok.ensures.touches.reads c.in-Ok.ensures.touches.stays
+    c.in-Ok.ensures.touches.opens

@@ -22,10 +22,12 @@ pub returns-in-Ok-store : goal.returns-in-Ok-store
 returns-in-Ok-store g c = record {
   stores = record {
     stored = λ rest now was.
-        subst (λ (b : List ℕ). Has rest (with_text STYLE_TEXT b now) c.store.new.self) (c.from_vec-bytes.ensures.items ∙ c.in-Ok.ensures.items) (c.in-Ok-store.ensures.text.has rest now was);
+        subst (λ (b : List ℕ). Has rest (with_text STYLE_TEXT b now) c.store.new.self)
+        (c.from_vec-bytes.ensures.items ∙ c.in-Ok.ensures.items) (c.in-Ok-store.ensures.text.has rest now was);
     going = search rules;
     sound = search rules;
-    runs = runs_done c.args.buckets.now c.store.new.self c.store.ensures.touches.same c.requires.ready.whole c.in-Ok-store.ensures.touches.broken;
+    runs = runs_done c.args.buckets.now c.store.new.self c.store.ensures.touches.same c.requires.ready.whole
+        c.in-Ok-store.ensures.touches.broken;
   };
 }
 
@@ -35,9 +37,11 @@ returns-in-Err-store g c = record {
     stored = search rules;
     going = search rules;
     sound = λ rest now was.
-        subst (λ (f : FlowFault). IsSound (Some f)) (sym c.store_fault.ensures) (sound_store (Unit {0}) c.in-Err-store.fault (c.in-Err-store.ensures.text.sound rest now was));
+        subst (λ (f : FlowFault). IsSound (Some f)) (sym c.store_fault.ensures)
+        (sound_store (Unit {0}) c.in-Err-store.fault (c.in-Err-store.ensures.text.sound rest now was));
     runs = subst (λ (f : FlowFault). Runs c.args.buckets.now c.store.new.self (Some f)) (sym c.store_fault.ensures)
-        (runs_refused c.args.buckets.now c.store.new.self c.store.ensures.touches.same c.requires.ready.whole (Unit {0}) c.in-Err-store.fault
+        (runs_refused c.args.buckets.now c.store.new.self c.store.ensures.touches.same c.requires.ready.whole
+        (Unit {0}) c.in-Err-store.fault
         c.in-Err-store.ensures.touches.alone c.in-Err-store.ensures.touches.broken c.in-Err-store.ensures.touches.cause);
   };
 }

@@ -26,7 +26,9 @@ use Rattle.update_step.proofs.changing.change_maps.Goals as goal
 pub rebuild-requires-clause-style : goal.rebuild-requires-clause-style
 rebuild-requires-clause-style g c _ _ =
     let first = c.args.store.now in
-    g.met.S.MapStore.same_style first c.changed_keys.new.store (c.changed_keys.ensures.goes.looked first (c.keys_lacking.ensures.looks.looked first (g.met.S.MapStore.looked_none first))) ∙ c.requires.style
+    g.met.S.MapStore.same_style first c.changed_keys.new.store
+    (c.changed_keys.ensures.goes.looked first (c.keys_lacking.ensures.looks.looked first (g.met.S.MapStore.looked_none first)))
+    ∙ c.requires.style
 
 pub rebuild-requires-clause-few : goal.rebuild-requires-clause-few
 rebuild-requires-clause-few g c =
@@ -47,31 +49,43 @@ returns-in-Ok-clause-changes g c under maps objects held stands =
     let changed : Maps = change_on maps change in
     let read = c.in-Ok.ensures.holds under maps (c.in_ok-lacking.ensures.looks.holds under maps held) in
     let kept = entries-keep maps change (rows_in style objects) stands.rows in
-    let lacks : AreLacking (rows_in style objects) c.as_slice-lacking.result.now = subst (AreLacking (rows_in style objects)) (sym c.as_slice-lacking.ensures.value) (c.in_ok-lacking.ensures.lacking under maps objects held stands.on) in
+    let lacks : AreLacking (rows_in style objects) c.as_slice-lacking.result.now =
+    subst (AreLacking (rows_in style objects)) (sym c.as_slice-lacking.ensures.value)
+    (c.in_ok-lacking.ensures.lacking under maps objects held stands.on) in
     let on = entries_stand (reaches_nodes style) change maps objects stands.on proper in
     let built = pending-rows style maps objects change on set both.0 in
     let done = c.rebuild.ensures.replaces under changed (rows_in style objects) (rows_in style after) read kept lacks built in
     let delta = delta-is style objects change set both.0.rising both.1 in
     record {
-      stands = on_ok-then c.rebuild.result done.holds (λ holds.
-          (appended maps change (rows_in style after) (keys_of set), holds, appended_stands style maps objects change (keys_of set) stands proper (outside-rows style objects change set both.1)));
+      stands = on_ok-then c.rebuild.result done.holds (λ holds. (
+        appended maps change (rows_in style after) (keys_of set),
+        holds,
+        appended_stands style maps objects change (keys_of set) stands proper (outside-rows style objects change set both.1),
+      ));
       told = if_ok-then c.rebuild.result done.told (λ changes told.
-          subst (λ (own : List RowChange). IsDelta (finite.get (tables style objects)) (finite.get (tables style after)) own) (sym told) delta);
+          subst (λ (own : List RowChange). IsDelta (finite.get (tables style objects)) (finite.get (tables style after)) own)
+          (sym told) delta);
       applied = if_ok-then c.rebuild.result done.told (λ changes told. delta-applied (tables style objects) (tables style after) changes
-          (subst (λ (own : List RowChange). IsDelta (finite.get (tables style objects)) (finite.get (tables style after)) own) (sym told) delta));
+          (subst (λ (own : List RowChange). IsDelta (finite.get (tables style objects)) (finite.get (tables style after)) own)
+          (sym told) delta));
       due = on_ok-then c.rebuild.result done.due (λ due zoom x y.
-          due zoom x y ∙ ap (λ (b : Bool). has c.args.due.now zoom x y || b) (due-is style objects change set both.0.rising both.1 c.args.bounds.now zoom x y));
+          due zoom x y ∙ ap (λ (b : Bool). has c.args.due.now zoom x y || b)
+          (due-is style objects change set both.0.rising both.1 c.args.bounds.now zoom x y));
       few = on_ok-then c.rebuild.result done.holds (λ _ own pending.
-          subst (λ (count : ℕ). count ≤ c.args.limits.now.pending) (same-size style objects change set own both.0 pending) c.in-Ok.ensures.few);
+          subst (λ (count : ℕ). count ≤ c.args.limits.now.pending)
+          (same-size style objects change set own both.0 pending) c.in-Ok.ensures.few);
       allowed = c.rebuild.ensures.allowed under changed (rows_in style objects) read kept lacks;
     }
 
 pub returns-in-Ok-clause-goes : goal.returns-in-Ok-clause-goes
 returns-in-Ok-clause-goes g c = record {
-  looked = λ first looked. c.rebuild.ensures.goes.looked first (c.changed_keys.ensures.goes.looked first (c.keys_lacking.ensures.looks.looked first looked));
+  looked = λ first looked. c.rebuild.ensures.goes.looked first
+      (c.changed_keys.ensures.goes.looked first (c.keys_lacking.ensures.looks.looked first looked));
   spent = c.rebuild.ensures.goes.spent;
   ends = if_err-then c.rebuild.result c.rebuild.ensures.goes.ends (λ why ends.
-      ends-then _ _ _ _ _ _ why (λ refusal bears first looked. bears first (c.changed_keys.ensures.goes.looked first (c.keys_lacking.ensures.looks.looked first looked))) (λ unspent. unspent) (λ value never. absurd never) ends);
+      ends-then _ _ _ _ _ _ why (λ refusal bears first looked.
+      bears first (c.changed_keys.ensures.goes.looked first (c.keys_lacking.ensures.looks.looked first looked))) (λ unspent. unspent)
+      (λ value never. absurd never) ends);
 }
 
 pub returns-clause-changes : goal.returns-clause-changes
@@ -88,8 +102,10 @@ pub returns-clause-goes : goal.returns-clause-goes
 returns-clause-goes g c = record {
   looked = λ first looked. c.changed_keys.ensures.goes.looked first (c.keys_lacking.ensures.looks.looked first looked);
   spent = tt;
-  ends = ends-then _ _ _ _ _ _ c.in-Err.why (λ refusal bears first looked. bears first (c.keys_lacking.ensures.looks.looked first looked)) (λ unspent. unspent)
-      (λ value many under maps objects held stands. many under maps objects (c.in_ok-lacking.ensures.looks.holds under maps held) stands.on) c.in-Err.ensures.goes.ends;
+  ends = ends-then _ _ _ _ _ _ c.in-Err.why (λ refusal bears first looked. bears first (c.keys_lacking.ensures.looks.looked first looked))
+      (λ unspent. unspent)
+      (λ value many under maps objects held stands. many under maps objects (c.in_ok-lacking.ensures.looks.holds under maps held) stands.on)
+      c.in-Err.ensures.goes.ends;
 }
 
 pub returns-in-Ok-clause-within : goal.returns-in-Ok-clause-within
@@ -101,14 +117,17 @@ returns-in-Ok-clause-within g c under maps objects held stands may touched befor
     let still = c.in_ok-lacking.ensures.looks.holds under maps held in
     let pending = c.in-Ok.ensures.pending under maps objects still stands.on in
     c.rebuild.ensures.within under (change_on maps change) (c.in-Ok.ensures.holds under maps still) may
-    (may-needs style objects change may touched (change_on maps change) on set pending.0) (may-rows style objects change may touched (change_on maps change) on set pending.0)
-    (c.changed_keys.ensures.within under maps objects still stands.on may touched (c.keys_lacking.ensures.within may (may-entries style objects change may touched) before))
+    (may-needs style objects change may touched (change_on maps change) on set pending.0)
+    (may-rows style objects change may touched (change_on maps change) on set pending.0)
+    (c.changed_keys.ensures.within under maps objects still stands.on may touched
+    (c.keys_lacking.ensures.within may (may-entries style objects change may touched) before))
 
 pub returns-clause-within : goal.returns-clause-within
 returns-clause-within g c under maps objects held stands may touched before =
     let style = c.args.style.now in
     let change = c.args.change.now in
-    c.changed_keys.ensures.within under maps objects (c.in_ok-lacking.ensures.looks.holds under maps held) stands.on may touched (c.keys_lacking.ensures.within may (may-entries style objects change may touched) before)
+    c.changed_keys.ensures.within under maps objects (c.in_ok-lacking.ensures.looks.holds under maps held) stands.on may touched
+    (c.keys_lacking.ensures.within may (may-entries style objects change may touched) before)
 
 pub returns-in_err-lacking-clause-within : goal.returns-in_err-lacking-clause-within
 returns-in_err-lacking-clause-within g c under maps objects held stands may touched before =

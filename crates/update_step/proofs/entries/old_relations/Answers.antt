@@ -12,13 +12,16 @@ pub loop-entry-preserved : goal.loop-entry-preserved
 loop-entry-preserved g c =
     record {
       old = λ under maps held.
-          c.in_ok-add_old.ensures.old under maps (c.loop-entry.invariant.looks.holds under maps held) ∙ ap (λ (objects : ObjectSet). with_old maps objects c.entry-item.result) (c.loop-entry.invariant.old under maps held)
-          ∙ sym (fold-more (with_old maps) finite.empty c.entries-entry-items.result.now c.loop-entry.entry-index c.entry-item.result c.loop-entry-test.true c.entry-item.is);
+          c.in_ok-add_old.ensures.old under maps (c.loop-entry.invariant.looks.holds under maps held)
+          ∙ ap (λ (objects : ObjectSet). with_old maps objects c.entry-item.result) (c.loop-entry.invariant.old under maps held)
+          ∙ sym (fold-more (with_old maps) finite.empty c.entries-entry-items.result.now c.loop-entry.entry-index c.entry-item.result
+          c.loop-entry-test.true c.entry-item.is);
       within = λ may all before.
           let items : List Entry = c.entries-entry-items.result.now in
           let each : MayEntries may items = subst (MayEntries may) (sym c.entries-entry-items.ensures.entries) all in
           let entry : Entry = c.entry-item.result in
-          c.add_old.ensures.within may (all_at (λ (own : Entry). MayObject may own.key) items c.loop-entry.entry-index entry entry each c.loop-entry-test.true c.entry-item.is)
+          c.add_old.ensures.within may (all_at (λ (own : Entry). MayObject may own.key) items c.loop-entry.entry-index entry entry each
+          c.loop-entry-test.true c.entry-item.is)
           (c.loop-entry.invariant.within may all before);
       looks = search rules;
     }
@@ -28,5 +31,6 @@ returns-in_err-add_old-clause-within g c may all before =
     let items : List Entry = c.entries-entry-items.result.now in
     let each : MayEntries may items = subst (MayEntries may) (sym c.entries-entry-items.ensures.entries) all in
     let entry : Entry = c.entry-item.result in
-    c.add_old.ensures.within may (all_at (λ (own : Entry). MayObject may own.key) items c.loop-entry.entry-index entry entry each c.loop-entry-test.true c.entry-item.is)
+    c.add_old.ensures.within may (all_at (λ (own : Entry). MayObject may own.key) items c.loop-entry.entry-index entry entry each
+    c.loop-entry-test.true c.entry-item.is)
     (c.loop-entry.invariant.within may all before)

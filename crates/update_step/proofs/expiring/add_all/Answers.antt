@@ -14,8 +14,12 @@ loop-index-preserved c old new olds news zoom x y =
     let key : KeyOf = get_or keys c.loop-index.index (node_key 0) in
     let due : List TableRow → List TableRow → Bool = λ before after. is_due_key c.args.style.now c.args.bounds.now before after zoom x y in
     let of_key : KeyOf → Bool = λ own. due (old own) (new own) in
-    let was : c.as_slice.result.now ≡ old key = c.as_slice.ensures.items ∙ rows_there old keys c.args.olds.now c.loop-index.index key (node_key 0) c.index-olds-index.result olds c.loop-index-test.true refl c.index-olds-index.is in
-    let is : c.as_slice-in-loop-index.result.now ≡ new key = c.as_slice-in-loop-index.ensures.items ∙ rows_there new keys c.args.news.now c.loop-index.index key (node_key 0) c.index-news-index.result news c.loop-index-test.true refl c.index-news-index.is in
+    let was : c.as_slice.result.now ≡ old key =
+    c.as_slice.ensures.items ∙ rows_there old keys c.args.olds.now c.loop-index.index key
+    (node_key 0) c.index-olds-index.result olds c.loop-index-test.true refl c.index-olds-index.is in
+    let is : c.as_slice-in-loop-index.result.now ≡ new key =
+    c.as_slice-in-loop-index.ensures.items ∙ rows_there new keys c.args.news.now c.loop-index.index key
+    (node_key 0) c.index-news-index.result news c.loop-index-test.true refl c.index-news-index.is in
     let first : Bool = has c.args.set.now zoom x y in
     let set : Bool = has c.loop-index.set zoom x y in
     let batch : Bool = has c.loop-index.batch zoom x y in
@@ -33,5 +37,7 @@ returns c = record {
   added = λ old new olds news zoom x y.
       c.in_ok-union.ensures.ok zoom x y
       ∙ c.loop-index.invariant old new olds news zoom x y
-      ∙ ap (λ (keys : List KeyOf). has c.args.set.now zoom x y || list_any (λ (key : KeyOf). is_due_key c.args.style.now c.args.bounds.now (old key) (new key) zoom x y) keys) (take_all c.loop-index.index c.args.keys.now c.loop-index-test.false);
+      ∙ ap (λ (keys : List KeyOf). has c.args.set.now zoom x y || list_any
+      (λ (key : KeyOf). is_due_key c.args.style.now c.args.bounds.now (old key) (new key) zoom x y) keys)
+      (take_all c.loop-index.index c.args.keys.now c.loop-index-test.false);
 }

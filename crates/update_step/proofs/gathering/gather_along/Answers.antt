@@ -14,6 +14,9 @@ returns-clause-gathers g c under maps held =
     let asks : List Ask = relation_asks (to.relations_of_way c.args.id) in
     let is : c.in_ok-ids.ids ≡ to.relations_of_way c.args.id = c.in_ok-ids.ensures.ids under maps held in
     let later = c.in_ok-ids.ensures.looks.holds under maps held in
-    let relations = subst (λ (ids : List ℕ). Gathers to first second (relation_asks ids)) (c.as_slice.ensures.items ∙ is) (c.in_ok-gather_relations.ensures.gathers under maps later) in
-    let listers = subst (λ (new : Gathered). Gathers to second new (AlongWay c.args.id ∷ [])) (sym c.in_ok-put_along.ensures.ok) (with_along-gathers to second c.args.id c.new.result (c.new.ensures.ids ∙ is)) in
-    turned-gathers to first third asks (AlongWay c.args.id ∷ []) (then-gathers to first second third asks (AlongWay c.args.id ∷ []) relations listers)
+    let relations = subst (λ (ids : List ℕ). Gathers to first second (relation_asks ids)) (c.as_slice.ensures.items ∙ is)
+    (c.in_ok-gather_relations.ensures.gathers under maps later) in
+    let listers = subst (λ (new : Gathered). Gathers to second new (AlongWay c.args.id ∷ [])) (sym c.in_ok-put_along.ensures.ok)
+    (with_along-gathers to second c.args.id c.new.result (c.new.ensures.ids ∙ is)) in
+    turned-gathers to first third asks (AlongWay c.args.id ∷ [])
+    (then-gathers to first second third asks (AlongWay c.args.id ∷ []) relations listers)

@@ -14,6 +14,9 @@ returns-clause-gathers g c under maps held =
     let asks : List Ask = relation_asks (to.relations_of_node c.args.id) in
     let is : c.in_ok-ids.ids ≡ to.relations_of_node c.args.id = c.in_ok-ids.ensures.ids under maps held in
     let later = c.in_ok-ids.ensures.looks.holds under maps held in
-    let relations = subst (λ (ids : List ℕ). Gathers to first second (relation_asks ids)) (c.as_slice.ensures.items ∙ is) (c.in_ok-gather_relations.ensures.gathers under maps later) in
-    let listers = subst (λ (new : Gathered). Gathers to second new (AroundNode c.args.id ∷ [])) (sym c.in_ok-put_around.ensures.ok) (with_around-gathers to second c.args.id c.new.result (c.new.ensures.ids ∙ is)) in
-    turned-gathers to first third asks (AroundNode c.args.id ∷ []) (then-gathers to first second third asks (AroundNode c.args.id ∷ []) relations listers)
+    let relations = subst (λ (ids : List ℕ). Gathers to first second (relation_asks ids)) (c.as_slice.ensures.items ∙ is)
+    (c.in_ok-gather_relations.ensures.gathers under maps later) in
+    let listers = subst (λ (new : Gathered). Gathers to second new (AroundNode c.args.id ∷ [])) (sym c.in_ok-put_around.ensures.ok)
+    (with_around-gathers to second c.args.id c.new.result (c.new.ensures.ids ∙ is)) in
+    turned-gathers to first third asks (AroundNode c.args.id ∷ [])
+    (then-gathers to first second third asks (AroundNode c.args.id ∷ []) relations listers)

@@ -15,6 +15,8 @@ returns-clause-gathers g c under maps held =
     let asks : List Ask = place_asks (to.object c.args.key) in
     let is : c.in_ok-form.form ≡ to.object c.args.key = c.in_ok-form.ensures.object under maps held in
     let later = c.in_ok-form.ensures.looks.holds under maps held in
-    let nodes = subst (λ (form : Option Object). Gathers to first second (place_asks form)) is (c.in_ok-gather_nodes.ensures.gathers under maps later) in
-    let form = subst (λ (new : Gathered). Gathers to second new (OfKey c.args.key ∷ [])) (sym c.in_ok-put_form.ensures.ok) (with_form-gathers to second c.args.key c.in_ok-form.form is) in
+    let nodes = subst (λ (form : Option Object). Gathers to first second (place_asks form)) is
+    (c.in_ok-gather_nodes.ensures.gathers under maps later) in
+    let form = subst (λ (new : Gathered). Gathers to second new (OfKey c.args.key ∷ [])) (sym c.in_ok-put_form.ensures.ok)
+    (with_form-gathers to second c.args.key c.in_ok-form.form is) in
     turned-gathers to first third asks (OfKey c.args.key ∷ []) (then-gathers to first second third asks (OfKey c.args.key ∷ []) nodes form)

@@ -16,6 +16,8 @@ returns-clause-gathers g c under maps held =
     let asks : List Ask = part_asks c.args.style.now c.args.reaches to own (to.object own) in
     let is : c.in_ok-form.form ≡ to.object own = c.in_ok-form.ensures.object under maps held in
     let later = c.in_ok-form.ensures.looks.holds under maps held in
-    let parts = subst (λ (form : Option Object). Gathers to first second (part_asks c.args.style.now c.args.reaches to own form)) is (c.in_ok-gather_parts.ensures.gathers under maps later) in
-    let form = subst (λ (new : Gathered). Gathers to second new (OfKey own ∷ [])) (sym c.in_ok-put_form.ensures.ok) (with_form-gathers to second own c.in_ok-form.form is) in
+    let parts = subst (λ (form : Option Object). Gathers to first second (part_asks c.args.style.now c.args.reaches to own form)) is
+    (c.in_ok-gather_parts.ensures.gathers under maps later) in
+    let form = subst (λ (new : Gathered). Gathers to second new (OfKey own ∷ [])) (sym c.in_ok-put_form.ensures.ok)
+    (with_form-gathers to second own c.in_ok-form.form is) in
     turned-gathers to first third asks (OfKey own ∷ []) (then-gathers to first second third asks (OfKey own ∷ []) parts form)

@@ -13,7 +13,8 @@ returns-then-not-may_have_rows-clause-gathers g c under maps held =
     let to : Known = known_on maps in
     let first : Gathered = gathered_in c.args.answers.now in
     let unwanted : may_have_rows c.args.style.now c.args.form.now ≡ false = sym c.may_have_rows.ensures.may ∙ c.if-not-may_have_rows.true in
-    subst (λ b. Gathers to first first (cond b (listed_asks c.args.reaches to c.args.key c.args.form.now) [])) (sym unwanted) (none-gathers to first)
+    subst (λ b. Gathers to first first (cond b (listed_asks c.args.reaches to c.args.key c.args.form.now) [])) (sym unwanted)
+    (none-gathers to first)
 
 pub returns-clause-gathers : goal.returns-clause-gathers
 returns-clause-gathers g c under maps held =

@@ -13,10 +13,13 @@ loop-id-preserved g c =
     let at : ℕ = c.loop-id.id-index in
     record {
       gathers = λ under maps held.
-          one-more-gathers (λ id. OfKey (relation_key id)) (known_on maps) (gathered_in c.args.answers.now) (gathered_in c.loop-id.answers) (gathered_in c.gather_relation.new.answers) ids at (get_or ids at 0) 0 c.loop-id-test.true refl
-          (c.loop-id.invariant.gathers under maps held) (c.in_ok-gather_relation.ensures.gathers under maps (c.loop-id.invariant.looks.holds under maps held));
+          one-more-gathers (λ id. OfKey (relation_key id)) (known_on maps) (gathered_in c.args.answers.now) (gathered_in c.loop-id.answers)
+          (gathered_in c.gather_relation.new.answers) ids at (get_or ids at 0) 0 c.loop-id-test.true refl
+          (c.loop-id.invariant.gathers under maps held)
+          (c.in_ok-gather_relation.ensures.gathers under maps (c.loop-id.invariant.looks.holds under maps held));
       within = λ may all before. c.gather_relation.ensures.within may
-          (map-at (MayAsk may) (λ id. OfKey (relation_key id)) ids at (get_or ids at 0) 0 all c.loop-id-test.true refl) (c.loop-id.invariant.within may all before);
+          (map-at (MayAsk may) (λ id. OfKey (relation_key id)) ids at (get_or ids at 0) 0 all c.loop-id-test.true refl)
+          (c.loop-id.invariant.within may all before);
       looks = search rules;
     }
 
@@ -24,4 +27,5 @@ pub returns-in_err-gather_relation-clause-within : goal.returns-in_err-gather_re
 returns-in_err-gather_relation-clause-within g c may all before =
     let ids : List ℕ = c.args.ids.now in
     let at : ℕ = c.loop-id.id-index in
-    c.gather_relation.ensures.within may (map-at (MayAsk may) (λ id. OfKey (relation_key id)) ids at (get_or ids at 0) 0 all c.loop-id-test.true refl) (c.loop-id.invariant.within may all before)
+    c.gather_relation.ensures.within may (map-at (MayAsk may) (λ id. OfKey (relation_key id)) ids at
+    (get_or ids at 0) 0 all c.loop-id-test.true refl) (c.loop-id.invariant.within may all before)

@@ -10,7 +10,8 @@ use Rattle.update_step.proofs.gathering.gather_relations.Given as goal
 -- the relations so far
 abbrev pub invariant-loop-id : goal.invariant-loop-id
 invariant-loop-id g l = record {
-  gathers : (under : g.S.MapStore.Under) (maps : Maps) → g.S.MapStore.holds l.initial.store under maps → Gathers (known_on maps) (gathered_in l.initial.answers) (gathered_in l.answers) (relation_asks (take l.id-index l.ids));
+  gathers : (under : g.S.MapStore.Under) (maps : Maps) → g.S.MapStore.holds l.initial.store under maps
+      → Gathers (known_on maps) (gathered_in l.initial.answers) (gathered_in l.answers) (relation_asks (take l.id-index l.ids));
   within : (may : May) → MayAskAll may (relation_asks l.ids) → g.S.MapStore.within may l.initial.store → g.S.MapStore.within may l.store;
   looks : HasLooked g.S.MapStore g.S.Back l.initial.store l.store;
 }

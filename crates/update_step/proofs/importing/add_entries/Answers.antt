@@ -17,8 +17,10 @@ pub returns-clause-holds : goal.returns-clause-holds
 returns-clause-holds g c under held =
     let entries : List Entry = c.entries-entries.result.now in
     let rise : IsChange entries = subst IsChange (sym c.entries-entries.ensures.entries) c.entries-entries.ensures.rise in
-    subst (g.S.MapStore.holds c.put_objects.new.store under) (filled entries rise ∙ ap (change_on empty_maps) c.entries-entries.ensures.entries)
-    (c.in_ok-put_objects.ensures.holds under (all_listed_on empty_maps entries) (c.in_ok-list_all.ensures.holds under empty_maps held no_lists))
+    subst (g.S.MapStore.holds c.put_objects.new.store under)
+    (filled entries rise ∙ ap (change_on empty_maps) c.entries-entries.ensures.entries)
+    (c.in_ok-put_objects.ensures.holds under (all_listed_on empty_maps entries)
+    (c.in_ok-list_all.ensures.holds under empty_maps held no_lists))
 
 pub returns-in_err-put_objects-clause-allowed : goal.returns-in_err-put_objects-clause-allowed
 returns-in_err-put_objects-clause-allowed g c under held =

@@ -24,7 +24,8 @@ loop-entry-preserved c =
     let own : Entry = c.entry-item.result in
     let more = wanted-more c.args.style.now c.args.kind items c.loop-entry.entry-index own c.loop-entry-test.true c.entry-item.is in
     let front : List ℕ = ids_named c.args.kind (wanted_among c.args.style.now (take c.loop-entry.entry-index items)) in
-    let test : c.is_wanted.result ≡ (is_kind c.args.kind own.key.kind && may_have_rows c.args.style.now own.object) = c.is_wanted.ensures.wanted in
+    let test : c.is_wanted.result ≡ (is_kind c.args.kind own.key.kind && may_have_rows c.args.style.now own.object) =
+    c.is_wanted.ensures.wanted in
     elim c.if-is_wanted.branch [
       | then-is_wanted+in_ok-push w ↦
           let pushed : c.if-is_wanted.ids.items ≡ front ++ own.key.id ∷ [] = first_of (search rules, grind (arith, common_steps)) in
@@ -45,5 +46,9 @@ returns-clause-rising c =
     let items : List Entry = c.entries-entry-items.result.now in
     let rise : IsChange items = subst IsChange (sym c.entries-entry-items.ensures.entries) c.entries-entry-items.ensures.rise in
     let all : c.from_vec.result ≡ ids_named c.args.kind (wanted_among c.args.style.now items) =
-    c.from_vec.ensures.items ∙ c.loop-entry.invariant.named ∙ ap (λ (list : List Entry). ids_named c.args.kind (wanted_among c.args.style.now list)) (take_all c.loop-entry.entry-index items c.loop-entry-test.false) in
-    (subst IsRising (sym all) (ids-rise c.args.kind None (wanted_among c.args.style.now items) (wanted-rise c.args.style.now items rise)), subst (AllByRecursion IsId) (sym c.from_vec.ensures.items) c.loop-entry.invariant.ids)
+    c.from_vec.ensures.items ∙ c.loop-entry.invariant.named
+    ∙ ap (λ (list : List Entry). ids_named c.args.kind (wanted_among c.args.style.now list))
+    (take_all c.loop-entry.entry-index items c.loop-entry-test.false) in (
+      subst IsRising (sym all) (ids-rise c.args.kind None (wanted_among c.args.style.now items) (wanted-rise c.args.style.now items rise)),
+      subst (AllByRecursion IsId) (sym c.from_vec.ensures.items) c.loop-entry.invariant.ids,
+    )

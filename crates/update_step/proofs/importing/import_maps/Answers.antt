@@ -16,25 +16,29 @@ use Rattle.update_step.proofs.Imported.{imported-stands, lacks-first}
 use Rattle.update_step.proofs.WantedEntries.{wanted-few}
 use Rattle.update_step.proofs.importing.import_maps.Goals as goal
 
-keys_few : (style : StyleOf) (change : List Entry) (keys : List KeyOf) → keys ≡ keys_named (wanted_among style change) → length keys ≤ length change
+keys_few : (style : StyleOf) (change : List Entry) (keys : List KeyOf) → keys ≡ keys_named (wanted_among style change)
+    → length keys ≤ length change
 keys_few style change keys are = subst (λ (own : List KeyOf). length own ≤ length change) (sym are) (wanted-few style change)
 
 pub rows_of-requires-clause-few : goal.rows_of-requires-clause-few
 rows_of-requires-clause-few g c =
     let few = c.requires.few in
-    let fewer : length (keys_of c.in_ok-keys.keys) ≤ length c.args.change = keys_few c.args.style.now c.args.change (keys_of c.in_ok-keys.keys) c.in_ok-keys.ensures.keys in
+    let fewer : length (keys_of c.in_ok-keys.keys) ≤ length c.args.change =
+    keys_few c.args.style.now c.args.change (keys_of c.in_ok-keys.keys) c.in_ok-keys.ensures.keys in
     first_of (omega (arith, few, fewer), search (rules, few, fewer), grind (arith, few, fewer))
 
 pub put_all-requires-clause-few : goal.put_all-requires-clause-few
 put_all-requires-clause-few g c =
     let few = c.requires.few in
-    let fewer : length (keys_of c.in_ok-keys.keys) ≤ length c.args.change = keys_few c.args.style.now c.args.change (keys_of c.in_ok-keys.keys) c.in_ok-keys.ensures.keys in
+    let fewer : length (keys_of c.in_ok-keys.keys) ≤ length c.args.change =
+    keys_few c.args.style.now c.args.change (keys_of c.in_ok-keys.keys) c.in_ok-keys.ensures.keys in
     first_of (omega (arith, few, fewer), search (rules, few, fewer), grind (arith, few, fewer))
 
 pub put_all-requires-clause-kept : goal.put_all-requires-clause-kept
 put_all-requires-clause-kept g c =
     let first = c.args.store.now in
-    let style = g.met.S.MapStore.same_style first c.add_entries.new.store (c.add_entries.ensures.sets.looked first (g.met.S.MapStore.looked_none first)) ∙ c.requires.style in
+    let style = g.met.S.MapStore.same_style first c.add_entries.new.store
+    (c.add_entries.ensures.sets.looked first (g.met.S.MapStore.looked_none first)) ∙ c.requires.style in
     subst (λ (own : StyleOf). AllByRecursion (MayKeep own.tables) c.as_slice.result.now) (sym style)
     (subst (AllByRecursion (MayKeep c.args.style.now.tables)) (sym c.as_slice.ensures.items) c.in_ok-rows.ensures.kept)
 

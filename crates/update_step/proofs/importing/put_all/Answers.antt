@@ -13,17 +13,20 @@ use Rattle.update_step.proofs.importing.put_all.Goals as goal
 pub put_some-requires-clause-kept : goal.put_some-requires-clause-kept
 put_some-requires-clause-kept g c =
     let first = c.args.store.now in
-    let style = g.met.S.MapStore.same_style first c.loop-index.store (c.loop-index.invariant.sets.looked first (g.met.S.MapStore.looked_none first)) in
+    let style = g.met.S.MapStore.same_style first c.loop-index.store
+    (c.loop-index.invariant.sets.looked first (g.met.S.MapStore.looked_none first)) in
     let test = c.loop-index-test.true in
     let most = c.key_count-index-end.ensures.count in
     let count = c.requires.count in
     let below : c.loop-index.index < length c.args.rows.now = omega (arith, test, most, count) in
     subst (λ (own : StyleOf). MayKeep own.tables c.index-rows-index.result) (sym style)
-    (all_at (MayKeep (g.S.MapStore.style first).tables) c.args.rows.now c.loop-index.index c.index-rows-index.result c.index-rows-index.result c.requires.kept below c.index-rows-index.is)
+    (all_at (MayKeep (g.S.MapStore.style first).tables) c.args.rows.now c.loop-index.index c.index-rows-index.result
+    c.index-rows-index.result c.requires.kept below c.index-rows-index.is)
 
 pub returns-in_err-put_some-clause-allowed : goal.returns-in_err-put_some-clause-allowed
 returns-in_err-put_some-clause-allowed g c under maps new are lacks held =
-    let is = c.in_err-put_some.ensures.allowed under (set_all_rows maps new (take c.loop-index.index (keys_of c.args.keys.now))) (c.loop-index.invariant.holds under maps new are lacks held) in
+    let is = c.in_err-put_some.ensures.allowed under (set_all_rows maps new (take c.loop-index.index (keys_of c.args.keys.now)))
+    (c.loop-index.invariant.holds under maps new are lacks held) in
     search (rules, is)
 
 pub loop-index-preserved : goal.loop-index-preserved
@@ -39,8 +42,10 @@ loop-index-preserved g c =
       holds = λ under maps new are lacks held.
           let put : Maps → KeyOf → Maps = λ (own : Maps) (other : KeyOf). set_rows own other.kind other.id (new other) in
           let before : Maps = set_all_rows maps new (take at keys) in
-          let rows_are : own ≡ new key = rows_there new keys c.args.rows.now at key (node_key 0) own are below c.key_of.ensures.key c.index-rows-index.is in
-          let step = c.in_ok-put_some.ensures.holds under before (c.loop-index.invariant.holds under maps new are lacks held) (λ empty. lacks-still new (take at keys) maps lacks key (sym rows_are ∙ empty)) in
+          let rows_are : own ≡ new key = rows_there new keys c.args.rows.now at key
+          (node_key 0) own are below c.key_of.ensures.key c.index-rows-index.is in
+          let step = c.in_ok-put_some.ensures.holds under before (c.loop-index.invariant.holds under maps new are lacks held)
+          (λ empty. lacks-still new (take at keys) maps lacks key (sym rows_are ∙ empty)) in
           subst (g.S.MapStore.holds c.put_some.new.store under) (ap (set_rows before key.kind key.id) rows_are
           ∙ sym (fold_more put maps keys at (node_key 0) below ∙ ap (put before) (sym c.key_of.ensures.key))) step;
       sets = search rules;

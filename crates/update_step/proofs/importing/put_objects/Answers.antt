@@ -17,6 +17,7 @@ loop-entry-preserved g c =
     record {
       holds = λ under maps held.
           let step = c.in_ok-set.ensures.holds under (all_objects_on maps (take at items)) (c.loop-entry.invariant.holds under maps held) in
-          subst (g.S.MapStore.holds c.set.new.self under) (sym (fold-more object_on maps items at c.entry-item.result c.loop-entry-test.true c.entry-item.is)) step;
+          subst (g.S.MapStore.holds c.set.new.self under)
+          (sym (fold-more object_on maps items at c.entry-item.result c.loop-entry-test.true c.entry-item.is)) step;
       sets = search rules;
     }

@@ -7,6 +7,7 @@ use Rattle.update_step.proofs.importing.put_objects.Given as goal
 -- the objects of the entries so far are there
 abbrev pub invariant-loop-entry : goal.invariant-loop-entry
 invariant-loop-entry g l = record {
-  holds : (under : g.S.MapStore.Under) (maps : Maps) → g.S.MapStore.holds l.initial.store under maps → g.S.MapStore.holds l.store under (all_objects_on maps (take l.entry-index l.entries));
+  holds : (under : g.S.MapStore.Under) (maps : Maps) → g.S.MapStore.holds l.initial.store under maps
+      → g.S.MapStore.holds l.store under (all_objects_on maps (take l.entry-index l.entries));
   sets : Sets {A = Unit {0}} g.S.MapStore.looked g.S.Back.spent g.S.Back.bears g.S.Back.faults l.initial.store l.store (Ok tt);
 }

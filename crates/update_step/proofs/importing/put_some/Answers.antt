@@ -9,5 +9,6 @@ no_items (x ∷ xs) none = absurd (let zero_long = same_as (length (x ∷ xs)) 0
 
 pub returns-then-is_empty-clause-holds : goal.returns-then-is_empty-clause-holds
 returns-then-is_empty-clause-holds g c under maps held lacks =
-    let empty : c.args.rows.now ≡ [] = sym c.as_slice.ensures.items ∙ no_items c.as_slice.result.now (sym c.is_empty.ensures ∙ c.if-is_empty.true) in
+    let empty : c.args.rows.now ≡ [] = sym c.as_slice.ensures.items
+    ∙ no_items c.as_slice.result.now (sym c.is_empty.ensures ∙ c.if-is_empty.true) in
     subst (g.S.MapStore.holds c.args.store.now under) (none-set maps c.args.key.kind c.args.key.id c.args.rows.now empty (lacks empty)) held

@@ -20,4 +20,5 @@ returns-clause-rows g c =
 
 pub returns-clause-kept : goal.returns-clause-kept
 returns-clause-kept g c =
-    subst (AllByRecursion (MayKeep c.args.style.now.tables)) (sym c.in_ok-rows.ensures.rows) (may-keep-all c.args.style.now (known_of c.in_ok-objects.objects) (keys_of c.args.keys.now))
+    subst (AllByRecursion (MayKeep c.args.style.now.tables)) (sym c.in_ok-rows.ensures.rows)
+    (may-keep-all c.args.style.now (known_of c.in_ok-objects.objects) (keys_of c.args.keys.now))

@@ -9,4 +9,5 @@ pub returns-clause-lacking : goal.returns-clause-lacking
 returns-clause-lacking g c under maps objects held on before =
     let style = c.args.style.now in
     subst (AreLacking (rows_in style objects)) (sym c.in_ok-push.ensures.items)
-    (all-append (λ (own : KeyOf). rows_in style objects own ≡ []) c.args.keys.now.items (c.args.key ∷ []) before (c.in_ok-lacks.ensures.none under maps objects held on c.if-not-lacks.false, tt))
+    (all-append (λ (own : KeyOf). rows_in style objects own ≡ []) c.args.keys.now.items (c.args.key ∷ []) before
+    (c.in_ok-lacks.ensures.none under maps objects held on c.if-not-lacks.false, tt))

@@ -12,7 +12,8 @@ use Rattle.update_step.proofs.lacking.keys_lacking.Given as goal
 -- the keys so far have no rows
 abbrev pub invariant-loop-entry : goal.invariant-loop-entry
 invariant-loop-entry g l = record {
-  lacking : (under : g.S.MapStore.Under) (maps : Maps) (objects : ObjectSet) → g.S.MapStore.holds l.initial.store under maps → StandsOn (reaches_nodes l.style) maps objects → AreLacking (rows_in l.style objects) l.keys.items;
+  lacking : (under : g.S.MapStore.Under) (maps : Maps) (objects : ObjectSet) → g.S.MapStore.holds l.initial.store under maps
+      → StandsOn (reaches_nodes l.style) maps objects → AreLacking (rows_in l.style objects) l.keys.items;
   within : (may : May) → MayEntries may l.change → g.S.MapStore.within may l.initial.store → g.S.MapStore.within may l.store;
   looks : HasLooked g.S.MapStore g.S.Back l.initial.store l.store;
 }

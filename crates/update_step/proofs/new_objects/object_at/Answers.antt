@@ -28,7 +28,8 @@ returns-then-is_of c =
     let same : eq_by_cmp key_cmp key (key_in entries place) ≡ true =
     ap (λ (own : Entry). eq_by_cmp key_cmp key own.key) there ∙ sym c.is_of.ensures ∙ c.if-is_of.true in
     record {
-      object = c.as_ref.ensures.value ∙ ap (λ (own : Entry). own.object) (sym there) ∙ sym (get_here entries place key c.requires inside same);
+      object = c.as_ref.ensures.value ∙ ap (λ (own : Entry). own.object) (sym there)
+          ∙ sym (get_here entries place key c.requires inside same);
     }
 
 pub returns : goal.returns

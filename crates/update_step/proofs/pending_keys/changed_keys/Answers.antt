@@ -16,25 +16,33 @@ returns-in-Ok-clause-pending g c =
     let change = c.args.change.now in
     let reaches = reaches_nodes c.args.style.now in
     if_ok-then c.keys_due.result c.keys_due.ensures.pending (λ set is under maps objects held on.
-    let forms : HasOldForms c.in_ok-old.old objects change = subst (λ (old : ObjectSet). HasOldForms old objects change) (sym (c.in_ok-old.ensures.old under maps held)) (old-forms maps objects reaches change on) in
+    let forms : HasOldForms c.in_ok-old.old objects change =
+    subst (λ (old : ObjectSet). HasOldForms old objects change) (sym (c.in_ok-old.ensures.old under maps held))
+    (old-forms maps objects reaches change on) in
     let after = entries_stand reaches change maps objects on (change_proper change c.entries-entries.ensures.rise) in
-    is objects forms under (change_on maps change) (c.in-Ok.ensures.holds under maps (c.in_ok-old.ensures.looks.holds under maps held)) after)
+    is objects forms under (change_on maps change)
+    (c.in-Ok.ensures.holds under maps (c.in_ok-old.ensures.looks.holds under maps held)) after)
 
 pub returns-in-Ok-clause-goes : goal.returns-in-Ok-clause-goes
 returns-in-Ok-clause-goes g c =
     let change = c.args.change.now in
     let reaches = reaches_nodes c.args.style.now in
     record {
-      looked = λ first looked. c.keys_due.ensures.goes.looked first (c.apply_change.ensures.sets.looked first (c.old_relations.ensures.looks.looked first looked));
+      looked = λ first looked. c.keys_due.ensures.goes.looked first
+          (c.apply_change.ensures.sets.looked first (c.old_relations.ensures.looks.looked first looked));
       spent = c.keys_due.ensures.goes.spent;
       ends = if_err-then c.keys_due.result c.keys_due.ensures.goes.ends (λ why ends.
           ends-then _ _ _ _ _ _ why
-          (λ refusal bears first looked. bears first (c.apply_change.ensures.sets.looked first (c.old_relations.ensures.looks.looked first looked)))
+          (λ refusal bears first looked. bears first
+          (c.apply_change.ensures.sets.looked first (c.old_relations.ensures.looks.looked first looked)))
           (λ unspent. unspent)
           (λ value many under maps objects held on.
-          let forms : HasOldForms c.in_ok-old.old objects change = subst (λ (old : ObjectSet). HasOldForms old objects change) (sym (c.in_ok-old.ensures.old under maps held)) (old-forms maps objects reaches change on) in
+          let forms : HasOldForms c.in_ok-old.old objects change =
+          subst (λ (old : ObjectSet). HasOldForms old objects change) (sym (c.in_ok-old.ensures.old under maps held))
+          (old-forms maps objects reaches change on) in
           let after = entries_stand reaches change maps objects on (change_proper change c.entries-entries.ensures.rise) in
-          many objects forms under (change_on maps change) (c.in-Ok.ensures.holds under maps (c.in_ok-old.ensures.looks.holds under maps held)) after)
+          many objects forms under (change_on maps change)
+          (c.in-Ok.ensures.holds under maps (c.in_ok-old.ensures.looks.holds under maps held)) after)
           ends);
     }
 
@@ -43,7 +51,9 @@ returns-in-Ok-clause-allowed g c under maps objects held on =
     let change = c.args.change.now in
     let reaches = reaches_nodes c.args.style.now in
     let after = entries_stand reaches change maps objects on (change_proper change c.entries-entries.ensures.rise) in
-    c.keys_due.ensures.allowed under (change_on maps change) (c.in-Ok.ensures.holds under maps (c.in_ok-old.ensures.looks.holds under maps held)) (ways_are_there reaches (change_on maps change) (folded_all objects change) after)
+    c.keys_due.ensures.allowed under (change_on maps change)
+    (c.in-Ok.ensures.holds under maps (c.in_ok-old.ensures.looks.holds under maps held))
+    (ways_are_there reaches (change_on maps change) (folded_all objects change) after)
 
 pub returns-in-Ok-clause-within : goal.returns-in-Ok-clause-within
 returns-in-Ok-clause-within g c under maps objects held on may touched before =
@@ -61,7 +71,8 @@ returns-clause-within g c under maps objects held on may touched before =
     let style = c.args.style.now in
     let change = c.args.change.now in
     let read = c.in_ok-old.ensures.looks.holds under maps held in
-    c.apply_change.ensures.within under maps read (reaches_nodes style) objects on may (may-turn style objects change may touched c.entries-entries.ensures.rise)
+    c.apply_change.ensures.within under maps read (reaches_nodes style) objects on may
+    (may-turn style objects change may touched c.entries-entries.ensures.rise)
     (c.old_relations.ensures.within may (may-entries style objects change may touched) before)
 
 pub returns-in_err-old-clause-within : goal.returns-in_err-old-clause-within

@@ -21,7 +21,9 @@ pub returns-in-Ok-clause-pending : goal.returns-in-Ok-clause-pending
 returns-in-Ok-clause-pending g c objects forms under maps held on =
     let store = c.args.store.now in
     let after : ObjectSet = folded_all objects c.args.change.now in
-    let knows : g.S.Back.knows store (index_of after) = subst (λ (index : Index). g.S.Back.knows store index) (index_is (reaches_nodes c.args.style.now) maps after on) (g.met.S.MapStore.tells store under maps held) in
+    let knows : g.S.Back.knows store (index_of after) =
+    subst (λ (index : Index). g.S.Back.knows store index) (index_is (reaches_nodes c.args.style.now) maps after on)
+    (g.met.S.MapStore.tells store under maps held) in
     (c.in-Ok.ensures.pending objects forms knows, c.in-Ok.ensures.others objects forms knows)
 
 pub returns-in-Err-clause-goes : goal.returns-in-Err-clause-goes
@@ -32,19 +34,25 @@ returns-in-Err-clause-goes g c =
     let change = c.args.change.now in
     let limit : ℕ = c.args.limits.now.pending in
     let asked = c.in-Err.ensures.asked_some.2 in
-    let refused : g.row.S-Refusal.Denot → Type 0 = λ refusal. (first : g.row.S.Denot) → g.S.MapStore.looked first old → g.S.Back.bears new (g.S.Back.faults first) refusal in
-    let many : ℕ → Type 0 = λ value. (objects : ObjectSet) → HasOldForms c.args.old.now objects change → (under : g.S.MapStore.Under) (maps : Maps) → g.S.MapStore.holds old under maps
-    → StandsOn (reaches_nodes style) maps (folded_all objects change) → AreTooMany limit (λ set. IsPendingOf style objects change set) value in
+    let refused : g.row.S-Refusal.Denot → Type 0 =
+    λ refusal. (first : g.row.S.Denot) → g.S.MapStore.looked first old → g.S.Back.bears new (g.S.Back.faults first) refusal in
+    let many : ℕ → Type 0 = λ value. (objects : ObjectSet) → HasOldForms c.args.old.now objects change
+    → (under : g.S.MapStore.Under) (maps : Maps) → g.S.MapStore.holds old under maps
+    → StandsOn (reaches_nodes style) maps (folded_all objects change)
+    → AreTooMany limit (λ set. IsPendingOf style objects change set) value in
     record {
       looked = λ first looked. g.met.S.MapStore.asked first old new asked.0 looked asked.3;
       spent = tt;
       ends = subst (Ends refused (g.S.Back.spent new ≡ false) many) (sym c.step_fault.ensures.same)
           (pending-ends (g.S.Back.bears new (g.S.Back.faults old)) refused (g.S.Back.spent new ≡ false)
-          (AreTooMany limit (λ set. OfKnown (g.S.Back.knows old) c.args.old.now change (λ objects. IsPendingOf style objects change set))) many c.in-Err.why
+          (AreTooMany limit (λ set. OfKnown (g.S.Back.knows old) c.args.old.now change (λ objects. IsPendingOf style objects change set)))
+          many c.in-Err.why
           (λ refusal bears first looked. g.met.S.MapStore.asked_bears first old new asked.0 refusal looked asked.3 bears)
           (λ value most objects forms under maps held on.
           let after : ObjectSet = folded_all objects change in
-          let knows : g.S.Back.knows old (index_of after) = subst (λ (index : Index). g.S.Back.knows old index) (index_is (reaches_nodes style) maps after on) (g.met.S.MapStore.tells old under maps held) in
+          let knows : g.S.Back.knows old (index_of after) =
+          subst (λ (index : Index). g.S.Back.knows old index) (index_is (reaches_nodes style) maps after on)
+          (g.met.S.MapStore.tells old under maps held) in
           record { set = most.set; pending = most.pending objects forms knows; number = most.number; over = most.over })
           c.in-Err.ensures.asks.only.stopped c.in-Err.ensures.asks.only.unspent);
     }
@@ -56,7 +64,9 @@ returns-in-Ok-clause-within g c under maps objects held on may touched before =
     let style = c.args.style.now in
     let change : List Entry = c.args.change.now in
     let after : ObjectSet = folded_all objects change in
-    let knows : g.S.Back.knows old (index_of after) = subst (λ (index : Index). g.S.Back.knows old index) (index_is (reaches_nodes style) maps after on) (g.met.S.MapStore.tells old under maps held) in
+    let knows : g.S.Back.knows old (index_of after) =
+    subst (λ (index : Index). g.S.Back.knows old index) (index_is (reaches_nodes style) maps after on)
+    (g.met.S.MapStore.tells old under maps held) in
     let asked = c.in-Ok.ensures.asks.asked in
     g.met.S.MapStore.asked_within old new (of_all change asked.0) asked.2 under maps held may
     (may-answer style objects change may touched maps on asked.0 (λ way there. sym (asked.1.due (index_of after) knows way) ∙ there)) before
@@ -68,9 +78,12 @@ returns-in-Err-clause-within g c under maps objects held on may touched before =
     let style = c.args.style.now in
     let change : List Entry = c.args.change.now in
     let after : ObjectSet = folded_all objects change in
-    let knows : g.S.Back.knows old (index_of after) = subst (λ (index : Index). g.S.Back.knows old index) (index_is (reaches_nodes style) maps after on) (g.met.S.MapStore.tells old under maps held) in
+    let knows : g.S.Back.knows old (index_of after) =
+    subst (λ (index : Index). g.S.Back.knows old index) (index_is (reaches_nodes style) maps after on)
+    (g.met.S.MapStore.tells old under maps held) in
     let asked = c.in-Err.ensures.asked_some in
     let some = asked.2 in
     g.met.S.MapStore.asked_within old new some.0 some.3 under maps held may
-    (all-front (MayAnswer may maps) some.0 some.1 (subst (λ (questions : List Question). AllByRecursion (MayAnswer may maps) questions) some.2
+    (all-front (MayAnswer may maps) some.0 some.1
+    (subst (λ (questions : List Question). AllByRecursion (MayAnswer may maps) questions) some.2
     (may-answer style objects change may touched maps on asked.0 (λ way there. asked.1 (index_of after) knows way there)))) before

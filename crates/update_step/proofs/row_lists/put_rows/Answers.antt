@@ -12,9 +12,11 @@ use Rattle.update_step.proofs.row_lists.put_rows.Goals as goal
 pub put_changed-requires-clause-kept : goal.put_changed-requires-clause-kept
 put_changed-requires-clause-kept g c =
     let first = c.args.store.now in
-    let style = g.met.S.MapStore.same_style first c.loop-index.store (c.loop-index.invariant.sets.looked first (g.met.S.MapStore.looked_none first)) in
+    let style = g.met.S.MapStore.same_style first c.loop-index.store
+    (c.loop-index.invariant.sets.looked first (g.met.S.MapStore.looked_none first)) in
     subst (λ (own : StyleOf). MayKeep own.tables c.index-news-index.result) (sym style)
-    (all_at (MayKeep (g.S.MapStore.style first).tables) c.args.news.now c.loop-index.index c.index-news-index.result c.index-news-index.result c.requires.kept
+    (all_at (MayKeep (g.S.MapStore.style first).tables) c.args.news.now c.loop-index.index c.index-news-index.result
+    c.index-news-index.result c.requires.kept
     (subst (λ most. c.loop-index.index < most) (sym c.requires.news) c.loop-index-test.true) c.index-news-index.is)
 
 pub loop-index-preserved : goal.loop-index-preserved
@@ -25,23 +27,33 @@ loop-index-preserved g c =
     record {
       holds = λ under maps old new were are has held.
           let before : Maps = set_all_rows maps new (take c.loop-index.index keys) in
-          let rows_were : c.as_slice.result.now ≡ old key = c.as_slice.ensures.items ∙ rows_there old keys c.args.olds.now c.loop-index.index key key c.index-olds-index.result were c.loop-index-test.true c.index-keys-index.is c.index-olds-index.is in
-          let rows_are : own ≡ new key = rows_there new keys c.args.news.now c.loop-index.index key key own are c.loop-index-test.true c.index-keys-index.is c.index-news-index.is in
+          let rows_were : c.as_slice.result.now ≡ old key =
+          c.as_slice.ensures.items ∙ rows_there old keys c.args.olds.now c.loop-index.index key key c.index-olds-index.result were
+          c.loop-index-test.true c.index-keys-index.is c.index-olds-index.is in
+          let rows_are : own ≡ new key = rows_there new keys c.args.news.now c.loop-index.index key key own are c.loop-index-test.true
+          c.index-keys-index.is c.index-news-index.is in
           let step = c.in_ok-put_changed.ensures.holds under before (c.loop-index.invariant.holds under maps old new were are has held)
-          (λ same. rows-still old new maps (take c.loop-index.index keys) has key (sym rows_were ∙ same ∙ rows_are) ∙ ap (λ (rows : List TableRow). unless_empty rows) (sym rows_are)) in
+          (λ same. rows-still old new maps (take c.loop-index.index keys) has key (sym rows_were ∙ same ∙ rows_are)
+          ∙ ap (λ (rows : List TableRow). unless_empty rows) (sym rows_are)) in
           subst (g.S.MapStore.holds c.put_changed.new.store under) (ap (set_rows before key.kind key.id) rows_are
-          ∙ sym (fold-more (λ (own : Maps) (other : KeyOf). set_rows own other.kind other.id (new other)) maps keys c.loop-index.index key c.loop-index-test.true c.index-keys-index.is)) step;
-      within = λ may all before. c.put_changed.ensures.within may (all_at (MayRows may) c.args.keys.now c.loop-index.index c.index-keys-index.result c.index-keys-index.result all c.loop-index-test.true c.index-keys-index.is)
+          ∙ sym (fold-more (λ (own : Maps) (other : KeyOf). set_rows own other.kind other.id (new other)) maps keys c.loop-index.index key
+          c.loop-index-test.true c.index-keys-index.is)) step;
+      within = λ may all before. c.put_changed.ensures.within may
+          (all_at (MayRows may) c.args.keys.now c.loop-index.index c.index-keys-index.result c.index-keys-index.result all
+          c.loop-index-test.true c.index-keys-index.is)
           (c.loop-index.invariant.within may all before);
       sets = search rules;
     }
 
 pub returns-in_err-put_changed-clause-allowed : goal.returns-in_err-put_changed-clause-allowed
 returns-in_err-put_changed-clause-allowed g c under maps old new were are has held =
-    let is = c.in_err-put_changed.ensures.allowed under (set_all_rows maps new (take c.loop-index.index c.args.keys.now)) (c.loop-index.invariant.holds under maps old new were are has held) in
+    let is = c.in_err-put_changed.ensures.allowed under (set_all_rows maps new (take c.loop-index.index c.args.keys.now))
+    (c.loop-index.invariant.holds under maps old new were are has held) in
     search (rules, is)
 
 pub returns-in_err-put_changed-clause-within : goal.returns-in_err-put_changed-clause-within
 returns-in_err-put_changed-clause-within g c may all before =
-    c.put_changed.ensures.within may (all_at (MayRows may) c.args.keys.now c.loop-index.index c.index-keys-index.result c.index-keys-index.result all c.loop-index-test.true c.index-keys-index.is)
+    c.put_changed.ensures.within may (all_at
+    (MayRows may) c.args.keys.now c.loop-index.index c.index-keys-index.result c.index-keys-index.result all c.loop-index-test.true
+    c.index-keys-index.is)
     (c.loop-index.invariant.within may all before)

@@ -6,4 +6,5 @@ use Rattle.update_step.proofs.telling.tell_all.Given as goal
 
 -- what is told of the keys so far
 abbrev pub invariant-loop-index : goal.invariant-loop-index
-invariant-loop-index l = (old new : KeyOf → List TableRow) → l.olds ≡ map old l.keys → l.news ≡ map new l.keys → l.changes ≡ told_all l.tables old new (take l.index l.keys)
+invariant-loop-index l = (old new : KeyOf → List TableRow) → l.olds ≡ map old l.keys → l.news ≡ map new l.keys
+    → l.changes ≡ told_all l.tables old new (take l.index l.keys)

@@ -21,4 +21,7 @@ returns c =
     let most = c.loop-table-test.false in
     let least = c.loop-table.auto.table-end in
     let count : c.loop-table.table ≡ c.args.tables = omega (arith, most, least) in
-    record { told = c.loop-table.invariant ∙ ap (λ n. c.args.changes.now ++ filter_map (change_in c.args.key c.args.old.now c.args.new.now) (range_with_len 0 n)) count }
+    record {
+      told = c.loop-table.invariant ∙ ap
+          (λ n. c.args.changes.now ++ filter_map (change_in c.args.key c.args.old.now c.args.new.now) (range_with_len 0 n)) count;
+    }

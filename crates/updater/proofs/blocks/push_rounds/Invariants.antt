@@ -8,4 +8,5 @@ use Rattle.updater.proofs.blocks.push_rounds.Given as goal
 abbrev pub invariant-loop-answers : goal.invariant-loop-answers
 invariant-loop-answers l =
     (l.round ≡ l.answers-index)
-    × (string_bytes l.out ++ rounds_text l.reader (l.round + 1) (map given_text (drop l.answers-index l.rounds)) ≡ string_bytes l.initial.out ++ rounds_text l.reader 1 (map given_text l.rounds))
+    × (string_bytes l.out ++ rounds_text l.reader (l.round + 1) (map given_text (drop l.answers-index l.rounds))
+    ≡ string_bytes l.initial.out ++ rounds_text l.reader 1 (map given_text l.rounds))

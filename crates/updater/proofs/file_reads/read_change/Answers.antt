@@ -12,5 +12,7 @@ returns-then-entries-gt-MAX_ENTRIES-clause-err g c =
     let old = g.I.Inputs.view c.args.inputs.now in
     let new = g.I.Inputs.view c.read_file.new.inputs in
     too_many c.args.file c.in-Ok.change old new
-    (subst (λ (limits : LimitNumbers). IfTold (old.left c.args.file) (λ (bytes : List ℕ). IsAccepted limits bytes c.in-Ok.change)) c.standard.ensures.numbers c.in-Ok.ensures.accepted)
-    (subst (λ (entries : List Entry). MAX_ENTRIES < length entries) c.entries.ensures.entries c.if-entries-gt-MAX_ENTRIES.true) (record { others = c.read_file.ensures.others; later = c.read_file.ensures.later })
+    (subst (λ (limits : LimitNumbers). IfTold (old.left c.args.file) (λ (bytes : List ℕ). IsAccepted limits bytes c.in-Ok.change))
+    c.standard.ensures.numbers c.in-Ok.ensures.accepted)
+    (subst (λ (entries : List Entry). MAX_ENTRIES < length entries) c.entries.ensures.entries c.if-entries-gt-MAX_ENTRIES.true)
+    (record { others = c.read_file.ensures.others; later = c.read_file.ensures.later })

@@ -1,7 +1,8 @@
 use Rattle.std.proofs.Common.{List, ℕ, refl, subst, sym}
 use Rattle.std.specs.Result.{result_err}
 use Rattle.updater.specs.declared.words.Command.{Command}
-use Rattle.run_promise.specs.CommandOf.{FilesFit, Names, points_of, lines_of, init_of, import_of, append_of, export_of, tiles_of, query_of, serve_of, replay_of, migrate_of, no_store, new_store}
+use Rattle.run_promise.specs.CommandOf.{FilesFit, Names, points_of, lines_of, init_of, import_of, append_of, export_of, tiles_of, query_of}
+use Rattle.run_promise.specs.CommandOf.{serve_of, replay_of, migrate_of, no_store, new_store}
 use Rattle.updater.specs.Command.{seen}
 use Rattle.run_promise.specs.Courses.{course_of, init_course, replay_course}
 use Rattle.run_promise.specs.Locality.{IsLocal}
@@ -21,10 +22,17 @@ returns-in-Points g c =
     let new = world (g.I.Inputs.view c.points.new.inputs) (g.D.Disk.view c.args.disk.now) (g.S.Sink.view c.points.new.out) in
     let fault = result_err c.points.result in
     let fits = subst (λ (own : Command). FilesFit (seen own)) c.in-Points.is c.requires.fits in
-    let own = runs_by (points_of c.in-Points.key.now c.in-Points.files) (λ (asked : List ℕ). g.I.Inputs.reads c.args.inputs.now asked c.points.new.inputs) fault old new tt c.points.ensures.asked (from_unused no_store old new (course_of (points_of c.in-Points.key.now c.in-Points.files)) fault (λ e. absurd (cc)) c.points.ensures.course) (λ _. spared_same disk) (λ _ bytes told some. stays_same disk) (λ _. stays_same disk) tt in
+    let own = runs_by (points_of c.in-Points.key.now c.in-Points.files)
+    (λ (asked : List ℕ). g.I.Inputs.reads c.args.inputs.now asked c.points.new.inputs) fault old new tt c.points.ensures.asked
+    (from_unused no_store old new (course_of (points_of c.in-Points.key.now c.in-Points.files)) fault
+    (λ e. absurd (cc)) c.points.ensures.course) (λ _. spared_same disk) (λ _ bytes told some. stays_same disk)
+    (λ _. stays_same disk) tt in
     record {
-      runs = subst (λ (own : Command). Runs (seen own) (λ (asked : List ℕ). g.I.Inputs.reads c.args.inputs.now asked c.points.new.inputs) old new fault) (sym c.in-Points.is) own;
-      safe = subst (λ (own : Command). IsSafe (seen own) old new fault) (sym c.in-Points.is) (runs_safe (points_of c.in-Points.key.now c.in-Points.files) (λ (asked : List ℕ). g.I.Inputs.reads c.args.inputs.now asked c.points.new.inputs) old new fault own);
+      runs = subst (λ (own : Command). Runs (seen own)
+          (λ (asked : List ℕ). g.I.Inputs.reads c.args.inputs.now asked c.points.new.inputs) old new fault) (sym c.in-Points.is) own;
+      safe = subst (λ (own : Command). IsSafe (seen own) old new fault) (sym c.in-Points.is)
+          (runs_safe (points_of c.in-Points.key.now c.in-Points.files)
+          (λ (asked : List ℕ). g.I.Inputs.reads c.args.inputs.now asked c.points.new.inputs) old new fault own);
     }
 
 pub returns-in-Lines : goal.returns-in-Lines
@@ -34,10 +42,17 @@ returns-in-Lines g c =
     let new = world (g.I.Inputs.view c.lines.new.inputs) (g.D.Disk.view c.args.disk.now) (g.S.Sink.view c.lines.new.out) in
     let fault = result_err c.lines.result in
     let fits = subst (λ (own : Command). FilesFit (seen own)) c.in-Lines.is c.requires.fits in
-    let own = runs_by (lines_of c.in-Lines.key.now c.in-Lines.files) (λ (asked : List ℕ). g.I.Inputs.reads c.args.inputs.now asked c.lines.new.inputs) fault old new tt c.lines.ensures.asked (from_unused no_store old new (course_of (lines_of c.in-Lines.key.now c.in-Lines.files)) fault (λ e. absurd (cc)) c.lines.ensures.course) (λ _. spared_same disk) (λ _ bytes told some. stays_same disk) (λ _. stays_same disk) tt in
+    let own = runs_by (lines_of c.in-Lines.key.now c.in-Lines.files)
+    (λ (asked : List ℕ). g.I.Inputs.reads c.args.inputs.now asked c.lines.new.inputs) fault old new tt c.lines.ensures.asked
+    (from_unused no_store old new (course_of (lines_of c.in-Lines.key.now c.in-Lines.files)) fault
+    (λ e. absurd (cc)) c.lines.ensures.course) (λ _. spared_same disk) (λ _ bytes told some. stays_same disk)
+    (λ _. stays_same disk) tt in
     record {
-      runs = subst (λ (own : Command). Runs (seen own) (λ (asked : List ℕ). g.I.Inputs.reads c.args.inputs.now asked c.lines.new.inputs) old new fault) (sym c.in-Lines.is) own;
-      safe = subst (λ (own : Command). IsSafe (seen own) old new fault) (sym c.in-Lines.is) (runs_safe (lines_of c.in-Lines.key.now c.in-Lines.files) (λ (asked : List ℕ). g.I.Inputs.reads c.args.inputs.now asked c.lines.new.inputs) old new fault own);
+      runs = subst (λ (own : Command). Runs (seen own)
+          (λ (asked : List ℕ). g.I.Inputs.reads c.args.inputs.now asked c.lines.new.inputs) old new fault) (sym c.in-Lines.is) own;
+      safe = subst (λ (own : Command). IsSafe (seen own) old new fault) (sym c.in-Lines.is)
+          (runs_safe (lines_of c.in-Lines.key.now c.in-Lines.files)
+          (λ (asked : List ℕ). g.I.Inputs.reads c.args.inputs.now asked c.lines.new.inputs) old new fault own);
     }
 
 pub returns-in-Init : goal.returns-in-Init
@@ -48,10 +63,17 @@ returns-in-Init g c =
     let new = world (g.I.Inputs.view c.args.inputs.now) (g.D.Disk.view c.init.new.disk) (g.S.Sink.view c.init.new.out) in
     let fault = result_err c.init.result in
     let fits = subst (λ (own : Command). FilesFit (seen own)) c.in-Init.is c.requires.fits in
-    let own = runs_by (init_of c.in-Init.store.now) (λ (asked : List ℕ). g.I.Inputs.reads c.args.inputs.now asked c.args.inputs.now) fault old new tt (asked_none g.I.Inputs.reads (Names (init_of c.in-Init.store.now)) c.args.inputs.now (laws.reads_none c.args.inputs.now)) (from_unused new_store old new init_course fault (λ e. absurd (cc)) c.init.ensures.course) (λ none. absurd (cc)) (λ _. c.init.ensures.looked) c.init.ensures.no_store tt in
+    let own = runs_by (init_of c.in-Init.store.now)
+    (λ (asked : List ℕ). g.I.Inputs.reads c.args.inputs.now asked c.args.inputs.now) fault old new tt
+    (asked_none g.I.Inputs.reads (Names (init_of c.in-Init.store.now)) c.args.inputs.now (laws.reads_none c.args.inputs.now))
+    (from_unused new_store old new init_course fault (λ e. absurd (cc)) c.init.ensures.course) (λ none. absurd (cc))
+    (λ _. c.init.ensures.looked) c.init.ensures.no_store tt in
     record {
-      runs = subst (λ (own : Command). Runs (seen own) (λ (asked : List ℕ). g.I.Inputs.reads c.args.inputs.now asked c.args.inputs.now) old new fault) (sym c.in-Init.is) own;
-      safe = subst (λ (own : Command). IsSafe (seen own) old new fault) (sym c.in-Init.is) (runs_safe (init_of c.in-Init.store.now) (λ (asked : List ℕ). g.I.Inputs.reads c.args.inputs.now asked c.args.inputs.now) old new fault own);
+      runs = subst (λ (own : Command). Runs (seen own)
+          (λ (asked : List ℕ). g.I.Inputs.reads c.args.inputs.now asked c.args.inputs.now) old new fault) (sym c.in-Init.is) own;
+      safe = subst (λ (own : Command). IsSafe (seen own) old new fault) (sym c.in-Init.is)
+          (runs_safe (init_of c.in-Init.store.now)
+          (λ (asked : List ℕ). g.I.Inputs.reads c.args.inputs.now asked c.args.inputs.now) old new fault own);
     }
 
 pub returns-in-Import : goal.returns-in-Import
@@ -61,10 +83,15 @@ returns-in-Import g c =
     let new = world (g.I.Inputs.view c.import.new.inputs) (g.D.Disk.view c.import.new.disk) (g.S.Sink.view c.import.new.out) in
     let fault = result_err c.import.result in
     let fits = subst (λ (own : Command). FilesFit (seen own)) c.in-Import.is c.requires.fits in
-    let own = runs_by (import_of c.in-Import.store.now c.in-Import.files c.in-Import.buckets c.in-Import.workers) (λ (asked : List ℕ). g.I.Inputs.reads c.args.inputs.now asked c.import.new.inputs) fault old new fits.1 c.import.ensures.asked c.import.ensures.course (λ none. absurd (cc)) (λ not. absurd (not refl)) c.import.ensures.unformatted tt in
+    let own = runs_by (import_of c.in-Import.store.now c.in-Import.files c.in-Import.buckets c.in-Import.workers)
+    (λ (asked : List ℕ). g.I.Inputs.reads c.args.inputs.now asked c.import.new.inputs) fault old new fits.1 c.import.ensures.asked
+    c.import.ensures.course (λ none. absurd (cc)) (λ not. absurd (not refl)) c.import.ensures.unformatted tt in
     record {
-      runs = subst (λ (own : Command). Runs (seen own) (λ (asked : List ℕ). g.I.Inputs.reads c.args.inputs.now asked c.import.new.inputs) old new fault) (sym c.in-Import.is) own;
-      safe = subst (λ (own : Command). IsSafe (seen own) old new fault) (sym c.in-Import.is) (runs_safe (import_of c.in-Import.store.now c.in-Import.files c.in-Import.buckets c.in-Import.workers) (λ (asked : List ℕ). g.I.Inputs.reads c.args.inputs.now asked c.import.new.inputs) old new fault own);
+      runs = subst (λ (own : Command). Runs (seen own)
+          (λ (asked : List ℕ). g.I.Inputs.reads c.args.inputs.now asked c.import.new.inputs) old new fault) (sym c.in-Import.is) own;
+      safe = subst (λ (own : Command). IsSafe (seen own) old new fault) (sym c.in-Import.is)
+          (runs_safe (import_of c.in-Import.store.now c.in-Import.files c.in-Import.buckets c.in-Import.workers)
+          (λ (asked : List ℕ). g.I.Inputs.reads c.args.inputs.now asked c.import.new.inputs) old new fault own);
     }
 
 pub returns-in-Append : goal.returns-in-Append
@@ -74,10 +101,16 @@ returns-in-Append g c =
     let new = world (g.I.Inputs.view c.append.new.inputs) (g.D.Disk.view c.append.new.disk) (g.S.Sink.view c.append.new.out) in
     let fault = result_err c.append.result in
     let fits = subst (λ (own : Command). FilesFit (seen own)) c.in-Append.is c.requires.fits in
-    let own = runs_by (append_of c.in-Append.store.now c.in-Append.files c.in-Append.workers) (λ (asked : List ℕ). g.I.Inputs.reads c.args.inputs.now asked c.append.new.inputs) fault old new fits.0.least c.append.ensures.asked c.append.ensures.course (λ none. absurd (cc)) (λ not. absurd (not refl)) c.append.ensures.unformatted (where_done c.append.result (IsLocal c.in-Append.files old new) c.append.ensures.local) in
+    let own = runs_by (append_of c.in-Append.store.now c.in-Append.files c.in-Append.workers)
+    (λ (asked : List ℕ). g.I.Inputs.reads c.args.inputs.now asked c.append.new.inputs) fault old new fits.0.least c.append.ensures.asked
+    c.append.ensures.course (λ none. absurd (cc)) (λ not. absurd (not refl)) c.append.ensures.unformatted
+    (where_done c.append.result (IsLocal c.in-Append.files old new) c.append.ensures.local) in
     record {
-      runs = subst (λ (own : Command). Runs (seen own) (λ (asked : List ℕ). g.I.Inputs.reads c.args.inputs.now asked c.append.new.inputs) old new fault) (sym c.in-Append.is) own;
-      safe = subst (λ (own : Command). IsSafe (seen own) old new fault) (sym c.in-Append.is) (runs_safe (append_of c.in-Append.store.now c.in-Append.files c.in-Append.workers) (λ (asked : List ℕ). g.I.Inputs.reads c.args.inputs.now asked c.append.new.inputs) old new fault own);
+      runs = subst (λ (own : Command). Runs (seen own)
+          (λ (asked : List ℕ). g.I.Inputs.reads c.args.inputs.now asked c.append.new.inputs) old new fault) (sym c.in-Append.is) own;
+      safe = subst (λ (own : Command). IsSafe (seen own) old new fault) (sym c.in-Append.is)
+          (runs_safe (append_of c.in-Append.store.now c.in-Append.files c.in-Append.workers)
+          (λ (asked : List ℕ). g.I.Inputs.reads c.args.inputs.now asked c.append.new.inputs) old new fault own);
     }
 
 pub returns-in-Export : goal.returns-in-Export
@@ -88,10 +121,17 @@ returns-in-Export g c =
     let new = world (g.I.Inputs.view c.args.inputs.now) (g.D.Disk.view c.export.new.disk) (g.S.Sink.view c.export.new.out) in
     let fault = result_err c.export.result in
     let fits = subst (λ (own : Command). FilesFit (seen own)) c.in-Export.is c.requires.fits in
-    let own = runs_by (export_of c.in-Export.store.now c.in-Export.table.now) (λ (asked : List ℕ). g.I.Inputs.reads c.args.inputs.now asked c.args.inputs.now) fault old new tt (asked_none g.I.Inputs.reads (Names (export_of c.in-Export.store.now c.in-Export.table.now)) c.args.inputs.now (laws.reads_none c.args.inputs.now)) c.export.ensures.course (λ none. absurd (cc)) (λ not. absurd (not refl)) c.export.ensures.unformatted tt in
+    let own = runs_by (export_of c.in-Export.store.now c.in-Export.table.now)
+    (λ (asked : List ℕ). g.I.Inputs.reads c.args.inputs.now asked c.args.inputs.now) fault old new tt
+    (asked_none g.I.Inputs.reads (Names (export_of c.in-Export.store.now c.in-Export.table.now)) c.args.inputs.now
+    (laws.reads_none c.args.inputs.now)) c.export.ensures.course (λ none. absurd (cc))
+    (λ not. absurd (not refl)) c.export.ensures.unformatted tt in
     record {
-      runs = subst (λ (own : Command). Runs (seen own) (λ (asked : List ℕ). g.I.Inputs.reads c.args.inputs.now asked c.args.inputs.now) old new fault) (sym c.in-Export.is) own;
-      safe = subst (λ (own : Command). IsSafe (seen own) old new fault) (sym c.in-Export.is) (runs_safe (export_of c.in-Export.store.now c.in-Export.table.now) (λ (asked : List ℕ). g.I.Inputs.reads c.args.inputs.now asked c.args.inputs.now) old new fault own);
+      runs = subst (λ (own : Command). Runs (seen own)
+          (λ (asked : List ℕ). g.I.Inputs.reads c.args.inputs.now asked c.args.inputs.now) old new fault) (sym c.in-Export.is) own;
+      safe = subst (λ (own : Command). IsSafe (seen own) old new fault) (sym c.in-Export.is)
+          (runs_safe (export_of c.in-Export.store.now c.in-Export.table.now)
+          (λ (asked : List ℕ). g.I.Inputs.reads c.args.inputs.now asked c.args.inputs.now) old new fault own);
     }
 
 pub returns-in-Tiles : goal.returns-in-Tiles
@@ -102,10 +142,17 @@ returns-in-Tiles g c =
     let new = world (g.I.Inputs.view c.args.inputs.now) (g.D.Disk.view c.tiles.new.disk) (g.S.Sink.view c.tiles.new.out) in
     let fault = result_err c.tiles.result in
     let fits = subst (λ (own : Command). FilesFit (seen own)) c.in-Tiles.is c.requires.fits in
-    let own = runs_by (tiles_of c.in-Tiles.store.now c.in-Tiles.least c.in-Tiles.clear) (λ (asked : List ℕ). g.I.Inputs.reads c.args.inputs.now asked c.args.inputs.now) fault old new tt (asked_none g.I.Inputs.reads (Names (tiles_of c.in-Tiles.store.now c.in-Tiles.least c.in-Tiles.clear)) c.args.inputs.now (laws.reads_none c.args.inputs.now)) c.tiles.ensures.course (λ none. absurd (cc)) (λ not. absurd (not refl)) c.tiles.ensures.unformatted tt in
+    let own = runs_by (tiles_of c.in-Tiles.store.now c.in-Tiles.least c.in-Tiles.clear)
+    (λ (asked : List ℕ). g.I.Inputs.reads c.args.inputs.now asked c.args.inputs.now) fault old new tt
+    (asked_none g.I.Inputs.reads (Names (tiles_of c.in-Tiles.store.now c.in-Tiles.least c.in-Tiles.clear)) c.args.inputs.now
+    (laws.reads_none c.args.inputs.now)) c.tiles.ensures.course (λ none. absurd (cc))
+    (λ not. absurd (not refl)) c.tiles.ensures.unformatted tt in
     record {
-      runs = subst (λ (own : Command). Runs (seen own) (λ (asked : List ℕ). g.I.Inputs.reads c.args.inputs.now asked c.args.inputs.now) old new fault) (sym c.in-Tiles.is) own;
-      safe = subst (λ (own : Command). IsSafe (seen own) old new fault) (sym c.in-Tiles.is) (runs_safe (tiles_of c.in-Tiles.store.now c.in-Tiles.least c.in-Tiles.clear) (λ (asked : List ℕ). g.I.Inputs.reads c.args.inputs.now asked c.args.inputs.now) old new fault own);
+      runs = subst (λ (own : Command). Runs (seen own)
+          (λ (asked : List ℕ). g.I.Inputs.reads c.args.inputs.now asked c.args.inputs.now) old new fault) (sym c.in-Tiles.is) own;
+      safe = subst (λ (own : Command). IsSafe (seen own) old new fault) (sym c.in-Tiles.is)
+          (runs_safe (tiles_of c.in-Tiles.store.now c.in-Tiles.least c.in-Tiles.clear)
+          (λ (asked : List ℕ). g.I.Inputs.reads c.args.inputs.now asked c.args.inputs.now) old new fault own);
     }
 
 pub returns-in-Replay : goal.returns-in-Replay
@@ -115,10 +162,15 @@ returns-in-Replay g c =
     let fault = result_err c.replay.result in
     let fits = subst (λ (own : Command). FilesFit (seen own)) c.in-Replay.is c.requires.fits in
     let command = replay_of c.in-Replay.store.now c.in-Replay.files c.in-Replay.workers in
-    let own = runs_by command (λ (asked : List ℕ). g.I.Inputs.reads c.args.inputs.now asked c.replay.new.inputs) fault old new fits.0.least c.replay.ensures.asked (from_unused new_store old new (replay_course c.in-Replay.files) fault (λ e. absurd (cc)) c.replay.ensures.course) (λ none. absurd (cc)) (λ _. c.replay.ensures.looked) (λ is. absurd (c.replay.ensures.formatted is)) tt in
+    let own = runs_by command (λ (asked : List ℕ). g.I.Inputs.reads c.args.inputs.now asked c.replay.new.inputs) fault old new fits.0.least
+    c.replay.ensures.asked (from_unused new_store old new (replay_course c.in-Replay.files) fault
+    (λ e. absurd (cc)) c.replay.ensures.course) (λ none. absurd (cc)) (λ _. c.replay.ensures.looked)
+    (λ is. absurd (c.replay.ensures.formatted is)) tt in
     record {
-      runs = subst (λ (own : Command). Runs (seen own) (λ (asked : List ℕ). g.I.Inputs.reads c.args.inputs.now asked c.replay.new.inputs) old new fault) (sym c.in-Replay.is) own;
-      safe = subst (λ (own : Command). IsSafe (seen own) old new fault) (sym c.in-Replay.is) (runs_safe command (λ (asked : List ℕ). g.I.Inputs.reads c.args.inputs.now asked c.replay.new.inputs) old new fault own);
+      runs = subst (λ (own : Command). Runs (seen own)
+          (λ (asked : List ℕ). g.I.Inputs.reads c.args.inputs.now asked c.replay.new.inputs) old new fault) (sym c.in-Replay.is) own;
+      safe = subst (λ (own : Command). IsSafe (seen own) old new fault) (sym c.in-Replay.is)
+          (runs_safe command (λ (asked : List ℕ). g.I.Inputs.reads c.args.inputs.now asked c.replay.new.inputs) old new fault own);
     }
 
 pub returns-in-Query : goal.returns-in-Query
@@ -128,10 +180,13 @@ returns-in-Query g c =
     let fault = result_err c.query.result in
     let fits = subst (λ (own : Command). FilesFit (seen own)) c.in-Query.is c.requires.fits in
     let command = query_of c.in-Query.store.now c.in-Query.files in
-    let own = runs_by command (λ (asked : List ℕ). g.I.Inputs.reads c.args.inputs.now asked c.query.new.inputs) fault old new fits.1 c.query.ensures.asked c.query.ensures.course (λ none. absurd (cc)) (λ not. absurd (not refl)) c.query.ensures.unformatted tt in
+    let own = runs_by command (λ (asked : List ℕ). g.I.Inputs.reads c.args.inputs.now asked c.query.new.inputs) fault old new fits.1
+    c.query.ensures.asked c.query.ensures.course (λ none. absurd (cc)) (λ not. absurd (not refl)) c.query.ensures.unformatted tt in
     record {
-      runs = subst (λ (own : Command). Runs (seen own) (λ (asked : List ℕ). g.I.Inputs.reads c.args.inputs.now asked c.query.new.inputs) old new fault) (sym c.in-Query.is) own;
-      safe = subst (λ (own : Command). IsSafe (seen own) old new fault) (sym c.in-Query.is) (runs_safe command (λ (asked : List ℕ). g.I.Inputs.reads c.args.inputs.now asked c.query.new.inputs) old new fault own);
+      runs = subst (λ (own : Command). Runs (seen own)
+          (λ (asked : List ℕ). g.I.Inputs.reads c.args.inputs.now asked c.query.new.inputs) old new fault) (sym c.in-Query.is) own;
+      safe = subst (λ (own : Command). IsSafe (seen own) old new fault) (sym c.in-Query.is)
+          (runs_safe command (λ (asked : List ℕ). g.I.Inputs.reads c.args.inputs.now asked c.query.new.inputs) old new fault own);
     }
 
 pub returns-in-Serve : goal.returns-in-Serve
@@ -141,10 +196,13 @@ returns-in-Serve g c =
     let fault = result_err c.serve.result in
     let fits = subst (λ (own : Command). FilesFit (seen own)) c.in-Serve.is c.requires.fits in
     let command = serve_of c.in-Serve.store.now c.in-Serve.files c.in-Serve.workers c.in-Serve.readers in
-    let own = runs_by command (λ (asked : List ℕ). g.I.Inputs.reads c.args.inputs.now asked c.serve.new.inputs) fault old new fits.0.least c.serve.ensures.asked c.serve.ensures.course (λ none. absurd (cc)) (λ not. absurd (not refl)) c.serve.ensures.unformatted tt in
+    let own = runs_by command (λ (asked : List ℕ). g.I.Inputs.reads c.args.inputs.now asked c.serve.new.inputs) fault old new fits.0.least
+    c.serve.ensures.asked c.serve.ensures.course (λ none. absurd (cc)) (λ not. absurd (not refl)) c.serve.ensures.unformatted tt in
     record {
-      runs = subst (λ (own : Command). Runs (seen own) (λ (asked : List ℕ). g.I.Inputs.reads c.args.inputs.now asked c.serve.new.inputs) old new fault) (sym c.in-Serve.is) own;
-      safe = subst (λ (own : Command). IsSafe (seen own) old new fault) (sym c.in-Serve.is) (runs_safe command (λ (asked : List ℕ). g.I.Inputs.reads c.args.inputs.now asked c.serve.new.inputs) old new fault own);
+      runs = subst (λ (own : Command). Runs (seen own)
+          (λ (asked : List ℕ). g.I.Inputs.reads c.args.inputs.now asked c.serve.new.inputs) old new fault) (sym c.in-Serve.is) own;
+      safe = subst (λ (own : Command). IsSafe (seen own) old new fault) (sym c.in-Serve.is)
+          (runs_safe command (λ (asked : List ℕ). g.I.Inputs.reads c.args.inputs.now asked c.serve.new.inputs) old new fault own);
     }
 
 pub returns-in-Migrate : goal.returns-in-Migrate
@@ -155,8 +213,14 @@ returns-in-Migrate g c =
     let new = world (g.I.Inputs.view c.args.inputs.now) (g.D.Disk.view c.migrate.new.disk) (g.S.Sink.view c.migrate.new.out) in
     let fault = result_err c.migrate.result in
     let fits = subst (λ (own : Command). FilesFit (seen own)) c.in-Migrate.is c.requires.fits in
-    let own = runs_by (migrate_of c.in-Migrate.store.now) (λ (asked : List ℕ). g.I.Inputs.reads c.args.inputs.now asked c.args.inputs.now) fault old new tt (asked_none g.I.Inputs.reads (Names (migrate_of c.in-Migrate.store.now)) c.args.inputs.now (laws.reads_none c.args.inputs.now)) c.migrate.ensures.course (λ none. absurd (cc)) (λ not. absurd (not refl)) c.migrate.ensures.unformatted tt in
+    let own = runs_by (migrate_of c.in-Migrate.store.now)
+    (λ (asked : List ℕ). g.I.Inputs.reads c.args.inputs.now asked c.args.inputs.now) fault old new tt
+    (asked_none g.I.Inputs.reads (Names (migrate_of c.in-Migrate.store.now)) c.args.inputs.now (laws.reads_none c.args.inputs.now))
+    c.migrate.ensures.course (λ none. absurd (cc)) (λ not. absurd (not refl)) c.migrate.ensures.unformatted tt in
     record {
-      runs = subst (λ (own : Command). Runs (seen own) (λ (asked : List ℕ). g.I.Inputs.reads c.args.inputs.now asked c.args.inputs.now) old new fault) (sym c.in-Migrate.is) own;
-      safe = subst (λ (own : Command). IsSafe (seen own) old new fault) (sym c.in-Migrate.is) (runs_safe (migrate_of c.in-Migrate.store.now) (λ (asked : List ℕ). g.I.Inputs.reads c.args.inputs.now asked c.args.inputs.now) old new fault own);
+      runs = subst (λ (own : Command). Runs (seen own)
+          (λ (asked : List ℕ). g.I.Inputs.reads c.args.inputs.now asked c.args.inputs.now) old new fault) (sym c.in-Migrate.is) own;
+      safe = subst (λ (own : Command). IsSafe (seen own) old new fault) (sym c.in-Migrate.is)
+          (runs_safe (migrate_of c.in-Migrate.store.now)
+          (λ (asked : List ℕ). g.I.Inputs.reads c.args.inputs.now asked c.args.inputs.now) old new fault own);
     }

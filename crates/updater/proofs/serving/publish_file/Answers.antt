@@ -13,7 +13,8 @@ returns-in-Err-clause-publishes g c = λ old start done held head queries reader
 
 pub returns-in-Err-show_delta-clause-publishes : goal.returns-in-Err-show_delta-clause-publishes
 returns-in-Err-show_delta-clause-publishes g c = λ old start done held head.
-    unshown c.args.bounds.now c.args.file c.in-Ok.delta start done held old (g.I.Inputs.view c.commit_file.new.inputs) (handle_of c.commit_file.new.store) (g.S.Sink.view c.commit_file.new.out)
+    unshown c.args.bounds.now c.args.file c.in-Ok.delta start done held old (g.I.Inputs.view c.commit_file.new.inputs)
+    (handle_of c.commit_file.new.store) (g.S.Sink.view c.commit_file.new.out)
     c.args.publisher.now.front c.show_delta.new.publisher.front (c.in-Ok.ensures.leads old start done held head)
 
 pub returns-clause-publishes : goal.returns-clause-publishes
@@ -23,4 +24,5 @@ returns-clause-publishes g c = λ old start done held head.
 
 pub returns-clause-version : goal.returns-clause-version
 returns-clause-version g c =
-    c.in-Ok.ensures.changes ∙ ap (λ n. n + 1) c.requires.version ∙ sym (shown_version c.args.publisher.now.front c.in-Ok.delta) ∙ ap (λ (front : FrontOf). version_of front) (sym c.in-Ok-show_delta.ensures.shown)
+    c.in-Ok.ensures.changes ∙ ap (λ n. n + 1) c.requires.version ∙ sym (shown_version c.args.publisher.now.front c.in-Ok.delta)
+    ∙ ap (λ (front : FrontOf). version_of front) (sym c.in-Ok-show_delta.ensures.shown)

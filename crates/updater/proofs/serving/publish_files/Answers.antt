@@ -16,7 +16,9 @@ loop-file-init g c =
       begin = refl;
       version = c.requires.version;
       tables = c.requires.tables;
-      turn = λ old start done held asked readers head. first_serving c.args.bounds.now asked readers held c.args.first c.args.count start done old c.args.publisher.now.front (c.args.first + c.args.count - c.args.first) (omega arith)
+      turn = λ old start done held asked readers head.
+          first_serving c.args.bounds.now asked readers held c.args.first c.args.count start done old c.args.publisher.now.front
+          (c.args.first + c.args.count - c.args.first) (omega arith)
           (g.I.Inputs.view c.args.inputs.now) (handle_of c.args.store.now) (g.S.Sink.view c.args.out.now) head;
     }
 
@@ -26,10 +28,13 @@ overflow_sub-file g c = omega (arith, c.loop-file.invariant.least)
 pub returns-in-Err-clause-serves : goal.returns-in-Err-clause-serves
 returns-in-Err-clause-serves g c = record {
   each = λ old start done held asked readers head.
-      ends_in_serving c.args.bounds.now asked readers held c.args.first c.args.count start done old c.args.publisher.now.front c.loop-file.file (c.args.first + c.args.count - c.loop-file.file) (c.args.first + c.args.count - (c.loop-file.file + 1))
-      (omega (arith, c.loop-file-test.true)) (g.I.Inputs.view c.loop-file.inputs) (handle_of c.loop-file.store) (g.S.Sink.view c.loop-file.out) c.loop-file.publisher.front c.publish_file.new.publisher.front
+      ends_in_serving c.args.bounds.now asked readers held c.args.first c.args.count start done old c.args.publisher.now.front
+      c.loop-file.file (c.args.first + c.args.count - c.loop-file.file) (c.args.first + c.args.count - (c.loop-file.file + 1))
+      (omega (arith, c.loop-file-test.true)) (g.I.Inputs.view c.loop-file.inputs) (handle_of c.loop-file.store)
+      (g.S.Sink.view c.loop-file.out) c.loop-file.publisher.front c.publish_file.new.publisher.front
       (c.loop-file.invariant.turn old start done held asked readers head)
-      (g.I.Inputs.view c.publish_file.new.inputs) (handle_of c.publish_file.new.store) (g.S.Sink.view c.publish_file.new.out) c.in-Err.fault c.in-Err.ensures.publishes;
+      (g.I.Inputs.view c.publish_file.new.inputs) (handle_of c.publish_file.new.store)
+      (g.S.Sink.view c.publish_file.new.out) c.in-Err.fault c.in-Err.ensures.publishes;
 }
 
 pub returns-in-Err-clause-stays : goal.returns-in-Err-clause-stays
@@ -41,7 +46,9 @@ returns-in-Err-clause-stays g c = record {
 pub returns-in-Err-clause-asked : goal.returns-in-Err-clause-asked
 returns-in-Err-clause-asked g c =
     let laws = g.met.I.Inputs g.world.𝓛 g.world.𝓜 g.world.𝓡 ((λ s x. x), (λ x. x), (λ x. x), λ x. x) in
-    asked_more g.I.Inputs.reads laws.reads_then (Among c.args.first c.args.count) c.args.inputs.now c.loop-file.inputs c.publish_file.new.inputs c.loop-file.file c.loop-file.invariant.asked c.publish_file.ensures.asked
+    asked_more g.I.Inputs.reads laws.reads_then
+    (Among c.args.first c.args.count) c.args.inputs.now c.loop-file.inputs c.publish_file.new.inputs c.loop-file.file
+    c.loop-file.invariant.asked c.publish_file.ensures.asked
     (c.loop-file.invariant.least, omega (arith, c.loop-file-test.true))
 
 pub loop-file-preserved : goal.loop-file-preserved
@@ -50,7 +57,9 @@ loop-file-preserved g c =
     record {
       least = omega (arith, c.loop-file.invariant.least);
       within = omega (arith, c.loop-file-test.true);
-      asked = asked_more g.I.Inputs.reads laws.reads_then (Among c.args.first c.args.count) c.args.inputs.now c.loop-file.inputs c.publish_file.new.inputs c.loop-file.file c.loop-file.invariant.asked c.publish_file.ensures.asked
+      asked = asked_more g.I.Inputs.reads laws.reads_then
+          (Among c.args.first c.args.count) c.args.inputs.now c.loop-file.inputs c.publish_file.new.inputs c.loop-file.file
+          c.loop-file.invariant.asked c.publish_file.ensures.asked
           (c.loop-file.invariant.least, omega (arith, c.loop-file-test.true));
       stays = record {
         same_disk = c.publish_file.ensures.stays.same_disk ∙ c.loop-file.invariant.stays.same_disk;
@@ -60,18 +69,23 @@ loop-file-preserved g c =
       version = c.in-Ok.ensures.version;
       tables = c.in-Ok.ensures.tables;
       turn = λ old start done held asked readers head.
-          next_serving c.args.bounds.now asked readers held c.args.first c.args.count start done old c.args.publisher.now.front c.loop-file.file (c.args.first + c.args.count - c.loop-file.file) (c.args.first + c.args.count - (c.loop-file.file + 1))
-          (omega (arith, c.loop-file-test.true)) (g.I.Inputs.view c.loop-file.inputs) (handle_of c.loop-file.store) (g.S.Sink.view c.loop-file.out) c.loop-file.publisher.front c.publish_file.new.publisher.front
+          next_serving c.args.bounds.now asked readers held c.args.first c.args.count start done old c.args.publisher.now.front
+          c.loop-file.file (c.args.first + c.args.count - c.loop-file.file) (c.args.first + c.args.count - (c.loop-file.file + 1))
+          (omega (arith, c.loop-file-test.true)) (g.I.Inputs.view c.loop-file.inputs) (handle_of c.loop-file.store)
+          (g.S.Sink.view c.loop-file.out) c.loop-file.publisher.front c.publish_file.new.publisher.front
           (c.loop-file.invariant.turn old start done held asked readers head)
-          (g.I.Inputs.view c.publish_file.new.inputs) (handle_of c.publish_file.new.store) (g.S.Sink.view c.publish_file.new.out) c.in-Ok.ensures.publishes;
+          (g.I.Inputs.view c.publish_file.new.inputs) (handle_of c.publish_file.new.store)
+          (g.S.Sink.view c.publish_file.new.out) c.in-Ok.ensures.publishes;
     }
 
 pub returns-clause-serves : goal.returns-clause-serves
 returns-clause-serves g c = record {
   each = λ old start done held asked readers head.
-      last_serving c.args.bounds.now asked readers held c.args.first c.args.count start done old c.args.publisher.now.front c.loop-file.file (c.args.first + c.args.count - c.loop-file.file) (c.args.first + c.args.count)
+      last_serving c.args.bounds.now asked readers held c.args.first c.args.count start done old c.args.publisher.now.front c.loop-file.file
+      (c.args.first + c.args.count - c.loop-file.file) (c.args.first + c.args.count)
       (omega (arith, c.loop-file-test.false)) (omega (arith, c.loop-file-test.false, c.loop-file.invariant.within))
-      (g.I.Inputs.view c.loop-file.inputs) (handle_of c.loop-file.store) (g.S.Sink.view c.loop-file.out) c.loop-file.publisher.front (c.loop-file.invariant.turn old start done held asked readers head);
+      (g.I.Inputs.view c.loop-file.inputs) (handle_of c.loop-file.store) (g.S.Sink.view c.loop-file.out) c.loop-file.publisher.front
+      (c.loop-file.invariant.turn old start done held asked readers head);
 }
 
 pub returns-clause-stays : goal.returns-clause-stays

@@ -23,8 +23,10 @@ invariant-loop-file g l = record {
   begin : begin_of l.publisher.front ≡ begin_of l.fn.publisher.front;
   version : changes_of (handle_of l.store) ≡ version_of l.publisher.front;
   tables : l.tables ≡ tables_of l.publisher.front;
-  turn : (old : Before) (start done : Progress) (held : Holding) (asked : List Query) (readers : ℕ) → IsHead start done (imported held) l.fn.first old (g.I.Inputs.view l.fn.inputs) (handle_of l.fn.store) (g.S.Sink.view l.fn.out)
-      → IsServing l.fn.bounds asked readers held l.fn.first l.fn.count start done l.file (l.end - l.file) old (g.I.Inputs.view l.inputs) (handle_of l.store) (g.S.Sink.view l.out) l.fn.publisher.front l.publisher.front;
+  turn : (old : Before) (start done : Progress) (held : Holding) (asked : List Query) (readers : ℕ)
+      → IsHead start done (imported held) l.fn.first old (g.I.Inputs.view l.fn.inputs) (handle_of l.fn.store) (g.S.Sink.view l.fn.out)
+      → IsServing l.fn.bounds asked readers held l.fn.first l.fn.count start done l.file (l.end - l.file) old (g.I.Inputs.view l.inputs)
+      (handle_of l.store) (g.S.Sink.view l.out) l.fn.publisher.front l.publisher.front;
 }
 
 abbrev pub decreases-loop-file : goal.decreases-loop-file

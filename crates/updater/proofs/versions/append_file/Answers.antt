@@ -5,12 +5,14 @@ use Rattle.updater.proofs.versions.append_file.Goals as goal
 
 pub returns-clause-leads : goal.returns-clause-leads
 returns-clause-leads g c = λ old start done held head.
-    leads_without c.args.bounds.now c.args.file (Ok c.in-Ok.delta) start done held old (g.I.Inputs.view c.commit_file.new.inputs) (handle_of c.commit_file.new.store) (g.S.Sink.view c.commit_file.new.out)
+    leads_without c.args.bounds.now c.args.file (Ok c.in-Ok.delta) start done held old (g.I.Inputs.view c.commit_file.new.inputs)
+    (handle_of c.commit_file.new.store) (g.S.Sink.view c.commit_file.new.out)
     (c.in-Ok.ensures.leads old start done held head)
 
 pub returns-in-Err-clause-leads : goal.returns-in-Err-clause-leads
 returns-in-Err-clause-leads g c = λ old start done held head.
-    leads_without c.args.bounds.now c.args.file (Err c.in-Err.fault) start done held old (g.I.Inputs.view c.commit_file.new.inputs) (handle_of c.commit_file.new.store) (g.S.Sink.view c.commit_file.new.out)
+    leads_without c.args.bounds.now c.args.file (Err c.in-Err.fault) start done held old (g.I.Inputs.view c.commit_file.new.inputs)
+    (handle_of c.commit_file.new.store) (g.S.Sink.view c.commit_file.new.out)
     (c.in-Err.ensures.leads old start done held head)
 
 pub returns-clause-local : goal.returns-clause-local

@@ -18,10 +18,14 @@ invariant-loop-file g l = record {
   within : l.file ≤ l.end;
   asked : AsksOnly (λ asked. g.I.Inputs.reads l.fn.inputs asked l.inputs) (Among l.fn.first l.fn.count);
   stays : StaysOver l.fn.store l.store;
-  turn : (old : Before) (start done : Progress) (held : Holding) → IsHead start done (imported held) l.fn.first old (g.I.Inputs.view l.fn.inputs) (handle_of l.fn.store) (g.S.Sink.view l.fn.out)
-      → IsVersion l.fn.bounds held l.fn.first l.fn.count start done l.file (l.end - l.file) old (g.I.Inputs.view l.inputs) (handle_of l.store) (g.S.Sink.view l.out);
-  local : (held : Holding) (pages : List (List ℕ)) → IsOpen (imported held) (handle_of l.fn.store) → IsAtRest pages (view_of (handle_of l.fn.store))
-      → AppendsSoFar l.fn.bounds held pages l.fn.first l.file (g.I.Inputs.view l.fn.inputs) (g.I.Inputs.view l.inputs) (handle_of l.fn.store) (handle_of l.store);
+  turn : (old : Before) (start done : Progress) (held : Holding)
+      → IsHead start done (imported held) l.fn.first old (g.I.Inputs.view l.fn.inputs) (handle_of l.fn.store) (g.S.Sink.view l.fn.out)
+      → IsVersion l.fn.bounds held l.fn.first l.fn.count start done l.file (l.end - l.file) old (g.I.Inputs.view l.inputs)
+      (handle_of l.store) (g.S.Sink.view l.out);
+  local : (held : Holding) (pages : List (List ℕ)) → IsOpen (imported held) (handle_of l.fn.store)
+      → IsAtRest pages (view_of (handle_of l.fn.store))
+      → AppendsSoFar l.fn.bounds held pages l.fn.first l.file (g.I.Inputs.view l.fn.inputs) (g.I.Inputs.view l.inputs)
+      (handle_of l.fn.store) (handle_of l.store);
 }
 
 abbrev pub decreases-loop-file : goal.decreases-loop-file

@@ -13,37 +13,62 @@ use Rattle.updater.proofs.versions.commit_file.Goals as goal
 
 pub returns-in-Err-clause-leads : goal.returns-in-Err-clause-leads
 returns-in-Err-clause-leads g c = λ old start done held head.
-    file_unread start done (imported held) c.args.file old (g.I.Inputs.view c.args.inputs.now) (g.I.Inputs.view c.read_change.new.inputs) (handle_of c.args.store.now) (g.S.Sink.view c.args.out.now) head
-    (λ entries. Append c.args.bounds.now entries) (version_line (held.changes + 1)) (λ entries. changed c.args.bounds.now entries held) (λ entries. refl) (λ entries. tt)
+    file_unread start done (imported held) c.args.file old (g.I.Inputs.view c.args.inputs.now) (g.I.Inputs.view c.read_change.new.inputs)
+    (handle_of c.args.store.now) (g.S.Sink.view c.args.out.now) head
+    (λ entries. Append c.args.bounds.now entries) (version_line (held.changes + 1)) (λ entries. changed c.args.bounds.now entries held)
+    (λ entries. refl) (λ entries. tt)
     c.in-Err.fault c.in-Err.ensures.err
 
 pub returns-in-Err-append_one-clause-leads : goal.returns-in-Err-append_one-clause-leads
 returns-in-Err-append_one-clause-leads g c = rw c.in_flow.ensures.fault (λ old start done held head.
-    step_refused start done (imported held) c.args.file old (g.I.Inputs.view c.args.inputs.now) (g.I.Inputs.view c.read_change.new.inputs) (handle_of c.args.store.now) (g.S.Sink.view c.args.out.now) head
-    (λ entries. Append c.args.bounds.now entries) (version_line (held.changes + 1)) (λ entries. changed c.args.bounds.now entries held) (λ entries. refl) (λ entries. tt)
-    c.in-Ok.change c.in-Ok.ensures.ok (handle_of c.append_one.new.self) c.in-Err-append_one.fault c.in-Err-append_one.ensures.takes c.in-Err-append_one.ensures.stays.alone (λ is. c.in-Err-append_one.ensures.stays.broken (ap Err is)) refl (λ is. c.in-Err-append_one.ensures.stays.not_old (ap Err is)) c.in-Err-append_one.ensures.stays.cause)
+    step_refused start done (imported held) c.args.file old (g.I.Inputs.view c.args.inputs.now) (g.I.Inputs.view c.read_change.new.inputs)
+    (handle_of c.args.store.now) (g.S.Sink.view c.args.out.now) head
+    (λ entries. Append c.args.bounds.now entries) (version_line (held.changes + 1)) (λ entries. changed c.args.bounds.now entries held)
+    (λ entries. refl) (λ entries. tt)
+    c.in-Ok.change c.in-Ok.ensures.ok (handle_of c.append_one.new.self) c.in-Err-append_one.fault c.in-Err-append_one.ensures.takes
+    c.in-Err-append_one.ensures.stays.alone (λ is. c.in-Err-append_one.ensures.stays.broken (ap Err is)) refl
+    (λ is. c.in-Err-append_one.ensures.stays.not_old (ap Err is)) c.in-Err-append_one.ensures.stays.cause)
 
 pub returns-in-Ok-tell_version-clause-leads : goal.returns-in-Ok-tell_version-clause-leads
 returns-in-Ok-tell_version-clause-leads g c = λ old start done held head.
     let shown = shows_here done.store done.cut (imported held) (handle_of c.args.store.now) head.here in
-    version_done start done (imported held) c.args.file old (g.I.Inputs.view c.args.inputs.now) (g.I.Inputs.view c.read_change.new.inputs) (handle_of c.args.store.now) (g.S.Sink.view c.args.out.now) head
-    (λ entries. Append c.args.bounds.now entries) (version_line (held.changes + 1)) (λ entries. changed c.args.bounds.now entries held) (λ entries. refl) (λ entries. tt)
+    version_done start done (imported held) c.args.file old (g.I.Inputs.view c.args.inputs.now) (g.I.Inputs.view c.read_change.new.inputs)
+    (handle_of c.args.store.now) (g.S.Sink.view c.args.out.now) head
+    (λ entries. Append c.args.bounds.now entries) (version_line (held.changes + 1)) (λ entries. changed c.args.bounds.now entries held)
+    (λ entries. refl) (λ entries. tt)
     c.in-Ok.change c.in-Ok.ensures.ok (handle_of c.append_one.new.self) c.in-Ok-append_one.ensures.takes
-    (λ shows. record { changes_are = c.in-Ok-append_one.ensures.changes ∙ ap (λ n. n + 1) shows.changes_are; imported_is = c.in-Ok-append_one.ensures.style.0; old_is = c.in-Ok-append_one.ensures.style.1; style_is = c.in-Ok-append_one.ensures.style.2 ∙ shows.style_is })
+    (λ shows. record {
+      changes_are = c.in-Ok-append_one.ensures.changes ∙ ap (λ n. n + 1) shows.changes_are;
+      imported_is =
+          c.in-Ok-append_one.ensures.style.0;
+      old_is = c.in-Ok-append_one.ensures.style.1;
+      style_is =
+          c.in-Ok-append_one.ensures.style.2 ∙ shows.style_is;
+    })
     c.in-Ok-append_one.ensures.stays.whole c.append_one.ensures.stays.over.same_limits c.in-Ok-append_one.ensures.stays.cause
     (λ (next : Holding). IsNext held next c.in-Ok-append_one.delta)
     (version_line c.in-Ok-append_one.delta.version) (g.S.Sink.view c.tell_version.new.out)
     (ap version_line (c.in-Ok-append_one.ensures.version ∙ ap (λ n. n + 1) shown.changes_are))
     c.in-Ok-tell_version.ensures.ok c.in-Ok-tell_version.ensures.cause.later
-    (λ certain. next_by held c.args.bounds.now c.in-Ok.change c.in-Ok-append_one.delta (c.in-Ok-append_one.ensures.delta held (held_certain done held (handle_of c.args.store.now) head.here certain)))
+    (λ certain. next_by held c.args.bounds.now c.in-Ok.change c.in-Ok-append_one.delta
+    (c.in-Ok-append_one.ensures.delta held (held_certain done held (handle_of c.args.store.now) head.here certain)))
 
 pub returns-in-Err-tell_version-clause-leads : goal.returns-in-Err-tell_version-clause-leads
 returns-in-Err-tell_version-clause-leads g c = λ old start done held head.
     let shown = shows_here done.store done.cut (imported held) (handle_of c.args.store.now) head.here in
-    version_told start done (imported held) c.args.file old (g.I.Inputs.view c.args.inputs.now) (g.I.Inputs.view c.read_change.new.inputs) (handle_of c.args.store.now) (g.S.Sink.view c.args.out.now) head
-    (λ entries. Append c.args.bounds.now entries) (version_line (held.changes + 1)) (λ entries. changed c.args.bounds.now entries held) (λ entries. refl) (λ entries. tt)
+    version_told start done (imported held) c.args.file old (g.I.Inputs.view c.args.inputs.now) (g.I.Inputs.view c.read_change.new.inputs)
+    (handle_of c.args.store.now) (g.S.Sink.view c.args.out.now) head
+    (λ entries. Append c.args.bounds.now entries) (version_line (held.changes + 1)) (λ entries. changed c.args.bounds.now entries held)
+    (λ entries. refl) (λ entries. tt)
     c.in-Ok.change c.in-Ok.ensures.ok (handle_of c.append_one.new.self) c.in-Ok-append_one.ensures.takes
-    (λ shows. record { changes_are = c.in-Ok-append_one.ensures.changes ∙ ap (λ n. n + 1) shows.changes_are; imported_is = c.in-Ok-append_one.ensures.style.0; old_is = c.in-Ok-append_one.ensures.style.1; style_is = c.in-Ok-append_one.ensures.style.2 ∙ shows.style_is })
+    (λ shows. record {
+      changes_are = c.in-Ok-append_one.ensures.changes ∙ ap (λ n. n + 1) shows.changes_are;
+      imported_is =
+          c.in-Ok-append_one.ensures.style.0;
+      old_is = c.in-Ok-append_one.ensures.style.1;
+      style_is =
+          c.in-Ok-append_one.ensures.style.2 ∙ shows.style_is;
+    })
     c.in-Ok-append_one.ensures.stays.whole c.append_one.ensures.stays.over.same_limits c.in-Ok-append_one.ensures.stays.cause
     (version_line c.in-Ok-append_one.delta.version) (g.S.Sink.view c.tell_version.new.out) (Err c.in-Err-tell_version.fault)
     (ap version_line (c.in-Ok-append_one.ensures.version ∙ ap (λ n. n + 1) shown.changes_are))
@@ -56,5 +81,6 @@ returns-in-Ok-tell_version-clause-local g c = λ held pages is rests. record {
   others = c.in-Ok.ensures.ok.alone.others;
   opened = (c.in-Ok-append_one.ensures.takes (imported held) is).done refl;
   needed = λ next last. ((c.in-Ok-append_one.ensures.takes (imported held) is).grown tt refl pages next rests last).0;
-  reads = reads_one held c.in-Ok.change pages (view_of (handle_of c.args.store.now)) (view_of (handle_of c.append_one.new.self)) (c.in-Ok-append_one.ensures.reads held is) rests;
+  reads = reads_one held c.in-Ok.change pages (view_of (handle_of c.args.store.now)) (view_of (handle_of c.append_one.new.self))
+      (c.in-Ok-append_one.ensures.reads held is) rests;
 }

@@ -13,9 +13,13 @@ returns c =
     let of_table : List ℕ = table_text c.args.style.now c.args.tables.now c.args.table in
     record {
       text = c.in_ok-push_named.ensures.text
-          ∙ ap (λ (own : List ℕ). before ++ codes "table " ++ encode_utf8_all c.index-definitions-at.result.name ++ codes "\n" ++ own) c.in_ok-text.ensures.text
+          ∙ ap (λ (own : List ℕ). before ++ codes "table " ++ encode_utf8_all c.index-definitions-at.result.name ++ codes "\n" ++ own)
+          c.in_ok-text.ensures.text
           ∙ behind-parts before (codes "table ") (encode_utf8_all c.index-definitions-at.result.name) (codes "\n") of_table
-          ∙ ap (λ (found : Option TableDef). before ++ option_map_or (λ (definition : TableDef). codes "table " ++ encode_utf8_all definition.name ++ codes "\n" ++ of_table) found [])
-          (sym (slice_get_read c.args.definitions.now (length c.args.definitions.now) c.args.table c.index-definitions-at.result refl c.requires.there c.index-definitions-at.is)
+          ∙ ap (λ (found : Option TableDef). before
+          ++ option_map_or (λ (definition : TableDef). codes "table " ++ encode_utf8_all definition.name ++ codes "\n" ++ of_table)
+          found [])
+          (sym (slice_get_read c.args.definitions.now
+          (length c.args.definitions.now) c.args.table c.index-definitions-at.result refl c.requires.there c.index-definitions-at.is)
           ∙ ap (λ (definitions : List TableDef). slice_get definitions c.args.table) c.requires.same);
     }

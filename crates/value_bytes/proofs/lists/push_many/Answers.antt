@@ -13,8 +13,10 @@ loop-value-preserved g c =
     record {
       put = c.in_ok-push_to.ensures.ok ∙ ap (λ (l : List ℕ). l ++ spell c.value-item.result) c.loop-value.invariant.put
           ∙ append_assoc c.args.out.now.items (all_bytes spell (take place values)) (spell c.value-item.result)
-          ∙ ap (λ (l : List ℕ). c.args.out.now.items ++ l) (sym (bytes_more spell values place c.value-item.result c.loop-value-test.true c.value-item.is));
-      are = each_more g.T.Spelled.is values place c.value-item.result c.loop-value-test.true c.value-item.is c.loop-value.invariant.are c.in_ok-push_to.ensures.is;
+          ∙ ap (λ (l : List ℕ). c.args.out.now.items ++ l)
+          (sym (bytes_more spell values place c.value-item.result c.loop-value-test.true c.value-item.is));
+      are = each_more g.T.Spelled.is values place c.value-item.result c.loop-value-test.true c.value-item.is c.loop-value.invariant.are
+          c.in_ok-push_to.ensures.is;
     }
 
 pub returns-clause-ok : goal.returns-clause-ok

@@ -11,8 +11,10 @@ returns-in_default-front_number-clause-none c none =
 
 pub returns-in-Some-key_of-clause-key : goal.returns-in-Some-key_of-clause-key
 returns-in-Some-key_of-clause-key c =
-    key_front c.args.bytes.now c.in-Some.byte c.in-Some.behind.now c.in-Some-front_number.id c.in-Some-front_number.rest.now c.in-Some-key_of.key
-    c.in-Some.ensures.byte c.in-Some-front_number.ensures.number c.in-Some-key_of.ensures.kind c.in-Some-key_of.ensures.id c.in-Some-key_of.ensures.is
+    key_front c.args.bytes.now c.in-Some.byte c.in-Some.behind.now c.in-Some-front_number.id c.in-Some-front_number.rest.now
+    c.in-Some-key_of.key
+    c.in-Some.ensures.byte c.in-Some-front_number.ensures.number c.in-Some-key_of.ensures.kind c.in-Some-key_of.ensures.id
+    c.in-Some-key_of.ensures.is
 
 pub returns-in-None-clause-none : goal.returns-in-None-clause-none
 returns-in-None-clause-none c none =

@@ -14,7 +14,8 @@ returns-in_default-clause-refused c =
 pub returns-in_default-front_text-clause-refused : goal.returns-in_default-front_text-clause-refused
 returns-in_default-front_text-clause-refused c =
     read_refused tag_bytes IsTag c.args.count c.args.bytes.now c.loop.counter c.loop.list c.loop.rest.now c.loop.invariant c.loop-test.true
-    (frontless_second text_bytes IsText text_bytes IsText c.loop.rest.now (chars c.in-Some.key.now) c.in-Some.behind.now c.in-Some.ensures.text
+    (frontless_second text_bytes IsText text_bytes IsText c.loop.rest.now
+    (chars c.in-Some.key.now) c.in-Some.behind.now c.in-Some.ensures.text
     (c.in_default-front_text.ensures.none refl))
 
 pub loop-preserved : goal.loop-preserved
@@ -23,7 +24,8 @@ loop-preserved c =
     (chars c.in-Some.key.now, chars c.in-Some-front_text.value.now) c.in-Some-front_text.behind.now c.loop.invariant c.loop-test.true
     (front_both text_bytes IsText text_bytes IsText c.loop.rest.now (chars c.in-Some.key.now) c.in-Some.behind.now
     (chars c.in-Some-front_text.value.now) c.in-Some-front_text.behind.now c.in-Some.ensures.text c.in-Some-front_text.ensures.text) in
-    subst (λ l. HasRead tag_bytes IsTag c.args.count c.args.bytes.now (c.loop.counter + 1) l c.in-Some-front_text.behind.now) (sym c.in_ok-push.ensures.ok) more
+    subst (λ l. HasRead tag_bytes IsTag c.args.count c.args.bytes.now (c.loop.counter + 1) l c.in-Some-front_text.behind.now)
+    (sym c.in_ok-push.ensures.ok) more
 
 pub returns-clause-tags : goal.returns-clause-tags
 returns-clause-tags c =

@@ -26,11 +26,13 @@ loop-index-preserved c =
 pub returns-clause-ok : goal.returns-clause-ok
 returns-clause-ok c =
     let entries = map.entries c.args.tags.now in
-    let whole : take c.loop-index.index entries ≡ entries = take_all c.loop-index.index entries (omega (arith, c.len-index-end.ensures.count, map.len-entries c.args.tags.now)) in
+    let whole : take c.loop-index.index entries ≡ entries =
+    take_all c.loop-index.index entries (omega (arith, c.len-index-end.ensures.count, map.len-entries c.args.tags.now)) in
     c.loop-index.invariant.put ∙ ap (λ (l : List _). c.args.out.now.items ++ all_bytes tag_bytes l) whole
 
 pub returns-clause-is : goal.returns-clause-is
 returns-clause-is c =
     let entries = map.entries c.args.tags.now in
-    let whole : take c.loop-index.index entries ≡ entries = take_all c.loop-index.index entries (omega (arith, c.len-index-end.ensures.count, map.len-entries c.args.tags.now)) in
+    let whole : take c.loop-index.index entries ≡ entries =
+    take_all c.loop-index.index entries (omega (arith, c.len-index-end.ensures.count, map.len-entries c.args.tags.now)) in
     subst (λ l. AllByRecursion IsTag l) whole c.loop-index.invariant.are

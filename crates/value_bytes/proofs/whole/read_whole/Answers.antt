@@ -9,4 +9,5 @@ returns-in-Err-clause-refused g c =
 
 pub returns-then-not-is_empty-clause-refused : goal.returns-then-not-is_empty-clause-refused
 returns-then-not-is_empty-clause-refused g c =
-    no_value_behind g.T.Spelled.spell g.T.Spelled.is c.args.bytes.now c.in-Ok.found.0 c.in-Ok.found.1.now (λ none. absurd (cc (c.if-not-is_empty.ensures, ap (λ (l : List ℕ). length l == 0) none))) c.in-Ok.ensures.value
+    no_value_behind g.T.Spelled.spell g.T.Spelled.is c.args.bytes.now c.in-Ok.found.0 c.in-Ok.found.1.now
+    (λ none. absurd (cc (c.if-not-is_empty.ensures, ap (λ (l : List ℕ). length l == 0) none))) c.in-Ok.ensures.value

@@ -20,32 +20,40 @@ listers-requires-clause-going g c = spent_going c.args.self.now.buckets c.requir
 pub returns-in-Ok-clause-ids : goal.returns-in-Ok-clause-ids
 returns-in-Ok-clause-ids g c index knows =
     reads_one (finite.get (knows.now.maps RELATIONS_OF_WAYS) c.args.id) c.in-Ok.ids (finite.get knows.maps.relations_of_ways c.args.id)
-    (c.in-Ok.ensures.ids knows.rest knows.now knows.has_it) (knows.listings.relations_of_ways c.args.id) ∙ ap (λ (ix : Index). ix.relations_of_way c.args.id) (sym knows.index_is)
+    (c.in-Ok.ensures.ids knows.rest knows.now knows.has_it) (knows.listings.relations_of_ways c.args.id)
+    ∙ ap (λ (ix : Index). ix.relations_of_way c.args.id) (sym knows.index_is)
 
 pub returns-in-Ok-clause-index : goal.returns-in-Ok-clause-index
 returns-in-Ok-clause-index g c fresh index knows =
     knows_still c.args.self.now.buckets c.listers.new.buckets index (λ rest now owns. c.in-Ok.ensures.has refl rest now owns) knows
 
 pub returns-in-Ok-clause-spent : goal.returns-in-Ok-clause-spent
-returns-in-Ok-clause-spent g c = fresh_after c.args.self.now.buckets c.listers.new.buckets c.requires c.in-Ok.ids c.in-Ok.ensures.touches.answers
+returns-in-Ok-clause-spent g c = fresh_after c.args.self.now.buckets c.listers.new.buckets c.requires c.in-Ok.ids
+    c.in-Ok.ensures.touches.answers
 
 pub returns-in-Ok-clause-asked : goal.returns-in-Ok-clause-asked
 returns-in-Ok-clause-asked g c =
-    asked_ok c.args.self.now.buckets c.listers.new.buckets c.requires (RelationsOfWay c.args.id ∷ []) c.in-Ok.ids c.args.self.now.stopped c.in-Ok.ensures.touches.answers
+    asked_ok c.args.self.now.buckets c.listers.new.buckets c.requires
+    (RelationsOfWay c.args.id ∷ []) c.in-Ok.ids c.args.self.now.stopped c.in-Ok.ensures.touches.answers
     (λ rest now owns. c.in-Ok.ensures.has refl rest now owns)
     (λ rest now owns maps index may all. c.in-Ok.ensures.within may all.0) c.in-Ok.ensures.touches.reads
 
 pub returns-in-Err-clause-index : goal.returns-in-Err-clause-index
-returns-in-Err-clause-index g c fresh = absurd (spent_refused {T = List ℕ} c.args.self.now.buckets c.listers.new.buckets c.in-Err.fault c.in-Err.ensures.touches.answers fresh)
+returns-in-Err-clause-index g c fresh = absurd
+    (spent_refused {T = List ℕ} c.args.self.now.buckets c.listers.new.buckets c.in-Err.fault c.in-Err.ensures.touches.answers fresh)
 
 pub returns-in-Err-clause-refused : goal.returns-in-Err-clause-refused
-returns-in-Err-clause-refused g c = borne c.args.self.now.buckets c.listers.new.buckets c.requires c.in-Err.fault c.in-Err.ensures.touches.answers
+returns-in-Err-clause-refused g c = borne c.args.self.now.buckets c.listers.new.buckets c.requires c.in-Err.fault
+    c.in-Err.ensures.touches.answers
 
 pub returns-in-Err-clause-asked : goal.returns-in-Err-clause-asked
 returns-in-Err-clause-asked g c =
-    asked_err c.args.self.now.buckets c.listers.new.buckets c.requires (RelationsOfWay c.args.id ∷ []) c.in-Err.fault c.args.self.now.stopped c.in-Err.ensures.touches.answers
+    asked_err c.args.self.now.buckets c.listers.new.buckets c.requires
+    (RelationsOfWay c.args.id ∷ []) c.in-Err.fault c.args.self.now.stopped c.in-Err.ensures.touches.answers
     c.in-Err.ensures.has
-    (λ rest now owns. refuses_more (λ at. IsUnread (finite.get (now.maps RELATIONS_OF_WAYS) c.args.id) × (at ≡ page_in c.args.self.now.buckets RELATIONS_OF_WAYS c.args.id))
+    (λ rest now owns. refuses_more (λ at. IsUnread (finite.get (now.maps RELATIONS_OF_WAYS) c.args.id)
+    × (at ≡ page_in c.args.self.now.buckets RELATIONS_OF_WAYS c.args.id))
     (IsDamaged c.args.self.now.buckets now)
-    (λ at bad. inl (record { which = RELATIONS_OF_WAYS; id = c.args.id; is_index = inr (inr refl); unread = bad.0; page_is = bad.1 })) c.in-Err.fault
+    (λ at bad. inl (record { which = RELATIONS_OF_WAYS; id = c.args.id; is_index = inr (inr refl); unread = bad.0; page_is = bad.1 }))
+    c.in-Err.fault
     (c.in-Err.ensures.touches.stops rest now owns))

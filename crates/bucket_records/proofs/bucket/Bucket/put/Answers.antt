@@ -24,7 +24,8 @@ returns-then-are_below-clause-ok c =
     let before : map_of c.self.inside.records ≡ c.args.self.now.values =
     sym (changed-nil (map_of c.self.inside.records)) ∙ ap (λ (l : ChangeList). changed (map_of c.self.inside.records) l) (sym none)
     ∙ ap (λ (b : HeldBucket). b.values) c.self.view_is in
-    let values : changed (map_of c.push.new.self) c.self.inside.changes.entries ≡ map.insert c.args.self.now.values c.args.key c.args.value.now =
+    let values : changed (map_of c.push.new.self) c.self.inside.changes.entries
+    ≡ map.insert c.args.self.now.values c.args.key c.args.value.now =
     ap (λ (l : ChangeList). changed (map_of c.push.new.self) l) none ∙ changed-nil (map_of c.push.new.self)
     ∙ ap map_of more ∙ map_of-push c.self.inside.records c.args.key c.args.value.now c.self.invariant.0 rise above
     ∙ ap (λ (m : BucketMap). map.insert m c.args.key c.args.value.now) before in
@@ -37,7 +38,8 @@ returns-then-are_below-clause-ok c =
 pub returns-clause-ok : goal.returns-clause-ok
 returns-clause-ok c =
     let copied : c.in_ok-own.own.items ≡ c.args.value.now = search rules in
-    let values : changed (map_of c.self.inside.records) c.insert.new.self.entries ≡ map.insert c.args.self.now.values c.args.key c.args.value.now =
+    let values : changed (map_of c.self.inside.records) c.insert.new.self.entries
+    ≡ map.insert c.args.self.now.values c.args.key c.args.value.now =
     changed_more (map_of c.self.inside.records) c.self.inside.changes.entries c.insert.new.self.entries c.args.key (Some c.in_ok-own.own)
     c.in_ok-insert.ensures.updates.0
     ∙ ap (λ (b : HeldBucket). map.insert b.values c.args.key c.in_ok-own.own.items) c.self.view_is

@@ -9,7 +9,13 @@ pub returns-then-known-eq0 : goal.returns-then-known-eq0
 returns-then-known-eq0 c =
     let lie = lies c.self.inside.bytes.items c.self.inside.count c.self.inside.last c.self.inside.marks.items c.args.self.now
     c.self.invariant c.self.view_is in
-    record { within = omega arith; order = omega arith; some = λ some. omega (arith, some); rest = c.as_slice.ensures.value ∙ lie.bytes_are }
+    record {
+      within = omega arith;
+      order = omega arith;
+      some = λ some. omega (arith, some);
+      rest =
+          c.as_slice.ensures.value ∙ lie.bytes_are;
+    }
 
 pub index-requires : goal.index-requires
 index-requires c = omega (arith, c.min-known.ensures, c.if-known-eq0.false, c.len.ensures, c.self.inside.marks.ok.0)

@@ -18,7 +18,8 @@ invariant_of-self-in-Ok c =
     let lie = lies c.self.inside.bytes.items c.self.inside.count c.self.inside.last c.self.inside.marks.items c.args.self.now
     c.self.invariant c.self.view_is in
     let end : c.len-end.result ≡ length bytes = omega (arith, c.len-end.ensures, c.self.inside.bytes.ok.0) in
-    let more = lies_push bytes c.push_record.new.out.items c.self.inside.count c.self.inside.last c.self.inside.marks.items c.mark.new.marks.items
+    let more = lies_push bytes c.push_record.new.out.items c.self.inside.count c.self.inside.last c.self.inside.marks.items
+    c.mark.new.marks.items
     c.args.self.now c.args.key c.args.value.now c.len-end.result lie c.requires.above c.in_default.ensures.is c.in_default.ensures.ok end
     c.in-Ok.ensures.ok in
     lies_indexed c.push_record.new.out.items (c.self.inside.count + 1) c.args.key c.mark.new.marks.items
@@ -30,7 +31,8 @@ returns-in-Ok-clause-ok c =
     let lie = lies c.self.inside.bytes.items c.self.inside.count c.self.inside.last c.self.inside.marks.items c.args.self.now
     c.self.invariant c.self.view_is in
     let end : c.len-end.result ≡ length bytes = omega (arith, c.len-end.ensures, c.self.inside.bytes.ok.0) in
-    let more = lies_push bytes c.push_record.new.out.items c.self.inside.count c.self.inside.last c.self.inside.marks.items c.mark.new.marks.items
+    let more = lies_push bytes c.push_record.new.out.items c.self.inside.count c.self.inside.last c.self.inside.marks.items
+    c.mark.new.marks.items
     c.args.self.now c.args.key c.args.value.now c.len-end.result lie c.requires.above c.in_default.ensures.is c.in_default.ensures.ok end
     c.in-Ok.ensures.ok in
     lies_seen c.push_record.new.out.items (c.self.inside.count + 1) c.args.key c.mark.new.marks.items
@@ -42,7 +44,8 @@ returns-in-Ok-clause-rise c =
     let lie = lies c.self.inside.bytes.items c.self.inside.count c.self.inside.last c.self.inside.marks.items c.args.self.now
     c.self.invariant c.self.view_is in
     let end : c.len-end.result ≡ length bytes = omega (arith, c.len-end.ensures, c.self.inside.bytes.ok.0) in
-    let more = lies_push bytes c.push_record.new.out.items c.self.inside.count c.self.inside.last c.self.inside.marks.items c.mark.new.marks.items
+    let more = lies_push bytes c.push_record.new.out.items c.self.inside.count c.self.inside.last c.self.inside.marks.items
+    c.mark.new.marks.items
     c.args.self.now c.args.key c.args.value.now c.len-end.result lie c.requires.above c.in_default.ensures.is c.in_default.ensures.ok end
     c.in-Ok.ensures.ok in
     let all = lies_indexed c.push_record.new.out.items (c.self.inside.count + 1) c.args.key c.mark.new.marks.items

@@ -9,10 +9,12 @@ use Rattle.chain_store.specs.declared.root.Root.{Root}
 use Rattle.bucket_records.specs.Held.{HeldBucket}
 use Rattle.bucket_store.specs.Buckets.{bucket_count}
 use Rattle.bucket_store.specs.declared.cache.Cached.{Cached}
-use Rattle.bucket_store.proofs.Frames.{alone_of, brings_read, cause_of, keeps_low, keeps_read, keeps_same, leaves_low, leaves_read, quiet_cause}
+use Rattle.bucket_store.proofs.Frames.{alone_of, brings_read, cause_of, keeps_low, keeps_read, keeps_same, leaves_low, leaves_read}
+use Rattle.bucket_store.proofs.Frames.{quiet_cause}
 use Rattle.bucket_store.proofs.Listings.{sound_chain}
 use Rattle.bucket_store.proofs.Once.{read_more, unread_chain}
-use Rattle.bucket_store.proofs.Openings.{buckets_more, buckets_same, content_is, content_more, none_content, none_of, open_later, open_more, put_there, some_of, stored_later, there_own}
+use Rattle.bucket_store.proofs.Openings.{buckets_more, buckets_same, content_is, content_more, none_content, none_of, open_later, open_more}
+use Rattle.bucket_store.proofs.Openings.{put_there, some_of, stored_later, there_own}
 use Rattle.bucket_store.proofs.Origins.{origin_same}
 use Rattle.bucket_store.proofs.Wholes.{bad_more, content_before, same_contents}
 use Rattle.bucket_store.proofs.buckets.Buckets.bring_chain.Goals as goal
@@ -24,14 +26,16 @@ invariant_of-self-in-Ok-add g c =
     ap (λ (r : Root). r.buckets) (sym c.in-Ok.ensures.leaves.stays.root) in
     record {
       going = λ _. c.in-Ok.ensures.leaves.going;
-      own = buckets_same _ _ c.add.new.self many (buckets_more (bucket_count c.args.self.now.chains) c.args.self.now.cache c.add.new.self c.args.n own
+      own = buckets_same _ _ c.add.new.self many
+          (buckets_more (bucket_count c.args.self.now.chains) c.args.self.now.cache c.add.new.self c.args.n own
           c.in-Ok-add.ensures.ok c.args.self.now.own c.requires.bucket c.in-Ok.ensures.own);
       once = λ _.
           let none = none_of c.has.result (map.get c.args.self.now.cache c.args.n) c.has.ensures.1 c.if-has.false in
           let are = c.args.self.now.once c.requires.going in
           read_more c.args.self.now.cache c.add.new.self c.args.n own c.in-Ok-add.ensures.ok _ _ _
           (disk_of c.args.self.now.chains) (disk_of c.read_bucket.new.chains)
-          (c.in-Ok.ensures.leaves.reads (unread_chain _ c.args.self.now.cache c.args.n are c.requires.bucket.0 none)) c.in-Ok.ensures.leaves.known are;
+          (c.in-Ok.ensures.leaves.reads (unread_chain _ c.args.self.now.cache c.args.n are c.requires.bucket.0 none))
+          c.in-Ok.ensures.leaves.known are;
     }
 
 pub returns-then-has-clause-brings : goal.returns-then-has-clause-brings
@@ -41,8 +45,11 @@ returns-then-has-clause-brings g c =
     let found = there_own (map.get self.cache c.args.n) there in
     record {
       there = there;
-      had = λ pages was.
-          (found.0.bucket.values, content_is pages self.chains (map.get self.cache c.args.n) c.args.n found.0 found.0.bucket.values found.1 refl);
+      had = λ pages was. (
+        found.0.bucket.values,
+        content_is pages self.chains
+            (map.get self.cache c.args.n) c.args.n found.0 found.0.bucket.values found.1 refl,
+      );
       answers = λ pages was. tt;
       sound = λ rest now has. tt;
       keeps = keeps_same self (Ok tt);
@@ -78,15 +85,18 @@ returns-in-Ok-add-clause-contents g c =
     record {
       opens = λ pages was.
           let stored = stored_later pages old.chains mid c.args.n c.in-Ok.bucket.values stays (done.answers pages was.open_chains).0 in
-          let origin = origin_same pages old.chains mid c.args.n c.in-Ok.bucket stays.kept (ap (λ (l : Lists). map.get l c.args.n) stays.written)
+          let origin = origin_same pages old.chains mid c.args.n c.in-Ok.bucket stays.kept
+          (ap (λ (l : Lists). map.get l c.args.n) stays.written)
           (done.answers pages was.open_chains).1 in
           open_more pages mid old.cache c.add.new.self c.args.n own c.in-Ok-add.ensures.ok (λ same. stored) origin
           (open_later pages old.chains mid old.cache stays (done.leaves.opens pages was.open_chains) was);
       later = λ pages was other values has.
-          content_more pages old.chains mid old.cache c.add.new.self c.args.n own stays c.in-Ok-add.ensures.ok (done.answers pages was.open_chains).0 none
+          content_more pages old.chains mid old.cache c.add.new.self c.args.n own stays c.in-Ok-add.ensures.ok
+          (done.answers pages was.open_chains).0 none
           other values has;
       before = λ pages was other values has.
-          content_before pages old.chains mid old.cache c.add.new.self c.args.n own stays c.in-Ok-add.ensures.ok (done.answers pages was.open_chains).0 none
+          content_before pages old.chains mid old.cache c.add.new.self c.args.n own stays c.in-Ok-add.ensures.ok
+          (done.answers pages was.open_chains).0 none
           other values has;
       bad = λ pages k at bad. bad_more pages old.chains mid old.cache c.add.new.self c.args.n own stays c.in-Ok-add.ensures.ok k at bad;
     }
@@ -102,7 +112,8 @@ returns-in-Ok-add-clause-brings g c =
       there = some_of _ own (put_there old.cache c.add.new.self c.args.n own c.in-Ok-add.ensures.ok);
       had = λ pages was. (
         c.in-Ok.bucket.values,
-        none_content (map.get old.cache c.args.n) pages old.chains c.args.n c.in-Ok.bucket.values none (done.answers pages was.open_chains).0,
+        none_content (map.get old.cache c.args.n) pages old.chains c.args.n c.in-Ok.bucket.values none
+            (done.answers pages was.open_chains).0,
       );
       answers = λ pages was. tt;
       sound = λ rest now has. tt;

@@ -34,7 +34,8 @@ pub returns-in-Ok-clause-touches : goal.returns-in-Ok-clause-touches
 returns-in-Ok-clause-touches g c =
     let self = c.args.self.now in
     let done = c.in-Ok.ensures in
-    leaves_low _ self _ (Ok c.in-Ok.pages) refl done.looks.stays done.looks.opens done.looks.alone done.looks.broken done.read refl done.looks.cause
+    leaves_low _ self _ (Ok c.in-Ok.pages) refl done.looks.stays done.looks.opens done.looks.alone done.looks.broken done.read refl
+    done.looks.cause
 
 pub returns-in-Err-clause-lists : goal.returns-in-Err-clause-lists
 returns-in-Err-clause-lists g c =
@@ -44,7 +45,8 @@ returns-in-Err-clause-lists g c =
       answers = λ pages was. done.answers pages was.open_chains;
       read = done.read;
       reads = tt;
-      sound = λ rest now has. sound_lists c.in-Err.fault rest now self FREE (inl refl) (λ pages was. done.answers pages was.open_chains) done.looks.alone has;
+      sound = λ rest now has. sound_lists c.in-Err.fault rest now self FREE (inl refl)
+          (λ pages was. done.answers pages was.open_chains) done.looks.alone has;
       keeps = keeps_low self _ (Err c.in-Err.fault) refl done.looks.stays done.looks.opens done.looks.broken;
     }
 
@@ -52,4 +54,5 @@ pub returns-in-Err-clause-touches : goal.returns-in-Err-clause-touches
 returns-in-Err-clause-touches g c =
     let self = c.args.self.now in
     let done = c.in-Err.ensures in
-    leaves_low _ self _ (Err c.in-Err.fault) refl done.looks.stays done.looks.opens done.looks.alone done.looks.broken tt refl done.looks.cause
+    leaves_low _ self _ (Err c.in-Err.fault) refl done.looks.stays done.looks.opens done.looks.alone done.looks.broken tt refl
+    done.looks.cause

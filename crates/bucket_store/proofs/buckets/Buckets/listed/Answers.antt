@@ -15,7 +15,8 @@ returns-clause-records g c =
     let there = there_own (map.get self.cache at) c.requires.there in
     let here = ap (λ (n : ℕ). map.get self.cache n) c.chain_of.ensures.chain ∙ there.1 in
     if_ok c.records.result _ _ c.records.ensures.records (λ records is pages values content.
-    is there.0 here ∙ ap (λ (m : BucketMap). map.entries m) (content_own pages self.chains (map.get self.cache at) at there.0 values there.1 content))
+    is there.0 here ∙ ap (λ (m : BucketMap). map.entries m)
+    (content_own pages self.chains (map.get self.cache at) at there.0 values there.1 content))
 
 pub returns-clause-found : goal.returns-clause-found
 returns-clause-found g c =
@@ -29,5 +30,6 @@ returns-clause-found g c =
       own = own.0;
       part = own.2;
       are = is there.0 here
-          ∙ ap (λ (m : BucketMap). map.entries m) (content_own has.pages self.chains (map.get self.cache at) at there.0 own.0 there.1 own.1);
+          ∙ ap (λ (m : BucketMap). map.entries m) (content_own has.pages self.chains
+          (map.get self.cache at) at there.0 own.0 there.1 own.1);
     })

@@ -26,7 +26,8 @@ returns-in-Ok-clause-text g c =
     let done = c.in-Ok.ensures in
     record {
       found = λ rest now has.
-          loaded_string has.pages (kept_of self.chains) rest.root has.strings has.opens.open_chains.keeps has.state c.args.n (map.get (written_of self.chains) c.args.n)
+          loaded_string has.pages (kept_of self.chains) rest.root has.strings has.opens.open_chains.keeps has.state c.args.n
+          (map.get (written_of self.chains) c.args.n)
           c.in-Ok.bytes (inl c.requires.string) (omega (arith, c.requires.string)) (done.loads.answers has.pages has.opens.open_chains)
           ∙ has.texts c.args.n c.requires.string;
       answers = λ pages was. done.loads.answers pages was.open_chains;
@@ -41,7 +42,8 @@ returns-in-Err-clause-text g c =
     record {
       found = tt;
       answers = λ pages was. done.loads.answers pages was.open_chains;
-      sound = λ rest now has. sound_load (Err c.in-Err.fault) rest now self c.args.n c.requires.string (λ pages was. done.loads.answers pages was.open_chains) done.looks.alone has;
+      sound = λ rest now has. sound_load (Err c.in-Err.fault) rest now self c.args.n c.requires.string
+          (λ pages was. done.loads.answers pages was.open_chains) done.looks.alone has;
       keeps = keeps_low self _ (Err c.in-Err.fault) refl done.looks.stays done.looks.opens done.looks.broken;
     }
 
@@ -56,4 +58,5 @@ pub returns-in-Err-clause-touches : goal.returns-in-Err-clause-touches
 returns-in-Err-clause-touches g c =
     let self = c.args.self.now in
     let done = c.in-Err.ensures in
-    leaves_low _ self _ (Err c.in-Err.fault) refl done.looks.stays done.looks.opens done.looks.alone done.looks.broken tt refl done.looks.cause
+    leaves_low _ self _ (Err c.in-Err.fault) refl done.looks.stays done.looks.opens done.looks.alone done.looks.broken tt refl
+    done.looks.cause

@@ -20,8 +20,11 @@ returns-clause-has g c image fits holds =
     let chains = c.over-2.ensures.chains in
     let view = g.D.Disk.view c.args.disk.now in
     has_anew image c.over-2.result fits.pages holds.has.strings
-    (c.over-2.ensures.open fits.pages (c.over.ensures.open fits.pages
-    (subst (λ d. IsAtRest fits.pages (g.D.Disk.view d)) (sym c.over-journal.ensures.disk) fits.rests, fits.many ∙ sym c.over-journal.ensures.pages) fits.keeps))
+    (c.over-2.ensures.open fits.pages (c.over.ensures.open fits.pages (
+      subst (λ d. IsAtRest fits.pages (g.D.Disk.view d)) (sym c.over-journal.ensures.disk) fits.rests,
+      fits.many
+          ∙ sym c.over-journal.ensures.pages,
+    ) fits.keeps))
     (found_state image view c.args.opened fits holds) holds.has.spells
     (ap (λ k. is_broken (journal_of k)) chains ∙ ap (λ j. is_broken j) c.over.ensures.journal ∙ c.over-journal.ensures.whole)
     (ap (λ k. root_of k) chains ∙ c.over.ensures.root ∙ root_found image view c.args.opened fits holds)

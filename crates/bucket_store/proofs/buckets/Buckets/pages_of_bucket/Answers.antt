@@ -9,14 +9,18 @@ use Rattle.bucket_store.proofs.Frames.{keeps_after}
 use Rattle.bucket_store.proofs.buckets.Buckets.pages_of_bucket.Goals as goal
 
 pub known_pages-requires : goal.known_pages-requires
-known_pages-requires g c = record { there = (c.bring_chain.new.self.once c.in_default.ensures.touches.refused).all c.args.n c.in_default.ensures.brings.there }
+known_pages-requires g c = record {
+  there =
+      (c.bring_chain.new.self.once c.in_default.ensures.touches.refused).all c.args.n c.in_default.ensures.brings.there;
+}
 
 pub returns-in-Ok-clause-lists : goal.returns-in-Ok-clause-lists
 returns-in-Ok-clause-lists g c =
     let done = c.in_default.ensures in
     record {
       answers = λ pages was.
-          subst (λ (kept : Kept). HasPages (page_in pages) (length pages + 1) c.args.n (kept_first kept c.args.n) c.in-Ok.pages) done.touches.stays.kept
+          subst (λ (kept : Kept). HasPages (page_in pages) (length pages + 1) c.args.n (kept_first kept c.args.n) c.in-Ok.pages)
+          done.touches.stays.kept
           ((done.touches.opens pages was).open_chains.known c.args.n c.in-Ok.pages c.in-Ok.ensures.pages);
       sound = λ rest now has. tt;
       keeps = record { content = done.brings.keeps.content; has = λ quiet. done.brings.keeps.has refl };

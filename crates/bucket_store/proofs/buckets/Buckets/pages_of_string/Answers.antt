@@ -14,7 +14,8 @@ invariant_of-self g c =
     record {
       going = λ _. c.in-Ok.ensures.looks.refused;
       own = buckets_same _ _ self.cache (ap (λ (r : Root). r.buckets) (sym c.in-Ok.ensures.looks.stays.root)) self.own;
-      once = λ _. read_string _ c.args.n _ _ self.cache (disk_of self.chains) (disk_of c.pages_of.new.self) c.requires.string c.in-Ok.ensures.reads
+      once = λ _. read_string _ c.args.n _ _ self.cache (disk_of self.chains)
+          (disk_of c.pages_of.new.self) c.requires.string c.in-Ok.ensures.reads
           (self.once c.requires.going);
     }
 
@@ -35,7 +36,8 @@ returns-in-Err-clause-lists g c =
     record {
       answers = λ pages was. lists_string pages self c.args.n c.in-Err.fault c.requires.string (done.answers pages was.open_chains);
       sound = λ rest now has.
-          sound_lists c.in-Err.fault rest now self c.args.n (inr (omega (arith, c.requires.string))) (λ pages was. done.answers pages was.open_chains) done.looks.alone has;
+          sound_lists c.in-Err.fault rest now self c.args.n (inr (omega (arith, c.requires.string)))
+          (λ pages was. done.answers pages was.open_chains) done.looks.alone has;
       keeps = keeps_low self _ (Err c.in-Err.fault) refl done.looks.stays done.looks.opens done.looks.broken;
     }
 
@@ -43,10 +45,12 @@ pub returns-in-Ok-clause-touches : goal.returns-in-Ok-clause-touches
 returns-in-Ok-clause-touches g c =
     let self = c.args.self.now in
     let done = c.in-Ok.ensures in
-    leaves_low _ self _ (Ok c.in-Ok.pages) refl done.looks.stays done.looks.opens done.looks.alone done.looks.broken done.reads refl done.looks.cause
+    leaves_low _ self _ (Ok c.in-Ok.pages) refl done.looks.stays done.looks.opens done.looks.alone done.looks.broken done.reads refl
+    done.looks.cause
 
 pub returns-in-Err-clause-touches : goal.returns-in-Err-clause-touches
 returns-in-Err-clause-touches g c =
     let self = c.args.self.now in
     let done = c.in-Err.ensures in
-    leaves_low _ self _ (Err c.in-Err.fault) refl done.looks.stays done.looks.opens done.looks.alone done.looks.broken tt refl done.looks.cause
+    leaves_low _ self _ (Err c.in-Err.fault) refl done.looks.stays done.looks.opens done.looks.alone done.looks.broken tt refl
+    done.looks.cause

@@ -11,7 +11,8 @@ use Rattle.bucket_store.specs.Transaction.{Content, IsOpenStore, bucket_at}
 use Rattle.bucket_store.proofs.Caches.{true_is_some}
 use Rattle.bucket_store.proofs.Frames.{sets_same, touches_after, touches_none}
 use Rattle.bucket_store.proofs.Once.{read_put}
-use Rattle.bucket_store.proofs.Openings.{bucket_in-chain_at, buckets_more, content_is, content_own, content_apart, keys_put, never_changed, open_more, put_there, some_of, there_own}
+use Rattle.bucket_store.proofs.Openings.{bucket_in-chain_at, buckets_more, content_is, content_own, content_apart, keys_put, never_changed}
+use Rattle.bucket_store.proofs.Openings.{open_more, put_there, some_of, there_own}
 use Rattle.bucket_store.proofs.Holding.{has_changed}
 use Rattle.bucket_store.proofs.Settings.{set_or_same}
 use Rattle.bucket_store.proofs.buckets.Buckets.put.Goals as goal
@@ -29,7 +30,8 @@ invariant_of-self g c =
     record {
       going = c.args.self.now.going;
       own = elim after [
-        | inl one ↦ buckets_more count cache c.put.new.self n (changed_to one.0 (map.insert one.0.bucket.values c.args.key c.args.value.now)) one.2
+        | inl one ↦ buckets_more count cache c.put.new.self n
+            (changed_to one.0 (map.insert one.0.bucket.values c.args.key c.args.value.now)) one.2
             c.args.self.now.own c.chain_of-chain.ensures.is
             (keys_put count (bucket_in n) one.0.bucket.values c.args.key c.args.value.now (c.args.self.now.own n one.0 one.1).1 place)
         | inr same ↦ subst (λ (m : CacheMap). AreBuckets count m) (sym same) c.args.self.now.own
@@ -59,17 +61,20 @@ returns-then-there-clause-value g c =
     let there = ap (λ (k : ℕ). map.get c.put.new.self k) (sym c.chain_of-chain.ensures.chain) ∙ put_there cache c.put.new.self n own is in
     content_is pages self.chains (map.get c.put.new.self at) at own (map.insert values c.args.key c.args.value.now) there
     (ap (λ (m : BucketMap). map.insert m c.args.key c.args.value.now) before) in
-    let others : (pages : List (List ℕ)) → IsOpenStore pages self → (other : ℕ) (values : BucketMap) → other ≢ at → Content pages self other values
+    let others : (pages : List (List ℕ)) → IsOpenStore pages self → (other : ℕ) (values : BucketMap) → other ≢ at
+    → Content pages self other values
     → MatchOption (map.get c.put.new.self other) (Stored pages self.chains other values) (λ it. it.bucket.values ≡ values) =
     λ pages was other values apart has.
-    content_apart pages self.chains cache c.put.new.self n own other values is (λ same. apart (same ∙ c.chain_of-chain.ensures.chain)) has in
+    content_apart pages self.chains cache c.put.new.self n own other values is
+    (λ same. apart (same ∙ c.chain_of-chain.ensures.chain)) has in
     record {
       answers = λ pages was. tt;
       here = put;
       others = others;
       has = λ rest now has.
           has_changed rest now self _ c.args.which c.args.key (Some c.args.value.now) c.requires.which c.requires.some refl refl has.whole
-          (λ pages was. open_more pages self.chains cache c.put.new.self n own is (λ same. absurd (never_changed same)) (was.origins n found.0 found.1) was)
+          (λ pages was. open_more pages self.chains cache c.put.new.self n own is (λ same. absurd (never_changed same))
+          (was.origins n found.0 found.1) was)
           put others has;
       sound = λ rest now has. tt;
     }
@@ -79,7 +84,8 @@ returns-then-there-clause-touches g c =
     let self = c.args.self.now in
     let n = c.chain_of-chain.result in
     let at = bucket_at self c.args.which c.args.key in
-    let found = there_own (map.get self.cache n) (true_is_some c.in-Ok.there (map.get self.cache n) c.in-Ok.ensures.there c.if-there.true) in
+    let found = there_own (map.get self.cache n)
+    (true_is_some c.in-Ok.there (map.get self.cache n) c.in-Ok.ensures.there c.if-there.true) in
     let own : Cached = changed_to found.0 (map.insert found.0.bucket.values c.args.key c.args.value.now) in
     touches_after at self self _ _ (Ok tt) (touches_none at self at c.requires.going) refl
     (λ pages was.
@@ -89,5 +95,6 @@ returns-then-there-clause-touches g c =
 
 pub returns-else-there-clause-value : goal.returns-else-there-clause-value
 returns-else-there-clause-value g c =
-    sets_same c.args.which c.args.key c.args.value.now c.args.self.now _ c.bring_and_set.new.self c.bring_and_set.result refl (c.in-Ok.ensures.none c.if-there.false)
+    sets_same c.args.which c.args.key c.args.value.now c.args.self.now _ c.bring_and_set.new.self c.bring_and_set.result refl
+    (c.in-Ok.ensures.none c.if-there.false)
     c.bring_and_set.ensures.value

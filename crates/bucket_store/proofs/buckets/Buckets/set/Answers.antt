@@ -7,7 +7,8 @@ use Rattle.bucket_store.specs.Buckets.{bucket_count, bucket_in, chain_at}
 use Rattle.bucket_store.specs.Cache.{changed_to}
 use Rattle.bucket_store.specs.declared.cache.Cached.{Cached}
 use Rattle.bucket_store.proofs.Once.{read_put}
-use Rattle.bucket_store.proofs.Openings.{bucket_in-chain_at, buckets_more, content_is, content_own, content_apart, keys_put, never_changed, open_more, put_there, there_own}
+use Rattle.bucket_store.proofs.Openings.{bucket_in-chain_at, buckets_more, content_is, content_own, content_apart, keys_put, never_changed}
+use Rattle.bucket_store.proofs.Openings.{open_more, put_there, there_own}
 use Rattle.std.proofs.Common.{Some, refl}
 use Rattle.bucket_store.proofs.Holding.{has_changed}
 use Rattle.bucket_store.proofs.buckets.Buckets.set.Goals as goal
@@ -17,7 +18,8 @@ invariant_of-self g c =
     let cache = c.args.self.now.cache in
     let n = c.chain_of-n.result in
     let count = bucket_count c.args.self.now.chains in
-    let found = there_own (map.get cache n) (subst (λ (k : ℕ). IsSome (map.get cache k)) (sym c.chain_of-n.ensures.chain) c.requires.there) in
+    let found = there_own (map.get cache n) (subst (λ (k : ℕ). IsSome (map.get cache k))
+    (sym c.chain_of-n.ensures.chain) c.requires.there) in
     let own : Cached = changed_to found.0 (map.insert found.0.bucket.values c.args.key c.args.value.now) in
     let place : c.args.key % count ≡ bucket_in n =
     sym (bucket_in-chain_at count c.args.which c.args.key c.requires.some c.args.self.now.chains.few)
@@ -35,7 +37,8 @@ returns-in-Ok-clause-put g c pages was values has =
     let cache = c.args.self.now.cache in
     let n = c.chain_of-n.result in
     let at = chain_at (bucket_count c.args.self.now.chains) c.args.which c.args.key in
-    let found = there_own (map.get cache n) (subst (λ (k : ℕ). IsSome (map.get cache k)) (sym c.chain_of-n.ensures.chain) c.requires.there) in
+    let found = there_own (map.get cache n) (subst (λ (k : ℕ). IsSome (map.get cache k))
+    (sym c.chain_of-n.ensures.chain) c.requires.there) in
     let own : Cached = changed_to found.0 (map.insert found.0.bucket.values c.args.key c.args.value.now) in
     let here = ap (λ (k : ℕ). map.get cache k) (sym c.chain_of-n.ensures.chain) ∙ found.1 in
     let before = content_own pages c.args.self.now.chains (map.get cache at) at found.0 values here has in
@@ -48,7 +51,8 @@ pub returns-in-Ok-clause-others : goal.returns-in-Ok-clause-others
 returns-in-Ok-clause-others g c pages was other values apart has =
     let cache = c.args.self.now.cache in
     let n = c.chain_of-n.result in
-    let found = there_own (map.get cache n) (subst (λ (k : ℕ). IsSome (map.get cache k)) (sym c.chain_of-n.ensures.chain) c.requires.there) in
+    let found = there_own (map.get cache n) (subst (λ (k : ℕ). IsSome (map.get cache k))
+    (sym c.chain_of-n.ensures.chain) c.requires.there) in
     let own : Cached = changed_to found.0 (map.insert found.0.bucket.values c.args.key c.args.value.now) in
     content_apart pages c.args.self.now.chains cache c.put.new.self n own other values (c.in-Ok.ensures.ok found.0 found.1)
     (λ same. apart (same ∙ c.chain_of-n.ensures.chain)) has
@@ -57,7 +61,8 @@ pub returns-in-Ok-clause-memory : goal.returns-in-Ok-clause-memory
 returns-in-Ok-clause-memory g c =
     let cache = c.args.self.now.cache in
     let n = c.chain_of-n.result in
-    let found = there_own (map.get cache n) (subst (λ (k : ℕ). IsSome (map.get cache k)) (sym c.chain_of-n.ensures.chain) c.requires.there) in
+    let found = there_own (map.get cache n) (subst (λ (k : ℕ). IsSome (map.get cache k))
+    (sym c.chain_of-n.ensures.chain) c.requires.there) in
     let own : Cached = changed_to found.0 (map.insert found.0.bucket.values c.args.key c.args.value.now) in
     record {
       opens = λ pages was.
@@ -69,5 +74,6 @@ returns-in-Ok-clause-memory g c =
 
 pub returns-in-Ok-clause-has : goal.returns-in-Ok-clause-has
 returns-in-Ok-clause-has g c rest now has =
-    has_changed rest now c.args.self.now _ c.args.which c.args.key (Some c.args.value.now) c.requires.which c.requires.some refl refl has.whole
+    has_changed rest now c.args.self.now _ c.args.which c.args.key
+    (Some c.args.value.now) c.requires.which c.requires.some refl refl has.whole
     (returns-in-Ok-clause-memory g c).opens (returns-in-Ok-clause-put g c) (returns-in-Ok-clause-others g c) has

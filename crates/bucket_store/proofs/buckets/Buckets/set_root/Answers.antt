@@ -28,7 +28,8 @@ returns-clause-fields g c =
 
 pub returns-clause-has : goal.returns-clause-has
 returns-clause-has g c rest now has =
-    has_root rest now c.args.self.now _ c.args.root c.requires.same c.set_root.ensures.root c.set_root.ensures.journal c.set_root.ensures.written
+    has_root rest now c.args.self.now _ c.args.root c.requires.same c.set_root.ensures.root c.set_root.ensures.journal
+    c.set_root.ensures.written
     (returns-clause-fields g c).opens
     (λ pages other values content.
     match_like (map.get c.args.self.now.cache other) pages c.args.self.now.chains c.set_root.new.self other values c.set_root.ensures.kept

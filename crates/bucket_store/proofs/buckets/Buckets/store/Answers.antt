@@ -16,10 +16,12 @@ returns-in-Ok-clause-touches g c =
     let done = c.in-Ok.ensures in
     record {
       opens = λ pages was.
-          open_text pages self.chains c.store.new.self c.args.n c.args.bytes c.requires.string done.changes.kept done.changes.root done.puts.written self.cache self.own
+          open_text pages self.chains c.store.new.self c.args.n c.args.bytes c.requires.string done.changes.kept done.changes.root
+          done.puts.written self.cache self.own
           (done.open pages was.open_chains) was;
       content = λ pages was other values above has.
-          match_text pages self.chains c.store.new.self c.args.n c.args.bytes c.requires.string done.changes.kept done.changes.root done.puts.written (map.get self.cache other)
+          match_text pages self.chains c.store.new.self c.args.n c.args.bytes c.requires.string done.changes.kept done.changes.root
+          done.puts.written (map.get self.cache other)
           other values above has;
       cached = refl;
       root = done.changes.root;
@@ -62,7 +64,8 @@ returns-in-Err-clause-text g c =
       answers = λ pages was. done.brings.answers pages was.open_chains;
       has = tt;
       sound = λ rest now has.
-          sound_store (Err c.in-Err.fault) rest now c.args.self.now c.args.n c.requires.string (λ pages was. done.brings.answers pages was.open_chains) done.changes.alone has;
+          sound_store (Err c.in-Err.fault) rest now c.args.self.now c.args.n c.requires.string
+          (λ pages was. done.brings.answers pages was.open_chains) done.changes.alone has;
     }
 
 pub returns-in-Err-clause-touches : goal.returns-in-Err-clause-touches
@@ -71,9 +74,11 @@ returns-in-Err-clause-touches g c =
     let done = c.in-Err.ensures in
     record {
       opens = λ pages was.
-          open_like pages self.chains c.store.new.self self.cache (done.open pages was.open_chains) done.changes.kept done.puts.err (ap (λ (r : Root). r.buckets) done.changes.root) was;
+          open_like pages self.chains c.store.new.self self.cache (done.open pages was.open_chains) done.changes.kept done.puts.err
+          (ap (λ (r : Root). r.buckets) done.changes.root) was;
       content = λ pages was other values above has.
-          match_like (map.get self.cache other) pages self.chains c.store.new.self other values done.changes.kept done.puts.err (ap (λ (r : Root). r.buckets) done.changes.root) has;
+          match_like (map.get self.cache other) pages self.chains c.store.new.self other values done.changes.kept done.puts.err
+          (ap (λ (r : Root). r.buckets) done.changes.root) has;
       cached = refl;
       root = done.changes.root;
       alone = done.changes.alone;

@@ -9,7 +9,8 @@ use Rattle.bucket_store.specs.Buckets.{AreBuckets, AreRead, bucket_count, bucket
 use Rattle.bucket_store.specs.Transaction.{IsOpenWith}
 use Rattle.bucket_store.specs.declared.cache.Cached.{Cached}
 use Rattle.bucket_store.proofs.Once.{read_put}
-use Rattle.bucket_store.proofs.Openings.{buckets_more, content_is, content_own, content_apart, content_same, keys_remove, never_changed, open_more, put_there, taken_own, there_own, took}
+use Rattle.bucket_store.proofs.Openings.{buckets_more, content_is, content_own, content_apart, content_same, keys_remove, never_changed}
+use Rattle.bucket_store.proofs.Openings.{open_more, put_there, taken_own, there_own, took}
 use Rattle.std.proofs.Common.{None, refl}
 use Rattle.bucket_store.proofs.Holding.{has_bucket, has_changed}
 use Rattle.std.specs.Option.{is_some}
@@ -20,7 +21,8 @@ invariant_of-self g c =
     let cache = c.args.self.now.cache in
     let n = c.chain_of-n.result in
     let count = bucket_count c.args.self.now.chains in
-    let found = there_own (map.get cache n) (subst (λ (k : ℕ). IsSome (map.get cache k)) (sym c.chain_of-n.ensures.chain) c.requires.there) in
+    let found = there_own (map.get cache n) (subst (λ (k : ℕ). IsSome (map.get cache k))
+    (sym c.chain_of-n.ensures.chain) c.requires.there) in
     let own : Cached = changed_to found.0 (map.remove found.0.bucket.values c.args.key) in
     record {
       going = c.args.self.now.going;
@@ -41,7 +43,8 @@ returns-in-Ok-clause-taken g c pages was values has =
     let cache = c.args.self.now.cache in
     let n = c.chain_of-n.result in
     let at = chain_at (bucket_count c.args.self.now.chains) c.args.which c.args.key in
-    let found = there_own (map.get cache n) (subst (λ (k : ℕ). IsSome (map.get cache k)) (sym c.chain_of-n.ensures.chain) c.requires.there) in
+    let found = there_own (map.get cache n) (subst (λ (k : ℕ). IsSome (map.get cache k))
+    (sym c.chain_of-n.ensures.chain) c.requires.there) in
     let own : Cached = changed_to found.0 (map.remove found.0.bucket.values c.args.key) in
     let here = ap (λ (k : ℕ). map.get cache k) (sym c.chain_of-n.ensures.chain) ∙ found.1 in
     let before = content_own pages c.args.self.now.chains (map.get cache at) at found.0 values here has in
@@ -63,7 +66,8 @@ pub returns-in-Ok-clause-others : goal.returns-in-Ok-clause-others
 returns-in-Ok-clause-others g c pages was other values apart has =
     let cache = c.args.self.now.cache in
     let n = c.chain_of-n.result in
-    let found = there_own (map.get cache n) (subst (λ (k : ℕ). IsSome (map.get cache k)) (sym c.chain_of-n.ensures.chain) c.requires.there) in
+    let found = there_own (map.get cache n) (subst (λ (k : ℕ). IsSome (map.get cache k))
+    (sym c.chain_of-n.ensures.chain) c.requires.there) in
     let own : Cached = changed_to found.0 (map.remove found.0.bucket.values c.args.key) in
     elim (took c.in-Ok.was cache c.remove.new.self n own (c.in-Ok.ensures.taken found.0 found.1) c.in-Ok.ensures.none) [
       | inl is ↦ content_apart pages c.args.self.now.chains cache c.remove.new.self n own other values is
@@ -75,13 +79,16 @@ pub returns-in-Ok-clause-memory : goal.returns-in-Ok-clause-memory
 returns-in-Ok-clause-memory g c =
     let cache = c.args.self.now.cache in
     let n = c.chain_of-n.result in
-    let found = there_own (map.get cache n) (subst (λ (k : ℕ). IsSome (map.get cache k)) (sym c.chain_of-n.ensures.chain) c.requires.there) in
+    let found = there_own (map.get cache n) (subst (λ (k : ℕ). IsSome (map.get cache k))
+    (sym c.chain_of-n.ensures.chain) c.requires.there) in
     let own : Cached = changed_to found.0 (map.remove found.0.bucket.values c.args.key) in
     record {
-      opens = λ pages was. elim (took c.in-Ok.was cache c.remove.new.self n own (c.in-Ok.ensures.taken found.0 found.1) c.in-Ok.ensures.none) [
-        | inl is ↦ open_more pages c.args.self.now.chains cache c.remove.new.self n own is (λ same. absurd (never_changed same)) (was.origins n found.0 found.1) was
-        | inr same ↦ subst (λ (m : CacheMap). IsOpenWith pages c.args.self.now.chains m) (sym same.1) was
-      ];
+      opens = λ pages was. elim (took c.in-Ok.was cache c.remove.new.self n own
+          (c.in-Ok.ensures.taken found.0 found.1) c.in-Ok.ensures.none) [
+            | inl is ↦ open_more pages c.args.self.now.chains cache c.remove.new.self n own is (λ same. absurd (never_changed same))
+                (was.origins n found.0 found.1) was
+            | inr same ↦ subst (λ (m : CacheMap). IsOpenWith pages c.args.self.now.chains m) (sym same.1) was
+          ];
       chains = refl;
       refused = c.requires.going;
     }

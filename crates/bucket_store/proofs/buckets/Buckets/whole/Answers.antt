@@ -15,7 +15,8 @@ use Rattle.bucket_store.proofs.Holding.{has_bucket, has_later, looks_same, looks
 use Rattle.bucket_store.proofs.KeyReads.{keys_none}
 use Rattle.bucket_store.proofs.Sound.{sound_bring}
 use Rattle.bucket_store.proofs.Writings.{still_then}
-use Rattle.bucket_store.proofs.Wholes.{brings_map, contents_then, gathered_all, none_more, place_low, read_same, read_then, reads_bucket, same_contents, some_later, some_more, sound_of, there_more}
+use Rattle.bucket_store.proofs.Wholes.{brings_map, contents_then, gathered_all, none_more, place_low, read_same, read_then, reads_bucket}
+use Rattle.bucket_store.proofs.Wholes.{same_contents, some_later, some_more, sound_of, there_more}
 use Rattle.bucket_store.proofs.buckets.Buckets.whole.Goals as goal
 
 pub loop-bucket-preserved : goal.loop-bucket-preserved
@@ -39,12 +40,15 @@ loop-bucket-preserved g c =
       contents = contents_then old mid new was.contents done.contents;
       reads = reads_bucket _ which bucket n old mid new at was.stays done.touches.reads was.reads;
       there = λ pages opened.
-          there_more old mid which bucket n c.loop-bucket.whole c.add_bucket.new.whole was.stays was.contents low at done.brings.had done.added pages opened (was.there pages opened);
+          there_more old mid which bucket n c.loop-bucket.whole c.add_bucket.new.whole was.stays was.contents low at done.brings.had
+          done.added pages opened (was.there pages opened);
       some = λ pages opened.
-          some_more old mid which bucket n c.loop-bucket.whole c.add_bucket.new.whole was.stays was.contents low at done.brings.had done.added pages opened
+          some_more old mid which bucket n c.loop-bucket.whole c.add_bucket.new.whole was.stays was.contents low at done.brings.had
+          done.added pages opened
           (was.none pages opened) (was.some pages opened);
       none = λ pages opened.
-          none_more old mid which bucket n c.loop-bucket.whole c.add_bucket.new.whole was.stays was.contents low at done.brings.had done.added pages opened (was.none pages opened);
+          none_more old mid which bucket n c.loop-bucket.whole c.add_bucket.new.whole was.stays was.contents low at done.brings.had
+          done.added pages opened (was.none pages opened);
     }
 
 pub loop-bucket-init : goal.loop-bucket-init
@@ -78,17 +82,21 @@ returns-in-Err-clause-whole g c =
       value = tt;
       found = tt;
       answers = λ pages opened.
-          brings_map BucketMap pages old mid which bucket n c.in-Err.fault was.contents (place_low old mid which bucket n was.stays low c.chain_of-n.ensures.chain)
+          brings_map BucketMap pages old mid which bucket n c.in-Err.fault was.contents
+          (place_low old mid which bucket n was.stays low c.chain_of-n.ensures.chain)
           low (was.there pages opened) (done.brings.answers pages (was.contents.opens pages opened));
       sound = λ rest now has.
           sound_of (Unit {0}) BucketMap c.in-Err.fault
-          (sound_bring {T = Unit {0}} (Err c.in-Err.fault) rest now mid which bucket c.requires.which (some_later old mid was.stays c.requires.some)
-          (λ pages opened. subst (λ (k : ℕ). BringsBucket {T = Unit {0}} pages mid k (Err c.in-Err.fault)) c.chain_of-n.ensures.chain (done.brings.answers pages opened))
+          (sound_bring {T = Unit {0}} (Err c.in-Err.fault) rest now mid which bucket c.requires.which
+          (some_later old mid was.stays c.requires.some)
+          (λ pages opened. subst (λ (k : ℕ). BringsBucket {T = Unit {0}} pages mid k (Err c.in-Err.fault)) c.chain_of-n.ensures.chain
+          (done.brings.answers pages opened))
           done.touches.alone (has_later rest now old mid was.stays (was.still ∙ has.whole) was.contents.opens was.contents.later has));
       keeps = keeps_read {T = BucketMap} old new (Err c.in-Err.fault) (read_then old mid new was.stays done.touches.stays)
           (λ pages opened. done.touches.opens pages (was.contents.opens pages opened))
           (done.touches.broken ∙ ap (λ (b : Bool). b || answers_disk_fault {T = Unit {0}} (Err c.in-Err.fault)) was.still)
-          (λ pages opened other values has. done.brings.keeps.content pages (was.contents.opens pages opened) other values (was.contents.later pages opened other values has));
+          (λ pages opened other values has. done.brings.keeps.content pages (was.contents.opens pages opened) other values
+          (was.contents.later pages opened other values has));
     }
 
 pub returns-in-Err-clause-touches : goal.returns-in-Err-clause-touches
@@ -104,7 +112,11 @@ returns-in-Err-clause-touches g c =
     (alone_of (Unit {0}) BucketMap (is_broken (journal_of (chains_of mid))) c.in-Err.fault done.alone))
     (done.broken ∙ ap (λ (b : Bool). b || answers_disk_fault {T = Unit {0}} (Err c.in-Err.fault)) was.still) tt done.refused
     (cause_of (Unit {0}) BucketMap _ _ c.in-Err.fault
-    (record { later = omega (arith, was.same.later, done.cause.later); failed = λ failed. omega (arith, was.same.later, done.cause.failed failed) }))
+    (record {
+      later = omega (arith, was.same.later, done.cause.later);
+      failed =
+          λ failed. omega (arith, was.same.later, done.cause.failed failed);
+    }))
 
 pub returns-clause-whole : goal.returns-clause-whole
 returns-clause-whole g c =

@@ -22,7 +22,8 @@ invariant-loop-bucket g l = record {
   reads : ReadsKeys (λ m key. m ≡ l.which) l.initial.self l.self;
   there : (pages : List (List ℕ)) → IsOpenStore pages l.initial.self → HasBucketsBefore pages l.initial.self l.which l.bucket;
   some : (pages : List (List ℕ)) → IsOpenStore pages l.initial.self → (key : ℕ) (values : BucketMap)
-      → Content pages l.initial.self (bucket_at l.initial.self l.which key) values → key % bucket_count (chains_of l.initial.self) < l.bucket
+      → Content pages l.initial.self (bucket_at l.initial.self l.which key) values
+      → key % bucket_count (chains_of l.initial.self) < l.bucket
       → map.get l.whole key ≡ map.get values key;
   none : (pages : List (List ℕ)) → IsOpenStore pages l.initial.self → (key : ℕ) → l.bucket ≤ key % bucket_count (chains_of l.initial.self)
       → map.get l.whole key ≡ None;

@@ -9,5 +9,7 @@ use Rattle.bucket_store.proofs.cache.Cache.has.Goals as goal
 pub returns : goal.returns
 returns c =
     let same = c.contains_key.ensures
-    ∙ ap (λ (o : Option Cached). is_some o) (seen_get c.args.n c.self.inside.tree.entries c.args.self.now c.self.view_is) in
-    (true_is_some c.contains_key.result (map.get c.args.self.now c.args.n) same, some_is_true c.contains_key.result (map.get c.args.self.now c.args.n) same)
+    ∙ ap (λ (o : Option Cached). is_some o) (seen_get c.args.n c.self.inside.tree.entries c.args.self.now c.self.view_is) in (
+      true_is_some c.contains_key.result (map.get c.args.self.now c.args.n) same,
+      some_is_true c.contains_key.result (map.get c.args.self.now c.args.n) same,
+    )

@@ -48,7 +48,8 @@ returns-in_err-put-clause-err c =
     let entries = c.self.inside.tree.entries in
     let there = c.in-Some.ensures.value in
     let written = (c.get_mut.follows.holds new).3 (found_is c.args.n entries c.in-Some.cached.now there) in
-    at_err c.from_residual.result _ (inserted nat_cmp nat_cmp_total nat_cmp-IsAntisymmetric c.self.inside.tree (c.get_mut.follows.lender new) c.args.n new written
+    at_err c.from_residual.result _ (inserted nat_cmp nat_cmp_total nat_cmp-IsAntisymmetric c.self.inside.tree
+    (c.get_mut.follows.lender new) c.args.n new written
     ∙ ap (λ (m : CacheMap). map.insert m c.args.n new) c.self.view_is
     ∙ ap (λ (it : Cached). map.insert c.args.self.now c.args.n it) c.in_err-put.ensures.err
     ∙ insert_same c.args.self.now c.args.n c.in-Some.cached.now

@@ -12,5 +12,6 @@ pub returns : goal.returns
 returns c = record {
   records = if_ok c.records.result _ _ c.records.ensures (λ records is own here.
       is ∙ ap (λ (it : Cached). map.entries it.bucket.values)
-      (same_there c.args.n c.self.inside.tree.entries c.args.self.now c.in-Some.cached.now own c.self.view_is c.in-Some.ensures.value here));
+      (same_there c.args.n c.self.inside.tree.entries c.args.self.now c.in-Some.cached.now own c.self.view_is c.in-Some.ensures.value
+      here));
 }

@@ -12,7 +12,9 @@ unreachable-requires c = none_there c.args.n c.self.inside.tree.entries c.args.s
 pub returns : goal.returns
 returns c = record {
   value = λ own here.
-      let same = same_there c.args.n c.self.inside.tree.entries c.args.self.now c.in-Some.cached.now own c.self.view_is c.in-Some.ensures.value here in
-      subst (λ (it : Cached). MatchOption c.get-2.result (map.get it.bucket.values c.args.key ≡ None) (λ value. map.get it.bucket.values c.args.key ≡ Some value.now))
+      let same = same_there c.args.n c.self.inside.tree.entries c.args.self.now c.in-Some.cached.now own c.self.view_is
+      c.in-Some.ensures.value here in
+      subst (λ (it : Cached). MatchOption c.get-2.result (map.get it.bucket.values c.args.key ≡ None)
+      (λ value. map.get it.bucket.values c.args.key ≡ Some value.now))
       same c.get-2.ensures;
 }

@@ -10,5 +10,6 @@ use Rattle.bucket_store.proofs.whole.WholeMap.put.Goals as goal
 
 pub returns-clause-ok : goal.returns-clause-ok
 returns-clause-ok c =
-    inserted nat_cmp nat_cmp_total nat_cmp-IsAntisymmetric c.self.inside.tree c.insert.new.self c.args.key c.args.value c.in_ok-insert.ensures.updates
+    inserted nat_cmp nat_cmp_total nat_cmp-IsAntisymmetric c.self.inside.tree c.insert.new.self c.args.key c.args.value
+    c.in_ok-insert.ensures.updates
     ∙ ap (λ (m : BucketMap). map.insert m c.args.key c.args.value) c.self.view_is

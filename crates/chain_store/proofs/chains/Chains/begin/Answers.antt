@@ -17,7 +17,8 @@ invariant_of-self g c = record {
 
 pub returns-clause-open : goal.returns-clause-open
 returns-clause-open g c = λ pages opened.
-    begun pages c.args.self.now.journal c.args.self.now.kept c.new-2.result c.new-4.result c.new.result c.new-3.result opened.rests opened.keeps
+    begun pages c.args.self.now.journal c.args.self.now.kept c.new-2.result c.new-4.result c.new.result c.new-3.result opened.rests
+    opened.keeps
     c.new-2.ensures.empty c.new-4.ensures.empty c.new-3.ensures.empty
 
 pub returns-clause-anew : goal.returns-clause-anew

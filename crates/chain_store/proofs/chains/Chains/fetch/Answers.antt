@@ -10,7 +10,8 @@ use Rattle.chain_store.specs.Known.{AreHeld, AreKnown, AreStored, Lists}
 use Rattle.chain_store.specs.Links.{page_in}
 use Rattle.chain_store.specs.Store.{kept_first}
 use Rattle.chain_store.proofs.Looks.{looked_same}
-use Rattle.chain_store.proofs.Puts.{get-here, held_bytes, held_put, held_read, known_more, open_held, open_looked, open_more, put_cases, stored_read}
+use Rattle.chain_store.proofs.Puts.{get-here, held_bytes, held_put, held_read, known_more, open_held, open_looked, open_more, put_cases}
+use Rattle.chain_store.proofs.Puts.{stored_read}
 use Rattle.chain_store.proofs.chains.Chains.fetch.Goals as goal
 
 pub invariant_of-self-in-Break-1 : goal.invariant_of-self-in-Break-1
@@ -63,7 +64,8 @@ returns-in_err-hold-clause-looks g c = record {
   opens = λ pages opened.
       let self = c.args.self.now in
       let walks = c.in-Ok.ensures.answers pages opened.rests in
-      open_held pages self.journal c.walk.new.journal self.kept self.read self.texts self.written self.before c.args.n c.from_vec-bytes.result c.hold.new.texts opened
+      open_held pages self.journal c.walk.new.journal self.kept self.read self.texts self.written self.before c.args.n
+      c.from_vec-bytes.result c.hold.new.texts opened
       c.in-Ok.ensures.looks.looked
       (held_bytes pages c.args.n c.first-first.result (kept_first self.kept c.args.n) c.in-Ok.walked.pages.items c.in-Ok.walked.bytes.items
       c.from_vec-bytes.result c.first-first.ensures.first walks.0 walks.1 c.from_vec-bytes.ensures.items)
@@ -80,8 +82,10 @@ returns-in_err-put-clause-looks g c = record {
   opens = λ pages opened.
       let self = c.args.self.now in
       let walks = c.in-Ok.ensures.answers pages opened.rests in
-      subst (λ (lists : Lists). IsOpenStore pages c.walk.new.journal self.kept lists c.hold.new.texts self.written self.before) (sym c.in_err-put.ensures.err)
-      (open_held pages self.journal c.walk.new.journal self.kept self.read self.texts self.written self.before c.args.n c.from_vec-bytes.result c.hold.new.texts opened
+      subst (λ (lists : Lists). IsOpenStore pages c.walk.new.journal self.kept lists c.hold.new.texts self.written self.before)
+      (sym c.in_err-put.ensures.err)
+      (open_held pages self.journal c.walk.new.journal self.kept self.read self.texts self.written self.before c.args.n
+      c.from_vec-bytes.result c.hold.new.texts opened
       c.in-Ok.ensures.looks.looked
       (held_bytes pages c.args.n c.first-first.result (kept_first self.kept c.args.n) c.in-Ok.walked.pages.items c.in-Ok.walked.bytes.items
       c.from_vec-bytes.result c.first-first.ensures.first walks.0 walks.1 c.from_vec-bytes.ensures.items)
@@ -99,16 +103,21 @@ returns-clause-looks g c = record {
       let self = c.args.self.now in
       let walks = c.in-Ok.ensures.answers pages opened.rests in
       let has : HasPages (page_in pages) (length pages + 1) c.args.n (kept_first self.kept c.args.n) c.from_vec.result =
-      subst (λ (ns : List ℕ). HasPages (page_in pages) (length pages + 1) c.args.n (kept_first self.kept c.args.n) ns) (sym c.from_vec.ensures.items)
-      (subst (λ (first : ℕ). HasPages (page_in pages) (length pages + 1) c.args.n first c.in-Ok.walked.pages.items) c.first-first.ensures.first walks.0) in
+      subst (λ (ns : List ℕ). HasPages (page_in pages) (length pages + 1) c.args.n (kept_first self.kept c.args.n) ns)
+      (sym c.from_vec.ensures.items)
+      (subst (λ (first : ℕ). HasPages (page_in pages) (length pages + 1) c.args.n first c.in-Ok.walked.pages.items)
+      c.first-first.ensures.first walks.0) in
       let held : IsOpenStore pages c.walk.new.journal self.kept self.read c.hold.new.texts self.written self.before =
-      open_held pages self.journal c.walk.new.journal self.kept self.read self.texts self.written self.before c.args.n c.from_vec-bytes.result c.hold.new.texts opened
+      open_held pages self.journal c.walk.new.journal self.kept self.read self.texts self.written self.before c.args.n
+      c.from_vec-bytes.result c.hold.new.texts opened
       c.in-Ok.ensures.looks.looked
       (held_bytes pages c.args.n c.first-first.result (kept_first self.kept c.args.n) c.in-Ok.walked.pages.items c.in-Ok.walked.bytes.items
       c.from_vec-bytes.result c.first-first.ensures.first walks.0 walks.1 c.from_vec-bytes.ensures.items)
       c.hold.ensures.more in
-      subst (λ (lists : Lists). IsOpenStore pages c.walk.new.journal self.kept lists c.hold.new.texts self.written self.before) (sym c.in_ok-put.ensures.ok)
-      (open_more pages c.walk.new.journal c.walk.new.journal self.kept self.read c.hold.new.texts self.written self.before c.args.n c.from_vec.result held
+      subst (λ (lists : Lists). IsOpenStore pages c.walk.new.journal self.kept lists c.hold.new.texts self.written self.before)
+      (sym c.in_ok-put.ensures.ok)
+      (open_more pages c.walk.new.journal c.walk.new.journal self.kept self.read c.hold.new.texts self.written self.before c.args.n
+      c.from_vec.result held
       (looked_same c.walk.new.journal) has);
   alone = search rules;
   stays = record { looked = c.walk.ensures.looks.looked; kept = refl; root = refl; written = refl };
@@ -126,7 +135,8 @@ pub returns-in-Err-clause-looks : goal.returns-in-Err-clause-looks
 returns-in-Err-clause-looks g c = record {
   opens = λ pages opened.
       let self = c.args.self.now in
-      open_looked pages self.journal c.walk.new.journal self.kept self.read self.texts self.written self.before opened c.walk.ensures.looks.looked;
+      open_looked pages self.journal c.walk.new.journal self.kept self.read self.texts self.written self.before opened
+      c.walk.ensures.looks.looked;
   alone = search rules;
   stays = record { looked = c.walk.ensures.looks.looked; kept = refl; root = refl; written = refl };
   broken = search rules;
@@ -139,6 +149,7 @@ returns-clause-reads g c =
     let self = c.args.self.now in (
       c.from_vec.result,
       c.in_ok-put.ensures.ok,
-      subst (λ (ns : List ℕ). ReadsAtMost (length ns) (4096 * home_count self.journal) (view_of self.journal) (view_of c.walk.new.journal)) (sym c.from_vec.ensures.items)
+      subst (λ (ns : List ℕ). ReadsAtMost (length ns) (4096 * home_count self.journal) (view_of self.journal) (view_of c.walk.new.journal))
+          (sym c.from_vec.ensures.items)
           c.in-Ok.ensures.reads,
     )

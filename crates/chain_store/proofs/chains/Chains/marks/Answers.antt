@@ -9,7 +9,8 @@ use Rattle.chain_store.proofs.chains.Chains.marks.Goals as goal
 pub returns-in-Some : goal.returns-in-Some
 returns-in-Some g c = record {
   marked = on_value (λ (same : List ℕ). same ≡ same_pages c.as_slice.result.now c.as_slice-in-Some.result.now)
-      (λ (same : List ℕ). (pages : List (List ℕ)) → IsOpen pages c.args.self.now → IsMarked pages c.args.n (first_of c.args.self.now c.args.n) same c.args.bytes.now)
+      (λ (same : List ℕ). (pages : List (List ℕ)) → IsOpen pages c.args.self.now
+      → IsMarked pages c.args.n (first_of c.args.self.now c.args.n) same c.args.bytes.now)
       c.same_pages.result
       (λ same is pages opened. marked_by pages c.args.n (first_of c.args.self.now c.args.n) c.in-Some.text.now c.args.bytes.now same
       c.as_slice.result.now c.as_slice-in-Some.result.now (opened.had c.args.n c.in-Some.text.now (sym c.in-Some.ensures.value))

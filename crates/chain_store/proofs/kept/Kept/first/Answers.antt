@@ -25,7 +25,8 @@ first_of_bucket-requires-clause-whole c =
       buckets_in c.args.self.now.front.items,
       ap (λ (l : List ℕ). length l) (c.deref.ensures.value
           ∙ ap (λ (w : Walked). w.bytes.items) c.index.ensures
-          ∙ bytes_at-get_or c.args.self.now.directories.items c.split-map.result.0 c.index.result.now (omega (arith, map, c.args.self.now.eight)))
+          ∙ bytes_at-get_or c.args.self.now.directories.items c.split-map.result.0 c.index.result.now
+          (omega (arith, map, c.args.self.now.eight)))
           ∙ c.args.self.now.long c.split-map.result.0 map,
     )
 
@@ -36,8 +37,10 @@ returns c = record {
       c.first_of_bucket.ensures
       ∙ ap (λ (l : List ℕ). number l (8 * c.split-map.result.1)) (c.deref.ensures.value
       ∙ ap (λ (w : Walked). w.bytes.items) c.index.ensures
-      ∙ bytes_at-get_or c.args.self.now.directories.items c.split-map.result.0 c.index.result.now (omega (arith, map, c.args.self.now.eight)))
+      ∙ bytes_at-get_or c.args.self.now.directories.items c.split-map.result.0 c.index.result.now
+      (omega (arith, map, c.args.self.now.eight)))
       ∙ ap (λ (m : ℕ). number (bytes_at c.args.self.now.directories.items m) (8 * c.split-map.result.1)) c.split-map.ensures.map
       ∙ ap (λ (b : ℕ). number (bytes_at c.args.self.now.directories.items ((c.args.n - 16) / 65536)) (8 * b)) c.split-map.ensures.bucket
-      ∙ sym (first_in-bucket c.args.self.now.front.items (bytes_at c.args.self.now.directories.items) c.args.n (omega (arith, c.if-n-lt-BUCKET.false)) (omega (arith, c.requires, c.if-n-eq-FREE.false)));
+      ∙ sym (first_in-bucket c.args.self.now.front.items (bytes_at c.args.self.now.directories.items) c.args.n
+      (omega (arith, c.if-n-lt-BUCKET.false)) (omega (arith, c.requires, c.if-n-eq-FREE.false)));
 }

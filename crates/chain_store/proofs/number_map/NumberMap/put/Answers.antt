@@ -8,5 +8,6 @@ use Rattle.chain_store.proofs.number_map.NumberMap.put.Goals as goal
 
 pub returns-clause-ok : goal.returns-clause-ok
 returns-clause-ok g c =
-    inserted nat_cmp nat_cmp_total nat_cmp-IsAntisymmetric c.self.inside.tree c.insert.new.self c.args.n c.args.value c.in_ok-insert.ensures.updates
+    inserted nat_cmp nat_cmp_total nat_cmp-IsAntisymmetric c.self.inside.tree c.insert.new.self c.args.n c.args.value
+    c.in_ok-insert.ensures.updates
     ∙ ap (λ numbers. map.insert numbers c.args.n c.args.value) c.self.view_is

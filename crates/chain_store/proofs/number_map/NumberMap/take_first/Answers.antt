@@ -16,13 +16,15 @@ returns-in-Some g c =
     let value : map.get c.args.self.now c.in-Some.entry.0 ≡ Some c.in-Some.entry.1 =
     sym (found nat_cmp nat_cmp_total nat_cmp-IsAntisymmetric c.in-Some.entry.0 c.self.inside.tree.entries
     ∙ ap (λ numbers. map.get numbers c.in-Some.entry.0) c.self.view_is) ∙ c.in-Some.ensures.value in
-    let rest = removed nat_cmp nat_cmp_total nat_cmp-IsAntisymmetric c.self.inside.tree c.pop_first.new.self c.in-Some.entry.0 c.in-Some.ensures.updates
+    let rest = removed nat_cmp nat_cmp_total nat_cmp-IsAntisymmetric c.self.inside.tree c.pop_first.new.self c.in-Some.entry.0
+    c.in-Some.ensures.updates
     ∙ ap (λ numbers. map.remove numbers c.in-Some.entry.0) c.self.view_is in
     record {
       none = λ is. absurd (cc is);
       value = value;
       rest = rest;
-      fewer = subst (λ numbers. map.len numbers < map.len c.args.self.now) (sym rest) (len-less c.args.self.now c.in-Some.entry.0 c.in-Some.entry.1 value);
+      fewer = subst (λ numbers. map.len numbers < map.len c.args.self.now) (sym rest)
+          (len-less c.args.self.now c.in-Some.entry.0 c.in-Some.entry.1 value);
     }
 
 pub returns-in-None : goal.returns-in-None

@@ -11,9 +11,11 @@ returns c =
     let free : List ℕ = c.args.free.now in
     let spare : List ℕ = c.give_all-2.new.spare.items in
     let spare_is : spare ≡ spare_of parts bases =
-    c.in_ok-give_all-2.ensures ∙ ap (λ (l : List ℕ). l ++ given bases) (c.in_ok-give_all.ensures ∙ ap (λ (l : List ℕ). l ++ given parts) c.new-spare.ensures.items) in
+    c.in_ok-give_all-2.ensures ∙ ap (λ (l : List ℕ). l ++ given bases)
+    (c.in_ok-give_all.ensures ∙ ap (λ (l : List ℕ). l ++ given parts) c.new-spare.ensures.items) in
     let own_is : c.in-Some.own ≡ growth parts = c.in-Some.ensures in
-    let taken_is : c.in-Some-growth_with.taken ≡ wanted parts bases = c.in-Some-growth_with.ensures ∙ ap (λ (n : ℕ). n + growth bases) own_is in
+    let taken_is : c.in-Some-growth_with.taken ≡ wanted parts bases =
+    c.in-Some-growth_with.ensures ∙ ap (λ (n : ℕ). n + growth bases) own_is in
     let pages_are : c.in_ok-pages.pages.items ≡ whole_pool parts bases free c.args.home =
     c.in_ok-pages.ensures.pool
     ∙ ap (λ (n : ℕ). (spare ++ free) ++ up_from c.args.home (n - (length spare + length free))) taken_is

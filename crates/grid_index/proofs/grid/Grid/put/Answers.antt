@@ -19,4 +19,5 @@ invariant_of-self-in_default c =
     let old = c.self.inside.marks.keys in
     let mid = c.add_mark.new.marks.keys in
     let adds = subst (λ mark. Adds mark old mid) c.mark_of-mark.ensures.mark c.in_ok-add_mark.ensures.ok in
-    subst (AreMarked mid) (sym c.in_ok-before.ensures.ok) (put_marked old mid (boxes_in c.self.inside.boxes) c.args.spot c.args.around adds c.self.invariant)
+    subst (AreMarked mid) (sym c.in_ok-before.ensures.ok)
+    (put_marked old mid (boxes_in c.self.inside.boxes) c.args.spot c.args.around adds c.self.invariant)

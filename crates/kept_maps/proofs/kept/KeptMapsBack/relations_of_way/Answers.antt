@@ -17,7 +17,9 @@ returns-clause-index g c fresh index knows =
 pub returns-clause-spent : goal.returns-clause-spent
 returns-clause-spent g c =
     let new = c.relations_of_way.new.self in
-    on_ok (List ℕ) _ _ c.relations_of_way.result (λ still. fresh_asked c.args.self.now new.buckets _ new.stopped c.requires c.relations_of_way.ensures.asked still) c.relations_of_way.ensures.spent
+    on_ok (List ℕ) _ _ c.relations_of_way.result
+    (λ still. fresh_asked c.args.self.now new.buckets _ new.stopped c.requires c.relations_of_way.ensures.asked still)
+    c.relations_of_way.ensures.spent
 
 pub returns-clause-asked : goal.returns-clause-asked
 returns-clause-asked g c = record { asked = c.relations_of_way.ensures.asked; same_style = refl }

@@ -17,7 +17,9 @@ returns-clause-index g c fresh index knows =
 pub returns-clause-spent : goal.returns-clause-spent
 returns-clause-spent g c =
     let new = c.ways_of_node.new.self in
-    on_ok (List ℕ) _ _ c.ways_of_node.result (λ still. fresh_asked c.args.self.now new.buckets _ new.stopped c.requires c.ways_of_node.ensures.asked still) c.ways_of_node.ensures.spent
+    on_ok (List ℕ) _ _ c.ways_of_node.result
+    (λ still. fresh_asked c.args.self.now new.buckets _ new.stopped c.requires c.ways_of_node.ensures.asked still)
+    c.ways_of_node.ensures.spent
 
 pub returns-clause-asked : goal.returns-clause-asked
 returns-clause-asked g c = record { asked = c.ways_of_node.ensures.asked; same_style = refl }

@@ -15,12 +15,14 @@ listers-requires-clause-going g c = over_going c.args.self.now c.requires
 
 pub returns-in-Ok-clause-ids : goal.returns-in-Ok-clause-ids
 returns-in-Ok-clause-ids g c under maps had =
-    list_found had.now 5 c.args.id maps.relations_of_ways had.kept.relations_of_ways c.in-Ok.ids (c.in-Ok.ensures.ids under.rest had.now had.has)
+    list_found had.now 5 c.args.id maps.relations_of_ways had.kept.relations_of_ways c.in-Ok.ids
+    (c.in-Ok.ensures.ids under.rest had.now had.has)
 
 pub returns-in-Ok-clause-looks : goal.returns-in-Ok-clause-looks
 returns-in-Ok-clause-looks g c =
     looks_done c.args.self.now _ c.requires refl c.in-Ok.ids refl
-    (touched_index (buckets_of c.args.self.now) c.listers.new.buckets (Ok c.in-Ok.ids) c.in-Ok.ensures.touches.answers c.in-Ok.ensures.touches.reads)
+    (touched_index (buckets_of c.args.self.now) c.listers.new.buckets
+    (Ok c.in-Ok.ids) c.in-Ok.ensures.touches.answers c.in-Ok.ensures.touches.reads)
     (c.in-Ok.ensures.has refl)
 
 pub returns-in-Err-clause-looks : goal.returns-in-Err-clause-looks
@@ -28,5 +30,6 @@ returns-in-Err-clause-looks g c =
     looks_stopped c.args.self.now _ c.requires refl (List ℕ) c.in-Err.fault refl
     (touched_index (buckets_of c.args.self.now) c.listers.new.buckets {T = List ℕ} (Err c.in-Err.fault) c.in-Err.ensures.touches.answers tt)
     (λ under maps had.
-    list_allowed had.now 5 c.args.id maps.relations_of_ways had.kept.relations_of_ways (page_in (buckets_of c.args.self.now) 5 c.args.id) c.in-Err.fault
+    list_allowed had.now 5 c.args.id maps.relations_of_ways had.kept.relations_of_ways
+    (page_in (buckets_of c.args.self.now) 5 c.args.id) c.in-Err.fault
     (c.in-Err.ensures.touches.stops under.rest had.now had.has))

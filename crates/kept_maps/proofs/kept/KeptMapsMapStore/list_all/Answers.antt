@@ -17,4 +17,5 @@ pub returns-in-Err-clause-sets : goal.returns-in-Err-clause-sets
 returns-in-Err-clause-sets g c = sets_stopped c.args.self.now _ c.requires refl (Unit {0}) c.in-Err.fault refl c.in-Err.ensures.puts.touched
 
 pub returns-in-Err-clause-allowed : goal.returns-in-Err-clause-allowed
-returns-in-Err-clause-allowed g c under maps had = allowed_sound (Unit {0}) c.in-Err.fault (c.in-Err.ensures.puts.sound under.rest had.now had.has)
+returns-in-Err-clause-allowed g c under maps had =
+    allowed_sound (Unit {0}) c.in-Err.fault (c.in-Err.ensures.puts.sound under.rest had.now had.has)

@@ -18,4 +18,5 @@ returns-in-Ok-clause-looks g c =
 pub returns-in-Err-clause-looks : goal.returns-in-Err-clause-looks
 returns-in-Err-clause-looks g c =
     looks_stopped c.args.self.now _ c.requires refl (Option PlaceOf) c.in-Err.fault refl c.in-Err.ensures.asks.touched
-    (λ under maps had. allowed_sound (Option PlaceOf) c.in-Err.fault ((c.in-Err.ensures.finds (style_in c.args.self.now).tables).sound under maps had))
+    (λ under maps had. allowed_sound (Option PlaceOf) c.in-Err.fault
+    ((c.in-Err.ensures.finds (style_in c.args.self.now).tables).sound under maps had))

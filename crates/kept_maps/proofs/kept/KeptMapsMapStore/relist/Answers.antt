@@ -14,7 +14,9 @@ pub returns-in-Ok-clause-sets : goal.returns-in-Ok-clause-sets
 returns-in-Ok-clause-sets g c = sets_done c.args.self.now _ c.requires.spent refl tt refl c.in-Ok.ensures.touched
 
 pub returns-in-Err-clause-sets : goal.returns-in-Err-clause-sets
-returns-in-Err-clause-sets g c = sets_stopped c.args.self.now _ c.requires.spent refl (Unit {0}) c.in-Err.fault refl c.in-Err.ensures.touched
+returns-in-Err-clause-sets g c = sets_stopped c.args.self.now _ c.requires.spent refl
+    (Unit {0}) c.in-Err.fault refl c.in-Err.ensures.touched
 
 pub returns-in-Err-clause-allowed : goal.returns-in-Err-clause-allowed
-returns-in-Err-clause-allowed g c under maps had told = allowed_sound (Unit {0}) c.in-Err.fault (c.in-Err.ensures.sound (style_in c.args.self.now).tables under maps had told)
+returns-in-Err-clause-allowed g c under maps had told =
+    allowed_sound (Unit {0}) c.in-Err.fault (c.in-Err.ensures.sound (style_in c.args.self.now).tables under maps had told)

@@ -13,7 +13,9 @@ pub returns-in-Ok-clause-sets : goal.returns-in-Ok-clause-sets
 returns-in-Ok-clause-sets g c = sets_done c.args.self.now _ c.requires.spent refl tt refl c.in-Ok.ensures.puts.touched
 
 pub returns-in-Err-clause-sets : goal.returns-in-Err-clause-sets
-returns-in-Err-clause-sets g c = sets_stopped c.args.self.now _ c.requires.spent refl (Unit {0}) c.in-Err.fault refl c.in-Err.ensures.puts.touched
+returns-in-Err-clause-sets g c = sets_stopped c.args.self.now _ c.requires.spent refl
+    (Unit {0}) c.in-Err.fault refl c.in-Err.ensures.puts.touched
 
 pub returns-in-Err-clause-allowed : goal.returns-in-Err-clause-allowed
-returns-in-Err-clause-allowed g c under maps had = allowed_sound (Unit {0}) c.in-Err.fault (c.in-Err.ensures.puts.sound under.rest had.now had.has)
+returns-in-Err-clause-allowed g c under maps had =
+    allowed_sound (Unit {0}) c.in-Err.fault (c.in-Err.ensures.puts.sound under.rest had.now had.has)

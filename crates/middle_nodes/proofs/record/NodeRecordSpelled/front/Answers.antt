@@ -7,7 +7,8 @@ returns-in-Err-clause-refused c = needs_more c.in-Err.fault (record_no_place c.a
 
 pub returns-in-Err-front-clause-refused : goal.returns-in-Err-front-clause-refused
 returns-in-Err-front-clause-refused c =
-    needs_more c.in-Err-front.fault (record_no_tags c.args.bytes.now c.in-Ok.found.0 c.in-Ok.found.1.now c.in-Ok.ensures.value) c.in-Err-front.ensures.refused
+    needs_more c.in-Err-front.fault (record_no_tags c.args.bytes.now c.in-Ok.found.0 c.in-Ok.found.1.now c.in-Ok.ensures.value)
+    c.in-Err-front.ensures.refused
 
 pub returns-clause-value : goal.returns-clause-value
 returns-clause-value c =

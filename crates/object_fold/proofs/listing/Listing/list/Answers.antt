@@ -11,7 +11,8 @@ pub returns-in_err-add-clause-err : goal.returns-in_err-add-clause-err
 returns-in_err-add-clause-err c =
     let tree = c.self.inside.lists in
     let written = c.get_mut.follows.lender c.add.new.self in
-    let sets = written-sets tree written c.args.id c.add.new.self ((c.get_mut.follows.holds c.add.new.self).3 (some_found tree c.args.id c.in-Some.ids.now c.in-Some.ensures.value)) in
+    let sets = written-sets tree written c.args.id c.add.new.self
+    ((c.get_mut.follows.holds c.add.new.self).3 (some_found tree c.args.id c.in-Some.ids.now c.in-Some.ensures.value)) in
     let same : c.add.new.self ≡ listers (in_tree tree) c.args.id
     = c.in_err-add.ensures.err ∙ ap (λ found. unwrap_or found []) c.in-Some.ensures.value ∙ sym (listers_in tree c.args.id) in
     let kept = subst (λ (old : ListingOf). Lists [] c.args.lister old (in_tree written)) c.self.view_is
@@ -22,7 +23,8 @@ pub returns-in-Some-clause-ok : goal.returns-in-Some-clause-ok
 returns-in-Some-clause-ok c =
     let tree = c.self.inside.lists in
     let written = c.get_mut.follows.lender c.add.new.self in
-    let sets = written-sets tree written c.args.id c.add.new.self ((c.get_mut.follows.holds c.add.new.self).3 (some_found tree c.args.id c.in-Some.ids.now c.in-Some.ensures.value)) in
+    let sets = written-sets tree written c.args.id c.add.new.self
+    ((c.get_mut.follows.holds c.add.new.self).3 (some_found tree c.args.id c.in-Some.ids.now c.in-Some.ensures.value)) in
     let was : c.in-Some.ids.now ≡ listers (in_tree tree) c.args.id
     = ap (λ found. unwrap_or found []) c.in-Some.ensures.value ∙ sym (listers_in tree c.args.id) in
     subst (λ (old : ListingOf). Lists (c.args.id ∷ []) c.args.lister old (in_tree written)) c.self.view_is
@@ -33,7 +35,8 @@ pub returns-clause-ok : goal.returns-clause-ok
 returns-clause-ok c =
     let tree = c.self.inside.lists in
     let sets = written-sets tree c.insert.new.self c.args.id c.add-2.new.self
-    (subst (λ old. Updates nat_cmp old c.insert.new.self c.args.id (Some c.add-2.new.self)) c.get_mut.follows.holds-at-none c.in_ok-insert.ensures.updates) in
+    (subst (λ old. Updates nat_cmp old c.insert.new.self c.args.id (Some c.add-2.new.self)) c.get_mut.follows.holds-at-none
+    c.in_ok-insert.ensures.updates) in
     let was : [] ≡ listers (in_tree tree) c.args.id
     = ap (λ found. unwrap_or found []) c.in_default.ensures.value ∙ sym (listers_in tree c.args.id) in
     subst (λ (old : ListingOf). Lists (c.args.id ∷ []) c.args.lister old (in_tree c.insert.new.self)) c.self.view_is

@@ -13,7 +13,8 @@ returns-in_default c =
     let was : listers (in_tree tree) c.args.id ≡ []
     = listers_in tree c.args.id ∙ ap (λ found. unwrap_or found []) (sym c.in_default.ensures.value) in
     record {
-      left = subst (λ (own : BTreeMap ℕ (List ℕ)). Unlists (c.args.id ∷ []) [] c.args.lister c.args.self.now (in_tree own)) (sym c.get_mut.follows.holds-at-none)
+      left = subst (λ (own : BTreeMap ℕ (List ℕ)). Unlists (c.args.id ∷ []) [] c.args.lister c.args.self.now (in_tree own))
+          (sym c.get_mut.follows.holds-at-none)
           (subst (λ (old : ListingOf). Unlists (c.args.id ∷ []) [] c.args.lister old (in_tree tree)) c.self.view_is
           (unlists-none (in_tree tree) c.args.id c.args.lister was));
     }
@@ -32,14 +33,16 @@ returns-then-is_empty c =
     record {
       left = subst (Unlists (c.args.id ∷ []) [] c.args.lister c.args.self.now) (sym kept)
           (subst (λ (old : ListingOf). Unlists (c.args.id ∷ []) [] c.args.lister old (in_tree last)) c.self.view_is
-          (unlists-set (in_tree tree) (in_tree last) c.args.id c.args.lister [] sets (subst (λ old. Leaves c.args.lister old []) was none)));
+          (unlists-set (in_tree tree) (in_tree last) c.args.id c.args.lister [] sets
+          (subst (λ old. Leaves c.args.lister old []) was none)));
     }
 
 pub returns-else-is_empty : goal.returns-else-is_empty
 returns-else-is_empty c =
     let tree = c.self.inside.lists in
     let written = c.get_mut.follows.lender c.take_out.new.self in
-    let sets = written-sets tree written c.args.id c.take_out.new.self ((c.get_mut.follows.holds c.take_out.new.self).3 (some_found tree c.args.id c.in-Some.ids.now c.in-Some.ensures.value)) in
+    let sets = written-sets tree written c.args.id c.take_out.new.self
+    ((c.get_mut.follows.holds c.take_out.new.self).3 (some_found tree c.args.id c.in-Some.ids.now c.in-Some.ensures.value)) in
     let was : c.in-Some.ids.now ≡ listers (in_tree tree) c.args.id
     = ap (λ found. unwrap_or found []) c.in-Some.ensures.value ∙ sym (listers_in tree c.args.id) in
     record {

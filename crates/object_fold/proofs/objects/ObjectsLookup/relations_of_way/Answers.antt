@@ -5,8 +5,10 @@ use Rattle.object_fold.proofs.objects.ObjectsLookup.relations_of_way.Goals as go
 
 pub returns : goal.returns
 returns c =
-    let is = relations_of_ways-are c.self.inside.objects c.self.inside.listings c.args.self.now c.self.view_is c.self.invariant c.args.id c.listers.result.now c.listers.ensures.ids c.listers.ensures.rise in
+    let is = relations_of_ways-are c.self.inside.objects c.self.inside.listings c.args.self.now c.self.view_is c.self.invariant c.args.id
+    c.listers.result.now c.listers.ensures.ids c.listers.ensures.rise in
     record {
       relations = is;
-      rising = subst AreRisingIds (sym is) (relations_of_ways-ids c.self.inside.objects c.self.inside.listings c.args.self.now c.self.view_is c.self.invariant c.args.id);
+      rising = subst AreRisingIds (sym is) (relations_of_ways-ids c.self.inside.objects c.self.inside.listings c.args.self.now
+          c.self.view_is c.self.invariant c.args.id);
     }

@@ -16,7 +16,8 @@ returns-in-Ok c =
     let stands = subst (λ ids. StandsAt ids c.args.id c.in-Ok.at) c.as_slice.ensures.value c.in-Ok.ensures.ok in
     record {
       left = subst (λ new. Leaves c.args.id c.args.self.now new) (sym c.remove.ensures.items)
-          (subst (λ old. Leaves c.args.id old (remove ids c.in-Ok.at)) c.self.view_is (has-remove ids c.in-Ok.at c.args.id c.self.invariant stands));
+          (subst (λ old. Leaves c.args.id old (remove ids c.in-Ok.at)) c.self.view_is
+          (has-remove ids c.in-Ok.at c.args.id c.self.invariant stands));
     }
 
 pub returns-in_default : goal.returns-in_default

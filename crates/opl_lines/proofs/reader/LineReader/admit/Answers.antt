@@ -3,7 +3,8 @@ use Rattle.opl_lines.proofs.reader.LineReader.admit.Goals as goal
 
 pub returns-in-None-clause-line_bytes : goal.returns-in-None-clause-line_bytes
 returns-in-None-clause-line_bytes c =
-    let alike = passes_as_grows c.args.self.now c.args.piece.now _ _ c.refusal.ensures.limits.within_line c.up_to_newline-ends.ensures.front in (
+    let alike = passes_as_grows c.args.self.now c.args.piece.now _ _ c.refusal.ensures.limits.within_line
+    c.up_to_newline-ends.ensures.front in (
       λ is. absurd (cc),
       λ passes. absurd (let is = c.in-None.ensures.line_bytes.1 (alike.0 passes) in cc),
     )
@@ -15,7 +16,8 @@ returns-in-Some-clause-err c =
 
 pub returns-in-Some-clause-line_bytes : goal.returns-in-Some-clause-line_bytes
 returns-in-Some-clause-line_bytes c =
-    let alike = passes_as_grows c.args.self.now c.args.piece.now _ _ c.refusal.ensures.limits.within_line c.up_to_newline-ends.ensures.front in (
+    let alike = passes_as_grows c.args.self.now c.args.piece.now _ _ c.refusal.ensures.limits.within_line
+    c.up_to_newline-ends.ensures.front in (
       λ is. alike.1 (c.in-Some.ensures.line_bytes.0 (cc)),
       λ passes. let is = c.in-Some.ensures.line_bytes.1 (alike.0 passes) in cc,
     )

@@ -12,4 +12,5 @@ pub returns-clause-lines : goal.returns-clause-lines
 returns-clause-lines c =
     let open_line = ap (λ whole. cond whole [] c.self.inside.line.items) c.if-self.false in
     ap lines_of (ap begun (sym c.self.view_is) ∙ open_line)
-    ∙ lines_of-last c.self.inside.line.items (subst IsWithinLine open_line c.self.invariant.within_line) (c.self.invariant.has_bytes c.if-self.false)
+    ∙ lines_of-last c.self.inside.line.items (subst IsWithinLine open_line c.self.invariant.within_line)
+    (c.self.invariant.has_bytes c.if-self.false)

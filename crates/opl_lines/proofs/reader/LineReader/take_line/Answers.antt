@@ -19,6 +19,7 @@ returns-clause-ok c =
       | else-whole-2 w ↦ ap (λ whole. cond whole (Some kept) None) w.if-whole-2.false ∙ sym (ap (λ line. ended_line line kept) w.line-is)
     ] in
     subst (Takes c.args.self.now c.add.new.self c.args.piece.now _) ended
-    (takes_as_grown c.args.self.now c.admit.new.self c.add.new.self c.args.piece.now c.in_ok-front.front.now c.in_ok-front.whole c.from.result
+    (takes_as_grown c.args.self.now c.admit.new.self c.add.new.self c.args.piece.now c.in_ok-front.front.now c.in_ok-front.whole
+    c.from.result
     c.in_ok-front.ensures.unchanged c.in_ok-add.ensures.ok c.from.ensures
     c.requires.some c.in_ok-front.ensures.limits c.in_ok-front.ensures.fits c.in_ok-front.ensures.front)

@@ -23,7 +23,8 @@ returns-then-is_negative-clause-written c =
     ap is_negative (sym (to_z-of_z w32 c.args.units c.ranges.units)) ∙ sym c.is_negative.ensures ∙ c.if-is_negative.true in
     let size : c.unsigned_abs-size.result ≡ unsigned_abs c.args.units =
     c.unsigned_abs-size.ensures.value ∙ ap unsigned_abs (to_z-of_z w32 c.args.units c.ranges.units) in
-    let before : 1 ≤ c.write_digits-whole.result = omega (arith, length-decimal-le 3 c.from.result (omega arith) (omega arith) (omega arith)) in
+    let before : 1 ≤ c.write_digits-whole.result =
+    omega (arith, length-decimal-le 3 c.from.result (omega arith) (omega arith) (omega arith)) in
     let there : c.write_digits-whole.result - 1 < length c.write_digits-whole.new.buf = omega arith in
     let next : c.write_digits-whole.result - 1 + 1 ≡ c.write_digits-whole.result = omega arith in
     drop-set c.write_digits-whole.new.buf (c.write_digits-whole.result - 1) 45 there

@@ -45,5 +45,6 @@ returns c =
       within = tt;
       found = tt;
       absent = λ _. find-BelongsAt (chars c.args.key.now) (pairs_of c.args.text.now c.args.spans.now) c.loop-low.low
-          (BelongsAt-IsBetween (chars c.args.key.now) (pairs_of c.args.text.now c.args.spans.now) c.loop-low.low c.loop-low.high c.loop-low.invariant (omega arith));
+          (BelongsAt-IsBetween (chars c.args.key.now)
+          (pairs_of c.args.text.now c.args.spans.now) c.loop-low.low c.loop-low.high c.loop-low.invariant (omega arith));
     }

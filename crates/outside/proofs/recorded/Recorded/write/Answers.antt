@@ -13,5 +13,6 @@ returns-clause-time c =
     let seen = c.as_slice.ensures.value in
     let same : first_bytes new old.bytes.items ≡ first_bytes old.start old.bytes.items =
     ap (λ (l : List ℕ). first_bytes new l) (sym seen) ∙ c.keep_first.ensures.same ∙ ap (λ (l : List ℕ). first_bytes old.start l) seen in
-    subst (λ (l : List ℕ). Elapses (crashes_of (first_bytes old.start old.bytes.items) old.calls.items) (crashes_of l c.write_over.new.calls.items)) (sym same ∙ kept)
+    subst (λ (l : List ℕ). Elapses (crashes_of (first_bytes old.start old.bytes.items) old.calls.items)
+    (crashes_of l c.write_over.new.calls.items)) (sym same ∙ kept)
     (c.write_over.ensures.time (first_bytes old.start old.bytes.items))

@@ -15,15 +15,24 @@ pub write_through-requires-clause-below : goal.write_through-requires-clause-bel
 write_through-requires-clause-below g c =
     let es = plain c.set.inside.pages.entries in
     let same = plain_long c.set.inside.pages.entries in
-    λ place inside. set_below es c.set.invariant.sorted c.args.set.now c.set.view_is c.args.self.now.pages c.args.home c.requires place (omega (arith, inside, same))
+    λ place inside. set_below es c.set.invariant.sorted c.args.set.now c.set.view_is c.args.self.now.pages c.args.home c.requires place
+    (omega (arith, inside, same))
 
 pub write_through-requires-clause-fits : goal.write_through-requires-clause-fits
 write_through-requires-clause-fits g c =
     let es = plain c.set.inside.pages.entries in
     let same = plain_long c.set.inside.pages.entries in
     record {
-      some = omega (arith, set_some es c.set.invariant.sorted c.args.set.now c.set.view_is c.args.self.now.pages c.args.home c.requires, same);
-      few = omega (arith, set_few es c.set.invariant.sorted c.args.set.now c.set.view_is c.args.self.now.pages c.args.home c.requires, same);
+      some = omega (
+        arith,
+        set_some es c.set.invariant.sorted c.args.set.now c.set.view_is c.args.self.now.pages c.args.home c.requires,
+        same,
+      );
+      few = omega (
+        arith,
+        set_few es c.set.invariant.sorted c.args.set.now c.set.view_is c.args.self.now.pages c.args.home c.requires,
+        same,
+      );
       room = search rules;
     }
 
@@ -33,7 +42,9 @@ returns-in-Ok-clause-any_moment g c =
     let same = plain_long c.set.inside.pages.entries in
     λ old rest long.
     let new = overwritten c.args.set.now c.args.home old in
-    let makes = subst (λ (n : ℕ). Makes es n c.args.home old new) same (set_makes es c.set.invariant.sorted c.args.set.now c.set.view_is c.args.self.now.pages c.args.home c.requires old long c.args.self.now.some) in
+    let makes = subst (λ (n : ℕ). Makes es n c.args.home old new) same
+    (set_makes es c.set.invariant.sorted c.args.set.now c.set.view_is c.args.self.now.pages c.args.home c.requires old long
+    c.args.self.now.some) in
     c.write_through.ensures.any_moment old new rest.0 rest.1 makes
 
 pub returns-in-Ok-clause-done : goal.returns-in-Ok-clause-done
@@ -42,7 +53,9 @@ returns-in-Ok-clause-done g c =
     let same = plain_long c.set.inside.pages.entries in
     λ old rest long.
     let new = overwritten c.args.set.now c.args.home old in
-    let makes = subst (λ (n : ℕ). Makes es n c.args.home old new) same (set_makes es c.set.invariant.sorted c.args.set.now c.set.view_is c.args.self.now.pages c.args.home c.requires old long c.args.self.now.some) in
+    let makes = subst (λ (n : ℕ). Makes es n c.args.home old new) same
+    (set_makes es c.set.invariant.sorted c.args.set.now c.set.view_is c.args.self.now.pages c.args.home c.requires old long
+    c.args.self.now.some) in
     c.in-Ok.ensures.done old new rest.0 rest.1 makes
 
 pub returns-in-Err-clause-any_moment : goal.returns-in-Err-clause-any_moment
@@ -51,5 +64,7 @@ returns-in-Err-clause-any_moment g c =
     let same = plain_long c.set.inside.pages.entries in
     λ old rest long.
     let new = overwritten c.args.set.now c.args.home old in
-    let makes = subst (λ (n : ℕ). Makes es n c.args.home old new) same (set_makes es c.set.invariant.sorted c.args.set.now c.set.view_is c.args.self.now.pages c.args.home c.requires old long c.args.self.now.some) in
+    let makes = subst (λ (n : ℕ). Makes es n c.args.home old new) same
+    (set_makes es c.set.invariant.sorted c.args.set.now c.set.view_is c.args.self.now.pages c.args.home c.requires old long
+    c.args.self.now.some) in
     c.write_through.ensures.any_moment old new rest.0 rest.1 makes

@@ -10,7 +10,8 @@ pub returns-then-not-are_within : goal.returns-then-not-are_within
 returns-then-not-are_within c = (
   λ no. absurd (cc),
   λ can.
-      let yes = c.are_within.ensures.1 (entries_within (plain c.self.inside.pages.entries) c.self.invariant.sorted c.args.self.now c.self.view_is c.args.home can.within) in
+      let yes = c.are_within.ensures.1 (entries_within
+      (plain c.self.inside.pages.entries) c.self.invariant.sorted c.args.self.now c.self.view_is c.args.home can.within) in
       cc (c.if-not-are_within.true, yes),
 )
 

@@ -15,7 +15,8 @@ closed c =
     let nones = ap (λ (z : SeatView). z.nones) c.seat.view_is in
     let whole = ap (λ (z : BookView). z.share) c.self.view_is in
     subst (λ (size : Size). Closed size c.word-draws.result c.seat.inside.place.me.0) key
-    (closes_final c.self.inside.table.shared.key _ c.seat.inside.place.me.0 _ _ c.word-draws.result c.close_with-closed.ensures.values.2 c.word-draws.ensures (omega arith) (omega arith))
+    (closes_final c.self.inside.table.shared.key _ c.seat.inside.place.me.0 _ _ c.word-draws.result c.close_with-closed.ensures.values.2
+    c.word-draws.ensures (omega arith) (omega arith))
 
 pub invariant_of-result : goal.invariant_of-result
 invariant_of-result c =

@@ -11,6 +11,8 @@ returns g c =
     let new : Asker = c.ask_round-answered.new.self in
     record {
       answered = λ style front rounds asked none.
-          answered_last style front c.args.told c.args.queries.now rounds old mid new asked refl refl c.learn.ensures.longer c.learn.ensures.told
-          (round_answered c.ask_round-answered.result (AsksRound c.args.queries.now mid new) (new.stopped ≡ None) c.ask_round-answered.ensures.round c.ask_round-answered.ensures.stopped none) none;
+          answered_last style front c.args.told c.args.queries.now rounds old mid new asked refl refl c.learn.ensures.longer
+          c.learn.ensures.told
+          (round_answered c.ask_round-answered.result (AsksRound c.args.queries.now mid new)
+          (new.stopped ≡ None) c.ask_round-answered.ensures.round c.ask_round-answered.ensures.stopped none) none;
     }

@@ -5,4 +5,5 @@ use Rattle.reader_rounds.proofs.asker.Asker.ask_rounds.Given as goal
 
 -- so many rounds were asked
 abbrev pub invariant-loop : goal.invariant-loop
-invariant-loop g l = (style : StyleOf) (front : FrontOf) → HasAsked style front l.queries 0 l.fn.self → HasAsked style front l.queries l.counter l.self
+invariant-loop g l = (style : StyleOf) (front : FrontOf) → HasAsked style front l.queries 0 l.fn.self
+    → HasAsked style front l.queries l.counter l.self

@@ -26,9 +26,15 @@ returns-in-None g c =
     let queries : List Query = c.args.queries.now in
     let rounds : List (List Answer) = c.ask_last.new.self.rounds in
     let own = c.ask_last.ensures.answered style (begin_of last) c.args.rounds c.requires.asked c.in-None.is in
-    let served = served_open style (begin_of last) last (begins_all last) tables c.args.version c.requires.tables c.requires.version queries c.args.rounds rounds own in
-    let settled = subst (λ (asked : List Query). IfOk c.settle_rounds.result (λ given. given ≡ map (settled_all style tables c.args.version asked) rounds)) c.as_slice-queries.ensures.items c.settle_rounds.ensures.settled in
-    record { served = ok_as c.settle_rounds.result (map (settled_all style tables c.args.version queries) rounds) (AreServed style last queries c.args.rounds) settled served }
+    let served = served_open style (begin_of last) last
+    (begins_all last) tables c.args.version c.requires.tables c.requires.version queries c.args.rounds rounds own in
+    let settled = subst (λ (asked : List Query).
+    IfOk c.settle_rounds.result (λ given. given ≡ map (settled_all style tables c.args.version asked) rounds))
+    c.as_slice-queries.ensures.items c.settle_rounds.ensures.settled in
+    record {
+      served = ok_as c.settle_rounds.result (map (settled_all style tables c.args.version queries) rounds)
+          (AreServed style last queries c.args.rounds) settled served;
+    }
 
 pub returns-in-Some-Shut : goal.returns-in-Some-Shut
 returns-in-Some-Shut g c =
@@ -36,6 +42,12 @@ returns-in-Some-Shut g c =
     let tables = c.args.tables.now in
     let last = c.args.told in
     let queries : List Query = c.args.queries.now in
-    let served = served_shut style (begin_of last) last (begins_all last) tables c.args.version c.requires.tables c.requires.version queries c.args.rounds in
-    let given = subst (λ (asked : List Query). IfOk c.all_last.result (λ given. given ≡ shut_rounds c.args.rounds (map (answered style tables c.args.version) asked))) c.as_slice-queries.ensures.items c.all_last.ensures.last in
-    record { served = ok_as c.all_last.result (shut_rounds c.args.rounds (map (answered style tables c.args.version) queries)) (AreServed style last queries c.args.rounds) given served }
+    let served = served_shut style (begin_of last) last
+    (begins_all last) tables c.args.version c.requires.tables c.requires.version queries c.args.rounds in
+    let given = subst (λ (asked : List Query).
+    IfOk c.all_last.result (λ given. given ≡ shut_rounds c.args.rounds (map (answered style tables c.args.version) asked)))
+    c.as_slice-queries.ensures.items c.all_last.ensures.last in
+    record {
+      served = ok_as c.all_last.result (shut_rounds c.args.rounds (map (answered style tables c.args.version) queries))
+          (AreServed style last queries c.args.rounds) given served;
+    }

@@ -15,13 +15,22 @@ loop-asker-preserved g c =
     let rounds : List (List Answer) = c.in_ok-finish.field-0 in
     let taken = c.in-Some.ensures.steps.0 in
     let pushed : c.push.new.self ≡ c.loop-asker.blocks ++ rounds ∷ [] = c.in_ok-push.ensures.ok in
-    let told : c.tell-told.result ≡ last = c.tell-told.ensures.told ∙ ap (λ (publisher : PublisherOf). publisher.front) c.loop-asker.invariant.same in
-    let served : AreServed style last queries c.args.rounds rounds = subst (λ (front : FrontOf). AreServed style front queries c.args.rounds rounds) told c.in_ok-finish.ensures.served in
-    let own = more_served style last queries c.args.rounds (into_iter_items c.loop-asker.asker-iterator) (into_iter_items c.next.new.self) c.in-Some.asker c.loop-asker.blocks c.push.new.self rounds taken pushed
+    let told : c.tell-told.result ≡ last = c.tell-told.ensures.told
+    ∙ ap (λ (publisher : PublisherOf). publisher.front) c.loop-asker.invariant.same in
+    let served : AreServed style last queries c.args.rounds rounds =
+    subst (λ (front : FrontOf). AreServed style front queries c.args.rounds rounds) told c.in_ok-finish.ensures.served in
+    let own = more_served style last queries c.args.rounds (into_iter_items c.loop-asker.asker-iterator)
+    (into_iter_items c.next.new.self) c.in-Some.asker c.loop-asker.blocks c.push.new.self rounds taken pushed
     c.loop-asker.invariant.asked c.loop-asker.invariant.served served in
     record {
       same = c.tell-told.ensures.same ∙ c.loop-asker.invariant.same;
-      count = omega (arith, ap length taken, ap length pushed, length-append c.loop-asker.blocks (rounds ∷ []), c.loop-asker.invariant.count);
+      count = omega (
+        arith,
+        ap length taken,
+        ap length pushed,
+        length-append c.loop-asker.blocks (rounds ∷ []),
+        c.loop-asker.invariant.count,
+      );
       asked = own.0;
       served = own.1;
     }

@@ -11,7 +11,8 @@ use Rattle.reader_rounds.proofs.askers.Askers.of.Given as goal
 abbrev pub invariant-loop-reader : goal.invariant-loop-reader
 invariant-loop-reader l =
     (length l.askers.items + length l.readers ≡ length l.fn.readers)
-    × ((style : StyleOf) (front : FrontOf) (queries : List Query) → All (IsNewReader style front) l.fn.readers → All (IsNewReader style front) l.readers × All (HasAsked style front queries 0) l.askers.items)
+    × ((style : StyleOf) (front : FrontOf) (queries : List Query) → All (IsNewReader style front) l.fn.readers
+    → All (IsNewReader style front) l.readers × All (HasAsked style front queries 0) l.askers.items)
 
 abbrev pub decreases-loop-reader : goal.decreases-loop-reader
 decreases-loop-reader l = length l.readers

@@ -11,9 +11,11 @@ reached c = subst IsReached c.self.view_is c.self.invariant
 
 pub returns-clause-grows : goal.returns-clause-grows
 returns-clause-grows c =
-    stepped (Grows c.args.self.now) c.take.result _ _ _ c.take.ensures.state c.take.ensures.err (grows c.args.self.now c.args.event (reached c)) (grows_same c.args.self.now)
+    stepped (Grows c.args.self.now) c.take.result _ _ _ c.take.ensures.state c.take.ensures.err
+    (grows c.args.self.now c.args.event (reached c)) (grows_same c.args.self.now)
 
 pub returns-clause-promise : goal.returns-clause-promise
 returns-clause-promise c =
     let before = reached c in
-    stepped Promise c.take.result _ _ _ c.take.ensures.state c.take.ensures.err (promised _ (kept c.args.self.now c.args.event before)) (promised c.args.self.now before)
+    stepped Promise c.take.result _ _ _ c.take.ensures.state c.take.ensures.err (promised _ (kept c.args.self.now c.args.event before))
+    (promised c.args.self.now before)

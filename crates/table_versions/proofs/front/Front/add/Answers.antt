@@ -12,9 +12,11 @@ compare_exchange-found-requires c =
     let offer = c.plain-offer.ensures in
     let pen = c.no_pen-pen.ensures in
     let same : seen.book ≡ c.head.inside.word.book =
-    ap (λ seen. seen.book) c.again-seen.ensures ∙ (ap (λ (front : FrontOf). front.book) c.self.view_is ∙ (sym c.requires.same ∙ sym c.head.view_is)) in
+    ap (λ seen. seen.book) c.again-seen.ensures
+    ∙ (ap (λ (front : FrontOf). front.book) c.self.view_is ∙ (sym c.requires.same ∙ sym c.head.view_is)) in
     let long : length seen.log ≡ suc c.self.inside.deltas =
-    ap (λ seen. length seen.log) c.again-seen.ensures ∙ (shaped-length c.self.inside.seen.log c.self.invariant.0 ∙ ap suc (sym c.self.invariant.1)) in (
+    ap (λ seen. length seen.log) c.again-seen.ensures
+    ∙ (shaped-length c.self.inside.seen.log c.self.invariant.0 ∙ ap suc (sym c.self.invariant.1)) in (
       ap (λ word. word.tracked) h,
       same,
       pen.0 ∙ same,

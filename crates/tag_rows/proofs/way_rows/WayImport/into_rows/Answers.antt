@@ -11,4 +11,5 @@ invariant_of-result c =
     let key = chars c.self.inside.key.now in
     let objects = c.self.inside.objects in
     import-rows key objects c.self.inside.ways.items c.new-rows.result c.set_rows.new.rows c.new-rows.ensures.empty c.self.invariant.others
-    (λ id. c.in_ok-set_rows.ensures.rows id ∙ ap (λ ids. cond (has ids id) (some_row (row_at key objects id)) (finite.get c.new-rows.result id)) c.deref.ensures.value)
+    (λ id. c.in_ok-set_rows.ensures.rows id ∙ ap
+    (λ ids. cond (has ids id) (some_row (row_at key objects id)) (finite.get c.new-rows.result id)) c.deref.ensures.value)

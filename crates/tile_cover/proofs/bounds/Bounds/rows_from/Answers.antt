@@ -10,5 +10,6 @@ overflow_add-result c =
 
 pub returns-then-climb-north-clause-reached : goal.returns-then-climb-north-clause-reached
 returns-then-climb-north-clause-reached c = λ other h.
-    reached_one c.args.self.now c.args.climb c.args.row other c.sides-south.result.0 c.sides-south.result.1 c.sides-south.ensures.table c.requires.row h
+    reached_one c.args.self.now c.args.climb c.args.row other c.sides-south.result.0 c.sides-south.result.1 c.sides-south.ensures.table
+    c.requires.row h
     c.sides-south.ensures.south c.sides-south.ensures.north (omega arith) (omega arith) c.requires.climb.climbs

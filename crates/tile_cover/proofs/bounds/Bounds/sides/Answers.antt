@@ -11,4 +11,5 @@ returns-clause-ordered c =
     ordered c.from_pole.result c.from_pole-2.result (boundary c.args.self.now (c.args.row + 1)) (boundary c.args.self.now c.args.row)
     (c.from_pole.ensures.lat ∙ to_z-of_z w32 c.boundary-south.result south_fits ∙ c.boundary-south.ensures.lat)
     (c.from_pole-2.ensures.lat ∙ to_z-of_z w32 c.boundary-north.result north_fits ∙ c.boundary-north.ensures.lat)
-    (falls c.args.self.now.lats c.args.row (pos 0) c.boundary-north.ensures.table.falling (let long = c.boundary-north.ensures.table.whole in omega (arith, c.requires, long)))
+    (falls c.args.self.now.lats c.args.row (pos 0) c.boundary-north.ensures.table.falling
+    (let long = c.boundary-north.ensures.table.whole in omega (arith, c.requires, long)))

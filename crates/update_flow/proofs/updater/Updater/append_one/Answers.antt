@@ -12,29 +12,37 @@ use Rattle.update_flow.proofs.updater.Updater.append_one.Goals as goal
 
 pub returns-in-Ok-clause-takes : goal.returns-in-Ok-clause-takes
 returns-in-Ok-clause-takes g c =
-    append_taken (handle_of c.args.self.now) _ c.append_on-appended.new.kept refl (λ fits. fits) (ap (λ (o : Option StyleOf). is_some o) c.in-Some.is)
+    append_taken (handle_of c.args.self.now) _ c.append_on-appended.new.kept refl (λ fits. fits)
+    (ap (λ (o : Option StyleOf). is_some o) c.in-Some.is)
     (sym c.if-old.ensures.is) refl refl _
     (λ none. refl) (λ some. absurd (some refl)) c.args.bounds.now c.args.change
-    (λ held opened. c.in-Ok.ensures.turns held (kept_fits c.args.self.now.store c.in-Some-take.store _ (sym c.take.ensures.value ∙ c.in-Some-take.is) opened.fits)
-    (state_here _ _ opened.at_rest) (same_Some held.style c.in-Some.style (sym opened.shows.style_is ∙ c.in-Some.is)) (ap (λ (n : ℕ). n + 1) (sym opened.shows.changes_are)))
+    (λ held opened. c.in-Ok.ensures.turns held
+    (kept_fits c.args.self.now.store c.in-Some-take.store _ (sym c.take.ensures.value ∙ c.in-Some-take.is) opened.fits)
+    (state_here _ _ opened.at_rest) (same_Some held.style c.in-Some.style (sym opened.shows.style_is ∙ c.in-Some.is))
+    (ap (λ (n : ℕ). n + 1) (sym opened.shows.changes_are)))
 
 pub returns-clause-takes : goal.returns-clause-takes
 returns-clause-takes g c =
-    append_taken (handle_of c.args.self.now) _ c.append_on-appended.new.kept refl (λ fits. fits) (ap (λ (o : Option StyleOf). is_some o) c.in-Some.is)
+    append_taken (handle_of c.args.self.now) _ c.append_on-appended.new.kept refl (λ fits. fits)
+    (ap (λ (o : Option StyleOf). is_some o) c.in-Some.is)
     (sym c.if-old.ensures.is) refl refl _
     (λ none. absurd (cc (none))) (λ some. refl) c.args.bounds.now c.args.change
-    (λ held opened. c.in-Err.ensures.turns held (kept_fits c.args.self.now.store c.in-Some-take.store _ (sym c.take.ensures.value ∙ c.in-Some-take.is) opened.fits)
-    (state_here _ _ opened.at_rest) (same_Some held.style c.in-Some.style (sym opened.shows.style_is ∙ c.in-Some.is)) (ap (λ (n : ℕ). n + 1) (sym opened.shows.changes_are)))
+    (λ held opened. c.in-Err.ensures.turns held
+    (kept_fits c.args.self.now.store c.in-Some-take.store _ (sym c.take.ensures.value ∙ c.in-Some-take.is) opened.fits)
+    (state_here _ _ opened.at_rest) (same_Some held.style c.in-Some.style (sym opened.shows.style_is ∙ c.in-Some.is))
+    (ap (λ (n : ℕ). n + 1) (sym opened.shows.changes_are)))
 
 pub returns-in-Ok-clause-delta : goal.returns-in-Ok-clause-delta
 returns-in-Ok-clause-delta g c held opened = record {
   version = ap (λ (n : ℕ). n + 1) opened.shows.changes_are;
-  changes = c.in-Ok.ensures.changes held (kept_fits c.args.self.now.store c.in-Some-take.store _ (sym c.take.ensures.value ∙ c.in-Some-take.is) opened.fits)
+  changes = c.in-Ok.ensures.changes held (kept_fits c.args.self.now.store c.in-Some-take.store _
+      (sym c.take.ensures.value ∙ c.in-Some-take.is) opened.fits)
       (state_here _ _ opened.at_rest) (same_Some held.style c.in-Some.style (sym opened.shows.style_is ∙ c.in-Some.is));
 }
 
 pub returns-in-Ok-clause-reads : goal.returns-in-Ok-clause-reads
 returns-in-Ok-clause-reads g c held opened may touches =
     let same = same_Some held.style c.in-Some.style (sym opened.shows.style_is ∙ c.in-Some.is) in
-    c.in-Ok.ensures.reads held (kept_fits c.args.self.now.store c.in-Some-take.store _ (sym c.take.ensures.value ∙ c.in-Some-take.is) opened.fits)
+    c.in-Ok.ensures.reads held (kept_fits c.args.self.now.store c.in-Some-take.store _
+    (sym c.take.ensures.value ∙ c.in-Some-take.is) opened.fits)
     (state_here _ _ opened.at_rest) same may (subst (λ (style : StyleOf). MayTouch style held.objects c.args.change may) same touches)

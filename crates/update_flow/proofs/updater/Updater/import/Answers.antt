@@ -8,16 +8,20 @@ use Rattle.update_flow.proofs.updater.Updater.import.Goals as goal
 
 pub returns-in-Ok-clause-takes : goal.returns-in-Ok-clause-takes
 returns-in-Ok-clause-takes g c =
-    import_taken (handle_of c.args.self.now) _ c.import_on.new.kept refl (λ fits. fits) c.args.style c.args.style_bytes.now c.args.buckets c.args.change None
+    import_taken (handle_of c.args.self.now) _ c.import_on.new.kept refl
+    (λ fits. fits) c.args.style c.args.style_bytes.now c.args.buckets c.args.change None
     (sym c.if-imported.ensures.is)
-    (λ opened. c.in-Ok.ensures.turns (kept_fits c.args.self.now.store c.in-Some.store _ (sym c.take.ensures.value ∙ c.in-Some.is) opened.fits)
+    (λ opened. c.in-Ok.ensures.turns (kept_fits c.args.self.now.store c.in-Some.store _
+    (sym c.take.ensures.value ∙ c.in-Some.is) opened.fits)
     (state_here _ _ opened.at_rest))
     (λ is. record { changes_are = refl; imported_is = refl; old_is = sym c.if-old.ensures.is; style_is = refl }) (λ not. absurd (not refl))
 
 pub returns-in-Err-clause-takes : goal.returns-in-Err-clause-takes
 returns-in-Err-clause-takes g c =
-    import_taken (handle_of c.args.self.now) _ c.import_on.new.kept refl (λ fits. fits) c.args.style c.args.style_bytes.now c.args.buckets c.args.change
+    import_taken (handle_of c.args.self.now) _ c.import_on.new.kept refl
+    (λ fits. fits) c.args.style c.args.style_bytes.now c.args.buckets c.args.change
     (Some c.in-Err.fault) (sym c.if-imported.ensures.is)
-    (λ opened. c.in-Err.ensures.turns (kept_fits c.args.self.now.store c.in-Some.store _ (sym c.take.ensures.value ∙ c.in-Some.is) opened.fits)
+    (λ opened. c.in-Err.ensures.turns (kept_fits c.args.self.now.store c.in-Some.store _
+    (sym c.take.ensures.value ∙ c.in-Some.is) opened.fits)
     (state_here _ _ opened.at_rest))
     (λ is. absurd (cc (is))) (λ not. record { changes_same = refl; imported_same = refl; old_same = refl; style_same = refl })

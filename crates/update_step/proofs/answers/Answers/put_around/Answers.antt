@@ -5,4 +5,7 @@ use Rattle.update_step.proofs.answers.Answers.put_around.Goals as goal
 
 pub returns : goal.returns
 returns c =
-    record { ok = ap (λ around_nodes. record (gathered_in c.args.self.now) { around_nodes = around_nodes }) (put_id c.args.self.now.around_nodes c.insert.new.self c.args.id c.args.ids c.in_ok-insert.ensures.updates) }
+    record {
+      ok = ap (λ around_nodes. record (gathered_in c.args.self.now) { around_nodes = around_nodes })
+          (put_id c.args.self.now.around_nodes c.insert.new.self c.args.id c.args.ids c.in_ok-insert.ensures.updates);
+    }

@@ -5,4 +5,7 @@ use Rattle.update_step.proofs.answers.Answers.put_form.Goals as goal
 
 pub returns : goal.returns
 returns c =
-    record { ok = ap (λ forms. record (gathered_in c.args.self.now) { forms = forms }) (put_key c.args.self.now.forms c.insert.new.self c.args.key c.args.form c.in_ok-insert.ensures.updates) }
+    record {
+      ok = ap (λ forms. record (gathered_in c.args.self.now) { forms = forms })
+          (put_key c.args.self.now.forms c.insert.new.self c.args.key c.args.form c.in_ok-insert.ensures.updates);
+    }

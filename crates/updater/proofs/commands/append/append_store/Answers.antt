@@ -15,19 +15,24 @@ use Rattle.updater.proofs.commands.append.append_store.Goals as goal
 
 pub returns-then-old-clause-goes_on : goal.returns-then-old-clause-goes_on
 returns-then-old-clause-goes_on g c = λ old start done state head.
-    outdated_there start done c.args.files.first old (g.I.Inputs.view c.args.inputs.now) (handle_of c.args.store.now) (g.S.Sink.view c.args.out.now) _ state head (sym c.old.ensures.is ∙ c.if-old.true)
+    outdated_there start done c.args.files.first old (g.I.Inputs.view c.args.inputs.now) (handle_of c.args.store.now)
+    (g.S.Sink.view c.args.out.now) _ state head (sym c.old.ensures.is ∙ c.if-old.true)
 
 pub returns-then-not-imported-clause-goes_on : goal.returns-then-not-imported-clause-goes_on
 returns-then-not-imported-clause-goes_on g c = λ old start done state head.
-    not_yet start done c.args.files.first old (g.I.Inputs.view c.args.inputs.now) (handle_of c.args.store.now) (g.S.Sink.view c.args.out.now) _ state head (sym c.old.ensures.is ∙ c.if-old.false) (sym c.imported.ensures.is ∙ c.if-not-imported.true)
+    not_yet start done c.args.files.first old (g.I.Inputs.view c.args.inputs.now) (handle_of c.args.store.now)
+    (g.S.Sink.view c.args.out.now) _ state head (sym c.old.ensures.is ∙ c.if-old.false)
+    (sym c.imported.ensures.is ∙ c.if-not-imported.true)
 
 pub returns-in-Err-clause-goes_on : goal.returns-in-Err-clause-goes_on
 returns-in-Err-clause-goes_on g c = λ old start done state head.
     let first = c.args.files.first in
     let files = g.I.Inputs.view c.args.inputs.now in
     let output = g.S.Sink.view c.args.out.now in
-    if_there start done first old files (handle_of c.args.store.now) output _ _ _ state head (sym c.old.ensures.is ∙ c.if-old.false) (sym c.imported.ensures.is ∙ c.if-not-imported.false)
-    (λ held head. first_unread start done first old files (handle_of c.args.store.now) output (IsBounds first) (λ bounds. appends bounds held (first + 1) (c.args.files.count - 1) (onward finished)) (imported held) head
+    if_there start done first old files (handle_of c.args.store.now) output _ _ _ state head (sym c.old.ensures.is ∙ c.if-old.false)
+    (sym c.imported.ensures.is ∙ c.if-not-imported.false)
+    (λ held head. first_unread start done first old files (handle_of c.args.store.now) output (IsBounds first)
+    (λ bounds. appends bounds held (first + 1) (c.args.files.count - 1) (onward finished)) (imported held) head
     (g.I.Inputs.view c.read_bounds_file.new.inputs) c.in-Err.fault c.in-Err.ensures.err)
 
 pub returns-in-Err-clause-asked : goal.returns-in-Err-clause-asked
@@ -35,8 +40,10 @@ returns-in-Err-clause-asked g c =
     let laws = g.met.I.Inputs g.world.𝓛 g.world.𝓜 g.world.𝓡 ((λ s x. x), (λ x. x), (λ x. x), λ x. x) in
     let files = c.args.files in
     let some = (c.requires.fits []).0.fit.some in
-    asked_more g.I.Inputs.reads laws.reads_then (Among files.first files.count) c.args.inputs.now c.args.inputs.now c.read_bounds_file.new.inputs files.first
-    (asked_none g.I.Inputs.reads (Among files.first files.count) c.args.inputs.now (laws.reads_none c.args.inputs.now)) c.read_bounds_file.ensures.asked (omega arith, omega (arith, some))
+    asked_more g.I.Inputs.reads laws.reads_then
+    (Among files.first files.count) c.args.inputs.now c.args.inputs.now c.read_bounds_file.new.inputs files.first
+    (asked_none g.I.Inputs.reads (Among files.first files.count) c.args.inputs.now (laws.reads_none c.args.inputs.now))
+    c.read_bounds_file.ensures.asked (omega arith, omega (arith, some))
 
 pub overflow_add-files : goal.overflow_add-files
 overflow_add-files g c =
@@ -65,10 +72,15 @@ returns-clause-goes_on g c = λ old start done state head.
     let last = g.I.Inputs.view c.append_files.new.inputs in
     let told = g.S.Sink.view c.append_files.new.out in
     let count = c.args.files.count - 1 in
-    if_there start done first old files (handle_of c.args.store.now) output _ (result_err c.append_files.result) (world last (view_of (handle_of c.append_files.new.store)) told) state head (sym c.old.ensures.is ∙ c.if-old.false) (sym c.imported.ensures.is ∙ c.if-not-imported.false)
-    (λ held head. first_read start done first old files (handle_of c.args.store.now) output (IsBounds first) (λ bounds. appends bounds held (first + 1) count (onward finished)) (imported held) head
-    read c.in-Ok.bounds c.in-Ok.ensures.ok (result_err c.append_files.result) (world last (view_of (handle_of c.append_files.new.store)) told)
-    (λ head. leads_ends (λ further. appends c.in-Ok.bounds held (first + 1) count (onward further)) (result_err c.append_files.result) start (past first done) (first + 1 + count) old last (handle_of c.append_files.new.store) told
+    if_there start done first old files (handle_of c.args.store.now) output _ (result_err c.append_files.result)
+    (world last (view_of (handle_of c.append_files.new.store)) told) state head (sym c.old.ensures.is ∙ c.if-old.false)
+    (sym c.imported.ensures.is ∙ c.if-not-imported.false)
+    (λ held head. first_read start done first old files (handle_of c.args.store.now) output (IsBounds first)
+    (λ bounds. appends bounds held (first + 1) count (onward finished)) (imported held) head
+    read c.in-Ok.bounds c.in-Ok.ensures.ok (result_err c.append_files.result)
+    (world last (view_of (handle_of c.append_files.new.store)) told)
+    (λ head. leads_ends (λ further. appends c.in-Ok.bounds held (first + 1) count (onward further)) (result_err c.append_files.result) start
+    (past first done) (first + 1 + count) old last (handle_of c.append_files.new.store) told
     (c.append_files.ensures.leads old start (past first done) held head)))
 
 pub returns-clause-asked : goal.returns-clause-asked
@@ -76,13 +88,18 @@ returns-clause-asked g c =
     let laws = g.met.I.Inputs g.world.𝓛 g.world.𝓜 g.world.𝓡 ((λ s x. x), (λ x. x), (λ x. x), λ x. x) in
     let files = c.args.files in
     let some = (c.requires.fits []).0.fit.some in
-    asked_then g.I.Inputs.reads laws.reads_then (Among files.first files.count) c.args.inputs.now c.read_bounds_file.new.inputs c.append_files.new.inputs
-    (asked_more g.I.Inputs.reads laws.reads_then (Among files.first files.count) c.args.inputs.now c.args.inputs.now c.read_bounds_file.new.inputs files.first
-    (asked_none g.I.Inputs.reads (Among files.first files.count) c.args.inputs.now (laws.reads_none c.args.inputs.now)) c.read_bounds_file.ensures.asked (omega arith, omega (arith, some)))
-    (asked_among (λ asked. g.I.Inputs.reads c.read_bounds_file.new.inputs asked c.append_files.new.inputs) (Among (files.first + 1) (files.count - 1)) (Among files.first files.count)
+    asked_then g.I.Inputs.reads laws.reads_then
+    (Among files.first files.count) c.args.inputs.now c.read_bounds_file.new.inputs c.append_files.new.inputs
+    (asked_more g.I.Inputs.reads laws.reads_then
+    (Among files.first files.count) c.args.inputs.now c.args.inputs.now c.read_bounds_file.new.inputs files.first
+    (asked_none g.I.Inputs.reads (Among files.first files.count) c.args.inputs.now (laws.reads_none c.args.inputs.now))
+    c.read_bounds_file.ensures.asked (omega arith, omega (arith, some)))
+    (asked_among (λ asked. g.I.Inputs.reads c.read_bounds_file.new.inputs asked c.append_files.new.inputs)
+    (Among (files.first + 1) (files.count - 1)) (Among files.first files.count)
     (λ file among. (omega (arith, among.0), omega (arith, among.1, some))) c.append_files.ensures.asked)
 
 pub returns-clause-local : goal.returns-clause-local
 returns-clause-local g c = on_ok_so c.append_files.result _ _ (λ there held pages is rests.
-    appends_all c.args.files held pages c.in-Ok.bounds (g.I.Inputs.view c.args.inputs.now) (g.I.Inputs.view c.read_bounds_file.new.inputs) (view_of (handle_of c.args.store.now)).reads
+    appends_all c.args.files held pages c.in-Ok.bounds (g.I.Inputs.view c.args.inputs.now) (g.I.Inputs.view c.read_bounds_file.new.inputs)
+    (view_of (handle_of c.args.store.now)).reads
     (view_of (handle_of c.append_files.new.store)).reads c.in-Ok.ensures.ok (there held pages is rests)) c.append_files.ensures.local

@@ -15,19 +15,23 @@ use Rattle.updater.proofs.commands.import.import_store.Goals as goal
 
 pub returns-then-old-clause-goes_on : goal.returns-then-old-clause-goes_on
 returns-then-old-clause-goes_on g c = λ old start done state head.
-    outdated_new start done c.args.files.first old (g.I.Inputs.view c.args.inputs.now) (handle_of c.args.store.now) (g.S.Sink.view c.args.out.now) _ state head (sym c.old.ensures.is ∙ c.if-old.true)
+    outdated_new start done c.args.files.first old (g.I.Inputs.view c.args.inputs.now) (handle_of c.args.store.now)
+    (g.S.Sink.view c.args.out.now) _ state head (sym c.old.ensures.is ∙ c.if-old.true)
 
 pub returns-then-imported-clause-goes_on : goal.returns-then-imported-clause-goes_on
 returns-then-imported-clause-goes_on g c = λ old start done state head.
-    already start done c.args.files.first old (g.I.Inputs.view c.args.inputs.now) (handle_of c.args.store.now) (g.S.Sink.view c.args.out.now) _ state head (sym c.old.ensures.is ∙ c.if-old.false) (sym c.imported.ensures.is ∙ c.if-imported.true)
+    already start done c.args.files.first old (g.I.Inputs.view c.args.inputs.now) (handle_of c.args.store.now)
+    (g.S.Sink.view c.args.out.now) _ state head (sym c.old.ensures.is ∙ c.if-old.false) (sym c.imported.ensures.is ∙ c.if-imported.true)
 
 pub returns-in-Err-clause-goes_on : goal.returns-in-Err-clause-goes_on
 returns-in-Err-clause-goes_on g c = λ old start done state head.
     let first = c.args.files.first in
     let files = g.I.Inputs.view c.args.inputs.now in
     let output = g.S.Sink.view c.args.out.now in
-    if_new start done first old files (handle_of c.args.store.now) output _ _ _ state head (sym c.old.ensures.is ∙ c.if-old.false) (sym c.imported.ensures.is ∙ c.if-imported.false)
-    (λ head. first_unread start done first old files (handle_of c.args.store.now) output (IsStyle first) (λ style. imports style c.args.buckets (first + 1) (onward finished)) formatted head
+    if_new start done first old files (handle_of c.args.store.now) output _ _ _ state head (sym c.old.ensures.is ∙ c.if-old.false)
+    (sym c.imported.ensures.is ∙ c.if-imported.false)
+    (λ head. first_unread start done first old files (handle_of c.args.store.now) output (IsStyle first)
+    (λ style. imports style c.args.buckets (first + 1) (onward finished)) formatted head
     (g.I.Inputs.view c.read_style_file.new.inputs) c.in-Err.fault c.in-Err.ensures.err)
 
 pub returns-in-Err-clause-asked : goal.returns-in-Err-clause-asked
@@ -35,8 +39,10 @@ returns-in-Err-clause-asked g c =
     let laws = g.met.I.Inputs g.world.𝓛 g.world.𝓜 g.world.𝓡 ((λ s x. x), (λ x. x), (λ x. x), λ x. x) in
     let files = c.args.files in
     let fits = (c.requires.fits []).0.fit.some in
-    asked_more g.I.Inputs.reads laws.reads_then (Among files.first files.count) c.args.inputs.now c.args.inputs.now c.read_style_file.new.inputs files.first
-    (asked_none g.I.Inputs.reads (Among files.first files.count) c.args.inputs.now (laws.reads_none c.args.inputs.now)) c.read_style_file.ensures.asked (omega arith, omega (arith, fits))
+    asked_more g.I.Inputs.reads laws.reads_then
+    (Among files.first files.count) c.args.inputs.now c.args.inputs.now c.read_style_file.new.inputs files.first
+    (asked_none g.I.Inputs.reads (Among files.first files.count) c.args.inputs.now (laws.reads_none c.args.inputs.now))
+    c.read_style_file.ensures.asked (omega arith, omega (arith, fits))
 
 pub overflow_add-files : goal.overflow_add-files
 overflow_add-files g c =
@@ -59,10 +65,14 @@ returns-clause-goes_on g c = λ old start done state head.
     let last = g.I.Inputs.view c.import_file.new.inputs in
     let told = g.S.Sink.view c.import_file.new.out in
     let style : StyleOf × List ℕ = (c.in-Ok.style.style, c.in-Ok.style.bytes) in
-    if_new start done first old files (handle_of c.args.store.now) output _ (result_err c.import_file.result) (world last (view_of (handle_of c.import_file.new.store)) told) state head (sym c.old.ensures.is ∙ c.if-old.false) (sym c.imported.ensures.is ∙ c.if-imported.false)
-    (λ head. first_read start done first old files (handle_of c.args.store.now) output (IsStyle first) (λ style. imports style c.args.buckets (first + 1) (onward finished)) formatted head
+    if_new start done first old files (handle_of c.args.store.now) output _ (result_err c.import_file.result)
+    (world last (view_of (handle_of c.import_file.new.store)) told) state head (sym c.old.ensures.is ∙ c.if-old.false)
+    (sym c.imported.ensures.is ∙ c.if-imported.false)
+    (λ head. first_read start done first old files (handle_of c.args.store.now) output (IsStyle first)
+    (λ style. imports style c.args.buckets (first + 1) (onward finished)) formatted head
     read style c.in-Ok.ensures.ok (result_err c.import_file.result) (world last (view_of (handle_of c.import_file.new.store)) told)
-    (λ head. leads_ends (λ further. imports style c.args.buckets (first + 1) (onward further)) (result_err c.import_file.result) start (past first done) (first + 1 + 1) old last (handle_of c.import_file.new.store) told
+    (λ head. leads_ends (λ further. imports style c.args.buckets (first + 1) (onward further)) (result_err c.import_file.result) start
+    (past first done) (first + 1 + 1) old last (handle_of c.import_file.new.store) told
     (c.import_file.ensures.leads old start (past first done) head)))
 
 pub returns-clause-asked : goal.returns-clause-asked
@@ -70,7 +80,10 @@ returns-clause-asked g c =
     let laws = g.met.I.Inputs g.world.𝓛 g.world.𝓜 g.world.𝓡 ((λ s x. x), (λ x. x), (λ x. x), λ x. x) in
     let files = c.args.files in
     let two = (c.requires.fits []).1 in
-    asked_more g.I.Inputs.reads laws.reads_then (Among files.first files.count) c.args.inputs.now c.read_style_file.new.inputs c.import_file.new.inputs (files.first + 1)
-    (asked_more g.I.Inputs.reads laws.reads_then (Among files.first files.count) c.args.inputs.now c.args.inputs.now c.read_style_file.new.inputs files.first
-    (asked_none g.I.Inputs.reads (Among files.first files.count) c.args.inputs.now (laws.reads_none c.args.inputs.now)) c.read_style_file.ensures.asked (omega arith, omega (arith, two)))
+    asked_more g.I.Inputs.reads laws.reads_then
+    (Among files.first files.count) c.args.inputs.now c.read_style_file.new.inputs c.import_file.new.inputs (files.first + 1)
+    (asked_more g.I.Inputs.reads laws.reads_then
+    (Among files.first files.count) c.args.inputs.now c.args.inputs.now c.read_style_file.new.inputs files.first
+    (asked_none g.I.Inputs.reads (Among files.first files.count) c.args.inputs.now (laws.reads_none c.args.inputs.now))
+    c.read_style_file.ensures.asked (omega arith, omega (arith, two)))
     c.import_file.ensures.asked (omega arith, omega (arith, two))

@@ -23,14 +23,22 @@ returns-in-Err g c =
     let files = c.args.files in
     let file = files.first in
     rw c.in_file.ensures.fault (record {
-      course = ends_in_file after_way (no_ways (chars key)) (λ entries. writes_text (lines_text_of key entries) ends) (course_of (lines_of key files))
-          (g.I.Inputs.view c.args.inputs.now) (g.D.Disk.view c.args.disk.now) (g.S.Sink.view c.args.out.now) file files.count (files.count - 1) (omega (arith, c.requires.fits.some))
+      course = ends_in_file after_way (no_ways (chars key)) (λ entries. writes_text (lines_text_of key entries) ends)
+          (course_of (lines_of key files))
+          (g.I.Inputs.view c.args.inputs.now) (g.D.Disk.view c.args.disk.now) (g.S.Sink.view c.args.out.now) file files.count
+          (files.count - 1) (omega (arith, c.requires.fits.some))
           (no_ways (chars key)) (g.I.Inputs.view c.args.inputs.now) (g.I.Inputs.view c.import.new.inputs)
-          (first_turn after_way (no_ways (chars key)) (λ entries. writes_text (lines_text_of key entries) ends) (course_of (lines_of key files))
-          (g.I.Inputs.view c.args.inputs.now) (g.D.Disk.view c.args.disk.now) (g.S.Sink.view c.args.out.now) files.first files.count (no_ways (chars key)) refl refl) c.import.ensures.others c.import.ensures.later c.in-Err.fault
+          (first_turn after_way (no_ways (chars key)) (λ entries. writes_text (lines_text_of key entries) ends)
+          (course_of (lines_of key files))
+          (g.I.Inputs.view c.args.inputs.now) (g.D.Disk.view c.args.disk.now) (g.S.Sink.view c.args.out.now) files.first files.count
+          (no_ways (chars key)) refl refl) c.import.ensures.others c.import.ensures.later c.in-Err.fault
           (subst (λ (limits : LimitNumbers). Stops (IsFaultOf limits ((g.I.Inputs.view c.args.inputs.now).left file))
-          (Rose (g.I.Inputs.view c.args.inputs.now).faults (g.I.Inputs.view c.import.new.inputs).faults) c.in-Err.fault) c.standard-limits.ensures.numbers c.in-Err.ensures.stopped);
-      asked = asked_more g.I.Inputs.reads laws.reads_then (Names (lines_of key files)) c.args.inputs.now c.args.inputs.now c.import.new.inputs file (asked_none g.I.Inputs.reads (Names (lines_of key files)) c.args.inputs.now (laws.reads_none c.args.inputs.now)) c.import.ensures.read (omega arith, omega (arith, c.requires.fits.some));
+          (Rose (g.I.Inputs.view c.args.inputs.now).faults (g.I.Inputs.view c.import.new.inputs).faults) c.in-Err.fault)
+          c.standard-limits.ensures.numbers c.in-Err.ensures.stopped);
+      asked = asked_more g.I.Inputs.reads laws.reads_then
+          (Names (lines_of key files)) c.args.inputs.now c.args.inputs.now c.import.new.inputs file
+          (asked_none g.I.Inputs.reads (Names (lines_of key files)) c.args.inputs.now (laws.reads_none c.args.inputs.now))
+          c.import.ensures.read (omega arith, omega (arith, c.requires.fits.some));
     })
 
 pub loop-file-init : goal.loop-file-init
@@ -41,14 +49,22 @@ loop-file-init g c =
     let file = files.first in
     record {
       least = omega arith;
-      asked = asked_more g.I.Inputs.reads laws.reads_then (Names (lines_of key files)) c.args.inputs.now c.args.inputs.now c.import.new.inputs file (asked_none g.I.Inputs.reads (Names (lines_of key files)) c.args.inputs.now (laws.reads_none c.args.inputs.now)) c.import.ensures.read (omega arith, omega (arith, c.requires.fits.some));
+      asked = asked_more g.I.Inputs.reads laws.reads_then
+          (Names (lines_of key files)) c.args.inputs.now c.args.inputs.now c.import.new.inputs file
+          (asked_none g.I.Inputs.reads (Names (lines_of key files)) c.args.inputs.now (laws.reads_none c.args.inputs.now))
+          c.import.ensures.read (omega arith, omega (arith, c.requires.fits.some));
       within = omega (arith, c.requires.fits.some);
-      turn = next_turn after_way (no_ways (chars key)) (λ entries. writes_text (lines_text_of key entries) ends) (course_of (lines_of key files))
-          (g.I.Inputs.view c.args.inputs.now) (g.D.Disk.view c.args.disk.now) (g.S.Sink.view c.args.out.now) file files.count (files.first + files.count - (files.first + 1)) (omega (arith, c.requires.fits.some))
+      turn = next_turn after_way (no_ways (chars key)) (λ entries. writes_text (lines_text_of key entries) ends)
+          (course_of (lines_of key files))
+          (g.I.Inputs.view c.args.inputs.now) (g.D.Disk.view c.args.disk.now) (g.S.Sink.view c.args.out.now) file files.count
+          (files.first + files.count - (files.first + 1)) (omega (arith, c.requires.fits.some))
           (no_ways (chars key)) (g.I.Inputs.view c.args.inputs.now) (g.I.Inputs.view c.import.new.inputs)
-          (first_turn after_way (no_ways (chars key)) (λ entries. writes_text (lines_text_of key entries) ends) (course_of (lines_of key files))
-          (g.I.Inputs.view c.args.inputs.now) (g.D.Disk.view c.args.disk.now) (g.S.Sink.view c.args.out.now) files.first files.count (no_ways (chars key)) refl refl) c.import.ensures.others c.import.ensures.later c.in-Ok.rows
-          (subst (λ (limits : LimitNumbers). ReadsAll after_way limits (no_ways (chars key)) c.in-Ok.rows ((g.I.Inputs.view c.args.inputs.now).left file) ((g.I.Inputs.view c.import.new.inputs).left file))
+          (first_turn after_way (no_ways (chars key)) (λ entries. writes_text (lines_text_of key entries) ends)
+          (course_of (lines_of key files))
+          (g.I.Inputs.view c.args.inputs.now) (g.D.Disk.view c.args.disk.now) (g.S.Sink.view c.args.out.now) files.first files.count
+          (no_ways (chars key)) refl refl) c.import.ensures.others c.import.ensures.later c.in-Ok.rows
+          (subst (λ (limits : LimitNumbers). ReadsAll after_way limits (no_ways (chars key)) c.in-Ok.rows
+          ((g.I.Inputs.view c.args.inputs.now).left file) ((g.I.Inputs.view c.import.new.inputs).left file))
           c.standard-limits.ensures.numbers c.in-Ok.ensures.ok);
     }
 
@@ -59,12 +75,19 @@ returns-in-Err-change g c =
     let files = c.args.files in
     let file = c.loop-file.file in
     rw c.in_file-in-Err-change.ensures.fault (record {
-      course = ends_in_file after_way (no_ways (chars key)) (λ entries. writes_text (lines_text_of key entries) ends) (course_of (lines_of key files))
-          (g.I.Inputs.view c.args.inputs.now) (g.D.Disk.view c.args.disk.now) (g.S.Sink.view c.args.out.now) file (files.first + files.count - file) (files.first + files.count - (file + 1)) (omega (arith, c.loop-file-test.true))
-          c.loop-file.rows (g.I.Inputs.view c.loop-file.inputs) (g.I.Inputs.view c.change.new.inputs) c.loop-file.invariant.turn c.change.ensures.others c.change.ensures.later c.in-Err-change.fault
+      course = ends_in_file after_way (no_ways (chars key)) (λ entries. writes_text (lines_text_of key entries) ends)
+          (course_of (lines_of key files))
+          (g.I.Inputs.view c.args.inputs.now) (g.D.Disk.view c.args.disk.now) (g.S.Sink.view c.args.out.now) file
+          (files.first + files.count - file) (files.first + files.count - (file + 1)) (omega (arith, c.loop-file-test.true))
+          c.loop-file.rows (g.I.Inputs.view c.loop-file.inputs)
+          (g.I.Inputs.view c.change.new.inputs) c.loop-file.invariant.turn c.change.ensures.others c.change.ensures.later
+          c.in-Err-change.fault
           (subst (λ (limits : LimitNumbers). Stops (IsFaultOf limits ((g.I.Inputs.view c.loop-file.inputs).left file))
-          (Rose (g.I.Inputs.view c.loop-file.inputs).faults (g.I.Inputs.view c.change.new.inputs).faults) c.in-Err-change.fault) c.standard-limits.ensures.numbers c.in-Err-change.ensures.stopped);
-      asked = asked_more g.I.Inputs.reads laws.reads_then (Names (lines_of key files)) c.args.inputs.now c.loop-file.inputs c.change.new.inputs file c.loop-file.invariant.asked c.change.ensures.read (c.loop-file.invariant.least, omega (arith, c.loop-file-test.true));
+          (Rose (g.I.Inputs.view c.loop-file.inputs).faults (g.I.Inputs.view c.change.new.inputs).faults) c.in-Err-change.fault)
+          c.standard-limits.ensures.numbers c.in-Err-change.ensures.stopped);
+      asked = asked_more g.I.Inputs.reads laws.reads_then
+          (Names (lines_of key files)) c.args.inputs.now c.loop-file.inputs c.change.new.inputs file c.loop-file.invariant.asked
+          c.change.ensures.read (c.loop-file.invariant.least, omega (arith, c.loop-file-test.true));
     })
 
 pub loop-file-preserved : goal.loop-file-preserved
@@ -75,12 +98,19 @@ loop-file-preserved g c =
     let file = c.loop-file.file in
     record {
       least = omega (arith, c.loop-file.invariant.least);
-      asked = asked_more g.I.Inputs.reads laws.reads_then (Names (lines_of key files)) c.args.inputs.now c.loop-file.inputs c.change.new.inputs file c.loop-file.invariant.asked c.change.ensures.read (c.loop-file.invariant.least, omega (arith, c.loop-file-test.true));
+      asked = asked_more g.I.Inputs.reads laws.reads_then
+          (Names (lines_of key files)) c.args.inputs.now c.loop-file.inputs c.change.new.inputs file c.loop-file.invariant.asked
+          c.change.ensures.read (c.loop-file.invariant.least, omega (arith, c.loop-file-test.true));
       within = omega (arith, c.loop-file-test.true);
-      turn = next_turn after_way (no_ways (chars key)) (λ entries. writes_text (lines_text_of key entries) ends) (course_of (lines_of key files))
-          (g.I.Inputs.view c.args.inputs.now) (g.D.Disk.view c.args.disk.now) (g.S.Sink.view c.args.out.now) file (files.first + files.count - file) (files.first + files.count - (file + 1)) (omega (arith, c.loop-file-test.true))
-          c.loop-file.rows (g.I.Inputs.view c.loop-file.inputs) (g.I.Inputs.view c.change.new.inputs) c.loop-file.invariant.turn c.change.ensures.others c.change.ensures.later c.change.new.rows
-          (subst (λ (limits : LimitNumbers). ReadsAll after_way limits c.loop-file.rows c.change.new.rows ((g.I.Inputs.view c.loop-file.inputs).left file) ((g.I.Inputs.view c.change.new.inputs).left file))
+      turn = next_turn after_way (no_ways (chars key)) (λ entries. writes_text (lines_text_of key entries) ends)
+          (course_of (lines_of key files))
+          (g.I.Inputs.view c.args.inputs.now) (g.D.Disk.view c.args.disk.now) (g.S.Sink.view c.args.out.now) file
+          (files.first + files.count - file) (files.first + files.count - (file + 1)) (omega (arith, c.loop-file-test.true))
+          c.loop-file.rows (g.I.Inputs.view c.loop-file.inputs)
+          (g.I.Inputs.view c.change.new.inputs) c.loop-file.invariant.turn c.change.ensures.others c.change.ensures.later
+          c.change.new.rows
+          (subst (λ (limits : LimitNumbers). ReadsAll after_way limits c.loop-file.rows c.change.new.rows
+          ((g.I.Inputs.view c.loop-file.inputs).left file) ((g.I.Inputs.view c.change.new.inputs).left file))
           c.standard-limits.ensures.numbers c.in_default.ensures.ok);
     }
 
@@ -90,8 +120,10 @@ returns-in_err-text g c =
     let files = c.args.files in
     let file = c.loop-file.file in
     record {
-      course = ends_short after_way (no_ways (chars key)) (lines_text_of key) (λ (own : WaysRead). lines_text own.key own.objects) (ways-are key) (course_of (lines_of key files))
-          (g.I.Inputs.view c.args.inputs.now) (g.D.Disk.view c.args.disk.now) (g.S.Sink.view c.args.out.now) file (files.first + files.count - file) (omega (arith, c.loop-file-test.false))
+      course = ends_short after_way (no_ways (chars key)) (lines_text_of key) (λ (own : WaysRead). lines_text own.key own.objects)
+          (ways-are key) (course_of (lines_of key files))
+          (g.I.Inputs.view c.args.inputs.now) (g.D.Disk.view c.args.disk.now) (g.S.Sink.view c.args.out.now) file
+          (files.first + files.count - file) (omega (arith, c.loop-file-test.false))
           c.loop-file.rows (g.I.Inputs.view c.loop-file.inputs) c.loop-file.invariant.turn
           (result_err c.from_residual.result) (no_memory c.from_residual.result c.from_residual.ensures);
       asked = c.loop-file.invariant.asked;
@@ -103,8 +135,10 @@ returns g c =
     let files = c.args.files in
     let file = c.loop-file.file in
     record {
-      course = ends_told after_way (no_ways (chars key)) (lines_text_of key) (λ (own : WaysRead). lines_text own.key own.objects) (ways-are key) (course_of (lines_of key files))
-          (g.I.Inputs.view c.args.inputs.now) (g.D.Disk.view c.args.disk.now) (g.S.Sink.view c.args.out.now) file (files.first + files.count - file) (omega (arith, c.loop-file-test.false))
+      course = ends_told after_way (no_ways (chars key)) (lines_text_of key) (λ (own : WaysRead). lines_text own.key own.objects)
+          (ways-are key) (course_of (lines_of key files))
+          (g.I.Inputs.view c.args.inputs.now) (g.D.Disk.view c.args.disk.now) (g.S.Sink.view c.args.out.now) file
+          (files.first + files.count - file) (omega (arith, c.loop-file-test.false))
           c.loop-file.rows (g.I.Inputs.view c.loop-file.inputs) c.loop-file.invariant.turn
           c.deref.result.now (g.S.Sink.view c.tell.new.out) c.tell.result (c.deref.ensures.value ∙ c.in_ok-text.ensures.text)
           c.tell.ensures.ok c.tell.ensures.err c.tell.ensures.alone c.tell.ensures.cause;

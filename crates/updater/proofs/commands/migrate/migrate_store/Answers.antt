@@ -5,13 +5,15 @@ use Rattle.updater.proofs.commands.migrate.migrate_store.Goals as goal
 
 pub returns-then-not-imported-clause-goes_on : goal.returns-then-not-imported-clause-goes_on
 returns-then-not-imported-clause-goes_on g c = λ old start done state head.
-    none_there start done 0 old (g.I.Inputs.view c.args.inputs.now) (handle_of c.args.store.now) (g.S.Sink.view c.args.out.now) state head (sym c.imported.ensures.is ∙ c.if-not-imported.true)
+    none_there start done 0 old (g.I.Inputs.view c.args.inputs.now) (handle_of c.args.store.now) (g.S.Sink.view c.args.out.now) state head
+    (sym c.imported.ensures.is ∙ c.if-not-imported.true)
 
 pub returns-then-not-old-clause-goes_on : goal.returns-then-not-old-clause-goes_on
 returns-then-not-old-clause-goes_on g c = λ old start done state head.
     has_format start done 0 old (g.I.Inputs.view c.args.inputs.now) (handle_of c.args.store.now) (g.S.Sink.view c.args.out.now) state head
     (sym c.imported.ensures.is ∙ c.if-not-imported.false) (sym c.old.ensures.is ∙ c.if-not-old.true)
-    c.as_bytes.result.now (g.S.Sink.view c.tell.new.out) c.tell.result c.as_bytes.ensures.value c.tell.ensures.ok c.tell.ensures.err c.tell.ensures.alone c.tell.ensures.cause
+    c.as_bytes.result.now (g.S.Sink.view c.tell.new.out) c.tell.result c.as_bytes.ensures.value c.tell.ensures.ok c.tell.ensures.err
+    c.tell.ensures.alone c.tell.ensures.cause
 
 pub returns-in-Ok-clause-goes_on : goal.returns-in-Ok-clause-goes_on
 returns-in-Ok-clause-goes_on g c = λ old start done state head.
@@ -24,10 +26,13 @@ returns-in-Ok-clause-goes_on g c = λ old start done state head.
       style_is = c.in-Ok.ensures.migrated.3 ∙ shows.style_is;
     })
     c.in-Ok.ensures.stays.whole c.migrate.ensures.stays.over.same_limits c.in-Ok.ensures.stays.cause
-    c.as_bytes-in-Ok.result.now (g.S.Sink.view c.tell-in-Ok.new.out) c.tell-in-Ok.result c.as_bytes-in-Ok.ensures.value c.tell-in-Ok.ensures.ok c.tell-in-Ok.ensures.err c.tell-in-Ok.ensures.alone c.tell-in-Ok.ensures.cause
+    c.as_bytes-in-Ok.result.now (g.S.Sink.view c.tell-in-Ok.new.out) c.tell-in-Ok.result c.as_bytes-in-Ok.ensures.value
+    c.tell-in-Ok.ensures.ok c.tell-in-Ok.ensures.err c.tell-in-Ok.ensures.alone c.tell-in-Ok.ensures.cause
 
 pub returns-in-Err-clause-goes_on : goal.returns-in-Err-clause-goes_on
 returns-in-Err-clause-goes_on g c = rw c.in_flow.ensures.fault (λ old start done state head.
-    migrate_refused start done 0 old (g.I.Inputs.view c.args.inputs.now) (handle_of c.args.store.now) (g.S.Sink.view c.args.out.now) state head
-    (sym c.old.ensures.is ∙ c.if-not-old.false) (handle_of c.migrate.new.self) c.in-Err.fault c.in-Err.ensures.takes c.in-Err.ensures.stays.alone
+    migrate_refused start done 0 old (g.I.Inputs.view c.args.inputs.now) (handle_of c.args.store.now)
+    (g.S.Sink.view c.args.out.now) state head
+    (sym c.old.ensures.is ∙ c.if-not-old.false)
+    (handle_of c.migrate.new.self) c.in-Err.fault c.in-Err.ensures.takes c.in-Err.ensures.stays.alone
     (λ is. c.in-Err.ensures.stays.broken (ap Err is)) (λ is. c.in-Err.ensures.never (ap Err is)) c.in-Err.ensures.stays.cause)

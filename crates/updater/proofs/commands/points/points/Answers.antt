@@ -25,9 +25,12 @@ loop-file-init g c =
       least = omega arith;
       asked = asked_none g.I.Inputs.reads (Names (points_of key files)) c.args.inputs.now (laws.reads_none c.args.inputs.now);
       within = omega arith;
-      turn = first_turn after_entry (no_rows (chars key)) (λ entries. writes_text (points_text_of key entries) ends) (course_of (points_of key files))
-          (g.I.Inputs.view c.args.inputs.now) (g.D.Disk.view c.args.disk.now) (g.S.Sink.view c.args.out.now) files.first (files.first + files.count - files.first)
-          c.new-rows.result c.new-rows.ensures.start (ap (λ count. gathers files.first count [] (λ entries. writes_text (points_text_of key entries) ends)) (omega arith));
+      turn = first_turn after_entry (no_rows (chars key)) (λ entries. writes_text (points_text_of key entries) ends)
+          (course_of (points_of key files))
+          (g.I.Inputs.view c.args.inputs.now) (g.D.Disk.view c.args.disk.now) (g.S.Sink.view c.args.out.now) files.first
+          (files.first + files.count - files.first)
+          c.new-rows.result c.new-rows.ensures.start
+          (ap (λ count. gathers files.first count [] (λ entries. writes_text (points_text_of key entries) ends)) (omega arith));
     }
 
 pub returns-in-Err : goal.returns-in-Err
@@ -37,12 +40,19 @@ returns-in-Err g c =
     let files = c.args.files in
     let file = c.loop-file.file in
     rw c.in_file.ensures.fault (record {
-      course = ends_in_file after_entry (no_rows (chars key)) (λ entries. writes_text (points_text_of key entries) ends) (course_of (points_of key files))
-          (g.I.Inputs.view c.args.inputs.now) (g.D.Disk.view c.args.disk.now) (g.S.Sink.view c.args.out.now) file (files.first + files.count - file) (files.first + files.count - (file + 1)) (omega (arith, c.loop-file-test.true))
-          c.loop-file.rows (g.I.Inputs.view c.loop-file.inputs) (g.I.Inputs.view c.scan_file.new.inputs) c.loop-file.invariant.turn c.scan_file.ensures.others c.scan_file.ensures.later c.in-Err.fault
+      course = ends_in_file after_entry (no_rows (chars key)) (λ entries. writes_text (points_text_of key entries) ends)
+          (course_of (points_of key files))
+          (g.I.Inputs.view c.args.inputs.now) (g.D.Disk.view c.args.disk.now) (g.S.Sink.view c.args.out.now) file
+          (files.first + files.count - file) (files.first + files.count - (file + 1)) (omega (arith, c.loop-file-test.true))
+          c.loop-file.rows (g.I.Inputs.view c.loop-file.inputs)
+          (g.I.Inputs.view c.scan_file.new.inputs) c.loop-file.invariant.turn c.scan_file.ensures.others c.scan_file.ensures.later
+          c.in-Err.fault
           (subst (λ (limits : LimitNumbers). Stops (IsFaultOf limits ((g.I.Inputs.view c.loop-file.inputs).left file))
-          (Rose (g.I.Inputs.view c.loop-file.inputs).faults (g.I.Inputs.view c.scan_file.new.inputs).faults) c.in-Err.fault) c.standard-limits.ensures.numbers c.in-Err.ensures.stopped);
-      asked = asked_more g.I.Inputs.reads laws.reads_then (Names (points_of key files)) c.args.inputs.now c.loop-file.inputs c.scan_file.new.inputs file c.loop-file.invariant.asked c.scan_file.ensures.read (c.loop-file.invariant.least, omega (arith, c.loop-file-test.true));
+          (Rose (g.I.Inputs.view c.loop-file.inputs).faults (g.I.Inputs.view c.scan_file.new.inputs).faults) c.in-Err.fault)
+          c.standard-limits.ensures.numbers c.in-Err.ensures.stopped);
+      asked = asked_more g.I.Inputs.reads laws.reads_then
+          (Names (points_of key files)) c.args.inputs.now c.loop-file.inputs c.scan_file.new.inputs file c.loop-file.invariant.asked
+          c.scan_file.ensures.read (c.loop-file.invariant.least, omega (arith, c.loop-file-test.true));
     })
 
 pub loop-file-preserved : goal.loop-file-preserved
@@ -53,12 +63,19 @@ loop-file-preserved g c =
     let file = c.loop-file.file in
     record {
       least = omega (arith, c.loop-file.invariant.least);
-      asked = asked_more g.I.Inputs.reads laws.reads_then (Names (points_of key files)) c.args.inputs.now c.loop-file.inputs c.scan_file.new.inputs file c.loop-file.invariant.asked c.scan_file.ensures.read (c.loop-file.invariant.least, omega (arith, c.loop-file-test.true));
+      asked = asked_more g.I.Inputs.reads laws.reads_then
+          (Names (points_of key files)) c.args.inputs.now c.loop-file.inputs c.scan_file.new.inputs file c.loop-file.invariant.asked
+          c.scan_file.ensures.read (c.loop-file.invariant.least, omega (arith, c.loop-file-test.true));
       within = omega (arith, c.loop-file-test.true);
-      turn = next_turn after_entry (no_rows (chars key)) (λ entries. writes_text (points_text_of key entries) ends) (course_of (points_of key files))
-          (g.I.Inputs.view c.args.inputs.now) (g.D.Disk.view c.args.disk.now) (g.S.Sink.view c.args.out.now) file (files.first + files.count - file) (files.first + files.count - (file + 1)) (omega (arith, c.loop-file-test.true))
-          c.loop-file.rows (g.I.Inputs.view c.loop-file.inputs) (g.I.Inputs.view c.scan_file.new.inputs) c.loop-file.invariant.turn c.scan_file.ensures.others c.scan_file.ensures.later c.scan_file.new.keeper
-          (subst (λ (limits : LimitNumbers). ReadsAll after_entry limits c.loop-file.rows c.scan_file.new.keeper ((g.I.Inputs.view c.loop-file.inputs).left file) ((g.I.Inputs.view c.scan_file.new.inputs).left file))
+      turn = next_turn after_entry (no_rows (chars key)) (λ entries. writes_text (points_text_of key entries) ends)
+          (course_of (points_of key files))
+          (g.I.Inputs.view c.args.inputs.now) (g.D.Disk.view c.args.disk.now) (g.S.Sink.view c.args.out.now) file
+          (files.first + files.count - file) (files.first + files.count - (file + 1)) (omega (arith, c.loop-file-test.true))
+          c.loop-file.rows (g.I.Inputs.view c.loop-file.inputs)
+          (g.I.Inputs.view c.scan_file.new.inputs) c.loop-file.invariant.turn c.scan_file.ensures.others c.scan_file.ensures.later
+          c.scan_file.new.keeper
+          (subst (λ (limits : LimitNumbers). ReadsAll after_entry limits c.loop-file.rows c.scan_file.new.keeper
+          ((g.I.Inputs.view c.loop-file.inputs).left file) ((g.I.Inputs.view c.scan_file.new.inputs).left file))
           c.standard-limits.ensures.numbers c.in_default.ensures.ok);
     }
 
@@ -68,8 +85,10 @@ returns-in_err-text g c =
     let files = c.args.files in
     let file = c.loop-file.file in
     record {
-      course = ends_short after_entry (no_rows (chars key)) (points_text_of key) rows_text (rows_are_points (chars key)) (course_of (points_of key files))
-          (g.I.Inputs.view c.args.inputs.now) (g.D.Disk.view c.args.disk.now) (g.S.Sink.view c.args.out.now) file (files.first + files.count - file) (omega (arith, c.loop-file-test.false))
+      course = ends_short after_entry (no_rows (chars key)) (points_text_of key) rows_text (rows_are_points (chars key))
+          (course_of (points_of key files))
+          (g.I.Inputs.view c.args.inputs.now) (g.D.Disk.view c.args.disk.now) (g.S.Sink.view c.args.out.now) file
+          (files.first + files.count - file) (omega (arith, c.loop-file-test.false))
           c.loop-file.rows (g.I.Inputs.view c.loop-file.inputs) c.loop-file.invariant.turn
           (result_err c.from_residual.result) (no_memory c.from_residual.result c.from_residual.ensures);
       asked = c.loop-file.invariant.asked;
@@ -81,8 +100,10 @@ returns g c =
     let files = c.args.files in
     let file = c.loop-file.file in
     record {
-      course = ends_told after_entry (no_rows (chars key)) (points_text_of key) rows_text (rows_are_points (chars key)) (course_of (points_of key files))
-          (g.I.Inputs.view c.args.inputs.now) (g.D.Disk.view c.args.disk.now) (g.S.Sink.view c.args.out.now) file (files.first + files.count - file) (omega (arith, c.loop-file-test.false))
+      course = ends_told after_entry (no_rows (chars key)) (points_text_of key) rows_text (rows_are_points (chars key))
+          (course_of (points_of key files))
+          (g.I.Inputs.view c.args.inputs.now) (g.D.Disk.view c.args.disk.now) (g.S.Sink.view c.args.out.now) file
+          (files.first + files.count - file) (omega (arith, c.loop-file-test.false))
           c.loop-file.rows (g.I.Inputs.view c.loop-file.inputs) c.loop-file.invariant.turn
           c.deref.result.now (g.S.Sink.view c.tell.new.out) c.tell.result (c.deref.ensures.value ∙ c.in_ok-text.ensures.text)
           c.tell.ensures.ok c.tell.ensures.err c.tell.ensures.alone c.tell.ensures.cause;

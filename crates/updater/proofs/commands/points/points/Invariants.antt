@@ -16,8 +16,10 @@ invariant-loop-file g l = record {
   least : l.fn.files.first ≤ l.file;
   within : l.file ≤ l.end;
   asked : AsksOnly (λ asked. g.I.Inputs.reads l.fn.inputs asked l.inputs) (Names (points_of l.fn.key l.fn.files));
-  turn : IsTurn after_entry (no_rows (chars l.fn.key)) (λ entries. writes_text (points_text_of l.fn.key entries) ends) (course_of (points_of l.fn.key l.fn.files)) l.file (l.end - l.file)
-      (remembered (world (g.I.Inputs.view l.fn.inputs) (g.D.Disk.view l.fn.disk) (g.S.Sink.view l.fn.out))) l.rows (g.I.Inputs.view l.inputs);
+  turn : IsTurn after_entry (no_rows (chars l.fn.key)) (λ entries. writes_text (points_text_of l.fn.key entries) ends)
+      (course_of (points_of l.fn.key l.fn.files)) l.file (l.end - l.file)
+      (remembered (world (g.I.Inputs.view l.fn.inputs) (g.D.Disk.view l.fn.disk) (g.S.Sink.view l.fn.out))) l.rows
+      (g.I.Inputs.view l.inputs);
 }
 
 abbrev pub decreases-loop-file : goal.decreases-loop-file

@@ -15,17 +15,21 @@ use Rattle.run_promise.specs.Files.{IsQueries}
 use Rattle.run_promise.specs.Progress.{past}
 use Rattle.run_promise.specs.World.{world}
 use Rattle.updater.proofs.Asked.{asked_more, asked_none}
-use Rattle.updater.proofs.StoreRuns.{first_read, first_unread, held_certain, if_there, look_done, look_ends, look_refused, look_short, not_yet, outdated_there, same_style}
+use Rattle.updater.proofs.StoreRuns.{first_read, first_unread, held_certain, if_there, look_done, look_ends, look_refused, look_short}
+use Rattle.updater.proofs.StoreRuns.{not_yet, outdated_there, same_style}
 use Rattle.updater.proofs.StoreDeeds.{shows_here}
 use Rattle.updater.proofs.commands.query.query_store.Goals as goal
 
 pub returns-then-old-clause-goes_on : goal.returns-then-old-clause-goes_on
 returns-then-old-clause-goes_on g c = λ old start done state head.
-    outdated_there start done c.args.files.first old (g.I.Inputs.view c.args.inputs.now) (handle_of c.args.store.now) (g.S.Sink.view c.args.out.now) _ state head (sym c.old.ensures.is ∙ c.if-old.true)
+    outdated_there start done c.args.files.first old (g.I.Inputs.view c.args.inputs.now) (handle_of c.args.store.now)
+    (g.S.Sink.view c.args.out.now) _ state head (sym c.old.ensures.is ∙ c.if-old.true)
 
 pub returns-in-None-clause-goes_on : goal.returns-in-None-clause-goes_on
 returns-in-None-clause-goes_on g c = λ old start done state head.
-    not_yet start done c.args.files.first old (g.I.Inputs.view c.args.inputs.now) (handle_of c.args.store.now) (g.S.Sink.view c.args.out.now) _ state head (sym c.old.ensures.is ∙ c.if-old.false) (ap (λ (style : Option StyleOf). is_some style) (sym c.in-None.ensures.style))
+    not_yet start done c.args.files.first old (g.I.Inputs.view c.args.inputs.now) (handle_of c.args.store.now)
+    (g.S.Sink.view c.args.out.now) _ state head (sym c.old.ensures.is ∙ c.if-old.false)
+    (ap (λ (style : Option StyleOf). is_some style) (sym c.in-None.ensures.style))
 
 pub returns-in-Err-clause-goes_on : goal.returns-in-Err-clause-goes_on
 returns-in-Err-clause-goes_on g c = λ old start done state head.
@@ -33,10 +37,14 @@ returns-in-Err-clause-goes_on g c = λ old start done state head.
     let files = g.I.Inputs.view c.args.inputs.now in
     let output = g.S.Sink.view c.args.out.now in
     let read = g.I.Inputs.view c.read_queries_file-read.new.inputs in
-    if_there start done first old files (handle_of c.args.store.now) output _ _ _ state head (sym c.old.ensures.is ∙ c.if-old.false) (ap (λ (style : Option StyleOf). is_some style) (sym c.in-Some.ensures.style))
+    if_there start done first old files (handle_of c.args.store.now) output _ _ _ state head (sym c.old.ensures.is ∙ c.if-old.false)
+    (ap (λ (style : Option StyleOf). is_some style) (sym c.in-Some.ensures.style))
     (λ held head. first_unread start done first old files (handle_of c.args.store.now) output (IsQueries held.style first)
-    (λ queries. looks (writes_text (answers_text held.style (tables held.style held.objects) held.changes queries) ends)) (imported held) head read c.in-Err.fault
-    (subst (λ (style : StyleOf). IsUnread (IsQueries style first) first c.in-Err.fault files read) (same_style start done held first old files (handle_of c.args.store.now) output head c.in-Some.style.now c.in-Some.ensures.style) c.in-Err.ensures.err))
+    (λ queries. looks (writes_text (answers_text held.style (tables held.style held.objects) held.changes queries) ends))
+    (imported held) head read c.in-Err.fault
+    (subst (λ (style : StyleOf). IsUnread (IsQueries style first) first c.in-Err.fault files read)
+    (same_style start done held first old files (handle_of c.args.store.now) output head c.in-Some.style.now c.in-Some.ensures.style)
+    c.in-Err.ensures.err))
 
 pub returns-in-Err-load_tables-clause-goes_on : goal.returns-in-Err-load_tables-clause-goes_on
 returns-in-Err-load_tables-clause-goes_on g c = rw c.in_flow.ensures.fault (λ old start done state head.
@@ -44,12 +52,19 @@ returns-in-Err-load_tables-clause-goes_on g c = rw c.in_flow.ensures.fault (λ o
     let files = g.I.Inputs.view c.args.inputs.now in
     let output = g.S.Sink.view c.args.out.now in
     let read = g.I.Inputs.view c.read_queries_file-read.new.inputs in
-    if_there start done first old files (handle_of c.args.store.now) output _ _ _ state head (sym c.old.ensures.is ∙ c.if-old.false) (ap (λ (style : Option StyleOf). is_some style) (sym c.in-Some.ensures.style))
+    if_there start done first old files (handle_of c.args.store.now) output _ _ _ state head (sym c.old.ensures.is ∙ c.if-old.false)
+    (ap (λ (style : Option StyleOf). is_some style) (sym c.in-Some.ensures.style))
     (λ held head. first_read start done first old files (handle_of c.args.store.now) output (IsQueries held.style first)
-    (λ queries. looks (writes_text (answers_text held.style (tables held.style held.objects) held.changes queries) ends)) (imported held) head read c.in-Ok.queries
-    (subst (λ (style : StyleOf). IsRead (IsQueries style first) first c.in-Ok.queries files read) (same_style start done held first old files (handle_of c.args.store.now) output head c.in-Some.style.now c.in-Some.ensures.style) c.in-Ok.ensures.ok)
-    _ _ (λ head. look_refused start (past first done) held (first + 1) old read (handle_of c.args.store.now) (handle_of c.load_tables.new.self) output head c.in-Err-load_tables.fault
-    c.in-Err-load_tables.ensures.looks c.in-Err-load_tables.ensures.stays.alone (λ is. c.in-Err-load_tables.ensures.stays.broken (ap Err is)) (λ is. c.in-Err-load_tables.ensures.stays.not_old (ap Err is)) c.in-Err-load_tables.ensures.stays.cause
+    (λ queries. looks (writes_text (answers_text held.style (tables held.style held.objects) held.changes queries) ends))
+    (imported held) head read c.in-Ok.queries
+    (subst (λ (style : StyleOf). IsRead (IsQueries style first) first c.in-Ok.queries files read)
+    (same_style start done held first old files (handle_of c.args.store.now) output head c.in-Some.style.now c.in-Some.ensures.style)
+    c.in-Ok.ensures.ok)
+    _ _ (λ head. look_refused start (past first done) held (first + 1) old read (handle_of c.args.store.now)
+    (handle_of c.load_tables.new.self) output head c.in-Err-load_tables.fault
+    c.in-Err-load_tables.ensures.looks c.in-Err-load_tables.ensures.stays.alone
+    (λ is. c.in-Err-load_tables.ensures.stays.broken (ap Err is))
+    (λ is. c.in-Err-load_tables.ensures.stays.not_old (ap Err is)) c.in-Err-load_tables.ensures.stays.cause
     (writes_text (answers_text held.style (tables held.style held.objects) held.changes c.in-Ok.queries) ends))))
 
 pub returns-in-Ok-text-clause-goes_on : goal.returns-in-Ok-text-clause-goes_on
@@ -60,20 +75,34 @@ returns-in-Ok-text-clause-goes_on g c = λ old start done state head.
     let read = g.I.Inputs.view c.read_queries_file-read.new.inputs in
     let text = c.as_bytes.result.now in
     let new = g.S.Sink.view c.tell.new.out in
-    if_there start done first old files (handle_of c.args.store.now) output _ (result_err c.tell.result) (world read (view_of (handle_of c.load_tables.new.self)) new) state head (sym c.old.ensures.is ∙ c.if-old.false) (ap (λ (style : Option StyleOf). is_some style) (sym c.in-Some.ensures.style))
+    if_there start done first old files (handle_of c.args.store.now) output _ (result_err c.tell.result)
+    (world read (view_of (handle_of c.load_tables.new.self)) new) state head (sym c.old.ensures.is ∙ c.if-old.false)
+    (ap (λ (style : Option StyleOf). is_some style) (sym c.in-Some.ensures.style))
     (λ held head. first_read start done first old files (handle_of c.args.store.now) output (IsQueries held.style first)
-    (λ queries. looks (writes_text (answers_text held.style (tables held.style held.objects) held.changes queries) ends)) (imported held) head read c.in-Ok.queries
-    (subst (λ (style : StyleOf). IsRead (IsQueries style first) first c.in-Ok.queries files read) (same_style start done held first old files (handle_of c.args.store.now) output head c.in-Some.style.now c.in-Some.ensures.style) c.in-Ok.ensures.ok)
+    (λ queries. looks (writes_text (answers_text held.style (tables held.style held.objects) held.changes queries) ends))
+    (imported held) head read c.in-Ok.queries
+    (subst (λ (style : StyleOf). IsRead (IsQueries style first) first c.in-Ok.queries files read)
+    (same_style start done held first old files (handle_of c.args.store.now) output head c.in-Some.style.now c.in-Some.ensures.style)
+    c.in-Ok.ensures.ok)
     (result_err c.tell.result) (world read (view_of (handle_of c.load_tables.new.self)) new) (λ head.
-    let sure = look_done start (past first done) held (first + 1) old read (handle_of c.args.store.now) (handle_of c.load_tables.new.self) output head c.in-Ok-load_tables.ensures.looks (c.in-Ok-load_tables.ensures.stays.still tt) c.in-Ok-load_tables.ensures.stays.whole c.load_tables.ensures.stays.over.same_limits c.in-Ok-load_tables.ensures.stays.cause in
+    let sure = look_done start (past first done) held (first + 1) old read (handle_of c.args.store.now)
+    (handle_of c.load_tables.new.self) output head c.in-Ok-load_tables.ensures.looks
+    (c.in-Ok-load_tables.ensures.stays.still tt) c.in-Ok-load_tables.ensures.stays.whole
+    c.load_tables.ensures.stays.over.same_limits c.in-Ok-load_tables.ensures.stays.cause in
     let shown = shows_here done.store done.cut (imported held) (handle_of c.load_tables.new.self) sure.here in
     look_ends start (past first done) held (first + 1) old read (handle_of c.args.store.now) (handle_of c.load_tables.new.self) output head
-    (λ (own : List ℕ). own ≡ answers_text held.style (tables held.style held.objects) held.changes c.in-Ok.queries) sure text new c.tell.result
+    (λ (own : List ℕ). own ≡ answers_text held.style (tables held.style held.objects) held.changes c.in-Ok.queries) sure text new
+    c.tell.result
     (λ all certain. c.as_bytes.ensures.value ∙ c.in-Ok-text.ensures.text
-    ∙ ap (λ (queries : List Query). answers_text c.in-Some-style.style.now c.in-Ok-load_tables.tables c.changes-version.result queries) c.as_slice.ensures.items
-    ∙ ap (λ (style : StyleOf). answers_text style c.in-Ok-load_tables.tables c.changes-version.result c.in-Ok.queries) (same_style start (past first done) held (first + 1) old read (handle_of c.load_tables.new.self) output sure c.in-Some-style.style.now c.in-Some-style.ensures.style)
-    ∙ ap (λ (found : TableMap). answers_text held.style found c.changes-version.result c.in-Ok.queries) (c.in-Ok-load_tables.ensures.tables held (held_certain (past first done) held (handle_of c.args.store.now) head.here certain))
-    ∙ ap (λ (version : ℕ). answers_text held.style (tables held.style held.objects) version c.in-Ok.queries) (c.changes-version.ensures.number ∙ shown.changes_are))
+    ∙ ap (λ (queries : List Query). answers_text c.in-Some-style.style.now c.in-Ok-load_tables.tables c.changes-version.result queries)
+    c.as_slice.ensures.items
+    ∙ ap (λ (style : StyleOf). answers_text style c.in-Ok-load_tables.tables c.changes-version.result c.in-Ok.queries)
+    (same_style start (past first done) held (first + 1) old read
+    (handle_of c.load_tables.new.self) output sure c.in-Some-style.style.now c.in-Some-style.ensures.style)
+    ∙ ap (λ (found : TableMap). answers_text held.style found c.changes-version.result c.in-Ok.queries)
+    (c.in-Ok-load_tables.ensures.tables held (held_certain (past first done) held (handle_of c.args.store.now) head.here certain))
+    ∙ ap (λ (version : ℕ). answers_text held.style (tables held.style held.objects) version c.in-Ok.queries)
+    (c.changes-version.ensures.number ∙ shown.changes_are))
     c.tell.ensures.ok c.tell.ensures.err c.tell.ensures.alone c.tell.ensures.cause))
 
 pub returns-clause-goes_on : goal.returns-clause-goes_on
@@ -82,12 +111,19 @@ returns-clause-goes_on g c = λ old start done state head.
     let files = g.I.Inputs.view c.args.inputs.now in
     let output = g.S.Sink.view c.args.out.now in
     let read = g.I.Inputs.view c.read_queries_file-read.new.inputs in
-    if_there start done first old files (handle_of c.args.store.now) output _ _ _ state head (sym c.old.ensures.is ∙ c.if-old.false) (ap (λ (style : Option StyleOf). is_some style) (sym c.in-Some.ensures.style))
+    if_there start done first old files (handle_of c.args.store.now) output _ _ _ state head (sym c.old.ensures.is ∙ c.if-old.false)
+    (ap (λ (style : Option StyleOf). is_some style) (sym c.in-Some.ensures.style))
     (λ held head. first_read start done first old files (handle_of c.args.store.now) output (IsQueries held.style first)
-    (λ queries. looks (writes_text (answers_text held.style (tables held.style held.objects) held.changes queries) ends)) (imported held) head read c.in-Ok.queries
-    (subst (λ (style : StyleOf). IsRead (IsQueries style first) first c.in-Ok.queries files read) (same_style start done held first old files (handle_of c.args.store.now) output head c.in-Some.style.now c.in-Some.ensures.style) c.in-Ok.ensures.ok)
+    (λ queries. looks (writes_text (answers_text held.style (tables held.style held.objects) held.changes queries) ends))
+    (imported held) head read c.in-Ok.queries
+    (subst (λ (style : StyleOf). IsRead (IsQueries style first) first c.in-Ok.queries files read)
+    (same_style start done held first old files (handle_of c.args.store.now) output head c.in-Some.style.now c.in-Some.ensures.style)
+    c.in-Ok.ensures.ok)
     _ _ (λ head.
-    let sure = look_done start (past first done) held (first + 1) old read (handle_of c.args.store.now) (handle_of c.load_tables.new.self) output head c.in-Ok-load_tables.ensures.looks (c.in-Ok-load_tables.ensures.stays.still tt) c.in-Ok-load_tables.ensures.stays.whole c.load_tables.ensures.stays.over.same_limits c.in-Ok-load_tables.ensures.stays.cause in
+    let sure = look_done start (past first done) held (first + 1) old read (handle_of c.args.store.now)
+    (handle_of c.load_tables.new.self) output head c.in-Ok-load_tables.ensures.looks
+    (c.in-Ok-load_tables.ensures.stays.still tt) c.in-Ok-load_tables.ensures.stays.whole
+    c.load_tables.ensures.stays.over.same_limits c.in-Ok-load_tables.ensures.stays.cause in
     look_short start (past first done) held (first + 1) old read (handle_of c.args.store.now) (handle_of c.load_tables.new.self) output head
     (λ (own : List ℕ). own ≡ answers_text held.style (tables held.style held.objects) held.changes c.in-Ok.queries) ends sure))
 
@@ -96,37 +132,47 @@ returns-in-Err-clause-asked g c =
     let laws = g.met.I.Inputs g.world.𝓛 g.world.𝓜 g.world.𝓡 ((λ s x. x), (λ x. x), (λ x. x), λ x. x) in
     let files = c.args.files in
     let one = (c.requires.fits []).1 in
-    asked_more g.I.Inputs.reads laws.reads_then (Among files.first files.count) c.args.inputs.now c.args.inputs.now c.read_queries_file-read.new.inputs files.first
-    (asked_none g.I.Inputs.reads (Among files.first files.count) c.args.inputs.now (laws.reads_none c.args.inputs.now)) c.read_queries_file-read.ensures.asked (omega arith, omega (arith, one))
+    asked_more g.I.Inputs.reads laws.reads_then
+    (Among files.first files.count) c.args.inputs.now c.args.inputs.now c.read_queries_file-read.new.inputs files.first
+    (asked_none g.I.Inputs.reads (Among files.first files.count) c.args.inputs.now (laws.reads_none c.args.inputs.now))
+    c.read_queries_file-read.ensures.asked (omega arith, omega (arith, one))
 
 pub returns-in-Err-load_tables-clause-asked : goal.returns-in-Err-load_tables-clause-asked
 returns-in-Err-load_tables-clause-asked g c =
     let laws = g.met.I.Inputs g.world.𝓛 g.world.𝓜 g.world.𝓡 ((λ s x. x), (λ x. x), (λ x. x), λ x. x) in
     let files = c.args.files in
     let one = (c.requires.fits []).1 in
-    asked_more g.I.Inputs.reads laws.reads_then (Among files.first files.count) c.args.inputs.now c.args.inputs.now c.read_queries_file-read.new.inputs files.first
-    (asked_none g.I.Inputs.reads (Among files.first files.count) c.args.inputs.now (laws.reads_none c.args.inputs.now)) c.read_queries_file-read.ensures.asked (omega arith, omega (arith, one))
+    asked_more g.I.Inputs.reads laws.reads_then
+    (Among files.first files.count) c.args.inputs.now c.args.inputs.now c.read_queries_file-read.new.inputs files.first
+    (asked_none g.I.Inputs.reads (Among files.first files.count) c.args.inputs.now (laws.reads_none c.args.inputs.now))
+    c.read_queries_file-read.ensures.asked (omega arith, omega (arith, one))
 
 pub returns-in-None-style-clause-asked : goal.returns-in-None-style-clause-asked
 returns-in-None-style-clause-asked g c =
     let laws = g.met.I.Inputs g.world.𝓛 g.world.𝓜 g.world.𝓡 ((λ s x. x), (λ x. x), (λ x. x), λ x. x) in
     let files = c.args.files in
     let one = (c.requires.fits []).1 in
-    asked_more g.I.Inputs.reads laws.reads_then (Among files.first files.count) c.args.inputs.now c.args.inputs.now c.read_queries_file-read.new.inputs files.first
-    (asked_none g.I.Inputs.reads (Among files.first files.count) c.args.inputs.now (laws.reads_none c.args.inputs.now)) c.read_queries_file-read.ensures.asked (omega arith, omega (arith, one))
+    asked_more g.I.Inputs.reads laws.reads_then
+    (Among files.first files.count) c.args.inputs.now c.args.inputs.now c.read_queries_file-read.new.inputs files.first
+    (asked_none g.I.Inputs.reads (Among files.first files.count) c.args.inputs.now (laws.reads_none c.args.inputs.now))
+    c.read_queries_file-read.ensures.asked (omega arith, omega (arith, one))
 
 pub returns-in-Ok-text-clause-asked : goal.returns-in-Ok-text-clause-asked
 returns-in-Ok-text-clause-asked g c =
     let laws = g.met.I.Inputs g.world.𝓛 g.world.𝓜 g.world.𝓡 ((λ s x. x), (λ x. x), (λ x. x), λ x. x) in
     let files = c.args.files in
     let one = (c.requires.fits []).1 in
-    asked_more g.I.Inputs.reads laws.reads_then (Among files.first files.count) c.args.inputs.now c.args.inputs.now c.read_queries_file-read.new.inputs files.first
-    (asked_none g.I.Inputs.reads (Among files.first files.count) c.args.inputs.now (laws.reads_none c.args.inputs.now)) c.read_queries_file-read.ensures.asked (omega arith, omega (arith, one))
+    asked_more g.I.Inputs.reads laws.reads_then
+    (Among files.first files.count) c.args.inputs.now c.args.inputs.now c.read_queries_file-read.new.inputs files.first
+    (asked_none g.I.Inputs.reads (Among files.first files.count) c.args.inputs.now (laws.reads_none c.args.inputs.now))
+    c.read_queries_file-read.ensures.asked (omega arith, omega (arith, one))
 
 pub returns-clause-asked : goal.returns-clause-asked
 returns-clause-asked g c =
     let laws = g.met.I.Inputs g.world.𝓛 g.world.𝓜 g.world.𝓡 ((λ s x. x), (λ x. x), (λ x. x), λ x. x) in
     let files = c.args.files in
     let one = (c.requires.fits []).1 in
-    asked_more g.I.Inputs.reads laws.reads_then (Among files.first files.count) c.args.inputs.now c.args.inputs.now c.read_queries_file-read.new.inputs files.first
-    (asked_none g.I.Inputs.reads (Among files.first files.count) c.args.inputs.now (laws.reads_none c.args.inputs.now)) c.read_queries_file-read.ensures.asked (omega arith, omega (arith, one))
+    asked_more g.I.Inputs.reads laws.reads_then
+    (Among files.first files.count) c.args.inputs.now c.args.inputs.now c.read_queries_file-read.new.inputs files.first
+    (asked_none g.I.Inputs.reads (Among files.first files.count) c.args.inputs.now (laws.reads_none c.args.inputs.now))
+    c.read_queries_file-read.ensures.asked (omega arith, omega (arith, one))

@@ -14,7 +14,8 @@ use Rattle.updater.proofs.commands.replay.fill_store.Goals as goal
 pub returns-then-imported-clause-goes_on : goal.returns-then-imported-clause-goes_on
 returns-then-imported-clause-goes_on g c = λ old start done state head.
     never_blank start done c.args.first old (g.I.Inputs.view c.args.inputs.now) (handle_of c.args.store.now) (g.S.Sink.view c.args.out.now)
-    (fills (c.args.style.style, c.args.style.bytes) c.args.bounds.now c.args.first c.args.changes) state head (sym c.imported.ensures.is ∙ c.if-imported.true)
+    (fills (c.args.style.style, c.args.style.bytes) c.args.bounds.now c.args.first c.args.changes) state head
+    (sym c.imported.ensures.is ∙ c.if-imported.true)
 
 pub import_file-requires-clause-buckets : goal.import_file-requires-clause-buckets
 import_file-requires-clause-buckets g c κs within = record { power = default_power; limit = omega arith }
@@ -22,25 +23,31 @@ import_file-requires-clause-buckets g c κs within = record { power = default_po
 pub returns-in-Err-clause-goes_on : goal.returns-in-Err-clause-goes_on
 returns-in-Err-clause-goes_on g c = λ old start done state head.
     if_made start done c.args.first old (g.I.Inputs.view c.args.inputs.now) (handle_of c.args.store.now) (g.S.Sink.view c.args.out.now)
-    (fills (c.args.style.style, c.args.style.bytes) c.args.bounds.now c.args.first c.args.changes) _ _ state head (sym c.imported.ensures.is ∙ c.if-imported.false)
-    (λ head. c.in-Err.ensures.leads old start done head (appending c.args.bounds.now (c.args.first + 1) c.args.changes (telling c.args.bounds.now.zoom)))
+    (fills (c.args.style.style, c.args.style.bytes) c.args.bounds.now c.args.first c.args.changes) _ _ state head
+    (sym c.imported.ensures.is ∙ c.if-imported.false)
+    (λ head. c.in-Err.ensures.leads old start done head
+    (appending c.args.bounds.now (c.args.first + 1) c.args.changes (telling c.args.bounds.now.zoom)))
 
 pub returns-in-Err-clause-asked : goal.returns-in-Err-clause-asked
 returns-in-Err-clause-asked g c =
     let laws = g.met.I.Inputs g.world.𝓛 g.world.𝓜 g.world.𝓡 ((λ s x. x), (λ x. x), (λ x. x), λ x. x) in
     let among = Among c.args.first (c.args.changes + 1) in
     asked_more g.I.Inputs.reads laws.reads_then among c.args.inputs.now c.args.inputs.now c.import_file.new.inputs c.args.first
-    (asked_none g.I.Inputs.reads among c.args.inputs.now (laws.reads_none c.args.inputs.now)) c.import_file.ensures.asked (omega arith, omega arith)
+    (asked_none g.I.Inputs.reads among c.args.inputs.now (laws.reads_none c.args.inputs.now)) c.import_file.ensures.asked
+    (omega arith, omega arith)
 
 pub returns-in-Err-append_files-clause-goes_on : goal.returns-in-Err-append_files-clause-goes_on
 returns-in-Err-append_files-clause-goes_on g c = λ old start done state head.
     let files = g.I.Inputs.view c.import_file.new.inputs in
     let output = g.S.Sink.view c.import_file.new.out in
     if_made start done c.args.first old (g.I.Inputs.view c.args.inputs.now) (handle_of c.args.store.now) (g.S.Sink.view c.args.out.now)
-    (fills (c.args.style.style, c.args.style.bytes) c.args.bounds.now c.args.first c.args.changes) _ _ state head (sym c.imported.ensures.is ∙ c.if-imported.false)
-    (λ head. stops_appending (c.args.style.style, c.args.style.bytes) c.args.bounds.now c.args.first c.args.changes start done old files (handle_of c.import_file.new.store) output
+    (fills (c.args.style.style, c.args.style.bytes) c.args.bounds.now c.args.first c.args.changes) _ _ state head
+    (sym c.imported.ensures.is ∙ c.if-imported.false)
+    (λ head. stops_appending (c.args.style.style, c.args.style.bytes) c.args.bounds.now c.args.first c.args.changes start done old files
+    (handle_of c.import_file.new.store) output
     (c.in-Ok.ensures.leads old start done head) c.in-Err-append_files.fault (c.args.first + 1 + c.args.changes)
-    (g.I.Inputs.view c.append_files.new.inputs) (handle_of c.append_files.new.store) (g.S.Sink.view c.append_files.new.out) c.in-Err-append_files.ensures.leads)
+    (g.I.Inputs.view c.append_files.new.inputs) (handle_of c.append_files.new.store)
+    (g.S.Sink.view c.append_files.new.out) c.in-Err-append_files.ensures.leads)
 
 pub returns-in-Err-append_files-clause-stays : goal.returns-in-Err-append_files-clause-stays
 returns-in-Err-append_files-clause-stays g c = record {
@@ -54,8 +61,10 @@ returns-in-Err-append_files-clause-asked g c =
     let among = Among c.args.first (c.args.changes + 1) in
     asked_then g.I.Inputs.reads laws.reads_then among c.args.inputs.now c.import_file.new.inputs c.append_files.new.inputs
     (asked_more g.I.Inputs.reads laws.reads_then among c.args.inputs.now c.args.inputs.now c.import_file.new.inputs c.args.first
-    (asked_none g.I.Inputs.reads among c.args.inputs.now (laws.reads_none c.args.inputs.now)) c.import_file.ensures.asked (omega arith, omega arith))
-    (asked_among (λ asked. g.I.Inputs.reads c.import_file.new.inputs asked c.append_files.new.inputs) (Among (c.args.first + 1) c.args.changes) among
+    (asked_none g.I.Inputs.reads among c.args.inputs.now (laws.reads_none c.args.inputs.now)) c.import_file.ensures.asked
+    (omega arith, omega arith))
+    (asked_among (λ asked. g.I.Inputs.reads c.import_file.new.inputs asked c.append_files.new.inputs)
+    (Among (c.args.first + 1) c.args.changes) among
     (λ file own. (omega (arith, own.0), omega (arith, own.1))) c.append_files.ensures.asked)
 
 pub returns-clause-goes_on : goal.returns-clause-goes_on
@@ -65,10 +74,14 @@ returns-clause-goes_on g c = λ old start done state head.
     let read = g.I.Inputs.view c.append_files.new.inputs in
     if_made start done c.args.first old (g.I.Inputs.view c.args.inputs.now) (handle_of c.args.store.now) (g.S.Sink.view c.args.out.now)
     (fills (c.args.style.style, c.args.style.bytes) c.args.bounds.now c.args.first c.args.changes) (result_err c.tell_whole.result)
-    (world read (view_of (handle_of c.tell_whole.new.store)) (g.S.Sink.view c.tell_whole.new.out)) state head (sym c.imported.ensures.is ∙ c.if-imported.false)
-    (λ head. tells_whole (c.args.style.style, c.args.style.bytes) c.args.bounds.now c.args.first c.args.changes start done old files (handle_of c.import_file.new.store) output
-    (c.in-Ok.ensures.leads old start done head) (c.args.first + 1 + c.args.changes) read (handle_of c.append_files.new.store) (g.S.Sink.view c.append_files.new.out) c.in-Ok-append_files.ensures.leads
-    c.zoom.result c.zoom.ensures.zoom (result_err c.tell_whole.result) (world read (view_of (handle_of c.tell_whole.new.store)) (g.S.Sink.view c.tell_whole.new.out))
+    (world read (view_of (handle_of c.tell_whole.new.store)) (g.S.Sink.view c.tell_whole.new.out)) state head
+    (sym c.imported.ensures.is ∙ c.if-imported.false)
+    (λ head. tells_whole (c.args.style.style, c.args.style.bytes) c.args.bounds.now c.args.first c.args.changes start done old files
+    (handle_of c.import_file.new.store) output
+    (c.in-Ok.ensures.leads old start done head) (c.args.first + 1 + c.args.changes) read (handle_of c.append_files.new.store)
+    (g.S.Sink.view c.append_files.new.out) c.in-Ok-append_files.ensures.leads
+    c.zoom.result c.zoom.ensures.zoom (result_err c.tell_whole.result)
+    (world read (view_of (handle_of c.tell_whole.new.store)) (g.S.Sink.view c.tell_whole.new.out))
     (λ old start done held head. c.tell_whole.ensures.goes_on old read start done held (c.args.first + 1 + c.args.changes) head))
 
 pub returns-clause-stays : goal.returns-clause-stays
@@ -83,6 +96,8 @@ returns-clause-asked g c =
     let among = Among c.args.first (c.args.changes + 1) in
     asked_then g.I.Inputs.reads laws.reads_then among c.args.inputs.now c.import_file.new.inputs c.append_files.new.inputs
     (asked_more g.I.Inputs.reads laws.reads_then among c.args.inputs.now c.args.inputs.now c.import_file.new.inputs c.args.first
-    (asked_none g.I.Inputs.reads among c.args.inputs.now (laws.reads_none c.args.inputs.now)) c.import_file.ensures.asked (omega arith, omega arith))
-    (asked_among (λ asked. g.I.Inputs.reads c.import_file.new.inputs asked c.append_files.new.inputs) (Among (c.args.first + 1) c.args.changes) among
+    (asked_none g.I.Inputs.reads among c.args.inputs.now (laws.reads_none c.args.inputs.now)) c.import_file.ensures.asked
+    (omega arith, omega arith))
+    (asked_among (λ asked. g.I.Inputs.reads c.import_file.new.inputs asked c.append_files.new.inputs)
+    (Among (c.args.first + 1) c.args.changes) among
     (λ file own. (omega (arith, own.0), omega (arith, own.1))) c.append_files.ensures.asked)

@@ -11,7 +11,8 @@ use Rattle.updater.proofs.commands.replay.make_store.Goals as goal
 pub returns-in-Err-clause-goes_on : goal.returns-in-Err-clause-goes_on
 returns-in-Err-clause-goes_on g c = rw c.in_store.ensures.fault (λ old read head.
     unmade read c.args.first old (g.I.Inputs.view c.args.inputs.now) (g.D.Disk.view c.args.disk.now) (g.S.Sink.view c.args.out.now) head
-    c.in-Err.fault (g.D.Disk.view c.format.new.disk) (looks (fills (c.args.style.style, c.args.style.bytes) c.args.bounds.now c.args.first c.args.changes))
+    c.in-Err.fault (g.D.Disk.view c.format.new.disk)
+    (looks (fills (c.args.style.style, c.args.style.bytes) c.args.bounds.now c.args.first c.args.changes))
     c.in-Err.ensures.alone c.in-Err.ensures.answers (λ refused. (c.in-Err.ensures.refused refused).content) c.in-Err.ensures.cause)
 
 pub returns-in-Err-clause-formatted : goal.returns-in-Err-clause-formatted
@@ -20,19 +21,29 @@ returns-in-Err-clause-formatted g c = rw c.in_store.ensures.fault (λ is. never_
 pub returns-in-Err-open-clause-goes_on : goal.returns-in-Err-open-clause-goes_on
 returns-in-Err-open-clause-goes_on g c = rw c.in_made.ensures.fault (λ old read head.
     unopened read c.args.first old (g.I.Inputs.view c.args.inputs.now) (g.D.Disk.view c.args.disk.now) (g.S.Sink.view c.args.out.now) head
-    (λ (now : List ℕ). page_from now 4096 ∷ []) (g.D.Disk.view c.format.new.disk) c.in_default.ensures.fresh c.in_default.ensures.cause.later
+    (λ (now : List ℕ). page_from now 4096 ∷ [])
+    (g.D.Disk.view c.format.new.disk) c.in_default.ensures.fresh c.in_default.ensures.cause.later
     (g.D.Disk.view c.open.new.disk) (fills (c.args.style.style, c.args.style.bytes) c.args.bounds.now c.args.first c.args.changes)
-    c.in-Err-open.fault c.in-Err-open.ensures.opens c.in-Err-open.ensures.any.told c.in-Err-open.ensures.any.alone c.in-Err-open.ensures.any.cause)
+    c.in-Err-open.fault c.in-Err-open.ensures.opens c.in-Err-open.ensures.any.told c.in-Err-open.ensures.any.alone
+    c.in-Err-open.ensures.any.cause)
 
 pub returns-in-Err-open-clause-formatted : goal.returns-in-Err-open-clause-formatted
-returns-in-Err-open-clause-formatted g c = rw c.in_made.ensures.fault (λ is. made_never c.in-Err-open.fault _ c.in-Err-open.ensures.any.alone is)
+returns-in-Err-open-clause-formatted g c =
+    rw c.in_made.ensures.fault (λ is. made_never c.in-Err-open.fault _ c.in-Err-open.ensures.any.alone is)
 
 pub returns-clause-goes_on : goal.returns-clause-goes_on
 returns-clause-goes_on g c = λ old read head.
-    goes_over_made read c.args.first old (g.I.Inputs.view c.args.inputs.now) (g.D.Disk.view c.args.disk.now) (g.S.Sink.view c.args.out.now) head
-    (λ (now : List ℕ). page_from now 4096 ∷ []) (g.D.Disk.view c.format.new.disk) c.in_default.ensures.fresh c.in_default.ensures.cause.later
-    c.open.new.disk c.over-store.result c.over-store.ensures.disk c.in-Ok.ensures.opens (λ told state at. c.over-store.ensures.open state at (c.in-Ok.ensures.found told state at))
-    (c.over-store.ensures.tells.limits_are ∙ c.standard-limits.ensures.numbers) c.over-store.ensures.tells.whole (λ is. (c.over-store.ensures.tells.begun is, c.over-store.ensures.tells.unbegun is)) c.in-Ok.ensures.any.cause (λ now. refl) c.in-Ok.ensures.any.same
-    (fills (c.args.style.style, c.args.style.bytes) c.args.bounds.now c.args.first c.args.changes) (result_err c.fill_store-done.result) c.fill_store-done.new.store
-    c.disk-1.given.0 (c.disk-1.given.1 (sym c.over-store.ensures.same_disk ∙ sym c.fill_store-done.ensures.stays.same_disk ∙ sym c.close-disk.ensures.same_disk) ∙ c.close-disk.ensures.disk)
+    goes_over_made read c.args.first old (g.I.Inputs.view c.args.inputs.now) (g.D.Disk.view c.args.disk.now)
+    (g.S.Sink.view c.args.out.now) head
+    (λ (now : List ℕ). page_from now 4096 ∷ [])
+    (g.D.Disk.view c.format.new.disk) c.in_default.ensures.fresh c.in_default.ensures.cause.later
+    c.open.new.disk c.over-store.result c.over-store.ensures.disk c.in-Ok.ensures.opens
+    (λ told state at. c.over-store.ensures.open state at (c.in-Ok.ensures.found told state at))
+    (c.over-store.ensures.tells.limits_are ∙ c.standard-limits.ensures.numbers) c.over-store.ensures.tells.whole
+    (λ is. (c.over-store.ensures.tells.begun is, c.over-store.ensures.tells.unbegun is)) c.in-Ok.ensures.any.cause
+    (λ now. refl) c.in-Ok.ensures.any.same
+    (fills (c.args.style.style, c.args.style.bytes) c.args.bounds.now c.args.first c.args.changes)
+    (result_err c.fill_store-done.result) c.fill_store-done.new.store
+    c.disk-1.given.0 (c.disk-1.given.1 (sym c.over-store.ensures.same_disk ∙ sym c.fill_store-done.ensures.stays.same_disk
+    ∙ sym c.close-disk.ensures.same_disk) ∙ c.close-disk.ensures.disk)
     (g.I.Inputs.view c.fill_store-done.new.inputs) (g.S.Sink.view c.fill_store-done.new.out) c.fill_store-done.ensures.goes_on

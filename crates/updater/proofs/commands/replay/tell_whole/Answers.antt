@@ -12,15 +12,22 @@ use Rattle.updater.proofs.commands.replay.tell_whole.Goals as goal
 
 pub returns-in-Err-clause-goes_on : goal.returns-in-Err-clause-goes_on
 returns-in-Err-clause-goes_on g c = rw c.in_flow.ensures.fault (λ old files start done held next head.
-    look_refused start done held next old files (handle_of c.args.store.now) (handle_of c.load_tables.new.self) (g.S.Sink.view c.args.out.now) head c.in-Err.fault
-    c.in-Err.ensures.looks c.in-Err.ensures.stays.alone (λ is. c.in-Err.ensures.stays.broken (ap Err is)) (λ is. c.in-Err.ensures.stays.not_old (ap Err is)) c.in-Err.ensures.stays.cause (writes (IsWholeText c.args.least held) ends))
+    look_refused start done held next old files (handle_of c.args.store.now) (handle_of c.load_tables.new.self)
+    (g.S.Sink.view c.args.out.now) head c.in-Err.fault
+    c.in-Err.ensures.looks c.in-Err.ensures.stays.alone (λ is. c.in-Err.ensures.stays.broken (ap Err is))
+    (λ is. c.in-Err.ensures.stays.not_old (ap Err is)) c.in-Err.ensures.stays.cause (writes (IsWholeText c.args.least held) ends))
 
 pub returns-in-Err-due-clause-goes_on : goal.returns-in-Err-due-clause-goes_on
 returns-in-Err-due-clause-goes_on g c = rw c.in_flow-in-Err-due.ensures.fault (λ old files start done held next head.
     let output = g.S.Sink.view c.args.out.now in
-    let sure = look_done start done held next old files (handle_of c.args.store.now) (handle_of c.load_tables.new.self) output head c.in-Ok.ensures.looks (c.in-Ok.ensures.stays.still tt) c.in-Ok.ensures.stays.whole c.load_tables.ensures.stays.over.same_limits c.in-Ok.ensures.stays.cause in
+    let sure = look_done start done held next old files (handle_of c.args.store.now)
+    (handle_of c.load_tables.new.self) output head c.in-Ok.ensures.looks
+    (c.in-Ok.ensures.stays.still tt) c.in-Ok.ensures.stays.whole c.load_tables.ensures.stays.over.same_limits
+    c.in-Ok.ensures.stays.cause in
     look_refused start done held next old files (handle_of c.load_tables.new.self) (handle_of c.due.new.self) output sure c.in-Err-due.fault
-    c.in-Err-due.ensures.looks c.in-Err-due.ensures.stays.alone (λ is. c.in-Err-due.ensures.stays.broken (ap Err is)) (λ is. c.in-Err-due.ensures.stays.not_old (ap Err is)) c.in-Err-due.ensures.stays.cause (writes (IsWholeText c.args.least held) ends))
+    c.in-Err-due.ensures.looks c.in-Err-due.ensures.stays.alone (λ is. c.in-Err-due.ensures.stays.broken (ap Err is))
+    (λ is. c.in-Err-due.ensures.stays.not_old (ap Err is)) c.in-Err-due.ensures.stays.cause
+    (writes (IsWholeText c.args.least held) ends))
 
 pub returns-in-Err-due-clause-stays : goal.returns-in-Err-due-clause-stays
 returns-in-Err-due-clause-stays g c = record {
@@ -31,8 +38,14 @@ returns-in-Err-due-clause-stays g c = record {
 pub returns-in-None-clause-goes_on : goal.returns-in-None-clause-goes_on
 returns-in-None-clause-goes_on g c = λ old files start done held next head.
     let output = g.S.Sink.view c.args.out.now in
-    let first = look_done start done held next old files (handle_of c.args.store.now) (handle_of c.load_tables.new.self) output head c.in-Ok.ensures.looks (c.in-Ok.ensures.stays.still tt) c.in-Ok.ensures.stays.whole c.load_tables.ensures.stays.over.same_limits c.in-Ok.ensures.stays.cause in
-    let sure = look_done start done held next old files (handle_of c.load_tables.new.self) (handle_of c.due.new.self) output first c.in-Ok-due.ensures.looks (c.in-Ok-due.ensures.stays.still tt) c.in-Ok-due.ensures.stays.whole c.due.ensures.stays.over.same_limits c.in-Ok-due.ensures.stays.cause in
+    let first = look_done start done held next old files (handle_of c.args.store.now)
+    (handle_of c.load_tables.new.self) output head c.in-Ok.ensures.looks
+    (c.in-Ok.ensures.stays.still tt) c.in-Ok.ensures.stays.whole c.load_tables.ensures.stays.over.same_limits
+    c.in-Ok.ensures.stays.cause in
+    let sure = look_done start done held next old files (handle_of c.load_tables.new.self)
+    (handle_of c.due.new.self) output first c.in-Ok-due.ensures.looks
+    (c.in-Ok-due.ensures.stays.still tt) c.in-Ok-due.ensures.stays.whole c.due.ensures.stays.over.same_limits
+    c.in-Ok-due.ensures.stays.cause in
     has_style start done held next old files (handle_of c.due.new.self) output _ sure c.in-None.ensures.style
 
 pub returns-in-Ok-text-clause-goes_on : goal.returns-in-Ok-text-clause-goes_on
@@ -40,15 +53,24 @@ returns-in-Ok-text-clause-goes_on g c = λ old files start done held next head.
     let output = g.S.Sink.view c.args.out.now in
     let text = c.deref.result.now in
     let new = g.S.Sink.view c.tell.new.out in
-    let first = look_done start done held next old files (handle_of c.args.store.now) (handle_of c.load_tables.new.self) output head c.in-Ok.ensures.looks (c.in-Ok.ensures.stays.still tt) c.in-Ok.ensures.stays.whole c.load_tables.ensures.stays.over.same_limits c.in-Ok.ensures.stays.cause in
-    let sure = look_done start done held next old files (handle_of c.load_tables.new.self) (handle_of c.due.new.self) output first c.in-Ok-due.ensures.looks (c.in-Ok-due.ensures.stays.still tt) c.in-Ok-due.ensures.stays.whole c.due.ensures.stays.over.same_limits c.in-Ok-due.ensures.stays.cause in
-    look_ends start done held next old files (handle_of c.load_tables.new.self) (handle_of c.due.new.self) output first (IsWholeText c.args.least held) sure text new c.tell.result
+    let first = look_done start done held next old files (handle_of c.args.store.now)
+    (handle_of c.load_tables.new.self) output head c.in-Ok.ensures.looks
+    (c.in-Ok.ensures.stays.still tt) c.in-Ok.ensures.stays.whole c.load_tables.ensures.stays.over.same_limits
+    c.in-Ok.ensures.stays.cause in
+    let sure = look_done start done held next old files (handle_of c.load_tables.new.self)
+    (handle_of c.due.new.self) output first c.in-Ok-due.ensures.looks
+    (c.in-Ok-due.ensures.stays.still tt) c.in-Ok-due.ensures.stays.whole c.due.ensures.stays.over.same_limits
+    c.in-Ok-due.ensures.stays.cause in
+    look_ends start done held next old files (handle_of c.load_tables.new.self) (handle_of c.due.new.self) output first
+    (IsWholeText c.args.least held) sure text new c.tell.result
     (λ read certain. (
       tile_text c.in-Ok-due.due c.args.least,
       (c.in-Ok-due.due, c.in-Ok-due.ensures.due held (held_certain done held (handle_of c.load_tables.new.self) first.here certain), refl),
       c.deref.ensures.value ∙ c.in-Ok-text.ensures.text
-          ∙ ap (λ (style : StyleOf). tables_text style c.in-Ok.tables ++ codes "tiles\n" ++ tile_text c.in-Ok-due.due c.args.least) (same_style start done held next old files (handle_of c.due.new.self) output sure c.in-Some.style.now c.in-Some.ensures.style)
-          ∙ ap (λ (found : TableMap). tables_text held.style found ++ codes "tiles\n" ++ tile_text c.in-Ok-due.due c.args.least) (c.in-Ok.ensures.tables held (held_certain done held (handle_of c.args.store.now) head.here certain)),
+          ∙ ap (λ (style : StyleOf). tables_text style c.in-Ok.tables ++ codes "tiles\n" ++ tile_text c.in-Ok-due.due c.args.least)
+          (same_style start done held next old files (handle_of c.due.new.self) output sure c.in-Some.style.now c.in-Some.ensures.style)
+          ∙ ap (λ (found : TableMap). tables_text held.style found ++ codes "tiles\n" ++ tile_text c.in-Ok-due.due c.args.least)
+          (c.in-Ok.ensures.tables held (held_certain done held (handle_of c.args.store.now) head.here certain)),
     ))
     c.tell.ensures.ok c.tell.ensures.err c.tell.ensures.alone c.tell.ensures.cause
 
@@ -61,6 +83,13 @@ returns-in-Ok-text-clause-stays g c = record {
 pub returns-clause-goes_on : goal.returns-clause-goes_on
 returns-clause-goes_on g c = λ old files start done held next head.
     let output = g.S.Sink.view c.args.out.now in
-    let first = look_done start done held next old files (handle_of c.args.store.now) (handle_of c.load_tables.new.self) output head c.in-Ok.ensures.looks (c.in-Ok.ensures.stays.still tt) c.in-Ok.ensures.stays.whole c.load_tables.ensures.stays.over.same_limits c.in-Ok.ensures.stays.cause in
-    let sure = look_done start done held next old files (handle_of c.load_tables.new.self) (handle_of c.due.new.self) output first c.in-Ok-due.ensures.looks (c.in-Ok-due.ensures.stays.still tt) c.in-Ok-due.ensures.stays.whole c.due.ensures.stays.over.same_limits c.in-Ok-due.ensures.stays.cause in
-    look_short start done held next old files (handle_of c.load_tables.new.self) (handle_of c.due.new.self) output first (IsWholeText c.args.least held) ends sure
+    let first = look_done start done held next old files (handle_of c.args.store.now)
+    (handle_of c.load_tables.new.self) output head c.in-Ok.ensures.looks
+    (c.in-Ok.ensures.stays.still tt) c.in-Ok.ensures.stays.whole c.load_tables.ensures.stays.over.same_limits
+    c.in-Ok.ensures.stays.cause in
+    let sure = look_done start done held next old files (handle_of c.load_tables.new.self)
+    (handle_of c.due.new.self) output first c.in-Ok-due.ensures.looks
+    (c.in-Ok-due.ensures.stays.still tt) c.in-Ok-due.ensures.stays.whole c.due.ensures.stays.over.same_limits
+    c.in-Ok-due.ensures.stays.cause in
+    look_short start done held next old files (handle_of c.load_tables.new.self) (handle_of c.due.new.self) output first
+    (IsWholeText c.args.least held) ends sure

@@ -6,45 +6,65 @@ use Rattle.run_promise.specs.Course.{writes}
 use Rattle.run_promise.specs.Progress.{plus}
 use Rattle.run_promise.specs.World.{world}
 use Rattle.updater.proofs.HeadLaws.{ends_here}
-use Rattle.updater.proofs.StoreRuns.{clear_done, clear_refused, held_certain, if_there, look_done, look_refused, look_short, look_told, look_untold, not_yet, outdated_there}
+use Rattle.updater.proofs.StoreRuns.{clear_done, clear_refused, held_certain, if_there, look_done, look_refused, look_short, look_told}
+use Rattle.updater.proofs.StoreRuns.{look_untold, not_yet, outdated_there}
 use Rattle.updater.proofs.commands.tiles.tiles_in.Goals as goal
 
 pub returns-then-old-clause-goes_on : goal.returns-then-old-clause-goes_on
 returns-then-old-clause-goes_on g c = λ old start done state head.
-    outdated_there start done 0 old (g.I.Inputs.view c.args.inputs.now) (handle_of c.args.store.now) (g.S.Sink.view c.args.out.now) _ state head (sym c.old.ensures.is ∙ c.if-old.true)
+    outdated_there start done 0 old (g.I.Inputs.view c.args.inputs.now) (handle_of c.args.store.now)
+    (g.S.Sink.view c.args.out.now) _ state head (sym c.old.ensures.is ∙ c.if-old.true)
 
 pub returns-then-not-imported-clause-goes_on : goal.returns-then-not-imported-clause-goes_on
 returns-then-not-imported-clause-goes_on g c = λ old start done state head.
-    not_yet start done 0 old (g.I.Inputs.view c.args.inputs.now) (handle_of c.args.store.now) (g.S.Sink.view c.args.out.now) _ state head (sym c.old.ensures.is ∙ c.if-old.false) (sym c.imported.ensures.is ∙ c.if-not-imported.true)
+    not_yet start done 0 old (g.I.Inputs.view c.args.inputs.now) (handle_of c.args.store.now) (g.S.Sink.view c.args.out.now) _ state head
+    (sym c.old.ensures.is ∙ c.if-old.false) (sym c.imported.ensures.is ∙ c.if-not-imported.true)
 
 pub returns-in-Err-clause-goes_on : goal.returns-in-Err-clause-goes_on
 returns-in-Err-clause-goes_on g c = rw c.in_flow.ensures.fault (λ old start done state head.
     let files = g.I.Inputs.view c.args.inputs.now in
     let output = g.S.Sink.view c.args.out.now in
-    if_there start done 0 old files (handle_of c.args.store.now) output _ _ _ state head (sym c.old.ensures.is ∙ c.if-old.false) (sym c.imported.ensures.is ∙ c.if-not-imported.false)
-    (λ held head. look_refused start done held 0 old files (handle_of c.args.store.now) (handle_of c.due.new.self) output head c.in-Err.fault c.in-Err.ensures.looks c.in-Err.ensures.stays.alone (λ is. c.in-Err.ensures.stays.broken (ap Err is)) (λ is. c.in-Err.ensures.stays.not_old (ap Err is)) c.in-Err.ensures.stays.cause
+    if_there start done 0 old files (handle_of c.args.store.now) output _ _ _ state head (sym c.old.ensures.is ∙ c.if-old.false)
+    (sym c.imported.ensures.is ∙ c.if-not-imported.false)
+    (λ held head. look_refused start done held 0 old files (handle_of c.args.store.now)
+    (handle_of c.due.new.self) output head c.in-Err.fault c.in-Err.ensures.looks c.in-Err.ensures.stays.alone
+    (λ is. c.in-Err.ensures.stays.broken (ap Err is))
+    (λ is. c.in-Err.ensures.stays.not_old (ap Err is)) c.in-Err.ensures.stays.cause
     (writes (IsTileText held.due c.args.least) (clears c.args.clear))))
 
 pub returns-in-Err-tiles_text-clause-goes_on : goal.returns-in-Err-tiles_text-clause-goes_on
 returns-in-Err-tiles_text-clause-goes_on g c = λ old start done state head.
     let files = g.I.Inputs.view c.args.inputs.now in
     let output = g.S.Sink.view c.args.out.now in
-    if_there start done 0 old files (handle_of c.args.store.now) output _ _ _ state head (sym c.old.ensures.is ∙ c.if-old.false) (sym c.imported.ensures.is ∙ c.if-not-imported.false)
+    if_there start done 0 old files (handle_of c.args.store.now) output _ _ _ state head (sym c.old.ensures.is ∙ c.if-old.false)
+    (sym c.imported.ensures.is ∙ c.if-not-imported.false)
     (λ held head.
-    let sure = look_done start done held 0 old files (handle_of c.args.store.now) (handle_of c.due.new.self) output head c.in-Ok.ensures.looks (c.in-Ok.ensures.stays.still tt) c.in-Ok.ensures.stays.whole c.due.ensures.stays.over.same_limits c.in-Ok.ensures.stays.cause in
-    look_short start done held 0 old files (handle_of c.args.store.now) (handle_of c.due.new.self) output head (IsTileText held.due c.args.least) (clears c.args.clear) sure)
+    let sure = look_done start done held 0 old files (handle_of c.args.store.now)
+    (handle_of c.due.new.self) output head c.in-Ok.ensures.looks
+    (c.in-Ok.ensures.stays.still tt) c.in-Ok.ensures.stays.whole c.due.ensures.stays.over.same_limits c.in-Ok.ensures.stays.cause in
+    look_short start done held 0 old files (handle_of c.args.store.now) (handle_of c.due.new.self) output head
+    (IsTileText held.due c.args.least) (clears c.args.clear) sure)
 
 pub returns-in-Err-tell-clause-goes_on : goal.returns-in-Err-tell-clause-goes_on
 returns-in-Err-tell-clause-goes_on g c = λ old start done state head.
     let files = g.I.Inputs.view c.args.inputs.now in
     let output = g.S.Sink.view c.args.out.now in
-    if_there start done 0 old files (handle_of c.args.store.now) output _ _ _ state head (sym c.old.ensures.is ∙ c.if-old.false) (sym c.imported.ensures.is ∙ c.if-not-imported.false)
+    if_there start done 0 old files (handle_of c.args.store.now) output _ _ _ state head (sym c.old.ensures.is ∙ c.if-old.false)
+    (sym c.imported.ensures.is ∙ c.if-not-imported.false)
     (λ held head.
-    let sure = look_done start done held 0 old files (handle_of c.args.store.now) (handle_of c.due.new.self) output head c.in-Ok.ensures.looks (c.in-Ok.ensures.stays.still tt) c.in-Ok.ensures.stays.whole c.due.ensures.stays.over.same_limits c.in-Ok.ensures.stays.cause in
-    look_untold start done held 0 old files (handle_of c.args.store.now) (handle_of c.due.new.self) output head (IsTileText held.due c.args.least) (clears c.args.clear) sure
+    let sure = look_done start done held 0 old files (handle_of c.args.store.now)
+    (handle_of c.due.new.self) output head c.in-Ok.ensures.looks
+    (c.in-Ok.ensures.stays.still tt) c.in-Ok.ensures.stays.whole c.due.ensures.stays.over.same_limits c.in-Ok.ensures.stays.cause in
+    look_untold start done held 0 old files (handle_of c.args.store.now) (handle_of c.due.new.self) output head
+    (IsTileText held.due c.args.least) (clears c.args.clear) sure
     c.deref.result.now (g.S.Sink.view c.tell.new.out) c.in-Err-tell.fault
-    (λ read certain. (c.in-Ok.due, c.in-Ok.ensures.due held (held_certain done held (handle_of c.args.store.now) head.here certain), c.deref.ensures.value ∙ c.in-Ok-tiles_text.ensures.text))
-    c.in-Err-tell.ensures.err c.in-Err-tell.ensures.alone (record { later = c.in-Err-tell.ensures.cause.later; failed = c.in-Err-tell.ensures.cause.failed }))
+    (λ read certain. (
+      c.in-Ok.due,
+      c.in-Ok.ensures.due held (held_certain done held (handle_of c.args.store.now) head.here certain),
+      c.deref.ensures.value ∙ c.in-Ok-tiles_text.ensures.text,
+    ))
+    c.in-Err-tell.ensures.err c.in-Err-tell.ensures.alone
+    (record { later = c.in-Err-tell.ensures.cause.later; failed = c.in-Err-tell.ensures.cause.failed }))
 
 pub returns-then-not-clear-clause-goes_on : goal.returns-then-not-clear-clause-goes_on
 returns-then-not-clear-clause-goes_on g c = rw c.if-not-clear.true (λ old start done state head.
@@ -52,11 +72,20 @@ returns-then-not-clear-clause-goes_on g c = rw c.if-not-clear.true (λ old start
     let output = g.S.Sink.view c.args.out.now in
     let text = c.deref.result.now in
     let new = g.S.Sink.view c.tell.new.out in
-    if_there start done 0 old files (handle_of c.args.store.now) output _ None (world files (view_of (handle_of c.due.new.self)) new) state head (sym c.old.ensures.is ∙ c.if-old.false) (sym c.imported.ensures.is ∙ c.if-not-imported.false)
+    if_there start done 0 old files (handle_of c.args.store.now) output _ None
+    (world files (view_of (handle_of c.due.new.self)) new) state head (sym c.old.ensures.is ∙ c.if-old.false)
+    (sym c.imported.ensures.is ∙ c.if-not-imported.false)
     (λ held head.
-    let sure = look_done start done held 0 old files (handle_of c.args.store.now) (handle_of c.due.new.self) output head c.in-Ok.ensures.looks (c.in-Ok.ensures.stays.still tt) c.in-Ok.ensures.stays.whole c.due.ensures.stays.over.same_limits c.in-Ok.ensures.stays.cause in
-    look_told start done held 0 old files (handle_of c.args.store.now) (handle_of c.due.new.self) output head (IsTileText held.due c.args.least) (clears false) sure text new
-    (λ read certain. (c.in-Ok.due, c.in-Ok.ensures.due held (held_certain done held (handle_of c.args.store.now) head.here certain), c.deref.ensures.value ∙ c.in-Ok-tiles_text.ensures.text))
+    let sure = look_done start done held 0 old files (handle_of c.args.store.now)
+    (handle_of c.due.new.self) output head c.in-Ok.ensures.looks
+    (c.in-Ok.ensures.stays.still tt) c.in-Ok.ensures.stays.whole c.due.ensures.stays.over.same_limits c.in-Ok.ensures.stays.cause in
+    look_told start done held 0 old files (handle_of c.args.store.now) (handle_of c.due.new.self) output head
+    (IsTileText held.due c.args.least) (clears false) sure text new
+    (λ read certain. (
+      c.in-Ok.due,
+      c.in-Ok.ensures.due held (held_certain done held (handle_of c.args.store.now) head.here certain),
+      c.deref.ensures.value ∙ c.in-Ok-tiles_text.ensures.text,
+    ))
     c.in_default.ensures.ok c.tell.ensures.cause.later None (world files (view_of (handle_of c.due.new.self)) new)
     (λ head. ends_here start (plus text done) _ 0 old files (handle_of c.due.new.self) new head)))
 
@@ -66,14 +95,24 @@ returns-in-Ok-clear_due-clause-goes_on g c = rw c.if-not-clear.false (λ old sta
     let output = g.S.Sink.view c.args.out.now in
     let text = c.deref.result.now in
     let new = g.S.Sink.view c.tell.new.out in
-    if_there start done 0 old files (handle_of c.args.store.now) output _ None (world files (view_of (handle_of c.clear_due.new.self)) new) state head (sym c.old.ensures.is ∙ c.if-old.false) (sym c.imported.ensures.is ∙ c.if-not-imported.false)
+    if_there start done 0 old files (handle_of c.args.store.now) output _ None
+    (world files (view_of (handle_of c.clear_due.new.self)) new) state head (sym c.old.ensures.is ∙ c.if-old.false)
+    (sym c.imported.ensures.is ∙ c.if-not-imported.false)
     (λ held head.
-    let sure = look_done start done held 0 old files (handle_of c.args.store.now) (handle_of c.due.new.self) output head c.in-Ok.ensures.looks (c.in-Ok.ensures.stays.still tt) c.in-Ok.ensures.stays.whole c.due.ensures.stays.over.same_limits c.in-Ok.ensures.stays.cause in
-    look_told start done held 0 old files (handle_of c.args.store.now) (handle_of c.due.new.self) output head (IsTileText held.due c.args.least) (clears true) sure text new
-    (λ read certain. (c.in-Ok.due, c.in-Ok.ensures.due held (held_certain done held (handle_of c.args.store.now) head.here certain), c.deref.ensures.value ∙ c.in-Ok-tiles_text.ensures.text))
+    let sure = look_done start done held 0 old files (handle_of c.args.store.now)
+    (handle_of c.due.new.self) output head c.in-Ok.ensures.looks
+    (c.in-Ok.ensures.stays.still tt) c.in-Ok.ensures.stays.whole c.due.ensures.stays.over.same_limits c.in-Ok.ensures.stays.cause in
+    look_told start done held 0 old files (handle_of c.args.store.now) (handle_of c.due.new.self) output head
+    (IsTileText held.due c.args.least) (clears true) sure text new
+    (λ read certain. (
+      c.in-Ok.due,
+      c.in-Ok.ensures.due held (held_certain done held (handle_of c.args.store.now) head.here certain),
+      c.deref.ensures.value ∙ c.in-Ok-tiles_text.ensures.text,
+    ))
     c.in_default.ensures.ok c.tell.ensures.cause.later None (world files (view_of (handle_of c.clear_due.new.self)) new)
     (λ head. clear_done start (plus text done) held 0 old files (handle_of c.due.new.self) (handle_of c.clear_due.new.self) new head
-    c.in-Ok-clear_due.ensures.takes (c.in-Ok-clear_due.ensures.stays.still tt) c.in-Ok-clear_due.ensures.stays.whole c.clear_due.ensures.stays.over.same_limits c.in-Ok-clear_due.ensures.stays.cause)))
+    c.in-Ok-clear_due.ensures.takes (c.in-Ok-clear_due.ensures.stays.still tt) c.in-Ok-clear_due.ensures.stays.whole
+    c.clear_due.ensures.stays.over.same_limits c.in-Ok-clear_due.ensures.stays.cause)))
 
 pub returns-clause-goes_on : goal.returns-clause-goes_on
 returns-clause-goes_on g c = rw c.in_flow-in-Err-clear_due.ensures.fault (rw c.if-not-clear.false (λ old start done state head.
@@ -81,11 +120,22 @@ returns-clause-goes_on g c = rw c.in_flow-in-Err-clear_due.ensures.fault (rw c.i
     let output = g.S.Sink.view c.args.out.now in
     let text = c.deref.result.now in
     let new = g.S.Sink.view c.tell.new.out in
-    if_there start done 0 old files (handle_of c.args.store.now) output _ _ (world files (view_of (handle_of c.clear_due.new.self)) new) state head (sym c.old.ensures.is ∙ c.if-old.false) (sym c.imported.ensures.is ∙ c.if-not-imported.false)
+    if_there start done 0 old files (handle_of c.args.store.now) output _ _
+    (world files (view_of (handle_of c.clear_due.new.self)) new) state head (sym c.old.ensures.is ∙ c.if-old.false)
+    (sym c.imported.ensures.is ∙ c.if-not-imported.false)
     (λ held head.
-    let sure = look_done start done held 0 old files (handle_of c.args.store.now) (handle_of c.due.new.self) output head c.in-Ok.ensures.looks (c.in-Ok.ensures.stays.still tt) c.in-Ok.ensures.stays.whole c.due.ensures.stays.over.same_limits c.in-Ok.ensures.stays.cause in
-    look_told start done held 0 old files (handle_of c.args.store.now) (handle_of c.due.new.self) output head (IsTileText held.due c.args.least) (clears true) sure text new
-    (λ read certain. (c.in-Ok.due, c.in-Ok.ensures.due held (held_certain done held (handle_of c.args.store.now) head.here certain), c.deref.ensures.value ∙ c.in-Ok-tiles_text.ensures.text))
+    let sure = look_done start done held 0 old files (handle_of c.args.store.now)
+    (handle_of c.due.new.self) output head c.in-Ok.ensures.looks
+    (c.in-Ok.ensures.stays.still tt) c.in-Ok.ensures.stays.whole c.due.ensures.stays.over.same_limits c.in-Ok.ensures.stays.cause in
+    look_told start done held 0 old files (handle_of c.args.store.now) (handle_of c.due.new.self) output head
+    (IsTileText held.due c.args.least) (clears true) sure text new
+    (λ read certain. (
+      c.in-Ok.due,
+      c.in-Ok.ensures.due held (held_certain done held (handle_of c.args.store.now) head.here certain),
+      c.deref.ensures.value ∙ c.in-Ok-tiles_text.ensures.text,
+    ))
     c.in_default.ensures.ok c.tell.ensures.cause.later _ (world files (view_of (handle_of c.clear_due.new.self)) new)
     (λ head. clear_refused start (plus text done) held 0 old files (handle_of c.due.new.self) (handle_of c.clear_due.new.self) new head
-    c.in-Err-clear_due.fault c.in-Err-clear_due.ensures.takes c.in-Err-clear_due.ensures.stays.alone (λ is. c.in-Err-clear_due.ensures.stays.broken (ap Err is)) (λ is. c.in-Err-clear_due.ensures.stays.not_old (ap Err is)) c.in-Err-clear_due.ensures.stays.cause))))
+    c.in-Err-clear_due.fault c.in-Err-clear_due.ensures.takes c.in-Err-clear_due.ensures.stays.alone
+    (λ is. c.in-Err-clear_due.ensures.stays.broken (ap Err is))
+    (λ is. c.in-Err-clear_due.ensures.stays.not_old (ap Err is)) c.in-Err-clear_due.ensures.stays.cause))))

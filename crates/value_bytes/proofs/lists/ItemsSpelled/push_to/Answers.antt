@@ -12,5 +12,6 @@ returns-clause-ok g c =
     c.in_ok-push_many.ensures.ok
     ∙ ap (λ (l : List ℕ). l ++ all_bytes spell c.as_slice-2.result.now) c.in_ok-push_number.ensures.ok
     ∙ append_assoc c.args.out.now.items (number_bytes (length c.as_slice.result.now)) (all_bytes spell c.as_slice-2.result.now)
-    ∙ ap (λ (l : List _). c.args.out.now.items ++ (number_bytes (length l) ++ all_bytes spell c.as_slice-2.result.now)) c.as_slice.ensures.items
+    ∙ ap (λ (l : List _). c.args.out.now.items ++ (number_bytes (length l) ++ all_bytes spell c.as_slice-2.result.now))
+    c.as_slice.ensures.items
     ∙ ap (λ (l : List _). c.args.out.now.items ++ (number_bytes (length list) ++ all_bytes spell l)) c.as_slice-2.ensures.items

@@ -12,5 +12,6 @@ returns-in_default-clause-refused c =
 
 pub returns-clause-value : goal.returns-clause-value
 returns-clause-value c =
-    member_front c.args.bytes.now c.in-Some.found.0 c.in-Some.found.1.now (chars c.in-Some-front_text.role.now) c.in-Some-front_text.rest.now _
+    member_front c.args.bytes.now c.in-Some.found.0 c.in-Some.found.1.now
+    (chars c.in-Some-front_text.role.now) c.in-Some-front_text.rest.now _
     c.in-Some.ensures.key c.in-Some-front_text.ensures.text refl c.in_ok-role.ensures.characters

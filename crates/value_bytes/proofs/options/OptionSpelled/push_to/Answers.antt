@@ -18,4 +18,5 @@ returns-in_ok-push_form-in-Some-clause-ok g c =
 
 pub returns-in_ok-push_form-in-Some-clause-is : goal.returns-in_ok-push_form-in-Some-clause-is
 returns-in_ok-push_form-in-Some-clause-is g c =
-    subst (λ o. IsOption g.T.Spelled.is o) (sym c.in-Some.is) (is_present g.T.Spelled.is c.in-Some.value c.in_ok-push_form-in-Some.ensures.is)
+    subst (λ o. IsOption g.T.Spelled.is o) (sym c.in-Some.is)
+    (is_present g.T.Spelled.is c.in-Some.value c.in_ok-push_form-in-Some.ensures.is)

@@ -16,11 +16,13 @@ returns-in_default-clause-refused c = no_cell c.args.bytes.now (c.in_default.ens
 
 pub returns-in_default-byte-clause-refused : goal.returns-in_default-byte-clause-refused
 returns-in_default-byte-clause-refused c =
-    other_cell c.args.bytes.now c.in-Some.byte c.in-Some.behind.now c.in-Some.ensures.byte (λ e. omega arith) (λ e. omega arith) (λ e. omega arith)
+    other_cell c.args.bytes.now c.in-Some.byte c.in-Some.behind.now c.in-Some.ensures.byte (λ e. omega arith) (λ e. omega arith)
+    (λ e. omega arith)
 
 pub returns-in-0-clause-value : goal.returns-in-0-clause-value
 returns-in-0-clause-value c =
-    variant_front 0 nothing IsNothing cell_bytes IsCell (λ _. cells.Null) null_cell c.args.bytes.now c.in-Some.behind.now tt c.in-Some.behind.now
+    variant_front 0 nothing IsNothing cell_bytes IsCell
+    (λ _. cells.Null) null_cell c.args.bytes.now c.in-Some.behind.now tt c.in-Some.behind.now
     (c.in-Some.ensures.byte ∙ ap (λ b. b ∷ c.in-Some.behind.now) c.in-0.is) (front_nothing c.in-Some.behind.now)
 
 pub returns-in-None-clause-refused : goal.returns-in-None-clause-refused
@@ -30,8 +32,10 @@ returns-in-None-clause-refused c =
 
 pub returns-in_ok-from_str-in-Some-front_text-clause-value : goal.returns-in_ok-from_str-in-Some-front_text-clause-value
 returns-in_ok-from_str-in-Some-front_text-clause-value c =
-    subst (λ l. IsFront cell_bytes IsCell c.args.bytes.now (cells.Text l) c.in-Some-front_text.rest.now) (sym c.in_ok-from_str-in-Some-front_text.ensures.characters)
-    (variant_front 1 text_bytes IsText cell_bytes IsCell cells.Text text_cell c.args.bytes.now c.in-Some.behind.now (chars c.in-Some-front_text.text.now)
+    subst (λ l. IsFront cell_bytes IsCell c.args.bytes.now (cells.Text l) c.in-Some-front_text.rest.now)
+    (sym c.in_ok-from_str-in-Some-front_text.ensures.characters)
+    (variant_front 1 text_bytes IsText cell_bytes IsCell cells.Text text_cell c.args.bytes.now c.in-Some.behind.now
+    (chars c.in-Some-front_text.text.now)
     c.in-Some-front_text.rest.now (c.in-Some.ensures.byte ∙ ap (λ b. b ∷ c.in-Some.behind.now) c.in-1.is) c.in-Some-front_text.ensures.text)
 
 pub returns-in-Some-front_int-clause-value : goal.returns-in-Some-front_int-clause-value

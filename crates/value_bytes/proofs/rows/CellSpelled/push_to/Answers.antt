@@ -27,7 +27,8 @@ returns-in_ok-push_text-in-Text-clause-ok c =
 
 pub returns-in_ok-push_text-in-Text-clause-is : goal.returns-in_ok-push_text-in-Text-clause-is
 returns-in_ok-push_text-in-Text-clause-is c =
-    subst IsCell (sym c.in-Text.is) (text_cell.is c.in-Text.text (subst IsText c.as_str.ensures.characters c.in_ok-push_text-in-Text.ensures.is))
+    subst IsCell (sym c.in-Text.is) (text_cell.is c.in-Text.text
+    (subst IsText c.as_str.ensures.characters c.in_ok-push_text-in-Text.ensures.is))
 
 pub returns-in_ok-push_int-in-Int-clause-ok : goal.returns-in_ok-push_int-in-Int-clause-ok
 returns-in_ok-push_int-in-Int-clause-ok c =

@@ -28,7 +28,8 @@ returns-in-Line-clause-ok c =
 
 pub returns-in-Line-clause-is : goal.returns-in-Line-clause-is
 returns-in-Line-clause-is c =
-    on_ok_weaker c.push_form-in-Line.result (λ is. subst IsGeometry (sym c.in-Line.is) (line.is c.in-Line.places is)) c.push_form-in-Line.ensures.is
+    on_ok_weaker c.push_form-in-Line.result (λ is. subst IsGeometry (sym c.in-Line.is) (line.is c.in-Line.places is))
+    c.push_form-in-Line.ensures.is
 
 pub returns-in-Lines-clause-ok : goal.returns-in-Lines-clause-ok
 returns-in-Lines-clause-ok c =
@@ -39,15 +40,18 @@ returns-in-Lines-clause-ok c =
 
 pub returns-in-Lines-clause-is : goal.returns-in-Lines-clause-is
 returns-in-Lines-clause-is c =
-    on_ok_weaker c.push_form-in-Lines.result (λ is. subst IsGeometry (sym c.in-Lines.is) (lines.is c.in-Lines.lines is)) c.push_form-in-Lines.ensures.is
+    on_ok_weaker c.push_form-in-Lines.result
+    (λ is. subst IsGeometry (sym c.in-Lines.is) (lines.is c.in-Lines.lines is)) c.push_form-in-Lines.ensures.is
 
 pub returns-in-Area-clause-ok : goal.returns-in-Area-clause-ok
 returns-in-Area-clause-ok c =
     on_ok_weaker c.push_form-in-Area.result
-    (λ put. put ∙ variant_put 4 (list_bytes lines_bytes) (IsList AreLines) geometry_bytes IsGeometry Area area c.in-Area.polygons c.args.out.now.items
+    (λ put. put ∙ variant_put 4 (list_bytes lines_bytes)
+    (IsList AreLines) geometry_bytes IsGeometry Area area c.in-Area.polygons c.args.out.now.items
     ∙ ap (λ g. c.args.out.now.items ++ geometry_bytes g) (sym c.in-Area.is))
     c.push_form-in-Area.ensures.ok
 
 pub returns-in-Area-clause-is : goal.returns-in-Area-clause-is
 returns-in-Area-clause-is c =
-    on_ok_weaker c.push_form-in-Area.result (λ is. subst IsGeometry (sym c.in-Area.is) (area.is c.in-Area.polygons is)) c.push_form-in-Area.ensures.is
+    on_ok_weaker c.push_form-in-Area.result (λ is. subst IsGeometry (sym c.in-Area.is) (area.is c.in-Area.polygons is))
+    c.push_form-in-Area.ensures.is

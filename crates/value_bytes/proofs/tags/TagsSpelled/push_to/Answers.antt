@@ -20,4 +20,8 @@ pub returns-clause-is : goal.returns-clause-is
 returns-clause-is c =
     let entries = map.entries c.args.self.now in
     let long : c.len.result ≡ length entries = c.len.ensures.count ∙ map.len-entries c.args.self.now in
-    tags_are c.args.self.now (record { few = subst (λ (n : ℕ). n < 2 ^ 64) long c.in_ok-push_number.ensures.is; each = c.in_ok-push_each.ensures.is })
+    tags_are c.args.self.now (record {
+      few = subst (λ (n : ℕ). n < 2 ^ 64) long c.in_ok-push_number.ensures.is;
+      each =
+          c.in_ok-push_each.ensures.is;
+    })

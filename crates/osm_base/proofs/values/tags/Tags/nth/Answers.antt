@@ -8,13 +8,15 @@ use Rattle.osm_base.proofs.values.tags.Tags.nth.Goals as goal
 pub key_at-requires-clause-within : goal.key_at-requires-clause-within
 key_at-requires-clause-within c =
     let size : length c.deref-2.result.now ≡ map.len c.args.self.now =
-    ap length c.deref-2.ensures.value ∙ length-len c.self.inside.text.items c.self.inside.spans.items c.self.invariant ∙ ap map.len c.self.view_is in
+    ap length c.deref-2.ensures.value ∙ length-len c.self.inside.text.items c.self.inside.spans.items c.self.invariant
+    ∙ ap map.len c.self.view_is in
     omega arith
 
 pub value_at-requires-clause-within : goal.value_at-requires-clause-within
 value_at-requires-clause-within c =
     let size : length c.deref-4.result.now ≡ map.len c.args.self.now =
-    ap length c.deref-4.ensures.value ∙ length-len c.self.inside.text.items c.self.inside.spans.items c.self.invariant ∙ ap map.len c.self.view_is in
+    ap length c.deref-4.ensures.value ∙ length-len c.self.inside.text.items c.self.inside.spans.items c.self.invariant
+    ∙ ap map.len c.self.view_is in
     omega arith
 
 pub returns : goal.returns
@@ -29,5 +31,6 @@ returns c =
     c.value_at.ensures.value past_the_end ∙ rw (c.deref-3.ensures.value, c.deref-4.ensures.value) in
     record {
       tag = ap (λ tags. slice_get (map.entries tags) c.args.index) (sym c.self.view_is)
-          ∙ slice_get-entries text spans c.self.invariant c.args.index past_the_end c.key_at.result.now c.value_at.result.now within key value;
+          ∙ slice_get-entries text spans c.self.invariant c.args.index past_the_end c.key_at.result.now c.value_at.result.now within key
+          value;
     }

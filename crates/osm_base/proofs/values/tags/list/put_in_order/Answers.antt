@@ -15,7 +15,8 @@ pub returns-clause-once : goal.returns-clause-once
 returns-clause-once c =
     let old = pairs_of c.args.text.now c.args.spans.now in
     let new = pairs_of c.args.text.now c.sort.new.spans in
-    let moved : IsPermutation old new = IsPermutation-map (pair_of c.args.text.now) c.args.spans.now c.sort.new.spans c.sort.ensures.permutation in (
+    let moved : IsPermutation old new = IsPermutation-map
+    (pair_of c.args.text.now) c.args.spans.now c.sort.new.spans c.sort.ensures.permutation in (
       λ yes. once-IsPermutation new old (IsPermutation-sym old new moved) (once-rising new (c.are_rising-2.ensures.rising.0 yes)),
       λ once. c.are_rising-2.ensures.rising.1
           (rising-once c.args.text.now c.sort.new.spans c.sort.ensures.cuts c.sort.ensures.sorted (once-IsPermutation old new moved once)),
@@ -25,7 +26,8 @@ pub returns-clause-map : goal.returns-clause-map
 returns-clause-map c =
     let old = pairs_of c.args.text.now c.args.spans.now in
     let new = pairs_of c.args.text.now c.sort.new.spans in
-    let moved : IsPermutation old new = IsPermutation-map (pair_of c.args.text.now) c.args.spans.now c.sort.new.spans c.sort.ensures.permutation in
+    let moved : IsPermutation old new = IsPermutation-map
+    (pair_of c.args.text.now) c.args.spans.now c.sort.new.spans c.sort.ensures.permutation in
     λ yes.
     let once = once-rising new (c.are_rising-2.ensures.rising.0 yes) in
     from_entries-IsPermutation old new moved (once-IsPermutation new old (IsPermutation-sym old new moved) once) once
