@@ -1,5 +1,5 @@
 -- What calls leave of a store, one call after another.
-use Rattle.std.proofs.Common.{◌≡◌, ℕ, Bool, true, false, ◌||◌, List, Result, Ok, Err, IfErr, refl, sym, ap, subst, ◌∙◌, arith}
+use Rattle.std.proofs.Common.{◌≡◌, ◌≤◌, ℕ, Bool, true, false, ◌||◌, List, Result, Ok, Err, IfErr, refl, sym, ap, subst, ◌∙◌, arith}
 use Rattle.std.specs.FinMap as map
 use Rattle.std.specs.Option.{MatchOption}
 use Rattle.outside.specs.declared.disk.Disk.{Ghosts}
@@ -17,7 +17,7 @@ use Rattle.bucket_records.specs.Records.{BucketMap}
 use Rattle.bucket_store.specs.Buckets.{Stored, bucket_count, chain_at}
 use Rattle.bucket_store.specs.Cache.{CacheMap}
 use Rattle.bucket_store.specs.Image.{Has, Image, IsSoundAnswer}
-use Rattle.bucket_store.specs.Transaction.{Content, IsOpenStore, IsOpenWith, cached_of, chains_of, has_refused}
+use Rattle.bucket_store.specs.Transaction.{Content, IsOpenStore, IsOpenWith, IsReady, cached_of, chains_of, has_refused}
 use Rattle.bucket_store.specs.Typed.{refusal_of}
 use Rattle.bucket_store.proofs.Holding.{has_later}
 use Rattle.bucket_store.specs.declared.buckets.Buckets.{Buckets}
@@ -63,6 +63,16 @@ module _ {D : Type 0} {g : Ghosts D} where
               (disk_of (chains_of new)).faults first.cause.later (second.cause.failed is);
         };
       }
+
+  -- the same of a call that gives another value
+  pub answers_ok : {S T : Type 0} (old new : Buckets D g) (one : S) (other : T) → Answers old new (Ok one) → Answers old new (Ok other)
+  answers_ok old new one other first = record {
+    stays = first.stays;
+    alone = tt;
+    broken = first.broken;
+    refused = first.refused;
+    cause = record { later = first.cause.later; failed = λ is. absurd (cc) };
+  }
 
   -- a call that is refused for a value
   pub answers_marks : {S T : Type 0} (old mid new : Buckets D g) (value : S) (fault : ValueFault) (page : ℕ) → Answers old mid (Ok value)
@@ -190,3 +200,10 @@ module _ {D : Type 0} {g : Ghosts D} where
   pub count_same : (old new : Buckets D g) → OnlyRead (chains_of old) (chains_of new)
       → bucket_count (chains_of new) ≡ bucket_count (chains_of old)
   count_same old new stays = ap (λ (r : Root). r.buckets) stays.root
+
+  -- after a call that is not refused the next one may come
+  pub ready_after : {T : Type 0} (old new : Buckets D g) (value : T) → IsReady old → Answers old new (Ok value) → IsReady new
+  ready_after old new value ready answers = record {
+    going = answers.refused;
+    some = subst (λ (n : ℕ). 1 ≤ n) (sym (count_same old new answers.stays)) ready.some;
+  }

@@ -17,7 +17,8 @@ use Rattle.store_maps.proofs.IdLists.{tied_self}
 use Rattle.back_index.specs.Filling.{AreKept, Fills, HasNoIndex, IsVoid, MayTold, is_told, mentions_tell}
 use Rattle.back_index.specs.Visits.{OnlyMap}
 use Rattle.back_index.specs.declared.mentions.Mention.{Mention}
-use Rattle.back_index.specs.declared.visit.TheConstants.{WAYS_OF_BLOCKS, RELATIONS_OF_NODES, RELATIONS_OF_WAYS}
+use Rattle.value_bytes.specs.StoreMap.{number_of}
+use Rattle.value_bytes.specs.declared.store_map.StoreMap.TheVariants.{WaysOfBlocks, RelationsOfNodes, RelationsOfWays}
 use Rattle.back_index.proofs.Held.{no_ids}
 use Rattle.back_index.proofs.ReadKeys.{all_has}
 use Rattle.back_index.proofs.Relists.{apart}
@@ -47,13 +48,14 @@ stays_void : (which other : ℕ) (now after : Image) → OnlyMap other now after
 stays_void which other now after only differs void = subst IsVoid (sym (only.maps which differs)) void
 
 module _ (entries : List Entry) (now first second third : Image) (none : HasNoIndex now)
-    (one : OnlyMap WAYS_OF_BLOCKS now first)
-    (blocks : IsVoid (now.maps WAYS_OF_BLOCKS) → Kept (entries_tell kinds.Way blocks_in entries) WAYS_OF_BLOCKS first)
-    (two : OnlyMap RELATIONS_OF_NODES first second)
-    (nodes : IsVoid (first.maps RELATIONS_OF_NODES)
-    → Kept (entries_tell kinds.Relation (listed kinds.Node) entries) RELATIONS_OF_NODES second)
-    (three : OnlyMap RELATIONS_OF_WAYS second third)
-    (ways : IsVoid (second.maps RELATIONS_OF_WAYS) → Kept (entries_tell kinds.Relation (listed kinds.Way) entries) RELATIONS_OF_WAYS third)
+    (one : OnlyMap (number_of WaysOfBlocks) now first)
+    (blocks : IsVoid (now.maps (number_of WaysOfBlocks)) → Kept (entries_tell kinds.Way blocks_in entries) (number_of WaysOfBlocks) first)
+    (two : OnlyMap (number_of RelationsOfNodes) first second)
+    (nodes : IsVoid (first.maps (number_of RelationsOfNodes))
+    → Kept (entries_tell kinds.Relation (listed kinds.Node) entries) (number_of RelationsOfNodes) second)
+    (three : OnlyMap (number_of RelationsOfWays) second third)
+    (ways : IsVoid (second.maps (number_of RelationsOfWays))
+    → Kept (entries_tell kinds.Relation (listed kinds.Way) entries) (number_of RelationsOfWays) third)
   where
     pub all_filled : Fills entries now third
     all_filled = record {
@@ -61,19 +63,22 @@ module _ (entries : List Entry) (now first second third : Image) (none : HasNoIn
       texts = λ n. three.texts n ∙ two.texts n ∙ one.texts n;
       maps = λ m a b c. three.maps m c ∙ two.maps m b ∙ one.maps m a;
       ways_of_blocks =
-          stays_kept (entries_tell kinds.Way blocks_in entries) WAYS_OF_BLOCKS RELATIONS_OF_WAYS second third three
-          (apart WAYS_OF_BLOCKS RELATIONS_OF_WAYS refl)
-          (stays_kept (entries_tell kinds.Way blocks_in entries) WAYS_OF_BLOCKS RELATIONS_OF_NODES first second two
-          (apart WAYS_OF_BLOCKS RELATIONS_OF_NODES refl)
+          stays_kept (entries_tell kinds.Way blocks_in entries) (number_of WaysOfBlocks) (number_of RelationsOfWays) second third three
+          (apart (number_of WaysOfBlocks) (number_of RelationsOfWays) refl)
+          (stays_kept (entries_tell kinds.Way blocks_in entries) (number_of WaysOfBlocks) (number_of RelationsOfNodes) first second two
+          (apart (number_of WaysOfBlocks) (number_of RelationsOfNodes) refl)
           (blocks none.ways_of_blocks));
       relations_of_nodes =
-          stays_kept (entries_tell kinds.Relation (listed kinds.Node) entries) RELATIONS_OF_NODES RELATIONS_OF_WAYS second third three
-          (apart RELATIONS_OF_NODES RELATIONS_OF_WAYS refl)
-          (nodes (stays_void RELATIONS_OF_NODES WAYS_OF_BLOCKS now first one
-          (apart RELATIONS_OF_NODES WAYS_OF_BLOCKS refl) none.relations_of_nodes));
+          stays_kept (entries_tell kinds.Relation (listed kinds.Node) entries) (number_of RelationsOfNodes)
+          (number_of RelationsOfWays) second third three
+          (apart (number_of RelationsOfNodes) (number_of RelationsOfWays) refl)
+          (nodes (stays_void (number_of RelationsOfNodes) (number_of WaysOfBlocks) now first one
+          (apart (number_of RelationsOfNodes) (number_of WaysOfBlocks) refl) none.relations_of_nodes));
       relations_of_ways =
-          ways (stays_void RELATIONS_OF_WAYS RELATIONS_OF_NODES first second two (apart RELATIONS_OF_WAYS RELATIONS_OF_NODES refl)
-          (stays_void RELATIONS_OF_WAYS WAYS_OF_BLOCKS now first one (apart RELATIONS_OF_WAYS WAYS_OF_BLOCKS refl) none.relations_of_ways));
+          ways (stays_void (number_of RelationsOfWays) (number_of RelationsOfNodes) first second two
+          (apart (number_of RelationsOfWays) (number_of RelationsOfNodes) refl)
+          (stays_void (number_of RelationsOfWays) (number_of WaysOfBlocks) now first one
+          (apart (number_of RelationsOfWays) (number_of WaysOfBlocks) refl) none.relations_of_ways));
     }
 
 -- what entries tell is of lists that may be asked
@@ -104,21 +109,22 @@ all_wider P Q [] wider all = tt
 all_wider P Q (entry ∷ entries) wider all = (wider entry all.0, all_wider P Q entries wider all.1)
 
 module _ (may : May) (entries : List Entry) (all : MayListAll may entries) where
-  pub blocks_may : MayTold may WAYS_OF_BLOCKS (entries_tell kinds.Way blocks_in entries)
-  blocks_may = told_may may WAYS_OF_BLOCKS kinds.Way blocks_in entries
+  pub blocks_may : MayTold may (number_of WaysOfBlocks) (entries_tell kinds.Way blocks_in entries)
+  blocks_may = told_may may (number_of WaysOfBlocks) kinds.Way blocks_in entries
       (all_wider (λ (entry : Entry). MayList may entry.key entry.object)
-      (λ (entry : Entry). MayEach may WAYS_OF_BLOCKS (ids_for kinds.Way blocks_in entry.key.kind entry.object)) entries
+      (λ (entry : Entry). MayEach may (number_of WaysOfBlocks) (ids_for kinds.Way blocks_in entry.key.kind entry.object)) entries
       (λ entry lists. lists.ways_of_blocks) all)
 
-  pub nodes_may : MayTold may RELATIONS_OF_NODES (entries_tell kinds.Relation (listed kinds.Node) entries)
-  nodes_may = told_may may RELATIONS_OF_NODES kinds.Relation (listed kinds.Node) entries
+  pub nodes_may : MayTold may (number_of RelationsOfNodes) (entries_tell kinds.Relation (listed kinds.Node) entries)
+  nodes_may = told_may may (number_of RelationsOfNodes) kinds.Relation (listed kinds.Node) entries
       (all_wider (λ (entry : Entry). MayList may entry.key entry.object)
-      (λ (entry : Entry). MayEach may RELATIONS_OF_NODES (ids_for kinds.Relation (listed kinds.Node) entry.key.kind entry.object))
+      (λ (entry : Entry). MayEach may (number_of RelationsOfNodes) (ids_for kinds.Relation (listed kinds.Node) entry.key.kind entry.object))
       entries
       (λ entry lists. lists.relations_of_nodes) all)
 
-  pub ways_may : MayTold may RELATIONS_OF_WAYS (entries_tell kinds.Relation (listed kinds.Way) entries)
-  ways_may = told_may may RELATIONS_OF_WAYS kinds.Relation (listed kinds.Way) entries
+  pub ways_may : MayTold may (number_of RelationsOfWays) (entries_tell kinds.Relation (listed kinds.Way) entries)
+  ways_may = told_may may (number_of RelationsOfWays) kinds.Relation (listed kinds.Way) entries
       (all_wider (λ (entry : Entry). MayList may entry.key entry.object)
-      (λ (entry : Entry). MayEach may RELATIONS_OF_WAYS (ids_for kinds.Relation (listed kinds.Way) entry.key.kind entry.object)) entries
+      (λ (entry : Entry). MayEach may (number_of RelationsOfWays) (ids_for kinds.Relation (listed kinds.Way) entry.key.kind entry.object))
+      entries
       (λ entry lists. lists.relations_of_ways) all)

@@ -3,13 +3,18 @@ use Rattle.std.proofs.Common.{◌≡◌, ℕ, List, Option, Some, None, Result, 
 use Rattle.page_journal.specs.declared.fault.StoreFault.{StoreFault}
 use Rattle.page_journal.specs.declared.fault.StoreFault.TheVariants.{NotFormatted, NotEmpty, BadStore, DiskFault, StoreFull, Broken}
 use Rattle.page_journal.specs.declared.fault.StoreFault.TheVariants.{OutOfMemory}
+use Rattle.outside.specs.declared.disk.Disk.{Ghosts}
+use Rattle.osm_base.specs.values.Ids.{AreRisingIds}
 use Rattle.bucket_store.specs.Image.{Image}
+use Rattle.bucket_store.specs.Image.{Has as HasNow}
+use Rattle.bucket_store.specs.declared.buckets.Buckets.{Buckets}
 use Rattle.value_bytes.specs.Forms.{IsAtFront, IsFrontless, IsNoValue, NeedsFor, Spells}
 use Rattle.value_bytes.specs.Lists.{list_bytes, IsList}
 use Rattle.value_bytes.specs.Numbers.{number_bytes, IsNumber}
 use Rattle.value_bytes.specs.declared.fault.ValueFault.{ValueFault}
 use Rattle.value_bytes.specs.declared.fault.ValueFault.TheVariants as values
 use Rattle.bucket_store.specs.Typed.{refusal_of}
+use Rattle.back_index.specs.Calls.{FindsIds}
 use Rattle.back_index.specs.Ids.{ids_bytes, AreListed}
 use Rattle.back_index.specs.Index.{HasNodes, IsNodeless}
 use Rattle.back_index.specs.Relisting.{IsUnread, ReadsIds}
@@ -28,6 +33,15 @@ module _ (Has : Image → Image → Type 0) (found : Image → Option (List ℕ)
   unread_some (Ok ids) none = tt
   unread_some (Err values.NotSpelled) none = λ rest now has. subst IsUnread (sym (is rest now has)) none
   unread_some (Err values.OutOfMemory) none = tt
+
+-- and they rise
+pub finds_rising : {D : Type 0} {g : Ghosts D} (buckets : Buckets D g) (found : Image → Option (List ℕ))
+    (result : Result (List ℕ) ValueFault)
+    → IfOk result AreRisingIds
+    → IfOk result (λ ids. (rest now : Image) → HasNow rest now buckets → ReadsIds (found now) ids)
+    → IfOk result (FindsIds (λ now ids. ReadsIds (found now) ids) buckets)
+finds_rising buckets found (Ok ids) rising are = record { rising = rising; are = are }
+finds_rising buckets found (Err fault) rising are = tt
 
 -- the nodes of a way, in the same words
 module _ (Has : Image → Image → Type 0) (found : Image → Option (List ℕ)) (bytes : List ℕ)

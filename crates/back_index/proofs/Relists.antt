@@ -18,10 +18,12 @@ use Rattle.store_maps.specs.Maps.{Maps}
 use Rattle.store_maps.specs.Step.{AllListed, AreTold, relisted_to}
 use Rattle.store_maps.specs.Turns.{blocks_in, listed_by}
 use Rattle.back_index.specs.Ids.{ids_bytes, AreListed}
-use Rattle.back_index.specs.Index.{HoldsIndex, Relists, all_visits, blocks_for, nodes_for, ways_for}
+use Rattle.back_index.specs.Index.{HoldsIndex, Relists, all_visits, listed_for}
 use Rattle.back_index.specs.Relisting.{CanTurn, Turns, in_order}
 use Rattle.back_index.specs.Visits.{IsFine, OnlyMap, StopsAt, visit_of, visits}
-use Rattle.back_index.specs.declared.visit.TheConstants.{WAYS_OF_BLOCKS, RELATIONS_OF_NODES, RELATIONS_OF_WAYS}
+use Rattle.value_bytes.specs.StoreMap.{number_of}
+use Rattle.value_bytes.specs.declared.store_map.StoreMap.{StoreMap}
+use Rattle.value_bytes.specs.declared.store_map.StoreMap.TheVariants.{WaysOfBlocks, RelationsOfNodes, RelationsOfWays}
 use Rattle.back_index.specs.declared.visit.Visit.{Visit}
 use Rattle.back_index.proofs.Held.{decoded_reads, turned_held}
 use Rattle.back_index.proofs.ListLaws.{has-in_order}
@@ -49,46 +51,56 @@ module _ (id : ℕ) (old new : Option Object) where
     root = refl;
     texts = λ n. refl;
     maps = λ m a b c. refl;
-    ways_of_blocks = turns_nothing id (now.maps WAYS_OF_BLOCKS);
-    relations_of_nodes = turns_nothing id (now.maps RELATIONS_OF_NODES);
-    relations_of_ways = turns_nothing id (now.maps RELATIONS_OF_WAYS);
+    ways_of_blocks = turns_nothing id (now.maps (number_of WaysOfBlocks));
+    relations_of_nodes = turns_nothing id (now.maps (number_of RelationsOfNodes));
+    relations_of_ways = turns_nothing id (now.maps (number_of RelationsOfWays));
   }
 
-  pub way_relists : (now after : Image) → OnlyMap WAYS_OF_BLOCKS now after
-      → Turns id (listed_by blocks_in old) (listed_by blocks_in new) (now.maps WAYS_OF_BLOCKS) (after.maps WAYS_OF_BLOCKS)
+  pub way_relists : (now after : Image) → OnlyMap (number_of WaysOfBlocks) now after
+      → Turns id (listed_by blocks_in old) (listed_by blocks_in new) (now.maps (number_of WaysOfBlocks))
+      (after.maps (number_of WaysOfBlocks))
       → Relists (way_key id) old new now after
   way_relists now after only turns = record {
     root = only.root;
     texts = only.texts;
     maps = λ m a b c. only.maps m a;
     ways_of_blocks = turns;
-    relations_of_nodes = turns_to id [] [] (now.maps RELATIONS_OF_NODES) (now.maps RELATIONS_OF_NODES) (after.maps RELATIONS_OF_NODES)
-        (only.maps RELATIONS_OF_NODES (apart RELATIONS_OF_NODES WAYS_OF_BLOCKS refl)) (turns_nothing id (now.maps RELATIONS_OF_NODES));
-    relations_of_ways = turns_to id [] [] (now.maps RELATIONS_OF_WAYS) (now.maps RELATIONS_OF_WAYS) (after.maps RELATIONS_OF_WAYS)
-        (only.maps RELATIONS_OF_WAYS (apart RELATIONS_OF_WAYS WAYS_OF_BLOCKS refl)) (turns_nothing id (now.maps RELATIONS_OF_WAYS));
+    relations_of_nodes = turns_to id [] [] (now.maps (number_of RelationsOfNodes)) (now.maps (number_of RelationsOfNodes))
+        (after.maps (number_of RelationsOfNodes))
+        (only.maps (number_of RelationsOfNodes) (apart (number_of RelationsOfNodes) (number_of WaysOfBlocks) refl))
+        (turns_nothing id (now.maps (number_of RelationsOfNodes)));
+    relations_of_ways = turns_to id [] [] (now.maps (number_of RelationsOfWays)) (now.maps (number_of RelationsOfWays))
+        (after.maps (number_of RelationsOfWays))
+        (only.maps (number_of RelationsOfWays) (apart (number_of RelationsOfWays) (number_of WaysOfBlocks) refl))
+        (turns_nothing id (now.maps (number_of RelationsOfWays)));
   }
 
-  pub relation_relists : (now mid after : Image) → OnlyMap RELATIONS_OF_NODES now mid
-      → Turns id (listed_by (listed kinds.Node) old) (listed_by (listed kinds.Node) new) (now.maps RELATIONS_OF_NODES)
-      (mid.maps RELATIONS_OF_NODES)
-      → OnlyMap RELATIONS_OF_WAYS mid after
-      → Turns id (listed_by (listed kinds.Way) old) (listed_by (listed kinds.Way) new) (mid.maps RELATIONS_OF_WAYS)
-      (after.maps RELATIONS_OF_WAYS)
+  pub relation_relists : (now mid after : Image) → OnlyMap (number_of RelationsOfNodes) now mid
+      → Turns id (listed_by (listed kinds.Node) old) (listed_by (listed kinds.Node) new) (now.maps (number_of RelationsOfNodes))
+      (mid.maps (number_of RelationsOfNodes))
+      → OnlyMap (number_of RelationsOfWays) mid after
+      → Turns id (listed_by (listed kinds.Way) old) (listed_by (listed kinds.Way) new) (mid.maps (number_of RelationsOfWays))
+      (after.maps (number_of RelationsOfWays))
       → Relists (relation_key id) old new now after
   relation_relists now mid after first nodes second ways = record {
     root = second.root ∙ first.root;
     texts = λ n. second.texts n ∙ first.texts n;
     maps = λ m a b c. second.maps m c ∙ first.maps m b;
-    ways_of_blocks = turns_to id [] [] (now.maps WAYS_OF_BLOCKS) (now.maps WAYS_OF_BLOCKS) (after.maps WAYS_OF_BLOCKS)
-        (second.maps WAYS_OF_BLOCKS (apart WAYS_OF_BLOCKS RELATIONS_OF_WAYS refl)
-        ∙ first.maps WAYS_OF_BLOCKS (apart WAYS_OF_BLOCKS RELATIONS_OF_NODES refl))
-        (turns_nothing id (now.maps WAYS_OF_BLOCKS));
-    relations_of_nodes = turns_to id (listed_by (listed kinds.Node) old) (listed_by (listed kinds.Node) new) (now.maps RELATIONS_OF_NODES)
-        (mid.maps RELATIONS_OF_NODES)
-        (after.maps RELATIONS_OF_NODES) (second.maps RELATIONS_OF_NODES (apart RELATIONS_OF_NODES RELATIONS_OF_WAYS refl)) nodes;
-    relations_of_ways = turns_from id (listed_by (listed kinds.Way) old) (listed_by (listed kinds.Way) new) (mid.maps RELATIONS_OF_WAYS)
-        (after.maps RELATIONS_OF_WAYS)
-        (now.maps RELATIONS_OF_WAYS) (first.maps RELATIONS_OF_WAYS (apart RELATIONS_OF_WAYS RELATIONS_OF_NODES refl)) ways;
+    ways_of_blocks = turns_to id [] [] (now.maps (number_of WaysOfBlocks)) (now.maps (number_of WaysOfBlocks))
+        (after.maps (number_of WaysOfBlocks))
+        (second.maps (number_of WaysOfBlocks) (apart (number_of WaysOfBlocks) (number_of RelationsOfWays) refl)
+        ∙ first.maps (number_of WaysOfBlocks) (apart (number_of WaysOfBlocks) (number_of RelationsOfNodes) refl))
+        (turns_nothing id (now.maps (number_of WaysOfBlocks)));
+    relations_of_nodes = turns_to id (listed_by (listed kinds.Node) old) (listed_by (listed kinds.Node) new)
+        (now.maps (number_of RelationsOfNodes))
+        (mid.maps (number_of RelationsOfNodes))
+        (after.maps (number_of RelationsOfNodes))
+        (second.maps (number_of RelationsOfNodes) (apart (number_of RelationsOfNodes) (number_of RelationsOfWays) refl)) nodes;
+    relations_of_ways = turns_from id (listed_by (listed kinds.Way) old) (listed_by (listed kinds.Way) new)
+        (mid.maps (number_of RelationsOfWays))
+        (after.maps (number_of RelationsOfWays))
+        (now.maps (number_of RelationsOfWays)) (first.maps (number_of RelationsOfWays)
+        (apart (number_of RelationsOfWays) (number_of RelationsOfNodes) refl)) ways;
   }
 
 -- a law of the visits of a map, told of each id
@@ -107,14 +119,15 @@ all_map P f (first ∷ ids) each = (
     or_true true b is = refl
     or_true false b is = is
 
-pub all_visited : (P : Visit → Type 0) (which : ℕ) (old new : List ℕ)
+pub all_visited : (P : Visit → Type 0) (which : StoreMap) (old new : List ℕ)
     → ((id : ℕ) → has (old ++ new) id ≡ true → P (visit_of which old new id))
     → AllByRecursion P (visits which old new)
 all_visited P which old new each = all_map P (visit_of which old new) (in_order (old ++ new))
     (λ id there. each id (sym (has-in_order (old ++ new) id) ∙ there))
 
 -- lists that were turned could be
-pub turned_fine : (now : Image) (own which : ℕ) (old new : List ℕ) (after : BucketMap) → Turns own old new (now.maps which) after
+pub turned_fine : (now : Image) (own : ℕ) (which : StoreMap) (old new : List ℕ) (after : BucketMap)
+    → Turns own old new (now.maps (number_of which)) after
     → AllByRecursion (IsFine now own) (visits which old new)
 turned_fine now own which old new after turns =
     all_visited (IsFine now own) which old new (λ id there. let at = turns.at id there in (at.0, at.1))
@@ -147,11 +160,12 @@ stops_as Fine Other page xs at same stops =
     }
 
 -- of another map the same lists can be turned
-pub fine_as : (now mid : Image) (own which other : ℕ) (old new : List ℕ) → OnlyMap other now mid → which ≢ other
+pub fine_as : (now mid : Image) (own : ℕ) (which : StoreMap) (other : ℕ) (old new : List ℕ) → OnlyMap other now mid
+    → number_of which ≢ other
     → AllByRecursion (λ visit. (IsFine mid own visit → IsFine now own visit) × (IsFine now own visit → IsFine mid own visit))
     (visits which old new)
 fine_as now mid own which other old new only differs =
-    let same : mid.maps which ≡ now.maps which = only.maps which differs in
+    let same : mid.maps (number_of which) ≡ now.maps (number_of which) = only.maps (number_of which) differs in
     all_visited (λ visit. (IsFine mid own visit → IsFine now own visit) × (IsFine now own visit → IsFine mid own visit)) which old new
     (λ id there. (
       (λ fine. (fine.0, subst (λ (l : BucketMap). CanTurn (has old id) own (finite.get l id) fine.0) same fine.1)),
@@ -163,26 +177,30 @@ pub relists_hold : (key : KeyOf) (old new : Option Object) (now after : Image) (
     → Relists key old new now after
     → HoldsIndex after (relisted_to maps key old new)
 relists_hold key old new now after maps is holds relists = record {
-  ways_of_blocks = turned_held key.id (blocks_for key old) (blocks_for key new) (now.maps WAYS_OF_BLOCKS)
-      (after.maps WAYS_OF_BLOCKS) maps.ways_of_blocks is
+  ways_of_blocks = turned_held key.id (listed_for WaysOfBlocks key old) (listed_for WaysOfBlocks key new)
+      (now.maps (number_of WaysOfBlocks))
+      (after.maps (number_of WaysOfBlocks)) maps.ways_of_blocks is
       holds.ways_of_blocks relists.ways_of_blocks;
-  relations_of_nodes = turned_held key.id (nodes_for key old) (nodes_for key new) (now.maps RELATIONS_OF_NODES)
-      (after.maps RELATIONS_OF_NODES) maps.relations_of_nodes is
+  relations_of_nodes = turned_held key.id (listed_for RelationsOfNodes key old) (listed_for RelationsOfNodes key new)
+      (now.maps (number_of RelationsOfNodes))
+      (after.maps (number_of RelationsOfNodes)) maps.relations_of_nodes is
       holds.relations_of_nodes relists.relations_of_nodes;
-  relations_of_ways = turned_held key.id (ways_for key old) (ways_for key new) (now.maps RELATIONS_OF_WAYS)
-      (after.maps RELATIONS_OF_WAYS) maps.relations_of_ways is
+  relations_of_ways = turned_held key.id (listed_for RelationsOfWays key old) (listed_for RelationsOfWays key new)
+      (now.maps (number_of RelationsOfWays))
+      (after.maps (number_of RelationsOfWays)) maps.relations_of_ways is
       holds.relations_of_ways relists.relations_of_ways;
 }
 
 -- where an index holds the old form, each list can be turned
-told_one : (now : Image) (own which : ℕ) (old new : List ℕ) (listing : ListingOf) → HoldsMap ids_bytes AreListed (now.maps which) listing
+told_one : (now : Image) (own : ℕ) (which : StoreMap) (old new : List ℕ) (listing : ListingOf)
+    → HoldsMap ids_bytes AreListed (now.maps (number_of which)) listing
     → AllListed listing own old
     → AllByRecursion (IsFine now own) (visits which old new)
 told_one now own which old new listing holds told =
     all_visited (IsFine now own) which old new (λ id there. (
       listers listing id,
       record {
-        reads = decoded_reads (finite.get (now.maps which) id) (finite.get listing id) (holds id);
+        reads = decoded_reads (finite.get (now.maps (number_of which)) id) (finite.get listing id) (holds id);
         there = λ was. each_of (λ id. has (listers listing id) own ≡ true) old id told was;
       },
     ))
@@ -194,16 +212,17 @@ all_append P (x ∷ xs) ys one other = (one.0, all_append P xs ys one.1 other)
 pub told_fine : (key : KeyOf) (old new : Option Object) (now : Image) (maps : Maps) → HoldsIndex now maps → AreTold maps key old
     → AllByRecursion (IsFine now key.id) (all_visits key old new)
 told_fine key old new now maps holds told =
-    all_append (IsFine now key.id) (visits WAYS_OF_BLOCKS (blocks_for key old) (blocks_for key new))
-    (visits RELATIONS_OF_NODES (nodes_for key old) (nodes_for key new) ++ visits RELATIONS_OF_WAYS (ways_for key old) (ways_for key new))
-    (told_one now key.id WAYS_OF_BLOCKS (blocks_for key old)
-    (blocks_for key new) maps.ways_of_blocks holds.ways_of_blocks told.ways_of_blocks)
-    (all_append (IsFine now key.id) (visits RELATIONS_OF_NODES (nodes_for key old) (nodes_for key new))
-    (visits RELATIONS_OF_WAYS (ways_for key old) (ways_for key new))
-    (told_one now key.id RELATIONS_OF_NODES (nodes_for key old)
-    (nodes_for key new) maps.relations_of_nodes holds.relations_of_nodes told.relations_of_nodes)
-    (told_one now key.id RELATIONS_OF_WAYS (ways_for key old)
-    (ways_for key new) maps.relations_of_ways holds.relations_of_ways told.relations_of_ways))
+    all_append (IsFine now key.id) (visits WaysOfBlocks (listed_for WaysOfBlocks key old) (listed_for WaysOfBlocks key new))
+    (visits RelationsOfNodes (listed_for RelationsOfNodes key old) (listed_for RelationsOfNodes key new)
+    ++ visits RelationsOfWays (listed_for RelationsOfWays key old) (listed_for RelationsOfWays key new))
+    (told_one now key.id WaysOfBlocks (listed_for WaysOfBlocks key old)
+    (listed_for WaysOfBlocks key new) maps.ways_of_blocks holds.ways_of_blocks told.ways_of_blocks)
+    (all_append (IsFine now key.id) (visits RelationsOfNodes (listed_for RelationsOfNodes key old) (listed_for RelationsOfNodes key new))
+    (visits RelationsOfWays (listed_for RelationsOfWays key old) (listed_for RelationsOfWays key new))
+    (told_one now key.id RelationsOfNodes (listed_for RelationsOfNodes key old)
+    (listed_for RelationsOfNodes key new) maps.relations_of_nodes holds.relations_of_nodes told.relations_of_nodes)
+    (told_one now key.id RelationsOfWays (listed_for RelationsOfWays key old)
+    (listed_for RelationsOfWays key new) maps.relations_of_ways holds.relations_of_ways told.relations_of_ways))
 
 -- the same, of a key of which the kind is known
 pub at_kind : (key : KeyOf) (kind : Kind) (old new : Option Object) (now after : Image) → key.kind ≡ kind
@@ -218,25 +237,25 @@ stops_at_kind Fine page key kind old new at is stops =
     subst (λ (k : Kind). StopsAt Fine page (all_visits (record { kind = k; id = key.id }) old new) at) (sym is) stops
 
 module _ (Fine : Visit → Type 0) (page : Visit → ℕ) (key : KeyOf) (old new : Option Object) (at : ℕ) where
-  pub way_stops : key.kind ≡ kinds.Way → StopsAt Fine page (visits WAYS_OF_BLOCKS (listed_by blocks_in old) (listed_by blocks_in new)) at
+  pub way_stops : key.kind ≡ kinds.Way → StopsAt Fine page (visits WaysOfBlocks (listed_by blocks_in old) (listed_by blocks_in new)) at
       → StopsAt Fine page (all_visits key old new) at
   way_stops is stops =
       stops_at_kind Fine page key kinds.Way old new at is
-      (stops_front Fine page (visits WAYS_OF_BLOCKS (listed_by blocks_in old) (listed_by blocks_in new)) [] at stops)
+      (stops_front Fine page (visits WaysOfBlocks (listed_by blocks_in old) (listed_by blocks_in new)) [] at stops)
 
   pub nodes_stop : key.kind ≡ kinds.Relation
-      → StopsAt Fine page (visits RELATIONS_OF_NODES (listed_by (listed kinds.Node) old) (listed_by (listed kinds.Node) new)) at
+      → StopsAt Fine page (visits RelationsOfNodes (listed_by (listed kinds.Node) old) (listed_by (listed kinds.Node) new)) at
       → StopsAt Fine page (all_visits key old new) at
   nodes_stop is stops =
       stops_at_kind Fine page key kinds.Relation old new at is
-      (stops_front Fine page (visits RELATIONS_OF_NODES (listed_by (listed kinds.Node) old) (listed_by (listed kinds.Node) new))
-      (visits RELATIONS_OF_WAYS (listed_by (listed kinds.Way) old) (listed_by (listed kinds.Way) new)) at stops)
+      (stops_front Fine page (visits RelationsOfNodes (listed_by (listed kinds.Node) old) (listed_by (listed kinds.Node) new))
+      (visits RelationsOfWays (listed_by (listed kinds.Way) old) (listed_by (listed kinds.Way) new)) at stops)
 
   pub ways_stop : key.kind ≡ kinds.Relation
-      → AllByRecursion Fine (visits RELATIONS_OF_NODES (listed_by (listed kinds.Node) old) (listed_by (listed kinds.Node) new))
-      → StopsAt Fine page (visits RELATIONS_OF_WAYS (listed_by (listed kinds.Way) old) (listed_by (listed kinds.Way) new)) at
+      → AllByRecursion Fine (visits RelationsOfNodes (listed_by (listed kinds.Node) old) (listed_by (listed kinds.Node) new))
+      → StopsAt Fine page (visits RelationsOfWays (listed_by (listed kinds.Way) old) (listed_by (listed kinds.Way) new)) at
       → StopsAt Fine page (all_visits key old new) at
   ways_stop is fine stops =
       stops_at_kind Fine page key kinds.Relation old new at is
-      (stops_behind Fine page (visits RELATIONS_OF_NODES (listed_by (listed kinds.Node) old) (listed_by (listed kinds.Node) new))
-      (visits RELATIONS_OF_WAYS (listed_by (listed kinds.Way) old) (listed_by (listed kinds.Way) new)) at fine stops)
+      (stops_behind Fine page (visits RelationsOfNodes (listed_by (listed kinds.Node) old) (listed_by (listed kinds.Node) new))
+      (visits RelationsOfWays (listed_by (listed kinds.Way) old) (listed_by (listed kinds.Way) new)) at fine stops)

@@ -4,7 +4,7 @@ use Rattle.std.proofs.Common.{Option, Some, None, refl, sym, ap, subst, ◌∙�
 use Rattle.std.specs.List.{AllByRecursion, filter}
 use Rattle.std.specs.FinMap as finite
 use Rattle.std.proofs.lemmas.Bool.Decides.{nat_tests}
-use Rattle.std.proofs.lemmas.List.{take-append-drop}
+use Rattle.std.proofs.lemmas.List.{append-nil, take-append-drop}
 use Rattle.std.proofs.lemmas.List.Elements.{filter-append}
 use Rattle.osm_base.specs.declared.values.key.Kind.TheVariants as kinds
 use Rattle.osm_base.specs.declared.values.object.Object.{Object}
@@ -12,7 +12,7 @@ use Rattle.osm_base.specs.declared.values.object.Object.TheVariants.{Node, Way, 
 use Rattle.osm_base.specs.map.Listers.{lists}
 use Rattle.osm_base.specs.values.Ids.{has}
 use Rattle.bucket_store.specs.Image.{Image}
-use Rattle.middle_objs.specs.Object.{object_bytes, IsStored}
+use Rattle.value_bytes.specs.Objects.{object_bytes, IsStored}
 use Rattle.value_bytes.specs.Maps.{Decodes}
 use Rattle.value_bytes.specs.Tags.{tags_bytes}
 use Rattle.store_maps.specs.Maps.{Maps}
@@ -20,7 +20,8 @@ use Rattle.store_maps.specs.Named.{list_it}
 use Rattle.store_maps.proofs.IdLists.{same_as}
 use Rattle.back_index.specs.Index.{HasNodes, HoldsWays}
 use Rattle.back_index.specs.Visits.{StopsAt}
-use Rattle.back_index.specs.declared.visit.TheConstants.{WAYS}
+use Rattle.value_bytes.specs.StoreMap.{number_of}
+use Rattle.value_bytes.specs.declared.store_map.StoreMap.TheVariants.{Ways}
 
 lists_nodes : (bytes : Option (List ℕ)) (object : Option Object) (nodes : List ℕ) (id : ℕ)
     → Decodes object_bytes (IsStored kinds.Way) bytes object → HasNodes bytes nodes
@@ -35,10 +36,10 @@ lists_nodes (Some bytes) (Some (Way own tags)) nodes id is front =
 
 -- a way lists a node where its front does
 pub way_lists : (now : Image) (maps : Maps) (way node : ℕ) (nodes : List ℕ) → HoldsWays now maps
-    → HasNodes (finite.get (now.maps WAYS) way) nodes
+    → HasNodes (finite.get (now.maps (number_of Ways)) way) nodes
     → list_it maps node way ≡ has nodes node
 way_lists now maps way node nodes holds front =
-    lists_nodes (finite.get (now.maps WAYS) way) (finite.get maps.ways way) nodes node (holds way) front
+    lists_nodes (finite.get (now.maps (number_of Ways)) way) (finite.get maps.ways way) nodes node (holds way) front
 
 -- the ways so far, and one more
 filter_one : (test : ℕ → Bool) (way : ℕ) (b : Bool) → test way ≡ b → filter test (way ∷ []) ≡ (if b then way ∷ [] else [])
@@ -52,6 +53,11 @@ filter_more test ways way b is = filter-append test ways (way ∷ []) ∙ ap (λ
 pub each_more : (P : ℕ → Type 0) (ids : List ℕ) (id : ℕ) → AllByRecursion P ids → P id → AllByRecursion P (ids ++ id ∷ [])
 each_more P [] id all one = (one, tt)
 each_more P (first ∷ ids) id all one = (all.0, each_more P ids id all.1 one)
+
+pub each_if : (P : ℕ → Type 0) (ids : List ℕ) (id : ℕ) (b : Bool) → AllByRecursion P ids → P id
+    → AllByRecursion P (ids ++ (if b then id ∷ [] else []))
+each_if P ids id true all one = each_more P ids id all one
+each_if P ids id false all one = subst (AllByRecursion P) (sym (append-nil ids)) all
 
 -- all ids of a list, told by what it has
 pub each_of : (P : ℕ → Type 0) (ids : List ℕ) (id : ℕ) → AllByRecursion P ids → has ids id ≡ true → P id

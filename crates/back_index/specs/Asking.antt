@@ -18,11 +18,12 @@ use Rattle.bucket_store.specs.Image.{Image}
 use Rattle.bucket_store.specs.Transaction.{chains_of, has_refused}
 use Rattle.bucket_store.specs.declared.buckets.Buckets.{Buckets}
 use Rattle.store_maps.specs.Asked.{MayAnswer}
+use Rattle.value_bytes.specs.StoreMap.{number_of}
+use Rattle.value_bytes.specs.declared.store_map.StoreMap.TheVariants.{WaysOfBlocks}
 use Rattle.back_index.specs.Calls.{page_in}
 use Rattle.back_index.specs.Index.{Asked, Bears, IsDamaged}
 use Rattle.back_index.specs.Reads.{ReadsBuckets}
 use Rattle.back_index.specs.Visits.{Refuses}
-use Rattle.back_index.specs.declared.visit.TheConstants.{WAYS_OF_BLOCKS}
 
 pub rose_later : (before later now : ℕ) → before ≤ later → Rose later now → Rose before now
 rose_later before later now le rose = omega (arith, le, rose)
@@ -72,11 +73,11 @@ module _ {D : Type 0} {g : Ghosts D} where
   damaged_before : (old new : Buckets D g) (now : Image) (at : ℕ) → OnlyRead (chains_of old) (chains_of new) → IsDamaged new now at
       → IsDamaged old now at
   damaged_before old new now at stays (inl bad) = inl (record {
-    which = bad.which;
+    own = bad.own;
     id = bad.id;
     is_index = bad.is_index;
     unread = bad.unread;
-    page_is = bad.page_is ∙ page_stays old new bad.which bad.id stays;
+    page_is = bad.page_is ∙ page_stays old new (number_of bad.own) bad.id stays;
   })
   damaged_before old new now at stays (inr bad) = inr (record {
     block = bad.block;
@@ -85,7 +86,7 @@ module _ {D : Type 0} {g : Ghosts D} where
     way = bad.way;
     said = bad.said;
     none = bad.none;
-    page_is = bad.page_is ∙ page_stays old new WAYS_OF_BLOCKS bad.block stays;
+    page_is = bad.page_is ∙ page_stays old new (number_of WaysOfBlocks) bad.block stays;
   })
 
   refuses_before : (old new : Buckets D g) (now : Image) (fault : StoreFault) → OnlyRead (chains_of old) (chains_of new)

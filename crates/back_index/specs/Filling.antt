@@ -2,19 +2,22 @@
 use Rattle.std.specs.Prelude.{◌≡◌, ◌≢◌, ◌≤◌, ℕ, ◌&&◌, true, List, nat_eq, None}
 use Rattle.std.specs.FinMap as finite
 use Rattle.std.specs.List.{AllByRecursion, list_any}
-use Rattle.osm_base.specs.declared.values.key.Kind.TheVariants as kinds
 use Rattle.osm_base.specs.declared.values.object.Entry.{Entry}
-use Rattle.osm_base.specs.map.Listers.{listed}
 use Rattle.osm_base.specs.values.Ids.{AreRisingIds, has}
 use Rattle.osm_base.specs.values.Key.{IsId}
 use Rattle.bucket_records.specs.Records.{BucketMap}
-use Rattle.bucket_store.specs.Image.{Image}
+use Rattle.bucket_store.specs.Image.{Has, Image}
 use Rattle.store_maps.specs.Asked.{May}
-use Rattle.store_maps.specs.Filling.{entries_tell}
-use Rattle.store_maps.specs.Turns.{Told, blocks_in}
+use Rattle.outside.specs.declared.disk.Disk.{Ghosts}
+use Rattle.bucket_store.specs.declared.buckets.Buckets.{Buckets}
+use Rattle.store_maps.specs.Turns.{Told}
+use Rattle.value_bytes.specs.StoreMap.{number_of}
+use Rattle.value_bytes.specs.declared.store_map.StoreMap.{StoreMap}
+use Rattle.value_bytes.specs.declared.store_map.StoreMap.TheVariants.{WaysOfBlocks, RelationsOfNodes, RelationsOfWays}
+use Rattle.back_index.specs.Listed.{map_told}
 use Rattle.back_index.specs.Relisting.{kept_list}
+use Rattle.back_index.specs.Visits.{OnlyMap}
 use Rattle.back_index.specs.declared.mentions.Mention.{Mention}
-use Rattle.back_index.specs.declared.visit.TheConstants.{WAYS_OF_BLOCKS, RELATIONS_OF_NODES, RELATIONS_OF_WAYS}
 
 -- the id that is listed
 abbrev pub id_of : Mention → ℕ
@@ -53,6 +56,11 @@ pub record IsKeptAt (told : Told) (kept : BucketMap) (id : ℕ) : Type 0 where
 abbrev pub AreKept : Told → BucketMap → Type 0
 AreKept told kept = (id : ℕ) → IsKeptAt told kept id
 
+-- in the transaction the lists of this map, where it had none, are those that are told, and all else is as before
+abbrev pub FillsMap : {D : Type 0} {g : Ghosts D} → StoreMap → Told → Buckets D g → Buckets D g → Type 0
+FillsMap own told old new = (rest now : Image) → Has rest now old → (after : Image) × Has rest after new
+    × OnlyMap (number_of own) now after × (IsVoid (now.maps (number_of own)) → AreKept told (after.maps (number_of own)))
+
 -- in the order of their ids so much is told: each list but the last is kept, and of that one the ids are these
 pub record Runs (done : List Mention) (at : ℕ) (ids : List ℕ) (kept : BucketMap) : Type 0 where
   pub beside : (id : ℕ) → id ≢ at → IsKeptAt (mentions_tell done) kept id
@@ -61,15 +69,16 @@ pub record Runs (done : List Mention) (at : ℕ) (ids : List ℕ) (kept : Bucket
 
 -- no list of the index is kept
 pub record HasNoIndex (now : Image) : Type 0 where
-  pub ways_of_blocks : IsVoid (now.maps WAYS_OF_BLOCKS)
-  pub relations_of_nodes : IsVoid (now.maps RELATIONS_OF_NODES)
-  pub relations_of_ways : IsVoid (now.maps RELATIONS_OF_WAYS)
+  pub ways_of_blocks : IsVoid (now.maps (number_of WaysOfBlocks))
+  pub relations_of_nodes : IsVoid (now.maps (number_of RelationsOfNodes))
+  pub relations_of_ways : IsVoid (now.maps (number_of RelationsOfWays))
 
 -- the store's index is what the objects of entries list, and all else is as before
 pub record Fills (entries : List Entry) (now after : Image) : Type 0 where
   pub root : after.root ≡ now.root
   pub texts : (n : ℕ) → after.texts n ≡ now.texts n
-  pub maps : (m : ℕ) → m ≢ WAYS_OF_BLOCKS → m ≢ RELATIONS_OF_NODES → m ≢ RELATIONS_OF_WAYS → after.maps m ≡ now.maps m
-  pub ways_of_blocks : AreKept (entries_tell kinds.Way blocks_in entries) (after.maps WAYS_OF_BLOCKS)
-  pub relations_of_nodes : AreKept (entries_tell kinds.Relation (listed kinds.Node) entries) (after.maps RELATIONS_OF_NODES)
-  pub relations_of_ways : AreKept (entries_tell kinds.Relation (listed kinds.Way) entries) (after.maps RELATIONS_OF_WAYS)
+  pub maps : (m : ℕ) → m ≢ number_of WaysOfBlocks → m ≢ number_of RelationsOfNodes → m ≢ number_of RelationsOfWays
+      → after.maps m ≡ now.maps m
+  pub ways_of_blocks : AreKept (map_told WaysOfBlocks entries) (after.maps (number_of WaysOfBlocks))
+  pub relations_of_nodes : AreKept (map_told RelationsOfNodes entries) (after.maps (number_of RelationsOfNodes))
+  pub relations_of_ways : AreKept (map_told RelationsOfWays entries) (after.maps (number_of RelationsOfWays))

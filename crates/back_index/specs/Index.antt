@@ -7,8 +7,7 @@ use Rattle.std.specs.FinMap as finite
 use Rattle.std.specs.List.{AllByRecursion}
 use Rattle.osm_base.specs.declared.values.key.Kind.TheVariants as kinds
 use Rattle.osm_base.specs.declared.values.object.Object.{Object}
-use Rattle.osm_base.specs.map.Known.{Index, Question}
-use Rattle.osm_base.specs.map.Listers.{listed}
+use Rattle.osm_base.specs.map.Known.{Index, Question, WaysOfNode}
 use Rattle.osm_base.specs.values.Ids.{has}
 use Rattle.osm_base.specs.values.Key.{KeyOf}
 use Rattle.outside.specs.Causes.{Rose}
@@ -25,53 +24,58 @@ use Rattle.value_bytes.specs.Forms.{IsAtFront, IsFrontless}
 use Rattle.value_bytes.specs.Lists.{list_bytes, IsList}
 use Rattle.value_bytes.specs.Maps.{HoldsMap}
 use Rattle.value_bytes.specs.Numbers.{number_bytes, IsNumber}
-use Rattle.middle_objs.specs.Object.{object_bytes, IsStored}
+use Rattle.value_bytes.specs.Objects.{object_bytes, IsStored}
 use Rattle.store_maps.specs.Asked.{May, MayAnswer}
 use Rattle.store_maps.specs.Maps.{Maps}
 use Rattle.store_maps.specs.Named.{index_on}
-use Rattle.store_maps.specs.Turns.{blocks_in, ids_for}
+use Rattle.store_maps.specs.Turns.{ids_for}
+use Rattle.value_bytes.specs.StoreMap.{number_of}
+use Rattle.value_bytes.specs.declared.store_map.StoreMap.{StoreMap}
+use Rattle.value_bytes.specs.declared.store_map.StoreMap.TheVariants.{Ways, WaysOfBlocks, RelationsOfNodes, RelationsOfWays}
 use Rattle.back_index.specs.Calls.{page_in}
 use Rattle.back_index.specs.Ids.{ids_bytes, AreListed}
+use Rattle.back_index.specs.Listed.{ids_in, lister_in}
 use Rattle.back_index.specs.Reads.{HasReadOnly, ReadsBuckets}
 use Rattle.back_index.specs.Relisting.{IsUnread, ReadsIds, Turns}
 use Rattle.back_index.specs.Visits.{Refuses, visits}
-use Rattle.back_index.specs.declared.visit.TheConstants.{WAYS, WAYS_OF_BLOCKS, RELATIONS_OF_NODES, RELATIONS_OF_WAYS}
 use Rattle.back_index.specs.declared.visit.Visit.{Visit}
 
--- what each map of the index is told of an object: the blocks of a way, and the nodes and the ways of a relation
-abbrev pub blocks_for : KeyOf → Option Object → List ℕ
-blocks_for key object = ids_for kinds.Way blocks_in key.kind object
+-- what a map of the index is told of an object
+abbrev pub listed_for : StoreMap → KeyOf → Option Object → List ℕ
+listed_for own key object = ids_for (lister_in own) (ids_in own) key.kind object
 
-abbrev pub nodes_for : KeyOf → Option Object → List ℕ
-nodes_for key object = ids_for kinds.Relation (listed kinds.Node) key.kind object
-
-abbrev pub ways_for : KeyOf → Option Object → List ℕ
-ways_for key object = ids_for kinds.Relation (listed kinds.Way) key.kind object
+-- of one map the lists are turned from the one form of an object to the other
+abbrev pub TurnsMap : StoreMap → KeyOf → Option Object → Option Object → Image → Image → Type 0
+TurnsMap own key old new now after =
+    Turns key.id (listed_for own key old) (listed_for own key new) (now.maps (number_of own)) (after.maps (number_of own))
 
 -- the store's index is turned from the one form of an object to the other, and all else is as before
 pub record Relists (key : KeyOf) (old new : Option Object) (now after : Image) : Type 0 where
   pub root : after.root ≡ now.root
   pub texts : (n : ℕ) → after.texts n ≡ now.texts n
-  pub maps : (m : ℕ) → m ≢ WAYS_OF_BLOCKS → m ≢ RELATIONS_OF_NODES → m ≢ RELATIONS_OF_WAYS → after.maps m ≡ now.maps m
-  pub ways_of_blocks : Turns key.id (blocks_for key old) (blocks_for key new) (now.maps WAYS_OF_BLOCKS) (after.maps WAYS_OF_BLOCKS)
-  pub relations_of_nodes : Turns key.id (nodes_for key old) (nodes_for key new) (now.maps RELATIONS_OF_NODES)
-      (after.maps RELATIONS_OF_NODES)
-  pub relations_of_ways : Turns key.id (ways_for key old) (ways_for key new) (now.maps RELATIONS_OF_WAYS) (after.maps RELATIONS_OF_WAYS)
+  pub maps : (m : ℕ) → m ≢ number_of WaysOfBlocks → m ≢ number_of RelationsOfNodes → m ≢ number_of RelationsOfWays
+      → after.maps m ≡ now.maps m
+  pub ways_of_blocks : TurnsMap WaysOfBlocks key old new now after
+  pub relations_of_nodes : TurnsMap RelationsOfNodes key old new now after
+  pub relations_of_ways : TurnsMap RelationsOfWays key old new now after
 
 -- the lists that are visited for this, in their order
+abbrev pub visits_for : StoreMap → KeyOf → Option Object → Option Object → List Visit
+visits_for own key old new = visits own (listed_for own key old) (listed_for own key new)
+
 abbrev pub all_visits : KeyOf → Option Object → Option Object → List Visit
-all_visits key old new = visits WAYS_OF_BLOCKS (blocks_for key old) (blocks_for key new)
-    ++ (visits RELATIONS_OF_NODES (nodes_for key old) (nodes_for key new) ++ visits RELATIONS_OF_WAYS (ways_for key old) (ways_for key new))
+all_visits key old new = visits_for WaysOfBlocks key old new
+    ++ (visits_for RelationsOfNodes key old new ++ visits_for RelationsOfWays key old new)
 
 -- the store's index is that of these maps
 pub record HoldsIndex (image : Image) (maps : Maps) : Type 0 where
-  pub ways_of_blocks : HoldsMap ids_bytes AreListed (image.maps WAYS_OF_BLOCKS) maps.ways_of_blocks
-  pub relations_of_nodes : HoldsMap ids_bytes AreListed (image.maps RELATIONS_OF_NODES) maps.relations_of_nodes
-  pub relations_of_ways : HoldsMap ids_bytes AreListed (image.maps RELATIONS_OF_WAYS) maps.relations_of_ways
+  pub ways_of_blocks : HoldsMap ids_bytes AreListed (image.maps (number_of WaysOfBlocks)) maps.ways_of_blocks
+  pub relations_of_nodes : HoldsMap ids_bytes AreListed (image.maps (number_of RelationsOfNodes)) maps.relations_of_nodes
+  pub relations_of_ways : HoldsMap ids_bytes AreListed (image.maps (number_of RelationsOfWays)) maps.relations_of_ways
 
 -- its ways are those of these maps
 abbrev pub HoldsWays : Image → Maps → Type 0
-HoldsWays image maps = HoldsMap object_bytes (IsStored kinds.Way) (image.maps WAYS) maps.ways
+HoldsWays image maps = HoldsMap object_bytes (IsStored kinds.Way) (image.maps (number_of Ways)) maps.ways
 
 -- a store within a transaction answers by this index
 pub record Knows {D : Type 0} {g : Ghosts D} (buckets : Buckets D g) (index : Index) : Type 0 where
@@ -98,26 +102,35 @@ abbrev pub is_spent : {D : Type 0} {g : Ghosts D} → Buckets D g → Bool
 is_spent buckets = has_refused buckets || (is_broken (journal_of (chains_of buckets)) || nat_eq (bucket_count (chains_of buckets)) 0)
 
 -- a map of the index
-abbrev pub IsIndexMap : ℕ → Type 0
-IsIndexMap which = (which ≡ WAYS_OF_BLOCKS) ⊎ ((which ≡ RELATIONS_OF_NODES) ⊎ (which ≡ RELATIONS_OF_WAYS))
+abbrev pub IsIndexMap : StoreMap → Type 0
+IsIndexMap own = (own ≡ WaysOfBlocks) ⊎ ((own ≡ RelationsOfNodes) ⊎ (own ≡ RelationsOfWays))
 
 -- a list of the index is not read
 pub record HasUnread {D : Type 0} {g : Ghosts D} (buckets : Buckets D g) (now : Image) (at : ℕ) : Type 0 where
-  pub which : ℕ
+  pub own : StoreMap
   pub id : ℕ
-  pub is_index : IsIndexMap which
-  pub unread : IsUnread (finite.get (now.maps which) id)
-  pub page_is : at ≡ page_in buckets which id
+  pub is_index : IsIndexMap own
+  pub unread : IsUnread (finite.get (now.maps (number_of own)) id)
+  pub page_is : at ≡ page_in buckets (number_of own) id
 
 -- a way that is said to list a node of a block is not there, or has no nodes
 pub record HasNodeless {D : Type 0} {g : Ghosts D} (buckets : Buckets D g) (now : Image) (at : ℕ) : Type 0 where
   pub block : ℕ
   pub ids : List ℕ
-  pub reads : ReadsIds (finite.get (now.maps WAYS_OF_BLOCKS) block) ids
+  pub reads : ReadsIds (finite.get (now.maps (number_of WaysOfBlocks)) block) ids
   pub way : ℕ
   pub said : has ids way ≡ true
-  pub none : ¬ ((nodes : List ℕ) × HasNodes (finite.get (now.maps WAYS) way) nodes)
-  pub page_is : at ≡ page_in buckets WAYS_OF_BLOCKS block
+  pub none : ¬ ((nodes : List ℕ) × HasNodes (finite.get (now.maps (number_of Ways)) way) nodes)
+  pub page_is : at ≡ page_in buckets (number_of WaysOfBlocks) block
+
+-- the ways that list a node may be asked for, by the index that the transaction has
+pub record MayWays {D : Type 0} {g : Ghosts D} (buckets : Buckets D g) (id : ℕ) (may : May) : Type 0 where
+  pub rest : Image
+  pub now : Image
+  pub has_it : Has rest now buckets
+  pub maps : Maps
+  pub listings : HoldsIndex now maps
+  pub allowed : MayAnswer may maps (WaysOfNode id)
 
 -- the page of one of these
 abbrev pub IsDamaged : {D : Type 0} {g : Ghosts D} → Buckets D g → Image → ℕ → Type 0

@@ -3,6 +3,7 @@ pub mod Calls
 pub mod Filling
 pub mod Ids
 pub mod Index
+pub mod Listed
 pub mod Reads
 pub mod Relisting
 pub mod Visits

@@ -6,6 +6,8 @@ use Rattle.osm_base.specs.values.Ids.{has}
 use Rattle.bucket_store.specs.Image.{Image}
 use Rattle.page_journal.specs.declared.fault.StoreFault.{StoreFault}
 use Rattle.page_journal.specs.declared.fault.StoreFault.TheVariants.{BadStore, DiskFault, OutOfMemory}
+use Rattle.value_bytes.specs.StoreMap.{number_of}
+use Rattle.value_bytes.specs.declared.store_map.StoreMap.{StoreMap}
 use Rattle.back_index.specs.Relisting.{CanTurn, in_order}
 use Rattle.back_index.specs.declared.visit.Visit.{Visit}
 
@@ -22,15 +24,18 @@ pub record Sets (m key : ℕ) (value : Option (List ℕ)) (now after : Image) : 
   pub beside : (other : ℕ) → other ≢ key → finite.get (after.maps m) other ≡ finite.get (now.maps m) other
 
 -- the lists that are visited in one map, in their order
-abbrev pub visit_of : ℕ → List ℕ → List ℕ → ℕ → Visit
-visit_of which old new id = record { which = which; id = id; was = has old id; is = has new id }
+abbrev pub visit_of : StoreMap → List ℕ → List ℕ → ℕ → Visit
+visit_of own old new id = record { map = own; id = id; was = has old id; is = has new id }
 
-abbrev pub visits : ℕ → List ℕ → List ℕ → List Visit
-visits which old new = map (visit_of which old new) (in_order (old ++ new))
+abbrev pub visits_at : StoreMap → List ℕ → List ℕ → List ℕ → List Visit
+visits_at own old new ids = map (visit_of own old new) ids
+
+abbrev pub visits : StoreMap → List ℕ → List ℕ → List Visit
+visits own old new = visits_at own old new (in_order (old ++ new))
 
 -- the list can be turned, in a store that means this
 abbrev pub IsFine : Image → ℕ → Visit → Type 0
-IsFine now own visit = (ids : List ℕ) × CanTurn visit.was own (finite.get (now.maps visit.which) visit.id) ids
+IsFine now own visit = (ids : List ℕ) × CanTurn visit.was own (finite.get (now.maps (number_of visit.map)) visit.id) ids
 
 -- the first of these that is not so comes with this page
 pub record StopsAt {X : Type 0} (Fine : X → Type 0) (page : X → ℕ) (things : List X) (at : ℕ) : Type 0 where

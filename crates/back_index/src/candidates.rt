@@ -1,33 +1,29 @@
 //! The ways of a block, looked at for a node.
-ghost use Rattle.std.specs.Prelude.{◌≡◌, ◌⊎◌, ◌≤◌, ◌<◌, ℕ, true, false, List, [], ◌∷◌, ◌++◌, if◌then◌else◌, IfOk, IfErr, IsSome, OnOk};
-ghost use Rattle.std.specs.List.{AllByRecursion, filter};
+ghost use Rattle.std.specs.Prelude.{◌≡◌, ℕ, List, [], ◌∷◌, ◌++◌, if◌then◌else◌, IfOk, IfErr, OnOk};
+ghost use Rattle.std.specs.List.{filter};
 ghost use Rattle.std.specs.FinMap as finite;
-ghost use Rattle.osm_base.specs.map.Known.{WaysOfNode};
 ghost use Rattle.osm_base.specs.values.Ids.{AreRisingIds, has};
-ghost use Rattle.osm_base.specs.values.Key.{IsId};
-ghost use Rattle.page_journal.specs.Answers.{answers_disk_fault};
-ghost use Rattle.bucket_store.specs.Buckets.{bucket_count, chain_at};
 ghost use Rattle.bucket_store.specs.Image.{Has, Image};
-ghost use Rattle.bucket_store.specs.Transaction.{cached_of, chains_of, has_refused};
-ghost use Rattle.store_maps.specs.Asked.{May, MayAnswer, MayEach};
+ghost use Rattle.bucket_store.specs.Transaction.{IsReady, IsThere};
+ghost use Rattle.store_maps.specs.Asked.{MayEach, MayKey};
 ghost use Rattle.store_maps.specs.Maps.{Maps};
 ghost use Rattle.store_maps.specs.Named.{index_on, list_it};
 ghost use Rattle.value_bytes.specs.Forms.{NeedsFor};
-ghost use Rattle.back_index.specs.Calls.{TouchesLists};
-ghost use Rattle.back_index.specs.Index.{HasNodeless, HasNodes, HasUnread, HoldsIndex, HoldsWays, IsNodeless};
-ghost use Rattle.back_index.specs.Reads.{HasReadOnly};
+ghost use Rattle.value_bytes.specs.StoreMap.{number_of};
+ghost use Rattle.value_bytes.specs.declared.store_map.StoreMap.TheVariants.{Ways};
+ghost use Rattle.back_index.specs.Calls.{AsksLists, FindsIds};
+ghost use Rattle.back_index.specs.Index.{HasNodes, HoldsIndex, HoldsWays, IsDamaged, IsNodeless, MayWays};
 ghost use Rattle.back_index.specs.Visits.{StopsAt};
 
 use crate::lists::{listers, refused};
-use crate::visit::{WAYS, WAYS_OF_BLOCKS};
 use bucket_store::Buckets;
 use object_fold::RisingIds;
-use osm_base::Ids;
+use osm_base::{Ids, OutOfMemory};
 use outside::Disk;
 use page_journal::StoreFault;
 use std::alloc::Global;
 use store_maps::BLOCK;
-use value_bytes::{ValueFault, ids_in_front};
+use value_bytes::{StoreMap, ValueFault, ids_in_front};
 
 /// The rising ids of the ways that list a node. `BadStore` comes with the first page of the bucket of the
 /// list of its block, where that is not spelled, or one of the ways in it is not there or does not begin
@@ -37,23 +33,17 @@ pub fn ways_of_node<D: Disk>(
     buckets: &mut Buckets<'_, D>,
     id: u64,
 ) -> Result<Ids, StoreFault>
-    requires some { 1 ≤ bucket_count (chains_of buckets.old) }
-    requires going { has_refused buckets.old ≡ false }
-    ensures ids { IfOk result (λ ids. (rest now : Image) → Has rest now buckets.old → (maps : Maps) → HoldsIndex now maps → HoldsWays now maps
-        → ids ≡ (index_on maps).ways_of_node id) }
-    ensures rising { IfOk result AreRisingIds }
-    ensures has { answers_disk_fault result ≡ false → (rest now : Image) → Has rest now buckets.old → Has rest now buckets.new }
-    ensures within { (rest now : Image) → Has rest now buckets.old → (maps : Maps) → HoldsIndex now maps
-        → (may : May) → MayAnswer may maps (WaysOfNode id) → HasReadOnly may buckets.old → HasReadOnly may buckets.new }
-    ensures touches { TouchesLists (λ now at. HasUnread buckets.old now at ⊎ HasNodeless buckets.old now at)
-        buckets.old buckets.new result }
+    requires ready { IsReady buckets.old }
+    ensures ids { IfOk result (FindsIds (λ now ids. (maps : Maps) → HoldsIndex now maps → HoldsWays now maps → ids ≡ (index_on maps).ways_of_node id)
+        buckets.old) }
+    ensures asks { AsksLists (MayWays buckets.old id) (IsDamaged buckets.old) buckets.old buckets.new result }
 {
     let block = id / BLOCK;
-    let ways = match listers(alloc, buckets, WAYS_OF_BLOCKS, block) {
+    let ways = match listers(alloc, buckets, StoreMap::WaysOfBlocks, block) {
         Ok(ways) => ways,
         Err(fault) => return Err(fault),
     };
-    let page = buckets.page_of(WAYS_OF_BLOCKS, block);
+    let page = buckets.page_of(StoreMap::WaysOfBlocks, block);
     ways_with(alloc, buckets, ways.as_slice(), id, page)
 }
 
@@ -66,91 +56,67 @@ fn ways_with<D: Disk>(
     node: u64,
     page: u64,
 ) -> Result<Ids, StoreFault>
-    requires some { 1 ≤ bucket_count (chains_of buckets.old) }
-    requires going { has_refused buckets.old ≡ false }
+    requires ready { IsReady buckets.old }
     requires rising { AreRisingIds ways.now }
-    ensures ids { IfOk result (λ ids. (rest now : Image) → Has rest now buckets.old → (maps : Maps) → HoldsWays now maps
-        → ids ≡ filter (list_it maps node) ways.now) }
-    ensures rising { IfOk result AreRisingIds }
-    ensures has { answers_disk_fault result ≡ false → (rest now : Image) → Has rest now buckets.old → Has rest now buckets.new }
-    ensures within { (may : May) → MayEach may WAYS ways.now → HasReadOnly may buckets.old → HasReadOnly may buckets.new }
-    ensures touches { TouchesLists (λ now. StopsAt (λ way. (nodes : List ℕ) × HasNodes (finite.get (now.maps WAYS) way) nodes) (λ _. page) ways.now)
+    ensures ids { IfOk result (FindsIds (λ now ids. (maps : Maps) → HoldsWays now maps → ids ≡ filter (list_it maps node) ways.now) buckets.old) }
+    ensures asks { AsksLists (λ may. MayEach may (number_of Ways) ways.now)
+        (λ now. StopsAt (λ way. (nodes : List ℕ) × HasNodes (finite.get (now.maps (number_of Ways)) way) nodes) (λ _. page) ways.now)
         buckets.old buckets.new result }
 {
     let mut found = Vec::new(alloc);
     for &way in ways {
-        match add_way(alloc, buckets, way, node, page, &mut found) {
-            Ok(()) => {}
+        let lists = match lists_node(alloc, buckets, way, node, page) {
+            Ok(lists) => lists,
             Err(fault) => return Err(fault),
+        };
+        if let Err(_) = add_if(&mut found, lists, way) {
+            return Err(refused(buckets, page, ValueFault::OutOfMemory));
         }
     }
     Ok(RisingIds::from_vec(found).into_ids())
 }
 
-/// Adds a way, where it lists the node.
-fn add_way<D: Disk>(
+/// Adds a way, if it lists the node.
+fn add_if(found: &mut Vec<u64>, lists: bool, way: u64) -> Result<(), OutOfMemory>
+    ensures found { OnOk result (found.new.items ≡ found.old.items ++ (if lists then way ∷ [] else [])) }
+{
+    if lists {
+        found.push(way)?;
+    }
+    Ok(())
+}
+
+/// Whether a way lists a node.
+fn lists_node<D: Disk>(
     alloc: Global,
     buckets: &mut Buckets<'_, D>,
     way: u64,
     node: u64,
     page: u64,
-    found: &mut Vec<u64>,
-) -> Result<(), StoreFault>
-    requires some { 1 ≤ bucket_count (chains_of buckets.old) }
-    requires going { has_refused buckets.old ≡ false }
-    ensures found { OnOk result ((rest now : Image) → Has rest now buckets.old → (nodes : List ℕ) × HasNodes (finite.get (now.maps WAYS) way) nodes
-        × (found.new.items ≡ found.old.items ++ (if has nodes node then way ∷ [] else []))) }
-    ensures ids { OnOk result (IsId way → AllByRecursion IsId found.old.items → AllByRecursion IsId found.new.items) }
-    ensures has { answers_disk_fault result ≡ false → (rest now : Image) → Has rest now buckets.old → Has rest now buckets.new }
-    ensures within { (may : May) → may WAYS way ≡ true → HasReadOnly may buckets.old → HasReadOnly may buckets.new }
-    ensures touches { TouchesLists (λ now at. (¬ ((nodes : List ℕ) × HasNodes (finite.get (now.maps WAYS) way) nodes)) × (at ≡ page))
+) -> Result<bool, StoreFault>
+    requires ready { IsReady buckets.old }
+    ensures lists { IfOk result (λ lists. (rest now : Image) → Has rest now buckets.old
+        → (nodes : List ℕ) × HasNodes (finite.get (now.maps (number_of Ways)) way) nodes × (lists ≡ has nodes node)) }
+    ensures asks { AsksLists (λ may. MayKey may Ways way)
+        (λ now at. (¬ ((nodes : List ℕ) × HasNodes (finite.get (now.maps (number_of Ways)) way) nodes)) × (at ≡ page))
         buckets.old buckets.new result }
 {
-    let nodes = match nodes_of(alloc, buckets, way, page) {
-        Ok(nodes) => nodes,
-        Err(fault) => return Err(fault),
-    };
-    if !nodes.as_slice().contains(&node) {
-        return Ok(());
-    }
-    match found.push(way) {
-        Ok(()) => Ok(()),
-        Err(_) => Err(refused(buckets, page, ValueFault::OutOfMemory)),
-    }
-}
-
-/// The nodes of a way.
-fn nodes_of<D: Disk>(
-    alloc: Global,
-    buckets: &mut Buckets<'_, D>,
-    way: u64,
-    page: u64,
-) -> Result<Ids, StoreFault>
-    requires some { 1 ≤ bucket_count (chains_of buckets.old) }
-    requires going { has_refused buckets.old ≡ false }
-    ensures nodes { IfOk result (λ nodes. (rest now : Image) → Has rest now buckets.old → HasNodes (finite.get (now.maps WAYS) way) nodes) }
-    ensures has { answers_disk_fault result ≡ false → (rest now : Image) → Has rest now buckets.old → Has rest now buckets.new }
-    ensures within { (may : May) → may WAYS way ≡ true → HasReadOnly may buckets.old → HasReadOnly may buckets.new }
-    ensures touches { TouchesLists (λ now at. (¬ ((nodes : List ℕ) × HasNodes (finite.get (now.maps WAYS) way) nodes)) × (at ≡ page))
-        buckets.old buckets.new result }
-{
-    if let Err(fault) = buckets.bring(WAYS, way) {
+    if let Err(fault) = buckets.bring(StoreMap::Ways, way) {
         return Err(fault);
     }
     match read_nodes(alloc, buckets, way) {
-        Ok(nodes) => Ok(nodes),
+        Ok(nodes) => Ok(nodes.as_slice().contains(&node)),
         Err(fault) => Err(refused(buckets, page, fault)),
     }
 }
 
 /// The nodes of a way whose bucket is there.
 fn read_nodes<D: Disk>(alloc: Global, buckets: &Buckets<'_, D>, way: u64) -> Result<Ids, ValueFault>
-    requires some { 1 ≤ bucket_count (chains_of buckets.now) }
-    requires there { IsSome (finite.get (cached_of buckets.now) (chain_at (bucket_count (chains_of buckets.now)) WAYS way)) }
-    ensures nodes { IfOk result (λ nodes. (rest now : Image) → Has rest now buckets.now → HasNodes (finite.get (now.maps WAYS) way) nodes) }
-    ensures refused { IfErr result (NeedsFor ((rest now : Image) → Has rest now buckets.now → IsNodeless (finite.get (now.maps WAYS) way))) }
+    requires there { IsThere buckets.now (number_of Ways) way }
+    ensures nodes { IfOk result (λ nodes. (rest now : Image) → Has rest now buckets.now → HasNodes (finite.get (now.maps (number_of Ways)) way) nodes) }
+    ensures refused { IfErr result (NeedsFor ((rest now : Image) → Has rest now buckets.now → IsNodeless (finite.get (now.maps (number_of Ways)) way))) }
 {
-    match buckets.value(WAYS, way) {
+    match buckets.value(StoreMap::Ways, way) {
         Some(bytes) => ids_in_front(alloc, bytes),
         None => Err(ValueFault::NotSpelled),
     }

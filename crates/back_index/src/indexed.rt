@@ -7,12 +7,12 @@ ghost use Rattle.back_index.specs.Index.{Asked, Bears, Knows, is_spent};
 
 use crate::candidates::ways_of_node;
 use crate::lists::listers;
-use crate::visit::{RELATIONS_OF_NODES, RELATIONS_OF_WAYS};
 use bucket_store::Buckets;
 use osm_base::{Back, Ids};
 use outside::Disk;
 use page_journal::StoreFault;
 use std::alloc::Global;
+use value_bytes::StoreMap;
 
 /// The buckets of an open store, whose index may be asked within a transaction.
 #[derive(Drop)]
@@ -73,7 +73,12 @@ impl<D: Disk> Back for Indexed<'_, D> {
     }
 
     fn relations_of_node(&mut self, id: u64) -> Result<Ids, StoreFault> {
-        match listers(self.alloc, &mut self.buckets, RELATIONS_OF_NODES, id) {
+        match listers(
+            self.alloc,
+            &mut self.buckets,
+            StoreMap::RelationsOfNodes,
+            id,
+        ) {
             Ok(ids) => Ok(ids),
             Err(fault) => {
                 self.stopped = Some(fault);
@@ -83,7 +88,7 @@ impl<D: Disk> Back for Indexed<'_, D> {
     }
 
     fn relations_of_way(&mut self, id: u64) -> Result<Ids, StoreFault> {
-        match listers(self.alloc, &mut self.buckets, RELATIONS_OF_WAYS, id) {
+        match listers(self.alloc, &mut self.buckets, StoreMap::RelationsOfWays, id) {
             Ok(ids) => Ok(ids),
             Err(fault) => {
                 self.stopped = Some(fault);

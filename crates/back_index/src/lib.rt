@@ -28,6 +28,4 @@ pub use indexed::Indexed;
 pub use lists::listers;
 pub use mentions::Mention;
 pub use relisting::relist;
-pub use visit::{
-    RELATIONS_OF_NODES, RELATIONS_OF_WAYS, Visit, WAYS, WAYS_OF_BLOCKS, shared_numbers,
-};
+pub use visit::Visit;

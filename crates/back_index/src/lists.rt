@@ -1,17 +1,13 @@
 //! One list of the index in a store.
-ghost use Rattle.std.specs.Prelude.{◌≡◌, ◌≤◌, ◌<◌, ℕ, true, false, IfOk, IfErr, IsSome, OnOk};
-ghost use Rattle.std.specs.FinMap as map;
-ghost use Rattle.osm_base.specs.values.Ids.{AreRisingIds};
-ghost use Rattle.page_journal.specs.Answers.{answers_disk_fault};
-ghost use Rattle.chain_store.specs.Chains.{first_of};
-ghost use Rattle.bucket_store.specs.Buckets.{bucket_count, chain_at};
+ghost use Rattle.std.specs.Prelude.{◌≡◌, IfOk, IfErr, OnOk};
+ghost use Rattle.std.specs.FinMap as finite;
 ghost use Rattle.bucket_store.specs.Image.{Has, Image, with_value};
-ghost use Rattle.bucket_store.specs.Transaction.{cached_of, chains_of, has_refused};
+ghost use Rattle.bucket_store.specs.Transaction.{IsReady, IsThere};
 ghost use Rattle.bucket_store.specs.Typed.{refusal_of};
-ghost use Rattle.store_maps.specs.Asked.{May};
+ghost use Rattle.store_maps.specs.Asked.{MayKey};
 ghost use Rattle.value_bytes.specs.Forms.{NeedsFor};
-ghost use Rattle.back_index.specs.Calls.{Marks, NoDamage, TouchesLists, page_in};
-ghost use Rattle.back_index.specs.Reads.{HasReadOnly};
+ghost use Rattle.value_bytes.specs.StoreMap.{number_of};
+ghost use Rattle.back_index.specs.Calls.{AsksLists, FindsIds, Marks, NoDamage, TouchesLists, page_in};
 ghost use Rattle.back_index.specs.Relisting.{IsUnread, ReadsIds, kept_list};
 
 use crate::{ids_bytes, read_ids};
@@ -20,32 +16,28 @@ use osm_base::{Ids, OutOfMemory};
 use outside::Disk;
 use page_journal::StoreFault;
 use std::alloc::Global;
-use value_bytes::ValueFault;
+use value_bytes::{StoreMap, ValueFault};
 
 /// The rising ids of a list. `BadStore` comes with the first page of its bucket where it is not spelled.
 pub fn listers<D: Disk>(
     alloc: Global,
     buckets: &mut Buckets<'_, D>,
-    which: u8,
+    map: StoreMap,
     id: u64,
 ) -> Result<Ids, StoreFault>
-    requires which { which < 8 }
-    requires some { 1 ≤ bucket_count (chains_of buckets.old) }
-    requires going { has_refused buckets.old ≡ false }
-    ensures ids { IfOk result (λ ids. (rest now : Image) → Has rest now buckets.old → ReadsIds (map.get (now.maps which) id) ids) }
-    ensures rising { IfOk result AreRisingIds }
-    ensures has { answers_disk_fault result ≡ false → (rest now : Image) → Has rest now buckets.old → Has rest now buckets.new }
-    ensures within { (may : May) → may which id ≡ true → HasReadOnly may buckets.old → HasReadOnly may buckets.new }
-    ensures touches { TouchesLists (λ now at. IsUnread (map.get (now.maps which) id) × (at ≡ page_in buckets.old which id))
+    requires ready { IsReady buckets.old }
+    ensures ids { IfOk result (FindsIds (λ now ids. ReadsIds (finite.get (now.maps (number_of map)) id) ids) buckets.old) }
+    ensures asks { AsksLists (λ may. MayKey may map id)
+        (λ now at. IsUnread (finite.get (now.maps (number_of map)) id) × (at ≡ page_in buckets.old (number_of map) id))
         buckets.old buckets.new result }
 {
-    if let Err(fault) = buckets.bring(which, id) {
+    if let Err(fault) = buckets.bring(map, id) {
         return Err(fault);
     }
-    match read_list(alloc, buckets, which, id) {
+    match read_list(alloc, buckets, map, id) {
         Ok(ids) => Ok(ids),
         Err(fault) => {
-            let page = buckets.page_of(which, id);
+            let page = buckets.page_of(map, id);
             Err(refused(buckets, page, fault))
         }
     }
@@ -55,17 +47,14 @@ pub fn listers<D: Disk>(
 fn read_list<D: Disk>(
     alloc: Global,
     buckets: &Buckets<'_, D>,
-    which: u8,
+    map: StoreMap,
     id: u64,
 ) -> Result<Ids, ValueFault>
-    requires which { which < 8 }
-    requires some { 1 ≤ bucket_count (chains_of buckets.now) }
-    requires there { IsSome (map.get (cached_of buckets.now) (chain_at (bucket_count (chains_of buckets.now)) which id)) }
-    ensures ids { IfOk result (λ ids. (rest now : Image) → Has rest now buckets.now → ReadsIds (map.get (now.maps which) id) ids) }
-    ensures rising { IfOk result AreRisingIds }
-    ensures refused { IfErr result (NeedsFor ((rest now : Image) → Has rest now buckets.now → IsUnread (map.get (now.maps which) id))) }
+    requires there { IsThere buckets.now (number_of map) id }
+    ensures ids { IfOk result (FindsIds (λ now ids. ReadsIds (finite.get (now.maps (number_of map)) id) ids) buckets.now) }
+    ensures refused { IfErr result (NeedsFor ((rest now : Image) → Has rest now buckets.now → IsUnread (finite.get (now.maps (number_of map)) id))) }
 {
-    match buckets.value(which, id) {
+    match buckets.value(map, id) {
         Some(bytes) => read_ids(alloc, bytes),
         None => Ok(Ids::new(alloc)),
     }
@@ -75,25 +64,23 @@ fn read_list<D: Disk>(
 pub fn keep_list<D: Disk>(
     alloc: Global,
     buckets: &mut Buckets<'_, D>,
-    which: u8,
+    map: StoreMap,
     id: u64,
     ids: &[u64],
 ) -> Result<(), StoreFault>
-    requires which { which < 8 }
-    requires some { 1 ≤ bucket_count (chains_of buckets.old) }
-    requires going { has_refused buckets.old ≡ false }
-    ensures keeps { OnOk result ((rest now : Image) → Has rest now buckets.old → Has rest (with_value which id (kept_list ids.now) now) buckets.new) }
-    ensures within { (may : May) → may which id ≡ true → HasReadOnly may buckets.old → HasReadOnly may buckets.new }
-    ensures touches { TouchesLists NoDamage buckets.old buckets.new result }
+    requires ready { IsReady buckets.old }
+    ensures keeps { OnOk result ((rest now : Image) → Has rest now buckets.old
+        → Has rest (with_value (number_of map) id (kept_list ids.now) now) buckets.new) }
+    ensures touches { TouchesLists (λ may. MayKey may map id) NoDamage buckets.old buckets.new result }
 {
     if ids.is_empty() {
-        return match buckets.remove(which, id) {
+        return match buckets.remove(map, id) {
             Ok(_) => Ok(()),
             Err(fault) => Err(fault),
         };
     }
     match ids_bytes(alloc, ids) {
-        Ok(bytes) => buckets.put(which, id, bytes.as_slice()),
+        Ok(bytes) => buckets.put(map, id, bytes.as_slice()),
         Err(_) => Err(refused(buckets, 0, ValueFault::OutOfMemory)),
     }
 }

@@ -1,17 +1,15 @@
 //! What objects list, told one id at a time.
 ghost use Rattle.std.specs.Prelude.{◌≡◌, ℕ, ◌&&◌, ◌||◌, true, nat_eq, IfOk, OnOk, IsTrue};
 ghost use Rattle.std.specs.List.Sorted.{IsNonDecreasingBy, IsPermutation};
-ghost use Rattle.osm_base.specs.declared.values.key.Kind.TheVariants as kinds;
-ghost use Rattle.osm_base.specs.map.Listers.{listed};
 ghost use Rattle.osm_base.specs.values.Ids.{has};
 ghost use Rattle.osm_base.specs.values.Key.{IsId};
-ghost use Rattle.store_maps.specs.Filling.{entries_tell};
-ghost use Rattle.store_maps.specs.Turns.{blocks_in, ids_for};
 ghost use Rattle.back_index.specs.Filling.{ByIds, id_of, is_told, mentions_tell};
+ghost use Rattle.back_index.specs.Listed.{entry_ids, lister_in, map_told};
 
-use crate::listed_ids::{blocks, listed};
+use crate::listed_ids::listed_in;
 use osm_base::{Entry, Kind, OutOfMemory};
 use std::alloc::Global;
+use value_bytes::StoreMap;
 
 /// An id that an object lists.
 #[derive(Clone, Copy, PartialEq, Eq)]
@@ -22,53 +20,48 @@ pub struct Mention {
     pub own: u64,
 }
 
-/// What the ways among the objects of these entries list: the blocks of their nodes.
-pub fn blocks_told(alloc: Global, entries: &[Entry]) -> Result<Vec<Mention>, OutOfMemory>
-    ensures told { IfOk result (λ mentions. (id by : ℕ) → mentions_tell mentions.items id by ≡ entries_tell kinds.Way blocks_in entries.now id by) }
+/// What the objects of these entries list in a map of the index, in the order of what is listed.
+pub fn told(alloc: Global, map: StoreMap, entries: &[Entry]) -> Result<Vec<Mention>, OutOfMemory>
+    ensures told { IfOk result (λ mentions. (id by : ℕ) → mentions_tell mentions.items id by ≡ map_told map entries.now id by) }
+    ensures ids { IfOk result (λ mentions. ByIds (mentions_tell mentions.items)) }
+    ensures order { IfOk result (λ mentions. IsNonDecreasingBy id_of mentions.items) }
+{
+    let mut mentions = all_told(alloc, map, entries)?;
+    sort(&mut mentions);
+    Ok(mentions)
+}
+
+/// The same in the order of the entries.
+fn all_told(alloc: Global, map: StoreMap, entries: &[Entry]) -> Result<Vec<Mention>, OutOfMemory>
+    ensures told { IfOk result (λ mentions. (id by : ℕ) → mentions_tell mentions.items id by ≡ map_told map entries.now id by) }
     ensures ids { IfOk result (λ mentions. ByIds (mentions_tell mentions.items)) }
 {
     let mut mentions = Vec::new(alloc);
     for entry in entries {
-        let blocks = entry_blocks(alloc, entry)?;
-        add_all(&mut mentions, blocks.as_slice(), entry.key.id)?;
+        let ids = entry_ids(alloc, map, entry)?;
+        add_all(&mut mentions, ids.as_slice(), entry.key.id)?;
     }
     Ok(mentions)
 }
 
-/// What the relations among the objects of these entries list: their members of one kind.
-pub fn members_told(
-    alloc: Global,
-    entries: &[Entry],
-    kind: Kind,
-) -> Result<Vec<Mention>, OutOfMemory>
-    ensures told { IfOk result (λ mentions. (id by : ℕ) → mentions_tell mentions.items id by ≡ entries_tell kinds.Relation (listed kind) entries.now id by) }
-    ensures ids { IfOk result (λ mentions. ByIds (mentions_tell mentions.items)) }
+/// What an entry's object lists in a map of the index, where its key is of those that list something there.
+fn entry_ids(alloc: Global, map: StoreMap, entry: &Entry) -> Result<Vec<u64>, OutOfMemory>
+    ensures ids { IfOk result (λ ids. ids.items ≡ entry_ids map entry.now) }
 {
-    let mut mentions = Vec::new(alloc);
-    for entry in entries {
-        let members = entry_members(alloc, entry, kind)?;
-        add_all(&mut mentions, members.as_slice(), entry.key.id)?;
-    }
-    Ok(mentions)
-}
-
-/// The blocks of the nodes of an entry's object, where its key is a way's.
-fn entry_blocks(alloc: Global, entry: &Entry) -> Result<Vec<u64>, OutOfMemory>
-    ensures ids { IfOk result (λ ids. ids.items ≡ ids_for kinds.Way blocks_in entry.now.key.kind entry.now.object) }
-{
-    match entry.key.kind {
-        Kind::Way => blocks(alloc, &entry.object),
-        _ => Ok(Vec::new(alloc)),
+    if lister_in(map) == entry.key.kind {
+        listed_in(alloc, map, &entry.object)
+    } else {
+        Ok(Vec::new(alloc))
     }
 }
 
-/// The members of one kind of an entry's object, where its key is a relation's.
-fn entry_members(alloc: Global, entry: &Entry, kind: Kind) -> Result<Vec<u64>, OutOfMemory>
-    ensures ids { IfOk result (λ ids. ids.items ≡ ids_for kinds.Relation (listed kind) entry.now.key.kind entry.now.object) }
+/// Of which kind those are that list something in a map of the index.
+fn lister_in(map: StoreMap) -> Kind
+    ensures { result ≡ lister_in map }
 {
-    match entry.key.kind {
-        Kind::Relation => listed(alloc, &entry.object, kind),
-        _ => Ok(Vec::new(alloc)),
+    match map {
+        StoreMap::WaysOfBlocks => Kind::Way,
+        _ => Kind::Relation,
     }
 }
 
@@ -106,7 +99,7 @@ fn ends_with(mentions: &[Mention], mention: Mention) -> bool
 }
 
 /// Puts what is told in the order of the ids that are listed.
-pub fn sort(mentions: &mut Vec<Mention>)
+fn sort(mentions: &mut Vec<Mention>)
     ensures permutation { IsPermutation mentions.old.items mentions.new.items }
     ensures rising { IsNonDecreasingBy id_of mentions.new.items }
 {

@@ -1,31 +1,30 @@
 //! The index of a store, where an object comes, goes or changes.
-ghost use Rattle.std.specs.Prelude.{◌≡◌, ◌≤◌, ◌<◌, ◌++◌, ℕ, List, true, false, map, if◌then◌else◌, IfErr, IfOk, OnOk};
+ghost use Rattle.std.specs.Prelude.{◌≡◌, ℕ, List, if◌then◌else◌, OnOk};
 ghost use Rattle.std.specs.FinMap as finite;
-ghost use Rattle.osm_base.specs.values.Ids.{IsRising, has};
+ghost use Rattle.osm_base.specs.values.Ids.{IsRising};
 ghost use Rattle.osm_base.specs.values.Key.{IsId};
-ghost use Rattle.bucket_store.specs.Buckets.{bucket_count};
 ghost use Rattle.bucket_store.specs.Image.{Has, Image};
-ghost use Rattle.bucket_store.specs.Transaction.{chains_of, has_refused};
+ghost use Rattle.bucket_store.specs.Transaction.{IsReady};
+ghost use Rattle.value_bytes.specs.StoreMap.{number_of};
+ghost use Rattle.store_maps.specs.Asked.{MayEach, MayKey, MayList};
+ghost use Rattle.store_maps.specs.Step.{with_id, without_id};
+ghost use Rattle.store_maps.specs.Turns.{listed_by};
 ghost use Rattle.back_index.specs.Calls.{TouchesLists, page_at};
 ghost use Rattle.back_index.specs.Index.{Relists, all_visits};
-ghost use Rattle.osm_base.specs.map.Listers.{listed};
-ghost use Rattle.store_maps.specs.Asked.{May, MayEach, MayList};
-ghost use Rattle.store_maps.specs.Step.{with_id, without_id};
-ghost use Rattle.store_maps.specs.Turns.{blocks_in, listed_by};
-ghost use Rattle.back_index.specs.Reads.{HasReadOnly};
-ghost use Rattle.back_index.specs.Relisting.{CanTurn, Turns, TurnsAt, in_order, kept_list, turned};
-ghost use Rattle.back_index.specs.Visits.{IsFine, OnlyMap, Sets, StopsAt, visit_of, visits};
+ghost use Rattle.back_index.specs.Listed.{ids_in};
+ghost use Rattle.back_index.specs.Relisting.{CanTurn, Turns, TurnsAt, kept_list, turned};
+ghost use Rattle.back_index.specs.Visits.{IsFine, OnlyMap, Sets, StopsAt, visits, visits_at};
 
-use crate::listed_ids::{rising_blocks, rising_listed};
+use crate::listed_ids::Forms;
 use crate::lists::{keep_list, listers, refused};
-use crate::visit::{RELATIONS_OF_NODES, RELATIONS_OF_WAYS, Visit, WAYS_OF_BLOCKS};
+use crate::visit::Visit;
 use bucket_store::Buckets;
 use object_fold::RisingIds;
 use osm_base::{Key, Kind, Object, OutOfMemory};
 use outside::Disk;
 use page_journal::StoreFault;
 use std::alloc::Global;
-use value_bytes::ValueFault;
+use value_bytes::{StoreMap, ValueFault};
 
 /// The object of a key, which was of the one form, is of the other. A list that both forms are in is only
 /// looked at. `BadStore` comes with the first page of the bucket of the first list that is not spelled, or
@@ -37,165 +36,74 @@ pub fn relist<D: Disk>(
     old: &Option<Object>,
     new: &Option<Object>,
 ) -> Result<(), StoreFault>
-    requires some { 1 ≤ bucket_count (chains_of buckets.old) }
-    requires going { has_refused buckets.old ≡ false }
+    requires ready { IsReady buckets.old }
     ensures relists { OnOk result ((rest now : Image) → Has rest now buckets.old
         → (after : Image) × Has rest after buckets.new × Relists key old.now new.now now after) }
-    ensures within { (may : May) → MayList may key old.now → MayList may key new.now → HasReadOnly may buckets.old → HasReadOnly may buckets.new }
-    ensures touches { TouchesLists (λ now. StopsAt (IsFine now key.id) (page_at buckets.old) (all_visits key old.now new.now))
-        buckets.old buckets.new result }
+    ensures touches { TouchesLists (λ may. MayList may key old.now × MayList may key new.now)
+        (λ now. StopsAt (IsFine now key.id) (page_at buckets.old) (all_visits key old.now new.now)) buckets.old buckets.new result }
 {
     match key.kind {
         Kind::Node => Ok(()),
-        Kind::Way => relist_blocks(alloc, buckets, key.id, old, new),
+        Kind::Way => relist_map(alloc, buckets, StoreMap::WaysOfBlocks, key.id, old, new),
         Kind::Relation => {
-            let nodes = RELATIONS_OF_NODES;
-            if let Err(fault) = relist_members(
-                alloc,
-                buckets,
-                nodes,
-                Kind::Node,
-                key.id,
-                old,
-                new,
-            ) {
+            let nodes = StoreMap::RelationsOfNodes;
+            if let Err(fault) = relist_map(alloc, buckets, nodes, key.id, old, new) {
                 return Err(fault);
             }
-            relist_members(
-                alloc,
-                buckets,
-                RELATIONS_OF_WAYS,
-                Kind::Way,
-                key.id,
-                old,
-                new,
-            )
+            relist_map(alloc, buckets, StoreMap::RelationsOfWays, key.id, old, new)
         }
     }
 }
 
-/// The lists of the blocks of a way.
-fn relist_blocks<D: Disk>(
-    alloc: Global,
-    buckets: &mut Buckets<'_, D>,
-    own: u64,
-    old: &Option<Object>,
-    new: &Option<Object>,
-) -> Result<(), StoreFault>
-    requires some { 1 ≤ bucket_count (chains_of buckets.old) }
-    requires going { has_refused buckets.old ≡ false }
-    requires own { IsId own }
-    ensures turns { OnOk result ((rest now : Image) → Has rest now buckets.old → (after : Image) × Has rest after buckets.new
-        × OnlyMap WAYS_OF_BLOCKS now after
-        × Turns own (listed_by blocks_in old.now) (listed_by blocks_in new.now) (now.maps WAYS_OF_BLOCKS) (after.maps WAYS_OF_BLOCKS)) }
-    ensures within { (may : May) → MayEach may WAYS_OF_BLOCKS (listed_by blocks_in old.now) → MayEach may WAYS_OF_BLOCKS (listed_by blocks_in new.now)
-        → HasReadOnly may buckets.old → HasReadOnly may buckets.new }
-    ensures touches { TouchesLists (λ now. StopsAt (IsFine now own) (page_at buckets.old) (visits WAYS_OF_BLOCKS (listed_by blocks_in old.now) (listed_by blocks_in new.now)))
-        buckets.old buckets.new result }
-{
-    let olds = match rising_blocks(alloc, old) {
-        Ok(ids) => ids,
-        Err(_) => return Err(refused(buckets, 0, ValueFault::OutOfMemory)),
-    };
-    let news = match rising_blocks(alloc, new) {
-        Ok(ids) => ids,
-        Err(_) => return Err(refused(buckets, 0, ValueFault::OutOfMemory)),
-    };
-    relist_map(alloc, buckets, WAYS_OF_BLOCKS, own, &olds, &news)
-}
-
-/// The lists of the members of one kind of a relation.
-fn relist_members<D: Disk>(
-    alloc: Global,
-    buckets: &mut Buckets<'_, D>,
-    which: u8,
-    kind: Kind,
-    own: u64,
-    old: &Option<Object>,
-    new: &Option<Object>,
-) -> Result<(), StoreFault>
-    requires which { which < 8 }
-    requires some { 1 ≤ bucket_count (chains_of buckets.old) }
-    requires going { has_refused buckets.old ≡ false }
-    requires own { IsId own }
-    ensures turns { OnOk result ((rest now : Image) → Has rest now buckets.old → (after : Image) × Has rest after buckets.new
-        × OnlyMap which now after
-        × Turns own (listed_by (listed kind) old.now) (listed_by (listed kind) new.now) (now.maps which) (after.maps which)) }
-    ensures within { (may : May) → MayEach may which (listed_by (listed kind) old.now) → MayEach may which (listed_by (listed kind) new.now)
-        → HasReadOnly may buckets.old → HasReadOnly may buckets.new }
-    ensures touches { TouchesLists (λ now. StopsAt (IsFine now own) (page_at buckets.old) (visits which (listed_by (listed kind) old.now) (listed_by (listed kind) new.now)))
-        buckets.old buckets.new result }
-{
-    let olds = match rising_listed(alloc, old, kind) {
-        Ok(ids) => ids,
-        Err(_) => return Err(refused(buckets, 0, ValueFault::OutOfMemory)),
-    };
-    let news = match rising_listed(alloc, new, kind) {
-        Ok(ids) => ids,
-        Err(_) => return Err(refused(buckets, 0, ValueFault::OutOfMemory)),
-    };
-    relist_map(alloc, buckets, which, own, &olds, &news)
-}
-
-/// The lists of one map, where the object of an id listed the old ids and lists the new ones.
+/// The lists of one map.
 fn relist_map<D: Disk>(
     alloc: Global,
     buckets: &mut Buckets<'_, D>,
-    which: u8,
+    map: StoreMap,
     own: u64,
-    old: &RisingIds,
-    new: &RisingIds,
+    old: &Option<Object>,
+    new: &Option<Object>,
 ) -> Result<(), StoreFault>
-    requires which { which < 8 }
-    requires some { 1 ≤ bucket_count (chains_of buckets.old) }
-    requires going { has_refused buckets.old ≡ false }
+    requires ready { IsReady buckets.old }
     requires own { IsId own }
     ensures turns { OnOk result ((rest now : Image) → Has rest now buckets.old → (after : Image) × Has rest after buckets.new
-        × OnlyMap which now after × Turns own old.now new.now (now.maps which) (after.maps which)) }
-    ensures within { (may : May) → MayEach may which old.now → MayEach may which new.now → HasReadOnly may buckets.old → HasReadOnly may buckets.new }
-    ensures touches { TouchesLists (λ now. StopsAt (IsFine now own) (page_at buckets.old) (visits which old.now new.now))
+        × OnlyMap (number_of map) now after
+        × Turns own (listed_by (ids_in map) old.now) (listed_by (ids_in map) new.now) (now.maps (number_of map)) (after.maps (number_of map))) }
+    ensures touches { TouchesLists
+        (λ may. MayEach may (number_of map) (listed_by (ids_in map) old.now) × MayEach may (number_of map) (listed_by (ids_in map) new.now))
+        (λ now. StopsAt (IsFine now own) (page_at buckets.old) (visits map (listed_by (ids_in map) old.now) (listed_by (ids_in map) new.now)))
         buckets.old buckets.new result }
 {
-    match both(alloc, old, new) {
-        Ok(ids) => turn_all(alloc, buckets, which, own, ids.as_slice(), old, new),
+    match Forms::of(alloc, map, old, new) {
+        Ok(forms) => {
+            let ids = forms.all.as_slice();
+            turn_all(alloc, buckets, map, own, ids, &forms.before, &forms.after)
+        }
         Err(_) => Err(refused(buckets, 0, ValueFault::OutOfMemory)),
     }
-}
-
-/// The ids that are among these or those.
-fn both(alloc: Global, ids: &RisingIds, others: &RisingIds) -> Result<RisingIds, OutOfMemory>
-    ensures both { IfOk result (λ all. all ≡ in_order (ids.now ++ others.now)) }
-    ensures rise { IfOk result IsRising }
-{
-    let mut all = Vec::from_slice(alloc, ids.as_slice())?;
-    all.extend_from_slice(others.as_slice())?;
-    Ok(RisingIds::from_vec(all))
 }
 
 /// The lists of these ids in one map are turned.
 fn turn_all<D: Disk>(
     alloc: Global,
     buckets: &mut Buckets<'_, D>,
-    which: u8,
+    map: StoreMap,
     own: u64,
     ids: &[u64],
     old: &RisingIds,
     new: &RisingIds,
 ) -> Result<(), StoreFault>
-    requires which { which < 8 }
-    requires some { 1 ≤ bucket_count (chains_of buckets.old) }
-    requires going { has_refused buckets.old ≡ false }
+    requires ready { IsReady buckets.old }
     requires own { IsId own }
     requires rise { IsRising ids.now }
     ensures turns { OnOk result ((rest now : Image) → Has rest now buckets.old → (after : Image) × Has rest after buckets.new
-        × OnlyMap which now after × TurnsAt own old.now new.now ids.now (now.maps which) (after.maps which)) }
-    ensures within { (may : May) → MayEach may which ids.now → HasReadOnly may buckets.old → HasReadOnly may buckets.new }
-    ensures touches { TouchesLists (λ now. StopsAt (IsFine now own) (page_at buckets.old) (map (visit_of which old.now new.now) ids.now))
-        buckets.old buckets.new result }
+        × OnlyMap (number_of map) now after × TurnsAt own old.now new.now ids.now (now.maps (number_of map)) (after.maps (number_of map))) }
+    ensures touches { TouchesLists (λ may. MayEach may (number_of map) ids.now)
+        (λ now. StopsAt (IsFine now own) (page_at buckets.old) (visits_at map old.now new.now ids.now)) buckets.old buckets.new result }
 {
     for &id in ids {
         let visit = Visit {
-            which,
+            map,
             id,
             was: old.contains(id),
             is: new.contains(id),
@@ -214,24 +122,21 @@ fn turn_list<D: Disk>(
     visit: Visit,
     own: u64,
 ) -> Result<(), StoreFault>
-    requires which { visit.which < 8 }
-    requires some { 1 ≤ bucket_count (chains_of buckets.old) }
-    requires going { has_refused buckets.old ≡ false }
+    requires ready { IsReady buckets.old }
     requires own { IsId own }
     ensures turns { OnOk result ((rest now : Image) → Has rest now buckets.old → (after : Image) × Has rest after buckets.new
-        × (ids : List ℕ) × CanTurn visit.was own (finite.get (now.maps visit.which) visit.id) ids
-        × Sets visit.which visit.id (kept_list (turned visit.was visit.is own ids)) now after) }
-    ensures within { (may : May) → may visit.which visit.id ≡ true → HasReadOnly may buckets.old → HasReadOnly may buckets.new }
-    ensures touches { TouchesLists (λ now at. (¬ IsFine now own visit) × (at ≡ page_at buckets.old visit))
-        buckets.old buckets.new result }
+        × (ids : List ℕ) × CanTurn visit.was own (finite.get (now.maps (number_of visit.map)) visit.id) ids
+        × Sets (number_of visit.map) visit.id (kept_list (turned visit.was visit.is own ids)) now after) }
+    ensures touches { TouchesLists (λ may. MayKey may visit.map visit.id)
+        (λ now at. (¬ IsFine now own visit) × (at ≡ page_at buckets.old visit)) buckets.old buckets.new result }
 {
-    let ids = match listers(alloc, buckets, visit.which, visit.id) {
+    let ids = match listers(alloc, buckets, visit.map, visit.id) {
         Ok(ids) => ids,
         Err(fault) => return Err(fault),
     };
     let mut ids = RisingIds::from_vec(ids.into_vec());
     if visit.was && !ids.contains(own) {
-        let page = buckets.page_of(visit.which, visit.id);
+        let page = buckets.page_of(visit.map, visit.id);
         return Err(refused(buckets, page, ValueFault::NotSpelled));
     }
     if visit.was == visit.is {
@@ -240,7 +145,7 @@ fn turn_list<D: Disk>(
     if let Err(_) = turn(&mut ids, own, visit.is) {
         return Err(refused(buckets, 0, ValueFault::OutOfMemory));
     }
-    keep_list(alloc, buckets, visit.which, visit.id, ids.as_slice())
+    keep_list(alloc, buckets, visit.map, visit.id, ids.as_slice())
 }
 
 /// An id comes in, or goes out.

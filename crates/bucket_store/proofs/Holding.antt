@@ -26,9 +26,9 @@ use Rattle.bucket_records.specs.Records.{BucketMap, IsBucket}
 use Rattle.bucket_store.specs.Buckets.{Stored, bucket_count, bucket_in, chain_at}
 use Rattle.bucket_store.specs.Cache.{CacheMap}
 use Rattle.bucket_store.specs.Image.{Has, Image, IsPart, OnlyLooks, RestsAt, Spells, bucket_chain, with_entry, with_value}
-use Rattle.bucket_store.specs.Transaction.{Content, IsOpenStore, cached_of, chains_of}
+use Rattle.bucket_store.specs.Transaction.{Content, IsOpenStore, IsThere, bucket_at, cached_of, chains_of}
 use Rattle.bucket_store.specs.declared.buckets.Buckets.{Buckets}
-use Rattle.bucket_store.proofs.Openings.{none_content}
+use Rattle.bucket_store.proofs.Openings.{bucket_some, none_content, there_own}
 use Rattle.bucket_store.proofs.Images.{maps_beside, maps_here, part_changed, part_gives, part_stays, same_bucket, same_chain}
 
 -- what is kept of a store tells its chains
@@ -175,6 +175,13 @@ module _ {D : Type 0} {g : Ghosts D} where
         (had.0, had.1, content has.pages has.opens (bucket_chain m bucket) had.0 had.2);
     none = has.none;
   }
+
+  -- where the bucket of a key is there, the store has buckets
+  pub some_at : (buckets : Buckets D g) (which key : ℕ) → IsThere buckets which key → 1 ≤ bucket_count (chains_of buckets)
+  some_at buckets which key there =
+      let at = bucket_at buckets which key in
+      let found = there_own (map.get (cached_of buckets) at) there in
+      bucket_some (bucket_count (chains_of buckets)) at (buckets.own at found.0 found.1).0
 
   -- the bucket of a key, as the transaction has it
   pub has_bucket : (rest now : Image) (buckets : Buckets D g) (which key : ℕ) → which < 8 → 1 ≤ bucket_count (chains_of buckets)

@@ -1,4 +1,5 @@
 pub mod BucketLaws
+pub mod Bringing
 pub mod Caches
 pub mod Openings
 pub mod Origins

@@ -165,6 +165,10 @@ pub there_own : (o : Option Cached) → IsSome o → (own : Cached) × (o ≡ So
 there_own None some = absurd (cc)
 there_own (Some own) some = (own, refl)
 
+-- where there is a bucket, there are buckets
+pub bucket_some : (count n : ℕ) → IsBucketChain count n → 1 ≤ count
+bucket_some count n is = omega (arith, is.2)
+
 none_left : IsSome {T = List ℕ} None → ⊥
 none_left some = absurd (cc)
 

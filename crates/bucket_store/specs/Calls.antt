@@ -14,7 +14,7 @@ use Rattle.bucket_records.specs.Records.{BucketMap}
 use Rattle.bucket_store.specs.Image.{Has, Image, IsBucketOf, IsSoundAnswer, OnlyLooks, with_text, with_value}
 use Rattle.bucket_store.specs.Reads.{MayReadChain, ReadsKeys}
 use Rattle.bucket_store.specs.Transaction.{BringsBucket, Content, IsOpenStore, bucket_at, cached_of, chains_of, has_refused}
-use Rattle.bucket_store.specs.Whole.{BringsMap}
+use Rattle.bucket_store.specs.Whole.{BringsMap, SameContents}
 use Rattle.bucket_store.specs.declared.buckets.Buckets.{Buckets}
 
 -- what a call that only reads the disk leaves of the store, whatever it answers; and what it has read once it succeeds
@@ -70,7 +70,13 @@ pub record BringsChain {D : Type 0} {g : Ghosts D} (n : ℕ) (old new : Buckets 
   pub sound : (rest now : Image) → Has rest now old → IsSoundAnswer result
   pub keeps : KeepsContent old new result
 
--- and of one that brings that of a key
+-- and with what it leaves: all buckets are as they were
+pub record BringsOnly {D : Type 0} {g : Ghosts D} (n : ℕ) (old new : Buckets D g) (result : Result (Unit {0}) StoreFault) : Type 0 where
+  pub brings : BringsChain n old new result
+  pub contents : OnOk result (SameContents old new)
+  pub touches : TouchesChain n old new result
+
+-- what a call that brings the bucket of a key does
 abbrev pub BringsThere : {D : Type 0} {g : Ghosts D} → ℕ → ℕ → Buckets D g → Buckets D g → Result (Unit {0}) StoreFault → Type 0
 BringsThere which key old new result = BringsChain (bucket_at old which key) old new result
 

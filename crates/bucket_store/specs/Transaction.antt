@@ -1,5 +1,5 @@
 -- What contracts see of the buckets of an open store and of the transaction over them.
-use Rattle.std.specs.Prelude.{◌≡◌, ℕ, Bool, false, List, None, Some, Result, Ok, Err, MatchOption}
+use Rattle.std.specs.Prelude.{◌≡◌, ◌≤◌, ℕ, Bool, false, List, None, Some, Result, Ok, Err, IsSome, MatchOption}
 use Rattle.std.specs.FinMap as map
 use Rattle.outside.specs.declared.disk.Disk.{Ghosts}
 use Rattle.page_journal.specs.declared.fault.StoreFault.{StoreFault}
@@ -8,7 +8,7 @@ use Rattle.chain_store.specs.declared.chains.Chains.{Chains}
 use Rattle.chain_store.specs.Chains.{IsOpen}
 use Rattle.bucket_records.specs.Records.{BucketMap}
 use Rattle.bucket_store.specs.Cache.{CacheMap}
-use Rattle.bucket_store.specs.Buckets.{HaveOrigins, Stored, IsBadChain, bucket_count, chain_at}
+use Rattle.bucket_store.specs.Buckets.{HaveOrigins, IsBucketChain, Stored, IsBadChain, bucket_count, chain_at}
 use Rattle.bucket_store.specs.declared.cache.Cached.{Cached}
 use Rattle.bucket_store.specs.declared.buckets.Buckets.{Buckets}
 
@@ -22,9 +22,23 @@ cached_of buckets = buckets.cache
 abbrev pub has_refused : {D : Type 0} {g : Ghosts D} → Buckets D g → Bool
 has_refused buckets = buckets.refused
 
+-- the transaction has refused no call, and the store has buckets
+pub record IsReady {D : Type 0} {g : Ghosts D} (buckets : Buckets D g) : Type 0 where
+  pub going : has_refused buckets ≡ false
+  pub some : 1 ≤ bucket_count (chains_of buckets)
+
+-- the transaction has refused no call, and this is the chain of one of the store's buckets
+pub record IsReadyAt {D : Type 0} {g : Ghosts D} (n : ℕ) (buckets : Buckets D g) : Type 0 where
+  pub going : has_refused buckets ≡ false
+  pub bucket : IsBucketChain (bucket_count (chains_of buckets)) n
+
 -- the chain of the bucket of a key
 abbrev pub bucket_at : {D : Type 0} {g : Ghosts D} → Buckets D g → ℕ → ℕ → ℕ
 bucket_at buckets which key = chain_at (bucket_count (chains_of buckets)) which key
+
+-- the transaction has the bucket of a key
+abbrev pub IsThere : {D : Type 0} {g : Ghosts D} → Buckets D g → ℕ → ℕ → Type 0
+IsThere buckets which key = IsSome (map.get (cached_of buckets) (bucket_at buckets which key))
 
 -- the store is at rest with these home pages, each bucket that was not changed is so there, and each was read from what
 -- its chain has

@@ -1,6 +1,6 @@
 //! The buckets of an open store, and one transaction over them.
 ghost use Rattle.std.specs.Prelude.{◌≡◌, ◌*◌, ◌≤◌, ◌<◌, List, ℕ, None, Some, false, true, not, is_some, IfSome};
-ghost use Rattle.std.specs.FinMap as map;
+ghost use Rattle.std.specs.FinMap as finite;
 ghost use Rattle.page_journal.specs.Journal.{is_broken, loan_of, page_limit};
 ghost use Rattle.page_journal.specs.Journal.{disk_of as disk_under};
 ghost use Rattle.chain_store.specs.Chains.{IsOpen, disk_of, first_of, is_refused, journal_of, kept_of, read_of, root_of};
@@ -22,6 +22,7 @@ use osm_base::Limits;
 use outside::Disk;
 use page_journal::Journal;
 use std::alloc::Global;
+use value_bytes::StoreMap;
 
 /// The buckets of an open store, and one transaction over them.
 #[derive(Drop)]
@@ -40,13 +41,14 @@ impl<'d, D: Disk> Buckets<'d, D> {
     ghost use Rattle.bucket_store.specs.Image.{Has, HoldsImage, Image, OnlyLooks, RestsAt};
     ghost use Rattle.bucket_store.specs.Opening.{Fits};
     ghost use Rattle.bucket_store.specs.Transaction.{IsOpenStore, bucket_at, cached_of, chains_of, has_refused};
+    ghost use Rattle.value_bytes.specs.StoreMap.{number_of};
 
     /// The buckets over these chains, of which none was read yet. Reads nothing.
     pub fn over(alloc: Global, chains: Chains<'d, D>) -> Self
         requires going { is_refused chains ≡ false }
-        requires unread { read_of chains ≡ map.empty }
+        requires unread { read_of chains ≡ finite.empty }
         ensures chains { chains_of result ≡ chains.entry }
-        ensures none { cached_of result ≡ map.empty }
+        ensures none { cached_of result ≡ finite.empty }
         ensures going { has_refused result ≡ false }
         ensures open { (pages : List (List ℕ)) → IsOpen pages chains.entry → IsOpenStore pages result }
     {
@@ -65,7 +67,7 @@ impl<'d, D: Disk> Buckets<'d, D> {
         ensures limit { page_limit (journal_of (chains_of result)) ≡ limits.now.pages }
         ensures whole { is_broken (journal_of (chains_of result)) ≡ false }
         ensures going { has_refused result ≡ false }
-        ensures read { read_of (chains_of result) ≡ map.empty }
+        ensures read { read_of (chains_of result) ≡ finite.empty }
         ensures rests { (image : Image) → Fits opened (D.view disk.entry.now) → HoldsImage image (D.view disk.entry.now) → RestsAt image result }
         ensures has { (image : Image) → Fits opened (D.view disk.entry.now) → HoldsImage image (D.view disk.entry.now) → Has image image result }
     {
@@ -145,22 +147,20 @@ impl<'d, D: Disk> Buckets<'d, D> {
     }
 
     /// The first page that the bucket of a key has in the store, or 0 where it is empty there. Reads nothing.
-    pub fn page_of(&self, which: u8, key: u64) -> u64
-        requires which { which < 8 }
+    pub fn page_of(&self, map: StoreMap, key: u64) -> u64
         requires some { 1 ≤ bucket_count (chains_of self.now) }
-        ensures { result ≡ first_of (chains_of self.now) (bucket_at self.now which key) }
+        ensures { result ≡ first_of (chains_of self.now) (bucket_at self.now (number_of map) key) }
     {
-        self.chains.first_page(self.chain_of(which, key))
+        self.chains.first_page(self.chain_of(map, key))
     }
 
     // The chain of the bucket of a key.
-    fn chain_of(&self, which: u8, key: u64) -> u32
-        requires which { which < 8 }
+    fn chain_of(&self, map: StoreMap, key: u64) -> u32
         requires some { 1 ≤ bucket_count (chains_of self.now) }
-        ensures chain { result ≡ bucket_at self.now which key }
+        ensures chain { result ≡ bucket_at self.now (number_of map) key }
         ensures string { IsString (bucket_count (chains_of self.now)) result }
         ensures is { IsBucketChain (bucket_count (chains_of self.now)) result }
     {
-        chain_of(which, key, self.chains.root().buckets)
+        chain_of(map, key, self.chains.root().buckets)
     }
 }

@@ -1,7 +1,7 @@
 //! Buckets by the numbers of their chains, as a transaction has them.
 ghost use Rattle.std.specs.Prelude.{◌≡◌, ◌↔◌, ℕ, Some, None, true, false, IfSome, IsNone, IsSome, IsTrue, MatchOption, is_some, IfOk, OnOk, OnErr};
 ghost use Rattle.std.specs.FinMap as map;
-ghost use Rattle.bucket_store.specs.Cache.{changed_to};
+ghost use Rattle.bucket_store.specs.Cache.{Becomes, changed_to};
 
 use bucket_records::Bucket;
 use osm_base::{Bytes, OutOfMemory};
@@ -19,8 +19,7 @@ pub struct Cached {
 impl Cached {
     // Sets the value of a key.
     fn put(&mut self, key: u64, value: &[u8]) -> Result<(), OutOfMemory>
-        ensures ok { OnOk result (self.new ≡ changed_to self.old (map.insert self.old.bucket.values key value.now)) }
-        ensures err { OnErr result (self.new ≡ self.old) }
+        ensures put { Becomes self.old self.new (changed_to self.old (map.insert self.old.bucket.values key value.now)) result }
     {
         match self.bucket.put(key, value) {
             Ok(()) => {
@@ -112,8 +111,7 @@ impl Cache {
 
     /// Puts a bucket beside the others. Where it fails, they are as they were.
     pub fn add(&mut self, n: u32, bucket: Bucket) -> Result<(), OutOfMemory>
-        ensures ok { OnOk result (self.new ≡ map.insert self.old n (record { bucket = bucket; changed = false })) }
-        ensures err { OnErr result (self.new ≡ self.old) }
+        ensures added { Becomes self.old self.new (map.insert self.old n (record { bucket = bucket; changed = false })) result }
     {
         self.tree.insert(
             n,

@@ -3,13 +3,14 @@ ghost use Rattle.std.specs.Prelude.{◌≡◌, ◌*◌, ◌+◌, ◌-◌, ◌%�
 ghost use Rattle.chain_store.specs.Chains.{IsOpen, is_refused};
 ghost use Rattle.chain_store.specs.Directories.{IsString};
 ghost use Rattle.bucket_store.specs.Buckets.{HasKeysOf, IsBucketChain, LeavesRead, ReadsBucket, bucket_count, bucket_in, chain_at};
+ghost use Rattle.value_bytes.specs.StoreMap.{number_of};
 
 use bucket_records::Bucket;
 use chain_store::Chains;
 use outside::Disk;
 use page_journal::StoreFault;
 use std::alloc::Global;
-use value_bytes::ValueFault;
+use value_bytes::{StoreMap, ValueFault};
 
 /// The bucket of this chain, read from the store.
 pub fn read_bucket<D: Disk>(
@@ -39,15 +40,14 @@ pub fn read_bucket<D: Disk>(
 }
 
 /// The chain of the bucket of a key.
-pub fn chain_of(map: u8, key: u64, buckets: u64) -> u32
-    requires map { map < 8 }
+pub fn chain_of(map: StoreMap, key: u64, buckets: u64) -> u32
     requires some { 1 ≤ buckets }
     requires few { buckets ≤ 65536 }
-    ensures chain { result ≡ chain_at buckets map key }
+    ensures chain { result ≡ chain_at buckets (number_of map) key }
     ensures string { IsString buckets result }
     ensures is { IsBucketChain buckets result }
 {
-    16 + 65536 * map as u32 + (key % buckets) as u32
+    16 + 65536 * u32::from(map.number()) + (key % buckets) as u32
 }
 
 // The bucket of a chain.

@@ -1,6 +1,7 @@
 //! A map of a store, whole.
-ghost use Rattle.std.specs.Prelude.{◌≡◌, None, Some, IfSome, IsNone, OnErr, OnOk, MatchOption};
+ghost use Rattle.std.specs.Prelude.{◌≡◌, None, Some, IfSome, IsNone, MatchOption};
 ghost use Rattle.std.specs.FinMap as map;
+ghost use Rattle.bucket_store.specs.Cache.{Becomes};
 
 use osm_base::{Bytes, OutOfMemory};
 use std::alloc::Global;
@@ -47,8 +48,7 @@ impl WholeMap {
 
     /// Gives a key this value. After `Err` nothing has changed.
     pub fn put(&mut self, key: u64, value: Bytes) -> Result<(), OutOfMemory>
-        ensures ok { OnOk result (self.new ≡ map.insert self.old key value) }
-        ensures err { OnErr result (self.new ≡ self.old) }
+        ensures put { Becomes self.old self.new (map.insert self.old key value) result }
     {
         self.tree.insert(key, value)?;
         Ok(())

@@ -15,7 +15,8 @@ use Rattle.osm_base.specs.map.Objects.{ObjectSet, folded_all}
 use Rattle.osm_base.specs.map.Listers.{lists, index_of, known_of}
 use Rattle.osm_base.specs.values.Ids.{has}
 use Rattle.dep_closure.specs.PendingSet.{is_moved}
-use Rattle.dep_closure.specs.Ways.{is_due, line_of, Leaves}
+use Rattle.row_map.specs.Shape.{line_in}
+use Rattle.dep_closure.specs.Ways.{is_due, Leaves}
 use Rattle.dep_closure.proofs.Anys.{filter_map-same, or-true, tied_self}
 use Rattle.dep_closure.proofs.Bridge.{is_due-is_moved}
 use Rattle.dep_closure.proofs.Stays.{object-stays, place-stays}
@@ -26,7 +27,7 @@ module _ (objects : ObjectSet) (change : List Entry) (way : ℕ)
   after = folded_all objects change
 
   line-left : (object : Option Object) → finite.get after (way_key way) ≡ object
-      → line_of (known_of after).place object ≡ line_of (known_of objects).place object
+      → line_in (known_of after).place object ≡ line_in (known_of objects).place object
   line-left None is = refl
   line-left (Some (Node place tags)) is = refl
   line-left (Some (Relation members tags)) is = refl
@@ -38,7 +39,7 @@ module _ (objects : ObjectSet) (change : List Entry) (way : ℕ)
   leaves = record {
     object = object-stays objects change (way_key way) not_moved;
     line = line-left (finite.get after (way_key way)) refl
-        ∙ ap (line_of (known_of objects).place) (object-stays objects change (way_key way) not_moved);
+        ∙ ap (line_in (known_of objects).place) (object-stays objects change (way_key way) not_moved);
   }
 
 pub left : (objects : ObjectSet) (change : List Entry) (way : ℕ) → is_due (index_of (folded_all objects change)) change way ≡ false

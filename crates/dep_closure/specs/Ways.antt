@@ -6,14 +6,11 @@ use Rattle.std.specs.Ordering.{eq_by_cmp}
 use Rattle.std.specs.FinMap as map
 use Rattle.osm_base.specs.declared.values.object.Entry.{Entry}
 use Rattle.osm_base.specs.declared.values.key.Kind.TheVariants as kinds
-use Rattle.osm_base.specs.declared.values.object.Object.{Object}
-use Rattle.osm_base.specs.declared.values.object.Object.TheVariants.{Way}
 use Rattle.osm_base.specs.values.Key.{way_key}
 use Rattle.osm_base.specs.values.KeyOrder.{key_cmp}
 use Rattle.osm_base.specs.map.Known.{Index}
-use Rattle.osm_base.specs.values.Place.{PlaceOf}
 use Rattle.piece_ends.specs.Pieces.{Line}
-use Rattle.line_build.specs.Points.{line}
+use Rattle.row_map.specs.Shape as shape
 use Rattle.osm_base.specs.map.Objects.{ObjectSet, folded_all}
 use Rattle.osm_base.specs.map.Listers.{is_kind, known_of}
 use Rattle.osm_base.specs.values.Ids.{has}
@@ -28,12 +25,8 @@ abbrev pub is_due : Index → List Entry → ℕ → Bool
 is_due index change way = list_any (makes_due index way) change
 
 -- the line of a way among the objects of a map, if there is such a way and it has one
-abbrev pub line_of : (ℕ → Option PlaceOf) → Option Object → Option Line
-line_of place (Some (Way nodes tags)) = line place nodes
-line_of place _ = None
-
 abbrev pub line_in : ObjectSet → ℕ → Option Line
-line_in objects way = line_of (known_of objects).place (map.get objects (way_key way))
+line_in objects way = shape.line_in (known_of objects).place (map.get objects (way_key way))
 
 -- a change leaves a way and its line as they were
 pub record Leaves (change : List Entry) (objects : ObjectSet) (way : ℕ) : Type 0 where

@@ -10,6 +10,7 @@ use outside::{Fails, MemDisk};
 use page_journal::{StoreFault, format};
 use std::alloc::{AllocError, Global};
 use update_flow::STYLE_TEXT;
+use value_bytes::StoreMap;
 
 /// The most bytes that a deed lets a disk hold.
 const MAX_HELD: usize = 1 << 20;
@@ -29,7 +30,7 @@ enum Change {
     Style(Vec<u8>),
     /// The value of a key of a map has these bytes.
     Value {
-        map: u8,
+        map: StoreMap,
         key: u64,
         bytes: Vec<u8>,
     },
@@ -107,12 +108,11 @@ fn value_of(alloc: Global, text: &str) -> Result<Option<Change>, AllocError> {
     let Some((key, value)) = row_of(behind) else {
         return Ok(None);
     };
-    match (number_of(map), number_of(key), bytes_of(alloc, value)?) {
-        (Some(map), Some(key), Some(bytes)) => Ok(Some(Change::Value {
-            map: (map % 8) as u8,
-            key,
-            bytes,
-        })),
+    let Some(map) = number_of(map).and_then(StoreMap::with_number) else {
+        return Ok(None);
+    };
+    match (number_of(key), bytes_of(alloc, value)?) {
+        (Some(key), Some(bytes)) => Ok(Some(Change::Value { map, key, bytes })),
         _ => Ok(None),
     }
 }
@@ -155,7 +155,7 @@ fn make(buckets: &mut Buckets<'_, MemDisk>, change: Change) -> Result<(), StoreF
         }
         Change::Style(bytes) => buckets.store(STYLE_TEXT, Bytes::from_vec(bytes)),
         Change::Value { map, key, bytes } => {
-            if now == 0 || map >= 8 {
+            if now == 0 {
                 return Err(StoreFault::NotEmpty);
             }
             buckets.put(map, key, bytes.as_slice())

@@ -1,7 +1,5 @@
 //! Crashes in the migration of an example's store.
-ghost use Rattle.std.specs.Prelude.{◌≡◌, ◌≤◌, false};
-ghost use Rattle.bucket_store.specs.Buckets.{bucket_count};
-ghost use Rattle.bucket_store.specs.Transaction.{chains_of, has_refused};
+ghost use Rattle.bucket_store.specs.Transaction.{IsReady};
 
 use crate::crashed::{PICKS, again, crash};
 use crate::opening::push_opened;
@@ -110,8 +108,7 @@ fn kept_in(alloc: Global, disk: &mut MemDisk) -> Option<&'static str> {
 
 // What the record of the node has in this format.
 fn kept_of(alloc: Global, buckets: &mut Buckets<'_, MemDisk>, outdated: bool) -> &'static str
-    requires some { 1 ≤ bucket_count (chains_of buckets.old) }
-    requires going { has_refused buckets.old ≡ false }
+    requires ready { IsReady buckets.old }
 {
     if outdated {
         return match get_old(alloc, buckets, NODE) {

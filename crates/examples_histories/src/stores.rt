@@ -2,6 +2,7 @@
 
 use crate::end::End;
 use crate::setting::Setting;
+use geom_workers::{Hands, Workers};
 use object_fold::{Change, FileFault, read_file};
 use osm_base::{Bytes, Delta, FileList, Limits, MAX_ENTRIES, OutOfMemory, Tables};
 use outside::{Fails, MemDisk, MemInputs, OpenGate};
@@ -56,7 +57,7 @@ pub fn append<R: Threads + Sync>(
 ) -> Result<Delta, End> {
     let change = entries_of(alloc, text)?;
     let mut updater = opened(alloc, disk, limits)?;
-    Ok(append_to(rt, &mut updater, bounds, workers, change)?)
+    Ok(append_to(rt, alloc, &mut updater, bounds, workers, change)?)
 }
 
 /// Takes the store a change further by one worker.
@@ -163,12 +164,21 @@ fn import_into<R: Threads + Sync>(
         workers,
     } = setting;
     let few = change.entries().len() as u64 <= MAX_ENTRIES;
-    if !few || !buckets.is_power_of_two() || buckets > 65536 || workers < 1 || workers > 64 {
+    if !few || !buckets.is_power_of_two() || buckets > 65536 {
         return Err(FlowFault::OutOfMemory);
     }
+    let Some(workers) = Workers::new(workers) else {
+        return Err(FlowFault::OutOfMemory);
+    };
+    let hands = Hands {
+        rt,
+        alloc,
+        workers,
+        gate: &OpenGate,
+    };
     let bytes = text.as_bytes();
     match read_style(alloc, bytes) {
-        Ok(style) => updater.import(rt, bytes, style, change, buckets, workers, &OpenGate),
+        Ok(style) => updater.import(&hands, bytes, style, change, buckets),
         Err(_) => Err(FlowFault::OutOfMemory),
     }
 }
@@ -176,13 +186,20 @@ fn import_into<R: Threads + Sync>(
 // Makes a change of entries.
 fn append_to<R: Threads + Sync>(
     rt: &R,
+    alloc: Global,
     updater: &mut Updater<'_, MemDisk>,
     bounds: &Bounds,
     workers: u32,
     change: Change,
 ) -> Result<Delta, FlowFault> {
-    if workers < 1 || workers > 64 {
+    let Some(workers) = Workers::new(workers) else {
         return Err(FlowFault::OutOfMemory);
-    }
-    updater.append_one(rt, bounds, change, workers, &OpenGate)
+    };
+    let hands = Hands {
+        rt,
+        alloc,
+        workers,
+        gate: &OpenGate,
+    };
+    updater.append_one(&hands, bounds, change)
 }

@@ -5,7 +5,7 @@ ghost use Rattle.geom_workers.specs.Keys.{keys_of};
 use crate::pending::{nodes_to, objects_of, pending_of};
 use crate::refusal::Refusal;
 use example_table::{number_of, row_of};
-use geom_workers::{MAX_KEYS, Part, build_all, key_count, work};
+use geom_workers::{Hands, MAX_KEYS, Part, Workers, build_all, key_count, work};
 use object_fold::Objects;
 use osm_base::{OutOfMemory, PendingSet, RowLists, TableRow};
 use outside::{Gate, OpenGate};
@@ -42,24 +42,35 @@ pub fn rows_by<G: Gate, R: Threads + Sync>(
     objects: &Objects,
     gate: &G,
 ) -> Result<RowLists, Refusal> {
+    let Some(workers) = workers_of(workers) else {
+        return Err(Refusal::NoRow);
+    };
     let style = town(alloc)?;
-    build(rt, alloc, workers, &style, pending, objects, gate)
+    let hands = Hands {
+        rt,
+        alloc,
+        workers,
+        gate,
+    };
+    build(&hands, &style, pending, objects)
+}
+
+/// So many workers, if they may be as many.
+fn workers_of(count: u64) -> Option<Workers> {
+    Workers::new(u32::try_from(count).ok()?)
 }
 
 /// The rows that some workers build, the contract left behind.
 fn build<G: Gate, R: Threads + Sync>(
-    rt: &R,
-    alloc: Global,
-    workers: u64,
+    hands: &Hands<'_, R, G>,
     style: &Style,
     pending: &PendingSet,
     objects: &Objects,
-    gate: &G,
 ) -> Result<RowLists, Refusal> {
-    if workers < 1 || workers > 64 || !are_few(pending) {
+    if !are_few(pending) {
         return Err(Refusal::NoRow);
     }
-    match build_all(rt, alloc, workers as u32, style, pending, objects, gate) {
+    match build_all(hands, style, pending, objects) {
         Ok(built) => Ok(built.rows),
         Err(OutOfMemory) => Err(Refusal::OutOfMemory),
     }

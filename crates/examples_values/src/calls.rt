@@ -1,7 +1,6 @@
 //! Calls on a store that keeps values, as rows of the table tell them.
-ghost use Rattle.std.specs.Prelude.{◌≡◌, ◌≤◌, ◌<◌, false, IfSome, OnOk};
-ghost use Rattle.bucket_store.specs.Buckets.{bucket_count};
-ghost use Rattle.bucket_store.specs.Transaction.{chains_of, has_refused};
+ghost use Rattle.std.specs.Prelude.{◌≡◌, false, OnOk};
+ghost use Rattle.bucket_store.specs.Transaction.{IsReady, has_refused};
 
 use crate::hex;
 use crate::lists::ids_text;
@@ -14,6 +13,7 @@ use osm_base::{Bytes, Key, Kind, Limits, MAX_ID, OutOfMemory};
 use outside::{Fails, MemDisk};
 use page_journal::{StoreFault, format};
 use std::alloc::{AllocError, Global};
+use value_bytes::StoreMap;
 
 /// How many buckets the store of a row has.
 const BUCKETS: u64 = 16;
@@ -29,7 +29,7 @@ pub fn empty(alloc: Global) -> MemDisk {
     MemDisk::new(alloc, Bytes::new(alloc), Fails::never(alloc))
 }
 
-/// The same on this disk, which is formatted first.
+/// The same on this disk, map is formatted first.
 pub fn called(
     alloc: Global,
     disk: &mut MemDisk,
@@ -105,8 +105,7 @@ fn answer_of(
     buckets: &mut Buckets<'_, MemDisk>,
     call: &str,
 ) -> Result<Option<String>, StoreFault>
-    requires some { 1 ≤ bucket_count (chains_of buckets.old) }
-    requires going { has_refused buckets.old ≡ false }
+    requires ready { IsReady buckets.old }
     ensures { OnOk result (has_refused buckets.new ≡ false) }
 {
     let (word, text) = row_of(call).unwrap_or((call, ""));
@@ -128,8 +127,7 @@ fn on_key(
     word: &str,
     text: &str,
 ) -> Result<Option<String>, StoreFault>
-    requires some { 1 ≤ bucket_count (chains_of buckets.old) }
-    requires going { has_refused buckets.old ≡ false }
+    requires ready { IsReady buckets.old }
     ensures { OnOk result (has_refused buckets.new ≡ false) }
 {
     let Some((key, digits)) = key_of(text) else {
@@ -157,17 +155,16 @@ fn raw(
     buckets: &mut Buckets<'_, MemDisk>,
     text: &str,
 ) -> Result<Option<String>, StoreFault>
-    requires some { 1 ≤ bucket_count (chains_of buckets.old) }
-    requires going { has_refused buckets.old ≡ false }
+    requires ready { IsReady buckets.old }
     ensures { OnOk result (has_refused buckets.new ≡ false) }
 {
-    let Some((which, key, digits)) = place_of(text) else {
+    let Some((map, key, digits)) = place_of(text) else {
         return Ok(None);
     };
     let Some(bytes) = hex::bytes_of(alloc, digits)? else {
         return Ok(None);
     };
-    match buckets.put(which, key, &bytes) {
+    match buckets.put(map, key, &bytes) {
         Ok(()) => ok(alloc),
         Err(fault) => Err(fault),
     }
@@ -179,14 +176,13 @@ fn listed(
     buckets: &mut Buckets<'_, MemDisk>,
     text: &str,
 ) -> Result<Option<String>, StoreFault>
-    requires some { 1 ≤ bucket_count (chains_of buckets.old) }
-    requires going { has_refused buckets.old ≡ false }
+    requires ready { IsReady buckets.old }
     ensures { OnOk result (has_refused buckets.new ≡ false) }
 {
-    let Some((which, key, _)) = place_of(text) else {
+    let Some((map, key, _)) = place_of(text) else {
         return Ok(None);
     };
-    match listers(alloc, buckets, which, key) {
+    match listers(alloc, buckets, map, key) {
         Ok(ids) => Ok(Some(ids_text(alloc, ids.as_slice())?)),
         Err(fault) => Err(fault),
     }
@@ -198,16 +194,11 @@ pub fn ok(alloc: Global) -> Result<Option<String>, StoreFault> {
 }
 
 // A map, a key of it, and the text behind them. `None`: there is no such map.
-fn place_of(text: &str) -> Option<(u8, u64, &str)>
-    ensures { IfSome result (λ found. found.0 < 8) }
-{
-    let (which, behind) = row_of(text)?;
+fn place_of(text: &str) -> Option<(StoreMap, u64, &str)> {
+    let (number, behind) = row_of(text)?;
     let (key, rest) = row_of(behind)?;
-    let which = u8::try_from(number_of(which)?).ok()?;
-    if which >= 8 {
-        return None;
-    }
-    Some((which, number_of(key)?, rest))
+    let map = StoreMap::with_number(number_of(number)?)?;
+    Some((map, number_of(key)?, rest))
 }
 
 // A kind's letter and an id, and the text behind them.

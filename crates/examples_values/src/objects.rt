@@ -1,5 +1,5 @@
 //! Nodes, ways and relations, as rows of the table tell them.
-ghost use Rattle.middle_objs.specs.Object.{IsKept};
+ghost use Rattle.value_bytes.specs.Objects.{IsKept};
 
 use crate::hex::{none, told};
 use middle_nodes::{NodeRecord, read_old};

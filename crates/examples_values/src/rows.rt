@@ -1,5 +1,5 @@
 //! Rows, as rows of the table tell them.
-ghost use Rattle.row_store.specs.Rows.{AreKept};
+ghost use Rattle.store_maps.specs.Rows.{AreKept};
 
 use crate::hex::{none, told};
 use osm_base::{Cell, OutOfMemory, Row, TableRow, TableRows};

@@ -1,8 +1,7 @@
 //! Calls on values of a store, each with its bytes.
-ghost use Rattle.std.specs.Prelude.{◌≡◌, ◌≢◌, ◌≤◌, false, OnOk};
+ghost use Rattle.std.specs.Prelude.{◌≡◌, ◌≢◌, false, OnOk};
 ghost use Rattle.osm_base.specs.declared.values.key.Kind.TheVariants as kinds;
-ghost use Rattle.bucket_store.specs.Buckets.{bucket_count};
-ghost use Rattle.bucket_store.specs.Transaction.{chains_of, has_refused};
+ghost use Rattle.bucket_store.specs.Transaction.{IsReady, has_refused};
 
 use crate::calls::ok;
 use crate::objects::{object_text, place_text, record_text};
@@ -27,8 +26,7 @@ pub fn on_node(
     id: u64,
     bytes: &[u8],
 ) -> Result<Option<String>, StoreFault>
-    requires some { 1 ≤ bucket_count (chains_of buckets.old) }
-    requires going { has_refused buckets.old ≡ false }
+    requires ready { IsReady buckets.old }
     ensures { OnOk result (has_refused buckets.new ≡ false) }
 {
     match word {
@@ -58,8 +56,7 @@ fn node_put(
     id: u64,
     bytes: &[u8],
 ) -> Result<Option<String>, StoreFault>
-    requires some { 1 ≤ bucket_count (chains_of buckets.old) }
-    requires going { has_refused buckets.old ≡ false }
+    requires ready { IsReady buckets.old }
     ensures { OnOk result (has_refused buckets.new ≡ false) }
 {
     match read_whole::<NodeRecord>(alloc, bytes) {
@@ -81,8 +78,7 @@ pub fn on_object(
     bytes: &[u8],
 ) -> Result<Option<String>, StoreFault>
     requires kind { key.kind ≢ kinds.Node }
-    requires some { 1 ≤ bucket_count (chains_of buckets.old) }
-    requires going { has_refused buckets.old ≡ false }
+    requires ready { IsReady buckets.old }
     ensures { OnOk result (has_refused buckets.new ≡ false) }
 {
     match word {
@@ -108,8 +104,7 @@ fn with_object(
     bytes: &[u8],
 ) -> Result<Option<String>, StoreFault>
     requires kind { key.kind ≢ kinds.Node }
-    requires some { 1 ≤ bucket_count (chains_of buckets.old) }
-    requires going { has_refused buckets.old ≡ false }
+    requires ready { IsReady buckets.old }
     ensures { OnOk result (has_refused buckets.new ≡ false) }
 {
     let object = match read_object(alloc, key.kind, bytes) {
@@ -138,8 +133,7 @@ pub fn on_rows(
     key: Key,
     bytes: &[u8],
 ) -> Result<Option<String>, StoreFault>
-    requires some { 1 ≤ bucket_count (chains_of buckets.old) }
-    requires going { has_refused buckets.old ≡ false }
+    requires ready { IsReady buckets.old }
     ensures { OnOk result (has_refused buckets.new ≡ false) }
 {
     if word == "rows" {
@@ -165,8 +159,7 @@ pub fn rows_removed(
     buckets: &mut Buckets<'_, MemDisk>,
     key: Key,
 ) -> Result<Option<String>, StoreFault>
-    requires some { 1 ≤ bucket_count (chains_of buckets.old) }
-    requires going { has_refused buckets.old ≡ false }
+    requires ready { IsReady buckets.old }
     ensures { OnOk result (has_refused buckets.new ≡ false) }
 {
     match row_store::remove(buckets, key) {

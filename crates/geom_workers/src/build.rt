@@ -12,7 +12,7 @@ ghost use Rattle.row_map.specs.Rows.{rows_in, rows_known};
 
 use crate::keys::MAX_KEYS;
 use crate::tickets::by_ticket;
-use crate::{Part, key_count, work};
+use crate::{Hands, Part, key_count, work};
 use osm_base::{Lookup, OutOfMemory, PendingSet, RowLists};
 use outside::Gate;
 use pending_book::{Book, Drawn, Seat};
@@ -27,7 +27,8 @@ pub struct Built {
     pub drawn: Drawn,
 }
 
-// Draws and builds with all shares of a seat, each by a worker.
+// Draws and builds with all shares of a seat, each by a worker. The hands come one by one: of closures that hold a lifetime `join`
+// tells nothing.
 fn spread<L: Lookup, G: Gate, R: Threads + Sync>(
     rt: &R,
     alloc: Global,
@@ -72,29 +73,27 @@ fn spread<L: Lookup, G: Gate, R: Threads + Sync>(
     Ok((seat, part.then(more)?))
 }
 
-/// Builds the rows of all keys that wait, with as many workers. The rows are those that one worker
+/// Builds the rows of all keys that wait, with all workers. The rows are those that one worker
 /// builds, and the drawn book has as many tickets as there are keys.
 pub fn build_all<L: Lookup, G: Gate, R: Threads + Sync>(
-    rt: &R,
-    alloc: Global,
-    workers: u32,
+    hands: &Hands<'_, R, G>,
     style: &Style,
     pending: &PendingSet,
     lookup: &L,
-    gate: &G,
 ) -> Result<Built, OutOfMemory>
-    requires least { 1 ≤ workers }
-    requires most { workers ≤ 64 }
     requires few { length (keys_of pending.now) ≤ MAX_KEYS }
     ensures rows { IfOk result (λ built. built.rows ≡ map (rows_known style.now (L.known lookup.now)) (keys_of pending.now)) }
     ensures agreeing { (objects : ObjectSet) → AllByRecursion (SufficesFor style.now (L.known lookup.now) objects) (keys_of pending.now)
         → IfOk result (λ built. built.rows ≡ map (rows_in style.now objects) (keys_of pending.now)) }
     ensures drawn { IfOk result (λ built. built.drawn.tickets ≡ length (keys_of pending.now)) }
     ensures once { IfOk result (λ built. IsOnce built.drawn.list (length (keys_of pending.now))) }
-    ensures draws { IfOk result (λ built. built.drawn.draws ≡ length (keys_of pending.now) + workers) }
+    ensures draws { IfOk result (λ built. built.drawn.draws ≡ length (keys_of pending.now) + hands.now.workers) }
 {
     let count = key_count(pending);
-    let (book, seat) = Book::new(alloc, count as u32, workers)?;
+    let rt = hands.rt;
+    let alloc = hands.alloc;
+    let gate = hands.gate;
+    let (book, seat) = Book::new(alloc, count as u32, hands.workers.count())?;
     let (seat, part) = spread(rt, alloc, &book, seat, style, pending, lookup, gate)?;
     let drawn = book.close(seat);
     let Part { tickets, rows } = part;

@@ -8,14 +8,18 @@
 #![tactic(auto)]
 
 mod build;
+mod hands;
 mod keys;
 mod laws;
 mod part;
 mod tickets;
 mod worker;
+mod workers;
 
 pub use build::{Built, build_all};
+pub use hands::Hands;
 pub use keys::{MAX_KEYS, key_count, key_of};
 pub use laws::rows_agree;
 pub use part::Part;
 pub use worker::work;
+pub use workers::Workers;

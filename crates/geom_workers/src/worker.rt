@@ -45,7 +45,9 @@ pub fn work<L: Lookup, G: Gate>(
 }
 
 // How many more tickets a worker draws at once behind that of this key: none behind a relation, whose rows may take long.
-fn batch_behind(key: Key) -> u32 {
+fn batch_behind(key: Key) -> u32
+    ensures few { result ≤ 15 }
+{
     if key.kind == Kind::Relation {
         0
     } else {

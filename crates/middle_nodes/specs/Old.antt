@@ -2,7 +2,7 @@
 -- docs/FILES.md, "Buckets, and the eight maps": the value of a node in an old store.
 use Rattle.std.specs.Prelude.{◌≡◌, ℕ, List, Option, None}
 use Rattle.osm_base.specs.values.Place.{PlaceOf}
-use Rattle.middle_nodes.specs.declared.record.NodeRecord.{NodeRecord}
+use Rattle.value_bytes.specs.declared.nodes.NodeRecord.{NodeRecord}
 use Rattle.value_bytes.specs.Options.{option_bytes, IsOption}
 use Rattle.value_bytes.specs.Places.{place_bytes, IsPlace}
 

@@ -1,20 +1,17 @@
 //! The records of nodes in a store.
-ghost use Rattle.std.specs.Prelude.{◌≡◌, ◌≤◌, List, ℕ, Ok, Err, false, OnOk};
+ghost use Rattle.std.specs.Prelude.{◌≡◌, List, ℕ, Ok, Err, OnOk};
 ghost use Rattle.std.specs.Option.{option_copied};
-ghost use Rattle.bucket_store.specs.Buckets.{bucket_count};
-ghost use Rattle.bucket_store.specs.Transaction.{IsOpenStore, chains_of, has_refused};
+ghost use Rattle.bucket_store.specs.Transaction.{IsOpenStore, IsReady};
 ghost use Rattle.bucket_store.specs.Typed.{Gets, GetsValue, ReadsAs, SetsValue, TakesValue, Touches};
-ghost use Rattle.middle_nodes.specs.Record.{record_bytes, IsRecord};
+ghost use Rattle.value_bytes.specs.Nodes.{record_bytes, IsRecord};
+ghost use Rattle.value_bytes.specs.StoreMap.{number_of};
+ghost use Rattle.value_bytes.specs.declared.store_map.StoreMap.TheVariants.{Nodes};
 
-use crate::NodeRecord;
 use bucket_store::{Buckets, refuse_value};
 use outside::Disk;
 use page_journal::StoreFault;
 use std::alloc::Global;
-use value_bytes::{ValueFault, bytes_of, read_whole};
-
-/// The map of nodes.
-pub const NODES: u8 = 0;
+use value_bytes::{NodeRecord, StoreMap, ValueFault, bytes_of, read_whole};
 
 /// What the store keeps of a node. `None`: nothing.
 pub fn get<D: Disk>(
@@ -22,19 +19,18 @@ pub fn get<D: Disk>(
     buckets: &mut Buckets<'_, D>,
     id: u64,
 ) -> Result<Option<NodeRecord>, StoreFault>
-    requires some { 1 ≤ bucket_count (chains_of buckets.old) }
-    requires going { has_refused buckets.old ≡ false }
-    ensures answers { (pages : List (List ℕ)) → IsOpenStore pages buckets.old → Gets record_bytes IsRecord pages buckets.old NODES id result }
-    ensures value { GetsValue record_bytes IsRecord NODES id buckets.old buckets.new result }
-    ensures touches { Touches NODES id buckets.old buckets.new result }
+    requires ready { IsReady buckets.old }
+    ensures answers { (pages : List (List ℕ)) → IsOpenStore pages buckets.old → Gets record_bytes IsRecord pages buckets.old (number_of Nodes) id result }
+    ensures value { GetsValue record_bytes IsRecord (number_of Nodes) id buckets.old buckets.new result }
+    ensures touches { Touches (number_of Nodes) id buckets.old buckets.new result }
 {
-    if let Err(fault) = buckets.bring(NODES, id) {
+    if let Err(fault) = buckets.bring(StoreMap::Nodes, id) {
         return Err(fault);
     }
-    let read = read_record(alloc, buckets.value(NODES, id));
+    let read = read_record(alloc, buckets.value(StoreMap::Nodes, id));
     match read {
         Ok(found) => Ok(found),
-        Err(fault) => Err(refuse_value(buckets, NODES, id, fault)),
+        Err(fault) => Err(refuse_value(buckets, StoreMap::Nodes, id, fault)),
     }
 }
 
@@ -45,14 +41,13 @@ pub fn put<D: Disk>(
     id: u64,
     node: &NodeRecord,
 ) -> Result<(), StoreFault>
-    requires some { 1 ≤ bucket_count (chains_of buckets.old) }
-    requires going { has_refused buckets.old ≡ false }
-    ensures value { SetsValue NODES id (record_bytes node.now) buckets.old buckets.new result }
+    requires ready { IsReady buckets.old }
+    ensures value { SetsValue (number_of Nodes) id (record_bytes node.now) buckets.old buckets.new result }
     ensures is { OnOk result (IsRecord node.now) }
-    ensures touches { Touches NODES id buckets.old buckets.new result }
+    ensures touches { Touches (number_of Nodes) id buckets.old buckets.new result }
 {
     match bytes_of(alloc, node) {
-        Ok(bytes) => buckets.put(NODES, id, bytes.as_slice()),
+        Ok(bytes) => buckets.put(StoreMap::Nodes, id, bytes.as_slice()),
         Err(_) => {
             buckets.refuse();
             Err(StoreFault::OutOfMemory)
@@ -62,12 +57,11 @@ pub fn put<D: Disk>(
 
 /// Takes out what the store keeps of a node, and answers whether that was anything.
 pub fn remove<D: Disk>(buckets: &mut Buckets<'_, D>, id: u64) -> Result<bool, StoreFault>
-    requires some { 1 ≤ bucket_count (chains_of buckets.old) }
-    requires going { has_refused buckets.old ≡ false }
-    ensures value { TakesValue NODES id buckets.old buckets.new result }
-    ensures touches { Touches NODES id buckets.old buckets.new result }
+    requires ready { IsReady buckets.old }
+    ensures value { TakesValue (number_of Nodes) id buckets.old buckets.new result }
+    ensures touches { Touches (number_of Nodes) id buckets.old buckets.new result }
 {
-    buckets.remove(NODES, id)
+    buckets.remove(StoreMap::Nodes, id)
 }
 
 // The record with these bytes, if there are any.

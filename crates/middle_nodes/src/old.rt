@@ -1,19 +1,19 @@
 //! The records of nodes in a store of the old format.
-ghost use Rattle.std.specs.Prelude.{◌≡◌, ◌≤◌, List, ℕ, Ok, Err, false, IfErr, IfOk};
+ghost use Rattle.std.specs.Prelude.{◌≡◌, List, ℕ, Ok, Err, IfErr, IfOk};
 ghost use Rattle.std.specs.Option.{option_copied};
-ghost use Rattle.bucket_store.specs.Buckets.{bucket_count};
-ghost use Rattle.bucket_store.specs.Transaction.{IsOpenStore, chains_of, has_refused};
+ghost use Rattle.bucket_store.specs.Transaction.{IsOpenStore, IsReady};
 ghost use Rattle.bucket_store.specs.Typed.{Gets, GetsValue, ReadsAs, Touches};
 ghost use Rattle.middle_nodes.specs.Old.{old_bytes, IsOldPlace};
 ghost use Rattle.value_bytes.specs.Forms.{IsNoValue, NeedsFor, Spells};
+ghost use Rattle.value_bytes.specs.StoreMap.{number_of};
+ghost use Rattle.value_bytes.specs.declared.store_map.StoreMap.TheVariants.{Nodes};
 
-use crate::NODES;
 use bucket_store::{Buckets, refuse_value};
 use osm_base::Place;
 use outside::Disk;
 use page_journal::StoreFault;
 use std::alloc::Global;
-use value_bytes::{ValueFault, read_whole};
+use value_bytes::{StoreMap, ValueFault, read_whole};
 
 /// What a store of the old format keeps of a node, which is its place. `None`: nothing.
 pub fn get_old<D: Disk>(
@@ -21,19 +21,18 @@ pub fn get_old<D: Disk>(
     buckets: &mut Buckets<'_, D>,
     id: u64,
 ) -> Result<Option<Option<Place>>, StoreFault>
-    requires some { 1 ≤ bucket_count (chains_of buckets.old) }
-    requires going { has_refused buckets.old ≡ false }
-    ensures answers { (pages : List (List ℕ)) → IsOpenStore pages buckets.old → Gets old_bytes IsOldPlace pages buckets.old NODES id result }
-    ensures value { GetsValue old_bytes IsOldPlace NODES id buckets.old buckets.new result }
-    ensures touches { Touches NODES id buckets.old buckets.new result }
+    requires ready { IsReady buckets.old }
+    ensures answers { (pages : List (List ℕ)) → IsOpenStore pages buckets.old → Gets old_bytes IsOldPlace pages buckets.old (number_of Nodes) id result }
+    ensures value { GetsValue old_bytes IsOldPlace (number_of Nodes) id buckets.old buckets.new result }
+    ensures touches { Touches (number_of Nodes) id buckets.old buckets.new result }
 {
-    if let Err(fault) = buckets.bring(NODES, id) {
+    if let Err(fault) = buckets.bring(StoreMap::Nodes, id) {
         return Err(fault);
     }
-    let read = read_found(alloc, buckets.value(NODES, id));
+    let read = read_found(alloc, buckets.value(StoreMap::Nodes, id));
     match read {
         Ok(found) => Ok(found),
-        Err(fault) => Err(refuse_value(buckets, NODES, id, fault)),
+        Err(fault) => Err(refuse_value(buckets, StoreMap::Nodes, id, fault)),
     }
 }
 

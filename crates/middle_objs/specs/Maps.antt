@@ -2,8 +2,14 @@
 use Rattle.std.specs.Prelude.{ℕ}
 use Rattle.osm_base.specs.declared.values.key.Kind.{Kind}
 use Rattle.osm_base.specs.declared.values.key.Kind.TheVariants as kinds
-use Rattle.middle_objs.specs.declared.calls.TheConstants.{WAYS, RELATIONS}
+use Rattle.value_bytes.specs.StoreMap.{number_of}
+use Rattle.value_bytes.specs.declared.store_map.StoreMap.{StoreMap}
+use Rattle.value_bytes.specs.declared.store_map.StoreMap.TheVariants.{Ways, Relations}
 
+abbrev pub object_map : Kind → StoreMap
+object_map kinds.Way = Ways
+object_map _ = Relations
+
+-- and its number
 abbrev pub map_of : Kind → ℕ
-map_of kinds.Way = WAYS
-map_of _ = RELATIONS
+map_of kind = number_of (object_map kind)

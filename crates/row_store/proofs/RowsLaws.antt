@@ -13,7 +13,8 @@ use Rattle.value_bytes.specs.Numbers.{number_bytes, IsNumber}
 use Rattle.value_bytes.proofs.ListLaws.{all_bytes-append, each_append}
 use Rattle.value_bytes.proofs.NumberLaws.{length-number_bytes}
 use Rattle.row_store.specs.Row.{row_bytes, IsRow}
-use Rattle.row_store.specs.Rows.{columns_in, table_row_bytes, IsTableRow, rows_bytes, AreSpelled, RiseFrom, Fits}
+use Rattle.row_store.specs.Rows.{table_row_bytes, IsTableRow, rows_bytes, AreSpelled}
+use Rattle.store_maps.specs.Rows.{columns_in, RiseFrom, Fits}
 
 -- what begins with a row of a table begins with its number
 table_number : (tables : List TableDef) → length tables ≤ 256 → (bytes : List ℕ) (row : TableRow) (rest : List ℕ)

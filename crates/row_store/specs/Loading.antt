@@ -14,12 +14,14 @@ use Rattle.page_journal.specs.declared.fault.StoreFault.{StoreFault}
 use Rattle.chain_store.specs.Answers.{IsReadAnswer}
 use Rattle.chain_store.specs.Chains.{OnlyRead, disk_of, journal_of}
 use Rattle.bucket_records.specs.Records.{BucketMap}
-use Rattle.bucket_store.specs.Image.{OnlyLooks}
+use Rattle.bucket_store.specs.Image.{Image, OnlyLooks}
 use Rattle.bucket_store.specs.Transaction.{chains_of, has_refused}
 use Rattle.bucket_store.specs.declared.buckets.Buckets.{Buckets}
 use Rattle.style_read.specs.declared.style.TableDef.{TableDef}
 use Rattle.row_store.specs.Rows.{AreRows, rows_bytes}
-use Rattle.row_store.specs.declared.calls.TheConstants.{NODE_ROWS}
+use Rattle.value_bytes.specs.StoreMap.{number_of}
+use Rattle.value_bytes.specs.declared.store_map.StoreMap.{StoreMap}
+use Rattle.value_bytes.specs.declared.store_map.StoreMap.TheVariants.{NodeRows}
 
 -- the rows of a table are wanted: those of one table are, or of all
 abbrev pub is_wanted : Option ℕ → ℕ → Bool
@@ -42,7 +44,7 @@ with_all wanted key (row ∷ rows) tables = with_wanted wanted key row (with_all
 
 -- the key whose rows a map has under a number
 abbrev pub key_of : ℕ → ℕ → KeyOf
-key_of which number = if nat_eq which NODE_ROWS then record { kind = kinds.Node; id = number } else
+key_of which number = if nat_eq which (number_of NodeRows) then record { kind = kinds.Node; id = number } else
     (if nat_eq (number % 2) 0 then record { kind = kinds.Way; id = number / 2 } else record { kind = kinds.Relation; id = number / 2 })
 
 abbrev pub spot_at : ℕ → ℕ → ℕ → SpotOf
@@ -65,6 +67,9 @@ pub record IsTold (definitions : List TableDef) (wanted : Option ℕ) (which : �
 abbrev pub AreTold : List TableDef → Option ℕ → ℕ → RowsBySpot → BucketMap → Type 0
 AreTold definitions wanted which rows values = (number : ℕ) (bytes : List ℕ) → map.get values number ≡ Some bytes
     → IsTold definitions wanted which rows number bytes
+
+abbrev pub TellsRows : List TableDef → Option ℕ → StoreMap → RowsBySpot → Image → Type 0
+TellsRows definitions wanted map rows image = AreTold definitions wanted (number_of map) rows (image.maps (number_of map))
 
 -- at each spot stands its row or none
 abbrev pub IsWithin : RowsBySpot → TableMap → Type 0

@@ -1,16 +1,12 @@
 -- The rows of an object in bytes, one table after another: the number of the table from 0, and the row.
-use Rattle.std.specs.Prelude.{◌≡◌, ◌+◌, ◌<◌, ◌≤◌, ℕ, List, [], ◌∷◌, ◌++◌, length, slice_get}
-use Rattle.std.specs.Option.{option_map_or}
+use Rattle.std.specs.Prelude.{◌<◌, ◌≤◌, ℕ, List, ◌++◌, length}
 use Rattle.std.specs.List.{AllByRecursion}
 use Rattle.osm_base.specs.declared.values.row.TableRow.{TableRow}
 use Rattle.style_read.specs.declared.style.TableDef.{TableDef}
+use Rattle.store_maps.specs.Rows.{AreRising, columns_in}
 use Rattle.value_bytes.specs.Forms.{all_bytes}
 use Rattle.value_bytes.specs.Numbers.{number_bytes}
 use Rattle.row_store.specs.Row.{row_bytes, IsRow}
-
--- how many columns a table has
-abbrev pub columns_in : List TableDef → ℕ → ℕ
-columns_in tables table = option_map_or (λ definition. length definition.columns) (slice_get tables table) 0
 
 -- the number of a table, and the row
 unfoldable pub table_row_bytes : TableRow → List ℕ
@@ -25,30 +21,11 @@ pub record IsTableRow (tables : List TableDef) (row : TableRow) : Type 0 where
 abbrev pub rows_bytes : List TableRow → List ℕ
 rows_bytes rows = all_bytes table_row_bytes rows
 
--- each is of a table with at least this number, and of a later one than the row before it
-abbrev pub RiseFrom : ℕ → List TableRow → Type 0
-RiseFrom least [] = Unit {0}
-RiseFrom least (row ∷ rows) = (least ≤ row.table) × RiseFrom (row.table + 1) rows
-
-abbrev pub AreRising : List TableRow → Type 0
-AreRising rows = RiseFrom 0 rows
-
 -- rows of these tables that have a spelling, at least one
 pub record AreRows (tables : List TableDef) (rows : List TableRow) : Type 0 where
   pub some : 1 ≤ length rows
   pub rising : AreRising rows
   pub each : AllByRecursion (IsTableRow tables) rows
-
--- a row of one of these tables, with a cell for each of its columns
-pub record Fits (tables : List TableDef) (row : TableRow) : Type 0 where
-  pub there : row.table < length tables
-  pub cells : length row.row.cells ≡ columns_in tables row.table
-
--- rows that may be kept: at least one, each in a later table than the one before it
-pub record AreKept (tables : List TableDef) (rows : List TableRow) : Type 0 where
-  pub some : 1 ≤ length rows
-  pub rising : AreRising rows
-  pub each : AllByRecursion (Fits tables) rows
 
 -- rows of these tables that have a spelling, in whatever order
 abbrev pub AreSpelled : List TableDef → List TableRow → Type 0

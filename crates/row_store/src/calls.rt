@@ -1,11 +1,13 @@
 //! The rows of objects in a store.
-ghost use Rattle.std.specs.Prelude.{◌≡◌, ◌<◌, ◌≤◌, List, ℕ, Ok, Err, false, IfOk, IfSome, OnOk};
+ghost use Rattle.std.specs.Prelude.{◌≡◌, List, ℕ, Ok, Err, IfOk, IfSome, OnOk};
 ghost use Rattle.std.specs.Option.{option_copied};
-ghost use Rattle.bucket_store.specs.Buckets.{bucket_count};
-ghost use Rattle.bucket_store.specs.Transaction.{IsOpenStore, chains_of, has_refused};
+ghost use Rattle.bucket_store.specs.Transaction.{IsOpenStore, IsReady};
 ghost use Rattle.bucket_store.specs.Typed.{Gets, GetsValue, ReadsAs, SetsValue, TakesValue, Touches};
-ghost use Rattle.row_store.specs.Maps.{map_of, number_of};
-ghost use Rattle.row_store.specs.Rows.{rows_bytes, AreRows, AreKept};
+ghost use Rattle.row_store.specs.Maps.{map_of};
+ghost use Rattle.row_store.specs.Rows.{rows_bytes, AreRows};
+ghost use Rattle.store_maps.specs.Asked.{row_key, row_map};
+ghost use Rattle.store_maps.specs.Rows.{AreKept};
+ghost use Rattle.value_bytes.specs.StoreMap.{number_of};
 
 use crate::{read_rows, rows_bytes};
 use bucket_store::{Buckets, refuse_value};
@@ -14,13 +16,7 @@ use outside::Disk;
 use page_journal::StoreFault;
 use std::alloc::Global;
 use style_read::Style;
-use value_bytes::ValueFault;
-
-/// The map of the rows of nodes.
-pub const NODE_ROWS: u8 = 6;
-
-/// The map of the rows of ways and of relations.
-pub const OTHER_ROWS: u8 = 7;
+use value_bytes::{StoreMap, ValueFault};
 
 /// The rows that the store has of an object, under its style. `None`: none.
 pub fn get<D: Disk>(
@@ -29,15 +25,14 @@ pub fn get<D: Disk>(
     style: &Style,
     key: Key,
 ) -> Result<Option<TableRows>, StoreFault>
-    requires some { 1 ≤ bucket_count (chains_of buckets.old) }
-    requires going { has_refused buckets.old ≡ false }
+    requires ready { IsReady buckets.old }
     ensures answers { (pages : List (List ℕ)) → IsOpenStore pages buckets.old
-        → Gets rows_bytes (AreRows style.now.tables) pages buckets.old (map_of key.kind) (number_of key.kind key.id) result }
-    ensures value { GetsValue rows_bytes (AreRows style.now.tables) (map_of key.kind) (number_of key.kind key.id) buckets.old buckets.new result }
+        → Gets rows_bytes (AreRows style.now.tables) pages buckets.old (map_of key.kind) (row_key key.kind key.id) result }
+    ensures value { GetsValue rows_bytes (AreRows style.now.tables) (map_of key.kind) (row_key key.kind key.id) buckets.old buckets.new result }
     ensures kept { IfOk result (λ found. IfSome found (AreKept style.now.tables)) }
-    ensures touches { Touches (map_of key.kind) (number_of key.kind key.id) buckets.old buckets.new result }
+    ensures touches { Touches (map_of key.kind) (row_key key.kind key.id) buckets.old buckets.new result }
 {
-    get_from(alloc, buckets, style, map_of(key.kind), number_of(key))
+    get_from(alloc, buckets, style, row_map(key.kind), row_key(key))
 }
 
 /// Sets the rows that the store has of an object.
@@ -49,14 +44,13 @@ pub fn put<D: Disk>(
     rows: &TableRows,
 ) -> Result<(), StoreFault>
     requires kept { AreKept style.now.tables rows.now }
-    requires some { 1 ≤ bucket_count (chains_of buckets.old) }
-    requires going { has_refused buckets.old ≡ false }
-    ensures value { SetsValue (map_of key.kind) (number_of key.kind key.id) (rows_bytes rows.now) buckets.old buckets.new result }
+    requires ready { IsReady buckets.old }
+    ensures value { SetsValue (map_of key.kind) (row_key key.kind key.id) (rows_bytes rows.now) buckets.old buckets.new result }
     ensures are { OnOk result (AreRows style.now.tables rows.now) }
-    ensures touches { Touches (map_of key.kind) (number_of key.kind key.id) buckets.old buckets.new result }
+    ensures touches { Touches (map_of key.kind) (row_key key.kind key.id) buckets.old buckets.new result }
 {
     match rows_bytes(alloc, style, rows) {
-        Ok(bytes) => buckets.put(map_of(key.kind), number_of(key), bytes.as_slice()),
+        Ok(bytes) => buckets.put(row_map(key.kind), row_key(key), bytes.as_slice()),
         Err(_) => {
             buckets.refuse();
             Err(StoreFault::OutOfMemory)
@@ -66,12 +60,11 @@ pub fn put<D: Disk>(
 
 /// Takes out the rows that the store has of an object, and answers whether there were some.
 pub fn remove<D: Disk>(buckets: &mut Buckets<'_, D>, key: Key) -> Result<bool, StoreFault>
-    requires some { 1 ≤ bucket_count (chains_of buckets.old) }
-    requires going { has_refused buckets.old ≡ false }
-    ensures value { TakesValue (map_of key.kind) (number_of key.kind key.id) buckets.old buckets.new result }
-    ensures touches { Touches (map_of key.kind) (number_of key.kind key.id) buckets.old buckets.new result }
+    requires ready { IsReady buckets.old }
+    ensures value { TakesValue (map_of key.kind) (row_key key.kind key.id) buckets.old buckets.new result }
+    ensures touches { Touches (map_of key.kind) (row_key key.kind key.id) buckets.old buckets.new result }
 {
-    buckets.remove(map_of(key.kind), number_of(key))
+    buckets.remove(row_map(key.kind), row_key(key))
 }
 
 // The rows that a map has under a number.
@@ -79,43 +72,40 @@ fn get_from<D: Disk>(
     alloc: Global,
     buckets: &mut Buckets<'_, D>,
     style: &Style,
-    which: u8,
+    map: StoreMap,
     number: u64,
 ) -> Result<Option<TableRows>, StoreFault>
-    requires which { which < 8 }
-    requires some { 1 ≤ bucket_count (chains_of buckets.old) }
-    requires going { has_refused buckets.old ≡ false }
+    requires ready { IsReady buckets.old }
     ensures answers { (pages : List (List ℕ)) → IsOpenStore pages buckets.old
-        → Gets rows_bytes (AreRows style.now.tables) pages buckets.old which number result }
-    ensures value { GetsValue rows_bytes (AreRows style.now.tables) which number buckets.old buckets.new result }
+        → Gets rows_bytes (AreRows style.now.tables) pages buckets.old (number_of map) number result }
+    ensures value { GetsValue rows_bytes (AreRows style.now.tables) (number_of map) number buckets.old buckets.new result }
     ensures kept { IfOk result (λ found. IfSome found (AreKept style.now.tables)) }
-    ensures touches { Touches which number buckets.old buckets.new result }
+    ensures touches { Touches (number_of map) number buckets.old buckets.new result }
 {
-    if let Err(fault) = buckets.bring(which, number) {
+    if let Err(fault) = buckets.bring(map, number) {
         return Err(fault);
     }
-    let read = read_bytes(alloc, style, buckets.value(which, number));
+    let read = read_bytes(alloc, style, buckets.value(map, number));
     match read {
         Ok(found) => Ok(found),
-        Err(fault) => Err(refuse_value(buckets, which, number, fault)),
+        Err(fault) => Err(refuse_value(buckets, map, number, fault)),
     }
 }
 
 // The map of the rows of objects of a kind.
-fn map_of(kind: Kind) -> u8
-    ensures map { result ≡ map_of kind }
-    ensures below { result < 8 }
+fn row_map(kind: Kind) -> StoreMap
+    ensures { result ≡ row_map kind }
 {
     if matches!(kind, Kind::Node) {
-        NODE_ROWS
+        StoreMap::NodeRows
     } else {
-        OTHER_ROWS
+        StoreMap::OtherRows
     }
 }
 
 // The number of an object in its map.
-fn number_of(key: Key) -> u64
-    ensures number { result ≡ number_of key.kind key.id }
+fn row_key(key: Key) -> u64
+    ensures number { result ≡ row_key key.kind key.id }
 {
     match key.kind {
         Kind::Node => key.id,

@@ -12,7 +12,7 @@ mod loading;
 mod row;
 mod rows;
 
-pub use calls::{NODE_ROWS, OTHER_ROWS, get, put, remove};
+pub use calls::{get, put, remove};
 pub use loading::load;
 pub use row::{read_row, row_bytes};
 pub use rows::{read_rows, rows_bytes};

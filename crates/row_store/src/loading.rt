@@ -1,23 +1,23 @@
 //! The rows of all objects of a store, or those of one table, read whole.
 ghost use Rattle.std.specs.Prelude.{◌≡◌, ◌⊎◌, ◌<◌, ◌≤◌, ◌%◌, ℕ, List, Ok, Err, None, Some, false, IfErr, IfSome, IsNone, IsSome, IsTrue, OnOk, IfOk, if◌then◌else◌};
 ghost use Rattle.std.specs.List.{AllByRecursion};
-ghost use Rattle.std.specs.FinMap as map;
+ghost use Rattle.std.specs.FinMap as finite;
 ghost use Rattle.osm_base.specs.values.Key.{IsId};
 ghost use Rattle.value_bytes.specs.declared.fault.ValueFault.TheVariants as faults;
-ghost use Rattle.bucket_store.specs.Buckets.{bucket_count};
 ghost use Rattle.bucket_store.specs.Image.{Has, Image, IsSoundAnswer};
-ghost use Rattle.bucket_store.specs.Transaction.{chains_of, has_refused};
-ghost use Rattle.row_store.specs.Loading.{Among, AreTold, Fills, IsTold, IsWithin, Looks, RowsBySpot, is_wanted, key_of, with_all, with_wanted};
-ghost use Rattle.row_store.specs.declared.calls.TheConstants.{NODE_ROWS, OTHER_ROWS};
+ghost use Rattle.bucket_store.specs.Transaction.{IsReady};
+ghost use Rattle.row_store.specs.Loading.{Among, Fills, IsTold, Looks, RowsBySpot, TellsRows, is_wanted, key_of, with_all, with_wanted};
+ghost use Rattle.value_bytes.specs.StoreMap.{number_of};
+ghost use Rattle.value_bytes.specs.declared.store_map.StoreMap.TheVariants.{NodeRows, OtherRows};
 
-use crate::{NODE_ROWS, OTHER_ROWS, read_rows};
+use crate::read_rows;
 use bucket_store::{Buckets, refuse_value};
 use osm_base::{Bytes, Key, Kind, MAX_ID, OutOfMemory, RowChange, TableRow, TableRows, Tables};
 use outside::Disk;
 use page_journal::StoreFault;
 use std::alloc::Global;
 use style_read::Style;
-use value_bytes::ValueFault;
+use value_bytes::{StoreMap, ValueFault};
 
 /// Puts the rows that the store has, of all tables or of one, among those that are there.
 pub fn load<D: Disk>(
@@ -27,24 +27,23 @@ pub fn load<D: Disk>(
     wanted: Option<u32>,
     tables: &mut Tables,
 ) -> Result<(), StoreFault>
-    requires some { 1 ≤ bucket_count (chains_of buckets.old) }
-    requires going { has_refused buckets.old ≡ false }
+    requires ready { IsReady buckets.old }
     ensures nodes { OnOk result ((rest now : Image) (rows : RowsBySpot) → Has rest now buckets.old
-        → AreTold style.now.tables wanted NODE_ROWS rows (now.maps NODE_ROWS) → AreTold style.now.tables wanted OTHER_ROWS rows (now.maps OTHER_ROWS)
-        → Fills NODE_ROWS rows (λ n. IsSome (map.get (now.maps NODE_ROWS) n)) tables.old tables.new) }
+        → TellsRows style.now.tables wanted NodeRows rows now → TellsRows style.now.tables wanted OtherRows rows now
+        → Fills (number_of NodeRows) rows (λ n. IsSome (finite.get (now.maps (number_of NodeRows)) n)) tables.old tables.new) }
     ensures others { OnOk result ((rest now : Image) (rows : RowsBySpot) → Has rest now buckets.old
-        → AreTold style.now.tables wanted NODE_ROWS rows (now.maps NODE_ROWS) → AreTold style.now.tables wanted OTHER_ROWS rows (now.maps OTHER_ROWS)
-        → Fills OTHER_ROWS rows (λ n. IsSome (map.get (now.maps OTHER_ROWS) n)) tables.old tables.new) }
+        → TellsRows style.now.tables wanted NodeRows rows now → TellsRows style.now.tables wanted OtherRows rows now
+        → Fills (number_of OtherRows) rows (λ n. IsSome (finite.get (now.maps (number_of OtherRows)) n)) tables.old tables.new) }
     ensures has { OnOk result ((rest now : Image) → Has rest now buckets.old → Has rest now buckets.new) }
     ensures sound { (rest now : Image) (rows : RowsBySpot) → Has rest now buckets.old
-        → AreTold style.now.tables wanted NODE_ROWS rows (now.maps NODE_ROWS) → AreTold style.now.tables wanted OTHER_ROWS rows (now.maps OTHER_ROWS)
+        → TellsRows style.now.tables wanted NodeRows rows now → TellsRows style.now.tables wanted OtherRows rows now
         → IsSoundAnswer result }
     ensures looks { Looks buckets.old buckets.new result }
 {
-    if let Err(fault) = add_map(alloc, buckets, style, wanted, NODE_ROWS, tables) {
+    if let Err(fault) = add_map(alloc, buckets, style, wanted, StoreMap::NodeRows, tables) {
         return Err(fault);
     }
-    match add_map(alloc, buckets, style, wanted, OTHER_ROWS, tables) {
+    match add_map(alloc, buckets, style, wanted, StoreMap::OtherRows, tables) {
         Ok(()) => Ok(()),
         Err(fault) => Err(fault),
     }
@@ -56,24 +55,22 @@ fn add_map<D: Disk>(
     buckets: &mut Buckets<'_, D>,
     style: &Style,
     wanted: Option<u32>,
-    which: u8,
+    map: StoreMap,
     tables: &mut Tables,
 ) -> Result<(), StoreFault>
-    requires which { which < 8 }
-    requires some { 1 ≤ bucket_count (chains_of buckets.old) }
-    requires going { has_refused buckets.old ≡ false }
+    requires ready { IsReady buckets.old }
     ensures filled { OnOk result ((rest now : Image) (rows : RowsBySpot) → Has rest now buckets.old
-        → AreTold style.now.tables wanted which rows (now.maps which)
-        → Fills which rows (λ n. IsSome (map.get (now.maps which) n)) tables.old tables.new) }
+        → TellsRows style.now.tables wanted map rows now
+        → Fills (number_of map) rows (λ n. IsSome (finite.get (now.maps (number_of map)) n)) tables.old tables.new) }
     ensures has { OnOk result ((rest now : Image) → Has rest now buckets.old → Has rest now buckets.new) }
     ensures sound { (rest now : Image) (rows : RowsBySpot) → Has rest now buckets.old
-        → AreTold style.now.tables wanted which rows (now.maps which) → IsSoundAnswer result }
+        → TellsRows style.now.tables wanted map rows now → IsSoundAnswer result }
     ensures looks { Looks buckets.old buckets.new result }
 {
     let count = buckets.root().buckets;
     let mut bucket = 0;
     while bucket < count {
-        if let Err(fault) = add_bucket(alloc, buckets, style, wanted, which, bucket, tables) {
+        if let Err(fault) = add_bucket(alloc, buckets, style, wanted, map, bucket, tables) {
             return Err(fault);
         }
         bucket += 1;
@@ -87,28 +84,26 @@ fn add_bucket<D: Disk>(
     buckets: &mut Buckets<'_, D>,
     style: &Style,
     wanted: Option<u32>,
-    which: u8,
+    map: StoreMap,
     bucket: u64,
     tables: &mut Tables,
 ) -> Result<(), StoreFault>
-    requires which { which < 8 }
-    requires some { 1 ≤ bucket_count (chains_of buckets.old) }
-    requires going { has_refused buckets.old ≡ false }
+    requires ready { IsReady buckets.old }
     ensures filled { OnOk result ((rest now : Image) (rows : RowsBySpot) → Has rest now buckets.old
-        → AreTold style.now.tables wanted which rows (now.maps which)
-        → Fills which rows (λ n. IsSome (map.get (now.maps which) n) × (n % now.root.buckets ≡ bucket % now.root.buckets)) tables.old tables.new) }
+        → TellsRows style.now.tables wanted map rows now
+        → Fills (number_of map) rows (λ n. IsSome (finite.get (now.maps (number_of map)) n) × (n % now.root.buckets ≡ bucket % now.root.buckets)) tables.old tables.new) }
     ensures has { OnOk result ((rest now : Image) → Has rest now buckets.old → Has rest now buckets.new) }
     ensures sound { (rest now : Image) (rows : RowsBySpot) → Has rest now buckets.old
-        → AreTold style.now.tables wanted which rows (now.maps which) → IsSoundAnswer result }
+        → TellsRows style.now.tables wanted map rows now → IsSoundAnswer result }
     ensures looks { Looks buckets.old buckets.new result }
 {
-    let records = match buckets.records(which, bucket) {
+    let records = match buckets.records(map, bucket) {
         Ok(records) => records,
         Err(fault) => return Err(fault),
     };
-    match add_records(alloc, style, wanted, which, records.as_slice(), tables) {
+    match add_records(alloc, style, wanted, map, records.as_slice(), tables) {
         Ok(()) => Ok(()),
-        Err(fault) => Err(refuse_value(buckets, which, bucket, fault)),
+        Err(fault) => Err(refuse_value(buckets, map, bucket, fault)),
     }
 }
 
@@ -117,13 +112,13 @@ fn add_records(
     alloc: Global,
     style: &Style,
     wanted: Option<u32>,
-    which: u8,
+    map: StoreMap,
     records: &[(u64, Bytes)],
     tables: &mut Tables,
 ) -> Result<(), ValueFault>
-    ensures filled { OnOk result ((rows : RowsBySpot) → AllByRecursion (λ one. IsTold style.now.tables wanted which rows one.0 one.1) records.now
-        → Fills which rows (Among records.now) tables.old tables.new) }
-    ensures sound { (rows : RowsBySpot) → AllByRecursion (λ one. IsTold style.now.tables wanted which rows one.0 one.1) records.now
+    ensures filled { OnOk result ((rows : RowsBySpot) → AllByRecursion (λ one. IsTold style.now.tables wanted (number_of map) rows one.0 one.1) records.now
+        → Fills (number_of map) rows (Among records.now) tables.old tables.new) }
+    ensures sound { (rows : RowsBySpot) → AllByRecursion (λ one. IsTold style.now.tables wanted (number_of map) rows one.0 one.1) records.now
         → IfErr result (λ fault. fault ≡ faults.OutOfMemory) }
 {
     for (number, bytes) in records {
@@ -131,7 +126,7 @@ fn add_records(
             alloc,
             style,
             wanted,
-            which,
+            map,
             *number,
             bytes.as_slice(),
             tables,
@@ -147,16 +142,16 @@ fn add_record(
     alloc: Global,
     style: &Style,
     wanted: Option<u32>,
-    which: u8,
+    map: StoreMap,
     number: u64,
     bytes: &[u8],
     tables: &mut Tables,
 ) -> Result<(), ValueFault>
-    ensures filled { OnOk result ((rows : RowsBySpot) → IsTold style.now.tables wanted which rows number bytes.now
-        → Fills which rows (λ n. number ≡ n) tables.old tables.new) }
-    ensures sound { (rows : RowsBySpot) → IsTold style.now.tables wanted which rows number bytes.now → IfErr result (λ fault. fault ≡ faults.OutOfMemory) }
+    ensures filled { OnOk result ((rows : RowsBySpot) → IsTold style.now.tables wanted (number_of map) rows number bytes.now
+        → Fills (number_of map) rows (λ n. number ≡ n) tables.old tables.new) }
+    ensures sound { (rows : RowsBySpot) → IsTold style.now.tables wanted (number_of map) rows number bytes.now → IfErr result (λ fault. fault ≡ faults.OutOfMemory) }
 {
-    let Some(key) = key_of(which, number) else {
+    let Some(key) = key_of(map, number) else {
         return Err(ValueFault::NotSpelled);
     };
     let rows = match read_rows(alloc, style, bytes) {
@@ -217,11 +212,11 @@ fn is_wanted(wanted: Option<u32>, table: u32) -> bool
 }
 
 // The key whose rows a map has under a number. `None`: no key has that id.
-fn key_of(which: u8, number: u64) -> Option<Key>
-    ensures key { IfSome result (λ key. key ≡ key_of which number) }
-    ensures none { IsNone result → IsId (key_of which number).id → ⊥ }
+fn key_of(map: StoreMap, number: u64) -> Option<Key>
+    ensures key { IfSome result (λ key. key ≡ key_of (number_of map) number) }
+    ensures none { IsNone result → IsId (key_of (number_of map) number).id → ⊥ }
 {
-    let (kind, id) = if which == NODE_ROWS {
+    let (kind, id) = if matches!(map, StoreMap::NodeRows) {
         (Kind::Node, number)
     } else if number % 2 == 0 {
         (Kind::Way, number / 2)

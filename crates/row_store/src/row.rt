@@ -2,7 +2,7 @@
 ghost use Rattle.std.specs.Prelude.{◌≡◌, ◌++◌, ◌<◌, length, IfOk, IfErr, OnOk};
 ghost use Rattle.value_bytes.specs.Forms.{Spells, IsNoValue, IsFront, IsFrontless, NeedsFor};
 ghost use Rattle.row_store.specs.Row.{row_bytes, IsRow};
-ghost use Rattle.row_store.specs.Rows.{columns_in};
+ghost use Rattle.store_maps.specs.Rows.{columns_in};
 
 use osm_base::{Bytes, Cells, Geometry, Items, OutOfMemory, Row};
 use std::alloc::Global;

@@ -4,7 +4,8 @@ ghost use Rattle.std.specs.List.{AllByRecursion};
 ghost use Rattle.style_read.specs.declared.style.TheConstants.{MAX_TABLES};
 ghost use Rattle.value_bytes.specs.Forms.{Spells, IsNoValue, IsFront, IsFrontless, NeedsFor};
 ghost use Rattle.row_store.specs.Row.{IsRow};
-ghost use Rattle.row_store.specs.Rows.{table_row_bytes, IsTableRow, rows_bytes, AreRising, AreRows, Fits, AreKept, AreSpelled};
+ghost use Rattle.row_store.specs.Rows.{table_row_bytes, IsTableRow, rows_bytes, AreRows, AreSpelled};
+ghost use Rattle.store_maps.specs.Rows.{AreRising, Fits, AreKept};
 
 use crate::row::{columns_of, front_row, push_row};
 use osm_base::{Bytes, Items, OutOfMemory, TableRow, TableRows};

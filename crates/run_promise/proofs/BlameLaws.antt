@@ -62,8 +62,8 @@ is_bad flow.LastChange bad = absurd bad
 is_bad (flow.TooMany value) bad = absurd bad
 is_bad flow.OutOfMemory bad = absurd bad
 
-bad_step : (fault : FlowFault) → IsBadStore fault → IsStepFault fault
-bad_step fault bad = let is = is_bad fault bad in subst IsStepFault (sym is.1) tt
+bad_step : (call : Option Step) (fault : FlowFault) → IsBadStore fault → IsStepFault call fault
+bad_step call fault bad = let is = is_bad fault bad in subst (IsStepFault call) (sym is.1) tt
 
 -- no state refuses a step for that
 page_refuses : (state : State) (step : Step) (page : ℕ) (P : Type 0)
@@ -337,34 +337,34 @@ module _ (terms : Terms) (old : Before) where
   told_state file quiet done faults.OutOfMemory none up = absurd none
 
   -- a step that is refused
-  told_step : (file : ℕ) (quiet : Type 0) (done : Progress) (fault : FlowFault) → terms.store
-      → IfTold old.content (λ _. IsBadStore fault → terms.opening) → IsStepFault fault → UpTo file quiet done
+  told_step : (call : Option Step) (file : ℕ) (quiet : Type 0) (done : Progress) (fault : FlowFault) → terms.store
+      → IfTold old.content (λ _. IsBadStore fault → terms.opening) → IsStepFault call fault → UpTo file quiet done
       → Tells terms old (at done (Some (flow_fault fault)))
-  told_step file quiet done (flow.Store (stores.BadStore page)) store bad why up =
+  told_step call file quiet done (flow.Store (stores.BadStore page)) store bad why up =
       told_at file quiet done (Some (faults.BadStore page)) up (store, λ bytes told. bad bytes told tt) (λ other names. names)
-  told_step file quiet done (flow.Store (stores.StoreFull pages)) store bad why up =
+  told_step call file quiet done (flow.Store (stores.StoreFull pages)) store bad why up =
       told_at file quiet done (Some (faults.Limit kinds.Pages pages)) up (inl (tt, store)) (λ other names. names)
-  told_step file quiet done (flow.Store stores.NotFormatted) store bad none up = absurd none
-  told_step file quiet done (flow.Store stores.NotEmpty) store bad none up = absurd none
-  told_step file quiet done (flow.Store stores.DiskFault) store bad none up = absurd none
-  told_step file quiet done (flow.Store stores.Broken) store bad none up = absurd none
-  told_step file quiet done (flow.Store stores.OutOfMemory) store bad none up = absurd none
-  told_step file quiet done flow.NotImported store bad why up =
-      told_at file quiet done (Some faults.NotImported) up store (λ other names. names)
-  told_step file quiet done flow.AlreadyImported store bad why up =
+  told_step call file quiet done (flow.Store stores.NotFormatted) store bad none up = absurd none
+  told_step call file quiet done (flow.Store stores.NotEmpty) store bad none up = absurd none
+  told_step call file quiet done (flow.Store stores.DiskFault) store bad none up = absurd none
+  told_step call file quiet done (flow.Store stores.Broken) store bad none up = absurd none
+  told_step call file quiet done (flow.Store stores.OutOfMemory) store bad none up = absurd none
+  told_step call file quiet done flow.NotImported store bad none up = absurd none
+  told_step call file quiet done flow.AlreadyImported store bad why up =
       told_at file quiet done (Some faults.AlreadyImported) up store (λ other names. names)
-  told_step file quiet done flow.OldFormat store bad none up = absurd none
-  told_step file quiet done flow.LastChange store bad why up =
+  told_step call file quiet done flow.OldFormat store bad none up = absurd none
+  told_step call file quiet done flow.LastChange store bad why up =
       told_at file quiet done (Some (flow_fault flow.LastChange)) up (inl (tt, store)) (λ other names. names)
-  told_step file quiet done (flow.TooMany value) store bad why up =
+  told_step call file quiet done (flow.TooMany value) store bad why up =
       told_at file quiet done (Some (faults.Limit kinds.Pending value)) up (inl (tt, store)) (λ other names. names)
-  told_step file quiet done flow.OutOfMemory store bad none up = absurd none
+  told_step call file quiet done flow.OutOfMemory store bad none up = absurd none
 
-  told_refused : (IsWhy : FlowFault → Type 0) (file : ℕ) (quiet : Type 0) (done : Progress) (ending : Ending) → terms.store
-      → ((fault : FlowFault) → IsWhy fault → IfTold old.content (λ _. IsBadStore fault → terms.opening) × IsStepFault fault)
+  told_refused : (call : Option Step) (IsWhy : FlowFault → Type 0) (file : ℕ) (quiet : Type 0) (done : Progress) (ending : Ending)
+      → terms.store
+      → ((fault : FlowFault) → IsWhy fault → IfTold old.content (λ _. IsBadStore fault → terms.opening) × IsStepFault call fault)
       → UpTo file quiet done → IsRefusedFor IsWhy done ending → Tells terms old ending
-  told_refused IsWhy file quiet done ending store why up h =
-      is_told ending _ h.2 (told_step file quiet done h.0 store (why h.0 h.1).0 (why h.0 h.1).1 up)
+  told_refused call IsWhy file quiet done ending store why up h =
+      is_told ending _ h.2 (told_step call file quiet done h.0 store (why h.0 h.1).0 (why h.0 h.1).1 up)
 
   made_certain : (told : Option (List ℕ)) (bytes : List ℕ) (P : Type 0) → told ≡ Some bytes → made told ≡ unknown → P
   made_certain None bytes P is un = absurd (cc)
@@ -419,32 +419,34 @@ module _ (terms : Terms) (old : Before) where
       (stood file quiet (keeps (whole (first h.0 kept.history))) h.0 done (λ e. absurd (cc)) up) h.3)
       (λ is h. three (λ (none : IsNoStore old done ending).
       is_told ending _ none.1 (told_at file quiet done (Some faults.NotFormatted) up (opening, none.0) (λ other names. names)))
-      (λ (bad : IsBroken old done ending). told_refused IsBadStore file quiet done ending store
-      (λ fault own. ((λ bytes told _. opening), bad_step fault own)) up bad.1)
+      (λ (bad : IsBroken old done ending). told_refused None IsBadStore file quiet done ending store
+      (λ fault own. ((λ bytes told _. opening), bad_step None fault own)) up bad.1)
       (λ (c : (state : State) × IfTold old.content (MayOpenAs state) × Comes old (rest state) done ending).
       comes_told (rest c.0) file quiet done ending (later c.0) up c.2) h) c
   comes_told (looks rest) file quiet done ending (store, later) up (inl breaks) = told_breaks file quiet done ending store up breaks
   comes_told (looks rest) file quiet done ending (store, later) up (inr (inl why)) =
-      let un = of_unknown done.store (IsRefusedFor IsStepFault done ending) why in
-      told_refused IsStepFault file quiet done ending store (λ fault own. ((λ bytes told _. up.vague un.0 bytes told), own)) up un.1
+      let un = of_unknown done.store (IsRefusedFor (IsStepFault None) done ending) why in
+      told_refused None (IsStepFault None) file quiet done ending store
+      (λ fault own. ((λ bytes told _. up.vague un.0 bytes told), own)) up un.1
   comes_told (looks rest) file quiet done ending (store, later) up (inr (inr c)) = comes_told rest file quiet done ending later up c
   comes_told (commits step rest) file quiet done ending (store, later) up (inl breaks) = told_breaks file quiet done ending store up breaks
   comes_told (commits step rest) file quiet done ending (store, later) up (inr c) = of_store done.store
       (λ kept. (ending ≡ at (in_doubt step kept done) (Some faults.DiskFault))
       ⊎ IsRefusedFor (IsRefusal old (state_after kept.history) step) done ending
       ⊎ (MayTake old (state_after kept.history) step × Comes old rest (committed step kept done) ending))
-      (IsRefusedFor IsStepFault done ending ⊎ Comes old rest done ending) (Tells terms old ending)
+      (IsRefusedFor (IsStepFault (Some step)) done ending ⊎ Comes old rest done ending) (Tells terms old ending)
       (λ kept is h. three (λ (is : ending ≡ at (in_doubt step kept done) (Some faults.DiskFault)). is_told ending _ is
       (told_at file quiet (in_doubt step kept done) (Some faults.DiskFault)
       (stood file quiet (keeps (perhaps step kept)) done.cut done (λ e. absurd (cc)) up) store (λ other names. names)))
       (λ (why : IsRefusedFor (IsRefusal old (state_after kept.history) step) done ending).
-      told_refused (IsRefusal old (state_after kept.history) step) file quiet done ending store
+      told_refused (Some step) (IsRefusal old (state_after kept.history) step) file quiet done ending store
       (λ fault own. ((λ _ _ bad. bad_refuses (state_after kept.history) step fault terms.opening bad own.1), own.0)) up why)
       (λ (c : MayTake old (state_after kept.history) step × Comes old rest (committed step kept done) ending).
       comes_told rest file quiet (committed step kept done) ending later
       (stood file quiet (keeps (with_step step kept)) done.cut done (λ e. absurd (cc)) up) c.1) h)
-      (λ is h. ⊎_elim (λ (why : IsRefusedFor IsStepFault done ending).
-      told_refused IsStepFault file quiet done ending store (λ fault own. ((λ bytes told _. up.vague is bytes told), own)) up why)
+      (λ is h. ⊎_elim (λ (why : IsRefusedFor (IsStepFault (Some step)) done ending).
+      told_refused (Some step) (IsStepFault (Some step)) file quiet done ending store
+      (λ fault own. ((λ bytes told _. up.vague is bytes told), own)) up why)
       (λ (c : Comes old rest done ending). comes_told rest file quiet done ending later up c) h) c
   comes_told (tells text rest) file quiet done ending to up (inl is) = is_told ending _ is (told_at_text file quiet text done up)
   comes_told (tells text rest) file quiet done ending to up (inr c) =

@@ -264,7 +264,7 @@ module _ (total : ℕ) (before : Kept) where
         breaks_safe left done ending (subst (λ (untold : ℕ). IsAfter total before untold left done) none after) breaks
     comes_safe (looks rest) untold left done ending (none, counts) after (inr (inl why)) =
         absurd (let two : unknown ≡ keeps (whole after.now) =
-        sym (of_unknown done.store (IsRefusedFor IsStepFault done ending) why).0 ∙ after.is in cc)
+        sym (of_unknown done.store (IsRefusedFor (IsStepFault None) done ending) why).0 ∙ after.is in cc)
     comes_safe (looks rest) untold left done ending (none, counts) after (inr (inr c)) =
         comes_safe rest untold left done ending counts after c
     comes_safe (commits step rest) untold left done ending (none, counts) after (inl breaks) =
@@ -275,7 +275,7 @@ module _ (total : ℕ) (before : Kept) where
         (λ kept. (ending ≡ at (in_doubt step kept done) (Some faults.DiskFault))
         ⊎ IsRefusedFor (IsRefusal old (state_after kept.history) step) done ending
         ⊎ (MayTake old (state_after kept.history) step × Comes old rest (committed step kept done) ending))
-        (IsRefusedFor IsStepFault done ending ⊎ Comes old rest done ending) (Reaches total before ending)
+        (IsRefusedFor (IsStepFault (Some step)) done ending ⊎ Comes old rest done ending) (Reaches total before ending)
         (λ kept is h. three (λ (doubt : ending ≡ at (in_doubt step kept done) (Some faults.DiskFault)).
         reaches ending _ doubt (doubted left step kept done own is))
         (λ (why : IsRefusedFor (IsRefusal old (state_after kept.history) step) done ending).

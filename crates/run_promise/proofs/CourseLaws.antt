@@ -114,14 +114,14 @@ module _ (old : Before) where
       ⊎ (MayTake old (state_after kept.history) step × Comes old rest (committed step kept done) ending))
       (λ kept. IsRefusedFor (IsRefusal old (state_after kept.history) step) done ending
       ⊎ (MayTake old (state_after kept.history) step × IsDue old rest (committed step kept done) ending))
-      (IsRefusedFor IsStepFault done ending ⊎ Comes old rest done ending)
-      (IsRefusedFor IsStepFault done ending ⊎ IsDue old rest done ending)
+      (IsRefusedFor (IsStepFault (Some step)) done ending ⊎ Comes old rest done ending)
+      (IsRefusedFor (IsStepFault (Some step)) done ending ⊎ IsDue old rest done ending)
       (λ kept _ h. three (λ (is : ending ≡ at (in_doubt step kept done) (Some faults.DiskFault)).
       blamed ending (at (in_doubt step kept done) (Some faults.DiskFault)) _ is tt not)
       (λ (why : IsRefusedFor (IsRefusal old (state_after kept.history) step) done ending). inl why)
       (λ (c : MayTake old (state_after kept.history) step × Comes old rest (committed step kept done) ending).
       inr (c.0, comes_due rest (committed step kept done) ending c.1 not)) h)
-      (λ _ h. ⊎_elim (λ (why : IsRefusedFor IsStepFault done ending). inl why)
+      (λ _ h. ⊎_elim (λ (why : IsRefusedFor (IsStepFault (Some step)) done ending). inl why)
       (λ (c : Comes old rest done ending). inr (comes_due rest done ending c not)) h) c
   comes_due (tells text rest) done ending (inl is) not = blamed ending (at_text text done faults.WriteFault) _ is tt not
   comes_due (tells text rest) done ending (inr c) not = comes_due rest (plus text done) ending c not

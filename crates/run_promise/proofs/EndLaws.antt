@@ -70,7 +70,7 @@ module _ (old : Before) (ending : Ending) (well : ending.fault ≡ None) where
       (λ kept. (ending ≡ at (in_doubt step kept done) (Some faults.DiskFault))
       ⊎ IsRefusedFor (IsRefusal old (state_after kept.history) step) done ending
       ⊎ (MayTake old (state_after kept.history) step × Comes old rest (committed step kept done) ending))
-      (IsRefusedFor IsStepFault done ending ⊎ Comes old rest done ending)) is comes)
+      (IsRefusedFor (IsStepFault (Some step)) done ending ⊎ Comes old rest done ending)) is comes)
 
   -- a line was told
   line_told : (text : List ℕ) (rest : Course) (done : Progress) → Comes old (tells text rest) done ending

@@ -13,6 +13,7 @@ use Rattle.update_flow.specs.History.{state_after}
 use Rattle.update_flow.specs.Needed.{FitsLimit, NeedsFrom, Writes}
 use Rattle.update_flow.specs.Opening.{MayOpenAs}
 use Rattle.update_flow.specs.Refusals.{OrFull, Refuses}
+use Rattle.update_flow.specs.Calls.{IsChange, IsLook, MayCommit}
 use Rattle.update_flow.specs.State.{State, Step, after}
 use Rattle.update_flow.specs.declared.fault.FlowFault.{FlowFault}
 use Rattle.update_flow.specs.declared.fault.FlowFault.TheVariants as flow
@@ -82,14 +83,16 @@ abbrev pub IsBadStore : FlowFault → Type 0
 IsBadStore (flow.Store (stores.BadStore page)) = Unit {0}
 IsBadStore _ = ⊥
 
--- a fault for which an open store of this format may refuse a step, whatever it holds
-abbrev pub IsStepFault : FlowFault → Type 0
-IsStepFault (flow.Store (stores.BadStore page)) = Unit {0}
-IsStepFault (flow.Store (stores.StoreFull pages)) = Unit {0}
-IsStepFault (flow.Store _) = ⊥
-IsStepFault flow.OutOfMemory = ⊥
-IsStepFault flow.OldFormat = ⊥
-IsStepFault _ = Unit {0}
+-- a fault for which a store that its root page tells to be ready for a call may refuse it, whatever else it holds: a damaged page; too
+-- many pages, where it commits; where it is a change, too many objects, or that no more can be counted; and where it is a look, that
+-- something was imported, since of a store that was just made on a disk that tells nothing no more is known
+abbrev pub IsStepFault : Option Step → FlowFault → Type 0
+IsStepFault call (flow.Store (stores.BadStore page)) = Unit {0}
+IsStepFault call (flow.Store (stores.StoreFull pages)) = MayCommit call
+IsStepFault call flow.AlreadyImported = IsLook call
+IsStepFault call flow.LastChange = IsChange call
+IsStepFault call (flow.TooMany value) = IsChange call
+IsStepFault call _ = ⊥
 
 -- a step that writes is done where the pages that a store of this state needs after it are within the limit; a refusal for its
 -- pages tells just those. The pages that it had are those of the bytes as the run began, or no more than the limit.
@@ -98,7 +101,7 @@ IsOfNeed old state step fault = Writes state step → FitsLimit standard (NeedsF
 
 -- and for which one of this state refuses it
 abbrev pub IsRefusal : Before → State → Step → FlowFault → Type 0
-IsRefusal old state step fault = IsStepFault fault × OrFull standard (Some fault) (Refuses standard state step (Some fault))
+IsRefusal old state step fault = IsStepFault (Some step) fault × OrFull standard (Some fault) (Refuses standard state step (Some fault))
     × IsOfNeed old state step (Some fault)
 
 -- or it is taken
@@ -128,13 +131,13 @@ Comes old (opens rest) done ending = Breaks done ending ⊎ ByStore done.store
     × Comes old (rest (state_after (first cut kept.history))) (opened kept cut done) ending)
     (IsNoStore old done ending ⊎ IsBroken old done ending
     ⊎ ((state : State) × IfTold old.content (MayOpenAs state) × Comes old (rest state) done ending))
-Comes old (looks rest) done ending = Breaks done ending ⊎ IfUnknown done.store (IsRefusedFor IsStepFault done ending)
+Comes old (looks rest) done ending = Breaks done ending ⊎ IfUnknown done.store (IsRefusedFor (IsStepFault None) done ending)
     ⊎ Comes old rest done ending
 Comes old (commits step rest) done ending = Breaks done ending ⊎ ByStore done.store
     (λ kept. (ending ≡ at (in_doubt step kept done) (Some DiskFault))
     ⊎ IsRefusedFor (IsRefusal old (state_after kept.history) step) done ending
     ⊎ (MayTake old (state_after kept.history) step × Comes old rest (committed step kept done) ending))
-    (IsRefusedFor IsStepFault done ending ⊎ Comes old rest done ending)
+    (IsRefusedFor (IsStepFault (Some step)) done ending ⊎ Comes old rest done ending)
 Comes old (tells text rest) done ending = (ending ≡ at_text text done WriteFault) ⊎ Comes old rest (plus text done) ending
 -- what files that are not told hold is not known, nor what an unknown store holds, and neither is their text
 Comes old (writes Fits rest) done ending = (ending ≡ at done (Some OutOfMemory))
@@ -165,11 +168,11 @@ IsDue old (opens rest) done ending = ByStore done.store
     × IsDue old (rest (state_after (first cut kept.history))) (opened kept cut done) ending)
     (IsNoStore old done ending ⊎ IsBroken old done ending
     ⊎ ((state : State) × IfTold old.content (MayOpenAs state) × IsDue old (rest state) done ending))
-IsDue old (looks rest) done ending = IfUnknown done.store (IsRefusedFor IsStepFault done ending) ⊎ IsDue old rest done ending
+IsDue old (looks rest) done ending = IfUnknown done.store (IsRefusedFor (IsStepFault None) done ending) ⊎ IsDue old rest done ending
 IsDue old (commits step rest) done ending = ByStore done.store
     (λ kept. IsRefusedFor (IsRefusal old (state_after kept.history) step) done ending
     ⊎ (MayTake old (state_after kept.history) step × IsDue old rest (committed step kept done) ending))
-    (IsRefusedFor IsStepFault done ending ⊎ IsDue old rest done ending)
+    (IsRefusedFor (IsStepFault (Some step)) done ending ⊎ IsDue old rest done ending)
 IsDue old (tells text rest) done ending = IsDue old rest (plus text done) ending
 IsDue old (writes Fits rest) done ending =
     (own : List ℕ) × (AreTold old done.read → IsCertain done.store → Fits own) × IsDue old rest (plus own done) ending

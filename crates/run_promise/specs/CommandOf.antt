@@ -3,7 +3,7 @@ use Rattle.std.specs.Prelude.{◌≡◌, ℕ, ◌+◌, ◌<◌, ◌≤◌, Bool,
 use Rattle.std.specs.Int.{is_power_of_two}
 use Rattle.tile_cover.specs.declared.runs.TheConstants.{MAX_ZOOM}
 use Rattle.run_promise.specs.declared.files.Files.{Files}
-use Rattle.run_promise.specs.declared.ranges.TheConstants.{MAX_BUCKETS, MAX_READERS, MAX_WORKERS}
+use Rattle.run_promise.specs.declared.ranges.TheConstants.{MAX_BUCKETS, MAX_READERS}
 
 -- a command with its words; a file is told by the place of its word among all words, the command word being at 0
 pub data CommandOf : Type 0 where
@@ -83,11 +83,6 @@ pub record Fit (files : Files) : Type 0 where
   pub some : 0 < files.count
   pub few : files.first + files.count ≤ 8192
 
--- there are workers, and not too many
-pub record AreWorkers (workers : ℕ) : Type 0 where
-  pub one : 1 ≤ workers
-  pub limit : workers ≤ MAX_WORKERS
-
 -- there are readers, and not too many
 pub record AreReaders (readers : ℕ) : Type 0 where
   pub one : 1 ≤ readers
@@ -106,11 +101,11 @@ abbrev pub FilesFit : CommandOf → Type 0
 FilesFit (points_of key files) = Fit files
 FilesFit (lines_of key files) = Fit files
 FilesFit (init_of store) = Unit {0}
-FilesFit (import_of store files buckets workers) = FitFrom 2 files × (files.count ≡ 2) × AreBuckets buckets × AreWorkers workers
-FilesFit (append_of store files workers) = FitFrom 2 files × AreWorkers workers
+FilesFit (import_of store files buckets workers) = FitFrom 2 files × (files.count ≡ 2) × AreBuckets buckets
+FilesFit (append_of store files workers) = FitFrom 2 files
 FilesFit (export_of store table) = Unit {0}
 FilesFit (tiles_of store least clear) = least ≤ MAX_ZOOM
 FilesFit (query_of store files) = FitFrom 1 files × (files.count ≡ 1)
-FilesFit (serve_of store files workers readers) = FitFrom 2 files × AreWorkers workers × AreReaders readers
-FilesFit (replay_of store files workers) = FitFrom 3 files × AreWorkers workers
+FilesFit (serve_of store files workers readers) = FitFrom 2 files × AreReaders readers
+FilesFit (replay_of store files workers) = FitFrom 3 files
 FilesFit (migrate_of store) = Unit {0}

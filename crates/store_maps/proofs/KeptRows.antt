@@ -26,7 +26,7 @@ use Rattle.row_map.specs.Row.{cells_of, row, row_from, row_of, tables, wants, wi
 use Rattle.row_map.specs.Rows.{in_table, rows_below, rows_in, rows_known}
 use Rattle.row_map.specs.Shape.{geometry_of}
 use Rattle.row_map.proofs.TableMap.{get-tables}
-use Rattle.row_store.specs.Rows.{AreKept, AreRising, Fits, RiseFrom, columns_in}
+use Rattle.store_maps.specs.Rows.{AreKept, AreRising, Fits, RiseFrom, columns_in}
 use Rattle.store_maps.specs.Append.{MayKeep}
 use Rattle.store_maps.specs.Delta.{kept_row, row_in}
 use Rattle.store_maps.specs.Maps.{Maps, kept_rows, rows_at, unless_empty}

@@ -19,7 +19,7 @@ use Rattle.osm_base.specs.values.KeyOrder.{key_cmp}
 use Rattle.osm_base.specs.values.Place.{PlaceOf}
 use Rattle.osm_base.specs.values.Tags.{TagMap}
 use Rattle.osm_base.proofs.KeyLaws.{key_cmp-IsAntisymmetric}
-use Rattle.middle_nodes.specs.declared.record.NodeRecord.{NodeRecord}
+use Rattle.value_bytes.specs.declared.nodes.NodeRecord.{NodeRecord}
 use Rattle.store_maps.specs.Maps.{Maps, form_in, node_in, node_record, object_in, set_object}
 use Rattle.store_maps.specs.Named.{known_on, place_in}
 use Rattle.store_maps.specs.Stands.{HoldsNode, HoldsTags, StandsOn}

@@ -5,7 +5,7 @@ use Rattle.osm_base.specs.declared.values.object.Entry.{Entry}
 use Rattle.osm_base.specs.declared.values.row.TableRow.{TableRow}
 use Rattle.osm_base.specs.values.Key.{KeyOf}
 use Rattle.style_read.specs.declared.style.TableDef.{TableDef}
-use Rattle.row_store.specs.Rows.{AreKept}
+use Rattle.store_maps.specs.Rows.{AreKept}
 use Rattle.store_maps.specs.Maps.{Maps, set_rows}
 use Rattle.store_maps.specs.Step.{change_on}
 

@@ -5,6 +5,7 @@ pub mod Filling
 pub mod Looks
 pub mod Maps
 pub mod Named
+pub mod Rows
 pub mod SameRows
 pub mod Stands
 pub mod Step

@@ -12,7 +12,7 @@ use Rattle.osm_base.specs.declared.values.object.Object.{Object}
 use Rattle.osm_base.specs.declared.values.object.Object.TheVariants.{Node}
 use Rattle.osm_base.specs.declared.values.row.TableRow.{TableRow}
 use Rattle.osm_base.specs.values.Key.{KeyOf}
-use Rattle.middle_nodes.specs.declared.record.NodeRecord.{NodeRecord}
+use Rattle.value_bytes.specs.declared.nodes.NodeRecord.{NodeRecord}
 use Rattle.object_fold.specs.Listing.{ListingOf}
 use Rattle.store_maps.specs.declared.store.TheConstants.{BLOCK}
 

@@ -7,7 +7,7 @@ use Rattle.osm_base.specs.declared.values.key.Kind.TheVariants as kinds
 use Rattle.osm_base.specs.map.Known.{Index, Known}
 use Rattle.osm_base.specs.map.Listers.{lists}
 use Rattle.osm_base.specs.values.Place.{PlaceOf}
-use Rattle.middle_nodes.specs.declared.record.NodeRecord.{NodeRecord}
+use Rattle.value_bytes.specs.declared.nodes.NodeRecord.{NodeRecord}
 use Rattle.object_fold.specs.Listing.{is_listed, listers}
 use Rattle.store_maps.specs.Maps.{Maps, block_of, object_in}
 

@@ -14,7 +14,7 @@ use Rattle.osm_base.specs.map.Objects.{ObjectSet}
 use Rattle.osm_base.specs.values.Key.{KeyOf, node_key, relation_key, way_key}
 use Rattle.osm_base.specs.values.Tags.{TagMap}
 use Rattle.style_read.specs.Style.{StyleOf}
-use Rattle.middle_nodes.specs.declared.record.NodeRecord.{NodeRecord}
+use Rattle.value_bytes.specs.declared.nodes.NodeRecord.{NodeRecord}
 use Rattle.object_fold.specs.Change.{IsOfKind}
 use Rattle.row_map.specs.Condition.{reaches_nodes}
 use Rattle.row_map.specs.Rows.{rows_in}

@@ -57,10 +57,6 @@ entry_on maps entry =
 abbrev pub change_on : Maps → List Entry → Maps
 change_on maps entries = fold entry_on maps entries
 
--- the form that an entry replaces, as the maps have it; of a node none
-abbrev pub old_entry : Maps → Entry → Entry
-old_entry maps entry = record { key = entry.key; object = form_in maps entry.key.kind entry.key.id }
-
 -- each object is of its key's kind
 abbrev pub AreProperEntries : List Entry → Type 0
 AreProperEntries entries = AllByRecursion IsProper entries

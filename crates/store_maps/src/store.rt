@@ -7,8 +7,9 @@ ghost use Rattle.osm_base.specs.values.Ids.{AreRisingIds};
 ghost use Rattle.style_read.specs.Style.{StyleOf};
 ghost use Rattle.object_fold.specs.Change.{IsOfKind};
 ghost use Rattle.object_fold.specs.Listing.{listers};
+ghost use Rattle.value_bytes.specs.declared.store_map.StoreMap.TheVariants as stored;
 ghost use Rattle.store_maps.specs.Append.{MayKeep};
-ghost use Rattle.store_maps.specs.Asked.{May, MayAnswer, MayList, MayObject, MayRows};
+ghost use Rattle.store_maps.specs.Asked.{May, MayAnswer, MayKey, MayList, MayObject, MayRows};
 ghost use Rattle.store_maps.specs.Filling.{HasNoLists, MayListAll, all_listed_on};
 ghost use Rattle.store_maps.specs.Looks.{Looks, Sets};
 ghost use Rattle.store_maps.specs.Maps.{Maps, form_in, object_in, rows_at, set_object, set_rows};
@@ -105,7 +106,7 @@ pub trait MapStore: Back {
     fn place(&mut self, id: u64) -> Result<Option<Place>, Self::Refusal>
         requires { Self.spent self.old ≡ false }
         ensures place { IfOk result (λ place. (under : Under) (maps : Maps) → holds self.old under maps → place ≡ place_in (finite.get maps.nodes id)) }
-        ensures within { (may : May) → may 0 id ≡ true → within may self.old → within may self.new }
+        ensures within { (may : May) → MayKey may stored.Nodes id → within may self.old → within may self.new }
         ensures looks { Looks holds looked Self.spent Self.bears Self.faults allowed self.old self.new result };
 
     /// The object of a key; none of a node whose tags are not known.
@@ -120,7 +121,7 @@ pub trait MapStore: Back {
         requires { Self.spent self.old ≡ false }
         ensures ids { IfOk result (λ ids. (under : Under) (maps : Maps) → holds self.old under maps → ids ≡ listers maps.relations_of_ways id) }
         ensures rising { IfOk result AreRisingIds }
-        ensures within { (may : May) → may 5 id ≡ true → within may self.old → within may self.new }
+        ensures within { (may : May) → MayKey may stored.RelationsOfWays id → within may self.old → within may self.new }
         ensures looks { Looks holds looked Self.spent Self.bears Self.faults allowed self.old self.new result };
 
     /// The rising ids of the relations that have a node as a member.
@@ -128,7 +129,7 @@ pub trait MapStore: Back {
         requires { Self.spent self.old ≡ false }
         ensures ids { IfOk result (λ ids. (under : Under) (maps : Maps) → holds self.old under maps → ids ≡ listers maps.relations_of_nodes id) }
         ensures rising { IfOk result AreRisingIds }
-        ensures within { (may : May) → may 4 id ≡ true → within may self.old → within may self.new }
+        ensures within { (may : May) → MayKey may stored.RelationsOfNodes id → within may self.old → within may self.new }
         ensures looks { Looks holds looked Self.spent Self.bears Self.faults allowed self.old self.new result };
 
     /// Where nothing is called, nothing is made.

@@ -25,7 +25,8 @@ use Rattle.osm_base.specs.map.Objects.{ObjectSet, folded, folded_all, place_in}
 use Rattle.object_fold.proofs.FoldLaws.{get-with_object}
 use Rattle.osm_base.specs.map.Listers.{is_kind, known_of}
 use Rattle.osm_base.specs.values.Ids.{has}
-use Rattle.dep_closure.specs.Ways.{line_of, Leaves}
+use Rattle.row_map.specs.Shape.{line_in}
+use Rattle.dep_closure.specs.Ways.{Leaves}
 use Rattle.tag_rows.specs.TrimmedChange.{trimmed_object, trimmed_entry, with_entry}
 use Rattle.tag_rows.specs.RowsById.{RowMap, set_row, text_of}
 use Rattle.tag_rows.specs.Lines.{way_row, object_row, of_way, lines_text}
@@ -57,7 +58,7 @@ row_by key id (Some (Way nodes tags)) found = way_row id (finite.get tags key) f
 row_by key id _ found = []
 
 row_by-object_row : (key : List ℕ) (place : ℕ → Option PlaceOf) (id : ℕ) (object : Option Object)
-    → object_row key place id object ≡ row_by key id object (line_of place object)
+    → object_row key place id object ≡ row_by key id object (line_in place object)
 row_by-object_row key place id None = refl
 row_by-object_row key place id (Some (Node own tags)) = refl
 row_by-object_row key place id (Some (Way nodes tags)) = refl

@@ -11,8 +11,8 @@ use Rattle.bucket_store.proofs.Images.{maps_with_root, maps_with_text, root_with
 use Rattle.bucket_store.proofs.Images.{texts_with_root}
 use Rattle.store_maps.specs.Maps.{Maps}
 use Rattle.store_maps.specs.Stands.{Stands}
-use Rattle.kept_maps.specs.Kept.{HoldsMaps}
-use Rattle.kept_maps.proofs.MapsKept.{kept_same}
+use Rattle.update_flow.specs.maps.Kept.{HoldsMaps}
+use Rattle.update_flow.proofs.MapsKept.{kept_same}
 use Rattle.update_flow.specs.Due.{Tiles, no_tiles}
 use Rattle.update_flow.specs.Stands.{IsImported}
 use Rattle.update_flow.specs.State.{Holding, cleared}

@@ -17,8 +17,8 @@ use Rattle.bucket_store.specs.declared.buckets.Buckets.{Buckets}
 use Rattle.bucket_store.specs.declared.opened.Opened.{Opened}
 use Rattle.store_maps.specs.Maps.{Maps}
 use Rattle.store_maps.specs.Stands.{Stands}
-use Rattle.kept_maps.specs.Calls.{IsAllowed}
-use Rattle.kept_maps.specs.Held.{HasMaps}
+use Rattle.update_flow.specs.maps.Calls.{IsAllowed}
+use Rattle.update_flow.specs.maps.Held.{HasMaps}
 use Rattle.update_step.specs.Ends.{Ends, MayRefuse}
 use Rattle.update_step.specs.declared.fault.StepFault.{StepFault}
 use Rattle.update_step.specs.declared.fault.StepFault.TheVariants as steps

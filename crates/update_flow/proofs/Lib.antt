@@ -18,3 +18,10 @@ pub mod Steps
 pub mod Turning
 pub mod OneTable
 pub mod ReadLaws
+pub mod Filled
+pub mod Findings
+pub mod Keeping
+pub mod MapsKept
+pub mod Migrations
+pub mod Settings
+pub mod Within

@@ -11,7 +11,7 @@ use Rattle.page_journal.specs.declared.fault.StoreFault.TheVariants as store
 use Rattle.page_journal.specs.declared.layout.TheConstants.{OPEN}
 use Rattle.bucket_store.specs.Image.{Image}
 use Rattle.bucket_store.specs.Needed.{FitsImage, NeedsPages}
-use Rattle.kept_maps.specs.Calls.{IsAllowed}
+use Rattle.update_flow.specs.maps.Calls.{IsAllowed}
 use Rattle.update_step.specs.Ends.{MayRefuse}
 use Rattle.update_step.specs.declared.fault.StepFault.{StepFault}
 use Rattle.update_step.specs.declared.fault.StepFault.TheVariants as steps

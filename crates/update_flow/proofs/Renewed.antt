@@ -3,8 +3,8 @@ use Rattle.std.proofs.Common.{◌≡◌, ◌<◌, ℕ, ap, ◌∙◌, arith}
 use Rattle.chain_store.specs.declared.root.Root.{Root}
 use Rattle.bucket_store.specs.Image.{Image}
 use Rattle.bucket_store.proofs.Images.{maps_with_root, root_with_root, texts_with_root}
-use Rattle.kept_maps.specs.Kept.{HoldsMaps}
-use Rattle.kept_maps.proofs.MapsKept.{kept_same}
+use Rattle.update_flow.specs.maps.Kept.{HoldsMaps}
+use Rattle.update_flow.proofs.MapsKept.{kept_same}
 use Rattle.update_flow.specs.Settling.{migrated, migrated_root}
 use Rattle.update_flow.specs.Stands.{IsImported, IsOld}
 use Rattle.update_flow.specs.State.{Holding}

@@ -21,3 +21,4 @@ pub mod Ids
 pub mod OpeningReads
 pub mod Reads
 pub mod ChangeReads
+pub mod maps

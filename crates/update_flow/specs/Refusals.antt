@@ -5,7 +5,7 @@ use Rattle.osm_base.specs.declared.values.object.Entry.{Entry}
 use Rattle.osm_base.specs.map.Pending.{PendingOf}
 use Rattle.dep_closure.specs.PendingSet.{IsPendingOf, AreTooMany, size}
 use Rattle.page_journal.specs.declared.fault.StoreFault.TheVariants as store
-use Rattle.update_flow.specs.Calls.{IsChange, MayCommit}
+use Rattle.update_flow.specs.Calls.{IsChange, IsFirst, IsForImported, MayCommit}
 use Rattle.update_flow.specs.declared.fault.FlowFault.{FlowFault}
 use Rattle.update_flow.specs.declared.fault.FlowFault.TheVariants as flow
 use Rattle.update_flow.specs.declared.fault.TheConstants.{LAST_CHANGE}
@@ -81,9 +81,12 @@ MayFind (flow.Store store.DiskFault) = Unit {0}
 MayFind flow.OutOfMemory = Unit {0}
 MayFind _ = ⊥
 
--- which calls may be refused so: too many pages are told by one that commits, and the last change and too many objects by a change
+-- which calls may be refused so: too many pages are told by one that commits, the last change and too many objects by a change, that
+-- nothing was imported by any but an import, and that something was by an import
 abbrev pub MayTell : Option Step → FlowFault → Type 0
 MayTell call (flow.Store (store.StoreFull pages)) = MayCommit call
+MayTell call flow.NotImported = IsForImported call
+MayTell call flow.AlreadyImported = IsFirst call
 MayTell call flow.LastChange = IsChange call
 MayTell call (flow.TooMany value) = IsChange call
 MayTell call _ = Unit {0}

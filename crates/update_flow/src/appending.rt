@@ -11,8 +11,7 @@ ghost use Rattle.bucket_store.specs.Image.{Has, Image};
 ghost use Rattle.bucket_store.specs.Transaction.{chains_of};
 ghost use Rattle.store_maps.specs.Asked.{May};
 ghost use Rattle.update_step.specs.Touch.{MayTouch};
-ghost use Rattle.kept_maps.specs.Calls.{buckets_of, stop_of, style_in};
-ghost use Rattle.update_flow.specs.Asked.{AreWorkers};
+ghost use Rattle.update_flow.specs.maps.Calls.{buckets_of, stop_of, style_in};
 ghost use Rattle.update_flow.specs.Changes.{AreChanges};
 ghost use Rattle.update_flow.specs.Reads.{MayLoad, ReadsOnce};
 ghost use Rattle.update_flow.specs.Stands.{IsImported};
@@ -24,14 +23,14 @@ ghost use Rattle.update_flow.specs.declared.fault.TheConstants.{LAST_CHANGE};
 use crate::due_text::load_due;
 use crate::fault::step_fault;
 use crate::ids::known_ids;
+use crate::maps::KeptMaps;
 use crate::settling::settle;
 use crate::{FlowFault, LAST_CHANGE};
-use kept_maps::KeptMaps;
+use geom_workers::Hands;
 use object_fold::Change;
 use osm_base::{Limits, RowChanges};
 use outside::{Disk, Gate};
 use page_journal::StoreFault;
-use std::alloc::Global;
 use std::thread::Threads;
 use style_read::Style;
 use tile_cover::Bounds;
@@ -40,22 +39,18 @@ use update_step::change_maps;
 /// Makes a change in the maps of a store, puts the tiles that it makes due to those that are, and commits both with this number of
 /// changes. Answers how the rows of the tables differ from then on.
 pub(crate) fn append<D: Disk, R: Threads + Sync, G: Gate>(
-    rt: &R,
-    alloc: Global,
+    hands: &Hands<'_, R, G>,
     maps: &mut KeptMaps<'_, '_, D>,
     style: &Style,
     bounds: &Bounds,
     change: &Change,
     limits: &Limits,
     number: u64,
-    workers: u32,
-    gate: &G,
 ) -> Result<RowChanges, FlowFault>
     requires ready { IsGoing (buckets_of maps.old) }
     requires fresh { stop_of maps.old ≡ None }
     requires style { style_in maps.old ≡ style.now }
     requires counted { number ≤ LAST_CHANGE }
-    requires workers { AreWorkers workers }
     ensures turns { (held : Holding) (rest : Image) → limit_in (buckets_of maps.old) ≡ limits.now.pages → Has rest rest (buckets_of maps.old)
         → IsImported held rest → held.style ≡ style.now → held.changes + 1 ≡ number
         → TurnsIn limits.now (imported held) (Append bounds.now change.now) (result_err result) (buckets_of maps.old) (buckets_of maps.new) }
@@ -70,6 +65,7 @@ pub(crate) fn append<D: Disk, R: Threads + Sync, G: Gate>(
         → ReadsOnce (MayLoad may (bucket_count (chains_of (buckets_of maps.old)))) pages (kept_of (chains_of (buckets_of maps.old)))
         (disk_of (chains_of (buckets_of maps.old))) (disk_of (chains_of (buckets_of maps.new)))) }
 {
+    let alloc = hands.alloc;
     let mut due = match load_due(alloc, &mut maps.indexed.buckets) {
         Ok(due) => due,
         Err(fault) => return Err(fault),
@@ -77,9 +73,7 @@ pub(crate) fn append<D: Disk, R: Threads + Sync, G: Gate>(
     if maps.indexed.buckets.root().buckets == 0 {
         return Err(FlowFault::Store(StoreFault::BadStore { page: 1 }));
     }
-    let told = match change_maps(
-        rt, alloc, maps, style, bounds, change, limits, workers, gate, &mut due,
-    ) {
+    let told = match change_maps(hands, maps, style, bounds, change, limits, &mut due) {
         Ok(told) => told,
         Err(why) => return Err(step_fault(why)),
     };

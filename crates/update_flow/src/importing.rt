@@ -3,7 +3,7 @@ ghost use Rattle.std.specs.Prelude.{◌≡◌, None, Some};
 ghost use Rattle.std.specs.Result.{result_err};
 ghost use Rattle.osm_base.specs.declared.bounds.limits.LimitNumbers.{LimitNumbers};
 ghost use Rattle.bucket_store.specs.Image.{Has, Image};
-ghost use Rattle.kept_maps.specs.Calls.{buckets_of, stop_of, style_in};
+ghost use Rattle.update_flow.specs.maps.Calls.{buckets_of, stop_of, style_in};
 ghost use Rattle.update_flow.specs.Asked.{MayImport};
 ghost use Rattle.update_flow.specs.Settling.{begun};
 ghost use Rattle.update_flow.specs.Stands.{IsBlank};
@@ -14,11 +14,12 @@ ghost use Rattle.update_flow.specs.Within.{IsGoing};
 use crate::fault::step_fault;
 use crate::finishing::finish;
 use crate::ids::known_ids;
+use crate::maps::KeptMaps;
 use crate::style_text::store_style;
 use crate::{FlowFault, IMPORTED, IMPORTED_FORMAT};
 use bucket_store::Buckets;
 use chain_store::Root;
-use kept_maps::KeptMaps;
+use geom_workers::Hands;
 use object_fold::Change;
 use outside::{Disk, Gate};
 use page_journal::StoreFault;
@@ -30,20 +31,17 @@ use update_step::import_maps;
 /// Gives the maps of a store that was only made so many buckets each, puts the objects of a change and their rows into them, and
 /// commits them with the style's bytes.
 pub(crate) fn import<D: Disk, R: Threads + Sync, G: Gate>(
-    rt: &R,
-    alloc: Global,
+    hands: &Hands<'_, R, G>,
     maps: &mut KeptMaps<'_, '_, D>,
     style_bytes: &[u8],
     style: &Style,
     change: Change,
     buckets: u64,
-    workers: u32,
-    gate: &G,
 ) -> Result<(), FlowFault>
     requires ready { IsGoing (buckets_of maps.old) }
     requires fresh { stop_of maps.old ≡ None }
     requires style { style_in maps.old ≡ style.now }
-    requires asked { MayImport style_bytes.now style.now buckets change workers }
+    requires asked { MayImport style_bytes.now style.now buckets change }
     ensures turns { (limits : LimitNumbers) (rest : Image) → limit_in (buckets_of maps.old) ≡ limits.pages → Has rest rest (buckets_of maps.old)
         → IsBlank rest → TurnsIn limits formatted (Import style.now style_bytes.now buckets change) (result_err result) (buckets_of maps.old) (buckets_of maps.new) }
     ensures ends { EndsIn (Some (Import style.now style_bytes.now buckets change)) (result_err result) (buckets_of maps.old) (buckets_of maps.new) }
@@ -53,8 +51,8 @@ pub(crate) fn import<D: Disk, R: Threads + Sync, G: Gate>(
     }
     known_ids(change.entries());
     maps.indexed.buckets.set_buckets(buckets);
-    match import_maps(rt, alloc, maps, style, change, workers, gate) {
-        Ok(()) => begin(alloc, &mut maps.indexed.buckets, style_bytes),
+    match import_maps(hands, maps, style, change) {
+        Ok(()) => begin(hands.alloc, &mut maps.indexed.buckets, style_bytes),
         Err(why) => Err(step_fault(why)),
     }
 }

@@ -13,6 +13,7 @@ mod fields;
 mod finishing;
 mod ids;
 mod importing;
+mod maps;
 mod migrating;
 mod opened;
 mod opening;

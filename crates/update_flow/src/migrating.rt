@@ -11,10 +11,10 @@ ghost use Rattle.update_flow.specs.Within.{IsGoing};
 
 use crate::fault::store_fault;
 use crate::finishing::finish;
+use crate::maps::migrate_nodes;
 use crate::{FlowFault, IMPORTED_FORMAT};
 use bucket_store::Buckets;
 use chain_store::Root;
-use kept_maps::migrate_nodes;
 use outside::Disk;
 use page_journal::StoreFault;
 use std::alloc::Global;

@@ -10,7 +10,7 @@ ghost use Rattle.page_journal.specs.Crash.{IsAtRest};
 ghost use Rattle.store_maps.specs.Asked.{May};
 ghost use Rattle.update_step.specs.Touch.{MayTouch};
 ghost use Rattle.update_flow.specs.ChangeReads.{ReadsTouched};
-ghost use Rattle.update_flow.specs.Asked.{AreWorkers, MayImport};
+ghost use Rattle.update_flow.specs.Asked.{MayImport};
 ghost use Rattle.update_flow.specs.Changes.{AreChanges};
 ghost use Rattle.update_flow.specs.Opening.{HoldsState};
 ghost use Rattle.update_flow.specs.State.{Append, Clear, Holding, Import, Migrate, formatted, imported, outdated};
@@ -22,11 +22,12 @@ use crate::appending::append;
 use crate::clearing::clear;
 use crate::due_text::load_due;
 use crate::importing::import;
+use crate::maps::KeptMaps;
 use crate::migrating::migrate;
 use crate::reading::load_rows;
 use crate::{FlowFault, LAST_CHANGE};
 use bucket_store::{Buckets, Opened as Stored};
-use kept_maps::KeptMaps;
+use geom_workers::Hands;
 use object_fold::Change;
 use osm_base::{Limits, RowChanges, Tables};
 use outside::{Disk, Gate};
@@ -117,8 +118,7 @@ pub(crate) fn rows_on<D: Disk>(
 
 /// The first import, in one commit.
 pub(crate) fn import_on<D: Disk, R: Threads + Sync, G: Gate>(
-    rt: &R,
-    alloc: Global,
+    hands: &Hands<'_, R, G>,
     disk: &mut D,
     limits: &Limits,
     store: Stored,
@@ -127,35 +127,22 @@ pub(crate) fn import_on<D: Disk, R: Threads + Sync, G: Gate>(
     style: &Style,
     change: Change,
     buckets: u64,
-    workers: u32,
-    gate: &G,
 ) -> Result<(), FlowFault>
-    requires asked { MayImport style_bytes.now style.now buckets change workers }
+    requires asked { MayImport style_bytes.now style.now buckets change }
     ensures turns { Fits store (D.view disk.old) → HoldsState formatted (D.view disk.old)
         → TurnsOn limits.now formatted (Import style.now style_bytes.now buckets change) (result_err result) (D.view disk.old) (D.view disk.new) kept.new }
     ensures ends { EndsOn (Some (Import style.now style_bytes.now buckets change)) (result_err result) (D.view disk.old) (D.view disk.new) kept.new }
 {
-    let opened = Buckets::on(alloc, disk, limits, store);
-    let mut maps = KeptMaps::over(alloc, opened, style);
-    let done = import(
-        rt,
-        alloc,
-        &mut maps,
-        style_bytes,
-        style,
-        change,
-        buckets,
-        workers,
-        gate,
-    );
+    let opened = Buckets::on(hands.alloc, disk, limits, store);
+    let mut maps = KeptMaps::over(hands.alloc, opened, style);
+    let done = import(hands, &mut maps, style_bytes, style, change, buckets);
     let _disk = maps.close().hand_back(kept);
     done
 }
 
 /// A change, in one commit, which makes so many changes. Answers how the rows of the tables differ from then on.
 pub(crate) fn append_on<D: Disk, R: Threads + Sync, G: Gate>(
-    rt: &R,
-    alloc: Global,
+    hands: &Hands<'_, R, G>,
     disk: &mut D,
     limits: &Limits,
     store: Stored,
@@ -164,11 +151,8 @@ pub(crate) fn append_on<D: Disk, R: Threads + Sync, G: Gate>(
     bounds: &Bounds,
     change: &Change,
     number: u64,
-    workers: u32,
-    gate: &G,
 ) -> Result<RowChanges, FlowFault>
     requires counted { number ≤ LAST_CHANGE }
-    requires workers { AreWorkers workers }
     ensures turns { (held : Holding) → Fits store (D.view disk.old) → HoldsState (imported held) (D.view disk.old) → held.style ≡ style.now
         → held.changes + 1 ≡ number
         → TurnsOn limits.now (imported held) (Append bounds.now change.now) (result_err result) (D.view disk.old) (D.view disk.new) kept.new }
@@ -179,11 +163,9 @@ pub(crate) fn append_on<D: Disk, R: Threads + Sync, G: Gate>(
         → ReadsTouched may held.buckets pages (D.view disk.old) (D.view disk.new)) }
     ensures ends { EndsOn (Some (Append bounds.now change.now)) (result_err result) (D.view disk.old) (D.view disk.new) kept.new }
 {
-    let buckets = Buckets::on(alloc, disk, limits, store);
-    let mut maps = KeptMaps::over(alloc, buckets, style);
-    let told = append(
-        rt, alloc, &mut maps, style, bounds, change, limits, number, workers, gate,
-    );
+    let buckets = Buckets::on(hands.alloc, disk, limits, store);
+    let mut maps = KeptMaps::over(hands.alloc, buckets, style);
+    let told = append(hands, &mut maps, style, bounds, change, limits, number);
     let _disk = maps.close().hand_back(kept);
     told
 }

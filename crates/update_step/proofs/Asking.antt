@@ -1,15 +1,14 @@
 -- Answers that are kept, one more and many more.
-use Rattle.std.proofs.Common.{◌≡◌, ◌<◌, ℕ, ◌+◌, true, false, cond, List, [], ◌∷◌, ◌++◌, append_assoc, get_or, length, map, take, Option}
+use Rattle.std.proofs.Common.{◌≡◌, ◌<◌, ℕ, ◌+◌, true, false, cond, List, [], ◌∷◌, ◌++◌, get_or, length, take, Option}
 use Rattle.std.proofs.Common.{Some, refl, sym, ap, subst, ◌∙◌}
 use mathlib.Core.Bool.{false≢true}
 use Rattle.std.specs.Cmp.{IsTotalOrder, Equal-is, nat_cmp_total}
 use Rattle.std.specs.declared.cmp.Ordering.{Ordering}
 use Rattle.std.specs.FinMap as finite
 use Rattle.std.specs.FinMap.{IsAntisymmetric, nat_cmp-IsAntisymmetric}
-use Rattle.std.specs.List.{flat_map}
 use Rattle.std.specs.Option.{is_some, unwrap_or}
 use Rattle.std.specs.Ordering.{eq_by_cmp, nat_cmp}
-use Rattle.std.proofs.lemmas.List.{append-nil, take_more}
+use Rattle.std.proofs.lemmas.List.{take_more}
 use Rattle.std.proofs.lemmas.Cmp.{tied_itself}
 use Rattle.osm_base.specs.declared.values.object.Object.{Object}
 use Rattle.osm_base.specs.map.Known.{Known}
@@ -159,7 +158,7 @@ pub asked-back : (g : Gathered) (asks more : List Ask) → AreAsked g (asks ++ m
 asked-back g [] more all = all
 asked-back g (ask ∷ asks) more all = asked-back g asks more all.1
 
-asked-grows : (old new : Gathered) (asks : List Ask) → Grows old new → AreAsked old asks → AreAsked new asks
+pub asked-grows : (old new : Gathered) (asks : List Ask) → Grows old new → AreAsked old asks → AreAsked new asks
 asked-grows old new [] grows all = tt
 asked-grows old new (ask ∷ asks) grows all = (grows ask all.0, asked-grows old new asks grows all.1)
 
@@ -172,42 +171,14 @@ then-gathers to first second third asks more one other = record {
   asked = asked-append third asks more (asked-grows second third asks other.grows one.asked) other.asked;
 }
 
--- the order does not matter
-pub turned-gathers : (to : Known) (first second : Gathered) (asks more : List Ask) → Gathers to first second (asks ++ more)
-    → Gathers to first second (more ++ asks)
-turned-gathers to first second asks more all = record {
-  right = all.right;
-  grows = all.grows;
-  asked = asked-append second more asks (asked-back second asks more all.asked) (asked-front second asks more all.asked);
-}
-
-flat-append : {X Y : Type 0} (of : X → List Y) (xs ys : List X) → flat_map of (xs ++ ys) ≡ flat_map of xs ++ flat_map of ys
-flat-append of [] ys = refl
-flat-append of (x ∷ xs) ys = ap (λ rest. of x ++ rest) (flat-append of xs ys) ∙ sym (append_assoc (of x) (flat_map of xs) (flat_map of ys))
-
 -- of one more in a list
-pub more-gathers : {X : Type 0} (of : X → List Ask) (to : Known) (first second third : Gathered) (xs : List X) (at : ℕ) (x default : X)
-    → at < length xs → x ≡ get_or xs at default
-    → Gathers to first second (flat_map of (take at xs)) → Gathers to second third (of x)
-    → Gathers to first third (flat_map of (take (at + 1) xs))
-more-gathers of to first second third xs at x default below is one other =
-    subst (Gathers to first third) (sym (ap (flat_map of) (take_more xs at default below ∙ ap (λ own. take at xs ++ own ∷ []) (sym is))
-    ∙ flat-append of (take at xs) (x ∷ []) ∙ ap (λ rest. flat_map of (take at xs) ++ rest) (append-nil (of x))))
-    (then-gathers to first second third (flat_map of (take at xs)) (of x) one other)
-
--- and so where each makes one ask
-map-flat : {X : Type 0} (of : X → Ask) (xs : List X) → flat_map (λ x. of x ∷ []) xs ≡ map of xs
-map-flat of [] = refl
-map-flat of (x ∷ xs) = ap (λ rest. of x ∷ rest) (map-flat of xs)
-
-pub one-more-gathers : {X : Type 0} (of : X → Ask) (to : Known) (first second third : Gathered) (xs : List X) (at : ℕ) (x default : X)
-    → at < length xs → x ≡ get_or xs at default
-    → Gathers to first second (map of (take at xs)) → Gathers to second third (of x ∷ [])
-    → Gathers to first third (map of (take (at + 1) xs))
-one-more-gathers of to first second third xs at x default below is one other =
-    subst (Gathers to first third) (map-flat of (take (at + 1) xs))
-    (more-gathers (λ x. of x ∷ []) to first second third xs at x default below is
-    (subst (Gathers to first second) (sym (map-flat of (take at xs))) one) other)
+pub next-gathers : (to : Known) (first second third : Gathered) (asks : List Ask) (at : ℕ) (ask default : Ask) → at < length asks
+    → ask ≡ get_or asks at default
+    → Gathers to first second (take at asks) → Gathers to second third (ask ∷ [])
+    → Gathers to first third (take (at + 1) asks)
+next-gathers to first second third asks at ask default below is one other =
+    subst (Gathers to first third) (sym (take_more asks at default below ∙ ap (λ own. take at asks ++ own ∷ []) (sym is)))
+    (then-gathers to first second third (take at asks) (ask ∷ []) one other)
 
 -- by nothing nothing is said
 never-asked : (ask : Ask) → was_asked nothing_gathered ask ≡ false

@@ -71,7 +71,7 @@ pub fold-more : {X Y : Type 0} (of : Y → X → Y) (start : Y) (xs : List X) (a
     → fold of start (take (at + 1) xs) ≡ of (fold of start (take at xs)) x
 fold-more of start xs at x below is = fold_more of start xs at x below ∙ ap (of (fold of start (take at xs))) (sym is)
 
-flat-append : {X Y : Type 0} (of : X → List Y) (xs ys : List X) → flat_map of (xs ++ ys) ≡ flat_map of xs ++ flat_map of ys
+pub flat-append : {X Y : Type 0} (of : X → List Y) (xs ys : List X) → flat_map of (xs ++ ys) ≡ flat_map of xs ++ flat_map of ys
 flat-append of [] ys = refl
 flat-append of (x ∷ xs) ys = ap (λ rest. of x ++ rest) (flat-append of xs ys) ∙ sym (append_assoc (of x) (flat_map of xs) (flat_map of ys))
 
@@ -80,6 +80,15 @@ pub flat-more : {X Y : Type 0} (of : X → List Y) (xs : List X) (at : ℕ) (x d
 flat-more of xs at x default below is =
     ap (flat_map of) (take_more xs at default below ∙ ap (λ own. take at xs ++ own ∷ []) (sym is)) ∙ flat-append of (take at xs) (x ∷ [])
     ∙ ap (λ rest. flat_map of (take at xs) ++ rest) (append-nil (of x))
+
+map_last : {X Y : Type 0} (of : X → Y) (xs : List X) (x : X) → map of (xs ++ x ∷ []) ≡ map of xs ++ of x ∷ []
+map_last of [] x = refl
+map_last of (first ∷ xs) x = ap (λ rest. of first ∷ rest) (map_last of xs x)
+
+pub map-more : {X Y : Type 0} (of : X → Y) (xs : List X) (at : ℕ) (x default : X) → at < length xs → x ≡ get_or xs at default
+    → map of (take (at + 1) xs) ≡ map of (take at xs) ++ of x ∷ []
+map-more of xs at x default below is =
+    ap (map of) (take_more xs at default below ∙ ap (λ own. take at xs ++ own ∷ []) (sym is)) ∙ map_last of (take at xs) x
 
 or-false : (b : Bool) → (b || false) ≡ b
 or-false true = refl

@@ -1,11 +1,13 @@
 pub mod AfterForms
 pub mod Asking
 pub mod Building
+pub mod ByTables
 pub mod DueLaws
 pub mod Endings
 pub mod EntryLists
 pub mod Filled
 pub mod Imported
+pub mod InRounds
 pub mod KeyedLists
 pub mod Manual
 pub mod NamedKeys

@@ -20,6 +20,8 @@ use Rattle.style_read.specs.Style.{StyleOf}
 use Rattle.object_fold.specs.Listing.{ListingOf}
 use Rattle.row_map.specs.Wanted.{may_have_rows}
 use Rattle.update_step.specs.declared.answers.Answers.{Answers}
+pub use Rattle.update_step.specs.declared.asks.Ask.{Ask}
+pub use Rattle.update_step.specs.declared.asks.Ask.TheVariants.{AlongWay, AroundNode, AtNode, OfKey}
 
 -- the answers that are kept: that there is nothing is an answer too
 pub record Gathered : Type 0 where
@@ -49,13 +51,6 @@ known_in gathered = record {
   relations_of_way = λ id. unwrap_or (finite.get gathered.along_ways id) [];
   relations_of_node = λ id. unwrap_or (finite.get gathered.around_nodes id) [];
 }
-
--- what may be asked: the place of a node, the object of a key, and the relations that have a way or a node as a member
-pub data Ask : Type 0 where
-  AtNode : ℕ → Ask
-  OfKey : KeyOf → Ask
-  AlongWay : ℕ → Ask
-  AroundNode : ℕ → Ask
 
 -- two know the same of it
 abbrev pub Same : Known → Known → Ask → Type 0

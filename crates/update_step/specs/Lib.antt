@@ -7,5 +7,7 @@ pub mod Lacking
 pub mod Looks
 pub mod NewObjects
 pub mod Old
+pub mod Rounds
 pub mod Suffices
 pub mod Touch
+pub mod Turned

@@ -1,7 +1,9 @@
 //! What a store answered, kept for the rows that are built of it.
 ghost use Rattle.std.specs.Prelude.{◌≡◌, OnOk};
-ghost use Rattle.update_step.specs.Gather.{AtNode, gathered_in, known_in, nothing_gathered, was_asked, with_along, with_around, with_form, with_place};
+ghost use Rattle.std.specs.Option.{option_copied};
+ghost use Rattle.update_step.specs.Gather.{gathered_in, joined, known_in, nothing_gathered, was_asked, with_along, with_around, with_form, with_place};
 
+use crate::asks::Ask;
 use crate::listers::Listers;
 use osm_base::{Key, Lookup, Object, OutOfMemory, Place};
 use std::alloc::Global;
@@ -29,11 +31,23 @@ impl Answers {
         }
     }
 
-    /// Whether the place of a node was asked.
-    pub(crate) fn has_place(&self, id: u64) -> bool
-        ensures asked { result ≡ was_asked (gathered_in self.now) (AtNode id) }
+    /// Whether this was asked.
+    pub(crate) fn has(&self, ask: &Ask) -> bool
+        ensures asked { result ≡ was_asked (gathered_in self.now) ask.now }
     {
-        self.places.contains_key(&id)
+        match *ask {
+            Ask::AtNode(id) => self.places.contains_key(&id),
+            Ask::OfKey(key) => self.forms.contains_key(&key),
+            Ask::AlongWay(id) => self.along_ways.contains_key(&id),
+            Ask::AroundNode(id) => self.around_nodes.contains_key(&id),
+        }
+    }
+
+    /// The object of a key. `None`: it was not asked.
+    pub(crate) fn form(&self, key: Key) -> Option<&Option<Object>>
+        ensures form { joined (option_copied result) ≡ (known_in (gathered_in self.now)).object key }
+    {
+        self.forms.get(&key)
     }
 
     /// Keeps the place of a node.
@@ -80,7 +94,7 @@ impl Lookup for Answers {
     }
 
     fn object_of(&self, key: Key) -> Option<&Object> {
-        match self.forms.get(&key) {
+        match self.form(key) {
             Some(form) => form.as_ref(),
             None => None,
         }

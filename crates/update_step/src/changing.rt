@@ -11,36 +11,32 @@ ghost use Rattle.update_step.specs.Looks.{Goes};
 ghost use Rattle.update_step.specs.Touch.{MayTouch};
 
 use crate::StepFault;
+use crate::entries::{apply_change, old_relations};
 use crate::lacking::keys_lacking;
-use crate::pending_keys::changed_keys;
+use crate::pending_keys::keys_due;
 use crate::rebuilding::rebuild;
+use geom_workers::Hands;
 use object_fold::Change;
 use osm_base::{Limits, RowChanges};
 use outside::Gate;
-use std::alloc::Global;
 use std::thread::Threads;
 use store_maps::MapStore;
 use style_read::Style;
 use tile_cover::{Bounds, TileRuns};
 
-/// Makes a change in a store, and rebuilds what depends on it by so many workers. Answers how the rows of the tables differ from
+/// Makes a change in a store, and rebuilds what depends on it by all workers. Answers how the rows of the tables differ from
 /// then on, each change once, by key and then by table, and puts to `due` the tiles that this makes due.
 pub fn change_maps<S: MapStore, R: Threads + Sync, G: Gate>(
-    rt: &R,
-    alloc: Global,
+    hands: &Hands<'_, R, G>,
     store: &mut S,
     style: &Style,
     bounds: &Bounds,
     change: &Change,
     limits: &Limits,
-    workers: u32,
-    gate: &G,
     due: &mut TileRuns,
 ) -> Result<RowChanges, StepFault<S::Refusal>>
     requires spent { S.spent store.old ≡ false }
     requires style { S.style store.old ≡ style.now }
-    requires one_worker { 1 ≤ workers }
-    requires few_workers { workers ≤ 64 }
 
     // Where its maps stand for objects, they stand for those after it then.
     ensures changes { (under : S.Under) (maps : Maps) (objects : ObjectSet) → S.holds store.old under maps → Stands style.now maps objects
@@ -52,14 +48,15 @@ pub fn change_maps<S: MapStore, R: Threads + Sync, G: Gate>(
     ensures goes { Goes S.MapStore.own S.Back (λ value. (under : S.Under) (maps : Maps) (objects : ObjectSet) → S.holds store.old under maps → Stands style.now maps objects
         → AreTooMany limits.now.pending (λ set. IsPendingOf style.now objects change.now set) value) store.old store.new result }
 {
+    let alloc = hands.alloc;
     let _entries = change.entries();
     let _most = limits.pending();
     let lacking = keys_lacking(alloc, store, style, change)?;
     let lacking = lacking.as_slice();
-    match changed_keys(alloc, store, style, change, limits) {
-        Ok(set) => rebuild(
-            rt, alloc, store, style, bounds, &set, lacking, workers, gate, due,
-        ),
+    let old = old_relations(alloc, store, change)?;
+    apply_change(store, change).map_err(StepFault::Store)?;
+    match keys_due(alloc, store, style, change, &old, limits) {
+        Ok(set) => rebuild(hands, store, style, bounds, &set, lacking, due),
         Err(why) => Err(why),
     }
 }

@@ -22,7 +22,7 @@ ghost use Rattle.update_step.specs.Looks.{Goes};
 
 use crate::StepFault;
 use crate::new_objects::NewObjects;
-use geom_workers::{Built, MAX_KEYS, build_all, key_count, key_of};
+use geom_workers::{Built, Hands, MAX_KEYS, build_all, key_count, key_of};
 use object_fold::Change;
 use osm_base::{
     Entry, Ids, Key, Kind, MAX_ID, MAX_PENDING, OutOfMemory, PendingSet, RowLists, TableRows,
@@ -102,24 +102,19 @@ fn put_objects<S: MapStore>(store: &mut S, entries: &[Entry]) -> Result<(), S::R
     Ok(())
 }
 
-/// The rows of these keys, which so many workers build of the objects of the entries, in memory.
+/// The rows of these keys, which all workers build of the objects of the entries, in memory.
 fn rows_of<R: Threads + Sync, G: Gate>(
-    rt: &R,
-    alloc: Global,
+    hands: &Hands<'_, R, G>,
     style: &Style,
     change: Change,
     keys: &PendingSet,
-    workers: u32,
-    gate: &G,
 ) -> Result<RowLists, OutOfMemory>
-    requires one_worker { 1 ≤ workers }
-    requires few_workers { workers ≤ 64 }
     requires few { length (keys_of keys.now) ≤ MAX_KEYS }
     ensures rows { IfOk result (λ rows. rows ≡ map (rows_in style.now (folded_all finite.empty change)) (keys_of keys.now)) }
     ensures kept { IfOk result (AllByRecursion (MayKeep style.now.tables)) }
 {
-    let objects = NewObjects::of(alloc, change)?;
-    let Built { rows, .. } = build_all(rt, alloc, workers, style, keys, &objects, gate)?;
+    let objects = NewObjects::of(hands.alloc, change)?;
+    let Built { rows, .. } = build_all(hands, style, keys, &objects)?;
     Ok(rows)
 }
 
@@ -161,21 +156,16 @@ fn put_all<S: MapStore>(
     Ok(())
 }
 
-/// Puts the objects of entries into a store without any, with their rows, which so many workers build.
+/// Puts the objects of entries into a store without any, with their rows, which all workers build.
 pub fn import_maps<S: MapStore, R: Threads + Sync, G: Gate>(
-    rt: &R,
-    alloc: Global,
+    hands: &Hands<'_, R, G>,
     store: &mut S,
     style: &Style,
     change: Change,
-    workers: u32,
-    gate: &G,
 ) -> Result<(), StepFault<S::Refusal>>
     requires spent { S.spent store.old ≡ false }
     requires style { S.style store.old ≡ style.now }
     requires few { length change ≤ MAX_PENDING }
-    requires one_worker { 1 ≤ workers }
-    requires few_workers { workers ≤ 64 }
     ensures stands { OnOk result ((under : S.Under) → S.holds store.old under empty_maps
         → (after : Maps) × S.holds store.new under after × Stands style.now after (folded_all finite.empty change)) }
     ensures allowed { (under : S.Under) → S.holds store.old under empty_maps → IfErr result (MayRefuse S.allowed) }
@@ -184,9 +174,9 @@ pub fn import_maps<S: MapStore, R: Threads + Sync, G: Gate>(
     ensures goes { Goes S.MapStore.own S.Back (λ _. ⊥) store.old store.new result }
 {
     let _entries = change.entries();
-    let keys = wanted_keys(alloc, style, &change)?;
+    let keys = wanted_keys(hands.alloc, style, &change)?;
     add_entries(store, &change).map_err(StepFault::Store)?;
-    let rows = rows_of(rt, alloc, style, change, &keys, workers, gate)?;
+    let rows = rows_of(hands, style, change, &keys)?;
     match put_all(store, &keys, rows.as_slice()) {
         Ok(()) => Ok(()),
         Err(refusal) => Err(StepFault::Store(refusal)),

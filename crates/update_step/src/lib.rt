@@ -7,9 +7,9 @@
 #![tactic(auto)]
 
 mod answers;
+mod asks;
 mod changing;
 mod entries;
-mod expiring;
 mod fault;
 mod gathering;
 mod importing;
@@ -20,7 +20,7 @@ mod new_objects;
 mod pending_keys;
 mod rebuilding;
 mod row_lists;
-mod telling;
+mod turns;
 
 pub use changing::change_maps;
 pub use fault::StepFault;

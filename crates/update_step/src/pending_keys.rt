@@ -1,4 +1,4 @@
-//! A change in the maps, and the keys whose rows it may change.
+//! The keys whose rows a change may change.
 ghost use Rattle.std.specs.Prelude.{◌≡◌, ◌≤◌, false, IfOk, IfErr, OnOk};
 ghost use Rattle.osm_base.specs.map.Objects.{ObjectSet, folded_all};
 ghost use Rattle.row_map.specs.Condition.{reaches_nodes};
@@ -7,13 +7,11 @@ ghost use Rattle.store_maps.specs.Asked.{May};
 ghost use Rattle.store_maps.specs.Maps.{Maps};
 ghost use Rattle.store_maps.specs.Named.{WaysAreThere};
 ghost use Rattle.store_maps.specs.Stands.{StandsOn};
-ghost use Rattle.store_maps.specs.Step.{change_on};
 ghost use Rattle.update_step.specs.Ends.{MayRefuse, of_pending};
 ghost use Rattle.update_step.specs.Looks.{Goes};
 ghost use Rattle.update_step.specs.Touch.{MayTouch};
 
 use crate::StepFault;
-use crate::entries::{apply_change, old_relations};
 use dep_closure::{PendingFault, pending};
 use object_fold::{Change, Objects};
 use osm_base::{Limits, PendingSet};
@@ -33,7 +31,7 @@ fn step_fault<E>(why: PendingFault<E>) -> StepFault<E>
 }
 
 /// The keys whose rows a change may change, which the maps have seen. `old` has the relations that it replaced.
-fn keys_due<S: MapStore>(
+pub(crate) fn keys_due<S: MapStore>(
     alloc: Global,
     store: &mut S,
     style: &Style,
@@ -57,33 +55,5 @@ fn keys_due<S: MapStore>(
     match pending(alloc, style, change, store, old, limits) {
         Ok(set) => Ok(set),
         Err(why) => Err(step_fault(why)),
-    }
-}
-
-/// Sets what a change says, and finds the keys whose rows it may change.
-pub(crate) fn changed_keys<S: MapStore>(
-    alloc: Global,
-    store: &mut S,
-    style: &Style,
-    change: &Change,
-    limits: &Limits,
-) -> Result<PendingSet, StepFault<S::Refusal>>
-    requires spent { S.spent store.old ≡ false }
-    ensures pending { IfOk result (λ set. (under : S.Under) (maps : Maps) (objects : ObjectSet) → S.holds store.old under maps → StandsOn (reaches_nodes style.now) maps objects
-        → IsPendingOf style.now objects change.now set × LeavesRows style.now objects change.now set) }
-    ensures few { IfOk result (λ set. size set ≤ limits.now.pending) }
-    ensures holds { OnOk result ((under : S.Under) (maps : Maps) → S.holds store.old under maps → S.holds store.new under (change_on maps change.now)) }
-    ensures within { (under : S.Under) (maps : Maps) (objects : ObjectSet) → S.holds store.old under maps → StandsOn (reaches_nodes style.now) maps objects
-        → (may : May) → MayTouch style.now objects change.now may → S.within may store.old → S.within may store.new }
-    ensures allowed { (under : S.Under) (maps : Maps) (objects : ObjectSet) → S.holds store.old under maps → StandsOn (reaches_nodes style.now) maps objects
-        → IfErr result (MayRefuse S.allowed) }
-    ensures goes { Goes S.MapStore.own S.Back (λ value. (under : S.Under) (maps : Maps) (objects : ObjectSet) → S.holds store.old under maps → StandsOn (reaches_nodes style.now) maps objects
-        → AreTooMany limits.now.pending (λ set. IsPendingOf style.now objects change.now set) value) store.old store.new result }
-{
-    let _entries = change.entries();
-    let old = old_relations(alloc, store, change)?;
-    match apply_change(store, change) {
-        Ok(()) => keys_due(alloc, store, style, change, &old, limits),
-        Err(refusal) => Err(StepFault::Store(refusal)),
     }
 }

@@ -7,16 +7,17 @@ ghost use Rattle.geom_workers.specs.Keys.{keys_of};
 ghost use Rattle.store_maps.specs.Append.{MayKeep, set_all_rows};
 ghost use Rattle.store_maps.specs.Asked.{May, MayRows};
 ghost use Rattle.store_maps.specs.Looks.{Sets};
-ghost use Rattle.store_maps.specs.Maps.{Maps, all_kept, rows_at, set_rows, unless_empty};
+ghost use Rattle.store_maps.specs.Maps.{Maps, rows_at, set_rows, unless_empty};
 ghost use Rattle.store_maps.specs.Stands.{HoldsRows};
 ghost use Rattle.update_step.specs.Lacking.{AreLacking};
 ghost use Rattle.update_step.specs.Looks.{Looks};
 ghost use Rattle.update_step.specs.Touch.{MayAllRows};
+ghost use Rattle.update_step.specs.Turned.{HasTurned};
 
 use crate::StepFault;
 use crate::looking::rows_of;
 use geom_workers::{MAX_KEYS, key_count, key_of};
-use osm_base::{Key, OutOfMemory, PendingSet, RowLists, Same, TableRow, TableRows};
+use osm_base::{Key, OutOfMemory, PendingSet, RowLists, TableRows};
 use std::alloc::Global;
 use store_maps::MapStore;
 
@@ -40,25 +41,8 @@ fn is_among(keys: &[Key], key: Key) -> bool
     keys.binary_search(&key).is_ok()
 }
 
-/// The rows that a store has of a key.
+/// The rows that a store has of a key. A key that is one of these is without rows and is not looked up.
 fn rows_before<S: MapStore>(
-    alloc: Global,
-    store: &mut S,
-    key: Key,
-) -> Result<TableRows, StepFault<S::Refusal>>
-    requires spent { S.spent store.old ≡ false }
-    ensures kept { IfOk result (λ kept. (under : S.Under) (maps : Maps) → S.holds store.old under maps → kept ≡ all_kept maps key) }
-    ensures within { (may : May) → MayRows may key → S.within may store.old → S.within may store.new }
-    ensures looks { Looks S.MapStore.own S.Back store.old store.new result }
-{
-    match rows_of(store, key)? {
-        Some(rows) => Ok(rows),
-        None => Ok(TableRows::new(alloc)),
-    }
-}
-
-/// The same, where a key that is one of these is without rows and is not looked up.
-fn rows_unless<S: MapStore>(
     alloc: Global,
     store: &mut S,
     key: Key,
@@ -73,7 +57,11 @@ fn rows_unless<S: MapStore>(
     if is_among(lacking, key) {
         return Ok(TableRows::new(alloc));
     }
-    rows_before(alloc, store, key)
+    let kept = rows_of(store, key)?;
+    match kept {
+        Some(rows) => Ok(rows),
+        None => Ok(TableRows::new(alloc)),
+    }
 }
 
 /// The rows that a store has of each of these keys. `lacking` are keys without any.
@@ -92,54 +80,54 @@ pub(crate) fn all_before<S: MapStore>(
 {
     let mut all = RowLists::new(alloc);
     for &key in keys {
-        let rows = rows_unless(alloc, store, key, lacking)?;
+        let rows = rows_before(alloc, store, key, lacking)?;
         all.push(rows)?;
     }
     Ok(all)
 }
 
-/// A key has these rows from now on. Where it had the same before, nothing is to be done.
-fn put_changed<S: MapStore>(
+/// A key has these rows from now on. Where it has them already, nothing is to be done.
+fn put_turned<S: MapStore>(
     store: &mut S,
     key: Key,
-    old: &[TableRow],
+    turned: bool,
     new: &TableRows,
 ) -> Result<(), S::Refusal>
     requires spent { S.spent store.old ≡ false }
     requires kept { MayKeep (S.style store.old).tables new.now }
     ensures holds { OnOk result ((under : S.Under) (maps : Maps) → S.holds store.old under maps
-        → (old.now ≡ new.now → rows_at maps key.kind key.id ≡ unless_empty new.now) → S.holds store.new under (set_rows maps key.kind key.id new.now)) }
+        → (turned ≡ false → rows_at maps key.kind key.id ≡ unless_empty new.now) → S.holds store.new under (set_rows maps key.kind key.id new.now)) }
     ensures within { (may : May) → MayRows may key → S.within may store.old → S.within may store.new }
     ensures allowed { (under : S.Under) (maps : Maps) → S.holds store.old under maps → IfErr result S.allowed }
     ensures sets { Sets S.looked S.spent S.bears S.faults store.old store.new result }
 {
-    if TableRow::are_same(old, new.as_slice()) {
+    if !turned {
         return Ok(());
     }
     store.set_rows(key, new)?;
     Ok(())
 }
 
-/// Each of these keys has its new rows.
+/// Each of these keys has its new rows. `turned` tells of each whether they differ from those that it had.
 pub(crate) fn put_rows<S: MapStore>(
     store: &mut S,
     keys: &[Key],
-    olds: &[TableRows],
+    turned: &[bool],
     news: &[TableRows],
 ) -> Result<(), S::Refusal>
     requires spent { S.spent store.old ≡ false }
-    requires olds { length olds.now ≡ length keys.now }
+    requires turned { length turned.now ≡ length keys.now }
     requires news { length news.now ≡ length keys.now }
     requires kept { AllByRecursion (MayKeep (S.style store.old).tables) news.now }
-    ensures holds { OnOk result ((under : S.Under) (maps : Maps) (old new : KeyOf → List RowOfTable) → olds.now ≡ map old keys.now → news.now ≡ map new keys.now
-        → HoldsRows maps old → S.holds store.old under maps → S.holds store.new under (set_all_rows maps new keys.now)) }
+    ensures holds { OnOk result ((under : S.Under) (maps : Maps) (old new : KeyOf → List RowOfTable) → S.holds store.old under maps
+        → HasTurned (length (S.style store.old).tables) maps keys.now old new turned.now news.now → S.holds store.new under (set_all_rows maps new keys.now)) }
     ensures within { (may : May) → MayAllRows may keys.now → S.within may store.old → S.within may store.new }
-    ensures allowed { (under : S.Under) (maps : Maps) (old new : KeyOf → List RowOfTable) → olds.now ≡ map old keys.now → news.now ≡ map new keys.now
-        → HoldsRows maps old → S.holds store.old under maps → IfErr result S.allowed }
+    ensures allowed { (under : S.Under) (maps : Maps) (old new : KeyOf → List RowOfTable) → S.holds store.old under maps
+        → HasTurned (length (S.style store.old).tables) maps keys.now old new turned.now news.now → IfErr result S.allowed }
     ensures sets { Sets S.looked S.spent S.bears S.faults store.old store.new result }
 {
     for index in 0..keys.len() {
-        put_changed(store, keys[index], olds[index].as_slice(), &news[index])?;
+        put_turned(store, keys[index], turned[index], &news[index])?;
     }
     Ok(())
 }

@@ -1,4 +1,5 @@
 pub mod Asked
+pub mod NoStoreFaults
 pub mod Manual
 pub mod WordLists
 pub mod Deeds

@@ -22,7 +22,7 @@ use Rattle.updater.specs.Heads.{GoesOn, IsHead}
 use Rattle.run_promise.specs.Progress.{Progress, plus}
 use Rattle.run_promise.specs.World.{Before, World, world}
 use Rattle.updater.proofs.HeadLaws.{ends_here, past_text, refuses_here, stops_in_line}
-use Rattle.updater.proofs.StoreDeeds.{refused_step, shows_here, taken}
+use Rattle.updater.proofs.StoreDeeds.{IsRefusedSo, refused_step, shows_here, taken}
 use Rattle.updater.proofs.StoreRuns.{true_not}
 use Rattle.updater.proofs.VersionRuns.{goes_back}
 
@@ -81,13 +81,12 @@ module _ (start done : Progress) (next : ℕ) (old : Before) (files : FilesView)
 
   module _ (state : State) (head : Here state) (is_outdated : is_old before ≡ true) (now : Handle) where
     pub migrate_refused : (fault : FlowFault) → ((own : State) → IsOpen own before → Takes own Migrate (Some fault) before now)
-        → IsCallFault fault → (fault ≡ flow.Store stores.Broken → is_whole before ≡ false)
-        → (fault ≡ flow.OldFormat → ⊥) → HasFlowCause (Some fault) (view_of before) (view_of now)
+        → IsRefusedSo (Some Migrate) fault before now → (fault ≡ flow.OldFormat → ⊥)
         → GoesOn (migrates state) start done (Some (flow_fault fault)) old (world files (view_of now) output)
-    migrate_refused fault takes call broken never cause =
+    migrate_refused fault takes so never =
         if_outdated state head is_outdated (Some (flow_fault fault)) (world files (view_of now) output)
-        (λ held head. refused_step start done (outdated held) next old files before now output head Migrate fault takes call broken never
-        cause (tells format_line ends))
+        (λ held head. refused_step start done (outdated held) next old files before now output head Migrate tt fault takes so never
+        (tells format_line ends))
 
     pub migrate_done : ((own : State) → IsOpen own before → Takes own Migrate None before now)
         → ((held : Holding) → Shows (outdated held) before → Shows (imported held) now) → is_whole now ≡ is_whole before

@@ -9,9 +9,9 @@ use Rattle.std.specs.Prelude.{IfSome}
 use Rattle.std.proofs.lemmas.List.{drop_more}
 use Rattle.updater.specs.declared.options.Allowed.{Allowed}
 use Rattle.updater.specs.declared.options.Options.{Options}
-use Rattle.updater.specs.declared.options.TheConstants.{BUCKETS, READERS, WORKERS}
-use Rattle.run_promise.specs.declared.ranges.TheConstants.{MAX_BUCKETS, MAX_READERS, MAX_WORKERS}
-use Rattle.run_promise.specs.CommandOf.{AreBuckets, AreReaders, AreWorkers}
+use Rattle.updater.specs.declared.options.TheConstants.{BUCKETS, READERS}
+use Rattle.run_promise.specs.declared.ranges.TheConstants.{MAX_BUCKETS, MAX_READERS}
+use Rattle.run_promise.specs.CommandOf.{AreBuckets, AreReaders}
 use Rattle.updater.specs.Options.{AreInRange, with_option, with_options}
 
 -- the word that comes next is read, and then those behind it
@@ -37,14 +37,6 @@ with_none view allowed options words i word there is read =
     ∙ ap (option_and_then (λ own. with_options allowed own (each view (drop (i + 1) words)))) (sym read))
 
 -- a value that stands there, or the one that is meant where none does
-workers_among : (value : Option ℕ) (workers : ℕ) → IfSome value (λ workers. (1 ≤ workers) × (workers ≤ MAX_WORKERS))
-    → workers ≡ unwrap_or value WORKERS → AreWorkers workers
-workers_among None workers h is = record { one = omega (arith, is); limit = omega (arith, is) }
-workers_among (Some value) workers h is = record { one = omega (arith, is, h.0); limit = omega (arith, is, h.1) }
-
-pub workers_fit : (options : Options) (workers : ℕ) → AreInRange options → workers ≡ unwrap_or options.workers WORKERS → AreWorkers workers
-workers_fit options workers range is = workers_among options.workers workers range.few_workers is
-
 readers_among : (value : Option ℕ) (readers : ℕ) → IfSome value (λ readers. (1 ≤ readers) × (readers ≤ MAX_READERS))
     → readers ≡ unwrap_or value READERS → AreReaders readers
 readers_among None readers h is = record { one = omega (arith, is); limit = omega (arith, is) }

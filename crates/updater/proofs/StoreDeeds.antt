@@ -1,5 +1,5 @@
 -- The deeds of a run on its open store.
-use Rattle.std.proofs.Common.{◌≡◌, ◌≤◌, ◌+◌, ◌⊎◌, ℕ, true, false, Option, Some, None, List, [], ◌∷◌, length, ⊎_elim, inl, inr, refl, sym}
+use Rattle.std.proofs.Common.{◌≡◌, ◌≤◌, ◌+◌, ◌⊎◌, ℕ, true, false, Option, Some, None, Err, List, [], ◌∷◌, length, ⊎_elim, inl, inr, refl, sym}
 use Rattle.std.proofs.Common.{◌∙◌, ap, subst, arith}
 use Rattle.osm_base.specs.bounds.Limits.{standard}
 use Rattle.osm_base.specs.declared.bounds.limits.LimitNumbers.{LimitNumbers}
@@ -12,11 +12,15 @@ use Rattle.update_flow.specs.AtRest.{HasFlowCause, IsAt, IsOfEither, RestsAt}
 use Rattle.update_flow.specs.History.{History, state_after}
 use Rattle.update_flow.specs.Needed.{FitsLimit, Grows, HasStood, NeedsFrom, NeedsOn, Writes}
 use Rattle.update_flow.proofs.Needs.{fits_as, needs_from, stood_grown, stood_stays}
-use Rattle.update_flow.specs.Refusals.{IsCallFault, IsNoDiskFault, MayAnswer, MayLook, OrFull, Refuses, RefusesLook}
+use Rattle.update_flow.specs.Calls.{IsForImported}
+use Rattle.update_flow.specs.Refusals.{IsCallFault, MayTell, IsNoDiskFault, MayAnswer, MayLook, OrFull, Refuses, RefusesLook}
 use Rattle.update_flow.specs.Stands.{StandsFor}
-use Rattle.update_flow.specs.State.{Holding, State, imported, Step, after, was_old}
-use Rattle.update_flow.specs.Handle.{Handle, IsOpen, Looks, Shows, Takes, is_old, is_whole, limits_of, view_of}
+use Rattle.update_flow.specs.State.{Holding, State, formatted, imported, outdated, Step, Import, Append, Clear, Migrate, after, was_old}
+use Rattle.update_flow.specs.Handle.{Handle, IsOpen, Looks, Shows, Takes, is_imported, is_old, is_whole, limits_of, view_of}
+use Rattle.update_flow.specs.Updater.{StaysOpen, handle_of}
+use Rattle.update_flow.specs.declared.updater.Updater.{Updater}
 use Rattle.update_flow.specs.declared.fault.FlowFault.{FlowFault}
+use Rattle.outside.specs.declared.disk.Disk.{Ghosts}
 use Rattle.update_flow.specs.declared.fault.FlowFault.TheVariants as flow
 use Rattle.run_promise.specs.declared.fault.Fault.{Fault}
 use Rattle.run_promise.specs.declared.fault.Fault.TheVariants as faults
@@ -31,8 +35,8 @@ use Rattle.run_promise.specs.World.{Before, World, world}
 use Rattle.run_promise.proofs.HistoryLaws.{is_all, is_more, is_next, length_more, one_of_all, state-more}
 
 -- a fault that is neither the disk's nor want of memory
-record IsPlain (fault : FlowFault) : Type 1 where
-  step : IsStepFault fault
+record IsPlain (call : Option Step) (fault : FlowFault) : Type 1 where
+  step : IsStepFault call fault
   causeless : (old : Before) (new : World) → HasCause old new (Some (flow_fault fault))
   no_disk : IsNoDiskFault (Some fault)
   answers : (limits : LimitNumbers) (state : State) (step : Step) → MayAnswer limits state step (Some fault)
@@ -49,31 +53,91 @@ needed_here limits store same first stood fault state step opened fits =
     (λ many. needs_from standard first state (after state step) (view_of store) many opened.at_rest stood)
     (subst (λ (own : LimitNumbers). FitsLimit own (NeedsOn (view_of store) (after state step)) fault) same fits)
 
-data Kinds (fault : FlowFault) : Type 1 where
-  of_disk : fault ≡ flow.Store stores.DiskFault → Kinds fault
-  of_memory : fault ≡ flow.OutOfMemory → Kinds fault
-  plain : IsPlain fault → Kinds fault
+data Kinds (call : Option Step) (fault : FlowFault) : Type 1 where
+  of_disk : fault ≡ flow.Store stores.DiskFault → Kinds call fault
+  of_memory : fault ≡ flow.OutOfMemory → Kinds call fault
+  plain : IsPlain call fault → Kinds call fault
 
-kind_of : (fault : FlowFault) → IsCallFault fault → (fault ≡ flow.Store stores.Broken → ⊥) → (fault ≡ flow.OldFormat → ⊥) → Kinds fault
-kind_of (flow.Store stores.DiskFault) call sound new = of_disk refl
-kind_of flow.OutOfMemory call sound new = of_memory refl
-kind_of (flow.Store stores.Broken) call sound new = absurd (sound refl)
-kind_of (flow.Store stores.NotFormatted) call sound new = absurd call
-kind_of (flow.Store stores.NotEmpty) call sound new = absurd call
-kind_of (flow.Store stores.OutOfMemory) call sound new = absurd call
-kind_of (flow.Store (stores.BadStore page)) call sound new =
+-- a call was refused so, and what that says of the store before it
+pub record IsRefusedSo (call : Option Step) (fault : FlowFault) (before now : Handle) : Type 0 where
+  pub alone : IsCallFault fault
+  pub told : MayTell call fault
+  pub broken : fault ≡ flow.Store stores.Broken → is_whole before ≡ false
+  pub not_old : fault ≡ flow.OldFormat → is_old before ≡ true
+  pub unbegun : fault ≡ flow.NotImported → is_imported before ≡ false
+  pub begun : fault ≡ flow.AlreadyImported → is_imported before ≡ true
+  pub cause : HasFlowCause (Some fault) (view_of before) (view_of now)
+
+pub refused_so : {T D : Type 0} {g : Ghosts D} {call : Option Step} {old new : Updater D g} {fault : FlowFault}
+    → StaysOpen {T = T} call old new (Err fault) → IsRefusedSo call fault (handle_of old) (handle_of new)
+refused_so stays = record {
+  alone = stays.alone;
+  told = stays.told;
+  broken = λ is. stays.broken (ap Err is);
+  not_old = λ is. stays.not_old (ap Err is);
+  unbegun = λ is. stays.unbegun (ap Err is);
+  begun = λ is. stays.begun (ap Err is);
+  cause = stays.cause;
+}
+
+-- a store of this state is ready for a call
+abbrev pub Suits : State → Option Step → Type 0
+Suits formatted (Some (Import style bytes buckets entries)) = Unit {0}
+Suits formatted _ = ⊥
+Suits (imported held) call = IsForImported call
+Suits (outdated held) (Some Migrate) = Unit {0}
+Suits (outdated held) _ = ⊥
+
+-- so it is not refused because nothing was imported, or something was
+never_unbegun : (state : State) (call : Option Step) (before : Handle) (fault : FlowFault) → Suits state call → Shows state before
+    → MayTell call fault → (fault ≡ flow.NotImported → is_imported before ≡ false) → fault ≡ flow.NotImported → ⊥
+never_unbegun formatted (Some (Import style bytes buckets entries)) before fault suits shows told unbegun is =
+    subst (MayTell (Some (Import style bytes buckets entries))) is told
+never_unbegun formatted None before fault suits shows told unbegun is = absurd suits
+never_unbegun formatted (Some (Append bounds change)) before fault suits shows told unbegun is = absurd suits
+never_unbegun formatted (Some Clear) before fault suits shows told unbegun is = absurd suits
+never_unbegun formatted (Some Migrate) before fault suits shows told unbegun is = absurd suits
+never_unbegun (imported held) call before fault suits shows told unbegun is =
+    absurd (let two : true ≡ false = sym shows.imported_is ∙ unbegun is in cc)
+never_unbegun (outdated held) call before fault suits shows told unbegun is =
+    absurd (let two : true ≡ false = sym shows.imported_is ∙ unbegun is in cc)
+
+never_begun : (state : State) (call : Option Step) (before : Handle) (fault : FlowFault) → Suits state call → Shows state before
+    → MayTell call fault → (fault ≡ flow.AlreadyImported → is_imported before ≡ true) → fault ≡ flow.AlreadyImported → ⊥
+never_begun formatted call before fault suits shows told begun is =
+    absurd (let two : true ≡ false = sym (begun is) ∙ shows.imported_is in cc)
+never_begun (imported held) (Some (Import style bytes buckets entries)) before fault suits shows told begun is = absurd suits
+never_begun (imported held) None before fault suits shows told begun is = subst (MayTell None) is told
+never_begun (imported held) (Some (Append bounds change)) before fault suits shows told begun is =
+    subst (MayTell (Some (Append bounds change))) is told
+never_begun (imported held) (Some Clear) before fault suits shows told begun is = subst (MayTell (Some Clear)) is told
+never_begun (imported held) (Some Migrate) before fault suits shows told begun is = subst (MayTell (Some Migrate)) is told
+never_begun (outdated held) (Some Migrate) before fault suits shows told begun is = subst (MayTell (Some Migrate)) is told
+never_begun (outdated held) None before fault suits shows told begun is = absurd suits
+never_begun (outdated held) (Some (Import style bytes buckets entries)) before fault suits shows told begun is = absurd suits
+never_begun (outdated held) (Some (Append bounds change)) before fault suits shows told begun is = absurd suits
+never_begun (outdated held) (Some Clear) before fault suits shows told begun is = absurd suits
+
+kind_of : (call : Option Step) (fault : FlowFault) → IsCallFault fault → (fault ≡ flow.Store stores.Broken → ⊥)
+    → (fault ≡ flow.OldFormat → ⊥)
+    → (fault ≡ flow.NotImported → ⊥) → (fault ≡ flow.AlreadyImported → ⊥) → MayTell call fault → Kinds call fault
+kind_of call (flow.Store stores.DiskFault) alone sound new begun first told = of_disk refl
+kind_of call flow.OutOfMemory alone sound new begun first told = of_memory refl
+kind_of call (flow.Store stores.Broken) alone sound new begun first told = absurd (sound refl)
+kind_of call (flow.Store stores.NotFormatted) alone sound new begun first told = absurd alone
+kind_of call (flow.Store stores.NotEmpty) alone sound new begun first told = absurd alone
+kind_of call (flow.Store stores.OutOfMemory) alone sound new begun first told = absurd alone
+kind_of call (flow.Store (stores.BadStore page)) alone sound new begun first told =
     plain (record { step = tt; causeless = λ old new. tt; no_disk = tt; answers = λ limits state step h. h; looks_so = λ state h. h })
-kind_of (flow.Store (stores.StoreFull pages)) call sound new =
-    plain (record { step = tt; causeless = λ old new. tt; no_disk = tt; answers = λ limits state step h. h; looks_so = λ state h. h })
-kind_of flow.NotImported call sound new =
-    plain (record { step = tt; causeless = λ old new. tt; no_disk = tt; answers = λ limits state step h. h; looks_so = λ state h. h })
-kind_of flow.AlreadyImported call sound new =
-    plain (record { step = tt; causeless = λ old new. tt; no_disk = tt; answers = λ limits state step h. h; looks_so = λ state h. h })
-kind_of flow.OldFormat call sound new = absurd (new refl)
-kind_of flow.LastChange call sound new =
-    plain (record { step = tt; causeless = λ old new. tt; no_disk = tt; answers = λ limits state step h. h; looks_so = λ state h. h })
-kind_of (flow.TooMany value) call sound new =
-    plain (record { step = tt; causeless = λ old new. tt; no_disk = tt; answers = λ limits state step h. h; looks_so = λ state h. h })
+kind_of call (flow.Store (stores.StoreFull pages)) alone sound new begun first told =
+    plain (record { step = told; causeless = λ old new. tt; no_disk = tt; answers = λ limits state step h. h; looks_so = λ state h. h })
+kind_of call flow.NotImported alone sound new begun first told = absurd (begun refl)
+kind_of call flow.AlreadyImported alone sound new begun first told = absurd (first refl)
+kind_of call flow.OldFormat alone sound new begun first told = absurd (new refl)
+kind_of call flow.LastChange alone sound new begun first told =
+    plain (record { step = told; causeless = λ old new. tt; no_disk = tt; answers = λ limits state step h. h; looks_so = λ state h. h })
+kind_of call (flow.TooMany value) alone sound new begun first told =
+    plain (record { step = told; causeless = λ old new. tt; no_disk = tt; answers = λ limits state step h. h; looks_so = λ state h. h })
 
 -- what was so at each moment is so when the run goes on
 moments_on : (from : Standing) (cut : ℕ) (store further : Standing) (moment : ℕ) (one other : Crashes) (P : List ℕ → Type 0)
@@ -324,7 +388,7 @@ module _ (start done : Progress) (state : State) (next : ℕ) (old : Before) (fi
           (λ kept. (ending ≡ at (in_doubt step kept done) (Some faults.DiskFault))
           ⊎ IsRefusedFor (IsRefusal old (state_after kept.history) step) done ending
           ⊎ (MayTake old (state_after kept.history) step × Comes old rest (committed step kept done) ending))
-          (IsRefusedFor IsStepFault done ending ⊎ Comes old rest done ending)) (sym is) (inr comes));
+          (IsRefusedFor (IsStepFault (Some step)) done ending ⊎ Comes old rest done ending)) (sym is) (inr comes));
       certain = λ certain. certain;
     }
     taken_by (keeps kept) is here =
@@ -345,7 +409,7 @@ module _ (start done : Progress) (state : State) (next : ℕ) (old : Before) (fi
               (λ kept. (ending ≡ at (in_doubt step kept done) (Some faults.DiskFault))
               ⊎ IsRefusedFor (IsRefusal old (state_after kept.history) step) done ending
               ⊎ (MayTake old (state_after kept.history) step × Comes old rest (committed step kept done) ending))
-              (IsRefusedFor IsStepFault done ending ⊎ Comes old rest done ending)) (sym is)
+              (IsRefusedFor (IsStepFault (Some step)) done ending ⊎ Comes old rest done ending)) (sym is)
               (inr (inr (subst (λ (own : State). MayTake old own step) (sym here.stands) (answer, need), comes))));
           certain = λ _. subst (λ (store : Standing). IsCertain store) (sym is) tt;
         }
@@ -354,10 +418,12 @@ module _ (start done : Progress) (state : State) (next : ℕ) (old : Before) (fi
     taken = taken_by done.store refl head.here
 
   -- a step is refused
-  module _ (step : Step) (fault : FlowFault) (takes : (own : State) → IsOpen own before → Takes own step (Some fault) before now)
-      (call : IsCallFault fault)
-      (broken : fault ≡ flow.Store stores.Broken → is_whole before ≡ false) (never : fault ≡ flow.OldFormat → ⊥)
-      (cause : HasFlowCause (Some fault) (view_of before) (view_of now)) (rest : Course) where
+  module _ (step : Step) (suits : Suits state (Some step)) (fault : FlowFault)
+      (takes : (own : State) → IsOpen own before → Takes own step (Some fault) before now)
+      (so : IsRefusedSo (Some step) fault before now) (never : fault ≡ flow.OldFormat → ⊥) (rest : Course) where
+    abbrev cause : HasFlowCause (Some fault) (view_of before) (view_of now)
+    cause = so.cause
+
     abbrev Goal : Type 0
     Goal = GoesOn (commits step rest) start done (Some (flow_fault fault)) old (world files (view_of now) output)
 
@@ -367,9 +433,9 @@ module _ (start done : Progress) (state : State) (next : ℕ) (old : Before) (fi
         ⊎ (MayTake old (state_after kept.history) step × Comes old rest (committed step kept done) ending)
 
     abbrev Vague : Ending → Type 0
-    Vague ending = IsRefusedFor IsStepFault done ending ⊎ Comes old rest done ending
+    Vague ending = IsRefusedFor (IsStepFault (Some step)) done ending ⊎ Comes old rest done ending
 
-    refused_vague : done.store ≡ unknown → Kinds fault → Goal
+    refused_vague : done.store ≡ unknown → Kinds (Some step) fault → Goal
     refused_vague is (of_disk own) = (
       at done (Some faults.DiskFault),
       ap Some (sym (ap flow_fault own)),
@@ -392,7 +458,7 @@ module _ (start done : Progress) (state : State) (next : ℕ) (old : Before) (fi
           (own.causeless old (world files (view_of now) output)),
     )
 
-    refused_known : (kept : Kept) → done.store ≡ keeps kept → IsRested kept done.cut state before → Kinds fault → Goal
+    refused_known : (kept : Kept) → done.store ≡ keeps kept → IsRested kept done.cut state before → Kinds (Some step) fault → Goal
     refused_known kept is here (of_disk own) = (
       at (in_doubt step kept done) (Some faults.DiskFault),
       ap Some (sym (ap flow_fault own)),
@@ -434,11 +500,18 @@ module _ (start done : Progress) (state : State) (next : ℕ) (old : Before) (fi
               (Some (flow_fault fault)) rested.0.at_rest rested.1 (own.causeless old (world files (view_of now) output)),
         )
 
+    kind_here : Kinds (Some step) fault
+    kind_here =
+        let shows = shows_here done.store done.cut state before head.here in
+        kind_of (Some step) fault so.alone (not_broken fault so.broken) never
+        (never_unbegun state (Some step) before fault suits shows so.told so.unbegun)
+        (never_begun state (Some step) before fault suits shows so.told so.begun) so.told
+
     refused_by : (store : Standing) → done.store ≡ store → IsHere store done.cut state before → Goal
     refused_by unused is here = absurd here
     refused_by half_made is here = absurd here
-    refused_by unknown is here = refused_vague is (kind_of fault call (not_broken fault broken) never)
-    refused_by (keeps kept) is here = refused_known kept is here (kind_of fault call (not_broken fault broken) never)
+    refused_by unknown is here = refused_vague is kind_here
+    refused_by (keeps kept) is here = refused_known kept is here kind_here
 
     pub refused_step : Goal
     refused_step = refused_by done.store refl head.here
@@ -465,64 +538,67 @@ module _ (start done : Progress) (held : Holding) (next : ℕ) (old : Before) (f
     looked_at = looked_by done.store refl head.here
 
   -- a look is refused
-  module _ (fault : FlowFault) (looked : (own : State) → IsOpen own before → Looks own (Some fault) before now) (call : IsCallFault fault)
-      (broken : fault ≡ flow.Store stores.Broken → is_whole before ≡ false) (refused : fault ≡ flow.OldFormat → is_old before ≡ true)
-      (cause : HasFlowCause (Some fault) (view_of before) (view_of now)) (rest : Course) where
+  module _ (fault : FlowFault) (looked : (own : State) → IsOpen own before → Looks own (Some fault) before now)
+      (so : IsRefusedSo None fault before now) (rest : Course) where
     abbrev Unlooked : Type 0
     Unlooked = GoesOn (looks rest) start done (Some (flow_fault fault)) old (world files (view_of now) output)
 
-    unlooked_vague : done.store ≡ unknown → Kinds fault → Unlooked
+    unlooked_vague : done.store ≡ unknown → Kinds None fault → Unlooked
     unlooked_vague is (of_disk own) = (
       at done (Some faults.DiskFault),
       ap Some (sym (ap flow_fault own)),
       inl (inl refl),
-      vague_leaves start done (imported held) next old files before now output head is cause.later (Some faults.DiskFault)
-          (rose_disk start done (imported held) next old files before now output head fault own cause),
+      vague_leaves start done (imported held) next old files before now output head is so.cause.later (Some faults.DiskFault)
+          (rose_disk start done (imported held) next old files before now output head fault own so.cause),
     )
     unlooked_vague is (of_memory own) = (
       at done (Some faults.OutOfMemory),
       ap Some (sym (ap flow_fault own)),
       inl (inr refl),
-      vague_leaves start done (imported held) next old files before now output head is cause.later (Some faults.OutOfMemory) tt,
+      vague_leaves start done (imported held) next old files before now output head is so.cause.later (Some faults.OutOfMemory) tt,
     )
     unlooked_vague is (plain own) = (
       at done (Some (flow_fault fault)),
       refl,
-      inr (inl (subst (λ (store : Standing). IfUnknown store (IsRefusedFor IsStepFault done (at done (Some (flow_fault fault))))) (sym is)
+      inr (inl (subst (λ (store : Standing). IfUnknown store (IsRefusedFor (IsStepFault None) done (at done (Some (flow_fault fault))))) (sym is)
           (fault, own.step, refl))),
-      vague_leaves start done (imported held) next old files before now output head is cause.later (Some (flow_fault fault))
+      vague_leaves start done (imported held) next old files before now output head is so.cause.later (Some (flow_fault fault))
           (own.causeless old (world files (view_of now) output)),
     )
 
-    unlooked_known : (kept : Kept) → done.store ≡ keeps kept → IsRested kept done.cut (imported held) before → Kinds fault → Unlooked
+    unlooked_known : (kept : Kept) → done.store ≡ keeps kept → IsRested kept done.cut (imported held) before → Kinds None fault → Unlooked
     unlooked_known kept is here (of_disk own) = (
       at done (Some faults.DiskFault),
       ap Some (sym (ap flow_fault own)),
       inl (inl refl),
-      failed_leaves start done (imported held) next old files before now output head kept is here cause.later
+      failed_leaves start done (imported held) next old files before now output head kept is here so.cause.later
           (looked (imported held) here.rests).moments
-          (rose_disk start done (imported held) next old files before now output head fault own cause),
+          (rose_disk start done (imported held) next old files before now output head fault own so.cause),
     )
     unlooked_known kept is here (of_memory own) =
         let rested = (looked (imported held) here.rests).stays (subst (λ (own : FlowFault). IsNoDiskFault (Some own)) (sym own) tt) in (
           at done (Some faults.OutOfMemory),
           ap Some (sym (ap flow_fault own)),
           inl (inr refl),
-          rested_leaves start done (imported held) next old files before now output head kept is here cause.later
+          rested_leaves start done (imported held) next old files before now output head kept is here so.cause.later
               (Some faults.OutOfMemory) rested.at_rest (looked (imported held) here.rests).moments tt,
         )
     unlooked_known kept is here (plain own) =
         absurd (let none : Some fault ≡ None = own.looks_so (imported held) (looked (imported held) here.rests).answer in cc)
 
-    kind_here : Kinds fault
-    kind_here = kind_of fault call (not_broken start done (imported held) next old files before now output head fault broken)
-        (not_outdated start done (imported held) next old files before now output head refl fault refused)
+    look_kind : Kinds None fault
+    look_kind =
+        let shows = shows_here done.store done.cut (imported held) before head.here in
+        kind_of None fault so.alone (not_broken start done (imported held) next old files before now output head fault so.broken)
+        (not_outdated start done (imported held) next old files before now output head refl fault so.not_old)
+        (never_unbegun (imported held) None before fault tt shows so.told so.unbegun)
+        (never_begun (imported held) None before fault tt shows so.told so.begun) so.told
 
     unlooked_by : (store : Standing) → done.store ≡ store → IsHere store done.cut (imported held) before → Unlooked
     unlooked_by unused is here = absurd here
     unlooked_by half_made is here = absurd here
-    unlooked_by unknown is here = unlooked_vague is kind_here
-    unlooked_by (keeps kept) is here = unlooked_known kept is here kind_here
+    unlooked_by unknown is here = unlooked_vague is look_kind
+    unlooked_by (keeps kept) is here = unlooked_known kept is here look_kind
 
     pub unlooked : Unlooked
     unlooked = unlooked_by done.store refl head.here

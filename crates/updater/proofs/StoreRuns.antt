@@ -27,7 +27,7 @@ use Rattle.updater.specs.Heads.{GoesOn, IsHead, IsHere, Leads}
 use Rattle.run_promise.specs.Progress.{Standing, unused, unknown, keeps, half_made, Progress, past, plus}
 use Rattle.run_promise.specs.World.{Before, World, world}
 use Rattle.updater.proofs.HeadLaws.{ends_here, leads_file, past_file, past_text, refuses_here, stops_in_file, stops_in_text, stops_short}
-use Rattle.updater.proofs.StoreDeeds.{looked_at, not_outdated, refused_step, shows_here, taken, unlooked}
+use Rattle.updater.proofs.StoreDeeds.{IsRefusedSo, looked_at, not_outdated, refused_step, shows_here, taken, unlooked}
 use Rattle.updater.proofs.VersionRuns.{goes_back}
 
 pub true_not : (P : Type 0) → true ≡ false → P
@@ -165,12 +165,10 @@ held_certain done held updater here certain = by done.store here certain
 -- the store is looked at, and what it holds is written
 module _ (start done : Progress) (held : Holding) (next : ℕ) (old : Before) (files : FilesView) (before now : Handle) (output : SinkView)
     (head : IsHead start done (imported held) next old files before output) where
-  pub look_refused : (fault : FlowFault) → ((own : State) → IsOpen own before → Looks own (Some fault) before now) → IsCallFault fault
-      → (fault ≡ flow.Store stores.Broken → is_whole before ≡ false) → (fault ≡ flow.OldFormat → is_old before ≡ true)
-      → HasFlowCause (Some fault) (view_of before) (view_of now) → (rest : Course)
+  pub look_refused : (fault : FlowFault) → ((own : State) → IsOpen own before → Looks own (Some fault) before now)
+      → IsRefusedSo None fault before now → (rest : Course)
       → GoesOn (looks rest) start done (Some (flow_fault fault)) old (world files (view_of now) output)
-  look_refused fault looked call broken refused cause rest =
-      unlooked start done held next old files before now output head fault looked call broken refused cause rest
+  look_refused fault looked so rest = unlooked start done held next old files before now output head fault looked so rest
 
   pub look_done : ((own : State) → IsOpen own before → Looks own None before now) → TellsAs before now → is_whole now ≡ is_whole before
       → limits_of now ≡ limits_of before → HasFlowCause None (view_of before) (view_of now)
@@ -263,9 +261,8 @@ module _ (start done : Progress) (held : Holding) (next : ℕ) (old : Before) (f
       (ends_here start own.further (after (imported held) Clear) next old files now output own.head) (own.leads ends)
 
   pub clear_refused : (fault : FlowFault) → ((own : State) → IsOpen own before → Takes own Clear (Some fault) before now)
-      → IsCallFault fault → (fault ≡ flow.Store stores.Broken → is_whole before ≡ false) → (fault ≡ flow.OldFormat → is_old before ≡ true)
-      → HasFlowCause (Some fault) (view_of before) (view_of now)
+      → IsRefusedSo (Some Clear) fault before now
       → GoesOn (clears true) start done (Some (flow_fault fault)) old (world files (view_of now) output)
-  clear_refused fault takes call broken refused cause =
-      refused_step start done (imported held) next old files before now output head Clear fault takes call broken
-      (not_outdated start done (imported held) next old files before now output head refl fault refused) cause ends
+  clear_refused fault takes so =
+      refused_step start done (imported held) next old files before now output head Clear tt fault takes so
+      (not_outdated start done (imported held) next old files before now output head refl fault so.not_old) ends

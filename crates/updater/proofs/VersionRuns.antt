@@ -28,7 +28,7 @@ use Rattle.updater.specs.Heads.{GoesOn, IsHead, Leads}
 use Rattle.run_promise.specs.Progress.{Progress, Ending, past, plus}
 use Rattle.run_promise.specs.World.{Before, World, world}
 use Rattle.updater.proofs.HeadLaws.{leads_file, past_file, past_text, stops_in_file, stops_in_line}
-use Rattle.updater.proofs.StoreDeeds.{IsStepped, not_outdated, refused_step, taken}
+use Rattle.updater.proofs.StoreDeeds.{IsRefusedSo, IsStepped, Suits, not_outdated, refused_step, taken}
 
 -- a run that goes on by the rest of a course goes by the course
 pub goes_back : (course rest : Course) (start done further : Progress) (fault : Option Fault) (old : Before) (new : World)
@@ -61,15 +61,13 @@ module _ (start done : Progress) (state : State) (file : ℕ) (old : Before) (fi
         (λ entries. commits (step entries) (tells line (onward last (next entries)))) ending comes
 
     pub step_refused : (fault : FlowFault) → ((own : State) → IsOpen own before → Takes own (step entries) (Some fault) before now)
-        → IsCallFault fault
-        → (fault ≡ flow.Store stores.Broken → is_whole before ≡ false) → was_old state ≡ false
-        → (fault ≡ flow.OldFormat → is_old before ≡ true) → HasFlowCause (Some fault) (view_of before) (view_of now)
+        → was_old state ≡ false → Suits state (Some (step entries)) → IsRefusedSo (Some (step entries)) fault before now
         → Leads course (Some (flow_fault fault)) start done (file + 1) old read now output
-    step_refused fault takes call broken new refused cause last =
+    step_refused fault takes new suits so last =
         goes_back (course last) (commits (step entries) (tells line (onward last (next entries)))) start done (past file done)
         (Some (flow_fault fault)) old (world read (view_of now) output)
-        (refused_step start (past file done) state (file + 1) old read before now output head_read (step entries) fault takes call broken
-        (not_outdated start (past file done) state (file + 1) old read before now output head_read new fault refused) cause
+        (refused_step start (past file done) state (file + 1) old read before now output head_read (step entries) suits fault takes so
+        (not_outdated start (past file done) state (file + 1) old read before now output head_read new fault so.not_old)
         (tells line (onward last (next entries)))) (leads_read last)
 
     module _ (takes : (own : State) → IsOpen own before → Takes own (step entries) None before now)

@@ -4,9 +4,11 @@
 -- An option has to belong to the command, to stand once and to have a value in range, and the form has to be the
 -- command's. Words that fit no command are a wrong use of the program, and so are more than MAX_WORDS.
 use Rattle.std.specs.Prelude.{ℕ, ◌-◌, Bool, nat_lt, nat_le, ◌&&◌, if◌then◌else◌, Option, None, List, [], ◌∷◌, length, drop, take_while}
-use Rattle.std.specs.Prelude.{codes, nat_eq}
+use Rattle.std.specs.Prelude.{◌≡◌, IfSome, codes, map, nat_eq}
 use Rattle.std.specs.List.{prefix_len, starts_with}
+use Rattle.std.specs.Option.{option_map}
 use Rattle.std.specs.Str.{bytes_eq}
+use Rattle.std.specs.String.{string_bytes}
 use Rattle.updater.specs.commands.Append as append
 use Rattle.updater.specs.commands.Export as export
 use Rattle.updater.specs.commands.Import as import
@@ -22,8 +24,9 @@ use Rattle.updater.specs.declared.words.Command.{Command}
 use Rattle.updater.specs.declared.words.Command.TheVariants.{Points, Lines, Init, Import, Append, Export, Tiles, Query, Serve, Replay}
 use Rattle.updater.specs.declared.words.Command.TheVariants.{Migrate}
 use Rattle.updater.specs.declared.words.TheConstants.{MAX_WORDS}
+use Rattle.updater.specs.declared.forms.Words.{Words}
 use Rattle.run_promise.specs.CommandOf.{CommandOf, points_of, lines_of, init_of, import_of, append_of, export_of, tiles_of, query_of}
-use Rattle.run_promise.specs.CommandOf.{serve_of, replay_of, migrate_of}
+use Rattle.run_promise.specs.CommandOf.{FilesFit, serve_of, replay_of, migrate_of}
 
 -- a command of the program, as contracts see it
 abbrev pub seen : Command → CommandOf
@@ -38,6 +41,12 @@ seen (Query store files) = query_of store.now files
 seen (Serve store files workers readers) = serve_of store.now files workers readers
 seen (Replay store files workers) = replay_of store.now files workers
 seen (Migrate store) = migrate_of store.now
+
+-- words are read as a form says, and the files of a command that they ask for are as they have to be
+pub record IsReadAs (form : (options words : List (List ℕ)) → (place : ℕ) → Option CommandOf) (words : Words)
+    (result : Option Command) : Type 0 where
+  pub read : option_map seen result ≡ form (map string_bytes words.options.now) (map string_bytes words.form.now) words.place
+  pub fits : IfSome result (λ command. FilesFit (seen command))
 
 -- what remains from the first on that fails a test
 abbrev pub behind : {A : Type 0} → (A → Bool) → List A → List A
@@ -69,15 +78,15 @@ abbrev pub named : (name : List ℕ) → (options form : List (List ℕ)) → (p
 named name options form place =
     if bytes_eq name (codes "points") then points.form options form place else
     if bytes_eq name (codes "lines") then lines.form options form place else
-    if bytes_eq name (codes "init") then init.form options form else
+    if bytes_eq name (codes "init") then init.form options form place else
     if bytes_eq name (codes "import") then import.form options form place else
     if bytes_eq name (codes "append") then append.form options form place else
-    if bytes_eq name (codes "export") then export.form options form else
-    if bytes_eq name (codes "tiles") then tiles.form options form else
+    if bytes_eq name (codes "export") then export.form options form place else
+    if bytes_eq name (codes "tiles") then tiles.form options form place else
     if bytes_eq name (codes "query") then query.form options form place else
     if bytes_eq name (codes "serve") then serve.form options form place else
     if bytes_eq name (codes "replay") then replay.form options form place else
-    if bytes_eq name (codes "migrate") then migrate.form options form else None
+    if bytes_eq name (codes "migrate") then migrate.form options form place else None
 
 -- what all words ask for, where they ask for something
 unfoldable pub command : List (List ℕ) → Option CommandOf

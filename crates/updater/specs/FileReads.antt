@@ -1,5 +1,5 @@
 -- What reading a file of a command comes to.
-use Rattle.std.specs.Prelude.{◌≡◌, ◌≢◌, ◌≤◌, ◌<◌, ◌+◌, ℕ, List, [], Some, Result, Ok, Err}
+use Rattle.std.specs.Prelude.{◌≡◌, ◌≢◌, ◌≤◌, ◌<◌, ◌+◌, ℕ, List, [], Some, Result, Ok, Err, IfOk, IfErr, replicate}
 use Rattle.outside.specs.Bytes.{IfTold}
 use Rattle.outside.specs.Causes.{Rose}
 use Rattle.outside.specs.Inputs.{FilesView}
@@ -31,3 +31,10 @@ StopsFor Reads file fault old new = IsOfFile file fault × IfTold (old.left file
 pub record IsUnread {A : Type 0} (Reads : List ℕ → Result A Fault → Type 0) (file : ℕ) (fault : Fault) (old new : FilesView) : Type 0 where
   pub why : StopsFor Reads file fault old new
   pub alone : IsReadAlone file old new
+
+-- the one or the other, by the answer; only this file was asked for, some times
+pub record ReadsFile {A : Type 0} (Reads : List ℕ → Result A Fault → Type 0) (file : ℕ) (asks : List ℕ → Type 0) (result : Result A Fault)
+    (old new : FilesView) : Type 0 where
+  pub ok : IfOk result (λ found. IsRead Reads file found old new)
+  pub err : IfErr result (λ fault. IsUnread Reads file fault old new)
+  pub asked : (count : ℕ) × asks (replicate count file)

@@ -9,3 +9,4 @@ pub mod FileReads
 pub mod Number
 pub mod Options
 pub mod Versions
+pub mod Works

@@ -7,7 +7,7 @@ use Rattle.std.specs.Cmp.Lexicographic.{pointwise}
 use Rattle.std.specs.Int.{is_power_of_two}
 use Rattle.std.specs.Option.{option_and_then}
 use Rattle.std.specs.Str.{bytes_eq}
-use Rattle.updater.specs.Number.{number}
+use Rattle.updater.specs.Number.{in_range, number}
 use Rattle.updater.specs.declared.options.Options.{Options}
 use Rattle.updater.specs.declared.options.Allowed.{Allowed}
 use Rattle.run_promise.specs.declared.ranges.TheConstants.{MAX_BUCKETS, MAX_READERS, MAX_WORKERS}
@@ -23,8 +23,8 @@ with_clear allowed options = if not allowed.clear || options.clear then None els
 -- with this number of workers
 abbrev pub with_workers : Allowed → Options → List ℕ → Option Options
 with_workers allowed options value = option_and_then (λ workers.
-    if (not allowed.workers || is_some options.workers) || (nat_lt workers 1 || nat_lt MAX_WORKERS workers) then None
-    else Some (record options { workers = Some workers })) (number value)
+    if not allowed.workers || is_some options.workers then None else Some (record options { workers = Some workers }))
+    (in_range 1 MAX_WORKERS (number value))
 
 -- with this number of readers
 abbrev pub with_readers : Allowed → Options → List ℕ → Option Options
@@ -62,6 +62,5 @@ options_read allowed words = with_options allowed (record { workers = None; read
 
 -- each value is in its range
 pub record AreInRange (options : Options) : Type 0 where
-  pub few_workers : IfSome options.workers (λ workers. (1 ≤ workers) × (workers ≤ MAX_WORKERS))
   pub few_readers : IfSome options.readers (λ readers. (1 ≤ readers) × (readers ≤ MAX_READERS))
   pub power : IfSome options.buckets (λ buckets. (is_power_of_two buckets ≡ true) × (buckets ≤ MAX_BUCKETS))

@@ -1,17 +1,18 @@
 -- Between two change files of a run that shows readers each version.
-use Rattle.std.specs.Prelude.{◌≡◌, ◌≤◌, ℕ, ◌+◌, List, [], ◌∷◌, ◌++◌, length, take, All, Option, Some, None, Result, Ok, Err}
+use Rattle.std.specs.Prelude.{◌≡◌, ◌≤◌, ℕ, ◌+◌, List, [], ◌∷◌, ◌++◌, length, take, All, Option, Some, None, Result, Ok, Err, OnOk}
 use Rattle.outside.specs.Inputs.{FilesView}
 use Rattle.outside.specs.declared.disk.Disk.{Ghosts}
 use Rattle.outside.specs.Sink.{SinkView}
 use Rattle.osm_base.specs.declared.values.row.Delta.{Delta}
-use Rattle.osm_base.specs.map.Spots.{changed_all}
+use Rattle.osm_base.specs.map.Spots.{TableMap, changed_all}
 use Rattle.map_query.specs.declared.query.Query.{Query}
 use Rattle.row_map.specs.Row.{tables}
 use Rattle.style_read.specs.Style.{StyleOf}
 use Rattle.tile_cover.specs.Table.{BoundsOf}
 use Rattle.table_versions.specs.Fronts.{FrontOf}
-use Rattle.table_versions.specs.Versions.{after}
+use Rattle.table_versions.specs.Versions.{after, tables_of, version_of}
 use Rattle.table_versions.specs.declared.answers.Answer.{Answer}
+use Rattle.reader_rounds.specs.Asking.{begin_of}
 use Rattle.reader_rounds.specs.Rounds.{AreServed}
 use Rattle.update_flow.specs.State.{Holding, imported}
 use Rattle.update_flow.specs.Handle.{Handle, view_of}
@@ -42,6 +43,16 @@ LeadsBy bounds file (Ok delta) start done held old files updater output = (furth
     × (IsCertain further.store → IsCertain done.store × IsNext held next delta)
 LeadsBy bounds file (Err fault) start done held old files updater output =
     (last : Onward) → GoesOn (appends_one bounds held file (onward last)) start done (Some fault) old (world files (view_of updater) output)
+
+-- what is shown last is what the store holds: the front is at this number of changes, and these are its tables
+pub record ShowsFront (changes : ℕ) (tables : TableMap) (front : FrontOf) : Type 0 where
+  pub version : changes ≡ version_of front
+  pub tables_are : tables ≡ tables_of front
+
+-- the history of what is shown goes on from where it began, and without a fault what is shown last is what the store holds
+pub record KeepsFront {A : Type 0} (result : Result A Fault) (changes : ℕ) (tables : TableMap) (before now : FrontOf) : Type 0 where
+  pub begin : begin_of now ≡ begin_of before
+  pub shown : OnOk result (ShowsFront changes tables now)
 
 -- the history of what is shown goes on by one delta
 abbrev pub with_delta : FrontOf → Delta → FrontOf

@@ -1,7 +1,8 @@
 //! The files of a command, read.
-ghost use Rattle.std.specs.Prelude.{◌≡◌, ◌≤◌, ℕ, Ok, replicate, length, IfOk, IfErr};
+ghost use Rattle.std.specs.Prelude.{◌≡◌, ◌≤◌, Ok, length, IfOk};
+ghost use Rattle.std.specs.Result.{result_map_both};
 ghost use Rattle.style_read.specs.Reading.{reading};
-ghost use Rattle.updater.specs.FileReads.{IsRead, IsUnread};
+ghost use Rattle.updater.specs.FileReads.{ReadsFile};
 ghost use Rattle.run_promise.specs.Files.{IsBounds, IsChange, IsQueries, IsStyle};
 
 use map_query::{Queries, read_queries};
@@ -22,10 +23,8 @@ pub struct StyleFile {
 
 /// The entries of a file.
 pub fn read_change<I: Inputs>(alloc: Global, inputs: &mut I, file: u32) -> Result<Change, Fault>
-    ensures ok { IfOk result (λ change. IsRead (IsChange file) file change (I.view inputs.old) (I.view inputs.new)) }
+    ensures reads { ReadsFile (IsChange file) file (λ asked. I.reads inputs.old asked inputs.new) result (I.view inputs.old) (I.view inputs.new) }
     ensures few { IfOk result (λ change. length change ≤ MAX_ENTRIES) }
-    ensures err { IfErr result (λ fault. IsUnread (IsChange file) file fault (I.view inputs.old) (I.view inputs.new)) }
-    ensures asked { (count : ℕ) × I.reads inputs.old (replicate count file) inputs.new }
 {
     let change = match read_file(alloc, inputs, file, &Limits::standard()) {
         Ok(change) => change,
@@ -47,10 +46,9 @@ pub fn read_style_file<I: Inputs>(
     inputs: &mut I,
     file: u32,
 ) -> Result<StyleFile, Fault>
-    ensures ok { IfOk result (λ own. IsRead (IsStyle file) file (own.style, own.bytes) (I.view inputs.old) (I.view inputs.new)) }
-    ensures reads { IfOk result (λ own. reading own.bytes ≡ Ok own.style) }
-    ensures err { IfErr result (λ fault. IsUnread (IsStyle file) file fault (I.view inputs.old) (I.view inputs.new)) }
-    ensures asked { (count : ℕ) × I.reads inputs.old (replicate count file) inputs.new }
+    ensures reads { ReadsFile (IsStyle file) file (λ asked. I.reads inputs.old asked inputs.new)
+        (result_map_both (λ own. (own.style, own.bytes)) (λ fault. fault) result) (I.view inputs.old) (I.view inputs.new) }
+    ensures style { IfOk result (λ own. reading own.bytes ≡ Ok own.style) }
 {
     let bytes = match read_all(alloc, inputs, file, MAX_WHOLE) {
         Ok(bytes) => bytes,
@@ -68,9 +66,7 @@ pub fn read_bounds_file<I: Inputs>(
     inputs: &mut I,
     file: u32,
 ) -> Result<Bounds, Fault>
-    ensures ok { IfOk result (λ bounds. IsRead (IsBounds file) file bounds (I.view inputs.old) (I.view inputs.new)) }
-    ensures err { IfErr result (λ fault. IsUnread (IsBounds file) file fault (I.view inputs.old) (I.view inputs.new)) }
-    ensures asked { (count : ℕ) × I.reads inputs.old (replicate count file) inputs.new }
+    ensures reads { ReadsFile (IsBounds file) file (λ asked. I.reads inputs.old asked inputs.new) result (I.view inputs.old) (I.view inputs.new) }
 {
     let bytes = match read_all(alloc, inputs, file, MAX_WHOLE) {
         Ok(bytes) => bytes,
@@ -89,9 +85,7 @@ pub fn read_queries_file<I: Inputs>(
     file: u32,
     style: &Style,
 ) -> Result<Queries, Fault>
-    ensures ok { IfOk result (λ queries. IsRead (IsQueries style.now file) file queries (I.view inputs.old) (I.view inputs.new)) }
-    ensures err { IfErr result (λ fault. IsUnread (IsQueries style.now file) file fault (I.view inputs.old) (I.view inputs.new)) }
-    ensures asked { (count : ℕ) × I.reads inputs.old (replicate count file) inputs.new }
+    ensures reads { ReadsFile (IsQueries style.now file) file (λ asked. I.reads inputs.old asked inputs.new) result (I.view inputs.old) (I.view inputs.new) }
 {
     let bytes = match read_all(alloc, inputs, file, MAX_WHOLE) {
         Ok(bytes) => bytes,

@@ -2,10 +2,13 @@
 ghost use Rattle.std.specs.Prelude.{◌≡◌, IfSome, map};
 ghost use Rattle.std.specs.Option.{option_map};
 ghost use Rattle.std.specs.String.{string_bytes};
+ghost use Rattle.run_promise.specs.declared.ranges.TheConstants.{MAX_WORKERS};
+ghost use Rattle.updater.specs.Number.{in_range, number};
 ghost use Rattle.updater.specs.Options as spec;
 
 use crate::number::number_of;
-use run_promise::{MAX_BUCKETS, MAX_READERS, MAX_WORKERS};
+use geom_workers::Workers;
+use run_promise::{MAX_BUCKETS, MAX_READERS};
 
 /// The workers of a command whose options say nothing of them.
 pub const WORKERS: u32 = 4;
@@ -19,7 +22,7 @@ pub const BUCKETS: u32 = 1_024;
 /// What the options of a command say.
 #[derive(Clone, Copy)]
 pub struct Options {
-    pub workers: Option<u32>,
+    pub workers: Option<Workers>,
     pub readers: Option<u32>,
     pub buckets: Option<u32>,
     pub clear: bool,
@@ -90,13 +93,27 @@ fn with_clear(allowed: Allowed, options: Options) -> Option<Options>
     })
 }
 
+/// The number of workers that a word writes.
+fn workers_in(value: &[u8]) -> Option<Workers>
+    ensures workers { result ≡ in_range 1 MAX_WORKERS (number value.now) }
+{
+    Workers::new(number_of(value)?)
+}
+
+/// As many workers as a command has whose options say nothing of them.
+pub fn usual_workers() -> Workers
+    ensures workers { result ≡ WORKERS }
+{
+    Workers::new(WORKERS).unwrap()
+}
+
 /// The options with this number of workers.
 fn with_workers(allowed: Allowed, options: Options, value: &[u8]) -> Option<Options>
     ensures option { result ≡ spec.with_workers allowed options value.now }
     ensures range { spec.AreInRange options → IfSome result spec.AreInRange }
 {
-    let workers = number_of(value)?;
-    if !allowed.workers || options.workers.is_some() || workers < 1 || workers > MAX_WORKERS {
+    let workers = workers_in(value)?;
+    if !allowed.workers || options.workers.is_some() {
         return None;
     }
     Some(Options {

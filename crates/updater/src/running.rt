@@ -21,6 +21,7 @@ use crate::commands::replay::replay;
 use crate::commands::serve::serve;
 use crate::commands::tiles::tiles;
 use crate::words::{Command, command_of};
+use geom_workers::Hands;
 use outside::{Disk, Gate, Inputs, Sink};
 use run_promise::{Fault, Outcome};
 use std::alloc::Global;
@@ -89,12 +90,28 @@ fn run_command<R: Threads + Wait + Sync, I: Inputs, D: Disk, S: Sink, G: Gate>(
             files,
             buckets,
             workers,
-        } => import(rt, alloc, files, buckets, workers, inputs, disk, out, gate),
+        } => {
+            let hands = Hands {
+                rt,
+                alloc,
+                workers,
+                gate,
+            };
+            import(&hands, files, buckets, inputs, disk, out)
+        }
         Command::Append {
             store: _,
             files,
             workers,
-        } => append(rt, alloc, files, workers, inputs, disk, out, gate),
+        } => {
+            let hands = Hands {
+                rt,
+                alloc,
+                workers,
+                gate,
+            };
+            append(&hands, files, inputs, disk, out)
+        }
         Command::Export { store: _, table } => export(alloc, table, inputs, disk, out),
         Command::Tiles {
             store: _,
@@ -107,12 +124,28 @@ fn run_command<R: Threads + Wait + Sync, I: Inputs, D: Disk, S: Sink, G: Gate>(
             files,
             workers,
             readers,
-        } => serve(rt, alloc, files, workers, readers, inputs, disk, out, gate),
+        } => {
+            let hands = Hands {
+                rt,
+                alloc,
+                workers,
+                gate,
+            };
+            serve(&hands, files, readers, inputs, disk, out)
+        }
         Command::Replay {
             store: _,
             files,
             workers,
-        } => replay(rt, alloc, files, workers, inputs, disk, out, gate),
+        } => {
+            let hands = Hands {
+                rt,
+                alloc,
+                workers,
+                gate,
+            };
+            replay(&hands, files, inputs, disk, out)
+        }
         Command::Migrate { store: _ } => migrate(alloc, inputs, disk, out),
     }
 }

@@ -1,5 +1,5 @@
 //! Versions of an open store: a file is imported or appended in one commit, and that is told.
-ghost use Rattle.std.specs.Prelude.{◌≡◌, ◌≢◌, ◌≤◌, ◌+◌, ℕ, List, Ok, Some, IfErr, IfOk, OnErr, OnOk, replicate};
+ghost use Rattle.std.specs.Prelude.{◌≡◌, ◌≤◌, ◌+◌, ℕ, List, Ok, IfErr, IfOk, OnErr, OnOk};
 ghost use Rattle.std.specs.Io.KnownBytes.{Appends};
 ghost use Rattle.std.specs.Result.{result_err};
 ghost use Rattle.outside.specs.Bytes.{AppendsPrefix};
@@ -8,24 +8,24 @@ ghost use Rattle.page_journal.specs.Crash.{IsAtRest};
 ghost use Rattle.style_read.specs.Reading.{reading};
 ghost use Rattle.update_flow.specs.Handle.{IsOpen, changes_of, view_of};
 ghost use Rattle.update_flow.specs.State.{Holding, formatted, imported};
-ghost use Rattle.update_flow.specs.Updater.{StaysOver, handle_of};
-ghost use Rattle.run_promise.specs.CommandOf.{AreBuckets, AreWorkers};
+ghost use Rattle.update_flow.specs.Updater.{handle_of};
+ghost use Rattle.run_promise.specs.CommandOf.{AreBuckets};
 ghost use Rattle.run_promise.specs.Courses.{appends, appends_one, imports, onward, version_line};
 ghost use Rattle.updater.specs.Heads.{IsHead, Leads};
 ghost use Rattle.updater.specs.Versions.{AppendsHere};
 ghost use Rattle.run_promise.specs.Locality.{AppendsThere};
 ghost use Rattle.run_promise.specs.Progress.{Progress};
 ghost use Rattle.updater.specs.FileReads.{Among};
-ghost use Rattle.run_promise.specs.Runs.{AsksOnly};
 ghost use Rattle.updater.specs.Serving.{LeadsBy};
+ghost use Rattle.updater.specs.Works.{Works, WorksOn};
 ghost use Rattle.run_promise.specs.World.{Before};
 
 use crate::file_reads::{StyleFile, read_change};
 use crate::telling::tell;
+use geom_workers::Hands;
 use osm_base::Delta;
 use outside::{Disk, Gate, GatePlace, Inputs, Sink};
-use run_promise::Fault;
-use std::alloc::Global;
+use run_promise::{Fault, Files};
 use std::thread::Threads;
 use tile_cover::Bounds;
 use update_flow::Updater;
@@ -49,33 +49,27 @@ pub fn tell_version<S: Sink>(out: &mut S, changes: u64) -> Result<(), Fault>
 
 /// Imports a file into a store that was only made, under a style, and tells so.
 pub fn import_file<R: Threads + Sync, I: Inputs, D: Disk, S: Sink, G: Gate>(
-    rt: &R,
-    alloc: Global,
+    hands: &Hands<'_, R, G>,
     style: StyleFile,
     buckets: u64,
-    workers: u32,
     file: u32,
     inputs: &mut I,
     store: &mut Updater<'_, D>,
     out: &mut S,
-    gate: &G,
 ) -> Result<(), Fault>
     requires style { reading style.bytes ≡ Ok style.style }
     requires buckets { AreBuckets buckets }
-    requires workers { AreWorkers workers }
     ensures leads { (old : Before) (start done : Progress) → IsHead start done formatted file old (I.view inputs.old) (handle_of store.old) (S.view out.old)
         → Leads (λ last. imports (style.style, style.bytes) buckets file (onward last)) (result_err result) start done (file + 1) old
         (I.view inputs.new) (handle_of store.new) (S.view out.new) }
-    ensures stays { StaysOver store.old store.new }
-    ensures asked { (count : ℕ) × I.reads inputs.old (replicate count file) inputs.new }
-    ensures formatted { result_err result ≢ Some Fault.NotFormatted }
+    ensures works { WorksOn (λ asked. I.reads inputs.old asked inputs.new) file (result_err result) store.old store.new }
 {
     let StyleFile { style, bytes } = style;
-    let change = match read_change(alloc, inputs, file) {
+    let change = match read_change(hands.alloc, inputs, file) {
         Ok(change) => change,
         Err(fault) => return Err(fault),
     };
-    if let Err(fault) = store.import(rt, bytes.as_slice(), style, change, buckets, workers, gate) {
+    if let Err(fault) = store.import(hands, bytes.as_slice(), style, change, buckets) {
         return Err(Fault::in_flow(fault));
     }
     tell_version(out, 0)
@@ -83,32 +77,26 @@ pub fn import_file<R: Threads + Sync, I: Inputs, D: Disk, S: Sink, G: Gate>(
 
 /// Appends a change file to a store that was imported, and tells so. Answers how the tables differ from then on.
 pub fn commit_file<R: Threads + Sync, I: Inputs, D: Disk, S: Sink, G: Gate>(
-    rt: &R,
-    alloc: Global,
+    hands: &Hands<'_, R, G>,
     bounds: &Bounds,
-    workers: u32,
     file: u32,
     inputs: &mut I,
     store: &mut Updater<'_, D>,
     out: &mut S,
-    gate: &G,
 ) -> Result<Delta, Fault>
-    requires workers { AreWorkers workers }
     ensures leads { (old : Before) (start done : Progress) (held : Holding) → IsHead start done (imported held) file old (I.view inputs.old) (handle_of store.old) (S.view out.old)
         → LeadsBy bounds.now file result start done held old (I.view inputs.new) (handle_of store.new) (S.view out.new) }
     ensures local { OnOk result ((held : Holding) (pages : List (List ℕ)) → IsOpen (imported held) (handle_of store.old) → IsAtRest pages (view_of (handle_of store.old))
         → AppendsHere bounds.now held pages file (I.view inputs.old) (I.view inputs.new) (handle_of store.old) (handle_of store.new)) }
     ensures version { IfOk result (λ delta. delta.version ≡ changes_of (handle_of store.old) + 1) }
     ensures changes { OnOk result (changes_of (handle_of store.new) ≡ changes_of (handle_of store.old) + 1) }
-    ensures stays { StaysOver store.old store.new }
-    ensures asked { (count : ℕ) × I.reads inputs.old (replicate count file) inputs.new }
-    ensures formatted { result_err result ≢ Some Fault.NotFormatted }
+    ensures works { WorksOn (λ asked. I.reads inputs.old asked inputs.new) file (result_err result) store.old store.new }
 {
-    let change = match read_change(alloc, inputs, file) {
+    let change = match read_change(hands.alloc, inputs, file) {
         Ok(change) => change,
         Err(fault) => return Err(fault),
     };
-    let delta = match store.append_one(rt, bounds, change, workers, gate) {
+    let delta = match store.append_one(hands, bounds, change) {
         Ok(delta) => delta,
         Err(fault) => return Err(Fault::in_flow(fault)),
     };
@@ -120,62 +108,51 @@ pub fn commit_file<R: Threads + Sync, I: Inputs, D: Disk, S: Sink, G: Gate>(
 
 /// Appends a change file to a store that was imported, and tells so.
 pub fn append_file<R: Threads + Sync, I: Inputs, D: Disk, S: Sink, G: Gate>(
-    rt: &R,
-    alloc: Global,
+    hands: &Hands<'_, R, G>,
     bounds: &Bounds,
-    workers: u32,
     file: u32,
     inputs: &mut I,
     store: &mut Updater<'_, D>,
     out: &mut S,
-    gate: &G,
 ) -> Result<(), Fault>
-    requires workers { AreWorkers workers }
     ensures leads { (old : Before) (start done : Progress) (held : Holding) → IsHead start done (imported held) file old (I.view inputs.old) (handle_of store.old) (S.view out.old)
         → Leads (λ last. appends_one bounds.now held file (onward last)) (result_err result) start done (file + 1) old
         (I.view inputs.new) (handle_of store.new) (S.view out.new) }
     ensures local { OnOk result ((held : Holding) (pages : List (List ℕ)) → IsOpen (imported held) (handle_of store.old) → IsAtRest pages (view_of (handle_of store.old))
         → AppendsHere bounds.now held pages file (I.view inputs.old) (I.view inputs.new) (handle_of store.old) (handle_of store.new)) }
-    ensures stays { StaysOver store.old store.new }
-    ensures asked { (count : ℕ) × I.reads inputs.old (replicate count file) inputs.new }
-    ensures formatted { result_err result ≢ Some Fault.NotFormatted }
+    ensures works { WorksOn (λ asked. I.reads inputs.old asked inputs.new) file (result_err result) store.old store.new }
 {
-    let _delta = match commit_file(rt, alloc, bounds, workers, file, inputs, store, out, gate) {
+    let _delta = match commit_file(hands, bounds, file, inputs, store, out) {
         Ok(delta) => delta,
         Err(fault) => return Err(fault),
     };
     Ok(())
 }
 
-/// Appends so many change files from this one on, one after another. The gate is passed before each, with its number from 1.
+/// Appends these change files, one after another. The gate is passed before each, with its number from 1.
 pub fn append_files<R: Threads + Sync, I: Inputs, D: Disk, S: Sink, G: Gate>(
-    rt: &R,
-    alloc: Global,
+    hands: &Hands<'_, R, G>,
     bounds: &Bounds,
-    workers: u32,
-    first: u32,
-    count: u32,
+    files: Files,
     inputs: &mut I,
     store: &mut Updater<'_, D>,
     out: &mut S,
-    gate: &G,
 ) -> Result<(), Fault>
-    requires workers { AreWorkers workers }
-    requires fits { first + count ≤ 8192 }
-    ensures leads { (old : Before) (start done : Progress) (held : Holding) → IsHead start done (imported held) first old (I.view inputs.old) (handle_of store.old) (S.view out.old)
-        → Leads (λ last. appends bounds.now held first count (onward last)) (result_err result) start done (first + count) old
+    requires fits { files.first + files.count ≤ 8192 }
+    ensures leads { (old : Before) (start done : Progress) (held : Holding) → IsHead start done (imported held) files.first old (I.view inputs.old) (handle_of store.old) (S.view out.old)
+        → Leads (λ last. appends bounds.now held files.first files.count (onward last)) (result_err result) start done (files.first + files.count) old
         (I.view inputs.new) (handle_of store.new) (S.view out.new) }
     ensures local { OnOk result ((held : Holding) (pages : List (List ℕ)) → IsOpen (imported held) (handle_of store.old) → IsAtRest pages (view_of (handle_of store.old))
-        → AppendsThere bounds.now held pages first count (I.view inputs.old) (view_of (handle_of store.old)).reads (view_of (handle_of store.new)).reads) }
-    ensures stays { StaysOver store.old store.new }
-    ensures asked { AsksOnly (λ asked. I.reads inputs.old asked inputs.new) (Among first count) }
-    ensures formatted { result_err result ≢ Some Fault.NotFormatted }
+        → AppendsThere bounds.now held pages files.first files.count (I.view inputs.old) (view_of (handle_of store.old)).reads (view_of (handle_of store.new)).reads) }
+    ensures works { Works (λ asked. I.reads inputs.old asked inputs.new) (Among files.first files.count) (result_err result) store.old store.new }
 {
-    let end = first + count;
-    let mut file = first;
+    let end = files.first + files.count;
+    let mut file = files.first;
     while file < end {
-        gate.pass(GatePlace::BeforeChange, u64::from(file - first + 1));
-        match append_file(rt, alloc, bounds, workers, file, inputs, store, out, gate) {
+        hands
+            .gate
+            .pass(GatePlace::BeforeChange, u64::from(file - files.first + 1));
+        match append_file(hands, bounds, file, inputs, store, out) {
             Ok(()) => {}
             Err(fault) => return Err(fault),
         }

@@ -9,6 +9,8 @@ ghost use Rattle.updater.specs.Command as spec;
 use crate::commands::{
     append, export, import, init, lines, migrate, points, query, replay, serve, tiles,
 };
+use crate::forms::Words;
+use geom_workers::Workers;
 use run_promise::Files;
 
 /// The most words that a command line may have, the command word counted.
@@ -36,13 +38,13 @@ pub enum Command<'a> {
         store: &'a str,
         files: Files,
         buckets: u64,
-        workers: u32,
+        workers: Workers,
     },
     /// Changes of a store, one after another: BOUNDS and the change files.
     Append {
         store: &'a str,
         files: Files,
-        workers: u32,
+        workers: Workers,
     },
     /// The rows of a table of a store.
     Export {
@@ -64,14 +66,14 @@ pub enum Command<'a> {
     Serve {
         store: &'a str,
         files: Files,
-        workers: u32,
+        workers: Workers,
         readers: u32,
     },
     /// A store made, imported and changed, and all that it holds: STYLE, BOUNDS, INPUT and the change files.
     Replay {
         store: &'a str,
         files: Files,
-        workers: u32,
+        workers: Workers,
     },
     /// A store of the old format, written anew.
     Migrate {
@@ -83,17 +85,19 @@ pub enum Command<'a> {
 pub fn store_of(words: &[String]) -> Option<&str>
     ensures store { option_map (λ store. store.now) result ≡ promise.store_of (spec.command (map string_bytes words.now)) }
 {
-    match command_of(words)? {
-        Command::Init { store }
-        | Command::Import { store, .. }
-        | Command::Append { store, .. }
-        | Command::Export { store, .. }
-        | Command::Tiles { store, .. }
-        | Command::Query { store, .. }
-        | Command::Serve { store, .. }
-        | Command::Replay { store, .. }
-        | Command::Migrate { store } => Some(store),
-        Command::Points { .. } | Command::Lines { .. } => None,
+    match command_of(words) {
+        Some(
+            Command::Init { store }
+            | Command::Import { store, .. }
+            | Command::Append { store, .. }
+            | Command::Export { store, .. }
+            | Command::Tiles { store, .. }
+            | Command::Query { store, .. }
+            | Command::Serve { store, .. }
+            | Command::Replay { store, .. }
+            | Command::Migrate { store },
+        ) => Some(store),
+        Some(Command::Points { .. } | Command::Lines { .. }) | None => None,
     }
 }
 
@@ -135,29 +139,30 @@ pub fn command_of(words: &[String]) -> Option<Command<'_>>
     let (options, rest) = later.split_at(count_options(later));
     let form = without_dashes(rest);
     let place = (words.len() - form.len()) as u32;
-    named(name, options, form, place)
+    let words = Words {
+        options,
+        form,
+        place,
+    };
+    named(name, words)
 }
 
 /// The command of this name with these words.
-fn named<'a>(name: &str, options: &[String], form: &'a [String], place: u32) -> Option<Command<'a>>
-    requires place { place ≤ MAX_WORDS }
-    requires form { length form.now ≤ MAX_WORDS }
-    ensures named { option_map spec.seen result
-        ≡ spec.named name.now (map string_bytes options.now) (map string_bytes form.now) place }
-    ensures fits { IfSome result (λ command. promise.FilesFit (spec.seen command)) }
+fn named<'a>(name: &str, words: Words<'a>) -> Option<Command<'a>>
+    ensures read { spec.IsReadAs (spec.named name.now) words.entry result }
 {
     match name {
-        "points" => points::form(options, form, place),
-        "lines" => lines::form(options, form, place),
-        "init" => init::form(options, form),
-        "import" => import::form(options, form, place),
-        "append" => append::form(options, form, place),
-        "export" => export::form(options, form),
-        "tiles" => tiles::form(options, form),
-        "query" => query::form(options, form, place),
-        "serve" => serve::form(options, form, place),
-        "replay" => replay::form(options, form, place),
-        "migrate" => migrate::form(options, form),
+        "points" => points::form(words),
+        "lines" => lines::form(words),
+        "init" => init::form(words),
+        "import" => import::form(words),
+        "append" => append::form(words),
+        "export" => export::form(words),
+        "tiles" => tiles::form(words),
+        "query" => query::form(words),
+        "serve" => serve::form(words),
+        "replay" => replay::form(words),
+        "migrate" => migrate::form(words),
         _ => None,
     }
 }

@@ -2,9 +2,12 @@ pub mod CountedLaws
 pub mod Fronts
 pub mod ListLaws
 pub mod Made
+pub mod MapNumbers
 pub mod MapLaws
 pub mod MemberLaws
+pub mod NodeLaws
 pub mod NumberLaws
+pub mod ObjectLaws
 pub mod OptionLaws
 pub mod PlaceLaws
 pub mod RowLaws

@@ -2,9 +2,12 @@ pub mod Forms
 pub mod Lists
 pub mod Maps
 pub mod Members
+pub mod Nodes
 pub mod Numbers
+pub mod Objects
 pub mod Options
 pub mod Places
 pub mod Rows
+pub mod StoreMap
 pub mod Tags
 pub mod Texts

@@ -1,6 +1,6 @@
 //! The buckets of an open store are changed in memory.
 ghost use Rattle.std.specs.Prelude.{◌≡◌, ◌≢◌, ◌≤◌, ◌<◌, List, ℕ, None, Some, false, IfOk, IsSome, IsTrue, OnOk};
-ghost use Rattle.std.specs.FinMap as map;
+ghost use Rattle.std.specs.FinMap as finite;
 ghost use Rattle.std.specs.Int.{is_power_of_two};
 ghost use Rattle.chain_store.specs.Chains.{root_of};
 ghost use Rattle.chain_store.specs.declared.root.Root.{Root};
@@ -12,27 +12,27 @@ use chain_store::Root;
 use osm_base::{Bytes, OutOfMemory};
 use outside::Disk;
 use page_journal::StoreFault;
+use value_bytes::StoreMap;
 
 impl<'d, D: Disk> Buckets<'d, D> {
     ghost use Rattle.bucket_store.specs.Calls.{ChangesMemory, SetsFields, SetsText, SetsValue, TakesValue, Touches, TouchesText};
     ghost use Rattle.bucket_store.specs.Image.{Has, Image, with_buckets, with_root, with_value};
-    ghost use Rattle.bucket_store.specs.Transaction.{Content, IsOpenStore, bucket_at, cached_of, chains_of, has_refused};
+    ghost use Rattle.bucket_store.specs.Transaction.{Content, IsOpenStore, IsReady, IsThere, bucket_at, chains_of, has_refused};
+    ghost use Rattle.value_bytes.specs.StoreMap.{number_of};
 
     /// Sets the value of a key in a map.
-    pub fn put(&mut self, which: u8, key: u64, value: &[u8]) -> Result<(), StoreFault>
-        requires which { which < 8 }
-        requires some { 1 ≤ bucket_count (chains_of self.old) }
-        requires going { has_refused self.old ≡ false }
-        ensures value { SetsValue which key value.now self.old self.new result }
-        ensures touches { Touches which key self.old self.new result }
+    pub fn put(&mut self, map: StoreMap, key: u64, value: &[u8]) -> Result<(), StoreFault>
+        requires ready { IsReady self.old }
+        ensures value { SetsValue (number_of map) key value.now self.old self.new result }
+        ensures touches { Touches (number_of map) key self.old self.new result }
     {
-        let chain = self.chain_of(which, key);
+        let chain = self.chain_of(map, key);
         match self.cache.put(chain, key, value) {
             Ok(there) => {
                 if there {
                     return Ok(());
                 }
-                self.bring_and_set(which, key, value)
+                self.bring_and_set(map, key, value)
             }
             Err(_) => {
                 self.refused = true;
@@ -42,37 +42,33 @@ impl<'d, D: Disk> Buckets<'d, D> {
     }
 
     // Sets the value of a key, and reads its bucket first where that is not there.
-    fn bring_and_set(&mut self, which: u8, key: u64, value: &[u8]) -> Result<(), StoreFault>
-        requires which { which < 8 }
-        requires some { 1 ≤ bucket_count (chains_of self.old) }
-        requires going { has_refused self.old ≡ false }
-        ensures value { SetsValue which key value.now self.old self.new result }
-        ensures touches { Touches which key self.old self.new result }
+    fn bring_and_set(&mut self, map: StoreMap, key: u64, value: &[u8]) -> Result<(), StoreFault>
+        requires ready { IsReady self.old }
+        ensures value { SetsValue (number_of map) key value.now self.old self.new result }
+        ensures touches { Touches (number_of map) key self.old self.new result }
     {
-        if let Err(fault) = self.bring(which, key) {
+        if let Err(fault) = self.bring(map, key) {
             return Err(fault);
         }
-        match self.set(which, key, value) {
+        match self.set(map, key, value) {
             Ok(()) => Ok(()),
             Err(_) => Err(StoreFault::OutOfMemory),
         }
     }
 
     // Sets the value of a key whose bucket is there.
-    fn set(&mut self, which: u8, key: u64, value: &[u8]) -> Result<(), OutOfMemory>
-        requires which { which < 8 }
-        requires some { 1 ≤ bucket_count (chains_of self.old) }
+    fn set(&mut self, map: StoreMap, key: u64, value: &[u8]) -> Result<(), OutOfMemory>
+        requires there { IsThere self.old (number_of map) key }
         requires going { has_refused self.old ≡ false }
-        requires there { IsSome (map.get (cached_of self.old) (bucket_at self.old which key)) }
         ensures put { OnOk result ((pages : List (List ℕ)) → IsOpenStore pages self.old → (values : BucketMap)
-            → Content pages self.old (bucket_at self.old which key) values
-            → Content pages self.new (bucket_at self.old which key) (map.insert values key value.now)) }
+            → Content pages self.old (bucket_at self.old (number_of map) key) values
+            → Content pages self.new (bucket_at self.old (number_of map) key) (finite.insert values key value.now)) }
         ensures others { OnOk result ((pages : List (List ℕ)) → IsOpenStore pages self.old → (other : ℕ) (values : BucketMap)
-            → other ≢ bucket_at self.old which key → Content pages self.old other values → Content pages self.new other values) }
-        ensures has { OnOk result ((rest now : Image) → Has rest now self.old → Has rest (with_value which key (Some value.now) now) self.new) }
+            → other ≢ bucket_at self.old (number_of map) key → Content pages self.old other values → Content pages self.new other values) }
+        ensures has { OnOk result ((rest now : Image) → Has rest now self.old → Has rest (with_value (number_of map) key (Some value.now) now) self.new) }
         ensures memory { ChangesMemory self.old self.new result }
     {
-        let n = self.chain_of(which, key);
+        let n = self.chain_of(map, key);
         match self.cache.put(n, key, value) {
             Ok(_) => Ok(()),
             Err(fault) => {
@@ -83,38 +79,34 @@ impl<'d, D: Disk> Buckets<'d, D> {
     }
 
     /// Takes a key out of a map, and answers whether it was there.
-    pub fn remove(&mut self, which: u8, key: u64) -> Result<bool, StoreFault>
-        requires which { which < 8 }
-        requires some { 1 ≤ bucket_count (chains_of self.old) }
-        requires going { has_refused self.old ≡ false }
-        ensures value { TakesValue which key self.old self.new result }
-        ensures touches { Touches which key self.old self.new result }
+    pub fn remove(&mut self, map: StoreMap, key: u64) -> Result<bool, StoreFault>
+        requires ready { IsReady self.old }
+        ensures value { TakesValue (number_of map) key self.old self.new result }
+        ensures touches { Touches (number_of map) key self.old self.new result }
     {
-        if let Err(fault) = self.bring(which, key) {
+        if let Err(fault) = self.bring(map, key) {
             return Err(fault);
         }
-        match self.unset(which, key) {
+        match self.unset(map, key) {
             Ok(was) => Ok(was),
             Err(_) => Err(StoreFault::OutOfMemory),
         }
     }
 
     // Takes out a key whose bucket is there.
-    fn unset(&mut self, which: u8, key: u64) -> Result<bool, OutOfMemory>
-        requires which { which < 8 }
-        requires some { 1 ≤ bucket_count (chains_of self.old) }
+    fn unset(&mut self, map: StoreMap, key: u64) -> Result<bool, OutOfMemory>
+        requires there { IsThere self.old (number_of map) key }
         requires going { has_refused self.old ≡ false }
-        requires there { IsSome (map.get (cached_of self.old) (bucket_at self.old which key)) }
         ensures taken { IfOk result (λ was. (pages : List (List ℕ)) → IsOpenStore pages self.old → (values : BucketMap)
-            → Content pages self.old (bucket_at self.old which key) values → (was ≡ map.contains_key values key)
-            × Content pages self.new (bucket_at self.old which key) (map.remove values key)) }
+            → Content pages self.old (bucket_at self.old (number_of map) key) values → (was ≡ finite.contains_key values key)
+            × Content pages self.new (bucket_at self.old (number_of map) key) (finite.remove values key)) }
         ensures others { OnOk result ((pages : List (List ℕ)) → IsOpenStore pages self.old → (other : ℕ) (values : BucketMap)
-            → other ≢ bucket_at self.old which key → Content pages self.old other values → Content pages self.new other values) }
+            → other ≢ bucket_at self.old (number_of map) key → Content pages self.old other values → Content pages self.new other values) }
         ensures has { IfOk result (λ was. (rest now : Image) → Has rest now self.old
-            → (was ≡ map.contains_key (now.maps which) key) × Has rest (with_value which key None now) self.new) }
+            → (was ≡ finite.contains_key (now.maps (number_of map)) key) × Has rest (with_value (number_of map) key None now) self.new) }
         ensures memory { ChangesMemory self.old self.new result }
     {
-        let n = self.chain_of(which, key);
+        let n = self.chain_of(map, key);
         match self.cache.remove(n, key) {
             Ok(was) => Ok(was),
             Err(fault) => {

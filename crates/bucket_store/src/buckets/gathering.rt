@@ -1,6 +1,6 @@
 //! The maps of an open store are read whole.
 ghost use Rattle.std.specs.Prelude.{◌≡◌, ◌≤◌, ◌<◌, List, ℕ, false, IsSome, OnOk, Some};
-ghost use Rattle.std.specs.FinMap as map;
+ghost use Rattle.std.specs.FinMap as finite;
 ghost use Rattle.chain_store.specs.Directories.{IsString};
 ghost use Rattle.bucket_store.specs.Buckets.{HasKeysOf, IsBucketChain, bucket_count, bucket_in};
 ghost use Rattle.bucket_store.specs.Whole.{with_records};
@@ -12,25 +12,24 @@ use crate::whole::WholeMap;
 use osm_base::{Bytes, OutOfMemory};
 use outside::Disk;
 use page_journal::StoreFault;
+use value_bytes::StoreMap;
 
 impl<'d, D: Disk> Buckets<'d, D> {
-    ghost use Rattle.bucket_store.specs.Calls.{BringsChain, GetsMap, TouchesChain, TouchesMap};
-    ghost use Rattle.bucket_store.specs.Transaction.{Content, IsOpenStore, cached_of, chains_of, has_refused};
-    ghost use Rattle.bucket_store.specs.Whole.{SameContents};
+    ghost use Rattle.bucket_store.specs.Calls.{BringsOnly, GetsMap, TouchesMap};
+    ghost use Rattle.bucket_store.specs.Transaction.{Content, IsOpenStore, IsReady, IsReadyAt, cached_of, chains_of};
+    ghost use Rattle.value_bytes.specs.StoreMap.{number_of};
 
     /// All of a map. Its buckets are read in their order, each that was not read yet.
-    pub fn whole(&mut self, which: u8) -> Result<WholeMap, StoreFault>
-        requires which { which < 8 }
-        requires some { 1 ≤ bucket_count (chains_of self.old) }
-        requires going { has_refused self.old ≡ false }
-        ensures whole { GetsMap which self.old self.new result }
-        ensures touches { TouchesMap which self.old self.new result }
+    pub fn whole(&mut self, map: StoreMap) -> Result<WholeMap, StoreFault>
+        requires ready { IsReady self.old }
+        ensures whole { GetsMap (number_of map) self.old self.new result }
+        ensures touches { TouchesMap (number_of map) self.old self.new result }
     {
         let count = self.chains.root().buckets;
         let mut whole = WholeMap::new(self.alloc);
         let mut bucket = 0;
         while bucket < count {
-            let n = self.chain_of(which, bucket);
+            let n = self.chain_of(map, bucket);
             if let Err(fault) = self.add_bucket(n, &mut whole) {
                 return Err(fault);
             }
@@ -41,15 +40,10 @@ impl<'d, D: Disk> Buckets<'d, D> {
 
     // Puts the records of a bucket to those that are there.
     fn add_bucket(&mut self, n: u32, whole: &mut WholeMap) -> Result<(), StoreFault>
-        requires string { IsString (bucket_count (chains_of self.old)) n }
-        requires bucket { IsBucketChain (bucket_count (chains_of self.old)) n }
-        requires some { 1 ≤ bucket_count (chains_of self.old) }
-        requires going { has_refused self.old ≡ false }
+        requires ready { IsReadyAt n self.old }
         ensures added { OnOk result ((pages : List (List ℕ)) → IsOpenStore pages self.old → (values : BucketMap) → Content pages self.old n values
-            → (whole.new ≡ with_records (map.entries values) whole.old) × HasKeysOf (bucket_count (chains_of self.old)) (bucket_in n) values) }
-        ensures brings { BringsChain n self.old self.new result }
-        ensures contents { OnOk result (SameContents self.old self.new) }
-        ensures touches { TouchesChain n self.old self.new result }
+            → (whole.new ≡ with_records (finite.entries values) whole.old) × HasKeysOf (bucket_count (chains_of self.old)) (bucket_in n) values) }
+        ensures only { BringsOnly n self.old self.new result }
     {
         if let Err(fault) = self.bring_chain(n) {
             return Err(fault);
@@ -65,8 +59,8 @@ impl<'d, D: Disk> Buckets<'d, D> {
 
     // Puts the records of a bucket that was read to those that are there.
     fn take_records(&self, n: u32, whole: &mut WholeMap) -> Result<(), OutOfMemory>
-        requires there { IsSome (map.get (cached_of self.now) n) }
-        ensures added { OnOk result ((own : Cached) → map.get (cached_of self.now) n ≡ Some own → whole.new ≡ with_records (map.entries own.bucket.values) whole.old) }
+        requires there { IsSome (finite.get (cached_of self.now) n) }
+        ensures added { OnOk result ((own : Cached) → finite.get (cached_of self.now) n ≡ Some own → whole.new ≡ with_records (finite.entries own.bucket.values) whole.old) }
     {
         let records = self.cache.records(n)?;
         add_records(records, whole)

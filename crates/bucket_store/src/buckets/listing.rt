@@ -13,7 +13,7 @@ use page_journal::StoreFault;
 impl<'d, D: Disk> Buckets<'d, D> {
     ghost use Rattle.bucket_store.specs.Calls.{TouchesChain, TouchesNone};
     ghost use Rattle.bucket_store.specs.Listing.{ListsChainOf, ListsFree};
-    ghost use Rattle.bucket_store.specs.Transaction.{chains_of, has_refused};
+    ghost use Rattle.bucket_store.specs.Transaction.{IsReadyAt, chains_of, has_refused};
 
     /// How many home pages the store has.
     pub fn pages(&self) -> u64
@@ -29,10 +29,17 @@ impl<'d, D: Disk> Buckets<'d, D> {
         ensures lists { ListsChainOf n self.old self.new result }
         ensures touches { TouchesChain n self.old self.new result }
     {
-        if n < 16 {
-            return self.pages_of_string(n);
+        if n >= 16 {
+            return self.pages_of_bucket(n);
         }
-        self.pages_of_bucket(n)
+        self.refused = true;
+        match self.chains.pages_of(n) {
+            Ok(pages) => {
+                self.refused = false;
+                Ok(pages)
+            }
+            Err(fault) => Err(fault),
+        }
     }
 
     /// The free pages of the store, in their order. A commit reads them again.
@@ -51,29 +58,9 @@ impl<'d, D: Disk> Buckets<'d, D> {
         }
     }
 
-    // The pages of a string or a directory.
-    fn pages_of_string(&mut self, n: u32) -> Result<Ids, StoreFault>
-        requires string { n < 16 }
-        requires going { has_refused self.old ≡ false }
-        ensures lists { ListsChainOf n self.old self.new result }
-        ensures touches { TouchesChain n self.old self.new result }
-    {
-        self.refused = true;
-        match self.chains.pages_of(n) {
-            Ok(pages) => {
-                self.refused = false;
-                Ok(pages)
-            }
-            Err(fault) => Err(fault),
-        }
-    }
-
     // The pages of a bucket, which is read where that was not done yet.
     fn pages_of_bucket(&mut self, n: u32) -> Result<Ids, StoreFault>
-        requires string { IsString (bucket_count (chains_of self.old)) n }
-        requires bucket { IsBucketChain (bucket_count (chains_of self.old)) n }
-        requires some { 1 ≤ bucket_count (chains_of self.old) }
-        requires going { has_refused self.old ≡ false }
+        requires ready { IsReadyAt n self.old }
         ensures lists { ListsChainOf n self.old self.new result }
         ensures touches { TouchesChain n self.old self.new result }
     {

@@ -20,14 +20,14 @@ pub fn put(
     requires { has_refused buckets.old ≡ false }
     ensures { OnOk result (has_refused buckets.new ≡ false) }
 {
-    let Some((which, key, value)) = key_of(text) else {
+    let Some((map, key, value)) = key_of(text) else {
         return none(alloc);
     };
     if buckets.root().buckets == 0 {
         return none(alloc);
     }
     let value = spelled(alloc, value)?;
-    match buckets.put(which, key, &value) {
+    match buckets.put(map, key, &value) {
         Ok(()) => Ok(String::from_str(alloc, "ok")?),
         Err(fault) => Err(fault),
     }
@@ -42,13 +42,13 @@ pub fn remove(
     requires { has_refused buckets.old ≡ false }
     ensures { OnOk result (has_refused buckets.new ≡ false) }
 {
-    let Some((which, key, _)) = key_of(text) else {
+    let Some((map, key, _)) = key_of(text) else {
         return none(alloc);
     };
     if buckets.root().buckets == 0 {
         return none(alloc);
     }
-    match buckets.remove(which, key) {
+    match buckets.remove(map, key) {
         Ok(was) => Ok(format!(in alloc; "{was}")?),
         Err(fault) => Err(fault),
     }

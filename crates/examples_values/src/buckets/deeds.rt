@@ -10,6 +10,7 @@ use example_table::{number_of, row_of};
 use outside::MemDisk;
 use page_journal::StoreFault;
 use std::alloc::{AllocError, Global};
+use value_bytes::StoreMap;
 
 /// What a deed answers.
 pub fn answer_of(
@@ -53,24 +54,16 @@ pub fn push_blank(text: &mut String) -> Result<(), AllocError> {
 }
 
 /// A map, and the text behind it. `None`: there is no such map.
-pub fn map_of(text: &str) -> Option<(u8, &str)>
-    ensures { IfSome result (λ found. found.0 < 8) }
-{
-    let (which, rest) = row_of(text)?;
-    let which = u8::try_from(number_of(which)?).ok()?;
-    if which >= 8 {
-        return None;
-    }
-    Some((which, rest))
+pub fn map_of(text: &str) -> Option<(StoreMap, &str)> {
+    let (number, rest) = row_of(text)?;
+    Some((StoreMap::with_number(number_of(number)?)?, rest))
 }
 
 /// A map, a key of it, and the text behind them. `None`: there is no such map.
-pub fn key_of(text: &str) -> Option<(u8, u64, &str)>
-    ensures { IfSome result (λ found. found.0 < 8) }
-{
-    let (which, behind) = map_of(text)?;
+pub fn key_of(text: &str) -> Option<(StoreMap, u64, &str)> {
+    let (map, behind) = map_of(text)?;
     let (key, rest) = row_of(behind)?;
-    Some((which, number_of(key)?, rest))
+    Some((map, number_of(key)?, rest))
 }
 
 /// A string of the store, and the text behind it. `None`: there is no such string.

@@ -19,13 +19,13 @@ pub fn get(
     requires { has_refused buckets.old ≡ false }
     ensures { OnOk result (has_refused buckets.new ≡ false) }
 {
-    let Some((which, key, _)) = key_of(text) else {
+    let Some((map, key, _)) = key_of(text) else {
         return none(alloc);
     };
     if buckets.root().buckets == 0 {
         return none(alloc);
     }
-    match buckets.get(which, key) {
+    match buckets.get(map, key) {
         Ok(Some(value)) => Ok(value_text(alloc, value.as_slice())?),
         Ok(None) => Ok(String::from_str(alloc, "none")?),
         Err(fault) => Err(fault),
@@ -41,13 +41,13 @@ pub fn listed(
     requires { has_refused buckets.old ≡ false }
     ensures { OnOk result (has_refused buckets.new ≡ false) }
 {
-    let Some((which, key, _)) = key_of(text) else {
+    let Some((map, key, _)) = key_of(text) else {
         return none(alloc);
     };
     if buckets.root().buckets == 0 {
         return none(alloc);
     }
-    match buckets.records(which, key) {
+    match buckets.records(map, key) {
         Ok(records) => Ok(records_text(alloc, &records)?),
         Err(fault) => Err(fault),
     }
@@ -62,13 +62,13 @@ pub fn whole(
     requires { has_refused buckets.old ≡ false }
     ensures { OnOk result (has_refused buckets.new ≡ false) }
 {
-    let Some((which, keys)) = map_of(text) else {
+    let Some((map, keys)) = map_of(text) else {
         return none(alloc);
     };
     if buckets.root().buckets == 0 {
         return none(alloc);
     }
-    match buckets.whole(which) {
+    match buckets.whole(map) {
         Ok(whole) => Ok(values_text(alloc, &whole, keys)?),
         Err(fault) => Err(fault),
     }

@@ -1,5 +1,5 @@
 //! A change of an open store.
-ghost use Rattle.std.specs.Prelude.{◌≡◌, ◌≤◌, ◌+◌, ℕ, List, Some, true, false, IfOk, OnOk};
+ghost use Rattle.std.specs.Prelude.{◌≡◌, ◌+◌, ℕ, List, Some, true, false, IfOk, OnOk};
 ghost use Rattle.std.specs.Result.{result_err};
 ghost use Rattle.osm_base.specs.map.Objects.{folded_all};
 ghost use Rattle.page_journal.specs.Crash.{IsAtRest};
@@ -13,6 +13,7 @@ ghost use Rattle.update_flow.specs.State.{Append, Holding, State, imported};
 use super::Updater;
 use crate::over_disk::append_on;
 use crate::{FlowFault, LAST_CHANGE};
+use geom_workers::Hands;
 use object_fold::Change;
 use osm_base::Delta;
 use outside::{Disk, Gate};
@@ -24,17 +25,13 @@ impl<D: Disk> Updater<'_, D> {
     ghost use Rattle.update_flow.specs.Updater.{StaysOpen, handle_of};
 
     /// A change, in one commit: the objects, the rows that depend on them and the tiles that are due. Answers how the tables differ
-    /// from then on. The rows are built by so many workers, which pass the gate at `Drawn` and `Built`.
+    /// from then on. The rows are built by all workers, which pass the gate at `Drawn` and `Built`.
     pub fn append_one<R: Threads + Sync, G: Gate>(
         &mut self,
-        rt: &R,
+        hands: &Hands<'_, R, G>,
         bounds: &Bounds,
         change: Change,
-        workers: u32,
-        gate: &G,
     ) -> Result<Delta, FlowFault>
-        requires one_worker { 1 ≤ workers }
-        requires few_workers { workers ≤ 64 }
         ensures takes { (state : State) → IsOpen state (handle_of self.old)
             → Takes state (Append bounds.now change) (result_err result) (handle_of self.old) (handle_of self.new) }
         ensures delta { IfOk result (λ delta. (held : Holding) → IsOpen (imported held) (handle_of self.old)
@@ -66,8 +63,7 @@ impl<D: Disk> Updater<'_, D> {
         };
         let version = self.changes + 1;
         let appended = append_on(
-            rt,
-            self.alloc,
+            hands,
             self.disk,
             &self.limits,
             store,
@@ -76,8 +72,6 @@ impl<D: Disk> Updater<'_, D> {
             bounds,
             &change,
             version,
-            workers,
-            gate,
         );
         match appended {
             Ok(changes) => {

@@ -9,6 +9,7 @@ ghost use Rattle.update_flow.specs.State.{Import, State};
 use super::Updater;
 use crate::FlowFault;
 use crate::over_disk::import_on;
+use geom_workers::Hands;
 use object_fold::Change;
 use outside::{Disk, Gate};
 use page_journal::StoreFault;
@@ -19,22 +20,18 @@ impl<D: Disk> Updater<'_, D> {
     ghost use Rattle.update_flow.specs.Updater.{StaysOpen, handle_of};
 
     /// The first import, in one commit: the entries' objects with their rows under the style. Each of the eight maps has so many
-    /// buckets from then on. The rows are built by so many workers, which pass the gate at `Drawn` and `Built`.
+    /// buckets from then on. The rows are built by all workers, which pass the gate at `Drawn` and `Built`.
     pub fn import<R: Threads + Sync, G: Gate>(
         &mut self,
-        rt: &R,
+        hands: &Hands<'_, R, G>,
         style_bytes: &[u8],
         style: Style,
         change: Change,
         buckets: u64,
-        workers: u32,
-        gate: &G,
     ) -> Result<(), FlowFault>
         requires style { reading style_bytes.now ≡ Ok style }
         requires power { IsTrue (is_power_of_two buckets) }
         requires few_buckets { buckets ≤ 65536 }
-        requires one_worker { 1 ≤ workers }
-        requires few_workers { workers ≤ 64 }
         requires few { length change ≤ 16777216 }
         ensures takes { (state : State) → IsOpen state (handle_of self.old)
             → Takes state (Import style style_bytes.now buckets change) (result_err result) (handle_of self.old) (handle_of self.new) }
@@ -54,8 +51,7 @@ impl<D: Disk> Updater<'_, D> {
             return Err(FlowFault::Store(StoreFault::Broken));
         };
         match import_on(
-            rt,
-            self.alloc,
+            hands,
             self.disk,
             &self.limits,
             store,
@@ -64,8 +60,6 @@ impl<D: Disk> Updater<'_, D> {
             &style,
             change,
             buckets,
-            workers,
-            gate,
         ) {
             Ok(()) => {
                 self.changes = 0;

@@ -4,5 +4,5 @@ use Rattle.run_promise.specs.CommandOf.{CommandOf, init_of}
 use Rattle.updater.specs.Forms.{stored}
 
 -- the form of its words
-abbrev pub form : (options words : List (List ℕ)) → Option CommandOf
-form options words = stored init_of options words
+abbrev pub form : (options words : List (List ℕ)) → (place : ℕ) → Option CommandOf
+form options words place = stored init_of options words

@@ -19,5 +19,5 @@ form_with (store ∷ zoom ∷ []) options = option_and_then
 form_with _ options = None
 
 -- the form of its words
-abbrev pub form : (options words : List (List ℕ)) → Option CommandOf
-form options words = option_and_then (form_with words) (options_read allowed options)
+abbrev pub form : (options words : List (List ℕ)) → (place : ℕ) → Option CommandOf
+form options words place = option_and_then (form_with words) (options_read allowed options)

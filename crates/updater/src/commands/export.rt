@@ -1,22 +1,18 @@
 //! `export STORE TABLE`: the rows of a table.
-ghost use Rattle.std.specs.Prelude.{◌≡◌, ◌≢◌, Some, map, IfSome};
-ghost use Rattle.std.specs.Option.{option_map};
-ghost use Rattle.std.specs.String.{string_bytes};
-ghost use Rattle.run_promise.specs.CommandOf.{FilesFit, old_store};
-ghost use Rattle.updater.specs.Command.{seen};
-ghost use Rattle.updater.specs.commands.Export as spec;
+ghost use Rattle.updater.specs.Command.{IsReadAs};
+ghost use Rattle.updater.specs.commands.Export as export;
 ghost use Rattle.std.specs.Result.{result_err};
-ghost use Rattle.outside.specs.Disk.{Stays};
 ghost use Rattle.update_flow.specs.State.{State};
 ghost use Rattle.update_flow.specs.Handle.{view_of};
-ghost use Rattle.update_flow.specs.Updater.{StaysOver, handle_of};
+ghost use Rattle.update_flow.specs.Updater.{handle_of};
 ghost use Rattle.run_promise.specs.Course.{opens};
 ghost use Rattle.updater.specs.Heads.{GoesOn, IsHead};
 ghost use Rattle.run_promise.specs.Progress.{Progress};
 ghost use Rattle.run_promise.specs.World.{Before, world};
 ghost use Rattle.run_promise.specs.Courses.{export_from};
-ghost use Rattle.run_promise.specs.Runs.{Begins, GoesBy};
+ghost use Rattle.updater.specs.Works.{Does, KeepsOpen, NoFile};
 
+use crate::forms::Words;
 use crate::telling::tell;
 use crate::words::Command;
 use osm_base::Limits;
@@ -27,12 +23,11 @@ use std::alloc::Global;
 use update_flow::{Updater, open};
 
 /// The form of its words.
-pub fn form<'a>(options: &[String], form: &'a [String]) -> Option<Command<'a>>
-    ensures form { option_map seen result ≡ spec.form (map string_bytes options.now) (map string_bytes form.now) }
-    ensures fits { IfSome result (λ command. FilesFit (seen command)) }
+pub fn form(words: Words<'_>) -> Option<Command<'_>>
+    ensures read { IsReadAs export.form words.entry result }
 {
-    match form {
-        [store, table] if options.is_empty() => Some(Command::Export {
+    match words.form {
+        [store, table] if words.options.is_empty() => Some(Command::Export {
             store: store.as_str(),
             table: table.as_str(),
         }),
@@ -48,11 +43,8 @@ pub fn export<I: Inputs, D: Disk, S: Sink>(
     disk: &mut D,
     out: &mut S,
 ) -> Result<(), Fault>
-    ensures course { (start : Progress) → Begins old_store (world (I.view inputs.now) (D.view disk.old) (S.view out.old)) start
-        → GoesBy (opens (export_from table.now)) start (result_err result)
-        (world (I.view inputs.now) (D.view disk.old) (S.view out.old))
-        (world (I.view inputs.now) (D.view disk.new) (S.view out.new)) }
-    ensures unformatted { result_err result ≡ Some Fault.NotFormatted → Stays (D.view disk.old) (D.view disk.new) }
+    ensures does { Does (opens (export_from table.now)) (λ asked. I.reads inputs.now asked inputs.now) NoFile
+        (world (I.view inputs.now) (D.view disk.old) (S.view out.old)) (world (I.view inputs.now) (D.view disk.new) (S.view out.new)) (result_err result) }
 {
     let limits = Limits::standard();
     let opened = match open(alloc, disk, &limits) {
@@ -75,8 +67,7 @@ fn export_store<I: Inputs, D: Disk, S: Sink>(
 ) -> Result<(), Fault>
     ensures goes_on { (old : Before) (start done : Progress) (state : State) → IsHead start done state 0 old (I.view inputs.now) (handle_of store.old) (S.view out.old)
         → GoesOn (export_from table.now state) start done (result_err result) old (world (I.view inputs.now) (view_of (handle_of store.new)) (S.view out.new)) }
-    ensures stays { StaysOver store.old store.new }
-    ensures formatted { result_err result ≢ Some Fault.NotFormatted }
+    ensures keeps { KeepsOpen (result_err result) store.old store.new }
 {
     if store.old() {
         return Err(Fault::OldFormat);

@@ -1,10 +1,7 @@
 //! `init STORE`: an empty store on an empty disk.
-ghost use Rattle.std.specs.Prelude.{◌≡◌, ◌≢◌, length, map, Some, IfSome};
-ghost use Rattle.std.specs.Option.{option_map};
-ghost use Rattle.std.specs.String.{string_bytes};
-ghost use Rattle.run_promise.specs.CommandOf.{FilesFit};
-ghost use Rattle.updater.specs.Command.{seen};
-ghost use Rattle.updater.specs.commands.Init as spec;
+ghost use Rattle.std.specs.Prelude.{◌≡◌, ◌≢◌, length, Some};
+ghost use Rattle.updater.specs.Command.{IsReadAs};
+ghost use Rattle.updater.specs.commands.Init as init;
 ghost use Rattle.std.specs.Result.{result_err};
 ghost use Rattle.outside.specs.Bytes.{IfTold};
 ghost use Rattle.outside.specs.Disk.{Stays};
@@ -13,7 +10,7 @@ ghost use Rattle.run_promise.specs.Progress.{begun, unused};
 ghost use Rattle.run_promise.specs.Runs.{GoesBy};
 ghost use Rattle.run_promise.specs.World.{world};
 
-use crate::forms::stored;
+use crate::forms::{Words, stored};
 use crate::telling::tell;
 use crate::words::Command;
 use outside::{Disk, Inputs, Sink};
@@ -24,11 +21,10 @@ use run_promise::Fault;
 const FORMATTED: &str = "formatted\n";
 
 /// The form of its words.
-pub fn form<'a>(options: &[String], form: &'a [String]) -> Option<Command<'a>>
-    ensures form { option_map seen result ≡ spec.form (map string_bytes options.now) (map string_bytes form.now) }
-    ensures fits { IfSome result (λ command. FilesFit (seen command)) }
+pub fn form(words: Words<'_>) -> Option<Command<'_>>
+    ensures read { IsReadAs init.form words.entry result }
 {
-    let store = stored(options, form)?;
+    let store = stored(words)?;
     Some(Command::Init { store })
 }
 

@@ -1,23 +1,18 @@
 //! `migrate STORE`: a store of the old format gets this one.
-ghost use Rattle.std.specs.Prelude.{◌≡◌, ◌≢◌, Some, map, IfSome};
-ghost use Rattle.std.specs.Option.{option_map};
 ghost use Rattle.std.specs.Result.{result_err};
-ghost use Rattle.std.specs.String.{string_bytes};
-ghost use Rattle.outside.specs.Disk.{Stays};
 ghost use Rattle.update_flow.specs.Handle.{view_of};
 ghost use Rattle.update_flow.specs.State.{State};
-ghost use Rattle.update_flow.specs.Updater.{StaysOver, handle_of};
-ghost use Rattle.run_promise.specs.CommandOf.{old_store, FilesFit};
-ghost use Rattle.updater.specs.Command.{seen};
+ghost use Rattle.update_flow.specs.Updater.{handle_of};
+ghost use Rattle.updater.specs.Command.{IsReadAs};
 ghost use Rattle.run_promise.specs.Course.{opens};
 ghost use Rattle.run_promise.specs.Courses.{migrates};
 ghost use Rattle.updater.specs.Heads.{GoesOn, IsHead};
 ghost use Rattle.run_promise.specs.Progress.{Progress};
-ghost use Rattle.run_promise.specs.Runs.{Begins, GoesBy};
+ghost use Rattle.updater.specs.Works.{Does, KeepsOpen, NoFile};
 ghost use Rattle.run_promise.specs.World.{Before, world};
-ghost use Rattle.updater.specs.commands.Migrate as spec;
+ghost use Rattle.updater.specs.commands.Migrate as migrate;
 
-use crate::forms::stored;
+use crate::forms::{Words, stored};
 use crate::telling::tell;
 use crate::words::Command;
 use osm_base::Limits;
@@ -30,11 +25,10 @@ use update_flow::{Updater, open};
 const FORMAT_LINE: &str = "format 2\n";
 
 /// The form of its words.
-pub fn form<'a>(options: &[String], form: &'a [String]) -> Option<Command<'a>>
-    ensures form { option_map seen result ≡ spec.form (map string_bytes options.now) (map string_bytes form.now) }
-    ensures fits { IfSome result (λ command. FilesFit (seen command)) }
+pub fn form(words: Words<'_>) -> Option<Command<'_>>
+    ensures read { IsReadAs migrate.form words.entry result }
 {
-    let store = stored(options, form)?;
+    let store = stored(words)?;
     Some(Command::Migrate { store })
 }
 
@@ -45,11 +39,8 @@ pub fn migrate<I: Inputs, D: Disk, S: Sink>(
     disk: &mut D,
     out: &mut S,
 ) -> Result<(), Fault>
-    ensures course { (start : Progress) → Begins old_store (world (I.view inputs.now) (D.view disk.old) (S.view out.old)) start
-        → GoesBy (opens migrates) start (result_err result)
-        (world (I.view inputs.now) (D.view disk.old) (S.view out.old))
-        (world (I.view inputs.now) (D.view disk.new) (S.view out.new)) }
-    ensures unformatted { result_err result ≡ Some Fault.NotFormatted → Stays (D.view disk.old) (D.view disk.new) }
+    ensures does { Does (opens migrates) (λ asked. I.reads inputs.now asked inputs.now) NoFile
+        (world (I.view inputs.now) (D.view disk.old) (S.view out.old)) (world (I.view inputs.now) (D.view disk.new) (S.view out.new)) (result_err result) }
 {
     let limits = Limits::standard();
     let opened = match open(alloc, disk, &limits) {
@@ -70,8 +61,7 @@ fn migrate_store<I: Inputs, D: Disk, S: Sink>(
 ) -> Result<(), Fault>
     ensures goes_on { (old : Before) (start done : Progress) (state : State) → IsHead start done state 0 old (I.view inputs.now) (handle_of store.old) (S.view out.old)
         → GoesOn (migrates state) start done (result_err result) old (world (I.view inputs.now) (view_of (handle_of store.new)) (S.view out.new)) }
-    ensures stays { StaysOver store.old store.new }
-    ensures formatted { result_err result ≢ Some Fault.NotFormatted }
+    ensures keeps { KeepsOpen (result_err result) store.old store.new }
 {
     if !store.imported() {
         return Err(Fault::NotImported);

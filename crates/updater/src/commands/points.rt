@@ -1,19 +1,16 @@
 //! `points KEY INPUT CHANGE*`: a row for each node that has the tag and a place.
-ghost use Rattle.std.specs.Prelude.{◌≡◌, ◌≤◌, List, ℕ, map, length, IfSome};
-ghost use Rattle.std.specs.Option.{option_map};
-ghost use Rattle.std.specs.String.{string_bytes};
 ghost use Rattle.std.specs.Result.{result_err};
-ghost use Rattle.run_promise.specs.CommandOf.{FilesFit, Fit, Names, points_of};
-ghost use Rattle.updater.specs.Command.{seen};
+ghost use Rattle.run_promise.specs.CommandOf.{Fit, Names, points_of};
+ghost use Rattle.updater.specs.Command.{IsReadAs};
 ghost use Rattle.run_promise.specs.Courses.{course_of};
 ghost use Rattle.run_promise.specs.Progress.{begun, unused};
 ghost use Rattle.run_promise.specs.Runs.{AsksOnly, GoesBy};
 ghost use Rattle.run_promise.specs.World.{world};
-ghost use Rattle.updater.specs.commands.Points as spec;
+ghost use Rattle.updater.specs.commands.Points as points;
 
-use crate::forms::keyed;
+use crate::forms::{Words, keyed};
 use crate::telling::tell;
-use crate::words::{Command, MAX_WORDS};
+use crate::words::Command;
 use object_fold::scan_file;
 use osm_base::Limits;
 use outside::{Disk, Inputs, Sink};
@@ -22,13 +19,10 @@ use std::alloc::Global;
 use tag_rows::PointRows;
 
 /// The form of its words.
-pub fn form<'a>(options: &[String], form: &'a [String], place: u32) -> Option<Command<'a>>
-    requires place { place ≤ MAX_WORDS }
-    requires form { length form.now ≤ MAX_WORDS }
-    ensures form { option_map seen result ≡ spec.form (map string_bytes options.now) (map string_bytes form.now) place }
-    ensures fits { IfSome result (λ command. FilesFit (seen command)) }
+pub fn form(words: Words<'_>) -> Option<Command<'_>>
+    ensures read { IsReadAs points.form words.entry result }
 {
-    let (key, files) = keyed(options, form, place)?;
+    let (key, files) = keyed(words)?;
     Some(Command::Points { key, files })
 }
 

@@ -1,17 +1,15 @@
 //! `replay STORE STYLE BOUNDS INPUT CHANGE*`: a store made, imported and changed, and all that it holds.
-ghost use Rattle.std.specs.Prelude.{◌≡◌, ◌≢◌, ◌≤◌, ◌+◌, List, ℕ, Ok, Some, map, length, IfErr, IfSome, OnOk};
-ghost use Rattle.std.specs.Option.{option_map};
+ghost use Rattle.std.specs.Prelude.{◌≡◌, ◌≢◌, ◌≤◌, ◌+◌, List, ℕ, Ok, Some, length, IfErr, OnOk};
 ghost use Rattle.std.specs.Result.{result_err};
-ghost use Rattle.std.specs.String.{string_bytes};
 ghost use Rattle.outside.specs.Bytes.{IfTold};
 ghost use Rattle.outside.specs.Disk.{Stays};
 ghost use Rattle.outside.specs.Inputs.{FilesView};
 ghost use Rattle.style_read.specs.Reading.{reading};
 ghost use Rattle.update_flow.specs.Handle.{view_of};
 ghost use Rattle.update_flow.specs.State.{Holding, State, imported};
-ghost use Rattle.update_flow.specs.Updater.{StaysOver, handle_of};
-ghost use Rattle.run_promise.specs.CommandOf.{AreWorkers, FilesFit, replay_of};
-ghost use Rattle.updater.specs.Command.{seen};
+ghost use Rattle.update_flow.specs.Updater.{handle_of};
+ghost use Rattle.run_promise.specs.CommandOf.{FitFrom};
+ghost use Rattle.updater.specs.Command.{IsReadAs};
 ghost use Rattle.run_promise.specs.Course.{formats, looks};
 ghost use Rattle.run_promise.specs.Courses.{fills, if_blank, onward, replay_course, telling};
 ghost use Rattle.updater.specs.Heads.{GoesOn, IsHead, IsSoFar};
@@ -19,16 +17,18 @@ ghost use Rattle.run_promise.specs.Making.{IsNotEmpty, reading_alone};
 ghost use Rattle.run_promise.specs.Progress.{Progress, begun, unused};
 ghost use Rattle.updater.specs.FileReads.{Among};
 ghost use Rattle.run_promise.specs.Runs.{AsksOnly, GoesBy};
+ghost use Rattle.updater.specs.Works.{KeepsOpen, Works};
 ghost use Rattle.run_promise.specs.World.{Before, world};
-ghost use Rattle.updater.specs.commands.Replay as spec;
+ghost use Rattle.updater.specs.commands.Replay as replay;
 
 use crate::file_reads::{StyleFile, read_bounds_file, read_style_file};
-use crate::forms::stored_files;
-use crate::options::{Allowed, WORKERS, options_of};
+use crate::forms::{Words, stored_files};
+use crate::options::{Allowed, options_of, usual_workers};
 use crate::telling::tell;
 use crate::versions::{append_files, import_file};
 use crate::whole_text::whole_text;
-use crate::words::{Command, MAX_WORDS};
+use crate::words::Command;
+use geom_workers::Hands;
 use osm_base::Limits;
 use outside::{Disk, Gate, Inputs, Sink};
 use page_journal::format;
@@ -50,34 +50,28 @@ const ALLOWED: Allowed = Allowed {
 const MADE_BUCKETS: u64 = 1_024;
 
 /// The form of its words.
-pub fn form<'a>(options: &[String], form: &'a [String], place: u32) -> Option<Command<'a>>
-    requires place { place ≤ MAX_WORDS }
-    requires form { length form.now ≤ MAX_WORDS }
-    ensures form { option_map seen result ≡ spec.form (map string_bytes options.now) (map string_bytes form.now) place }
-    ensures fits { IfSome result (λ command. FilesFit (seen command)) }
+pub fn form(words: Words<'_>) -> Option<Command<'_>>
+    ensures read { IsReadAs replay.form words.entry result }
 {
-    let own = options_of(ALLOWED, options)?;
-    let (store, files) = stored_files(form, place, 3)?;
+    let own = options_of(ALLOWED, words.options)?;
+    let (store, files) = stored_files(words, 3)?;
     Some(Command::Replay {
         store,
         files,
-        workers: own.workers.unwrap_or(WORKERS),
+        workers: own.workers.unwrap_or(usual_workers()),
     })
 }
 
 /// Makes a store on an empty disk, imports INPUT into it under STYLE, appends the change files under BOUNDS, and writes all that it
 /// holds then.
 pub fn replay<R: Threads + Sync, I: Inputs, D: Disk, S: Sink, G: Gate>(
-    rt: &R,
-    alloc: Global,
+    hands: &Hands<'_, R, G>,
     files: Files,
-    workers: u32,
     inputs: &mut I,
     disk: &mut D,
     out: &mut S,
-    gate: &G,
 ) -> Result<(), Fault>
-    requires fits { (store : List ℕ) → FilesFit (replay_of store files workers) }
+    requires fits { FitFrom 3 files }
     ensures course { GoesBy (replay_course files) (begun unused 0) (result_err result)
         (world (I.view inputs.old) (D.view disk.old) (S.view out.old))
         (world (I.view inputs.new) (D.view disk.new) (S.view out.new)) }
@@ -88,26 +82,23 @@ pub fn replay<R: Threads + Sync, I: Inputs, D: Disk, S: Sink, G: Gate>(
     if let Err(fault) = wants_empty(disk) {
         return Err(fault);
     }
-    let style = match read_style_file(alloc, inputs, files.first) {
+    let style = match read_style_file(hands.alloc, inputs, files.first) {
         Ok(style) => style,
         Err(fault) => return Err(fault),
     };
-    let bounds = match read_bounds_file(alloc, inputs, files.first + 1) {
+    let bounds = match read_bounds_file(hands.alloc, inputs, files.first + 1) {
         Ok(bounds) => bounds,
         Err(fault) => return Err(fault),
     };
     make_store(
-        rt,
-        alloc,
+        hands,
         style,
         &bounds,
-        workers,
         files.first + 2,
         files.count - 3,
         inputs,
         disk,
         out,
-        gate,
     )
 }
 
@@ -128,20 +119,16 @@ fn wants_empty<D: Disk>(disk: &mut D) -> Result<(), Fault>
 
 /// Makes a store on an empty disk, and fills it.
 fn make_store<R: Threads + Sync, I: Inputs, D: Disk, S: Sink, G: Gate>(
-    rt: &R,
-    alloc: Global,
+    hands: &Hands<'_, R, G>,
     style: StyleFile,
     bounds: &Bounds,
-    workers: u32,
     first: u32,
     changes: u32,
     inputs: &mut I,
     disk: &mut D,
     out: &mut S,
-    gate: &G,
 ) -> Result<(), Fault>
     requires style { reading style.bytes ≡ Ok style.style }
-    requires workers { AreWorkers workers }
     requires fits { first + 1 + changes ≤ 8192 }
     ensures goes_on { (old : Before) (read : List ℕ)
         → IsSoFar (begun unused 0) (reading_alone read) first old (I.view inputs.old) (D.view disk.old) (S.view out.old)
@@ -154,13 +141,13 @@ fn make_store<R: Threads + Sync, I: Inputs, D: Disk, S: Sink, G: Gate>(
         return Err(Fault::in_store(fault));
     }
     let limits = Limits::standard();
-    let opened = match open(alloc, disk, &limits) {
+    let opened = match open(hands.alloc, disk, &limits) {
         Ok(opened) => opened,
         Err(fault) => return Err(Fault::in_made(fault)),
     };
-    let mut store = Updater::over(alloc, disk, opened, &limits);
+    let mut store = Updater::over(hands.alloc, disk, opened, &limits);
     let done = fill_store(
-        rt, alloc, style, bounds, workers, first, changes, inputs, &mut store, out, gate,
+        hands, style, bounds, first, changes, inputs, &mut store, out,
     );
     let _disk = store.close();
     done
@@ -168,62 +155,38 @@ fn make_store<R: Threads + Sync, I: Inputs, D: Disk, S: Sink, G: Gate>(
 
 /// Imports a file into a store that was only made, appends so many behind it, and writes all that the store holds then.
 fn fill_store<R: Threads + Sync, I: Inputs, D: Disk, S: Sink, G: Gate>(
-    rt: &R,
-    alloc: Global,
+    hands: &Hands<'_, R, G>,
     style: StyleFile,
     bounds: &Bounds,
-    workers: u32,
     first: u32,
     changes: u32,
     inputs: &mut I,
     store: &mut Updater<'_, D>,
     out: &mut S,
-    gate: &G,
 ) -> Result<(), Fault>
     requires style { reading style.bytes ≡ Ok style.style }
-    requires workers { AreWorkers workers }
     requires fits { first + 1 + changes ≤ 8192 }
     ensures goes_on { (old : Before) (start done : Progress) (state : State) → IsHead start done state first old (I.view inputs.old) (handle_of store.old) (S.view out.old)
         → GoesOn (if_blank (fills (style.style, style.bytes) bounds.now first changes) state) start done (result_err result) old
         (world (I.view inputs.new) (view_of (handle_of store.new)) (S.view out.new)) }
-    ensures stays { StaysOver store.old store.new }
-    ensures asked { AsksOnly (λ asked. I.reads inputs.old asked inputs.new) (Among first (changes + 1)) }
-    ensures formatted { result_err result ≢ Some Fault.NotFormatted }
+    ensures works { Works (λ asked. I.reads inputs.old asked inputs.new) (Among first (changes + 1)) (result_err result) store.old store.new }
 {
     if store.imported() {
         return Err(Fault::AlreadyImported);
     }
-    match import_file(
-        rt,
-        alloc,
-        style,
-        MADE_BUCKETS,
-        workers,
-        first,
-        inputs,
-        store,
-        out,
-        gate,
-    ) {
+    match import_file(hands, style, MADE_BUCKETS, first, inputs, store, out) {
         Ok(()) => {}
         Err(fault) => return Err(fault),
     }
-    match append_files(
-        rt,
-        alloc,
-        bounds,
-        workers,
-        first + 1,
-        changes,
-        inputs,
-        store,
-        out,
-        gate,
-    ) {
+    let files = Files {
+        first: first + 1,
+        count: changes,
+    };
+    match append_files(hands, bounds, files, inputs, store, out) {
         Ok(()) => {}
         Err(fault) => return Err(fault),
     }
-    tell_whole(alloc, bounds.zoom(), store, out)
+    tell_whole(hands.alloc, bounds.zoom(), store, out)
 }
 
 /// Writes all that a store holds, of its due tiles those from this zoom on.
@@ -236,8 +199,7 @@ fn tell_whole<D: Disk, S: Sink>(
     ensures goes_on { (old : Before) (files : FilesView) (start done : Progress) (held : Holding) (next : ℕ)
         → IsHead start done (imported held) next old files (handle_of store.old) (S.view out.old)
         → GoesOn (onward (telling least) held) start done (result_err result) old (world files (view_of (handle_of store.new)) (S.view out.new)) }
-    ensures stays { StaysOver store.old store.new }
-    ensures formatted { result_err result ≢ Some Fault.NotFormatted }
+    ensures keeps { KeepsOpen (result_err result) store.old store.new }
 {
     let tables = match store.load_tables() {
         Ok(tables) => tables,

@@ -1,22 +1,18 @@
 //! `tiles STORE MINZOOM`: the tiles that are due.
-ghost use Rattle.std.specs.Prelude.{◌≡◌, ◌≢◌, Some, map, IfSome};
-ghost use Rattle.std.specs.Option.{option_map};
-ghost use Rattle.std.specs.String.{string_bytes};
-ghost use Rattle.run_promise.specs.CommandOf.{FilesFit, old_store};
-ghost use Rattle.updater.specs.Command.{seen};
-ghost use Rattle.updater.specs.commands.Tiles as spec;
+ghost use Rattle.updater.specs.Command.{IsReadAs};
+ghost use Rattle.updater.specs.commands.Tiles as tiles;
 ghost use Rattle.std.specs.Result.{result_err};
-ghost use Rattle.outside.specs.Disk.{Stays};
 ghost use Rattle.update_flow.specs.State.{State};
 ghost use Rattle.update_flow.specs.Handle.{view_of};
-ghost use Rattle.update_flow.specs.Updater.{StaysOver, handle_of};
+ghost use Rattle.update_flow.specs.Updater.{handle_of};
 ghost use Rattle.run_promise.specs.Course.{opens};
 ghost use Rattle.updater.specs.Heads.{GoesOn, IsHead};
 ghost use Rattle.run_promise.specs.Progress.{Progress};
 ghost use Rattle.run_promise.specs.World.{Before, world};
 ghost use Rattle.run_promise.specs.Courses.{tiles_of_store};
-ghost use Rattle.run_promise.specs.Runs.{Begins, GoesBy};
+ghost use Rattle.updater.specs.Works.{Does, KeepsOpen, NoFile};
 
+use crate::forms::Words;
 use crate::number::number_of;
 use crate::options::{Allowed, options_of};
 use crate::telling::tell;
@@ -38,12 +34,11 @@ const ALLOWED: Allowed = Allowed {
 };
 
 /// The form of its words.
-pub fn form<'a>(options: &[String], form: &'a [String]) -> Option<Command<'a>>
-    ensures form { option_map seen result ≡ spec.form (map string_bytes options.now) (map string_bytes form.now) }
-    ensures fits { IfSome result (λ command. FilesFit (seen command)) }
+pub fn form(words: Words<'_>) -> Option<Command<'_>>
+    ensures read { IsReadAs tiles.form words.entry result }
 {
-    let own = options_of(ALLOWED, options)?;
-    match form {
+    let own = options_of(ALLOWED, words.options)?;
+    match words.form {
         [store, zoom] => {
             let least = number_of(zoom.as_bytes())?;
             if least > MAX_ZOOM {
@@ -68,11 +63,8 @@ pub fn tiles<I: Inputs, D: Disk, S: Sink>(
     disk: &mut D,
     out: &mut S,
 ) -> Result<(), Fault>
-    ensures course { (start : Progress) → Begins old_store (world (I.view inputs.now) (D.view disk.old) (S.view out.old)) start
-        → GoesBy (opens (tiles_of_store least clear)) start (result_err result)
-        (world (I.view inputs.now) (D.view disk.old) (S.view out.old))
-        (world (I.view inputs.now) (D.view disk.new) (S.view out.new)) }
-    ensures unformatted { result_err result ≡ Some Fault.NotFormatted → Stays (D.view disk.old) (D.view disk.new) }
+    ensures does { Does (opens (tiles_of_store least clear)) (λ asked. I.reads inputs.now asked inputs.now) NoFile
+        (world (I.view inputs.now) (D.view disk.old) (S.view out.old)) (world (I.view inputs.now) (D.view disk.new) (S.view out.new)) (result_err result) }
 {
     let limits = Limits::standard();
     let opened = match open(alloc, disk, &limits) {
@@ -96,8 +88,7 @@ fn tiles_in<I: Inputs, D: Disk, S: Sink>(
 ) -> Result<(), Fault>
     ensures goes_on { (old : Before) (start done : Progress) (state : State) → IsHead start done state 0 old (I.view inputs.now) (handle_of store.old) (S.view out.old)
         → GoesOn (tiles_of_store least clear state) start done (result_err result) old (world (I.view inputs.now) (view_of (handle_of store.new)) (S.view out.new)) }
-    ensures stays { StaysOver store.old store.new }
-    ensures formatted { result_err result ≢ Some Fault.NotFormatted }
+    ensures keeps { KeepsOpen (result_err result) store.old store.new }
 {
     if store.old() {
         return Err(Fault::OldFormat);

@@ -2,6 +2,7 @@
 use Rattle.std.proofs.Common.{rules, ◌≡◌, ◌<◌, ◌∙◌, ℕ, List, [], ◌∷◌, ◌++◌, sym, ap, subst, refl}
 use Rattle.osm_base.specs.values.Ids.{has}
 use Rattle.bucket_store.specs.Image.{with_value}
+use Rattle.value_bytes.specs.StoreMap.{number_of}
 use Rattle.back_index.specs.Filling.{Runs}
 use Rattle.back_index.specs.Relisting.{kept_list}
 use Rattle.back_index.proofs.Filled.{runs_kept, runs_more, runs_next}
@@ -18,11 +19,12 @@ returns-then-mention-run-clause-runs g c =
     (λ pushed rest now owns. (
       now,
       c.push.ensures.has rest now owns,
-      only_none c.args.which now,
+      only_none (number_of c.args.map) now,
       λ done runs.
-          subst (λ (ids : List ℕ). Runs (done ++ own ∷ []) c.push.new.run.id ids (now.maps c.args.which)) (sym pushed)
-          (subst (λ (at : ℕ). Runs (done ++ own ∷ []) at (run.ids.items ++ own.own ∷ []) (now.maps c.args.which)) (sym c.push.ensures.at)
-          (runs_more done run.id run.ids.items (now.maps c.args.which) own same runs)),
+          subst (λ (ids : List ℕ). Runs (done ++ own ∷ []) c.push.new.run.id ids (now.maps (number_of c.args.map))) (sym pushed)
+          (subst (λ (at : ℕ). Runs (done ++ own ∷ []) at (run.ids.items ++ own.own ∷ []) (now.maps (number_of c.args.map)))
+          (sym c.push.ensures.at)
+          (runs_more done run.id run.ids.items (now.maps (number_of c.args.map)) own same runs)),
     ))
     c.push.ensures.ids
 
@@ -30,7 +32,7 @@ pub returns-clause-runs : goal.returns-clause-runs
 returns-clause-runs g c =
     let run = c.args.run.now in
     let own = c.args.mention in
-    let which = c.args.which in
+    let which : ℕ = number_of c.args.map in
     let lt : run.id < own.id = search rules in
     let taken : c.replace-ids.result.items ≡ run.ids.items = search rules in
     let none : c.replace-ids.new.dest.items ≡ [] = search rules in
@@ -59,5 +61,16 @@ returns-clause-touches g c = record {
   reads = search rules;
   stops = λ rest now owns.
       let kept = c.in_default.ensures.keeps rest now owns in
-      c.push-2.ensures.touches.stops rest (with_value c.args.which c.args.run.now.id (kept_list kept.0) now) kept.3;
+      c.push-2.ensures.touches.stops rest (with_value (number_of c.args.map) c.args.run.now.id (kept_list kept.0) now) kept.3;
+  within = λ may allowed only. c.push-2.ensures.touches.within may tt (c.in_default.ensures.touches.within may allowed only);
 }
+
+pub returns-then-mention-run-clause-touches : goal.returns-then-mention-run-clause-touches
+returns-then-mention-run-clause-touches g c =
+    let touches = c.push.ensures.touches in
+    record {
+      answers = touches.answers;
+      reads = touches.reads;
+      stops = touches.stops;
+      within = λ may allowed only. touches.within may tt only;
+    }

@@ -2,30 +2,39 @@
 use Rattle.std.proofs.Common.{rules, arith, ◌≡◌, ◌≤◌, ◌<◌, ◌+◌, ◌∙◌, ℕ, List, [], ◌∷◌, ◌++◌, Ok, true, length, take, get_or, sym, ap, subst}
 use Rattle.std.proofs.lemmas.List.{get_or_default, take_all, take_more}
 use Rattle.bucket_store.specs.Image.{with_value}
+use Rattle.value_bytes.specs.StoreMap.{number_of}
 use Rattle.back_index.specs.Relisting.{kept_list}
 use Rattle.back_index.specs.Asking.{reads_more, reads_none}
 use Rattle.back_index.specs.Filling.{AreIds, AreKept, Runs, mentions_tell}
 use Rattle.back_index.specs.declared.mentions.Mention.{Mention}
-use Rattle.back_index.proofs.Chained.{answers_none, answers_then, count_same}
-use Rattle.back_index.proofs.Filled.{no_ids_there, no_mention, runs_kept, runs_none}
-use Rattle.back_index.proofs.Fills.{told_there}
+use Rattle.back_index.proofs.Chained.{answers_none, answers_then, ready_after}
+use Rattle.back_index.proofs.Filled.{no_ids_there, no_mention, nothing, runs_kept, runs_none}
+use Rattle.back_index.proofs.Fills.{kept_none, told_there}
 use Rattle.back_index.proofs.ReadKeys.{reads_then}
 use Rattle.back_index.proofs.Reading.{on_ok}
 use Rattle.back_index.proofs.Turning.{only_none, only_then, sets_put}
 use Rattle.back_index.proofs.filling.keep_lists.Goals as goal
 
+pub returns-then-is_empty-clause-fills : goal.returns-then-is_empty-clause-fills
+returns-then-is_empty-clause-fills g c rest now owns =
+    let none : c.args.mentions.now ≡ [] = nothing c.args.mentions.now (sym c.if-is_empty.true ∙ c.is_empty.ensures) in (
+      now,
+      owns,
+      only_none (number_of c.args.map) now,
+      λ void. kept_none c.args.mentions.now (now.maps (number_of c.args.map)) none void,
+    )
+
 pub loop-mention-init : goal.loop-mention-init
 loop-mention-init g c =
     let none : c.new.result.items ≡ [] = search rules in
     record {
-      some = c.requires.some;
-      going = c.requires.going;
-      answers = answers_none {T = Unit {0}} c.args.buckets.now tt c.requires.going;
+      ready = c.requires.ready;
+      answers = answers_none {T = Unit {0}} c.args.buckets.now tt c.requires.ready.going;
       reads = reads_none c.args.buckets.now;
       at = λ may all.
           let items : List Mention = c.args.mentions.now in
           let first : Mention = get_or items 0 no_mention in
-          let some : 0 < length items = omega (arith, c.requires.first) in
+          let some : 0 < length items = search rules in
           all first.id first.own (told_there items 0 first some (get_or_default items 0 no_mention first some));
       within = λ may all only. only;
       ids = subst AreIds (sym none) no_ids_there;
@@ -35,9 +44,10 @@ loop-mention-init g c =
       runs = λ rest now owns. (
         now,
         owns,
-        only_none c.args.which now,
-        λ void. subst (λ (ids : List ℕ). Runs [] (get_or c.args.mentions.now 0 no_mention).id ids (now.maps c.args.which)) (sym none)
-            (runs_none (get_or c.args.mentions.now 0 no_mention).id (now.maps c.args.which) void),
+        only_none (number_of c.args.map) now,
+        λ void. subst (λ (ids : List ℕ). Runs [] (get_or c.args.mentions.now 0 no_mention).id ids (now.maps (number_of c.args.map)))
+            (sym none)
+            (runs_none (get_or c.args.mentions.now 0 no_mention).id (now.maps (number_of c.args.map)) void),
       );
     }
 
@@ -56,7 +66,7 @@ pub loop-mention-preserved : goal.loop-mention-preserved
 loop-mention-preserved g c =
     let before = c.loop-mention.buckets in
     let after = c.add_mention.new.buckets in
-    let which = c.args.which in
+    let which : ℕ = number_of c.args.map in
     let items : List Mention = c.args.mentions.now in
     let k : ℕ = c.loop-mention.mention-index in
     let within : k < length items = c.loop-mention-test.true in
@@ -65,14 +75,13 @@ loop-mention-preserved g c =
     let did = c.in_default.ensures in
     let more : take (k + 1) items ≡ take k items ++ own ∷ [] = take_more items k no_mention within in
     record {
-      some = subst (λ (n : ℕ). 1 ≤ n) (sym (count_same before after did.touches.answers.stays)) inv.some;
-      going = did.touches.answers.refused;
+      ready = ready_after before after tt inv.ready did.touches.answers;
       answers = answers_then c.args.buckets.now before after tt (Ok tt) inv.answers did.touches.answers;
       reads = reads_more c.args.buckets.now before after inv.reads did.touches.reads;
       at = λ may all.
           subst (λ (n : ℕ). may which n ≡ true) (sym did.at)
           (all own.id own.own (told_there items k own within (get_or_default items k no_mention own within)));
-      within = λ may all only. did.within may (inv.at may all) (inv.within may all only);
+      within = λ may all only. did.touches.within may (inv.at may all) (inv.within may all only);
       ids = did.ids;
       order = λ other next.
           let rises = c.requires.order k (k + 1) other (omega arith) next in
@@ -97,6 +106,8 @@ returns-in-Err-clause-touches g c = record {
   stops = λ rest now owns.
       let was = c.loop-mention.invariant.runs rest now owns in
       c.in-Err.ensures.touches.stops rest was.0 was.1;
+  within = λ may all only.
+      c.in-Err.ensures.touches.within may (c.loop-mention.invariant.at may all) (c.loop-mention.invariant.within may all only);
 }
 
 pub returns-clause-touches : goal.returns-clause-touches
@@ -108,11 +119,13 @@ returns-clause-touches g c = record {
   stops = λ rest now owns.
       let was = c.loop-mention.invariant.runs rest now owns in
       c.keep_run.ensures.touches.stops rest was.0 was.1;
+  within = λ may all only.
+      c.keep_run.ensures.touches.within may (c.loop-mention.invariant.at may all) (c.loop-mention.invariant.within may all only);
 }
 
-pub returns-clause-keeps : goal.returns-clause-keeps
-returns-clause-keeps g c =
-    let which = c.args.which in
+pub returns-clause-fills : goal.returns-clause-fills
+returns-clause-fills g c =
+    let which : ℕ = number_of c.args.map in
     let items : List Mention = c.args.mentions.now in
     let k : ℕ = c.loop-mention.mention-index in
     let run = c.loop-mention.run in
@@ -130,11 +143,3 @@ returns-clause-keeps g c =
           (was.3 void) kept.1 kept.2 sets.here sets.beside),
     ))
     c.keep_run.ensures.keeps
-
-pub returns-in-Err-clause-within : goal.returns-in-Err-clause-within
-returns-in-Err-clause-within g c may all only =
-    c.in-Err.ensures.within may (c.loop-mention.invariant.at may all) (c.loop-mention.invariant.within may all only)
-
-pub returns-clause-within : goal.returns-clause-within
-returns-clause-within g c may all only =
-    c.keep_run.ensures.within may (c.loop-mention.invariant.at may all) (c.loop-mention.invariant.within may all only)

@@ -1,7 +1,7 @@
-use Rattle.std.proofs.Common.{◌≡◌, ◌≤◌, ◌<◌, true, false, get_or, length, take}
-use Rattle.bucket_store.specs.Buckets.{bucket_count}
+use Rattle.std.proofs.Common.{◌≡◌, ◌≤◌, ◌<◌, true, get_or, length, take}
 use Rattle.bucket_store.specs.Image.{Has, Image}
-use Rattle.bucket_store.specs.Transaction.{chains_of, has_refused}
+use Rattle.bucket_store.specs.Transaction.{IsReady}
+use Rattle.value_bytes.specs.StoreMap.{number_of}
 use Rattle.store_maps.specs.Asked.{May}
 use Rattle.back_index.specs.Filling.{AreIds, IsVoid, MayTold, Runs, mentions_tell}
 use Rattle.back_index.specs.Reads.{HasReadOnly, ReadsBuckets}
@@ -13,14 +13,16 @@ use Rattle.back_index.proofs.filling.keep_lists.Given as goal
 -- of what was told so far each list but the last is put
 abbrev pub invariant-loop-mention : goal.invariant-loop-mention
 invariant-loop-mention g l = record {
-  some : 1 ≤ bucket_count (chains_of l.buckets);
-  going : has_refused l.buckets ≡ false;
+  ready : IsReady l.buckets;
   answers : StillAnswers l.initial.buckets l.buckets;
   reads : ReadsBuckets l.initial.buckets l.buckets;
-  at : (may : May) → MayTold may l.which (mentions_tell l.mentions) → may l.which l.run.id ≡ true;
-  within : (may : May) → MayTold may l.which (mentions_tell l.mentions) → HasReadOnly may l.initial.buckets → HasReadOnly may l.buckets;
+  at : (may : May) → MayTold may (number_of l.map) (mentions_tell l.mentions) → may (number_of l.map) l.run.id ≡ true;
+  within : (may : May) → MayTold may (number_of l.map) (mentions_tell l.mentions) → HasReadOnly may l.initial.buckets
+      → HasReadOnly may l.buckets;
   ids : AreIds l.run.ids.items;
   order : (own : Mention) → l.mention-index < length l.mentions → l.run.id ≤ (get_or l.mentions l.mention-index own).id;
-  runs : (rest now : Image) → Has rest now l.initial.buckets → (after : Image) × Has rest after l.buckets × OnlyMap l.which now after
-      × (IsVoid (now.maps l.which) → Runs (take l.mention-index l.mentions) l.run.id l.run.ids.items (after.maps l.which));
+  runs : (rest now : Image) → Has rest now l.initial.buckets
+      → (after : Image) × Has rest after l.buckets × OnlyMap (number_of l.map) now after
+      × (IsVoid (now.maps (number_of l.map)) → Runs (take l.mention-index l.mentions) l.run.id l.run.ids.items
+      (after.maps (number_of l.map)));
 }

@@ -1,8 +1,8 @@
-use Rattle.std.proofs.Common.{◌≡◌, ◌≤◌, false, map, take}
+use Rattle.std.proofs.Common.{map, take}
 use Rattle.std.specs.List.{AllByRecursion}
-use Rattle.bucket_store.specs.Buckets.{bucket_count}
 use Rattle.bucket_store.specs.Image.{Has, Image}
-use Rattle.bucket_store.specs.Transaction.{chains_of, has_refused}
+use Rattle.bucket_store.specs.Transaction.{IsReady}
+use Rattle.value_bytes.specs.StoreMap.{number_of}
 use Rattle.store_maps.specs.Asked.{May, MayEach}
 use Rattle.back_index.specs.Reads.{HasReadOnly, ReadsBuckets}
 use Rattle.back_index.specs.Relisting.{TurnsAt}
@@ -13,13 +13,13 @@ use Rattle.back_index.proofs.relisting.turn_all.Given as goal
 -- the lists of the ids so far are turned
 abbrev pub invariant-loop-id : goal.invariant-loop-id
 invariant-loop-id g l = record {
-  some : 1 ≤ bucket_count (chains_of l.buckets);
-  going : has_refused l.buckets ≡ false;
+  ready : IsReady l.buckets;
   answers : StillAnswers l.initial.buckets l.buckets;
   reads : ReadsBuckets l.initial.buckets l.buckets;
-  within : (may : May) → MayEach may l.which l.ids → HasReadOnly may l.initial.buckets → HasReadOnly may l.buckets;
-  turns : (rest now : Image) → Has rest now l.initial.buckets → (after : Image) × Has rest after l.buckets × OnlyMap l.which now after
-      × TurnsAt l.own l.old l.new (take l.id-index l.ids) (now.maps l.which) (after.maps l.which);
+  within : (may : May) → MayEach may (number_of l.map) l.ids → HasReadOnly may l.initial.buckets → HasReadOnly may l.buckets;
+  turns : (rest now : Image) → Has rest now l.initial.buckets
+      → (after : Image) × Has rest after l.buckets × OnlyMap (number_of l.map) now after
+      × TurnsAt l.own l.old l.new (take l.id-index l.ids) (now.maps (number_of l.map)) (after.maps (number_of l.map));
   fine : (rest now : Image) → Has rest now l.initial.buckets
-      → AllByRecursion (IsFine now l.own) (map (visit_of l.which l.old l.new) (take l.id-index l.ids));
+      → AllByRecursion (IsFine now l.own) (map (visit_of l.map l.old l.new) (take l.id-index l.ids));
 }

@@ -1,11 +1,12 @@
 -- The records of a bucket fill in the rows of its numbers.
-use Rattle.std.proofs.Common.{◌≡◌, ◌%◌, ℕ, Err, List, Ok, sym, subst}
+use Rattle.std.proofs.Common.{◌≡◌, ◌%◌, ℕ, List, sym, subst}
 use Rattle.std.specs.List.{AllByRecursion}
 use Rattle.chain_store.specs.Chains.{first_of}
 use Rattle.bucket_store.specs.Transaction.{bucket_at, chains_of}
 use Rattle.row_store.specs.Loading.{Among, Fills, IsTold}
 use Rattle.row_store.proofs.LoadLaws.{bucket_fills, records_told}
 use Rattle.row_store.proofs.LookLaws.{memory_sound, sound_err}
+use Rattle.value_bytes.specs.StoreMap.{number_of}
 use Rattle.row_store.proofs.loading.add_bucket.Goals as goal
 
 pub returns-in-Err-clause-sound : goal.returns-in-Err-clause-sound
@@ -19,12 +20,12 @@ returns-in-Ok-add_records-clause-filled g c rest now rows has told =
     let bucket = c.args.bucket % now.root.buckets in
     let are = c.in-Ok.ensures.records.found rest now has in
     let same : c.as_slice.result.now ≡ records = cc (c.as_slice.ensures.value) in
-    let each = records_told definitions c.args.wanted c.args.which rows now bucket records are told in
+    let each = records_told definitions c.args.wanted (number_of c.args.map) rows now bucket records are told in
     let filled = c.in-Ok-add_records.ensures.filled rows
-    (subst (λ (l : List (ℕ × List ℕ)). AllByRecursion (λ one. IsTold definitions c.args.wanted c.args.which rows one.0 one.1) l)
+    (subst (λ (l : List (ℕ × List ℕ)). AllByRecursion (λ one. IsTold definitions c.args.wanted (number_of c.args.map) rows one.0 one.1) l)
     (sym same) each) in
-    bucket_fills definitions c.args.wanted c.args.which rows now bucket records are c.args.tables.now c.add_records.new.tables
-    (subst (λ (l : List (ℕ × List ℕ)). Fills c.args.which rows (Among l) c.args.tables.now c.add_records.new.tables) same filled)
+    bucket_fills definitions c.args.wanted (number_of c.args.map) rows now bucket records are c.args.tables.now c.add_records.new.tables
+    (subst (λ (l : List (ℕ × List ℕ)). Fills (number_of c.args.map) rows (Among l) c.args.tables.now c.add_records.new.tables) same filled)
 
 pub returns-clause-sound : goal.returns-clause-sound
 returns-clause-sound g c rest now rows has told =
@@ -33,10 +34,10 @@ returns-clause-sound g c rest now rows has told =
     let bucket = c.args.bucket % now.root.buckets in
     let are = c.in-Ok.ensures.records.found rest now has in
     let same : c.as_slice.result.now ≡ records = cc (c.as_slice.ensures.value) in
-    let each = records_told definitions c.args.wanted c.args.which rows now bucket records are told in
+    let each = records_told definitions c.args.wanted (number_of c.args.map) rows now bucket records are told in
     let memory = c.in-Err-add_records.ensures.sound rows
-    (subst (λ (l : List (ℕ × List ℕ)). AllByRecursion (λ one. IsTold definitions c.args.wanted c.args.which rows one.0 one.1) l)
+    (subst (λ (l : List (ℕ × List ℕ)). AllByRecursion (λ one. IsTold definitions c.args.wanted (number_of c.args.map) rows one.0 one.1) l)
     (sym same) each) in
     memory_sound c.in-Err-add_records.fault (first_of (chains_of c.records.new.self)
-    (bucket_at c.records.new.self c.args.which c.args.bucket))
+    (bucket_at c.records.new.self (number_of c.args.map) c.args.bucket))
     c.refuse_value.result c.refuse_value.ensures.refusal memory

@@ -6,6 +6,7 @@ use Rattle.chain_store.specs.Chains.{OnlyRead, journal_of}
 use Rattle.bucket_store.specs.Image.{Has, Image, OnlyLooks}
 use Rattle.bucket_store.specs.Transaction.{chains_of, has_refused}
 use Rattle.row_store.specs.Loading.{AreTold, Fills, RowsBySpot}
+use Rattle.value_bytes.specs.StoreMap.{number_of}
 use Rattle.row_store.proofs.loading.add_map.Given as goal
 
 -- the buckets so far have filled in their rows, and the store was only read
@@ -17,8 +18,9 @@ invariant-loop-bucket g l = record {
   stays : OnlyRead (chains_of l.initial.buckets) (chains_of l.buckets);
   has : (rest now : Image) → Has rest now l.initial.buckets → Has rest now l.buckets;
   filled : (rest now : Image) (rows : RowsBySpot) → Has rest now l.initial.buckets
-      → AreTold l.style.tables l.wanted l.which rows (now.maps l.which)
-      → Fills l.which rows (λ n. IsSome (map.get (now.maps l.which) n) × (n % now.root.buckets < l.bucket)) l.initial.tables l.tables;
+      → AreTold l.style.tables l.wanted (number_of l.map) rows (now.maps (number_of l.map))
+      → Fills (number_of l.map) rows (λ n. IsSome (map.get (now.maps (number_of l.map)) n) × (n % now.root.buckets < l.bucket))
+      l.initial.tables l.tables;
 }
 
 abbrev pub decreases-loop-bucket : goal.decreases-loop-bucket

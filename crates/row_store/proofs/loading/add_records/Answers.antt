@@ -2,6 +2,7 @@
 use Rattle.std.proofs.Common.{◌≡◌, ◌+◌, ℕ, List, sym, subst, take, arith}
 use Rattle.row_store.specs.Loading.{Among, IsTold}
 use Rattle.row_store.proofs.LoadLaws.{among_all, among_more, fills_fewer, fills_then, told_at}
+use Rattle.value_bytes.specs.StoreMap.{number_of}
 use Rattle.row_store.proofs.loading.add_records.Goals as goal
 
 pub loop-number-preserved : goal.loop-number-preserved
@@ -10,11 +11,11 @@ loop-number-preserved c rows each =
     let records = c.args.records.now in
     let place = c.loop-number.number-index in
     let one = c.loop-number-item.result in
-    let here = told_at (λ (e : ℕ × List ℕ). IsTold definitions c.args.wanted c.args.which rows e.0 e.1) records place one each
+    let here = told_at (λ (e : ℕ × List ℕ). IsTold definitions c.args.wanted (number_of c.args.map) rows e.0 e.1) records place one each
     c.loop-number-test.true c.loop-number-item.is in
-    let told = subst (λ (bytes : List ℕ). IsTold definitions c.args.wanted c.args.which rows one.0 bytes)
+    let told = subst (λ (bytes : List ℕ). IsTold definitions c.args.wanted (number_of c.args.map) rows one.0 bytes)
     (sym c.as_slice.ensures.items) here in
-    fills_then c.args.which rows (Among (take place records)) (λ n. one.0 ≡ n) (Among (take (place + 1) records))
+    fills_then (number_of c.args.map) rows (Among (take place records)) (λ n. one.0 ≡ n) (Among (take (place + 1) records))
     c.args.tables.now c.loop-number.tables c.add_record.new.tables (c.loop-number.invariant rows each)
     (c.in_default.ensures.filled rows told)
     (λ n among. among_more records place one n c.loop-number-test.true c.loop-number-item.is among)
@@ -23,6 +24,6 @@ pub returns-clause-filled : goal.returns-clause-filled
 returns-clause-filled c rows each =
     let records = c.args.records.now in
     let place = c.loop-number.number-index in
-    fills_fewer c.args.which rows (Among records) (Among (take place records)) c.args.tables.now c.loop-number.tables
+    fills_fewer (number_of c.args.map) rows (Among records) (Among (take place records)) c.args.tables.now c.loop-number.tables
     (c.loop-number.invariant rows each)
     (λ n among. among_all records place n (omega (arith, c.loop-number-test.false)) among)

@@ -1,8 +1,9 @@
 -- The rows of nodes stay while the others come.
 use Rattle.std.specs.Option.{IsSome}
 use Rattle.std.specs.FinMap as map
-use Rattle.row_store.specs.declared.calls.TheConstants.{NODE_ROWS, OTHER_ROWS}
 use Rattle.row_store.proofs.LoadLaws.{fills_before, fills_beside}
+use Rattle.value_bytes.specs.StoreMap.{number_of}
+use Rattle.value_bytes.specs.declared.store_map.StoreMap.TheVariants.{NodeRows, OtherRows}
 use Rattle.row_store.proofs.loading.load.Goals as goal
 
 pub returns-in-Err-clause-sound : goal.returns-in-Err-clause-sound
@@ -10,13 +11,15 @@ returns-in-Err-clause-sound g c rest now rows has nodes others = c.in-Err.ensure
 
 pub returns-in-Ok-clause-nodes : goal.returns-in-Ok-clause-nodes
 returns-in-Ok-clause-nodes g c rest now rows has nodes others =
-    fills_beside NODE_ROWS OTHER_ROWS rows (λ n. IsSome (map.get (now.maps NODE_ROWS) n)) (λ n. IsSome (map.get (now.maps OTHER_ROWS) n))
+    fills_beside (number_of NodeRows) (number_of OtherRows) rows (λ n. IsSome (map.get (now.maps (number_of NodeRows)) n))
+    (λ n. IsSome (map.get (now.maps (number_of OtherRows)) n))
     c.args.tables.now c.add_map.new.tables c.add_map-2.new.tables (c.in_default.ensures.filled rest now rows has nodes)
     (c.in-Ok.ensures.filled rest now rows (c.in_default.ensures.has rest now has) others)
 
 pub returns-in-Ok-clause-others : goal.returns-in-Ok-clause-others
 returns-in-Ok-clause-others g c rest now rows has nodes others =
-    fills_before NODE_ROWS OTHER_ROWS rows (λ n. IsSome (map.get (now.maps NODE_ROWS) n)) (λ n. IsSome (map.get (now.maps OTHER_ROWS) n))
+    fills_before (number_of NodeRows) (number_of OtherRows) rows (λ n. IsSome (map.get (now.maps (number_of NodeRows)) n))
+    (λ n. IsSome (map.get (now.maps (number_of OtherRows)) n))
     c.args.tables.now c.add_map.new.tables c.add_map-2.new.tables (c.in_default.ensures.filled rest now rows has nodes)
     (c.in-Ok.ensures.filled rest now rows (c.in_default.ensures.has rest now has) others)
 

@@ -1,5 +1,5 @@
 use Rattle.std.proofs.Common.{◌≤◌, ◌^◌, drop}
-use Rattle.row_store.specs.Rows.{RiseFrom, AreRising}
+use Rattle.store_maps.specs.Rows.{RiseFrom, AreRising}
 use Rattle.row_store.proofs.rows.are_rising.Given as goal
 
 -- the rows rise where those that are left do

@@ -14,9 +14,9 @@ use Rattle.chain_store.specs.declared.root.Root.{Root}
 use Rattle.bucket_store.specs.Buckets.{bucket_count}
 use Rattle.bucket_store.specs.Transaction.{chains_of}
 use Rattle.back_index.specs.Index.{is_spent}
-use Rattle.kept_maps.specs.Calls.{buckets_of, stop_of, style_in}
-use Rattle.kept_maps.specs.Held.{Beside, HasMaps}
-use Rattle.kept_maps.specs.Laws.{later_same, over_going, over_none, over_whole}
+use Rattle.update_flow.specs.maps.Calls.{buckets_of, stop_of, style_in}
+use Rattle.update_flow.specs.maps.Held.{Beside, HasMaps}
+use Rattle.update_flow.specs.maps.Laws.{later_same, over_going, over_none, over_whole}
 use Rattle.update_flow.specs.Changes.{AreChanges}
 use Rattle.update_flow.specs.Due.{both, due_between}
 use Rattle.update_flow.specs.State.{Append, imported}

@@ -10,10 +10,10 @@ use Rattle.bucket_store.specs.Image.{with_buckets, with_root}
 use Rattle.bucket_store.proofs.Holding.{looks_then, rests_under}
 use Rattle.bucket_store.proofs.Images.{maps_with_root, root_with_root, texts_with_root}
 use Rattle.back_index.specs.Index.{is_spent}
-use Rattle.kept_maps.specs.Calls.{buckets_of, style_in}
-use Rattle.kept_maps.specs.Held.{Beside, HasMaps}
-use Rattle.kept_maps.specs.Laws.{later_same, over_going, over_none, over_whole}
-use Rattle.kept_maps.proofs.MapsKept.{empty_kept}
+use Rattle.update_flow.specs.maps.Calls.{buckets_of, style_in}
+use Rattle.update_flow.specs.maps.Held.{Beside, HasMaps}
+use Rattle.update_flow.specs.maps.Laws.{later_same, over_going, over_none, over_whole}
+use Rattle.update_flow.proofs.MapsKept.{empty_kept}
 use Rattle.update_flow.specs.State.{Import, formatted}
 use Rattle.update_flow.specs.Turning.{EndsIn, TurnsIn}
 use Rattle.update_flow.specs.declared.fault.FlowFault.{FlowFault}

@@ -3,7 +3,7 @@ use Rattle.std.proofs.Common.{◌∙◌, Some, ap, refl, rules, subst, sym, arit
 use Rattle.std.specs.Result.{result_err}
 use Rattle.chain_store.specs.declared.root.Root.{Root}
 use Rattle.bucket_store.proofs.Holding.{rests_under}
-use Rattle.kept_maps.specs.Held.{Beside, HasMaps, HasOldMaps}
+use Rattle.update_flow.specs.maps.Held.{Beside, HasMaps, HasOldMaps}
 use Rattle.update_flow.specs.State.{Migrate, outdated}
 use Rattle.update_flow.specs.Turning.{EndsIn, TurnsIn}
 use Rattle.update_flow.specs.declared.fault.FlowFault.{FlowFault}

@@ -6,7 +6,7 @@ use Rattle.page_journal.specs.Journal.{disk_of as disk_under}
 use Rattle.chain_store.specs.Chains.{journal_of, read_of}
 use Rattle.bucket_store.specs.Image.{Has}
 use Rattle.bucket_store.specs.Transaction.{chains_of}
-use Rattle.kept_maps.specs.Calls.{buckets_of}
+use Rattle.update_flow.specs.maps.Calls.{buckets_of}
 use Rattle.update_flow.specs.State.{Append, imported}
 use Rattle.update_flow.specs.Turning.{limit_in}
 use Rattle.update_flow.proofs.ChangeReads.{touched_on}

@@ -5,7 +5,7 @@ use Rattle.page_journal.specs.Journal.{disk_of as disk_under, is_broken}
 use Rattle.chain_store.specs.Chains.{journal_of}
 use Rattle.bucket_store.specs.Image.{Has}
 use Rattle.bucket_store.specs.Transaction.{chains_of, has_refused}
-use Rattle.kept_maps.specs.Calls.{buckets_of}
+use Rattle.update_flow.specs.maps.Calls.{buckets_of}
 use Rattle.update_flow.specs.State.{Import, formatted}
 use Rattle.update_flow.specs.Turning.{EndsIn, TurnsIn, limit_in}
 use Rattle.update_flow.proofs.Carrying.{ends_on, turns_on}

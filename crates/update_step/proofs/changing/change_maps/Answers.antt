@@ -1,5 +1,11 @@
-use Rattle.std.proofs.Common.{◌≤◌, ◌||◌, ℕ, Bool, List, sym, subst, ap, ◌∙◌, arith}
+use Rattle.std.proofs.Common.{rules, ◌≡◌, ◌≤◌, ◌||◌, ℕ, Bool, List, fold, length, sym, subst, ap, ◌∙◌, arith}
 use Rattle.std.specs.FinMap as finite
+use Rattle.osm_base.specs.declared.values.object.Entry.{Entry}
+use Rattle.style_read.specs.Style.{StyleOf}
+use Rattle.dep_closure.specs.PendingSet.{HasOldForms}
+use Rattle.store_maps.specs.Stands.{StandsOn}
+use Rattle.store_maps.proofs.IndexLaws.{ways_are_there}
+use Rattle.update_step.specs.Old.{with_old}
 use Rattle.osm_base.specs.declared.values.row.RowChange.{RowChange}
 use Rattle.osm_base.specs.map.Objects.{ObjectSet, folded_all}
 use Rattle.row_map.specs.Condition.{reaches_nodes}
@@ -15,19 +21,28 @@ use Rattle.store_maps.proofs.DeltaLaws.{delta-applied}
 use Rattle.store_maps.proofs.ObjectMaps.{entries_stand}
 use Rattle.store_maps.proofs.Standing.{appended_stands}
 use Rattle.update_step.specs.Lacking.{AreLacking}
+use Rattle.update_step.specs.Turned.{HadRows}
+use Rattle.update_step.proofs.ByTables.{rows_in-by-table}
 use Rattle.update_step.proofs.Endings.{ends-then, if_err-then, if_ok-then, on_ok-then}
 use Rattle.update_step.proofs.EntryLists.{change_proper}
-use Rattle.update_step.proofs.PendingKeys.{keys-size, outside-rows, pending-rows, same-size}
+use Rattle.update_step.proofs.PendingKeys.{keys-size, old-forms, outside-rows, pending-rows, same-size}
 use Rattle.update_step.proofs.RowsStill.{entries-keep}
-use Rattle.update_step.proofs.Touching.{may-entries, may-needs, may-rows}
+use Rattle.update_step.proofs.Touching.{may-entries, may-needs, may-rows, may-turn}
 use Rattle.update_step.proofs.Whole.{delta-is, due-is}
 use Rattle.update_step.proofs.changing.change_maps.Goals as goal
+
+-- the relations that the change replaces are those that were found
+old_are : (style : StyleOf) (maps : Maps) (objects : ObjectSet) (change : List Entry) (old : ObjectSet)
+    → StandsOn (reaches_nodes style) maps objects → old ≡ fold (with_old maps) finite.empty change → HasOldForms old objects change
+old_are style maps objects change old on are = subst (λ (own : ObjectSet). HasOldForms own objects change) (sym are)
+    (old-forms maps objects (reaches_nodes style) change on)
 
 pub rebuild-requires-clause-style : goal.rebuild-requires-clause-style
 rebuild-requires-clause-style g c _ _ =
     let first = c.args.store.now in
-    g.met.S.MapStore.same_style first c.changed_keys.new.store
-    (c.changed_keys.ensures.goes.looked first (c.keys_lacking.ensures.looks.looked first (g.met.S.MapStore.looked_none first)))
+    g.met.S.MapStore.same_style first c.keys_due.new.store
+    (c.keys_due.ensures.goes.looked first (c.apply_change.ensures.sets.looked first (c.old_relations.ensures.looks.looked first
+    (c.keys_lacking.ensures.looks.looked first (g.met.S.MapStore.looked_none first)))))
     ∙ c.requires.style
 
 pub rebuild-requires-clause-few : goal.rebuild-requires-clause-few
@@ -45,16 +60,22 @@ returns-in-Ok-clause-changes g c under maps objects held stands =
     let set = c.in-Ok.set in
     let proper = change_proper change c.entries-entries.ensures.rise in
     let after : ObjectSet = folded_all objects change in
-    let both = c.in-Ok.ensures.pending under maps objects (c.in_ok-lacking.ensures.looks.holds under maps held) stands.on in
     let changed : Maps = change_on maps change in
-    let read = c.in-Ok.ensures.holds under maps (c.in_ok-lacking.ensures.looks.holds under maps held) in
+    let on = entries_stand (reaches_nodes style) change maps objects stands.on proper in
+    let first = c.in_ok-lacking.ensures.looks.holds under maps held in
+    let forms = old_are style maps objects change c.in_ok-old.old stands.on (c.in_ok-old.ensures.old under maps first) in
+    let still = c.in_ok-old.ensures.looks.holds under maps first in
+    let applied : g.S.MapStore.holds c.apply_change.new.store under (change_on maps c.args.change.now) = search (rules, still) in
+    let both = c.in-Ok.ensures.pending objects forms under changed applied on in
+    let read = c.in-Ok.ensures.holds under changed applied in
     let kept = entries-keep maps change (rows_in style objects) stands.rows in
     let lacks : AreLacking (rows_in style objects) c.as_slice-lacking.result.now =
     subst (AreLacking (rows_in style objects)) (sym c.as_slice-lacking.ensures.value)
     (c.in_ok-lacking.ensures.lacking under maps objects held stands.on) in
-    let on = entries_stand (reaches_nodes style) change maps objects stands.on proper in
+    let had : HadRows (length style.tables) c.as_slice-lacking.result.now changed (rows_in style objects) =
+    record { held = kept; none = lacks; by_table = rows_in-by-table style objects } in
     let built = pending-rows style maps objects change on set both.0 in
-    let done = c.rebuild.ensures.replaces under changed (rows_in style objects) (rows_in style after) read kept lacks built in
+    let done = c.rebuild.ensures.replaces under changed (rows_in style objects) (rows_in style after) read had built in
     let delta = delta-is style objects change set both.0.rising both.1 in
     record {
       stands = on_ok-then c.rebuild.result done.holds (λ holds. (
@@ -74,61 +95,129 @@ returns-in-Ok-clause-changes g c under maps objects held stands =
       few = on_ok-then c.rebuild.result done.holds (λ _ own pending.
           subst (λ (count : ℕ). count ≤ c.args.limits.now.pending)
           (same-size style objects change set own both.0 pending) c.in-Ok.ensures.few);
-      allowed = c.rebuild.ensures.allowed under changed (rows_in style objects) read kept lacks;
+      allowed = c.rebuild.ensures.allowed under changed (rows_in style objects) read had;
     }
 
 pub returns-in-Ok-clause-goes : goal.returns-in-Ok-clause-goes
-returns-in-Ok-clause-goes g c = record {
-  looked = λ first looked. c.rebuild.ensures.goes.looked first
-      (c.changed_keys.ensures.goes.looked first (c.keys_lacking.ensures.looks.looked first looked));
-  spent = c.rebuild.ensures.goes.spent;
-  ends = if_err-then c.rebuild.result c.rebuild.ensures.goes.ends (λ why ends.
-      ends-then _ _ _ _ _ _ why (λ refusal bears first looked.
-      bears first (c.changed_keys.ensures.goes.looked first (c.keys_lacking.ensures.looks.looked first looked))) (λ unspent. unspent)
-      (λ value never. absurd never) ends);
-}
+returns-in-Ok-clause-goes g c =
+    record {
+      looked = λ first looked. c.rebuild.ensures.goes.looked first
+          (c.keys_due.ensures.goes.looked first (c.apply_change.ensures.sets.looked first (c.old_relations.ensures.looks.looked first
+          (c.keys_lacking.ensures.looks.looked first looked))));
+      spent = c.rebuild.ensures.goes.spent;
+      ends = if_err-then c.rebuild.result c.rebuild.ensures.goes.ends (λ why ends.
+          ends-then _ _ _ _ _ _ why (λ refusal bears first looked.
+          bears first (c.keys_due.ensures.goes.looked first
+          (c.apply_change.ensures.sets.looked first (c.old_relations.ensures.looks.looked first
+          (c.keys_lacking.ensures.looks.looked first looked))))) (λ unspent. unspent)
+          (λ value never. absurd never) ends);
+    }
 
 pub returns-clause-changes : goal.returns-clause-changes
-returns-clause-changes g c under maps objects held stands = record {
-  stands = tt;
-  told = tt;
-  applied = tt;
-  due = tt;
-  few = tt;
-  allowed = c.in-Err.ensures.allowed under maps objects (c.in_ok-lacking.ensures.looks.holds under maps held) stands.on;
-}
+returns-clause-changes g c under maps objects held stands =
+    let style = c.args.style.now in
+    let change = c.args.change.now in
+    let on = entries_stand (reaches_nodes style) change maps objects stands.on (change_proper change c.entries-entries.ensures.rise) in
+    let still = c.in_ok-old.ensures.looks.holds under maps (c.in_ok-lacking.ensures.looks.holds under maps held) in
+    let applied : g.S.MapStore.holds c.apply_change.new.store under (change_on maps c.args.change.now) = search (rules, still) in
+    record {
+      stands = tt;
+      told = tt;
+      applied = tt;
+      due = tt;
+      few = tt;
+      allowed = c.in-Err.ensures.allowed under (change_on maps change) applied
+          (ways_are_there (reaches_nodes style) (change_on maps change) (folded_all objects change) on);
+    }
 
 pub returns-clause-goes : goal.returns-clause-goes
-returns-clause-goes g c = record {
-  looked = λ first looked. c.changed_keys.ensures.goes.looked first (c.keys_lacking.ensures.looks.looked first looked);
-  spent = tt;
-  ends = ends-then _ _ _ _ _ _ c.in-Err.why (λ refusal bears first looked. bears first (c.keys_lacking.ensures.looks.looked first looked))
-      (λ unspent. unspent)
-      (λ value many under maps objects held stands. many under maps objects (c.in_ok-lacking.ensures.looks.holds under maps held) stands.on)
-      c.in-Err.ensures.goes.ends;
-}
+returns-clause-goes g c =
+    record {
+      looked = λ first looked. c.keys_due.ensures.goes.looked first
+          (c.apply_change.ensures.sets.looked first (c.old_relations.ensures.looks.looked first
+          (c.keys_lacking.ensures.looks.looked first looked)));
+      spent = tt;
+      ends = ends-then _ _ _ _ _ _ c.in-Err.why
+          (λ refusal bears first looked. bears first (c.apply_change.ensures.sets.looked first (c.old_relations.ensures.looks.looked first
+          (c.keys_lacking.ensures.looks.looked first looked))))
+          (λ unspent. unspent)
+          (λ value many under maps objects held stands.
+          let style = c.args.style.now in
+          let change = c.args.change.now in
+          let read = c.in_ok-lacking.ensures.looks.holds under maps held in
+          let forms = old_are style maps objects change c.in_ok-old.old stands.on (c.in_ok-old.ensures.old under maps read) in
+          let on = entries_stand (reaches_nodes style) change maps objects stands.on
+          (change_proper change c.entries-entries.ensures.rise) in
+          let still = c.in_ok-old.ensures.looks.holds under maps read in
+          let applied : g.S.MapStore.holds c.apply_change.new.store under (change_on maps c.args.change.now) = search (rules, still) in
+          many objects forms under (change_on maps change) applied on)
+          c.in-Err.ensures.goes.ends;
+    }
 
 pub returns-in-Ok-clause-within : goal.returns-in-Ok-clause-within
 returns-in-Ok-clause-within g c under maps objects held stands may touched before =
     let style = c.args.style.now in
     let change = c.args.change.now in
+    let rise = c.entries-entries.ensures.rise in
+    let lacking = c.keys_lacking.ensures.within may (may-entries style objects change may touched) before in
+    let read = c.in_ok-lacking.ensures.looks.holds under maps held in
+    let old = c.old_relations.ensures.within may (may-entries style objects change may touched) lacking in
+    let still = c.in_ok-old.ensures.looks.holds under maps read in
+    let applied = c.apply_change.ensures.within under maps still (reaches_nodes style) objects stands.on may
+    (may-turn style objects change may touched rise) old in
+    let on = entries_stand (reaches_nodes style) change maps objects stands.on (change_proper change rise) in
+    let changed : g.S.MapStore.holds c.apply_change.new.store under (change_on maps c.args.change.now) = search (rules, still) in
+    let due = c.keys_due.ensures.within under (change_on maps change) objects changed on may touched applied in
+    let forms = old_are style maps objects change c.in_ok-old.old stands.on (c.in_ok-old.ensures.old under maps read) in
     let set = c.in-Ok.set in
-    let on = entries_stand (reaches_nodes style) change maps objects stands.on (change_proper change c.entries-entries.ensures.rise) in
-    let still = c.in_ok-lacking.ensures.looks.holds under maps held in
-    let pending = c.in-Ok.ensures.pending under maps objects still stands.on in
-    c.rebuild.ensures.within under (change_on maps change) (c.in-Ok.ensures.holds under maps still) may
+    let pending = c.in-Ok.ensures.pending objects forms under (change_on maps change) changed on in
+    c.rebuild.ensures.within under (change_on maps change) (c.in-Ok.ensures.holds under (change_on maps change) changed) may
     (may-needs style objects change may touched (change_on maps change) on set pending.0)
-    (may-rows style objects change may touched (change_on maps change) on set pending.0)
-    (c.changed_keys.ensures.within under maps objects still stands.on may touched
-    (c.keys_lacking.ensures.within may (may-entries style objects change may touched) before))
+    (may-rows style objects change may touched (change_on maps change) on set pending.0) due
 
 pub returns-clause-within : goal.returns-clause-within
 returns-clause-within g c under maps objects held stands may touched before =
     let style = c.args.style.now in
     let change = c.args.change.now in
-    c.changed_keys.ensures.within under maps objects (c.in_ok-lacking.ensures.looks.holds under maps held) stands.on may touched
-    (c.keys_lacking.ensures.within may (may-entries style objects change may touched) before)
+    let rise = c.entries-entries.ensures.rise in
+    let lacking = c.keys_lacking.ensures.within may (may-entries style objects change may touched) before in
+    let read = c.in_ok-lacking.ensures.looks.holds under maps held in
+    let old = c.old_relations.ensures.within may (may-entries style objects change may touched) lacking in
+    let still = c.in_ok-old.ensures.looks.holds under maps read in
+    let applied = c.apply_change.ensures.within under maps still (reaches_nodes style) objects stands.on may
+    (may-turn style objects change may touched rise) old in
+    let on = entries_stand (reaches_nodes style) change maps objects stands.on (change_proper change rise) in
+    let changed : g.S.MapStore.holds c.apply_change.new.store under (change_on maps c.args.change.now) = search (rules, still) in
+    let due = c.keys_due.ensures.within under (change_on maps change) objects changed on may touched applied in
+    due
+
+pub returns-in_err-map_err-clause-within : goal.returns-in_err-map_err-clause-within
+returns-in_err-map_err-clause-within g c under maps objects held stands may touched before =
+    let style = c.args.style.now in
+    let change = c.args.change.now in
+    let rise = c.entries-entries.ensures.rise in
+    let lacking = c.keys_lacking.ensures.within may (may-entries style objects change may touched) before in
+    let read = c.in_ok-lacking.ensures.looks.holds under maps held in
+    let old = c.old_relations.ensures.within may (may-entries style objects change may touched) lacking in
+    let still = c.in_ok-old.ensures.looks.holds under maps read in
+    let applied = c.apply_change.ensures.within under maps still (reaches_nodes style) objects stands.on may
+    (may-turn style objects change may touched rise) old in
+    applied
+
+pub returns-in_err-old-clause-within : goal.returns-in_err-old-clause-within
+returns-in_err-old-clause-within g c under maps objects held stands may touched before =
+    let style = c.args.style.now in
+    let change = c.args.change.now in
+    let rise = c.entries-entries.ensures.rise in
+    let lacking = c.keys_lacking.ensures.within may (may-entries style objects change may touched) before in
+    let read = c.in_ok-lacking.ensures.looks.holds under maps held in
+    let old = c.old_relations.ensures.within may (may-entries style objects change may touched) lacking in
+    old
 
 pub returns-in_err-lacking-clause-within : goal.returns-in_err-lacking-clause-within
 returns-in_err-lacking-clause-within g c under maps objects held stands may touched before =
-    c.keys_lacking.ensures.within may (may-entries c.args.style.now objects c.args.change.now may touched) before
+    let style = c.args.style.now in
+    let change = c.args.change.now in
+    let rise = c.entries-entries.ensures.rise in
+    let lacking = c.keys_lacking.ensures.within may (may-entries style objects change may touched) before in
+    lacking

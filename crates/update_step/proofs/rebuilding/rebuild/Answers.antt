@@ -37,6 +37,12 @@ replace-requires-clause-news g c =
     ap length (c.as_slice-news.ensures.items ∙ c.in_ok-built.ensures.rows) ∙ length-map keys (rows_known c.args.style.now (known_in g_in))
     ∙ sym (ap length (c.as_slice-keys.ensures.value ∙ c.in_ok-keys.ensures.keys))
 
+pub replace-requires-clause-style : goal.replace-requires-clause-style
+replace-requires-clause-style g c =
+    let first = c.args.store.now in
+    g.met.S.MapStore.same_style first c.gathered.new.store
+    (c.gathered.ensures.looks.looked first (g.met.S.MapStore.looked_none first)) ∙ c.requires.style
+
 pub replace-requires-clause-kept : goal.replace-requires-clause-kept
 replace-requires-clause-kept g c =
     let style = c.args.style.now in
@@ -44,14 +50,10 @@ replace-requires-clause-kept g c =
     let g_in : Gathered = gathered_in c.in_ok-known.known in
     let news_are : c.as_slice-news.result.now ≡ map (rows_known style (known_in g_in)) keys =
     c.as_slice-news.ensures.items ∙ c.in_ok-built.ensures.rows in
-    let first = c.args.store.now in
-    let style_is = g.met.S.MapStore.same_style first c.gathered.new.store
-    (c.gathered.ensures.looks.looked first (g.met.S.MapStore.looked_none first)) ∙ c.requires.style in
-    subst (λ (own : StyleOf). AllByRecursion (MayKeep own.tables) c.as_slice-news.result.now) (sym style_is)
-    (subst (λ (lists : List (List TableRow)). AllByRecursion (MayKeep style.tables) lists) (sym news_are) (all-kept style g_in keys))
+    subst (λ (lists : List (List TableRow)). AllByRecursion (MayKeep style.tables) lists) (sym news_are) (all-kept style g_in keys)
 
 pub returns-clause-replaces : goal.returns-clause-replaces
-returns-clause-replaces g c under maps old rows held kept lacks built =
+returns-clause-replaces g c under maps old rows held had built =
     let style = c.args.style.now in
     let keys : List KeyOf = keys_of c.args.pending.now in
     let same : c.as_slice-keys.result.now ≡ keys = c.as_slice-keys.ensures.value ∙ c.in_ok-keys.ensures.keys in
@@ -61,7 +63,7 @@ returns-clause-replaces g c under maps old rows held kept lacks built =
     (c.as_slice-news.ensures.items ∙ c.in_ok-built.ensures.rows) in
     subst (λ (own : List KeyOf). Replaces (g.S.MapStore.holds c.replace.new.store under) style c.args.bounds.now maps own old rows
     (has c.args.due.now) (has c.replace.new.due) c.replace.result) same
-    (c.replace.ensures.replaces under maps old rows (c.in_ok-known.ensures.looks.holds under maps held) kept lacks news)
+    (c.replace.ensures.replaces under maps old rows (c.in_ok-known.ensures.looks.holds under maps held) had news)
 
 pub returns-clause-goes : goal.returns-clause-goes
 returns-clause-goes g c = record {
@@ -73,7 +75,7 @@ returns-clause-goes g c = record {
 }
 
 pub returns-clause-allowed : goal.returns-clause-allowed
-returns-clause-allowed g c under maps old held kept lacks =
+returns-clause-allowed g c under maps old held had =
     let style = c.args.style.now in
     let keys : List KeyOf = keys_of c.args.pending.now in
     let g_in : Gathered = gathered_in c.in_ok-known.known in
@@ -81,7 +83,7 @@ returns-clause-allowed g c under maps old held kept lacks =
     let news : c.as_slice-news.result.now ≡ map (rows_known style (known_in g_in)) c.as_slice-keys.result.now =
     c.as_slice-news.ensures.items ∙ c.in_ok-built.ensures.rows ∙ ap (map (rows_known style (known_in g_in))) (sym same) in
     c.replace.ensures.allowed under maps old (rows_known style (known_in g_in))
-    (c.in_ok-known.ensures.looks.holds under maps held) kept lacks news
+    (c.in_ok-known.ensures.looks.holds under maps held) had news
 
 pub returns-clause-within : goal.returns-clause-within
 returns-clause-within g c under maps held may asks rows before =

@@ -12,7 +12,7 @@ loop-key-preserved g c =
           let is = c.in_ok-rows.ensures.kept under maps old (c.loop-key.invariant.looks.holds under maps held) has lacks in
           grind (arith, common_steps, was, is);
       count = grind (arith, common_steps);
-      within = λ may all before. c.rows_unless.ensures.within may
+      within = λ may all before. c.rows_before.ensures.within may
           (all_at (MayRows may) c.args.keys.now c.loop-key.key-index c.key-item.result c.key-item.result all c.loop-key-test.true
           c.key-item.is) (c.loop-key.invariant.within may all before);
       looks = search rules;
@@ -20,12 +20,12 @@ loop-key-preserved g c =
 
 pub returns-in_err-rows-clause-within : goal.returns-in_err-rows-clause-within
 returns-in_err-rows-clause-within g c may all before =
-    c.rows_unless.ensures.within may
+    c.rows_before.ensures.within may
     (all_at (MayRows may) c.args.keys.now c.loop-key.key-index c.key-item.result c.key-item.result all c.loop-key-test.true c.key-item.is)
     (c.loop-key.invariant.within may all before)
 
 pub returns-in_err-push-clause-within : goal.returns-in_err-push-clause-within
 returns-in_err-push-clause-within g c may all before =
-    c.rows_unless.ensures.within may
+    c.rows_before.ensures.within may
     (all_at (MayRows may) c.args.keys.now c.loop-key.key-index c.key-item.result c.key-item.result all c.loop-key-test.true c.key-item.is)
     (c.loop-key.invariant.within may all before)

@@ -7,12 +7,16 @@ use Rattle.object_fold.specs.Entries.{IsAccepted}
 use Rattle.updater.proofs.FileLaws.{too_many}
 use Rattle.updater.proofs.file_reads.read_change.Goals as goal
 
-pub returns-then-entries-gt-MAX_ENTRIES-clause-err : goal.returns-then-entries-gt-MAX_ENTRIES-clause-err
-returns-then-entries-gt-MAX_ENTRIES-clause-err g c =
+pub returns-then-entries-gt-MAX_ENTRIES-clause-reads : goal.returns-then-entries-gt-MAX_ENTRIES-clause-reads
+returns-then-entries-gt-MAX_ENTRIES-clause-reads g c =
     let old = g.I.Inputs.view c.args.inputs.now in
     let new = g.I.Inputs.view c.read_file.new.inputs in
-    too_many c.args.file c.in-Ok.change old new
-    (subst (λ (limits : LimitNumbers). IfTold (old.left c.args.file) (λ (bytes : List ℕ). IsAccepted limits bytes c.in-Ok.change))
-    c.standard.ensures.numbers c.in-Ok.ensures.accepted)
-    (subst (λ (entries : List Entry). MAX_ENTRIES < length entries) c.entries.ensures.entries c.if-entries-gt-MAX_ENTRIES.true)
-    (record { others = c.read_file.ensures.others; later = c.read_file.ensures.later })
+    record {
+      ok = tt;
+      err = too_many c.args.file c.in-Ok.change old new
+          (subst (λ (limits : LimitNumbers). IfTold (old.left c.args.file) (λ (bytes : List ℕ). IsAccepted limits bytes c.in-Ok.change))
+          c.standard.ensures.numbers c.in-Ok.ensures.accepted)
+          (subst (λ (entries : List Entry). MAX_ENTRIES < length entries) c.entries.ensures.entries c.if-entries-gt-MAX_ENTRIES.true)
+          (record { others = c.read_file.ensures.others; later = c.read_file.ensures.later });
+      asked = c.read_file.ensures.read;
+    }

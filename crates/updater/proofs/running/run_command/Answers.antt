@@ -84,8 +84,8 @@ returns-in-Import g c =
     let fault = result_err c.import.result in
     let fits = subst (λ (own : Command). FilesFit (seen own)) c.in-Import.is c.requires.fits in
     let own = runs_by (import_of c.in-Import.store.now c.in-Import.files c.in-Import.buckets c.in-Import.workers)
-    (λ (asked : List ℕ). g.I.Inputs.reads c.args.inputs.now asked c.import.new.inputs) fault old new fits.1 c.import.ensures.asked
-    c.import.ensures.course (λ none. absurd (cc)) (λ not. absurd (not refl)) c.import.ensures.unformatted tt in
+    (λ (asked : List ℕ). g.I.Inputs.reads c.args.inputs.now asked c.import.new.inputs) fault old new fits.1 c.import.ensures.does.asked
+    c.import.ensures.does.goes (λ none. absurd (cc)) (λ not. absurd (not refl)) c.import.ensures.does.unformatted tt in
     record {
       runs = subst (λ (own : Command). Runs (seen own)
           (λ (asked : List ℕ). g.I.Inputs.reads c.args.inputs.now asked c.import.new.inputs) old new fault) (sym c.in-Import.is) own;
@@ -102,8 +102,8 @@ returns-in-Append g c =
     let fault = result_err c.append.result in
     let fits = subst (λ (own : Command). FilesFit (seen own)) c.in-Append.is c.requires.fits in
     let own = runs_by (append_of c.in-Append.store.now c.in-Append.files c.in-Append.workers)
-    (λ (asked : List ℕ). g.I.Inputs.reads c.args.inputs.now asked c.append.new.inputs) fault old new fits.0.least c.append.ensures.asked
-    c.append.ensures.course (λ none. absurd (cc)) (λ not. absurd (not refl)) c.append.ensures.unformatted
+    (λ (asked : List ℕ). g.I.Inputs.reads c.args.inputs.now asked c.append.new.inputs) fault old new fits.least c.append.ensures.does.asked
+    c.append.ensures.does.goes (λ none. absurd (cc)) (λ not. absurd (not refl)) c.append.ensures.does.unformatted
     (where_done c.append.result (IsLocal c.in-Append.files old new) c.append.ensures.local) in
     record {
       runs = subst (λ (own : Command). Runs (seen own)
@@ -124,8 +124,8 @@ returns-in-Export g c =
     let own = runs_by (export_of c.in-Export.store.now c.in-Export.table.now)
     (λ (asked : List ℕ). g.I.Inputs.reads c.args.inputs.now asked c.args.inputs.now) fault old new tt
     (asked_none g.I.Inputs.reads (Names (export_of c.in-Export.store.now c.in-Export.table.now)) c.args.inputs.now
-    (laws.reads_none c.args.inputs.now)) c.export.ensures.course (λ none. absurd (cc))
-    (λ not. absurd (not refl)) c.export.ensures.unformatted tt in
+    (laws.reads_none c.args.inputs.now)) c.export.ensures.does.goes (λ none. absurd (cc))
+    (λ not. absurd (not refl)) c.export.ensures.does.unformatted tt in
     record {
       runs = subst (λ (own : Command). Runs (seen own)
           (λ (asked : List ℕ). g.I.Inputs.reads c.args.inputs.now asked c.args.inputs.now) old new fault) (sym c.in-Export.is) own;
@@ -145,8 +145,8 @@ returns-in-Tiles g c =
     let own = runs_by (tiles_of c.in-Tiles.store.now c.in-Tiles.least c.in-Tiles.clear)
     (λ (asked : List ℕ). g.I.Inputs.reads c.args.inputs.now asked c.args.inputs.now) fault old new tt
     (asked_none g.I.Inputs.reads (Names (tiles_of c.in-Tiles.store.now c.in-Tiles.least c.in-Tiles.clear)) c.args.inputs.now
-    (laws.reads_none c.args.inputs.now)) c.tiles.ensures.course (λ none. absurd (cc))
-    (λ not. absurd (not refl)) c.tiles.ensures.unformatted tt in
+    (laws.reads_none c.args.inputs.now)) c.tiles.ensures.does.goes (λ none. absurd (cc))
+    (λ not. absurd (not refl)) c.tiles.ensures.does.unformatted tt in
     record {
       runs = subst (λ (own : Command). Runs (seen own)
           (λ (asked : List ℕ). g.I.Inputs.reads c.args.inputs.now asked c.args.inputs.now) old new fault) (sym c.in-Tiles.is) own;
@@ -162,7 +162,7 @@ returns-in-Replay g c =
     let fault = result_err c.replay.result in
     let fits = subst (λ (own : Command). FilesFit (seen own)) c.in-Replay.is c.requires.fits in
     let command = replay_of c.in-Replay.store.now c.in-Replay.files c.in-Replay.workers in
-    let own = runs_by command (λ (asked : List ℕ). g.I.Inputs.reads c.args.inputs.now asked c.replay.new.inputs) fault old new fits.0.least
+    let own = runs_by command (λ (asked : List ℕ). g.I.Inputs.reads c.args.inputs.now asked c.replay.new.inputs) fault old new fits.least
     c.replay.ensures.asked (from_unused new_store old new (replay_course c.in-Replay.files) fault
     (λ e. absurd (cc)) c.replay.ensures.course) (λ none. absurd (cc)) (λ _. c.replay.ensures.looked)
     (λ is. absurd (c.replay.ensures.formatted is)) tt in
@@ -181,7 +181,7 @@ returns-in-Query g c =
     let fits = subst (λ (own : Command). FilesFit (seen own)) c.in-Query.is c.requires.fits in
     let command = query_of c.in-Query.store.now c.in-Query.files in
     let own = runs_by command (λ (asked : List ℕ). g.I.Inputs.reads c.args.inputs.now asked c.query.new.inputs) fault old new fits.1
-    c.query.ensures.asked c.query.ensures.course (λ none. absurd (cc)) (λ not. absurd (not refl)) c.query.ensures.unformatted tt in
+    c.query.ensures.does.asked c.query.ensures.does.goes (λ none. absurd (cc)) (λ not. absurd (not refl)) c.query.ensures.does.unformatted tt in
     record {
       runs = subst (λ (own : Command). Runs (seen own)
           (λ (asked : List ℕ). g.I.Inputs.reads c.args.inputs.now asked c.query.new.inputs) old new fault) (sym c.in-Query.is) own;
@@ -197,7 +197,7 @@ returns-in-Serve g c =
     let fits = subst (λ (own : Command). FilesFit (seen own)) c.in-Serve.is c.requires.fits in
     let command = serve_of c.in-Serve.store.now c.in-Serve.files c.in-Serve.workers c.in-Serve.readers in
     let own = runs_by command (λ (asked : List ℕ). g.I.Inputs.reads c.args.inputs.now asked c.serve.new.inputs) fault old new fits.0.least
-    c.serve.ensures.asked c.serve.ensures.course (λ none. absurd (cc)) (λ not. absurd (not refl)) c.serve.ensures.unformatted tt in
+    c.serve.ensures.does.asked c.serve.ensures.does.goes (λ none. absurd (cc)) (λ not. absurd (not refl)) c.serve.ensures.does.unformatted tt in
     record {
       runs = subst (λ (own : Command). Runs (seen own)
           (λ (asked : List ℕ). g.I.Inputs.reads c.args.inputs.now asked c.serve.new.inputs) old new fault) (sym c.in-Serve.is) own;
@@ -216,7 +216,7 @@ returns-in-Migrate g c =
     let own = runs_by (migrate_of c.in-Migrate.store.now)
     (λ (asked : List ℕ). g.I.Inputs.reads c.args.inputs.now asked c.args.inputs.now) fault old new tt
     (asked_none g.I.Inputs.reads (Names (migrate_of c.in-Migrate.store.now)) c.args.inputs.now (laws.reads_none c.args.inputs.now))
-    c.migrate.ensures.course (λ none. absurd (cc)) (λ not. absurd (not refl)) c.migrate.ensures.unformatted tt in
+    c.migrate.ensures.does.goes (λ none. absurd (cc)) (λ not. absurd (not refl)) c.migrate.ensures.does.unformatted tt in
     record {
       runs = subst (λ (own : Command). Runs (seen own)
           (λ (asked : List ℕ). g.I.Inputs.reads c.args.inputs.now asked c.args.inputs.now) old new fault) (sym c.in-Migrate.is) own;

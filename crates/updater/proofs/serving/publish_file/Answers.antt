@@ -22,7 +22,13 @@ returns-clause-publishes g c = λ old start done held head.
     let own = c.in-Ok.ensures.leads old start done held head in
     (own.0, own.1, own.2, own.3, (c.in-Ok.delta, c.in-Ok-show_delta.ensures.shown, own.4))
 
-pub returns-clause-version : goal.returns-clause-version
-returns-clause-version g c =
-    c.in-Ok.ensures.changes ∙ ap (λ n. n + 1) c.requires.version ∙ sym (shown_version c.args.publisher.now.front c.in-Ok.delta)
-    ∙ ap (λ (front : FrontOf). version_of front) (sym c.in-Ok-show_delta.ensures.shown)
+pub returns-clause-front : goal.returns-clause-front
+returns-clause-front g c = record {
+  begin = c.show_delta.ensures.begin;
+  shown = record {
+    version = c.in-Ok.ensures.changes ∙ ap (λ n. n + 1) c.requires.shown.version
+        ∙ sym (shown_version c.args.publisher.now.front c.in-Ok.delta)
+        ∙ ap (λ (front : FrontOf). version_of front) (sym c.in-Ok-show_delta.ensures.shown);
+    tables_are = c.in-Ok-show_delta.ensures.tables;
+  };
+}

@@ -11,14 +11,14 @@ loop-file-init g c =
     record {
       least = omega arith;
       within = omega arith;
-      asked = asked_none g.I.Inputs.reads (Among c.args.first c.args.count) c.args.inputs.now (laws.reads_none c.args.inputs.now);
+      asked = asked_none g.I.Inputs.reads (Among c.args.files.first c.args.files.count) c.args.inputs.now
+          (laws.reads_none c.args.inputs.now);
       stays = record { same_disk = refl; same_limits = refl };
       begin = refl;
-      version = c.requires.version;
-      tables = c.requires.tables;
+      shown = c.requires.shown;
       turn = λ old start done held asked readers head.
-          first_serving c.args.bounds.now asked readers held c.args.first c.args.count start done old c.args.publisher.now.front
-          (c.args.first + c.args.count - c.args.first) (omega arith)
+          first_serving c.args.bounds.now asked readers held c.args.files.first c.args.files.count start done old c.args.publisher.now.front
+          (c.args.files.first + c.args.files.count - c.args.files.first) (omega arith)
           (g.I.Inputs.view c.args.inputs.now) (handle_of c.args.store.now) (g.S.Sink.view c.args.out.now) head;
     }
 
@@ -28,8 +28,9 @@ overflow_sub-file g c = omega (arith, c.loop-file.invariant.least)
 pub returns-in-Err-clause-serves : goal.returns-in-Err-clause-serves
 returns-in-Err-clause-serves g c = record {
   each = λ old start done held asked readers head.
-      ends_in_serving c.args.bounds.now asked readers held c.args.first c.args.count start done old c.args.publisher.now.front
-      c.loop-file.file (c.args.first + c.args.count - c.loop-file.file) (c.args.first + c.args.count - (c.loop-file.file + 1))
+      ends_in_serving c.args.bounds.now asked readers held c.args.files.first c.args.files.count start done old c.args.publisher.now.front
+      c.loop-file.file (c.args.files.first + c.args.files.count - c.loop-file.file)
+      (c.args.files.first + c.args.files.count - (c.loop-file.file + 1))
       (omega (arith, c.loop-file-test.true)) (g.I.Inputs.view c.loop-file.inputs) (handle_of c.loop-file.store)
       (g.S.Sink.view c.loop-file.out) c.loop-file.publisher.front c.publish_file.new.publisher.front
       (c.loop-file.invariant.turn old start done held asked readers head)
@@ -37,19 +38,22 @@ returns-in-Err-clause-serves g c = record {
       (g.S.Sink.view c.publish_file.new.out) c.in-Err.fault c.in-Err.ensures.publishes;
 }
 
-pub returns-in-Err-clause-stays : goal.returns-in-Err-clause-stays
-returns-in-Err-clause-stays g c = record {
-  same_disk = c.publish_file.ensures.stays.same_disk ∙ c.loop-file.invariant.stays.same_disk;
-  same_limits = c.publish_file.ensures.stays.same_limits ∙ c.loop-file.invariant.stays.same_limits;
-}
-
-pub returns-in-Err-clause-asked : goal.returns-in-Err-clause-asked
-returns-in-Err-clause-asked g c =
+pub returns-in-Err-clause-works : goal.returns-in-Err-clause-works
+returns-in-Err-clause-works g c =
     let laws = g.met.I.Inputs g.world.𝓛 g.world.𝓜 g.world.𝓡 ((λ s x. x), (λ x. x), (λ x. x), λ x. x) in
-    asked_more g.I.Inputs.reads laws.reads_then
-    (Among c.args.first c.args.count) c.args.inputs.now c.loop-file.inputs c.publish_file.new.inputs c.loop-file.file
-    c.loop-file.invariant.asked c.publish_file.ensures.asked
-    (c.loop-file.invariant.least, omega (arith, c.loop-file-test.true))
+    record {
+      keeps = record {
+        stays = record {
+          same_disk = c.publish_file.ensures.works.keeps.stays.same_disk ∙ c.loop-file.invariant.stays.same_disk;
+          same_limits = c.publish_file.ensures.works.keeps.stays.same_limits ∙ c.loop-file.invariant.stays.same_limits;
+        };
+        formatted = c.in-Err.ensures.works.keeps.formatted;
+      };
+      asked = asked_more g.I.Inputs.reads laws.reads_then
+          (Among c.args.files.first c.args.files.count) c.args.inputs.now c.loop-file.inputs c.publish_file.new.inputs c.loop-file.file
+          c.loop-file.invariant.asked c.publish_file.ensures.works.asked
+          (c.loop-file.invariant.least, omega (arith, c.loop-file-test.true));
+    }
 
 pub loop-file-preserved : goal.loop-file-preserved
 loop-file-preserved g c =
@@ -58,19 +62,19 @@ loop-file-preserved g c =
       least = omega (arith, c.loop-file.invariant.least);
       within = omega (arith, c.loop-file-test.true);
       asked = asked_more g.I.Inputs.reads laws.reads_then
-          (Among c.args.first c.args.count) c.args.inputs.now c.loop-file.inputs c.publish_file.new.inputs c.loop-file.file
-          c.loop-file.invariant.asked c.publish_file.ensures.asked
+          (Among c.args.files.first c.args.files.count) c.args.inputs.now c.loop-file.inputs c.publish_file.new.inputs c.loop-file.file
+          c.loop-file.invariant.asked c.publish_file.ensures.works.asked
           (c.loop-file.invariant.least, omega (arith, c.loop-file-test.true));
       stays = record {
-        same_disk = c.publish_file.ensures.stays.same_disk ∙ c.loop-file.invariant.stays.same_disk;
-        same_limits = c.publish_file.ensures.stays.same_limits ∙ c.loop-file.invariant.stays.same_limits;
+        same_disk = c.publish_file.ensures.works.keeps.stays.same_disk ∙ c.loop-file.invariant.stays.same_disk;
+        same_limits = c.publish_file.ensures.works.keeps.stays.same_limits ∙ c.loop-file.invariant.stays.same_limits;
       };
-      begin = c.publish_file.ensures.begin ∙ c.loop-file.invariant.begin;
-      version = c.in-Ok.ensures.version;
-      tables = c.in-Ok.ensures.tables;
+      begin = c.publish_file.ensures.front.begin ∙ c.loop-file.invariant.begin;
+      shown = c.in-Ok.ensures.front.shown;
       turn = λ old start done held asked readers head.
-          next_serving c.args.bounds.now asked readers held c.args.first c.args.count start done old c.args.publisher.now.front
-          c.loop-file.file (c.args.first + c.args.count - c.loop-file.file) (c.args.first + c.args.count - (c.loop-file.file + 1))
+          next_serving c.args.bounds.now asked readers held c.args.files.first c.args.files.count start done old c.args.publisher.now.front
+          c.loop-file.file (c.args.files.first + c.args.files.count - c.loop-file.file)
+          (c.args.files.first + c.args.files.count - (c.loop-file.file + 1))
           (omega (arith, c.loop-file-test.true)) (g.I.Inputs.view c.loop-file.inputs) (handle_of c.loop-file.store)
           (g.S.Sink.view c.loop-file.out) c.loop-file.publisher.front c.publish_file.new.publisher.front
           (c.loop-file.invariant.turn old start done held asked readers head)
@@ -81,15 +85,24 @@ loop-file-preserved g c =
 pub returns-clause-serves : goal.returns-clause-serves
 returns-clause-serves g c = record {
   each = λ old start done held asked readers head.
-      last_serving c.args.bounds.now asked readers held c.args.first c.args.count start done old c.args.publisher.now.front c.loop-file.file
-      (c.args.first + c.args.count - c.loop-file.file) (c.args.first + c.args.count)
+      last_serving c.args.bounds.now asked readers held c.args.files.first c.args.files.count start done old c.args.publisher.now.front
+      c.loop-file.file
+      (c.args.files.first + c.args.files.count - c.loop-file.file) (c.args.files.first + c.args.files.count)
       (omega (arith, c.loop-file-test.false)) (omega (arith, c.loop-file-test.false, c.loop-file.invariant.within))
       (g.I.Inputs.view c.loop-file.inputs) (handle_of c.loop-file.store) (g.S.Sink.view c.loop-file.out) c.loop-file.publisher.front
       (c.loop-file.invariant.turn old start done held asked readers head);
 }
 
-pub returns-clause-stays : goal.returns-clause-stays
-returns-clause-stays g c = c.loop-file.invariant.stays
+pub returns-clause-works : goal.returns-clause-works
+returns-clause-works g c =
+    record {
+      keeps = record { stays = c.loop-file.invariant.stays; formatted = λ is. absurd (cc) };
+      asked = c.loop-file.invariant.asked;
+    }
 
-pub returns-clause-asked : goal.returns-clause-asked
-returns-clause-asked g c = c.loop-file.invariant.asked
+pub returns-in-Err-clause-front : goal.returns-in-Err-clause-front
+returns-in-Err-clause-front g c =
+    record { begin = c.publish_file.ensures.front.begin ∙ c.loop-file.invariant.begin; shown = tt }
+
+pub returns-clause-front : goal.returns-clause-front
+returns-clause-front g c = record { begin = c.loop-file.invariant.begin; shown = c.loop-file.invariant.shown }

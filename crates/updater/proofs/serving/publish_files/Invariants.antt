@@ -1,6 +1,5 @@
 use Rattle.std.proofs.Common.{◌≡◌, ◌≤◌, ◌-◌, ℕ, List}
 use Rattle.map_query.specs.declared.query.Query.{Query}
-use Rattle.table_versions.specs.Versions.{tables_of, version_of}
 use Rattle.reader_rounds.specs.Asking.{begin_of}
 use Rattle.update_flow.specs.Handle.{changes_of}
 use Rattle.update_flow.specs.State.{Holding, imported}
@@ -9,23 +8,22 @@ use Rattle.updater.specs.Heads.{IsHead}
 use Rattle.run_promise.specs.Progress.{Progress}
 use Rattle.updater.specs.FileReads.{Among}
 use Rattle.run_promise.specs.Runs.{AsksOnly}
-use Rattle.updater.specs.Serving.{IsServing}
+use Rattle.updater.specs.Serving.{IsServing, ShowsFront}
 use Rattle.run_promise.specs.World.{Before}
 use Rattle.updater.proofs.serving.publish_files.Given as goal
 
 -- the files so far are appended, told and shown, and the rest of the course leads on
 abbrev pub invariant-loop-file : goal.invariant-loop-file
 invariant-loop-file g l = record {
-  least : l.fn.first ≤ l.file;
+  least : l.fn.files.first ≤ l.file;
   within : l.file ≤ l.end;
-  asked : AsksOnly (λ asked. g.I.Inputs.reads l.fn.inputs asked l.inputs) (Among l.fn.first l.fn.count);
+  asked : AsksOnly (λ asked. g.I.Inputs.reads l.fn.inputs asked l.inputs) (Among l.fn.files.first l.fn.files.count);
   stays : StaysOver l.fn.store l.store;
   begin : begin_of l.publisher.front ≡ begin_of l.fn.publisher.front;
-  version : changes_of (handle_of l.store) ≡ version_of l.publisher.front;
-  tables : l.tables ≡ tables_of l.publisher.front;
+  shown : ShowsFront (changes_of (handle_of l.store)) l.tables l.publisher.front;
   turn : (old : Before) (start done : Progress) (held : Holding) (asked : List Query) (readers : ℕ)
-      → IsHead start done (imported held) l.fn.first old (g.I.Inputs.view l.fn.inputs) (handle_of l.fn.store) (g.S.Sink.view l.fn.out)
-      → IsServing l.fn.bounds asked readers held l.fn.first l.fn.count start done l.file (l.end - l.file) old (g.I.Inputs.view l.inputs)
+      → IsHead start done (imported held) l.fn.files.first old (g.I.Inputs.view l.fn.inputs) (handle_of l.fn.store) (g.S.Sink.view l.fn.out)
+      → IsServing l.fn.bounds asked readers held l.fn.files.first l.fn.files.count start done l.file (l.end - l.file) old (g.I.Inputs.view l.inputs)
       (handle_of l.store) (g.S.Sink.view l.out) l.fn.publisher.front l.publisher.front;
 }
 

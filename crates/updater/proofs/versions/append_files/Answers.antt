@@ -12,12 +12,13 @@ loop-file-init g c =
     record {
       least = omega arith;
       within = omega arith;
-      asked = asked_none g.I.Inputs.reads (Among c.args.first c.args.count) c.args.inputs.now (laws.reads_none c.args.inputs.now);
+      asked = asked_none g.I.Inputs.reads (Among c.args.files.first c.args.files.count) c.args.inputs.now
+          (laws.reads_none c.args.inputs.now);
       stays = record { same_disk = refl; same_limits = refl };
-      turn = λ old start done held head. first_version c.args.bounds.now held c.args.first c.args.count start done old
-          (c.args.first + c.args.count - c.args.first) (omega arith)
+      turn = λ old start done held head. first_version c.args.bounds.now held c.args.files.first c.args.files.count start done old
+          (c.args.files.first + c.args.files.count - c.args.files.first) (omega arith)
           (g.I.Inputs.view c.args.inputs.now) (handle_of c.args.store.now) (g.S.Sink.view c.args.out.now) head;
-      local = λ held pages is rests. appends_begin c.args.bounds.now held pages c.args.first (g.I.Inputs.view c.args.inputs.now)
+      local = λ held pages is rests. appends_begin c.args.bounds.now held pages c.args.files.first (g.I.Inputs.view c.args.inputs.now)
           (handle_of c.args.store.now) is rests;
     }
 
@@ -26,26 +27,29 @@ overflow_sub-file g c = omega (arith, c.loop-file.invariant.least)
 
 pub returns-in-Err-clause-leads : goal.returns-in-Err-clause-leads
 returns-in-Err-clause-leads g c = λ old start done held head.
-    ends_in_version c.args.bounds.now held c.args.first c.args.count start done old c.loop-file.file
-    (c.args.first + c.args.count - c.loop-file.file) (c.args.first + c.args.count - (c.loop-file.file + 1))
+    ends_in_version c.args.bounds.now held c.args.files.first c.args.files.count start done old c.loop-file.file
+    (c.args.files.first + c.args.files.count - c.loop-file.file) (c.args.files.first + c.args.files.count - (c.loop-file.file + 1))
     (omega (arith, c.loop-file-test.true)) (g.I.Inputs.view c.loop-file.inputs) (handle_of c.loop-file.store)
     (g.S.Sink.view c.loop-file.out) (c.loop-file.invariant.turn old start done held head)
     (g.I.Inputs.view c.append_file.new.inputs) (handle_of c.append_file.new.store) (g.S.Sink.view c.append_file.new.out) c.in-Err.fault
-    (c.args.first + c.args.count) c.in-Err.ensures.leads
+    (c.args.files.first + c.args.files.count) c.in-Err.ensures.leads
 
-pub returns-in-Err-clause-stays : goal.returns-in-Err-clause-stays
-returns-in-Err-clause-stays g c = record {
-  same_disk = c.append_file.ensures.stays.same_disk ∙ c.loop-file.invariant.stays.same_disk;
-  same_limits = c.append_file.ensures.stays.same_limits ∙ c.loop-file.invariant.stays.same_limits;
-}
-
-pub returns-in-Err-clause-asked : goal.returns-in-Err-clause-asked
-returns-in-Err-clause-asked g c =
+pub returns-in-Err-clause-works : goal.returns-in-Err-clause-works
+returns-in-Err-clause-works g c =
     let laws = g.met.I.Inputs g.world.𝓛 g.world.𝓜 g.world.𝓡 ((λ s x. x), (λ x. x), (λ x. x), λ x. x) in
-    asked_more g.I.Inputs.reads laws.reads_then
-    (Among c.args.first c.args.count) c.args.inputs.now c.loop-file.inputs c.append_file.new.inputs c.loop-file.file
-    c.loop-file.invariant.asked c.append_file.ensures.asked
-    (c.loop-file.invariant.least, omega (arith, c.loop-file-test.true))
+    record {
+      keeps = record {
+        stays = record {
+          same_disk = c.append_file.ensures.works.keeps.stays.same_disk ∙ c.loop-file.invariant.stays.same_disk;
+          same_limits = c.append_file.ensures.works.keeps.stays.same_limits ∙ c.loop-file.invariant.stays.same_limits;
+        };
+        formatted = c.in-Err.ensures.works.keeps.formatted;
+      };
+      asked = asked_more g.I.Inputs.reads laws.reads_then
+          (Among c.args.files.first c.args.files.count) c.args.inputs.now c.loop-file.inputs c.append_file.new.inputs c.loop-file.file
+          c.loop-file.invariant.asked c.append_file.ensures.works.asked
+          (c.loop-file.invariant.least, omega (arith, c.loop-file-test.true));
+    }
 
 pub loop-file-preserved : goal.loop-file-preserved
 loop-file-preserved g c =
@@ -54,22 +58,22 @@ loop-file-preserved g c =
       least = omega (arith, c.loop-file.invariant.least);
       within = omega (arith, c.loop-file-test.true);
       asked = asked_more g.I.Inputs.reads laws.reads_then
-          (Among c.args.first c.args.count) c.args.inputs.now c.loop-file.inputs c.append_file.new.inputs c.loop-file.file
-          c.loop-file.invariant.asked c.append_file.ensures.asked
+          (Among c.args.files.first c.args.files.count) c.args.inputs.now c.loop-file.inputs c.append_file.new.inputs c.loop-file.file
+          c.loop-file.invariant.asked c.append_file.ensures.works.asked
           (c.loop-file.invariant.least, omega (arith, c.loop-file-test.true));
       stays = record {
-        same_disk = c.append_file.ensures.stays.same_disk ∙ c.loop-file.invariant.stays.same_disk;
-        same_limits = c.append_file.ensures.stays.same_limits ∙ c.loop-file.invariant.stays.same_limits;
+        same_disk = c.append_file.ensures.works.keeps.stays.same_disk ∙ c.loop-file.invariant.stays.same_disk;
+        same_limits = c.append_file.ensures.works.keeps.stays.same_limits ∙ c.loop-file.invariant.stays.same_limits;
       };
       turn = λ old start done held head.
-          next_version c.args.bounds.now held c.args.first c.args.count start done old c.loop-file.file
-          (c.args.first + c.args.count - c.loop-file.file) (c.args.first + c.args.count - (c.loop-file.file + 1))
+          next_version c.args.bounds.now held c.args.files.first c.args.files.count start done old c.loop-file.file
+          (c.args.files.first + c.args.files.count - c.loop-file.file) (c.args.files.first + c.args.files.count - (c.loop-file.file + 1))
           (omega (arith, c.loop-file-test.true)) (g.I.Inputs.view c.loop-file.inputs) (handle_of c.loop-file.store)
           (g.S.Sink.view c.loop-file.out) (c.loop-file.invariant.turn old start done held head)
           (g.I.Inputs.view c.append_file.new.inputs) (handle_of c.append_file.new.store)
           (g.S.Sink.view c.append_file.new.out) c.in-Ok.ensures.leads;
       local = λ held pages is rests.
-          appends_next c.args.bounds.now held pages c.args.first c.loop-file.file (g.I.Inputs.view c.args.inputs.now)
+          appends_next c.args.bounds.now held pages c.args.files.first c.loop-file.file (g.I.Inputs.view c.args.inputs.now)
           (g.I.Inputs.view c.loop-file.inputs) (g.I.Inputs.view c.append_file.new.inputs)
           (handle_of c.args.store.now) (handle_of c.loop-file.store) (handle_of c.append_file.new.store)
           (c.loop-file.invariant.local held pages is rests) c.in-Ok.ensures.local;
@@ -77,20 +81,21 @@ loop-file-preserved g c =
 
 pub returns-clause-leads : goal.returns-clause-leads
 returns-clause-leads g c = λ old start done held head.
-    last_version c.args.bounds.now held c.args.first c.args.count start done old c.loop-file.file
-    (c.args.first + c.args.count - c.loop-file.file) (c.args.first + c.args.count)
+    last_version c.args.bounds.now held c.args.files.first c.args.files.count start done old c.loop-file.file
+    (c.args.files.first + c.args.files.count - c.loop-file.file) (c.args.files.first + c.args.files.count)
     (omega (arith, c.loop-file-test.false)) (omega (arith, c.loop-file-test.false, c.loop-file.invariant.within))
     (g.I.Inputs.view c.loop-file.inputs) (handle_of c.loop-file.store) (g.S.Sink.view c.loop-file.out)
     (c.loop-file.invariant.turn old start done held head)
 
-pub returns-clause-stays : goal.returns-clause-stays
-returns-clause-stays g c = c.loop-file.invariant.stays
-
-pub returns-clause-asked : goal.returns-clause-asked
-returns-clause-asked g c = c.loop-file.invariant.asked
+pub returns-clause-works : goal.returns-clause-works
+returns-clause-works g c =
+    record {
+      keeps = record { stays = c.loop-file.invariant.stays; formatted = λ is. absurd (cc) };
+      asked = c.loop-file.invariant.asked;
+    }
 
 pub returns-clause-local : goal.returns-clause-local
 returns-clause-local g c = λ held pages is rests.
-    appends_end c.args.bounds.now held pages c.args.first c.args.count c.loop-file.file (g.I.Inputs.view c.args.inputs.now)
+    appends_end c.args.bounds.now held pages c.args.files.first c.args.files.count c.loop-file.file (g.I.Inputs.view c.args.inputs.now)
     (g.I.Inputs.view c.loop-file.inputs) (handle_of c.args.store.now) (handle_of c.loop-file.store)
     (omega (arith, c.loop-file-test.false, c.loop-file.invariant.within)) (c.loop-file.invariant.local held pages is rests)

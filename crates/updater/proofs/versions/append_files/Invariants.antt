@@ -14,17 +14,17 @@ use Rattle.updater.proofs.versions.append_files.Given as goal
 -- the files so far are appended and told, and the rest of the course leads on
 abbrev pub invariant-loop-file : goal.invariant-loop-file
 invariant-loop-file g l = record {
-  least : l.fn.first ≤ l.file;
+  least : l.fn.files.first ≤ l.file;
   within : l.file ≤ l.end;
-  asked : AsksOnly (λ asked. g.I.Inputs.reads l.fn.inputs asked l.inputs) (Among l.fn.first l.fn.count);
+  asked : AsksOnly (λ asked. g.I.Inputs.reads l.fn.inputs asked l.inputs) (Among l.fn.files.first l.fn.files.count);
   stays : StaysOver l.fn.store l.store;
   turn : (old : Before) (start done : Progress) (held : Holding)
-      → IsHead start done (imported held) l.fn.first old (g.I.Inputs.view l.fn.inputs) (handle_of l.fn.store) (g.S.Sink.view l.fn.out)
-      → IsVersion l.fn.bounds held l.fn.first l.fn.count start done l.file (l.end - l.file) old (g.I.Inputs.view l.inputs)
+      → IsHead start done (imported held) l.fn.files.first old (g.I.Inputs.view l.fn.inputs) (handle_of l.fn.store) (g.S.Sink.view l.fn.out)
+      → IsVersion l.fn.bounds held l.fn.files.first l.fn.files.count start done l.file (l.end - l.file) old (g.I.Inputs.view l.inputs)
       (handle_of l.store) (g.S.Sink.view l.out);
   local : (held : Holding) (pages : List (List ℕ)) → IsOpen (imported held) (handle_of l.fn.store)
       → IsAtRest pages (view_of (handle_of l.fn.store))
-      → AppendsSoFar l.fn.bounds held pages l.fn.first l.file (g.I.Inputs.view l.fn.inputs) (g.I.Inputs.view l.inputs)
+      → AppendsSoFar l.fn.bounds held pages l.fn.files.first l.file (g.I.Inputs.view l.fn.inputs) (g.I.Inputs.view l.inputs)
       (handle_of l.fn.store) (handle_of l.store);
 }
 

@@ -7,7 +7,7 @@ use Rattle.updater.specs.Serving.{IsNext}
 use Rattle.updater.proofs.LocalLaws.{reads_one}
 use Rattle.updater.proofs.ServeRuns.{next_by}
 use Rattle.updater.proofs.StoreRuns.{held_certain}
-use Rattle.updater.proofs.StoreDeeds.{shows_here}
+use Rattle.updater.proofs.StoreDeeds.{shows_here, refused_so}
 use Rattle.updater.proofs.VersionRuns.{file_unread, step_refused, version_done, version_told}
 use Rattle.updater.proofs.versions.commit_file.Goals as goal
 
@@ -17,7 +17,7 @@ returns-in-Err-clause-leads g c = λ old start done held head.
     (handle_of c.args.store.now) (g.S.Sink.view c.args.out.now) head
     (λ entries. Append c.args.bounds.now entries) (version_line (held.changes + 1)) (λ entries. changed c.args.bounds.now entries held)
     (λ entries. refl) (λ entries. tt)
-    c.in-Err.fault c.in-Err.ensures.err
+    c.in-Err.fault c.in-Err.ensures.reads.err
 
 pub returns-in-Err-append_one-clause-leads : goal.returns-in-Err-append_one-clause-leads
 returns-in-Err-append_one-clause-leads g c = rw c.in_flow.ensures.fault (λ old start done held head.
@@ -25,9 +25,8 @@ returns-in-Err-append_one-clause-leads g c = rw c.in_flow.ensures.fault (λ old 
     (handle_of c.args.store.now) (g.S.Sink.view c.args.out.now) head
     (λ entries. Append c.args.bounds.now entries) (version_line (held.changes + 1)) (λ entries. changed c.args.bounds.now entries held)
     (λ entries. refl) (λ entries. tt)
-    c.in-Ok.change c.in-Ok.ensures.ok (handle_of c.append_one.new.self) c.in-Err-append_one.fault c.in-Err-append_one.ensures.takes
-    c.in-Err-append_one.ensures.stays.alone (λ is. c.in-Err-append_one.ensures.stays.broken (ap Err is)) refl
-    (λ is. c.in-Err-append_one.ensures.stays.not_old (ap Err is)) c.in-Err-append_one.ensures.stays.cause)
+    c.in-Ok.change c.in-Ok.ensures.reads.ok (handle_of c.append_one.new.self) c.in-Err-append_one.fault c.in-Err-append_one.ensures.takes
+    refl tt (refused_so c.in-Err-append_one.ensures.stays))
 
 pub returns-in-Ok-tell_version-clause-leads : goal.returns-in-Ok-tell_version-clause-leads
 returns-in-Ok-tell_version-clause-leads g c = λ old start done held head.
@@ -36,7 +35,7 @@ returns-in-Ok-tell_version-clause-leads g c = λ old start done held head.
     (handle_of c.args.store.now) (g.S.Sink.view c.args.out.now) head
     (λ entries. Append c.args.bounds.now entries) (version_line (held.changes + 1)) (λ entries. changed c.args.bounds.now entries held)
     (λ entries. refl) (λ entries. tt)
-    c.in-Ok.change c.in-Ok.ensures.ok (handle_of c.append_one.new.self) c.in-Ok-append_one.ensures.takes
+    c.in-Ok.change c.in-Ok.ensures.reads.ok (handle_of c.append_one.new.self) c.in-Ok-append_one.ensures.takes
     (λ shows. record {
       changes_are = c.in-Ok-append_one.ensures.changes ∙ ap (λ n. n + 1) shows.changes_are;
       imported_is =
@@ -60,7 +59,7 @@ returns-in-Err-tell_version-clause-leads g c = λ old start done held head.
     (handle_of c.args.store.now) (g.S.Sink.view c.args.out.now) head
     (λ entries. Append c.args.bounds.now entries) (version_line (held.changes + 1)) (λ entries. changed c.args.bounds.now entries held)
     (λ entries. refl) (λ entries. tt)
-    c.in-Ok.change c.in-Ok.ensures.ok (handle_of c.append_one.new.self) c.in-Ok-append_one.ensures.takes
+    c.in-Ok.change c.in-Ok.ensures.reads.ok (handle_of c.append_one.new.self) c.in-Ok-append_one.ensures.takes
     (λ shows. record {
       changes_are = c.in-Ok-append_one.ensures.changes ∙ ap (λ n. n + 1) shows.changes_are;
       imported_is =
@@ -77,8 +76,8 @@ returns-in-Err-tell_version-clause-leads g c = λ old start done held head.
 pub returns-in-Ok-tell_version-clause-local : goal.returns-in-Ok-tell_version-clause-local
 returns-in-Ok-tell_version-clause-local g c = λ held pages is rests. record {
   change = c.in-Ok.change;
-  accepted = c.in-Ok.ensures.ok.accepted;
-  others = c.in-Ok.ensures.ok.alone.others;
+  accepted = c.in-Ok.ensures.reads.ok.accepted;
+  others = c.in-Ok.ensures.reads.ok.alone.others;
   opened = (c.in-Ok-append_one.ensures.takes (imported held) is).done refl;
   needed = λ next last. ((c.in-Ok-append_one.ensures.takes (imported held) is).grown tt refl pages next rests last).0;
   reads = reads_one held c.in-Ok.change pages (view_of (handle_of c.args.store.now)) (view_of (handle_of c.append_one.new.self))

@@ -1,9 +1,10 @@
-use Rattle.std.proofs.Common.{List, ℕ, None, Some, refl, Err, ap, subst}
+use Rattle.std.proofs.Common.{List, ℕ, None, Some, refl, subst}
 use Rattle.update_flow.specs.State.{Import, State, formatted, fresh}
 use Rattle.update_flow.specs.Handle.{IsOpen, Takes}
 use Rattle.update_flow.specs.Updater.{handle_of}
 use Rattle.run_promise.specs.Courses.{version_line}
 use Rattle.updater.proofs.VersionRuns.{file_unread, step_refused, version_told}
+use Rattle.updater.proofs.StoreDeeds.{IsRefusedSo, refused_so}
 use Rattle.updater.proofs.versions.import_file.Goals as goal
 
 pub returns-in-Err-clause-leads : goal.returns-in-Err-clause-leads
@@ -12,7 +13,7 @@ returns-in-Err-clause-leads g c = λ old start done head.
     (handle_of c.args.store.now) (g.S.Sink.view c.args.out.now) head
     (λ entries. Import c.args.style.style c.args.style.bytes c.args.buckets entries) (version_line 0)
     (λ entries. fresh c.args.style.style c.args.style.bytes c.args.buckets entries) (λ entries. refl) (λ entries. tt)
-    c.in-Err.fault c.in-Err.ensures.err
+    c.in-Err.fault c.in-Err.ensures.reads.err
 
 pub returns-in-Err-import-clause-leads : goal.returns-in-Err-import-clause-leads
 returns-in-Err-import-clause-leads g c = rw c.in_flow.ensures.fault (λ old start done head.
@@ -20,12 +21,13 @@ returns-in-Err-import-clause-leads g c = rw c.in_flow.ensures.fault (λ old star
     (handle_of c.args.store.now) (g.S.Sink.view c.args.out.now) head
     (λ entries. Import c.args.style.style c.args.style.bytes c.args.buckets entries) (version_line 0)
     (λ entries. fresh c.args.style.style c.args.style.bytes c.args.buckets entries) (λ entries. refl) (λ entries. tt)
-    c.in-Ok.change c.in-Ok.ensures.ok (handle_of c.import.new.self) c.in-Err-import.fault
+    c.in-Ok.change c.in-Ok.ensures.reads.ok (handle_of c.import.new.self) c.in-Err-import.fault
     (subst (λ (bytes : List ℕ). (own : State) → IsOpen own (handle_of c.args.store.now)
     → Takes own (Import c.args.style.style bytes c.args.buckets c.in-Ok.change) (Some c.in-Err-import.fault)
     (handle_of c.args.store.now) (handle_of c.import.new.self)) c.as_slice.ensures.items c.in-Err-import.ensures.takes)
-    c.in-Err-import.ensures.stays.alone (λ is. c.in-Err-import.ensures.stays.broken (ap Err is)) refl
-    (λ is. c.in-Err-import.ensures.stays.not_old (ap Err is)) c.in-Err-import.ensures.stays.cause)
+    refl tt
+    (subst (λ (bytes : List ℕ). IsRefusedSo (Some (Import c.args.style.style bytes c.args.buckets c.in-Ok.change)) c.in-Err-import.fault
+    (handle_of c.args.store.now) (handle_of c.import.new.self)) c.as_slice.ensures.items (refused_so c.in-Err-import.ensures.stays)))
 
 pub returns-clause-leads : goal.returns-clause-leads
 returns-clause-leads g c = λ old start done head.
@@ -33,7 +35,7 @@ returns-clause-leads g c = λ old start done head.
     (handle_of c.args.store.now) (g.S.Sink.view c.args.out.now) head
     (λ entries. Import c.args.style.style c.args.style.bytes c.args.buckets entries) (version_line 0)
     (λ entries. fresh c.args.style.style c.args.style.bytes c.args.buckets entries) (λ entries. refl) (λ entries. tt)
-    c.in-Ok.change c.in-Ok.ensures.ok (handle_of c.import.new.self)
+    c.in-Ok.change c.in-Ok.ensures.reads.ok (handle_of c.import.new.self)
     (subst (λ (bytes : List ℕ). (own : State) → IsOpen own (handle_of c.args.store.now)
     → Takes own (Import c.args.style.style bytes c.args.buckets c.in-Ok.change) None (handle_of c.args.store.now)
     (handle_of c.import.new.self)) c.as_slice.ensures.items c.in_default.ensures.takes)

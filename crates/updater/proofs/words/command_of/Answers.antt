@@ -10,9 +10,9 @@ returns c =
     let options = map string_bytes c.split_at.result.0.now in
     let form = map string_bytes c.without_dashes-form.result.now in
     record {
-      fits = c.named.ensures.fits;
+      fits = c.named.ensures.read.fits;
       command =
-          c.named.ensures.named
+          c.named.ensures.read.read
           ∙ ap (λ name. spec.named name options form (length c.args.words.now - length c.without_dashes-form.result.now)) c.deref.ensures
           ∙ command-words string_bytes c.in_ok-name.name.now c.in_ok-name.later.now c.split_at.result.0.now c.without_dashes-form.result.now
           c.count_options.result _

@@ -11,12 +11,12 @@ use Rattle.bucket_store.proofs.buckets.Buckets.pages_of_bucket.Goals as goal
 pub known_pages-requires : goal.known_pages-requires
 known_pages-requires g c = record {
   there =
-      (c.bring_chain.new.self.once c.in_default.ensures.touches.refused).all c.args.n c.in_default.ensures.brings.there;
+      (c.bring_chain.new.self.once c.in_default.ensures.only.touches.refused).all c.args.n c.in_default.ensures.only.brings.there;
 }
 
 pub returns-in-Ok-clause-lists : goal.returns-in-Ok-clause-lists
 returns-in-Ok-clause-lists g c =
-    let done = c.in_default.ensures in
+    let done = c.in_default.ensures.only in
     record {
       answers = λ pages was.
           subst (λ (kept : Kept). HasPages (page_in pages) (length pages + 1) c.args.n (kept_first kept c.args.n) c.in-Ok.pages)
@@ -30,5 +30,5 @@ pub returns-in-Err-known_pages-clause-lists : goal.returns-in-Err-known_pages-cl
 returns-in-Err-known_pages-clause-lists g c = record {
   answers = λ pages was. tt;
   sound = λ rest now has. tt;
-  keeps = keeps_after c.args.self.now c.bring_chain.new.self _ _ (Err OutOfMemory) c.in_default.ensures.brings.keeps refl refl;
+  keeps = keeps_after c.args.self.now c.bring_chain.new.self _ _ (Err OutOfMemory) c.in_default.ensures.only.brings.keeps refl refl;
 }

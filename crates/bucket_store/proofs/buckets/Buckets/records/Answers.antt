@@ -2,6 +2,7 @@
 use Rattle.std.proofs.Common.{Err, refl}
 use Rattle.page_journal.specs.declared.fault.StoreFault.TheVariants.{OutOfMemory}
 use Rattle.bucket_store.proofs.Frames.{content_at, keeps_after}
+use Rattle.value_bytes.specs.StoreMap.{number_of}
 use Rattle.bucket_store.proofs.buckets.Buckets.records.Goals as goal
 
 pub returns-in-Ok-clause-records : goal.returns-in-Ok-clause-records
@@ -12,7 +13,8 @@ returns-in-Ok-clause-records g c =
     record {
       value = λ pages was values has.
           c.in-Ok.ensures.records pages values
-          (content_at c.args.which c.args.key old mid c.in_default.ensures.touches.stays brings.keeps.content pages was values has);
+          (content_at (number_of c.args.map) c.args.key old mid c.in_default.ensures.touches.stays brings.keeps.content pages was values
+          has);
       found = λ rest now has. c.in-Ok.ensures.found rest now (brings.keeps.has refl rest now has);
       answers = λ pages was. tt;
       sound = λ rest now has. tt;

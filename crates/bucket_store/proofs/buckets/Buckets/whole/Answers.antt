@@ -17,6 +17,8 @@ use Rattle.bucket_store.proofs.Sound.{sound_bring}
 use Rattle.bucket_store.proofs.Writings.{still_then}
 use Rattle.bucket_store.proofs.Wholes.{brings_map, contents_then, gathered_all, none_more, place_low, read_same, read_then, reads_bucket}
 use Rattle.bucket_store.proofs.Wholes.{same_contents, some_later, some_more, sound_of, there_more}
+use Rattle.value_bytes.specs.StoreMap.{number_of}
+use Rattle.value_bytes.proofs.MapNumbers.{number_of-below}
 use Rattle.bucket_store.proofs.buckets.Buckets.whole.Goals as goal
 
 pub loop-bucket-preserved : goal.loop-bucket-preserved
@@ -26,28 +28,28 @@ loop-bucket-preserved g c =
     let old = c.args.self.now in
     let mid = c.loop-bucket.self in
     let new = c.add_bucket.new.self in
-    let which = c.args.which in
+    let which = number_of c.args.map in
     let bucket = c.loop-bucket.bucket in
     let n = c.chain_of-n.result in
     let count : c.root-count.result.buckets ≡ bucket_count (chains_of old) = ap (λ (r : Root). r.buckets) c.root-count.ensures in
     let low : bucket < bucket_count (chains_of old) = omega (arith, c.loop-bucket-test.true, count) in
     let at = c.chain_of-n.ensures.chain in
     record {
-      going = done.touches.refused;
-      still = still_then _ _ _ was.still done.touches.broken;
-      same = looks_then old mid new was.same done.touches.same;
-      stays = read_then old mid new was.stays done.touches.stays;
-      contents = contents_then old mid new was.contents done.contents;
-      reads = reads_bucket _ which bucket n old mid new at was.stays done.touches.reads was.reads;
+      going = done.only.touches.refused;
+      still = still_then _ _ _ was.still done.only.touches.broken;
+      same = looks_then old mid new was.same done.only.touches.same;
+      stays = read_then old mid new was.stays done.only.touches.stays;
+      contents = contents_then old mid new was.contents done.only.contents;
+      reads = reads_bucket _ which bucket n old mid new at was.stays done.only.touches.reads was.reads;
       there = λ pages opened.
-          there_more old mid which bucket n c.loop-bucket.whole c.add_bucket.new.whole was.stays was.contents low at done.brings.had
+          there_more old mid which bucket n c.loop-bucket.whole c.add_bucket.new.whole was.stays was.contents low at done.only.brings.had
           done.added pages opened (was.there pages opened);
       some = λ pages opened.
-          some_more old mid which bucket n c.loop-bucket.whole c.add_bucket.new.whole was.stays was.contents low at done.brings.had
+          some_more old mid which bucket n c.loop-bucket.whole c.add_bucket.new.whole was.stays was.contents low at done.only.brings.had
           done.added pages opened
           (was.none pages opened) (was.some pages opened);
       none = λ pages opened.
-          none_more old mid which bucket n c.loop-bucket.whole c.add_bucket.new.whole was.stays was.contents low at done.brings.had
+          none_more old mid which bucket n c.loop-bucket.whole c.add_bucket.new.whole was.stays was.contents low at done.only.brings.had
           done.added pages opened (was.none pages opened);
     }
 
@@ -55,12 +57,12 @@ pub loop-bucket-init : goal.loop-bucket-init
 loop-bucket-init g c =
     let self = c.args.self.now in
     record {
-      going = c.requires.going;
+      going = c.requires.ready.going;
       still = refl;
       same = looks_same self;
       stays = read_same self;
       contents = same_contents self;
-      reads = keys_none (λ m key. m ≡ c.args.which) self;
+      reads = keys_none (λ m key. m ≡ (number_of c.args.map)) self;
       there = λ pages opened k less. absurd (omega (arith, less));
       some = λ pages opened key values has low. absurd (omega (arith, low));
       none = λ pages opened key high. ap (λ m. map.get m key) c.new-whole.ensures.empty ∙ map.get-empty nat_cmp key;
@@ -73,7 +75,7 @@ returns-in-Err-clause-whole g c =
     let old = c.args.self.now in
     let mid = c.loop-bucket.self in
     let new = c.add_bucket.new.self in
-    let which = c.args.which in
+    let which = number_of c.args.map in
     let bucket = c.loop-bucket.bucket in
     let n = c.chain_of-n.result in
     let count : c.root-count.result.buckets ≡ bucket_count (chains_of old) = ap (λ (r : Root). r.buckets) c.root-count.ensures in
@@ -84,25 +86,25 @@ returns-in-Err-clause-whole g c =
       answers = λ pages opened.
           brings_map BucketMap pages old mid which bucket n c.in-Err.fault was.contents
           (place_low old mid which bucket n was.stays low c.chain_of-n.ensures.chain)
-          low (was.there pages opened) (done.brings.answers pages (was.contents.opens pages opened));
+          low (was.there pages opened) (done.only.brings.answers pages (was.contents.opens pages opened));
       sound = λ rest now has.
           sound_of (Unit {0}) BucketMap c.in-Err.fault
-          (sound_bring {T = Unit {0}} (Err c.in-Err.fault) rest now mid which bucket c.requires.which
-          (some_later old mid was.stays c.requires.some)
+          (sound_bring {T = Unit {0}} (Err c.in-Err.fault) rest now mid which bucket (number_of-below c.args.map)
+          (some_later old mid was.stays c.requires.ready.some)
           (λ pages opened. subst (λ (k : ℕ). BringsBucket {T = Unit {0}} pages mid k (Err c.in-Err.fault)) c.chain_of-n.ensures.chain
-          (done.brings.answers pages opened))
-          done.touches.alone (has_later rest now old mid was.stays (was.still ∙ has.whole) was.contents.opens was.contents.later has));
-      keeps = keeps_read {T = BucketMap} old new (Err c.in-Err.fault) (read_then old mid new was.stays done.touches.stays)
-          (λ pages opened. done.touches.opens pages (was.contents.opens pages opened))
-          (done.touches.broken ∙ ap (λ (b : Bool). b || answers_disk_fault {T = Unit {0}} (Err c.in-Err.fault)) was.still)
-          (λ pages opened other values has. done.brings.keeps.content pages (was.contents.opens pages opened) other values
+          (done.only.brings.answers pages opened))
+          done.only.touches.alone (has_later rest now old mid was.stays (was.still ∙ has.whole) was.contents.opens was.contents.later has));
+      keeps = keeps_read {T = BucketMap} old new (Err c.in-Err.fault) (read_then old mid new was.stays done.only.touches.stays)
+          (λ pages opened. done.only.touches.opens pages (was.contents.opens pages opened))
+          (done.only.touches.broken ∙ ap (λ (b : Bool). b || answers_disk_fault {T = Unit {0}} (Err c.in-Err.fault)) was.still)
+          (λ pages opened other values has. done.only.brings.keeps.content pages (was.contents.opens pages opened) other values
           (was.contents.later pages opened other values has));
     }
 
 pub returns-in-Err-clause-touches : goal.returns-in-Err-clause-touches
 returns-in-Err-clause-touches g c =
     let was = c.loop-bucket.invariant in
-    let done = c.in-Err.ensures.touches in
+    let done = c.in-Err.ensures.only.touches in
     let old = c.args.self.now in
     let mid = c.loop-bucket.self in
     let new = c.add_bucket.new.self in
@@ -124,12 +126,12 @@ returns-clause-whole g c =
     let old = c.args.self.now in
     let mid = c.loop-bucket.self in
     let count : c.root-count.result.buckets ≡ bucket_count (chains_of old) = ap (λ (r : Root). r.buckets) c.root-count.ensures in
-    let low : (key : ℕ) → key % bucket_count (chains_of old) < bucket_count (chains_of old) = λ key. mod-lt key c.requires.some in
+    let low : (key : ℕ) → key % bucket_count (chains_of old) < bucket_count (chains_of old) = λ key. mod-lt key c.requires.ready.some in
     record {
       value = λ pages opened key values has. was.some pages opened key values has (omega (arith, low key, c.loop-bucket-test.false, count));
       found = λ rest now has.
-          gathered_all c.loop-bucket.whole (now.maps c.args.which) (λ key.
-          let own = has_bucket rest now old c.args.which key c.requires.which c.requires.some has in
+          gathered_all c.loop-bucket.whole (now.maps (number_of c.args.map)) (λ key.
+          let own = has_bucket rest now old (number_of c.args.map) key (number_of-below c.args.map) c.requires.ready.some has in
           was.some has.pages has.opens key own.0 own.1 (omega (arith, low key, c.loop-bucket-test.false, count)) ∙ own.2);
       answers = λ pages opened. tt;
       sound = λ rest now has. tt;

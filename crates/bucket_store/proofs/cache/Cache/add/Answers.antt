@@ -9,8 +9,11 @@ use Rattle.bucket_store.specs.Cache.{CacheMap}
 use Rattle.bucket_store.specs.declared.cache.Cached.{Cached}
 use Rattle.bucket_store.proofs.cache.Cache.add.Goals as goal
 
-pub returns-clause-ok : goal.returns-clause-ok
-returns-clause-ok c =
+pub returns : goal.returns
+returns c =
     let own : Cached = record { bucket = c.args.bucket; changed = false } in
-    inserted nat_cmp nat_cmp_total nat_cmp-IsAntisymmetric c.self.inside.tree c.insert.new.self c.args.n own c.in_ok-insert.ensures.updates
-    ∙ ap (λ (m : CacheMap). map.insert m c.args.n own) c.self.view_is
+    record {
+      added = inserted nat_cmp nat_cmp_total nat_cmp-IsAntisymmetric c.self.inside.tree c.insert.new.self c.args.n own
+          c.in_ok-insert.ensures.updates
+          ∙ ap (λ (m : CacheMap). map.insert m c.args.n own) c.self.view_is;
+    }

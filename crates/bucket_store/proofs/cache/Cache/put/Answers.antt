@@ -38,7 +38,7 @@ returns-clause-ok c own here =
     let written = (c.get_mut.follows.holds new).3 (found_is c.args.n entries c.in-Some.cached.now there) in
     inserted nat_cmp nat_cmp_total nat_cmp-IsAntisymmetric c.self.inside.tree (c.get_mut.follows.lender new) c.args.n new written
     ∙ ap (λ (m : CacheMap). map.insert m c.args.n new) c.self.view_is
-    ∙ ap (λ (it : Cached). map.insert c.args.self.now c.args.n it) (c.in_ok-put.ensures.ok
+    ∙ ap (λ (it : Cached). map.insert c.args.self.now c.args.n it) (c.in_ok-put.ensures.put
     ∙ ap (λ (it : Cached). changed_to it (map.insert it.bucket.values c.args.key c.args.value.now))
     (same_there c.args.n entries c.args.self.now c.in-Some.cached.now own c.self.view_is there here))
 
@@ -51,6 +51,6 @@ returns-in_err-put-clause-err c =
     at_err c.from_residual.result _ (inserted nat_cmp nat_cmp_total nat_cmp-IsAntisymmetric c.self.inside.tree
     (c.get_mut.follows.lender new) c.args.n new written
     ∙ ap (λ (m : CacheMap). map.insert m c.args.n new) c.self.view_is
-    ∙ ap (λ (it : Cached). map.insert c.args.self.now c.args.n it) c.in_err-put.ensures.err
+    ∙ ap (λ (it : Cached). map.insert c.args.self.now c.args.n it) c.in_err-put.ensures.put
     ∙ insert_same c.args.self.now c.args.n c.in-Some.cached.now
     (seen_there c.args.n entries c.args.self.now c.in-Some.cached.now c.self.view_is there))

@@ -1,4 +1,4 @@
-use Rattle.std.proofs.Common.{[], ◌+◌, ◌-◌, ◌∙◌, arith, sym}
+use Rattle.std.proofs.Common.{◌+◌, ◌-◌, ◌∙◌, arith, refl, sym}
 use Rattle.std.specs.Result.{result_err}
 use Rattle.update_flow.specs.State.{imported}
 use Rattle.update_flow.specs.Handle.{view_of}
@@ -8,6 +8,7 @@ use Rattle.run_promise.specs.Files.{IsBounds}
 use Rattle.run_promise.specs.Progress.{past}
 use Rattle.updater.specs.FileReads.{Among}
 use Rattle.run_promise.specs.World.{world}
+use Rattle.updater.proofs.NoStoreFaults.{unread_never}
 use Rattle.updater.proofs.Asked.{asked_among, asked_more, asked_none, asked_then}
 use Rattle.updater.proofs.LocalLaws.{appends_all, on_ok_so}
 use Rattle.updater.proofs.StoreRuns.{first_read, first_unread, if_there, leads_ends, not_yet, outdated_there}
@@ -33,35 +34,33 @@ returns-in-Err-clause-goes_on g c = λ old start done state head.
     (sym c.imported.ensures.is ∙ c.if-not-imported.false)
     (λ held head. first_unread start done first old files (handle_of c.args.store.now) output (IsBounds first)
     (λ bounds. appends bounds held (first + 1) (c.args.files.count - 1) (onward finished)) (imported held) head
-    (g.I.Inputs.view c.read_bounds_file.new.inputs) c.in-Err.fault c.in-Err.ensures.err)
+    (g.I.Inputs.view c.read_bounds_file.new.inputs) c.in-Err.fault c.in-Err.ensures.reads.err)
 
-pub returns-in-Err-clause-asked : goal.returns-in-Err-clause-asked
-returns-in-Err-clause-asked g c =
+pub returns-in-Err-clause-works : goal.returns-in-Err-clause-works
+returns-in-Err-clause-works g c =
     let laws = g.met.I.Inputs g.world.𝓛 g.world.𝓜 g.world.𝓡 ((λ s x. x), (λ x. x), (λ x. x), λ x. x) in
     let files = c.args.files in
-    let some = (c.requires.fits []).0.fit.some in
-    asked_more g.I.Inputs.reads laws.reads_then
-    (Among files.first files.count) c.args.inputs.now c.args.inputs.now c.read_bounds_file.new.inputs files.first
-    (asked_none g.I.Inputs.reads (Among files.first files.count) c.args.inputs.now (laws.reads_none c.args.inputs.now))
-    c.read_bounds_file.ensures.asked (omega arith, omega (arith, some))
+    let some = c.requires.fits.fit.some in
+    record {
+      keeps = record {
+        stays = record { same_disk = refl; same_limits = refl };
+        formatted = unread_never _ _ _ _ _ c.in-Err.ensures.reads.err;
+      };
+      asked =
+          asked_more g.I.Inputs.reads laws.reads_then
+          (Among files.first files.count) c.args.inputs.now c.args.inputs.now c.read_bounds_file.new.inputs files.first
+          (asked_none g.I.Inputs.reads (Among files.first files.count) c.args.inputs.now (laws.reads_none c.args.inputs.now))
+          c.read_bounds_file.ensures.reads.asked (omega arith, omega (arith, some));
+    }
 
-pub overflow_add-files : goal.overflow_add-files
-overflow_add-files g c =
-    let some = (c.requires.fits []).0.fit.some in
-    let few = (c.requires.fits []).0.fit.few in
+pub overflow_add-changes : goal.overflow_add-changes
+overflow_add-changes g c =
+    let some = c.requires.fits.fit.some in
+    let few = c.requires.fits.fit.few in
     omega (arith, some, few)
 
-pub overflow_sub-files : goal.overflow_sub-files
-overflow_sub-files g c = let some = (c.requires.fits []).0.fit.some in omega (arith, some)
-
-pub append_files-requires-clause-workers : goal.append_files-requires-clause-workers
-append_files-requires-clause-workers g c κs within = (c.requires.fits []).1
-
-pub append_files-requires-clause-fits : goal.append_files-requires-clause-fits
-append_files-requires-clause-fits g c κs within =
-    let some = (c.requires.fits []).0.fit.some in
-    let few = (c.requires.fits []).0.fit.few in
-    omega (arith, some, few)
+pub overflow_sub-changes : goal.overflow_sub-changes
+overflow_sub-changes g c = let some = c.requires.fits.fit.some in omega (arith, some)
 
 pub returns-clause-goes_on : goal.returns-clause-goes_on
 returns-clause-goes_on g c = λ old start done state head.
@@ -77,29 +76,36 @@ returns-clause-goes_on g c = λ old start done state head.
     (sym c.imported.ensures.is ∙ c.if-not-imported.false)
     (λ held head. first_read start done first old files (handle_of c.args.store.now) output (IsBounds first)
     (λ bounds. appends bounds held (first + 1) count (onward finished)) (imported held) head
-    read c.in-Ok.bounds c.in-Ok.ensures.ok (result_err c.append_files.result)
+    read c.in-Ok.bounds c.in-Ok.ensures.reads.ok (result_err c.append_files.result)
     (world last (view_of (handle_of c.append_files.new.store)) told)
     (λ head. leads_ends (λ further. appends c.in-Ok.bounds held (first + 1) count (onward further)) (result_err c.append_files.result) start
     (past first done) (first + 1 + count) old last (handle_of c.append_files.new.store) told
     (c.append_files.ensures.leads old start (past first done) held head)))
 
-pub returns-clause-asked : goal.returns-clause-asked
-returns-clause-asked g c =
+pub returns-clause-works : goal.returns-clause-works
+returns-clause-works g c =
     let laws = g.met.I.Inputs g.world.𝓛 g.world.𝓜 g.world.𝓡 ((λ s x. x), (λ x. x), (λ x. x), λ x. x) in
     let files = c.args.files in
-    let some = (c.requires.fits []).0.fit.some in
-    asked_then g.I.Inputs.reads laws.reads_then
-    (Among files.first files.count) c.args.inputs.now c.read_bounds_file.new.inputs c.append_files.new.inputs
-    (asked_more g.I.Inputs.reads laws.reads_then
-    (Among files.first files.count) c.args.inputs.now c.args.inputs.now c.read_bounds_file.new.inputs files.first
-    (asked_none g.I.Inputs.reads (Among files.first files.count) c.args.inputs.now (laws.reads_none c.args.inputs.now))
-    c.read_bounds_file.ensures.asked (omega arith, omega (arith, some)))
-    (asked_among (λ asked. g.I.Inputs.reads c.read_bounds_file.new.inputs asked c.append_files.new.inputs)
-    (Among (files.first + 1) (files.count - 1)) (Among files.first files.count)
-    (λ file among. (omega (arith, among.0), omega (arith, among.1, some))) c.append_files.ensures.asked)
+    let some = c.requires.fits.fit.some in
+    record {
+      keeps = record {
+        stays = c.append_files.ensures.works.keeps.stays;
+        formatted = c.append_files.ensures.works.keeps.formatted;
+      };
+      asked =
+          asked_then g.I.Inputs.reads laws.reads_then
+          (Among files.first files.count) c.args.inputs.now c.read_bounds_file.new.inputs c.append_files.new.inputs
+          (asked_more g.I.Inputs.reads laws.reads_then
+          (Among files.first files.count) c.args.inputs.now c.args.inputs.now c.read_bounds_file.new.inputs files.first
+          (asked_none g.I.Inputs.reads (Among files.first files.count) c.args.inputs.now (laws.reads_none c.args.inputs.now))
+          c.read_bounds_file.ensures.reads.asked (omega arith, omega (arith, some)))
+          (asked_among (λ asked. g.I.Inputs.reads c.read_bounds_file.new.inputs asked c.append_files.new.inputs)
+          (Among (files.first + 1) (files.count - 1)) (Among files.first files.count)
+          (λ file among. (omega (arith, among.0), omega (arith, among.1, some))) c.append_files.ensures.works.asked);
+    }
 
 pub returns-clause-local : goal.returns-clause-local
 returns-clause-local g c = on_ok_so c.append_files.result _ _ (λ there held pages is rests.
     appends_all c.args.files held pages c.in-Ok.bounds (g.I.Inputs.view c.args.inputs.now) (g.I.Inputs.view c.read_bounds_file.new.inputs)
     (view_of (handle_of c.args.store.now)).reads
-    (view_of (handle_of c.append_files.new.store)).reads c.in-Ok.ensures.ok (there held pages is rests)) c.append_files.ensures.local
+    (view_of (handle_of c.append_files.new.store)).reads c.in-Ok.ensures.reads.ok (there held pages is rests)) c.append_files.ensures.local

@@ -1,4 +1,4 @@
-use Rattle.std.proofs.Common.{List, ℕ, Option, None, Some, ◌≡◌, ◌∙◌, ap, sym, Err}
+use Rattle.std.proofs.Common.{List, ℕ, Option, None, Some, ◌≡◌, ◌∙◌, ap, sym}
 use Rattle.std.specs.Prelude.{encode_utf8_all, is_some}
 use Rattle.std.specs.Result.{result_err}
 use Rattle.std.proofs.lemmas.Str.{encodes-chars}
@@ -13,6 +13,7 @@ use Rattle.run_promise.specs.World.{world}
 use Rattle.updater.proofs.StoreRuns.{exports_found, found_table, held_certain, if_there, look_done, look_ends, look_refused, look_short}
 use Rattle.updater.proofs.StoreRuns.{not_yet, outdated_there, same_style, unknown_table}
 use Rattle.updater.proofs.TableLaws.{only_text}
+use Rattle.updater.proofs.StoreDeeds.{refused_so}
 use Rattle.updater.proofs.commands.export.export_store.Goals as goal
 
 pub returns-then-old-clause-goes_on : goal.returns-then-old-clause-goes_on
@@ -47,9 +48,7 @@ returns-in-Err-clause-goes_on g c = rw c.in_flow.ensures.fault (λ old start don
     (found_table start done held 0 old files (handle_of c.args.store.now) output head c.in-Some.style.now c.args.table.now
     (Some number) c.in-Some.ensures.style c.in-Some-number.ensures.table) _ _
     (look_refused start done held 0 old files (handle_of c.args.store.now)
-    (handle_of c.load_table.new.self) output head c.in-Err.fault c.in-Err.ensures.looks c.in-Err.ensures.stays.alone
-    (λ is. c.in-Err.ensures.stays.broken (ap Err is))
-    (λ is. c.in-Err.ensures.stays.not_old (ap Err is)) c.in-Err.ensures.stays.cause
+    (handle_of c.load_table.new.self) output head c.in-Err.fault c.in-Err.ensures.looks (refused_so c.in-Err.ensures.stays)
     (writes_text (table_text held.style (tables held.style held.objects) number) ends))))
 
 pub returns-in-Ok-text-clause-goes_on : goal.returns-in-Ok-text-clause-goes_on

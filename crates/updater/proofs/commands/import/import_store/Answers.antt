@@ -1,4 +1,4 @@
-use Rattle.std.proofs.Common.{List, ℕ, [], ◌+◌, ◌∙◌, arith, sym}
+use Rattle.std.proofs.Common.{List, ℕ, ◌+◌, ◌∙◌, arith, refl, sym}
 use Rattle.std.specs.Result.{result_err}
 use Rattle.style_read.specs.Style.{StyleOf}
 use Rattle.update_flow.specs.State.{formatted}
@@ -9,6 +9,7 @@ use Rattle.run_promise.specs.Files.{IsStyle}
 use Rattle.run_promise.specs.Progress.{past}
 use Rattle.updater.specs.FileReads.{Among}
 use Rattle.run_promise.specs.World.{world}
+use Rattle.updater.proofs.NoStoreFaults.{unread_never}
 use Rattle.updater.proofs.Asked.{asked_more, asked_none}
 use Rattle.updater.proofs.StoreRuns.{already, first_read, first_unread, if_new, leads_ends, outdated_new}
 use Rattle.updater.proofs.commands.import.import_store.Goals as goal
@@ -32,29 +33,33 @@ returns-in-Err-clause-goes_on g c = λ old start done state head.
     (sym c.imported.ensures.is ∙ c.if-imported.false)
     (λ head. first_unread start done first old files (handle_of c.args.store.now) output (IsStyle first)
     (λ style. imports style c.args.buckets (first + 1) (onward finished)) formatted head
-    (g.I.Inputs.view c.read_style_file.new.inputs) c.in-Err.fault c.in-Err.ensures.err)
+    (g.I.Inputs.view c.read_style_file.new.inputs) c.in-Err.fault c.in-Err.ensures.reads.err)
 
-pub returns-in-Err-clause-asked : goal.returns-in-Err-clause-asked
-returns-in-Err-clause-asked g c =
+pub returns-in-Err-clause-works : goal.returns-in-Err-clause-works
+returns-in-Err-clause-works g c =
     let laws = g.met.I.Inputs g.world.𝓛 g.world.𝓜 g.world.𝓡 ((λ s x. x), (λ x. x), (λ x. x), λ x. x) in
     let files = c.args.files in
-    let fits = (c.requires.fits []).0.fit.some in
-    asked_more g.I.Inputs.reads laws.reads_then
-    (Among files.first files.count) c.args.inputs.now c.args.inputs.now c.read_style_file.new.inputs files.first
-    (asked_none g.I.Inputs.reads (Among files.first files.count) c.args.inputs.now (laws.reads_none c.args.inputs.now))
-    c.read_style_file.ensures.asked (omega arith, omega (arith, fits))
+    let fits = c.requires.fits.0.fit.some in
+    record {
+      keeps = record {
+        stays = record { same_disk = refl; same_limits = refl };
+        formatted = unread_never _ _ _ _ _ c.in-Err.ensures.reads.err;
+      };
+      asked =
+          asked_more g.I.Inputs.reads laws.reads_then
+          (Among files.first files.count) c.args.inputs.now c.args.inputs.now c.read_style_file.new.inputs files.first
+          (asked_none g.I.Inputs.reads (Among files.first files.count) c.args.inputs.now (laws.reads_none c.args.inputs.now))
+          c.read_style_file.ensures.reads.asked (omega arith, omega (arith, fits));
+    }
 
 pub overflow_add-files : goal.overflow_add-files
 overflow_add-files g c =
-    let some = (c.requires.fits []).0.fit.some in
-    let few = (c.requires.fits []).0.fit.few in
+    let some = c.requires.fits.0.fit.some in
+    let few = c.requires.fits.0.fit.few in
     omega (arith, some, few)
 
 pub import_file-requires-clause-buckets : goal.import_file-requires-clause-buckets
-import_file-requires-clause-buckets g c κs within = (c.requires.fits []).2
-
-pub import_file-requires-clause-workers : goal.import_file-requires-clause-workers
-import_file-requires-clause-workers g c κs within = (c.requires.fits []).3
+import_file-requires-clause-buckets g c κs within = c.requires.fits.2
 
 pub returns-clause-goes_on : goal.returns-clause-goes_on
 returns-clause-goes_on g c = λ old start done state head.
@@ -70,20 +75,27 @@ returns-clause-goes_on g c = λ old start done state head.
     (sym c.imported.ensures.is ∙ c.if-imported.false)
     (λ head. first_read start done first old files (handle_of c.args.store.now) output (IsStyle first)
     (λ style. imports style c.args.buckets (first + 1) (onward finished)) formatted head
-    read style c.in-Ok.ensures.ok (result_err c.import_file.result) (world last (view_of (handle_of c.import_file.new.store)) told)
+    read style c.in-Ok.ensures.reads.ok (result_err c.import_file.result) (world last (view_of (handle_of c.import_file.new.store)) told)
     (λ head. leads_ends (λ further. imports style c.args.buckets (first + 1) (onward further)) (result_err c.import_file.result) start
     (past first done) (first + 1 + 1) old last (handle_of c.import_file.new.store) told
     (c.import_file.ensures.leads old start (past first done) head)))
 
-pub returns-clause-asked : goal.returns-clause-asked
-returns-clause-asked g c =
+pub returns-clause-works : goal.returns-clause-works
+returns-clause-works g c =
     let laws = g.met.I.Inputs g.world.𝓛 g.world.𝓜 g.world.𝓡 ((λ s x. x), (λ x. x), (λ x. x), λ x. x) in
     let files = c.args.files in
-    let two = (c.requires.fits []).1 in
-    asked_more g.I.Inputs.reads laws.reads_then
-    (Among files.first files.count) c.args.inputs.now c.read_style_file.new.inputs c.import_file.new.inputs (files.first + 1)
-    (asked_more g.I.Inputs.reads laws.reads_then
-    (Among files.first files.count) c.args.inputs.now c.args.inputs.now c.read_style_file.new.inputs files.first
-    (asked_none g.I.Inputs.reads (Among files.first files.count) c.args.inputs.now (laws.reads_none c.args.inputs.now))
-    c.read_style_file.ensures.asked (omega arith, omega (arith, two)))
-    c.import_file.ensures.asked (omega arith, omega (arith, two))
+    let two = c.requires.fits.1 in
+    record {
+      keeps = record {
+        stays = c.import_file.ensures.works.keeps.stays;
+        formatted = c.import_file.ensures.works.keeps.formatted;
+      };
+      asked =
+          asked_more g.I.Inputs.reads laws.reads_then
+          (Among files.first files.count) c.args.inputs.now c.read_style_file.new.inputs c.import_file.new.inputs (files.first + 1)
+          (asked_more g.I.Inputs.reads laws.reads_then
+          (Among files.first files.count) c.args.inputs.now c.args.inputs.now c.read_style_file.new.inputs files.first
+          (asked_none g.I.Inputs.reads (Among files.first files.count) c.args.inputs.now (laws.reads_none c.args.inputs.now))
+          c.read_style_file.ensures.reads.asked (omega arith, omega (arith, two)))
+          c.import_file.ensures.works.asked (omega arith, omega (arith, two));
+    }

@@ -1,6 +1,7 @@
 use Rattle.std.proofs.Common.{◌∙◌, Err, ap, sym}
 use Rattle.update_flow.specs.Updater.{handle_of}
 use Rattle.updater.proofs.MigrateRuns.{has_format, migrate_done, migrate_refused, none_there}
+use Rattle.updater.proofs.StoreDeeds.{refused_so}
 use Rattle.updater.proofs.commands.migrate.migrate_store.Goals as goal
 
 pub returns-then-not-imported-clause-goes_on : goal.returns-then-not-imported-clause-goes_on
@@ -34,5 +35,5 @@ returns-in-Err-clause-goes_on g c = rw c.in_flow.ensures.fault (λ old start don
     migrate_refused start done 0 old (g.I.Inputs.view c.args.inputs.now) (handle_of c.args.store.now)
     (g.S.Sink.view c.args.out.now) state head
     (sym c.old.ensures.is ∙ c.if-not-old.false)
-    (handle_of c.migrate.new.self) c.in-Err.fault c.in-Err.ensures.takes c.in-Err.ensures.stays.alone
-    (λ is. c.in-Err.ensures.stays.broken (ap Err is)) (λ is. c.in-Err.ensures.never (ap Err is)) c.in-Err.ensures.stays.cause)
+    (handle_of c.migrate.new.self) c.in-Err.fault c.in-Err.ensures.takes (refused_so c.in-Err.ensures.stays)
+    (λ is. c.in-Err.ensures.never (ap Err is)))

@@ -1,4 +1,4 @@
-use Rattle.std.proofs.Common.{[], List, ℕ, Option, Err, ◌≡◌, ◌+◌, ◌∙◌, ap, arith, subst, sym}
+use Rattle.std.proofs.Common.{List, ℕ, Option, ◌≡◌, ◌+◌, ◌∙◌, ap, arith, refl, subst, sym}
 use Rattle.std.specs.Prelude.{is_some}
 use Rattle.std.specs.Result.{result_err}
 use Rattle.map_query.specs.declared.query.Query.{Query}
@@ -14,10 +14,12 @@ use Rattle.updater.specs.FileReads.{IsRead, IsUnread, Among}
 use Rattle.run_promise.specs.Files.{IsQueries}
 use Rattle.run_promise.specs.Progress.{past}
 use Rattle.run_promise.specs.World.{world}
+use Rattle.updater.proofs.InitRuns.{never_untold}
+use Rattle.updater.proofs.NoStoreFaults.{call_never, unread_never}
 use Rattle.updater.proofs.Asked.{asked_more, asked_none}
 use Rattle.updater.proofs.StoreRuns.{first_read, first_unread, held_certain, if_there, look_done, look_ends, look_refused, look_short}
 use Rattle.updater.proofs.StoreRuns.{not_yet, outdated_there, same_style}
-use Rattle.updater.proofs.StoreDeeds.{shows_here}
+use Rattle.updater.proofs.StoreDeeds.{shows_here, refused_so}
 use Rattle.updater.proofs.commands.query.query_store.Goals as goal
 
 pub returns-then-old-clause-goes_on : goal.returns-then-old-clause-goes_on
@@ -44,7 +46,7 @@ returns-in-Err-clause-goes_on g c = λ old start done state head.
     (imported held) head read c.in-Err.fault
     (subst (λ (style : StyleOf). IsUnread (IsQueries style first) first c.in-Err.fault files read)
     (same_style start done held first old files (handle_of c.args.store.now) output head c.in-Some.style.now c.in-Some.ensures.style)
-    c.in-Err.ensures.err))
+    c.in-Err.ensures.reads.err))
 
 pub returns-in-Err-load_tables-clause-goes_on : goal.returns-in-Err-load_tables-clause-goes_on
 returns-in-Err-load_tables-clause-goes_on g c = rw c.in_flow.ensures.fault (λ old start done state head.
@@ -59,12 +61,10 @@ returns-in-Err-load_tables-clause-goes_on g c = rw c.in_flow.ensures.fault (λ o
     (imported held) head read c.in-Ok.queries
     (subst (λ (style : StyleOf). IsRead (IsQueries style first) first c.in-Ok.queries files read)
     (same_style start done held first old files (handle_of c.args.store.now) output head c.in-Some.style.now c.in-Some.ensures.style)
-    c.in-Ok.ensures.ok)
+    c.in-Ok.ensures.reads.ok)
     _ _ (λ head. look_refused start (past first done) held (first + 1) old read (handle_of c.args.store.now)
     (handle_of c.load_tables.new.self) output head c.in-Err-load_tables.fault
-    c.in-Err-load_tables.ensures.looks c.in-Err-load_tables.ensures.stays.alone
-    (λ is. c.in-Err-load_tables.ensures.stays.broken (ap Err is))
-    (λ is. c.in-Err-load_tables.ensures.stays.not_old (ap Err is)) c.in-Err-load_tables.ensures.stays.cause
+    c.in-Err-load_tables.ensures.looks (refused_so c.in-Err-load_tables.ensures.stays)
     (writes_text (answers_text held.style (tables held.style held.objects) held.changes c.in-Ok.queries) ends))))
 
 pub returns-in-Ok-text-clause-goes_on : goal.returns-in-Ok-text-clause-goes_on
@@ -83,7 +83,7 @@ returns-in-Ok-text-clause-goes_on g c = λ old start done state head.
     (imported held) head read c.in-Ok.queries
     (subst (λ (style : StyleOf). IsRead (IsQueries style first) first c.in-Ok.queries files read)
     (same_style start done held first old files (handle_of c.args.store.now) output head c.in-Some.style.now c.in-Some.ensures.style)
-    c.in-Ok.ensures.ok)
+    c.in-Ok.ensures.reads.ok)
     (result_err c.tell.result) (world read (view_of (handle_of c.load_tables.new.self)) new) (λ head.
     let sure = look_done start (past first done) held (first + 1) old read (handle_of c.args.store.now)
     (handle_of c.load_tables.new.self) output head c.in-Ok-load_tables.ensures.looks
@@ -118,7 +118,7 @@ returns-clause-goes_on g c = λ old start done state head.
     (imported held) head read c.in-Ok.queries
     (subst (λ (style : StyleOf). IsRead (IsQueries style first) first c.in-Ok.queries files read)
     (same_style start done held first old files (handle_of c.args.store.now) output head c.in-Some.style.now c.in-Some.ensures.style)
-    c.in-Ok.ensures.ok)
+    c.in-Ok.ensures.reads.ok)
     _ _ (λ head.
     let sure = look_done start (past first done) held (first + 1) old read (handle_of c.args.store.now)
     (handle_of c.load_tables.new.self) output head c.in-Ok-load_tables.ensures.looks
@@ -127,52 +127,87 @@ returns-clause-goes_on g c = λ old start done state head.
     look_short start (past first done) held (first + 1) old read (handle_of c.args.store.now) (handle_of c.load_tables.new.self) output head
     (λ (own : List ℕ). own ≡ answers_text held.style (tables held.style held.objects) held.changes c.in-Ok.queries) ends sure))
 
-pub returns-in-Err-clause-asked : goal.returns-in-Err-clause-asked
-returns-in-Err-clause-asked g c =
+pub returns-in-Err-clause-works : goal.returns-in-Err-clause-works
+returns-in-Err-clause-works g c =
     let laws = g.met.I.Inputs g.world.𝓛 g.world.𝓜 g.world.𝓡 ((λ s x. x), (λ x. x), (λ x. x), λ x. x) in
     let files = c.args.files in
-    let one = (c.requires.fits []).1 in
-    asked_more g.I.Inputs.reads laws.reads_then
-    (Among files.first files.count) c.args.inputs.now c.args.inputs.now c.read_queries_file-read.new.inputs files.first
-    (asked_none g.I.Inputs.reads (Among files.first files.count) c.args.inputs.now (laws.reads_none c.args.inputs.now))
-    c.read_queries_file-read.ensures.asked (omega arith, omega (arith, one))
+    let one = c.requires.fits.1 in
+    record {
+      keeps = record {
+        stays = record { same_disk = refl; same_limits = refl };
+        formatted = unread_never _ _ _ _ _ c.in-Err.ensures.reads.err;
+      };
+      asked =
+          asked_more g.I.Inputs.reads laws.reads_then
+          (Among files.first files.count) c.args.inputs.now c.args.inputs.now c.read_queries_file-read.new.inputs files.first
+          (asked_none g.I.Inputs.reads (Among files.first files.count) c.args.inputs.now (laws.reads_none c.args.inputs.now))
+          c.read_queries_file-read.ensures.reads.asked (omega arith, omega (arith, one));
+    }
 
-pub returns-in-Err-load_tables-clause-asked : goal.returns-in-Err-load_tables-clause-asked
-returns-in-Err-load_tables-clause-asked g c =
+pub returns-in-Err-load_tables-clause-works : goal.returns-in-Err-load_tables-clause-works
+returns-in-Err-load_tables-clause-works g c =
     let laws = g.met.I.Inputs g.world.𝓛 g.world.𝓜 g.world.𝓡 ((λ s x. x), (λ x. x), (λ x. x), λ x. x) in
     let files = c.args.files in
-    let one = (c.requires.fits []).1 in
-    asked_more g.I.Inputs.reads laws.reads_then
-    (Among files.first files.count) c.args.inputs.now c.args.inputs.now c.read_queries_file-read.new.inputs files.first
-    (asked_none g.I.Inputs.reads (Among files.first files.count) c.args.inputs.now (laws.reads_none c.args.inputs.now))
-    c.read_queries_file-read.ensures.asked (omega arith, omega (arith, one))
+    let one = c.requires.fits.1 in
+    rw c.in_flow.ensures.fault (record {
+      keeps = record {
+        stays = c.load_tables.ensures.stays.over;
+        formatted = call_never c.in-Err-load_tables.fault c.in-Err-load_tables.ensures.stays.alone;
+      };
+      asked =
+          asked_more g.I.Inputs.reads laws.reads_then
+          (Among files.first files.count) c.args.inputs.now c.args.inputs.now c.read_queries_file-read.new.inputs files.first
+          (asked_none g.I.Inputs.reads (Among files.first files.count) c.args.inputs.now (laws.reads_none c.args.inputs.now))
+          c.read_queries_file-read.ensures.reads.asked (omega arith, omega (arith, one));
+    })
 
-pub returns-in-None-style-clause-asked : goal.returns-in-None-style-clause-asked
-returns-in-None-style-clause-asked g c =
+pub returns-in-None-style-clause-works : goal.returns-in-None-style-clause-works
+returns-in-None-style-clause-works g c =
     let laws = g.met.I.Inputs g.world.𝓛 g.world.𝓜 g.world.𝓡 ((λ s x. x), (λ x. x), (λ x. x), λ x. x) in
     let files = c.args.files in
-    let one = (c.requires.fits []).1 in
-    asked_more g.I.Inputs.reads laws.reads_then
-    (Among files.first files.count) c.args.inputs.now c.args.inputs.now c.read_queries_file-read.new.inputs files.first
-    (asked_none g.I.Inputs.reads (Among files.first files.count) c.args.inputs.now (laws.reads_none c.args.inputs.now))
-    c.read_queries_file-read.ensures.asked (omega arith, omega (arith, one))
+    let one = c.requires.fits.1 in
+    record {
+      keeps = record {
+        stays = c.load_tables.ensures.stays.over;
+        formatted = λ is. absurd (cc);
+      };
+      asked =
+          asked_more g.I.Inputs.reads laws.reads_then
+          (Among files.first files.count) c.args.inputs.now c.args.inputs.now c.read_queries_file-read.new.inputs files.first
+          (asked_none g.I.Inputs.reads (Among files.first files.count) c.args.inputs.now (laws.reads_none c.args.inputs.now))
+          c.read_queries_file-read.ensures.reads.asked (omega arith, omega (arith, one));
+    }
 
-pub returns-in-Ok-text-clause-asked : goal.returns-in-Ok-text-clause-asked
-returns-in-Ok-text-clause-asked g c =
+pub returns-in-Ok-text-clause-works : goal.returns-in-Ok-text-clause-works
+returns-in-Ok-text-clause-works g c =
     let laws = g.met.I.Inputs g.world.𝓛 g.world.𝓜 g.world.𝓡 ((λ s x. x), (λ x. x), (λ x. x), λ x. x) in
     let files = c.args.files in
-    let one = (c.requires.fits []).1 in
-    asked_more g.I.Inputs.reads laws.reads_then
-    (Among files.first files.count) c.args.inputs.now c.args.inputs.now c.read_queries_file-read.new.inputs files.first
-    (asked_none g.I.Inputs.reads (Among files.first files.count) c.args.inputs.now (laws.reads_none c.args.inputs.now))
-    c.read_queries_file-read.ensures.asked (omega arith, omega (arith, one))
+    let one = c.requires.fits.1 in
+    record {
+      keeps = record {
+        stays = c.load_tables.ensures.stays.over;
+        formatted = λ is. never_untold c.tell.result _ c.tell.ensures.alone is;
+      };
+      asked =
+          asked_more g.I.Inputs.reads laws.reads_then
+          (Among files.first files.count) c.args.inputs.now c.args.inputs.now c.read_queries_file-read.new.inputs files.first
+          (asked_none g.I.Inputs.reads (Among files.first files.count) c.args.inputs.now (laws.reads_none c.args.inputs.now))
+          c.read_queries_file-read.ensures.reads.asked (omega arith, omega (arith, one));
+    }
 
-pub returns-clause-asked : goal.returns-clause-asked
-returns-clause-asked g c =
+pub returns-clause-works : goal.returns-clause-works
+returns-clause-works g c =
     let laws = g.met.I.Inputs g.world.𝓛 g.world.𝓜 g.world.𝓡 ((λ s x. x), (λ x. x), (λ x. x), λ x. x) in
     let files = c.args.files in
-    let one = (c.requires.fits []).1 in
-    asked_more g.I.Inputs.reads laws.reads_then
-    (Among files.first files.count) c.args.inputs.now c.args.inputs.now c.read_queries_file-read.new.inputs files.first
-    (asked_none g.I.Inputs.reads (Among files.first files.count) c.args.inputs.now (laws.reads_none c.args.inputs.now))
-    c.read_queries_file-read.ensures.asked (omega arith, omega (arith, one))
+    let one = c.requires.fits.1 in
+    record {
+      keeps = record {
+        stays = c.load_tables.ensures.stays.over;
+        formatted = λ is. absurd (cc);
+      };
+      asked =
+          asked_more g.I.Inputs.reads laws.reads_then
+          (Among files.first files.count) c.args.inputs.now c.args.inputs.now c.read_queries_file-read.new.inputs files.first
+          (asked_none g.I.Inputs.reads (Among files.first files.count) c.args.inputs.now (laws.reads_none c.args.inputs.now))
+          c.read_queries_file-read.ensures.reads.asked (omega arith, omega (arith, one));
+    }

@@ -28,13 +28,20 @@ returns-in-Err-clause-goes_on g c = λ old start done state head.
     (λ head. c.in-Err.ensures.leads old start done head
     (appending c.args.bounds.now (c.args.first + 1) c.args.changes (telling c.args.bounds.now.zoom)))
 
-pub returns-in-Err-clause-asked : goal.returns-in-Err-clause-asked
-returns-in-Err-clause-asked g c =
+pub returns-in-Err-clause-works : goal.returns-in-Err-clause-works
+returns-in-Err-clause-works g c =
     let laws = g.met.I.Inputs g.world.𝓛 g.world.𝓜 g.world.𝓡 ((λ s x. x), (λ x. x), (λ x. x), λ x. x) in
     let among = Among c.args.first (c.args.changes + 1) in
-    asked_more g.I.Inputs.reads laws.reads_then among c.args.inputs.now c.args.inputs.now c.import_file.new.inputs c.args.first
-    (asked_none g.I.Inputs.reads among c.args.inputs.now (laws.reads_none c.args.inputs.now)) c.import_file.ensures.asked
-    (omega arith, omega arith)
+    record {
+      keeps = record {
+        stays = c.import_file.ensures.works.keeps.stays;
+        formatted = c.in-Err.ensures.works.keeps.formatted;
+      };
+      asked =
+          asked_more g.I.Inputs.reads laws.reads_then among c.args.inputs.now c.args.inputs.now c.import_file.new.inputs c.args.first
+          (asked_none g.I.Inputs.reads among c.args.inputs.now (laws.reads_none c.args.inputs.now)) c.import_file.ensures.works.asked
+          (omega arith, omega arith);
+    }
 
 pub returns-in-Err-append_files-clause-goes_on : goal.returns-in-Err-append_files-clause-goes_on
 returns-in-Err-append_files-clause-goes_on g c = λ old start done state head.
@@ -49,23 +56,27 @@ returns-in-Err-append_files-clause-goes_on g c = λ old start done state head.
     (g.I.Inputs.view c.append_files.new.inputs) (handle_of c.append_files.new.store)
     (g.S.Sink.view c.append_files.new.out) c.in-Err-append_files.ensures.leads)
 
-pub returns-in-Err-append_files-clause-stays : goal.returns-in-Err-append_files-clause-stays
-returns-in-Err-append_files-clause-stays g c = record {
-  same_disk = c.append_files.ensures.stays.same_disk ∙ c.import_file.ensures.stays.same_disk;
-  same_limits = c.append_files.ensures.stays.same_limits ∙ c.import_file.ensures.stays.same_limits;
-}
-
-pub returns-in-Err-append_files-clause-asked : goal.returns-in-Err-append_files-clause-asked
-returns-in-Err-append_files-clause-asked g c =
+pub returns-in-Err-append_files-clause-works : goal.returns-in-Err-append_files-clause-works
+returns-in-Err-append_files-clause-works g c =
     let laws = g.met.I.Inputs g.world.𝓛 g.world.𝓜 g.world.𝓡 ((λ s x. x), (λ x. x), (λ x. x), λ x. x) in
     let among = Among c.args.first (c.args.changes + 1) in
-    asked_then g.I.Inputs.reads laws.reads_then among c.args.inputs.now c.import_file.new.inputs c.append_files.new.inputs
-    (asked_more g.I.Inputs.reads laws.reads_then among c.args.inputs.now c.args.inputs.now c.import_file.new.inputs c.args.first
-    (asked_none g.I.Inputs.reads among c.args.inputs.now (laws.reads_none c.args.inputs.now)) c.import_file.ensures.asked
-    (omega arith, omega arith))
-    (asked_among (λ asked. g.I.Inputs.reads c.import_file.new.inputs asked c.append_files.new.inputs)
-    (Among (c.args.first + 1) c.args.changes) among
-    (λ file own. (omega (arith, own.0), omega (arith, own.1))) c.append_files.ensures.asked)
+    record {
+      keeps = record {
+        stays = record {
+          same_disk = c.append_files.ensures.works.keeps.stays.same_disk ∙ c.import_file.ensures.works.keeps.stays.same_disk;
+          same_limits = c.append_files.ensures.works.keeps.stays.same_limits ∙ c.import_file.ensures.works.keeps.stays.same_limits;
+        };
+        formatted = c.in-Err-append_files.ensures.works.keeps.formatted;
+      };
+      asked =
+          asked_then g.I.Inputs.reads laws.reads_then among c.args.inputs.now c.import_file.new.inputs c.append_files.new.inputs
+          (asked_more g.I.Inputs.reads laws.reads_then among c.args.inputs.now c.args.inputs.now c.import_file.new.inputs c.args.first
+          (asked_none g.I.Inputs.reads among c.args.inputs.now (laws.reads_none c.args.inputs.now)) c.import_file.ensures.works.asked
+          (omega arith, omega arith))
+          (asked_among (λ asked. g.I.Inputs.reads c.import_file.new.inputs asked c.append_files.new.inputs)
+          (Among (c.args.first + 1) c.args.changes) among
+          (λ file own. (omega (arith, own.0), omega (arith, own.1))) c.append_files.ensures.works.asked);
+    }
 
 pub returns-clause-goes_on : goal.returns-clause-goes_on
 returns-clause-goes_on g c = λ old start done state head.
@@ -84,20 +95,26 @@ returns-clause-goes_on g c = λ old start done state head.
     (world read (view_of (handle_of c.tell_whole.new.store)) (g.S.Sink.view c.tell_whole.new.out))
     (λ old start done held head. c.tell_whole.ensures.goes_on old read start done held (c.args.first + 1 + c.args.changes) head))
 
-pub returns-clause-stays : goal.returns-clause-stays
-returns-clause-stays g c = record {
-  same_disk = c.tell_whole.ensures.stays.same_disk ∙ c.append_files.ensures.stays.same_disk ∙ c.import_file.ensures.stays.same_disk;
-  same_limits = c.tell_whole.ensures.stays.same_limits ∙ c.append_files.ensures.stays.same_limits ∙ c.import_file.ensures.stays.same_limits;
-}
-
-pub returns-clause-asked : goal.returns-clause-asked
-returns-clause-asked g c =
+pub returns-clause-works : goal.returns-clause-works
+returns-clause-works g c =
     let laws = g.met.I.Inputs g.world.𝓛 g.world.𝓜 g.world.𝓡 ((λ s x. x), (λ x. x), (λ x. x), λ x. x) in
     let among = Among c.args.first (c.args.changes + 1) in
-    asked_then g.I.Inputs.reads laws.reads_then among c.args.inputs.now c.import_file.new.inputs c.append_files.new.inputs
-    (asked_more g.I.Inputs.reads laws.reads_then among c.args.inputs.now c.args.inputs.now c.import_file.new.inputs c.args.first
-    (asked_none g.I.Inputs.reads among c.args.inputs.now (laws.reads_none c.args.inputs.now)) c.import_file.ensures.asked
-    (omega arith, omega arith))
-    (asked_among (λ asked. g.I.Inputs.reads c.import_file.new.inputs asked c.append_files.new.inputs)
-    (Among (c.args.first + 1) c.args.changes) among
-    (λ file own. (omega (arith, own.0), omega (arith, own.1))) c.append_files.ensures.asked)
+    record {
+      keeps = record {
+        stays = record {
+          same_disk = c.tell_whole.ensures.keeps.stays.same_disk ∙ c.append_files.ensures.works.keeps.stays.same_disk
+              ∙ c.import_file.ensures.works.keeps.stays.same_disk;
+          same_limits = c.tell_whole.ensures.keeps.stays.same_limits ∙ c.append_files.ensures.works.keeps.stays.same_limits
+              ∙ c.import_file.ensures.works.keeps.stays.same_limits;
+        };
+        formatted = c.tell_whole.ensures.keeps.formatted;
+      };
+      asked =
+          asked_then g.I.Inputs.reads laws.reads_then among c.args.inputs.now c.import_file.new.inputs c.append_files.new.inputs
+          (asked_more g.I.Inputs.reads laws.reads_then among c.args.inputs.now c.args.inputs.now c.import_file.new.inputs c.args.first
+          (asked_none g.I.Inputs.reads among c.args.inputs.now (laws.reads_none c.args.inputs.now)) c.import_file.ensures.works.asked
+          (omega arith, omega arith))
+          (asked_among (λ asked. g.I.Inputs.reads c.import_file.new.inputs asked c.append_files.new.inputs)
+          (Among (c.args.first + 1) c.args.changes) among
+          (λ file own. (omega (arith, own.0), omega (arith, own.1))) c.append_files.ensures.works.asked);
+    }

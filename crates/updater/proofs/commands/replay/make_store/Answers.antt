@@ -44,6 +44,6 @@ returns-clause-goes_on g c = λ old read head.
     (λ now. refl) c.in-Ok.ensures.any.same
     (fills (c.args.style.style, c.args.style.bytes) c.args.bounds.now c.args.first c.args.changes)
     (result_err c.fill_store-done.result) c.fill_store-done.new.store
-    c.disk-1.given.0 (c.disk-1.given.1 (sym c.over-store.ensures.same_disk ∙ sym c.fill_store-done.ensures.stays.same_disk
+    c.disk-1.given.0 (c.disk-1.given.1 (sym c.over-store.ensures.same_disk ∙ sym c.fill_store-done.ensures.works.keeps.stays.same_disk
     ∙ sym c.close-disk.ensures.same_disk) ∙ c.close-disk.ensures.disk)
     (g.I.Inputs.view c.fill_store-done.new.inputs) (g.S.Sink.view c.fill_store-done.new.out) c.fill_store-done.ensures.goes_on

@@ -42,7 +42,7 @@ returns-in-Err-read_style_file-clause-course g c =
     (world read now output) c.in_default.ensures.empty
     (stops_in_file (begun unused 0) (reading_alone []) first (remembered (world files view output)) files now output
     (found_empty files view now output same later first) (IsStyle first) first (omega arith) read
-    c.in-Err-read_style_file.fault c.in-Err-read_style_file.ensures.err
+    c.in-Err-read_style_file.fault c.in-Err-read_style_file.ensures.reads.err
     (λ style. reads (first + 1) (IsBounds (first + 1)) (λ bounds. formats (looks (fills style bounds (first + 2) (count - 3))))))
 
 pub returns-in-Err-read_bounds_file-clause-course : goal.returns-in-Err-read_bounds_file-clause-course
@@ -61,7 +61,7 @@ returns-in-Err-read_bounds_file-clause-course g c =
     let last = g.I.Inputs.view c.read_bounds_file.new.inputs in
     let head = found_empty files view now output same later first in
     let further = past_file (begun unused 0) (reading_alone []) first old files now output head (IsStyle first) first
-    (omega arith) read style c.in-Ok.ensures.ok in
+    (omega arith) read style c.in-Ok.ensures.reads.ok in
     goes_empty files view now output same later
     (reads first (IsStyle first) (λ style. reads (first + 1) (IsBounds (first + 1))
     (λ bounds. formats (looks (fills style bounds (first + 2) (count - 3)))))) (Some c.in-Err-read_bounds_file.fault)
@@ -73,10 +73,10 @@ returns-in-Err-read_bounds_file-clause-course g c =
     (world last now output)
     (stops_in_file (begun unused 0) (reading_alone (first ∷ [])) (first + 1) old read now output further (IsBounds (first + 1)) (first + 1)
     (omega arith) last
-    c.in-Err-read_bounds_file.fault c.in-Err-read_bounds_file.ensures.err
+    c.in-Err-read_bounds_file.fault c.in-Err-read_bounds_file.ensures.reads.err
     (λ bounds. formats (looks (fills style bounds (first + 2) (count - 3)))))
     (leads_file (begun unused 0) (reading_alone []) first old files now output head (IsStyle first) first
-    (omega arith) read style c.in-Ok.ensures.ok
+    (omega arith) read style c.in-Ok.ensures.reads.ok
     (λ style. reads (first + 1) (IsBounds (first + 1)) (λ bounds. formats (looks (fills style bounds (first + 2) (count - 3)))))))
 
 pub returns-clause-course : goal.returns-clause-course
@@ -98,9 +98,9 @@ returns-clause-course g c =
     let fault = result_err c.make_store.result in
     let head = found_empty files view now output same later first in
     let further = past_file (begun unused 0) (reading_alone []) first old files now output head (IsStyle first) first
-    (omega arith) read style c.in-Ok.ensures.ok in
+    (omega arith) read style c.in-Ok.ensures.reads.ok in
     let here = past_file (begun unused 0) (reading_alone (first ∷ [])) (first + 1) old read now output further (IsBounds (first + 1))
-    (first + 1) (omega arith) last bounds c.in-Ok-read_bounds_file.ensures.ok in
+    (first + 1) (omega arith) last bounds c.in-Ok-read_bounds_file.ensures.reads.ok in
     let two : first + 1 + 1 ≡ first + 2 = omega arith in
     goes_empty files view now output same later
     (reads first (IsStyle first) (λ style. reads (first + 1) (IsBounds (first + 1))
@@ -115,55 +115,52 @@ returns-clause-course g c =
     (c.make_store.ensures.goes_on old ((first + 1) ∷ first ∷ [])
     (subst (λ (next : ℕ). IsSoFar (begun unused 0) (reading_alone ((first + 1) ∷ first ∷ [])) next old last now output) two here))
     (leads_file (begun unused 0) (reading_alone (first ∷ [])) (first + 1) old read now output further (IsBounds (first + 1)) (first + 1)
-    (omega arith) last bounds c.in-Ok-read_bounds_file.ensures.ok
+    (omega arith) last bounds c.in-Ok-read_bounds_file.ensures.reads.ok
     (λ bounds. formats (looks (fills style bounds (first + 2) (count - 3))))))
     (leads_file (begun unused 0) (reading_alone []) first old files now output head (IsStyle first) first
-    (omega arith) read style c.in-Ok.ensures.ok
+    (omega arith) read style c.in-Ok.ensures.reads.ok
     (λ style. reads (first + 1) (IsBounds (first + 1)) (λ bounds. formats (looks (fills style bounds (first + 2) (count - 3)))))))
 
 pub returns-in-Err-read_style_file-clause-asked : goal.returns-in-Err-read_style_file-clause-asked
 returns-in-Err-read_style_file-clause-asked g c =
     let laws = g.met.I.Inputs g.world.𝓛 g.world.𝓜 g.world.𝓡 ((λ s x. x), (λ x. x), (λ x. x), λ x. x) in
     let among = Among c.args.files.first c.args.files.count in
-    let three = (c.requires.fits []).0.least in
+    let three = c.requires.fits.least in
     asked_more g.I.Inputs.reads laws.reads_then among c.args.inputs.now c.args.inputs.now c.read_style_file.new.inputs c.args.files.first
-    (asked_none g.I.Inputs.reads among c.args.inputs.now (laws.reads_none c.args.inputs.now)) c.read_style_file.ensures.asked
+    (asked_none g.I.Inputs.reads among c.args.inputs.now (laws.reads_none c.args.inputs.now)) c.read_style_file.ensures.reads.asked
     (omega arith, omega (arith, three))
 
 pub overflow_add-files : goal.overflow_add-files
 overflow_add-files g c =
-    let few = (c.requires.fits []).0.fit.few in
-    let three = (c.requires.fits []).0.least in
+    let few = c.requires.fits.fit.few in
+    let three = c.requires.fits.least in
     omega (arith, few, three)
 
 pub returns-in-Err-read_bounds_file-clause-asked : goal.returns-in-Err-read_bounds_file-clause-asked
 returns-in-Err-read_bounds_file-clause-asked g c =
     let laws = g.met.I.Inputs g.world.𝓛 g.world.𝓜 g.world.𝓡 ((λ s x. x), (λ x. x), (λ x. x), λ x. x) in
     let among = Among c.args.files.first c.args.files.count in
-    let three = (c.requires.fits []).0.least in
+    let three = c.requires.fits.least in
     asked_more g.I.Inputs.reads laws.reads_then among c.args.inputs.now c.read_style_file.new.inputs c.read_bounds_file.new.inputs
     (c.args.files.first + 1)
     (asked_more g.I.Inputs.reads laws.reads_then among c.args.inputs.now c.args.inputs.now c.read_style_file.new.inputs c.args.files.first
-    (asked_none g.I.Inputs.reads among c.args.inputs.now (laws.reads_none c.args.inputs.now)) c.read_style_file.ensures.asked
+    (asked_none g.I.Inputs.reads among c.args.inputs.now (laws.reads_none c.args.inputs.now)) c.read_style_file.ensures.reads.asked
     (omega arith, omega (arith, three)))
-    c.read_bounds_file.ensures.asked (omega arith, omega (arith, three))
+    c.read_bounds_file.ensures.reads.asked (omega arith, omega (arith, three))
 
 pub overflow_add-files-2 : goal.overflow_add-files-2
 overflow_add-files-2 g c =
-    let few = (c.requires.fits []).0.fit.few in
-    let three = (c.requires.fits []).0.least in
+    let few = c.requires.fits.fit.few in
+    let three = c.requires.fits.least in
     omega (arith, few, three)
 
 pub overflow_sub-files : goal.overflow_sub-files
-overflow_sub-files g c = let three = (c.requires.fits []).0.least in omega (arith, three)
-
-pub make_store-requires-clause-workers : goal.make_store-requires-clause-workers
-make_store-requires-clause-workers g c κs within = (c.requires.fits []).1
+overflow_sub-files g c = let three = c.requires.fits.least in omega (arith, three)
 
 pub make_store-requires-clause-fits : goal.make_store-requires-clause-fits
 make_store-requires-clause-fits g c κs within =
-    let few = (c.requires.fits []).0.fit.few in
-    let three = (c.requires.fits []).0.least in
+    let few = c.requires.fits.fit.few in
+    let three = c.requires.fits.least in
     omega (arith, few, three)
 
 pub returns-clause-asked : goal.returns-clause-asked
@@ -171,14 +168,14 @@ returns-clause-asked g c =
     let laws = g.met.I.Inputs g.world.𝓛 g.world.𝓜 g.world.𝓡 ((λ s x. x), (λ x. x), (λ x. x), λ x. x) in
     let first = c.args.files.first in
     let among = Among first c.args.files.count in
-    let three = (c.requires.fits []).0.least in
+    let three = c.requires.fits.least in
     asked_then g.I.Inputs.reads laws.reads_then among c.args.inputs.now c.read_bounds_file.new.inputs c.make_store.new.inputs
     (asked_more g.I.Inputs.reads laws.reads_then among c.args.inputs.now c.read_style_file.new.inputs c.read_bounds_file.new.inputs
     (first + 1)
     (asked_more g.I.Inputs.reads laws.reads_then among c.args.inputs.now c.args.inputs.now c.read_style_file.new.inputs first
-    (asked_none g.I.Inputs.reads among c.args.inputs.now (laws.reads_none c.args.inputs.now)) c.read_style_file.ensures.asked
+    (asked_none g.I.Inputs.reads among c.args.inputs.now (laws.reads_none c.args.inputs.now)) c.read_style_file.ensures.reads.asked
     (omega arith, omega (arith, three)))
-    c.read_bounds_file.ensures.asked (omega arith, omega (arith, three)))
+    c.read_bounds_file.ensures.reads.asked (omega arith, omega (arith, three)))
     (asked_among (λ asked. g.I.Inputs.reads c.read_bounds_file.new.inputs asked c.make_store.new.inputs)
     (Among (first + 2) (c.args.files.count - 3 + 1)) among
     (λ file own. let low = own.0 in let high = own.1 in (omega (arith, low), omega (arith, high, three))) c.make_store.ensures.asked)

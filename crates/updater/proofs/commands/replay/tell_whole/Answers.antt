@@ -1,4 +1,4 @@
-use Rattle.std.proofs.Common.{Err, ◌++◌, ◌∙◌, ap, refl}
+use Rattle.std.proofs.Common.{◌++◌, ◌∙◌, ap, refl}
 use Rattle.std.specs.Prelude.{codes}
 use Rattle.due_tiles.specs.TileText.{tile_text}
 use Rattle.osm_base.specs.map.Spots.{TableMap}
@@ -6,16 +6,18 @@ use Rattle.style_read.specs.Style.{StyleOf}
 use Rattle.update_flow.specs.Updater.{handle_of}
 use Rattle.run_promise.specs.Course.{ends, writes}
 use Rattle.run_promise.specs.Courses.{IsWholeText, tables_text}
+use Rattle.updater.proofs.InitRuns.{never_untold}
+use Rattle.updater.proofs.NoStoreFaults.{call_never}
 use Rattle.updater.proofs.FillRuns.{has_style}
 use Rattle.updater.proofs.StoreRuns.{held_certain, look_done, look_ends, look_refused, look_short, same_style}
+use Rattle.updater.proofs.StoreDeeds.{refused_so}
 use Rattle.updater.proofs.commands.replay.tell_whole.Goals as goal
 
 pub returns-in-Err-clause-goes_on : goal.returns-in-Err-clause-goes_on
 returns-in-Err-clause-goes_on g c = rw c.in_flow.ensures.fault (λ old files start done held next head.
     look_refused start done held next old files (handle_of c.args.store.now) (handle_of c.load_tables.new.self)
     (g.S.Sink.view c.args.out.now) head c.in-Err.fault
-    c.in-Err.ensures.looks c.in-Err.ensures.stays.alone (λ is. c.in-Err.ensures.stays.broken (ap Err is))
-    (λ is. c.in-Err.ensures.stays.not_old (ap Err is)) c.in-Err.ensures.stays.cause (writes (IsWholeText c.args.least held) ends))
+    c.in-Err.ensures.looks (refused_so c.in-Err.ensures.stays) (writes (IsWholeText c.args.least held) ends))
 
 pub returns-in-Err-due-clause-goes_on : goal.returns-in-Err-due-clause-goes_on
 returns-in-Err-due-clause-goes_on g c = rw c.in_flow-in-Err-due.ensures.fault (λ old files start done held next head.
@@ -25,15 +27,18 @@ returns-in-Err-due-clause-goes_on g c = rw c.in_flow-in-Err-due.ensures.fault (�
     (c.in-Ok.ensures.stays.still tt) c.in-Ok.ensures.stays.whole c.load_tables.ensures.stays.over.same_limits
     c.in-Ok.ensures.stays.cause in
     look_refused start done held next old files (handle_of c.load_tables.new.self) (handle_of c.due.new.self) output sure c.in-Err-due.fault
-    c.in-Err-due.ensures.looks c.in-Err-due.ensures.stays.alone (λ is. c.in-Err-due.ensures.stays.broken (ap Err is))
-    (λ is. c.in-Err-due.ensures.stays.not_old (ap Err is)) c.in-Err-due.ensures.stays.cause
+    c.in-Err-due.ensures.looks (refused_so c.in-Err-due.ensures.stays)
     (writes (IsWholeText c.args.least held) ends))
 
-pub returns-in-Err-due-clause-stays : goal.returns-in-Err-due-clause-stays
-returns-in-Err-due-clause-stays g c = record {
-  same_disk = c.due.ensures.stays.over.same_disk ∙ c.load_tables.ensures.stays.over.same_disk;
-  same_limits = c.due.ensures.stays.over.same_limits ∙ c.load_tables.ensures.stays.over.same_limits;
-}
+pub returns-in-Err-due-clause-keeps : goal.returns-in-Err-due-clause-keeps
+returns-in-Err-due-clause-keeps g c =
+    rw c.in_flow-in-Err-due.ensures.fault (record {
+      stays = record {
+        same_disk = c.due.ensures.stays.over.same_disk ∙ c.load_tables.ensures.stays.over.same_disk;
+        same_limits = c.due.ensures.stays.over.same_limits ∙ c.load_tables.ensures.stays.over.same_limits;
+      };
+      formatted = call_never c.in-Err-due.fault c.in-Err-due.ensures.stays.alone;
+    })
 
 pub returns-in-None-clause-goes_on : goal.returns-in-None-clause-goes_on
 returns-in-None-clause-goes_on g c = λ old files start done held next head.
@@ -74,11 +79,15 @@ returns-in-Ok-text-clause-goes_on g c = λ old files start done held next head.
     ))
     c.tell.ensures.ok c.tell.ensures.err c.tell.ensures.alone c.tell.ensures.cause
 
-pub returns-in-Ok-text-clause-stays : goal.returns-in-Ok-text-clause-stays
-returns-in-Ok-text-clause-stays g c = record {
-  same_disk = c.due.ensures.stays.over.same_disk ∙ c.load_tables.ensures.stays.over.same_disk;
-  same_limits = c.due.ensures.stays.over.same_limits ∙ c.load_tables.ensures.stays.over.same_limits;
-}
+pub returns-in-Ok-text-clause-keeps : goal.returns-in-Ok-text-clause-keeps
+returns-in-Ok-text-clause-keeps g c =
+    record {
+      stays = record {
+        same_disk = c.due.ensures.stays.over.same_disk ∙ c.load_tables.ensures.stays.over.same_disk;
+        same_limits = c.due.ensures.stays.over.same_limits ∙ c.load_tables.ensures.stays.over.same_limits;
+      };
+      formatted = λ is. never_untold c.tell.result _ c.tell.ensures.alone is;
+    }
 
 pub returns-clause-goes_on : goal.returns-clause-goes_on
 returns-clause-goes_on g c = λ old files start done held next head.

@@ -21,12 +21,12 @@ returns-in-None-clause-goes_on g c = λ old start done held head loaded.
 
 pub returns-in-Err-clause-goes_on : goal.returns-in-Err-clause-goes_on
 returns-in-Err-clause-goes_on g c = λ old start done held head loaded.
-    short_serving c.args.bounds.now c.args.queries.now c.args.readers [] held c.args.first c.args.changes start done old
+    short_serving c.args.bounds.now c.args.queries.now c.args.readers [] held c.args.files.first c.args.files.count start done old
     (g.I.Inputs.view c.args.inputs.now) (handle_of c.args.store.now) (g.S.Sink.view c.args.out.now) head
 
 pub returns-in-Err-publish_first-clause-goes_on : goal.returns-in-Err-publish_first-clause-goes_on
 returns-in-Err-publish_first-clause-goes_on g c = λ old start done held head loaded.
-    short_serving c.args.bounds.now c.args.queries.now c.args.readers [] held c.args.first c.args.changes start done old
+    short_serving c.args.bounds.now c.args.queries.now c.args.readers [] held c.args.files.first c.args.files.count start done old
     (g.I.Inputs.view c.args.inputs.now) (handle_of c.args.store.now) (g.S.Sink.view c.args.out.now) head
 
 pub returns-in-Ok-publish_first-clause-goes_on : goal.returns-in-Ok-publish_first-clause-goes_on
@@ -38,12 +38,12 @@ returns-in-Ok-publish_first-clause-goes_on g c = λ old start done held head loa
     let is = c.in-Ok-publish_first.ensures.front in
     let shown = shows_here done.store done.cut (imported held) store head.here in
     let same : held.style ≡ c.in-Ok.style = sym
-    (c.in-Ok.ensures.equal ∙ same_style start done held c.args.first old files store output head c.in-Some.style.now
+    (c.in-Ok.ensures.equal ∙ same_style start done held c.args.files.first old files store output head c.in-Some.style.now
     c.in-Some.ensures.style) in
     let none : front.log ≡ [] = ap (λ (own : FrontOf). own.log) is in
     let changes : held.changes ≡ front.base =
     sym (ap (λ (own : FrontOf). own.base) is ∙ c.changes-version.ensures.number ∙ shown.changes_are) in
-    subst (λ (readers : ℕ). GoesOn (serves c.args.bounds.now c.args.queries.now readers [] held c.args.first c.args.changes) start done
+    subst (λ (readers : ℕ). GoesOn (serves c.args.bounds.now c.args.queries.now readers [] held c.args.files.first c.args.files.count) start done
     (result_err c.serve_shown-done.result) old
     (world (g.I.Inputs.view c.serve_shown-done.new.inputs) (view_of (handle_of c.serve_shown-done.new.store))
     (g.S.Sink.view c.serve_shown-done.new.out)))

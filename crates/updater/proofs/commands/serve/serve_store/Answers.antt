@@ -1,4 +1,4 @@
-use Rattle.std.proofs.Common.{[], ℕ, Option, true, false, Err, ◌≡◌, ◌+◌, ◌-◌, ◌∙◌, ap, arith, inr, subst, sym}
+use Rattle.std.proofs.Common.{[], ℕ, Option, refl, true, false, ◌≡◌, ◌+◌, ◌-◌, ◌∙◌, ap, arith, inr, subst, sym}
 use Rattle.std.specs.Prelude.{is_some}
 use Rattle.std.specs.Result.{result_err}
 use Rattle.style_read.specs.Style.{StyleOf}
@@ -12,10 +12,12 @@ use Rattle.run_promise.specs.Files.{IsBounds, IsQueries}
 use Rattle.updater.specs.Heads.{IsHead}
 use Rattle.run_promise.specs.Progress.{past}
 use Rattle.run_promise.specs.World.{world}
+use Rattle.updater.proofs.NoStoreFaults.{call_never, unread_never}
 use Rattle.updater.proofs.Asked.{asked_among, asked_more, asked_none, asked_then}
 use Rattle.updater.proofs.StoreRuns.{first_read, first_unread, held_certain, if_there, look_done, look_refused, not_yet, outdated_there}
 use Rattle.updater.proofs.StoreRuns.{same_style}
 use Rattle.updater.proofs.VersionRuns.{goes_back}
+use Rattle.updater.proofs.StoreDeeds.{refused_so}
 use Rattle.updater.proofs.commands.serve.serve_store.Goals as goal
 
 pub returns-then-old-clause-goes_on : goal.returns-then-old-clause-goes_on
@@ -40,22 +42,29 @@ returns-in-Err-clause-goes_on g c = λ old start done state head.
     (g.S.Sink.view c.args.out.now) (IsBounds first)
     (λ bounds. reads (first + 1) (IsQueries held.style (first + 1))
     (λ queries. looks (serves bounds queries c.args.readers [] held (first + 2) count))) (imported held) head
-    (g.I.Inputs.view c.read_bounds_file.new.inputs) c.in-Err.fault c.in-Err.ensures.err)
+    (g.I.Inputs.view c.read_bounds_file.new.inputs) c.in-Err.fault c.in-Err.ensures.reads.err)
 
-pub returns-in-Err-clause-asked : goal.returns-in-Err-clause-asked
-returns-in-Err-clause-asked g c =
+pub returns-in-Err-clause-works : goal.returns-in-Err-clause-works
+returns-in-Err-clause-works g c =
     let laws = g.met.I.Inputs g.world.𝓛 g.world.𝓜 g.world.𝓡 ((λ s x. x), (λ x. x), (λ x. x), λ x. x) in
     let files = c.args.files in
-    let some = (c.requires.fits []).0.fit.some in
-    asked_more g.I.Inputs.reads laws.reads_then
-    (Among files.first files.count) c.args.inputs.now c.args.inputs.now c.read_bounds_file.new.inputs files.first
-    (asked_none g.I.Inputs.reads (Among files.first files.count) c.args.inputs.now (laws.reads_none c.args.inputs.now))
-    c.read_bounds_file.ensures.asked (omega arith, omega (arith, some))
+    let some = c.requires.fits.0.fit.some in
+    record {
+      keeps = record {
+        stays = record { same_disk = refl; same_limits = refl };
+        formatted = unread_never _ _ _ _ _ c.in-Err.ensures.reads.err;
+      };
+      asked =
+          asked_more g.I.Inputs.reads laws.reads_then
+          (Among files.first files.count) c.args.inputs.now c.args.inputs.now c.read_bounds_file.new.inputs files.first
+          (asked_none g.I.Inputs.reads (Among files.first files.count) c.args.inputs.now (laws.reads_none c.args.inputs.now))
+          c.read_bounds_file.ensures.reads.asked (omega arith, omega (arith, some));
+    }
 
 pub overflow_add-files : goal.overflow_add-files
 overflow_add-files g c =
-    let some = (c.requires.fits []).0.fit.some in
-    let few = (c.requires.fits []).0.fit.few in
+    let some = c.requires.fits.0.fit.some in
+    let few = c.requires.fits.0.fit.few in
     omega (arith, some, few)
 
 pub returns-in-None-clause-goes_on : goal.returns-in-None-clause-goes_on
@@ -63,8 +72,8 @@ returns-in-None-clause-goes_on g c = λ old start done state head.
     absurd (let two : true ≡ false = sym c.if-not-imported.false ∙ c.imported.ensures.is
     ∙ ap (λ (style : Option StyleOf). is_some style) (sym c.in-None.ensures.style) in cc)
 
-pub returns-in-None-clause-asked : goal.returns-in-None-clause-asked
-returns-in-None-clause-asked g c =
+pub returns-in-None-clause-works : goal.returns-in-None-clause-works
+returns-in-None-clause-works g c =
     absurd (let two : true ≡ false = sym c.if-not-imported.false ∙ c.imported.ensures.is
     ∙ ap (λ (style : Option StyleOf). is_some style) (sym c.in-None.ensures.style) in cc)
 
@@ -82,13 +91,13 @@ returns-in-Err-read-clause-goes_on g c = λ old start done state head.
     (λ held head. first_read start done first old files store output (IsBounds first)
     (λ bounds. reads (first + 1) (IsQueries held.style (first + 1))
     (λ queries. looks (serves bounds queries c.args.readers [] held (first + 2) count)))
-    (imported held) head bounds_read c.in-Ok.bounds c.in-Ok.ensures.ok _ _
+    (imported held) head bounds_read c.in-Ok.bounds c.in-Ok.ensures.reads.ok _ _
     (λ head. first_unread start (past first done) (first + 1) old bounds_read store output (IsQueries held.style (first + 1))
     (λ queries. looks (serves c.in-Ok.bounds queries c.args.readers [] held (first + 2) count))
     (imported held) head read c.in-Err-read.fault
     (subst (λ (style : StyleOf). IsUnread (IsQueries style (first + 1)) (first + 1) c.in-Err-read.fault bounds_read read)
     (same_style start (past first done) held (first + 1) old bounds_read store output head c.in-Some.style.now c.in-Some.ensures.style)
-    c.in-Err-read.ensures.err)))
+    c.in-Err-read.ensures.reads.err)))
 
 pub returns-in-Err-load_tables-clause-goes_on : goal.returns-in-Err-load_tables-clause-goes_on
 returns-in-Err-load_tables-clause-goes_on g c = rw c.in_flow.ensures.fault (λ old start done state head.
@@ -104,18 +113,16 @@ returns-in-Err-load_tables-clause-goes_on g c = rw c.in_flow.ensures.fault (λ o
     (λ held head. first_read start done first old files store output (IsBounds first)
     (λ bounds. reads (first + 1) (IsQueries held.style (first + 1))
     (λ queries. looks (serves bounds queries c.args.readers [] held (first + 2) count)))
-    (imported held) head bounds_read c.in-Ok.bounds c.in-Ok.ensures.ok _ _
+    (imported held) head bounds_read c.in-Ok.bounds c.in-Ok.ensures.reads.ok _ _
     (λ head. first_read start (past first done) (first + 1) old bounds_read store output (IsQueries held.style (first + 1))
     (λ queries. looks (serves c.in-Ok.bounds queries c.args.readers [] held (first + 2) count))
     (imported held) head read c.in-Ok-read.queries
     (subst (λ (style : StyleOf). IsRead (IsQueries style (first + 1)) (first + 1) c.in-Ok-read.queries bounds_read read)
     (same_style start (past first done) held (first + 1) old bounds_read store output head c.in-Some.style.now c.in-Some.ensures.style)
-    c.in-Ok-read.ensures.ok) _ _
+    c.in-Ok-read.ensures.reads.ok) _ _
     (λ head. look_refused start (past (first + 1) (past first done)) held (first + 1 + 1) old read store
     (handle_of c.load_tables.new.self) output head c.in-Err-load_tables.fault
-    c.in-Err-load_tables.ensures.looks c.in-Err-load_tables.ensures.stays.alone
-    (λ is. c.in-Err-load_tables.ensures.stays.broken (ap Err is))
-    (λ is. c.in-Err-load_tables.ensures.stays.not_old (ap Err is)) c.in-Err-load_tables.ensures.stays.cause
+    c.in-Err-load_tables.ensures.looks (refused_so c.in-Err-load_tables.ensures.stays)
     (serves c.in-Ok.bounds c.in-Ok-read.queries c.args.readers [] held (first + 2) count)))))
 
 pub returns-clause-goes_on : goal.returns-clause-goes_on
@@ -136,13 +143,13 @@ returns-clause-goes_on g c = λ old start done state head.
     (λ held head. first_read start done first old files store output (IsBounds first)
     (λ bounds. reads (first + 1) (IsQueries held.style (first + 1))
     (λ queries. looks (serves bounds queries c.args.readers [] held (first + 2) count)))
-    (imported held) head bounds_read c.in-Ok.bounds c.in-Ok.ensures.ok fault new
+    (imported held) head bounds_read c.in-Ok.bounds c.in-Ok.ensures.reads.ok fault new
     (λ head. first_read start (past first done) (first + 1) old bounds_read store output (IsQueries held.style (first + 1))
     (λ queries. looks (serves c.in-Ok.bounds queries c.args.readers [] held (first + 2) count))
     (imported held) head read c.in-Ok-read.queries
     (subst (λ (style : StyleOf). IsRead (IsQueries style (first + 1)) (first + 1) c.in-Ok-read.queries bounds_read read)
     (same_style start (past first done) held (first + 1) old bounds_read store output head c.in-Some.style.now c.in-Some.ensures.style)
-    c.in-Ok-read.ensures.ok) fault new
+    c.in-Ok-read.ensures.reads.ok) fault new
     (λ head.
     let both = past (first + 1) (past first done) in
     let sure = look_done start both held (first + 1 + 1) old read store loaded output head c.in-Ok-load_tables.ensures.looks
@@ -156,66 +163,91 @@ returns-clause-goes_on g c = λ old start done state head.
     (λ certain. c.in-Ok-load_tables.ensures.tables held (held_certain both held store head.here certain)))
     (λ ending comes. inr (inr comes)))))
 
-pub returns-in-Err-read-clause-asked : goal.returns-in-Err-read-clause-asked
-returns-in-Err-read-clause-asked g c =
+pub returns-in-Err-read-clause-works : goal.returns-in-Err-read-clause-works
+returns-in-Err-read-clause-works g c =
     let laws = g.met.I.Inputs g.world.𝓛 g.world.𝓜 g.world.𝓡 ((λ s x. x), (λ x. x), (λ x. x), λ x. x) in
     let files = c.args.files in
-    let two = (c.requires.fits []).0.least in
+    let two = c.requires.fits.0.least in
     let among = Among files.first files.count in
-    asked_more g.I.Inputs.reads laws.reads_then among c.args.inputs.now c.read_bounds_file.new.inputs c.read_queries_file-read.new.inputs
-    (files.first + 1)
-    (asked_more g.I.Inputs.reads laws.reads_then among c.args.inputs.now c.args.inputs.now c.read_bounds_file.new.inputs files.first
-    (asked_none g.I.Inputs.reads among c.args.inputs.now (laws.reads_none c.args.inputs.now)) c.read_bounds_file.ensures.asked
-    (omega arith, omega (arith, two)))
-    c.read_queries_file-read.ensures.asked (omega arith, omega (arith, two))
+    record {
+      keeps = record {
+        stays = record { same_disk = refl; same_limits = refl };
+        formatted = unread_never _ _ _ _ _ c.in-Err-read.ensures.reads.err;
+      };
+      asked =
+          asked_more g.I.Inputs.reads laws.reads_then among c.args.inputs.now c.read_bounds_file.new.inputs
+          c.read_queries_file-read.new.inputs
+          (files.first + 1)
+          (asked_more g.I.Inputs.reads laws.reads_then among c.args.inputs.now c.args.inputs.now c.read_bounds_file.new.inputs files.first
+          (asked_none g.I.Inputs.reads among c.args.inputs.now (laws.reads_none c.args.inputs.now)) c.read_bounds_file.ensures.reads.asked
+          (omega arith, omega (arith, two)))
+          c.read_queries_file-read.ensures.reads.asked (omega arith, omega (arith, two));
+    }
 
-pub returns-in-Err-load_tables-clause-asked : goal.returns-in-Err-load_tables-clause-asked
-returns-in-Err-load_tables-clause-asked g c =
+pub returns-in-Err-load_tables-clause-works : goal.returns-in-Err-load_tables-clause-works
+returns-in-Err-load_tables-clause-works g c =
     let laws = g.met.I.Inputs g.world.𝓛 g.world.𝓜 g.world.𝓡 ((λ s x. x), (λ x. x), (λ x. x), λ x. x) in
     let files = c.args.files in
-    let two = (c.requires.fits []).0.least in
+    let two = c.requires.fits.0.least in
     let among = Among files.first files.count in
-    asked_more g.I.Inputs.reads laws.reads_then among c.args.inputs.now c.read_bounds_file.new.inputs c.read_queries_file-read.new.inputs
-    (files.first + 1)
-    (asked_more g.I.Inputs.reads laws.reads_then among c.args.inputs.now c.args.inputs.now c.read_bounds_file.new.inputs files.first
-    (asked_none g.I.Inputs.reads among c.args.inputs.now (laws.reads_none c.args.inputs.now)) c.read_bounds_file.ensures.asked
-    (omega arith, omega (arith, two)))
-    c.read_queries_file-read.ensures.asked (omega arith, omega (arith, two))
+    rw c.in_flow.ensures.fault (record {
+      keeps = record {
+        stays = c.load_tables.ensures.stays.over;
+        formatted = call_never c.in-Err-load_tables.fault c.in-Err-load_tables.ensures.stays.alone;
+      };
+      asked =
+          asked_more g.I.Inputs.reads laws.reads_then among c.args.inputs.now c.read_bounds_file.new.inputs
+          c.read_queries_file-read.new.inputs
+          (files.first + 1)
+          (asked_more g.I.Inputs.reads laws.reads_then among c.args.inputs.now c.args.inputs.now c.read_bounds_file.new.inputs files.first
+          (asked_none g.I.Inputs.reads among c.args.inputs.now (laws.reads_none c.args.inputs.now)) c.read_bounds_file.ensures.reads.asked
+          (omega arith, omega (arith, two)))
+          c.read_queries_file-read.ensures.reads.asked (omega arith, omega (arith, two));
+    })
 
-pub returns-clause-asked : goal.returns-clause-asked
-returns-clause-asked g c =
+pub returns-clause-works : goal.returns-clause-works
+returns-clause-works g c =
     let laws = g.met.I.Inputs g.world.𝓛 g.world.𝓜 g.world.𝓡 ((λ s x. x), (λ x. x), (λ x. x), λ x. x) in
     let files = c.args.files in
-    let two = (c.requires.fits []).0.least in
+    let two = c.requires.fits.0.least in
     let among = Among files.first files.count in
-    asked_then g.I.Inputs.reads laws.reads_then among c.args.inputs.now c.read_queries_file-read.new.inputs c.serve_loaded.new.inputs
-    (asked_more g.I.Inputs.reads laws.reads_then among c.args.inputs.now c.read_bounds_file.new.inputs c.read_queries_file-read.new.inputs
-    (files.first + 1)
-    (asked_more g.I.Inputs.reads laws.reads_then among c.args.inputs.now c.args.inputs.now c.read_bounds_file.new.inputs files.first
-    (asked_none g.I.Inputs.reads among c.args.inputs.now (laws.reads_none c.args.inputs.now)) c.read_bounds_file.ensures.asked
-    (omega arith, omega (arith, two)))
-    c.read_queries_file-read.ensures.asked (omega arith, omega (arith, two)))
-    (asked_among (λ asked. g.I.Inputs.reads c.read_queries_file-read.new.inputs asked c.serve_loaded.new.inputs)
-    (Among (files.first + 2) (files.count - 2)) among
-    (λ file own. let low = own.0 in let high = own.1 in (omega (arith, low), omega (arith, high, two))) c.serve_loaded.ensures.asked)
+    record {
+      keeps = record {
+        stays = record {
+          same_disk = c.serve_loaded.ensures.works.keeps.stays.same_disk ∙ c.load_tables.ensures.stays.over.same_disk;
+          same_limits = c.serve_loaded.ensures.works.keeps.stays.same_limits ∙ c.load_tables.ensures.stays.over.same_limits;
+        };
+        formatted = c.serve_loaded.ensures.works.keeps.formatted;
+      };
+      asked =
+          asked_then g.I.Inputs.reads laws.reads_then among c.args.inputs.now c.read_queries_file-read.new.inputs c.serve_loaded.new.inputs
+          (asked_more g.I.Inputs.reads laws.reads_then among c.args.inputs.now c.read_bounds_file.new.inputs
+          c.read_queries_file-read.new.inputs
+          (files.first + 1)
+          (asked_more g.I.Inputs.reads laws.reads_then among c.args.inputs.now c.args.inputs.now c.read_bounds_file.new.inputs files.first
+          (asked_none g.I.Inputs.reads among c.args.inputs.now (laws.reads_none c.args.inputs.now)) c.read_bounds_file.ensures.reads.asked
+          (omega arith, omega (arith, two)))
+          c.read_queries_file-read.ensures.reads.asked (omega arith, omega (arith, two)))
+          (asked_among (λ asked. g.I.Inputs.reads c.read_queries_file-read.new.inputs asked c.serve_loaded.new.inputs)
+          (Among (files.first + 2) (files.count - 2)) among
+          (λ file own. let low = own.0 in let high = own.1 in
+          (omega (arith, low), omega (arith, high, two))) c.serve_loaded.ensures.works.asked);
+    }
 
-pub overflow_add-files-2 : goal.overflow_add-files-2
-overflow_add-files-2 g c =
-    let few = (c.requires.fits []).0.fit.few in
-    let two = (c.requires.fits []).0.least in
+pub overflow_add-changes : goal.overflow_add-changes
+overflow_add-changes g c =
+    let few = c.requires.fits.0.fit.few in
+    let two = c.requires.fits.0.least in
     omega (arith, few, two)
 
-pub overflow_sub-files : goal.overflow_sub-files
-overflow_sub-files g c = let two = (c.requires.fits []).0.least in omega (arith, two)
-
-pub serve_loaded-requires-clause-workers : goal.serve_loaded-requires-clause-workers
-serve_loaded-requires-clause-workers g c κs within = (c.requires.fits []).1
+pub overflow_sub-changes : goal.overflow_sub-changes
+overflow_sub-changes g c = let two = c.requires.fits.0.least in omega (arith, two)
 
 pub serve_loaded-requires-clause-readers : goal.serve_loaded-requires-clause-readers
-serve_loaded-requires-clause-readers g c κs within = (c.requires.fits []).2
+serve_loaded-requires-clause-readers g c κs within = c.requires.fits.1
 
 pub serve_loaded-requires-clause-fits : goal.serve_loaded-requires-clause-fits
 serve_loaded-requires-clause-fits g c κs within =
-    let few = (c.requires.fits []).0.fit.few in
-    let two = (c.requires.fits []).0.least in
+    let few = c.requires.fits.0.fit.few in
+    let two = c.requires.fits.0.least in
     omega (arith, few, two)

@@ -1,4 +1,4 @@
-use Rattle.std.proofs.Common.{true, false, None, ◌∙◌, sym, Err, ap}
+use Rattle.std.proofs.Common.{true, false, None, ◌∙◌, sym}
 use Rattle.update_flow.specs.Handle.{view_of}
 use Rattle.update_flow.specs.Updater.{handle_of}
 use Rattle.run_promise.specs.Courses.{IsTileText, clears}
@@ -8,6 +8,7 @@ use Rattle.run_promise.specs.World.{world}
 use Rattle.updater.proofs.HeadLaws.{ends_here}
 use Rattle.updater.proofs.StoreRuns.{clear_done, clear_refused, held_certain, if_there, look_done, look_refused, look_short, look_told}
 use Rattle.updater.proofs.StoreRuns.{look_untold, not_yet, outdated_there}
+use Rattle.updater.proofs.StoreDeeds.{refused_so}
 use Rattle.updater.proofs.commands.tiles.tiles_in.Goals as goal
 
 pub returns-then-old-clause-goes_on : goal.returns-then-old-clause-goes_on
@@ -27,9 +28,7 @@ returns-in-Err-clause-goes_on g c = rw c.in_flow.ensures.fault (λ old start don
     if_there start done 0 old files (handle_of c.args.store.now) output _ _ _ state head (sym c.old.ensures.is ∙ c.if-old.false)
     (sym c.imported.ensures.is ∙ c.if-not-imported.false)
     (λ held head. look_refused start done held 0 old files (handle_of c.args.store.now)
-    (handle_of c.due.new.self) output head c.in-Err.fault c.in-Err.ensures.looks c.in-Err.ensures.stays.alone
-    (λ is. c.in-Err.ensures.stays.broken (ap Err is))
-    (λ is. c.in-Err.ensures.stays.not_old (ap Err is)) c.in-Err.ensures.stays.cause
+    (handle_of c.due.new.self) output head c.in-Err.fault c.in-Err.ensures.looks (refused_so c.in-Err.ensures.stays)
     (writes (IsTileText held.due c.args.least) (clears c.args.clear))))
 
 pub returns-in-Err-tiles_text-clause-goes_on : goal.returns-in-Err-tiles_text-clause-goes_on
@@ -136,6 +135,4 @@ returns-clause-goes_on g c = rw c.in_flow-in-Err-clear_due.ensures.fault (rw c.i
     ))
     c.in_default.ensures.ok c.tell.ensures.cause.later _ (world files (view_of (handle_of c.clear_due.new.self)) new)
     (λ head. clear_refused start (plus text done) held 0 old files (handle_of c.due.new.self) (handle_of c.clear_due.new.self) new head
-    c.in-Err-clear_due.fault c.in-Err-clear_due.ensures.takes c.in-Err-clear_due.ensures.stays.alone
-    (λ is. c.in-Err-clear_due.ensures.stays.broken (ap Err is))
-    (λ is. c.in-Err-clear_due.ensures.stays.not_old (ap Err is)) c.in-Err-clear_due.ensures.stays.cause))))
+    c.in-Err-clear_due.fault c.in-Err-clear_due.ensures.takes (refused_so c.in-Err-clear_due.ensures.stays)))))

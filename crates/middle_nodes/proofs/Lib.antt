@@ -1,2 +1,0 @@
-pub mod Manual
-pub mod RecordLaws

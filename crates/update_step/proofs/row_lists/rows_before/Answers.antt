@@ -1,0 +1,17 @@
+use Rattle.std.proofs.Common.{sym, ap, ◌∙◌}
+use Rattle.store_maps.specs.Maps.{kept_rows}
+use Rattle.update_step.proofs.RowsStill.{kept-were}
+use Rattle.update_step.proofs.row_lists.rows_before.Goals as goal
+
+pub returns-then-is_among-clause-kept : goal.returns-then-is_among-clause-kept
+returns-then-is_among-clause-kept g c under maps old held has lacks =
+    c.new.ensures.empty ∙ sym (c.is_among.ensures.lacking old lacks c.if-is_among.true)
+
+pub returns-in-Some-clause-kept : goal.returns-in-Some-clause-kept
+returns-in-Some-clause-kept g c under maps old held has lacks =
+    ap kept_rows (sym c.in-Some.is ∙ c.in_ok-kept.ensures.rows under maps held) ∙ kept-were maps old has c.args.key
+
+pub returns-in-None-clause-kept : goal.returns-in-None-clause-kept
+returns-in-None-clause-kept g c under maps old held has lacks =
+    c.new-in-None.ensures.empty ∙ ap kept_rows (sym c.in-None.is ∙ c.in_ok-kept.ensures.rows under maps held)
+    ∙ kept-were maps old has c.args.key

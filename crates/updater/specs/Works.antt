@@ -1,0 +1,40 @@
+-- What holds of a command over a store, and of each function below it, whatever it answers.
+use Rattle.std.specs.Prelude.{◌≡◌, ◌≢◌, ℕ, List, Option, Some, replicate}
+use Rattle.outside.specs.Disk.{Stays}
+use Rattle.outside.specs.declared.disk.Disk.{Ghosts}
+use Rattle.update_flow.specs.Updater.{StaysOver}
+use Rattle.update_flow.specs.declared.updater.Updater.{Updater}
+use Rattle.run_promise.specs.declared.fault.Fault.{Fault}
+use Rattle.run_promise.specs.declared.fault.Fault.TheVariants.{NotFormatted}
+use Rattle.run_promise.specs.CommandOf.{old_store}
+use Rattle.run_promise.specs.Course.{Course}
+use Rattle.run_promise.specs.Progress.{Progress}
+use Rattle.run_promise.specs.Runs.{AsksOnly, Begins, GoesBy}
+use Rattle.run_promise.specs.World.{World}
+
+-- A command over a store goes by its course from wherever it may begin, asks for no file but such, and leaves a disk as it is that holds no
+-- store.
+pub record Does (course : Course) (asks : List ℕ → Type 0) (named : ℕ → Type 0) (old new : World) (fault : Option Fault) : Type 0 where
+  pub goes : (start : Progress) → Begins old_store old start → GoesBy course start fault old new
+  pub asked : AsksOnly asks named
+  pub unformatted : fault ≡ Some NotFormatted → Stays old.disk new.disk
+
+-- a command that names no file
+abbrev pub NoFile : ℕ → Type 0
+NoFile file = ⊥
+
+-- An open store stays open over its disk, under its limits, and no fault says that the disk holds no store.
+pub record KeepsOpen {D : Type 0} {g : Ghosts D} (fault : Option Fault) (old new : Updater D g) : Type 0 where
+  pub stays : StaysOver old new
+  pub formatted : fault ≢ Some NotFormatted
+
+-- So it is, and only this file is asked for, some times.
+pub record WorksOn {D : Type 0} {g : Ghosts D} (asks : List ℕ → Type 0) (file : ℕ) (fault : Option Fault) (old new : Updater D g) : Type 0 where
+  pub keeps : KeepsOpen fault old new
+  pub asked : (count : ℕ) × asks (replicate count file)
+
+-- So it is, and no file but such is asked for.
+pub record Works {D : Type 0} {g : Ghosts D} (asks : List ℕ → Type 0) (named : ℕ → Type 0) (fault : Option Fault)
+    (old new : Updater D g) : Type 0 where
+  pub keeps : KeepsOpen fault old new
+  pub asked : AsksOnly asks named
