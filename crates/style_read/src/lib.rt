@@ -12,6 +12,7 @@ mod columns;
 mod condition;
 mod document;
 mod fault;
+mod laws;
 mod name;
 mod part;
 mod reading;
@@ -24,6 +25,7 @@ mod top;
 mod words;
 
 pub use fault::{StyleFault, StylePart, StyleWhy};
+pub use laws::shared_numbers;
 pub use reading::read_style;
 pub use style::{
     Column, Columns, Condition, Conditions, MAX_COLUMNS, MAX_SELECTIONS, MAX_TABLES, Mode, Origin,
