@@ -31,7 +31,7 @@ use Rattle.bucket_store.specs.Image.{HasImage, HoldsImage, Image, IsSoundAnswer,
 use Rattle.bucket_store.specs.Transaction.{chains_of}
 use Rattle.bucket_store.specs.declared.buckets.Buckets.{Buckets}
 use Rattle.bucket_store.specs.Opening.{Fits, IsMeant, MeansOne, opened_root}
-use Rattle.bucket_store.specs.declared.opened.Opened.{Opened}
+use Rattle.bucket_store.specs.declared.resting.Resting.{Resting}
 use Rattle.bucket_store.proofs.Frames.{fault_is}
 
 -- a disk tells one content
@@ -104,9 +104,9 @@ home_sound bytes pages page home (inr refused) =
     ]
 
 -- what is read of a store that is formatted does not say that it is not
-pub kept_formatted : (fault : StoreFault) → IsReadAnswer {T = Kept} false (Err fault) → IsErrOf {T = Opened} (Err fault) NotFormatted → ⊥
+pub kept_formatted : (fault : StoreFault) → IsReadAnswer {T = Kept} false (Err fault) → IsErrOf {T = Resting} (Err fault) NotFormatted → ⊥
 kept_formatted fault alone is = subst (λ (f : StoreFault). IsReadAnswer {T = Kept} false (Err f))
-    (fault_is Opened fault NotFormatted is) alone
+    (fault_is Resting fault NotFormatted is) alone
 
 -- a journal that has home pages is opened
 pub sound_open : (T : Type 0) (fault : StoreFault) (bytes : List ℕ) (pages : List (List ℕ)) → Home pages bytes → Opens bytes (Err fault)
@@ -148,20 +148,20 @@ module _ (root : Root) (strings : ℕ → List ℕ) (pages : List (List ℕ)) (s
   sound_kept T OutOfMemory answers alone = tt
 
 -- the pages that were read mean what the disk means
-pub found_state : (image : Image) (view : DiskView) (opened : Opened) → (fits : Fits opened view) → (holds : HoldsImage image view)
+pub found_state : (image : Image) (view : DiskView) (opened : Resting) → (fits : Fits opened view) → (holds : HoldsImage image view)
     → IsState image.root holds.has.strings fits.pages
 found_state image view opened fits holds =
     let same : fits.rests.0 ≡ holds.bytes = told_one view.content fits.rests.0 holds.bytes fits.rests.1.told holds.told in
     image_state image holds.bytes fits.pages holds.has (subst (λ (l : List ℕ). Home fits.pages l) same fits.rests.1.home)
 
 -- the fields of a store that was opened
-pub root_found : (image : Image) (view : DiskView) (opened : Opened) → Fits opened view → HoldsImage image view
+pub root_found : (image : Image) (view : DiskView) (opened : Resting) → Fits opened view → HoldsImage image view
     → opened_root opened ≡ image.root
 root_found image view opened fits holds =
     ap (λ (l : List ℕ). root_in l) fits.keeps.front ∙ (found_state image view opened fits holds).fields
 
 -- the store is at rest under its buckets where it is on the disk
-pub rests_on : {D : Type 0} {g : Ghosts D} (image : Image) (disk : D) (opened : Opened) (buckets : Buckets D g)
+pub rests_on : {D : Type 0} {g : Ghosts D} (image : Image) (disk : D) (opened : Resting) (buckets : Buckets D g)
     → disk_of (journal_of (chains_of buckets)) ≡ disk → home_count (journal_of (chains_of buckets)) ≡ opened.pages
     → kept_of (chains_of buckets) ≡ opened.kept → Fits opened (g.view disk) → HoldsImage image (g.view disk) → RestsAt image buckets
 rests_on {D} {g} image disk opened buckets same pages kept fits holds = record {

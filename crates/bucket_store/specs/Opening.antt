@@ -13,21 +13,21 @@ use Rattle.chain_store.specs.Kept.{page_total}
 use Rattle.chain_store.specs.Store.{Keeps}
 use Rattle.chain_store.specs.declared.root.Root.{Root}
 use Rattle.bucket_store.specs.Image.{HasImage, HoldsImage, Image, IsSoundAnswer}
-use Rattle.bucket_store.specs.declared.opened.Opened.{Opened}
+use Rattle.bucket_store.specs.declared.resting.Resting.{Resting}
 
 -- what was read of a store is so on this disk, which is at rest
-pub record Fits (opened : Opened) (view : DiskView) : Type 0 where
+pub record Fits (opened : Resting) (view : DiskView) : Type 0 where
   pub pages : List (List ℕ)
   pub rests : IsAtRest pages view
   pub many : length pages + 1 ≡ opened.pages
   pub keeps : Keeps pages opened.kept
 
 -- the fields that were read
-abbrev pub opened_root : Opened → Root
+abbrev pub opened_root : Resting → Root
 opened_root opened = root_in opened.kept.front.items
 
 -- how many pages the directories have together
-abbrev pub directory_pages : Opened → ℕ
+abbrev pub directory_pages : Resting → ℕ
 directory_pages opened = page_total opened.kept.directories.items
 
 -- a store that means something

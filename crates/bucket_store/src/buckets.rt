@@ -15,8 +15,8 @@ mod listing;
 mod looking;
 
 use crate::cache::Cache;
-use crate::opened::Opened;
 use crate::reading::chain_of;
+use crate::resting::Resting;
 use chain_store::{Chains, Root};
 use osm_base::Limits;
 use outside::Disk;
@@ -61,7 +61,7 @@ impl<'d, D: Disk> Buckets<'d, D> {
     }
 
     /// The buckets of the store on this disk, of which this was read, with a transaction begun. Reads nothing.
-    pub fn on(alloc: Global, disk: &'d mut D, limits: &Limits, opened: Opened) -> Self
+    pub fn on(alloc: Global, disk: &'d mut D, limits: &Limits, opened: Resting) -> Self
         ensures same_disk { loan_of (journal_of (chains_of result)) ≡ disk.entry.ghost_name }
         ensures disk { disk_under (journal_of (chains_of result)) ≡ disk.entry.now }
         ensures limit { page_limit (journal_of (chains_of result)) ≡ limits.now.pages }
@@ -71,13 +71,13 @@ impl<'d, D: Disk> Buckets<'d, D> {
         ensures rests { (image : Image) → Fits opened (D.view disk.entry.now) → HoldsImage image (D.view disk.entry.now) → RestsAt image result }
         ensures has { (image : Image) → Fits opened (D.view disk.entry.now) → HoldsImage image (D.view disk.entry.now) → Has image image result }
     {
-        let Opened { pages, kept } = opened;
+        let Resting { pages, kept } = opened;
         let journal = Journal::over(disk, pages, limits);
         Self::over(alloc, Chains::over(alloc, journal, kept))
     }
 
     /// Hands the disk back, and leaves behind `kept` what is kept of the store, for `on`: nothing once a call of the disk has failed.
-    pub fn hand_back(self, kept: &mut Option<Opened>) -> &'d mut D
+    pub fn hand_back(self, kept: &mut Option<Resting>) -> &'d mut D
         ensures same_disk { result.ghost_name ≡ loan_of (journal_of (chains_of self.entry)) }
         ensures disk { result.now ≡ disk_under (journal_of (chains_of self.entry)) }
         ensures whole { is_some kept.new ≡ not (is_broken (journal_of (chains_of self.entry))) }
@@ -90,7 +90,7 @@ impl<'d, D: Disk> Buckets<'d, D> {
             return journal.close();
         }
         let pages = journal.pages();
-        *kept = Some(Opened { pages, kept: own });
+        *kept = Some(Resting { pages, kept: own });
         journal.close()
     }
 

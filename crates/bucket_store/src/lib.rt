@@ -15,15 +15,15 @@ mod buckets;
 mod cache;
 mod committing;
 mod laws;
-mod opened;
 mod opening;
 mod reading;
+mod resting;
 mod typed;
 mod whole;
 
 pub use buckets::Buckets;
 pub use laws::one_number_is_needed;
-pub use opened::Opened;
 pub use opening::open;
+pub use resting::Resting;
 pub use typed::refuse_value;
 pub use whole::WholeMap;

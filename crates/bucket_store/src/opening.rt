@@ -10,7 +10,7 @@ ghost use Rattle.chain_store.specs.Answers.{IsReadAnswer, ReadsKept};
 ghost use Rattle.chain_store.specs.Kept.{AreAllBehindRoot, page_total};
 ghost use Rattle.bucket_store.specs.Opening.{FindsImage, Fits, LeavesDisk, directory_pages, IsOpeningAnswer, OpensStore};
 
-use crate::opened::Opened;
+use crate::resting::Resting;
 use chain_store::{Kept, read_kept};
 use osm_base::Limits;
 use outside::Disk;
@@ -19,7 +19,7 @@ use std::alloc::Global;
 
 /// Opens the store on this disk: finishes a journal that a crash has left open, and reads the root page and the
 /// directories.
-pub fn open<D: Disk>(alloc: Global, disk: &mut D, limits: &Limits) -> Result<Opened, StoreFault>
+pub fn open<D: Disk>(alloc: Global, disk: &mut D, limits: &Limits) -> Result<Resting, StoreFault>
     ensures fits { IfOk result (λ opened. (bytes : List ℕ) → Tells (D.view disk.old) bytes → Fits opened (D.view disk.new)) }
     ensures answers { (bytes : List ℕ) → Tells (D.view disk.old) bytes → OpensStore bytes result }
     ensures alone { IsOpeningAnswer result }
@@ -40,7 +40,7 @@ pub fn open<D: Disk>(alloc: Global, disk: &mut D, limits: &Limits) -> Result<Ope
         Err(fault) => return Err(fault),
     };
     match kept_on(alloc, disk, limits, pages) {
-        Ok(kept) => Ok(Opened { pages, kept }),
+        Ok(kept) => Ok(Resting { pages, kept }),
         Err(fault) => Err(fault),
     }
 }

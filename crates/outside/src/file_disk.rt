@@ -17,6 +17,13 @@ use std::rt::Files;
 /// a write to one that is only looked at. No bytes are told, since no proof says what a file holds.
 #[derive(Drop)]
 pub struct FileDisk<'p, R: Files> {
+    file: NamedFile<'p, R>,
+    faults: u64,
+}
+
+// A file that may not be open yet.
+#[derive(Drop)]
+struct NamedFile<'p, R: Files> {
     rt: R,
     path: &'p str,
     make: bool,
@@ -26,7 +33,6 @@ pub struct FileDisk<'p, R: Files> {
     open: Option<R::File>,
     // Where the next call of the system reads or writes, if that is known.
     place: Option<u64>,
-    faults: u64,
 }
 
 /// A byte of a file, and the value of it that means that the file has to be written before it is read.
@@ -52,13 +58,7 @@ impl<'p, R: Files> FileDisk<'p, R> {
         ensures none { result ≡ 0 }
     {
         Self {
-            rt,
-            path,
-            make,
-            bar: None,
-            named: !make,
-            open: None,
-            place: None,
+            file: NamedFile::new(rt, path, make, None),
             faults: 0,
         }
     }
@@ -69,17 +69,29 @@ impl<'p, R: Files> FileDisk<'p, R> {
         ensures none { result ≡ 0 }
     {
         Self {
-            bar: Some(bar),
-            ..Self::new(rt, path, false)
+            file: NamedFile::new(rt, path, false, Some(bar)),
+            faults: 0,
         }
     }
 }
 
-impl<R: Files<File = File> + Drop> FileDisk<'_, R> {
+impl<'p, R: Files> NamedFile<'p, R> {
+    fn new(rt: R, path: &'p str, make: bool, bar: Option<Bar>) -> Self {
+        Self {
+            rt,
+            path,
+            make,
+            bar,
+            named: !make,
+            open: None,
+            place: None,
+        }
+    }
+}
+
+impl<R: Files<File = File> + Drop> NamedFile<'_, R> {
     // Opens and locks the file, if no earlier call has.
-    fn begin(&mut self) -> io::Result<()>
-        ensures same { self.new ≡ self.old }
-    {
+    fn begin(&mut self) -> io::Result<()> {
         if self.open.is_none() {
             let beside = match self.bar {
                 Some(bar) => self.beside(bar)?,
@@ -118,9 +130,7 @@ impl<R: Files<File = File> + Drop> FileDisk<'_, R> {
     }
 
     // Makes the name of a file stable that this disk may have made. It stays so, so that once is enough.
-    fn keep_name(&mut self) -> io::Result<()>
-        ensures same { self.new ≡ self.old }
-    {
+    fn keep_name(&mut self) -> io::Result<()> {
         if self.named {
             return Ok(());
         }
@@ -135,7 +145,6 @@ impl<R: Files<File = File> + Drop> FileDisk<'_, R> {
 
     fn try_len(&mut self) -> io::Result<u64>
         ensures small { IfOk result (λ len. len ≤ 2 ^ 62) }
-        ensures same { self.new ≡ self.old }
     {
         self.begin()?;
         let open = self.open.as_ref().ok_or(closed())?;
@@ -147,9 +156,7 @@ impl<R: Files<File = File> + Drop> FileDisk<'_, R> {
     }
 
     // The file goes on at this place: neighbouring pages need no seek between them.
-    fn go_to(&mut self, at: u64) -> io::Result<()>
-        ensures same { self.new ≡ self.old }
-    {
+    fn go_to(&mut self, at: u64) -> io::Result<()> {
         self.begin()?;
         if self.place.take() != Some(at) {
             let open = self.open.as_mut().ok_or(closed())?;
@@ -161,7 +168,6 @@ impl<R: Files<File = File> + Drop> FileDisk<'_, R> {
     fn try_read(&mut self, at: u64, buf: &mut [u8]) -> io::Result<usize>
         requires { at + length buf.old ≤ 2 ^ 62 }
         ensures bound { IfOk result (λ count. count ≤ length buf.old) }
-        ensures same { self.new ≡ self.old }
     {
         self.go_to(at)?;
         let open = self.open.as_mut().ok_or(closed())?;
@@ -172,7 +178,6 @@ impl<R: Files<File = File> + Drop> FileDisk<'_, R> {
 
     fn try_write(&mut self, at: u64, piece: &[u8]) -> io::Result<()>
         requires { at + length piece.now ≤ 2 ^ 62 }
-        ensures same { self.new ≡ self.old }
     {
         self.go_to(at)?;
         let open = self.open.as_mut().ok_or(closed())?;
@@ -181,9 +186,7 @@ impl<R: Files<File = File> + Drop> FileDisk<'_, R> {
         Ok(())
     }
 
-    fn try_sync(&mut self) -> io::Result<()>
-        ensures same { self.new ≡ self.old }
-    {
+    fn try_sync(&mut self) -> io::Result<()> {
         self.begin()?;
         let open = self.open.as_ref().ok_or(closed())?;
         // The bytes and the length: when the file was last written may be lost.
@@ -236,22 +239,22 @@ impl<R: Files<File = File> + Drop> Disk for FileDisk<'_, R> {
     ghost only_now = { λ disk left since. since };
 
     fn len(&mut self) -> Result<u64, Failed> {
-        let outcome = self.try_len();
+        let outcome = self.file.try_len();
         told(outcome, &mut self.faults)
     }
 
     fn read_at(&mut self, at: u64, buf: &mut [u8]) -> Result<usize, Failed> {
-        let outcome = self.try_read(at, buf);
+        let outcome = self.file.try_read(at, buf);
         told(outcome, &mut self.faults)
     }
 
     fn write_at(&mut self, at: u64, piece: &[u8]) -> Result<(), Failed> {
-        let outcome = self.try_write(at, piece);
+        let outcome = self.file.try_write(at, piece);
         told(outcome, &mut self.faults)
     }
 
     fn sync(&mut self) -> Result<(), Failed> {
-        let outcome = self.try_sync();
+        let outcome = self.file.try_sync();
         told(outcome, &mut self.faults)
     }
 }

@@ -17,10 +17,16 @@ use std::rt::Files;
 /// says what a file holds.
 #[derive(Drop)]
 pub struct FileInputs<'w, R: Files> {
+    files: NamedFiles<'w, R>,
+    faults: u64,
+}
+
+// The files of words, of which one may be open.
+#[derive(Drop)]
+struct NamedFiles<'w, R: Files> {
     rt: R,
     words: &'w [String],
     open: Option<(u32, R::File)>,
-    faults: u64,
 }
 
 // Contracts see the count of faults.
@@ -38,35 +44,19 @@ impl<'w, R: Files> FileInputs<'w, R> {
         ensures none { result ≡ 0 }
     {
         Self {
-            rt,
-            words,
-            open: None,
+            files: NamedFiles {
+                rt,
+                words,
+                open: None,
+            },
             faults: 0,
         }
     }
 }
 
-impl<R: Files + Drop> FileInputs<'_, R> {
-    /// The path of a file, where there is such a word.
-    pub(crate) fn path_of(&self, file: u32) -> Option<&str> {
-        Some(self.words.get(file as usize)?.as_str())
-    }
-
-    /// How many bytes the file has that is open, where it tells that: a pipe does not.
-    pub(crate) fn open_len(&self) -> Option<u64> {
-        let (_, open) = self.open.as_ref()?;
-        let told = open.metadata().ok()?;
-        if told.is_file() {
-            Some(told.len())
-        } else {
-            None
-        }
-    }
-
+impl<R: Files + Drop> NamedFiles<'_, R> {
     // Opens the file where another one is open, or none.
-    fn turn_to(&mut self, file: u32) -> io::Result<()>
-        ensures same { self.new ≡ self.old }
-    {
+    fn turn_to(&mut self, file: u32) -> io::Result<()> {
         if matches!(&self.open, Some((number, _)) if *number == file) {
             return Ok(());
         }
@@ -80,12 +70,29 @@ impl<R: Files + Drop> FileInputs<'_, R> {
 
     fn try_read(&mut self, file: u32, buf: &mut [u8]) -> io::Result<usize>
         ensures bound { ReadsAtMost result buf.new }
-        ensures same { self.new ≡ self.old }
     {
         self.turn_to(file)?;
         match &mut self.open {
             Some((_, open)) => open.read(buf),
             None => Err(Error::from(ErrorKind::NotFound)),
+        }
+    }
+}
+
+impl<R: Files + Drop> FileInputs<'_, R> {
+    /// The path of a file, where there is such a word.
+    pub(crate) fn path_of(&self, file: u32) -> Option<&str> {
+        Some(self.files.words.get(file as usize)?.as_str())
+    }
+
+    /// How many bytes the file has that is open, where it tells that: a pipe does not.
+    pub(crate) fn open_len(&self) -> Option<u64> {
+        let (_, open) = self.files.open.as_ref()?;
+        let told = open.metadata().ok()?;
+        if told.is_file() {
+            Some(told.len())
+        } else {
+            None
         }
     }
 
@@ -95,7 +102,7 @@ impl<R: Files + Drop> FileInputs<'_, R> {
         ensures counted { self.new ≡ (if is_err result then one_more self.old else self.old) }
         ensures cause { HasCause self.old self.new result }
     {
-        match self.try_read(file, buf) {
+        match self.files.try_read(file, buf) {
             Ok(count) => Ok(count),
             Err(_) => {
                 self.faults = self.faults.saturating_add(1);

@@ -58,8 +58,7 @@ impl Sink for MemSink {
 
     fn put(&mut self, piece: &[u8]) -> Result<usize, Failed>
         requires { 0 < length piece.now }
-        ensures least { IfOk result (λ count. 0 < count) }
-        ensures bound { IfOk result (λ count. count ≤ length piece.now) }
+        ensures some { IfOk result (λ count. (0 < count) × (count ≤ length piece.now)) }
         ensures bytes { WriteAppends (Some self.old.taken) (Some self.new.taken) result piece.now }
         ensures cause { HasCause self.old.calls.failed self.new.calls.failed result }
         ensures all { IfOk result (λ count. count ≡ length piece.now) }

@@ -24,7 +24,7 @@ pub struct Recorded {
 }
 
 impl Recorded {
-    ghost use Rattle.outside.specs.RecordedView.{bytes_of, start_of, calls_in, crashes_in};
+    ghost use Rattle.outside.specs.RecordedView.{Keeps, bytes_of, start_of, calls_in, crashes_in};
 
     /// These bytes, and no call.
     pub fn new(alloc: Global, bytes: Vec<u8>) -> Self
@@ -57,10 +57,7 @@ impl Recorded {
     pub fn look(&mut self) -> Result<(), AllocError>
         ensures bytes { bytes_of self.new ≡ bytes_of self.old }
         ensures crash { NoneNew (crashes_in self.old) (crashes_in self.new) }
-        ensures time { Elapses (crashes_in self.old) (crashes_in self.new) }
-        ensures start { start_of self.new ≡ start_of self.old }
-        ensures kept { OnOk result (calls_in self.new ≡ calls_in self.old ++ Look ∷ []) }
-        ensures lost { OnErr result (calls_in self.new ≡ calls_in self.old) }
+        ensures keeps { Keeps self.old self.new Look result }
     {
         note(&mut self.calls, Call::Look)?;
         Ok(())
@@ -71,10 +68,7 @@ impl Recorded {
         ensures durable { IsTrue done → OnOk result (Only (bytes_of self.old) (crashes_in self.new)) }
         ensures bytes { bytes_of self.new ≡ bytes_of self.old }
         ensures crash { NoneNew (crashes_in self.old) (crashes_in self.new) }
-        ensures time { Elapses (crashes_in self.old) (crashes_in self.new) }
-        ensures start { start_of self.new ≡ start_of self.old }
-        ensures kept { OnOk result (calls_in self.new ≡ calls_in self.old ++ Sync done ∷ []) }
-        ensures lost { OnErr result (calls_in self.new ≡ calls_in self.old) }
+        ensures keeps { Keeps self.old self.new (Sync done) result }
     {
         note(&mut self.calls, Call::Sync(done))?;
         Ok(())
@@ -84,10 +78,7 @@ impl Recorded {
     pub fn refuse(&mut self, at: u64, piece: &[u8]) -> Result<(), AllocError>
         ensures bytes { bytes_of self.new ≡ bytes_of self.old }
         ensures crash { Follows (Torn at (length piece.now)) (crashes_in self.old) (crashes_in self.new) }
-        ensures time { Elapses (crashes_in self.old) (crashes_in self.new) }
-        ensures start { start_of self.new ≡ start_of self.old }
-        ensures kept { OnOk result (calls_in self.new ≡ calls_in self.old ++ Write at piece.now false ∷ []) }
-        ensures lost { OnErr result (calls_in self.new ≡ calls_in self.old) }
+        ensures keeps { Keeps self.old self.new (Write at piece.now false) result }
     {
         let kept = Bytes::from_vec(piece.to_vec(*self.bytes.allocator())?);
         note(&mut self.calls, Call::Write(at, kept, false))?;
@@ -100,10 +91,7 @@ impl Recorded {
         ensures ok { OnOk result (bytes_of self.new ≡ overlaid at piece.now (bytes_of self.old)) }
         ensures err { OnErr result (bytes_of self.new ≡ bytes_of self.old) }
         ensures crash { Follows (Torn at (length piece.now)) (crashes_in self.old) (crashes_in self.new) }
-        ensures time { Elapses (crashes_in self.old) (crashes_in self.new) }
-        ensures start { start_of self.new ≡ start_of self.old }
-        ensures kept { OnOk result (calls_in self.new ≡ calls_in self.old ++ Write at piece.now true ∷ []) }
-        ensures lost { OnErr result (calls_in self.new ≡ calls_in self.old) }
+        ensures keeps { Keeps self.old self.new (Write at piece.now true) result }
     {
         keep_first(
             *self.bytes.allocator(),

@@ -15,8 +15,7 @@ pub trait Sink: Send {
     /// Takes bytes from the front of the piece, at least one, and answers how many. `Failed` takes none.
     fn put(&mut self, piece: &[u8]) -> Result<usize, Failed>
         requires { 0 < length piece.now }
-        ensures least { IfOk result (λ count. 0 < count) }
-        ensures bound { IfOk result (λ count. count ≤ length piece.now) }
+        ensures some { IfOk result (λ count. (0 < count) × (count ≤ length piece.now)) }
         ensures bytes { WriteAppends (view self.old).taken (view self.new).taken result piece.now }
         ensures cause { HasCause (view self.old).faults (view self.new).faults result };
 }

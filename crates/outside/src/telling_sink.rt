@@ -38,8 +38,7 @@ impl<W: Write + Drop + Send, R: Clock + Eprint + Sync> Sink for TellingSink<'_, 
 
     fn put(&mut self, piece: &[u8]) -> Result<usize, Failed>
         requires { 0 < length piece.now }
-        ensures least { IfOk result (λ count. 0 < count) }
-        ensures bound { IfOk result (λ count. count ≤ length piece.now) }
+        ensures some { IfOk result (λ count. (0 < count) × (count ≤ length piece.now)) }
         ensures cause { HasCause self.old.faults self.new.faults result }
         ensures written { IfOk result (λ count. Appends self.old.contents self.new.contents (take count piece.now)) }
         ensures counted { self.new.faults ≡ (if is_err result then one_more self.old.faults else self.old.faults) }

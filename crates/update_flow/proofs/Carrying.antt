@@ -10,7 +10,7 @@ use Rattle.bucket_store.specs.Image.{Image, RestsAt}
 use Rattle.bucket_store.specs.Opening.{Fits}
 use Rattle.bucket_store.specs.Transaction.{chains_of}
 use Rattle.bucket_store.specs.declared.buckets.Buckets.{Buckets}
-use Rattle.bucket_store.specs.declared.opened.Opened.{Opened}
+use Rattle.bucket_store.specs.declared.resting.Resting.{Resting}
 use Rattle.bucket_store.proofs.Reopened.{holds_under}
 use Rattle.update_flow.specs.Refusals.{IsNoDiskFault}
 use Rattle.update_flow.specs.State.{State, Step, after}
@@ -27,15 +27,15 @@ ok_then (Ok t) P Q then had = then t had
 ok_then (Err e) P Q then had = tt
 
 -- what was handed back of buckets
-abbrev pub IsBackOf : {D : Type 0} {g : Ghosts D} → Buckets D g → Option Opened → Type 0
+abbrev pub IsBackOf : {D : Type 0} {g : Ghosts D} → Buckets D g → Option Resting → Type 0
 IsBackOf buckets kept = (is_some kept ≡ not (is_broken (journal_of (chains_of buckets))))
     × IfSome kept (λ opened. (image : Image) → RestsAt image buckets → Fits opened (view_in buckets))
 
 module _ {D : Type 0} {g : Ghosts D} where
-  whole_kept : (buckets : Buckets D g) (kept : Option Opened) → IsBackOf buckets kept → is_whole_store buckets → is_some kept ≡ true
+  whole_kept : (buckets : Buckets D g) (kept : Option Resting) → IsBackOf buckets kept → is_whole_store buckets → is_some kept ≡ true
   whole_kept buckets kept back whole = back.0 ∙ ap not whole
 
-  kept_back : (state : State) (buckets : Buckets D g) (kept : Option Opened) → IsBackOf buckets kept → is_whole_store buckets
+  kept_back : (state : State) (buckets : Buckets D g) (kept : Option Resting) → IsBackOf buckets kept → is_whole_store buckets
       → RestsIn state buckets
       → IsKept state (view_in buckets) kept
   kept_back state buckets None back whole rests = absurd (cc (whole_kept buckets None back whole))
@@ -44,7 +44,7 @@ module _ {D : Type 0} {g : Ghosts D} where
     fits = (opened, refl, back.1 rests.image rests.at_rest);
   }
 
-  module _ {call : Option Step} (fault : Option FlowFault) (old new : Buckets D g) (kept : Option Opened) (back : IsBackOf new kept)
+  module _ {call : Option Step} (fault : Option FlowFault) (old new : Buckets D g) (kept : Option Resting) (back : IsBackOf new kept)
       (ends : EndsIn call fault old new) where
     turns_here : (limits : LimitNumbers) (state : State) (step : Step) → TurnsIn limits state step fault old new
         → TurnsOn limits state step fault (view_in old) (view_in new) kept

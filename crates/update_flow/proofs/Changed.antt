@@ -14,7 +14,7 @@ use Rattle.page_journal.specs.declared.fault.StoreFault.{StoreFault}
 use Rattle.page_journal.specs.declared.fault.StoreFault.TheVariants as store
 use Rattle.bucket_store.specs.Image.{Image}
 use Rattle.bucket_store.specs.declared.buckets.Buckets.{Buckets}
-use Rattle.bucket_store.specs.declared.opened.Opened.{Opened}
+use Rattle.bucket_store.specs.declared.resting.Resting.{Resting}
 use Rattle.store_maps.specs.Maps.{Maps}
 use Rattle.store_maps.specs.Stands.{Stands}
 use Rattle.update_flow.specs.maps.Calls.{IsAllowed}
@@ -84,7 +84,7 @@ pub append_old : (handle : Handle) (bounds : BoundsOf) (change : List Entry) →
     → Takes state (Append bounds change) (Some flow.OldFormat) handle handle
 append_old handle bounds change is state opened = step_old handle (Append bounds change) (λ held. refl) state is opened
 
-module _ (old new : Handle) (kept : Option Opened) (whole : is_some kept ≡ is_whole new)
+module _ (old new : Handle) (kept : Option Resting) (whole : is_some kept ≡ is_whole new)
     (keeps : KeptFits kept (view_of new) → new.keeps) where
   -- a change is made
   module _ (is : is_imported old ≡ true) (fresh : is_old old ≡ false) (stays : is_old new ≡ is_old old)

@@ -7,7 +7,7 @@ use Rattle.page_journal.specs.declared.fault.StoreFault.TheVariants as store
 use Rattle.page_journal.proofs.Moments.{stays_same}
 use Rattle.std.proofs.lemmas.Option.{same_Some}
 use Rattle.bucket_store.specs.Opening.{Fits}
-use Rattle.bucket_store.specs.declared.opened.Opened.{Opened}
+use Rattle.bucket_store.specs.declared.resting.Resting.{Resting}
 use Rattle.update_flow.specs.AtRest.{HasFlowCause}
 use Rattle.update_flow.specs.Handle.{Handle, IsOpen, Looks, Shows, Takes, TellsAs, changes_of, is_imported, is_old, is_whole, limits_of}
 use Rattle.update_flow.specs.Handle.{style_of, view_of}
@@ -22,7 +22,7 @@ use Rattle.update_flow.proofs.Openings.{at_state}
 use Rattle.update_flow.proofs.Resting.{either_done, nothing_done}
 
 -- the disk has failed no call still
-pub whole_still : {T : Type 0} {call : Option Step} (r : Result T FlowFault) (old new : DiskView) (kept : Option Opened) (was : Bool)
+pub whole_still : {T : Type 0} {call : Option Step} (r : Result T FlowFault) (old new : DiskView) (kept : Option Resting) (was : Bool)
     → was ≡ true
     → EndsOn call (result_err r) old new kept → OnOk r (is_some kept ≡ was)
 whole_still (Ok t) old new kept was is ends = ends.whole tt ∙ sym is
@@ -126,12 +126,12 @@ module _ (handle : Handle) where
   look_unasked (outdated held) is opened = absurd (told_begun held opened is)
 
 -- what was done on the disk was done to the store
-module _ (old new : Handle) (kept : Option Opened) (whole : is_some kept ≡ is_whole new)
+module _ (old new : Handle) (kept : Option Resting) (whole : is_some kept ≡ is_whole new)
     (keeps : KeptFits kept (view_of new) → new.keeps) where
   open_kept : (state : State) → IsKept state (view_of new) kept → Shows state new → IsOpen state new
   open_kept state is shows = record {
     at_rest = at_state state (view_of new) is.holds;
-    sound = sym whole ∙ ap (λ (o : Option Opened). is_some o) is.fits.1;
+    sound = sym whole ∙ ap (λ (o : Option Resting). is_some o) is.fits.1;
     shows = shows;
     fits = keeps is.fits;
   }
@@ -218,5 +218,5 @@ module _ (old new : Handle) (kept : Option Opened) (whole : is_some kept ≡ is_
       })
 
 -- what is kept of an open store fits its disk
-pub kept_fits : (kept : Option Opened) (own : Opened) (disk : DiskView) → kept ≡ Some own → KeptFits kept disk → Fits own disk
-kept_fits kept own disk is fits = subst (λ (o : Opened). Fits o disk) (same_Some fits.0 own (sym fits.1 ∙ is)) fits.2
+pub kept_fits : (kept : Option Resting) (own : Resting) (disk : DiskView) → kept ≡ Some own → KeptFits kept disk → Fits own disk
+kept_fits kept own disk is fits = subst (λ (o : Resting). Fits o disk) (same_Some fits.0 own (sym fits.1 ∙ is)) fits.2

@@ -34,7 +34,7 @@ use Rattle.update_flow.specs.Turning.{TurnsOn}
 use Rattle.update_flow.specs.Updater.{KeptFits}
 use Rattle.update_flow.specs.declared.fault.FlowFault.{FlowFault}
 use Rattle.update_flow.specs.declared.fault.FlowFault.TheVariants as flow
-use Rattle.bucket_store.specs.declared.opened.Opened.{Opened}
+use Rattle.bucket_store.specs.declared.resting.Resting.{Resting}
 use Rattle.update_flow.proofs.Handles.{step_old, takes_none, takes_on, told_begun, told_blank, told_imported, told_old}
 use Rattle.update_flow.specs.Steps.{of_step}
 use Rattle.update_flow.specs.declared.fields.TheConstants.{DUE_TEXT, STYLE_TEXT}
@@ -127,7 +127,7 @@ import_old handle style bytes buckets entries is state opened =
     step_old handle (Import style bytes buckets entries) (λ held. refl) state is opened
 
 -- an import that was done on the disk was done to the store
-module _ (old new : Handle) (kept : Option Opened) (whole : is_some kept ≡ is_whole new)
+module _ (old new : Handle) (kept : Option Resting) (whole : is_some kept ≡ is_whole new)
     (keeps : KeptFits kept (view_of new) → new.keeps) where
   pub import_taken : (style : StyleOf) (bytes : List ℕ) (buckets : ℕ) (entries : List Entry) (fault : Option FlowFault)
       → is_imported old ≡ false

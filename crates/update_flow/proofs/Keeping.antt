@@ -21,7 +21,7 @@ use Rattle.update_flow.specs.maps.Calls.{IsAllowed, IsLater, Keeps, WasRefused, 
 use Rattle.update_flow.specs.maps.Held.{Beside, HasMaps}
 use Rattle.update_flow.specs.maps.Laws.{looks_read, maps_stay, over_going, over_none, over_some, over_spent, over_stop}
 use Rattle.update_flow.specs.maps.Touched.{Touched}
-use Rattle.update_flow.specs.declared.maps.kept.KeptMaps.{KeptMaps}
+use Rattle.update_flow.specs.declared.maps.kept.StoreTxn.{StoreTxn}
 use Rattle.update_flow.proofs.Findings.{answers_of}
 
 -- a refusal of a sound store is one of its maps
@@ -35,13 +35,13 @@ allowed_sound T Broken is = is
 allowed_sound T OutOfMemory is = tt
 
 -- maps that may be asked stand over a store that goes on
-pub over_ready : {D : Type 0} {g : Ghosts D} (kept : KeptMaps D g) → is_over kept ≡ false → IsReady (buckets_of kept)
+pub over_ready : {D : Type 0} {g : Ghosts D} (kept : StoreTxn D g) → is_over kept ≡ false → IsReady (buckets_of kept)
 over_ready kept fresh = record { some = over_some kept fresh; going = over_going kept fresh }
 
 -- what a call leaves of the maps, by what that on the buckets leaves of these: of maps that were not answered the last refusal is kept
-module _ {D : Type 0} {g : Ghosts D} (old new : KeptMaps D g) (fresh : is_over old ≡ false) (same : style_in new ≡ style_in old) where
+module _ {D : Type 0} {g : Ghosts D} (old new : StoreTxn D g) (fresh : is_over old ≡ false) (same : style_in new ≡ style_in old) where
   later_touched : {T : Type 0} (result : Result T StoreFault) → Touched (buckets_of old) (buckets_of new) result
-      → (has_refused (buckets_of new) ≡ false → ReadsBuckets (buckets_of old) (buckets_of new)) → (first : KeptMaps D g) → IsLater first old
+      → (has_refused (buckets_of new) ≡ false → ReadsBuckets (buckets_of old) (buckets_of new)) → (first : StoreTxn D g) → IsLater first old
       → IsLater first new
   later_touched result does reads first later = record {
     looks = looks_then (buckets_of first) (buckets_of old) (buckets_of new) later.looks
@@ -77,11 +77,11 @@ module _ {D : Type 0} {g : Ghosts D} (old new : KeptMaps D g) (fresh : is_over o
 
   module _ (T : Type 0) (fault : StoreFault) (stop : stop_of new ≡ Some fault)
       (does : Touched {T = T} (buckets_of old) (buckets_of new) (Err fault)) where
-    later_stopped : (first : KeptMaps D g) → IsLater first old → IsLater first new
+    later_stopped : (first : StoreTxn D g) → IsLater first old → IsLater first new
     later_stopped = later_touched {T = T} (Err fault) does (λ going. absurd (true≢false (sym does.refused ∙ going)))
 
     -- those that were refused tell why
-    bears_still : (first : KeptMaps D g) → IsLater first old → WasRefused new (faults_of first) fault
+    bears_still : (first : StoreTxn D g) → IsLater first old → WasRefused new (faults_of first) fault
     bears_still first later =
         subst (λ (o : Option StoreFault). Bears (buckets_of new) o (faults_of first) fault) (sym stop)
         (bears_fewer (buckets_of new) (Some fault) (faults_of first) (faults_of old) fault later.looks.later
@@ -95,7 +95,7 @@ module _ {D : Type 0} {g : Ghosts D} (old new : KeptMaps D g) (fresh : is_over o
         → Looks {A = T} Keeps IsLater is_over WasRefused faults_of IsAllowed old new (Err fault)
     looks_stopped allowed = record { holds = tt; looked = later_stopped; spent = tt; refused = bears_still; allowed = allowed }
 
-module _ {D : Type 0} {g : Ghosts D} (old : KeptMaps D g) (new : Buckets D g) where
+module _ {D : Type 0} {g : Ghosts D} (old : StoreTxn D g) (new : Buckets D g) where
   -- a question to the index that was answered leaves why the last one was refused
   pub fresh_asked : (questions : List Question) (stopped : Option StoreFault) → is_over old ≡ false
       → Asked questions (buckets_of old) (stop_of old) new stopped → is_spent new ≡ false

@@ -10,7 +10,7 @@ use Rattle.bucket_store.specs.Image.{Has, HoldsImage, Image, OnlyLooks, RestsAt}
 use Rattle.bucket_store.specs.Opening.{Fits}
 use Rattle.bucket_store.specs.Transaction.{chains_of}
 use Rattle.bucket_store.specs.declared.buckets.Buckets.{Buckets}
-use Rattle.bucket_store.specs.declared.opened.Opened.{Opened}
+use Rattle.bucket_store.specs.declared.resting.Resting.{Resting}
 use Rattle.bucket_store.proofs.Holding.{rests_later}
 use Rattle.update_flow.specs.AtRest.{HasFlowCause}
 use Rattle.update_flow.specs.Opening.{HoldsState}
@@ -35,7 +35,7 @@ module _ {D : Type 0} {g : Ghosts D} (old new : Buckets D g) (first last : D) (t
       (record { later = runs.looks.later; failed = runs.failed }))
 
   -- an imported store has the style that was read, and what they gave back fits its disk
-  pub found_styled : (state : State) (found store : Opened) (style : StyleOf) → was_imported state ≡ true
+  pub found_styled : (state : State) (found store : Resting) (style : StyleOf) → was_imported state ≡ true
       → ((image : Image) → Fits found (g.view first) → HoldsImage image (g.view first) → RestsAt image old)
       → ((image : Image) → Fits found (g.view first) → HoldsImage image (g.view first) → Has image image old) → OnlyLooks old new
       → ((rest now : Image) → Has rest now old → reading (now.texts STYLE_TEXT) ≡ Ok style)

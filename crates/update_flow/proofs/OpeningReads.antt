@@ -21,7 +21,7 @@ use Rattle.bucket_store.specs.Image.{Has, Image}
 use Rattle.bucket_store.specs.Opening.{Fits, directory_pages}
 use Rattle.bucket_store.specs.Transaction.{IsOpenStore, chains_of}
 use Rattle.bucket_store.specs.declared.buckets.Buckets.{Buckets}
-use Rattle.bucket_store.specs.declared.opened.Opened.{Opened}
+use Rattle.bucket_store.specs.declared.resting.Resting.{Resting}
 use Rattle.bucket_store.proofs.Holding.{kept_holds}
 use Rattle.update_flow.specs.Opening.{HoldsState}
 use Rattle.update_flow.specs.OpeningReads.{ReadsStyle, ReadsToOpen, text_first}
@@ -99,7 +99,7 @@ style_unread state view holds =
     }
 
 -- the first pages and the directories, and then the style
-pub opens_then : (bytes : List ℕ) (old mid new : DiskView) (found : Opened) → old.content ≡ Some bytes → Stays old mid
+pub opens_then : (bytes : List ℕ) (old mid new : DiskView) (found : Resting) → old.content ≡ Some bytes → Stays old mid
     → (fits : Fits found mid) → ReadsAtMost (2 + directory_pages found) (length bytes) old mid → ReadsStyle mid new
     → ReadsToOpen bytes old new
 opens_then bytes old mid new found told stays fits first second =

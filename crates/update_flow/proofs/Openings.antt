@@ -18,7 +18,7 @@ use Rattle.chain_store.specs.Directories.{root_in}
 use Rattle.chain_store.specs.Links.{page_in}
 use Rattle.bucket_store.specs.Image.{HasImage, HoldsImage, Image, IsSoundAnswer}
 use Rattle.bucket_store.specs.Opening.{Fits, IsMeant, IsOpeningAnswer, MeansOne, OpensStore, opened_root}
-use Rattle.bucket_store.specs.declared.opened.Opened.{Opened}
+use Rattle.bucket_store.specs.declared.resting.Resting.{Resting}
 use Rattle.bucket_store.proofs.Reopened.{rests_stays, root_found}
 use Rattle.update_flow.specs.declared.fault.FlowFault.{FlowFault}
 use Rattle.update_flow.specs.declared.fault.FlowFault.TheVariants as flow
@@ -74,7 +74,7 @@ state_stays state old new stays holds = record {
       holds.means;
 }
 
-pub fits_stays : (opened : Opened) (old new : DiskView) → Stays old new → Fits opened old → Fits opened new
+pub fits_stays : (opened : Resting) (old new : DiskView) → Stays old new → Fits opened old → Fits opened new
 fits_stays opened old new stays fits = record {
   pages = fits.pages;
   rests = rests_stays fits.pages old new fits.rests stays;
@@ -118,7 +118,7 @@ tells_count formatted image blank = ap (λ (r : Root). r.changes) blank.root
 tells_count (imported held) image is = ap (λ (r : Root). r.changes) is.root
 tells_count (outdated held) image is = ap (λ (r : Root). r.changes) is.root
 
-pub root_of : (state : State) (view : DiskView) (opened : Opened) → Fits opened view → (holds : HoldsState state view)
+pub root_of : (state : State) (view : DiskView) (opened : Resting) → Fits opened view → (holds : HoldsState state view)
     → opened_root opened ≡ holds.image.root
 root_of state view opened fits holds = root_found holds.image view opened fits holds.holds
 
@@ -246,7 +246,7 @@ quiet_fault T store.Broken quiet = refl
 quiet_fault T store.OutOfMemory quiet = refl
 
 -- the fields of a store that was only made are blank
-pub none_blank : (view : DiskView) (opened : Opened) (root : Root) → root ≡ opened_root opened → is_blank root ≡ false → Fits opened view
+pub none_blank : (view : DiskView) (opened : Resting) (root : Root) → root ≡ opened_root opened → is_blank root ≡ false → Fits opened view
     → HoldsState formatted view → ⊥
 none_blank view opened root same blank fits holds =
     let here : is_blank root ≡ is_blank holds.image.root =
@@ -255,7 +255,7 @@ none_blank view opened root same blank fits holds =
     absurd (cc (here, is, blank))
 
 -- those of a store of a state are so, or those of an imported one of one format or the other
-pub is_one : (state : State) (view : DiskView) (opened : Opened) (root : Root) → root ≡ opened_root opened → is_blank root ≡ false
+pub is_one : (state : State) (view : DiskView) (opened : Resting) (root : Root) → root ≡ opened_root opened → is_blank root ≡ false
     → is_old root ≡ false → is_imported root ≡ false → Fits opened view → HoldsState state view → ⊥
 is_one formatted view opened root same blank old other fits holds = none_blank view opened root same blank fits holds
 is_one (imported held) view opened root same blank old other fits holds =
@@ -270,14 +270,14 @@ is_one (outdated held) view opened root same blank old other fits holds =
     absurd (cc (here, is, old))
 
 -- a store with other fields than those was imported
-pub begun_state : (state : State) (view : DiskView) (opened : Opened) (root : Root) → root ≡ opened_root opened → is_blank root ≡ false
+pub begun_state : (state : State) (view : DiskView) (opened : Resting) (root : Root) → root ≡ opened_root opened → is_blank root ≡ false
     → Fits opened view → HoldsState state view → was_imported state ≡ true
 begun_state formatted view opened root same blank fits holds = absurd (none_blank view opened root same blank fits holds)
 begun_state (imported held) view opened root same blank fits holds = refl
 begun_state (outdated held) view opened root same blank fits holds = refl
 
 -- what was found of an imported store is what was found of a store
-pub found_of : (root : Root) (view new : DiskView) (found : Opened) (dated : Bool) (result : Result Judged FlowFault)
+pub found_of : (root : Root) (view new : DiskView) (found : Resting) (dated : Bool) (result : Result Judged FlowFault)
     → root ≡ opened_root found
     → is_blank root ≡ false → dated ≡ is_old root → IfOk result (λ opened. opened.changes ≡ root.changes)
     → IfOk result (λ opened. opened.outdated ≡ dated)
@@ -295,7 +295,7 @@ found_of root view new found dated (Ok opened) same blank is changes old rest = 
       fits = own.1;
     }
 
-pub sound_of : (root : Root) (view : DiskView) (found : Opened) (dated : Bool) (fault : Option FlowFault) → root ≡ opened_root found
+pub sound_of : (root : Root) (view : DiskView) (found : Resting) (dated : Bool) (fault : Option FlowFault) → root ≡ opened_root found
     → is_blank root ≡ false → dated ≡ is_old root
     → (Fits found view → (state : State) → HoldsState state view → was_imported state ≡ true → was_old state ≡ dated → IsSound fault)
     → Fits found view → (state : State) → HoldsState state view → IsSound fault
@@ -305,7 +305,7 @@ sound_of root view found dated fault same blank is sound fits state holds =
     sound fits state holds (begun_state state view found root same blank fits holds) (sym old)
 
 -- the fields that were read are those of the root page of the bytes as they were
-pub root_told : (found : Opened) (bytes : List ℕ) (pages : List (List ℕ)) (old mid : DiskView) → old.content ≡ Some bytes → Stays old mid
+pub root_told : (found : Resting) (bytes : List ℕ) (pages : List (List ℕ)) (old mid : DiskView) → old.content ≡ Some bytes → Stays old mid
     → Fits found mid → Home pages bytes
     → opened_root found ≡ root_in (page_in pages 1)
 root_told found bytes pages old mid told stays fits home =
@@ -334,7 +334,7 @@ fields_of root stored dated (Ok opened) same old new count is some = record {
 }
 
 -- a disk that was only looked at held what it holds
-pub state_before : (state : State) (mid new : DiskView) (found : Opened) → Fits found mid → Stays mid new → IsAt state new
+pub state_before : (state : State) (mid new : DiskView) (found : Resting) → Fits found mid → Stays mid new → IsAt state new
     → HoldsState state mid
 unfolding StandsFor
 state_before state mid new found fits stays at =

@@ -12,7 +12,7 @@ use Rattle.chain_store.specs.Links.{page_in}
 use Rattle.style_read.specs.Style.{StyleOf}
 use Rattle.bucket_store.specs.Image.{HoldsImage, Image}
 use Rattle.bucket_store.specs.Opening.{Fits}
-use Rattle.bucket_store.specs.declared.opened.Opened.{Opened as Stored}
+use Rattle.bucket_store.specs.declared.resting.Resting.{Resting}
 use Rattle.update_flow.specs.AtRest.{HasFlowCause, IsDamaged}
 use Rattle.update_flow.specs.OpeningReads.{ReadsStyle}
 use Rattle.update_flow.specs.Refusals.{IsNoDiskFault, IsOpenFault, MayFind}
@@ -60,7 +60,7 @@ pub record OpensAny (old new : DiskView) (result : Result Opened FlowFault) : Ty
   pub cause : HasFlowCause (result_err result) old new
 
 -- and a look for the state of a store of which this was read
-pub record Finds (found : Stored) (old new : DiskView) (result : Result Opened FlowFault) : Type 0 where
+pub record Finds (found : Resting) (old new : DiskView) (result : Result Opened FlowFault) : Type 0 where
   pub alone : IfErr result MayFind
   pub stays : Stays old new
   pub once : OnOk result ((state : State) → Fits found old → HoldsState state old → ReadsStyle old new)

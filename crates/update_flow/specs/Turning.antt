@@ -10,7 +10,7 @@ use Rattle.chain_store.specs.Chains.{disk_of, journal_of}
 use Rattle.bucket_store.specs.Image.{Has, HasImage, Image, OnlyLooks, RestsAt}
 use Rattle.bucket_store.specs.Transaction.{chains_of}
 use Rattle.bucket_store.specs.declared.buckets.Buckets.{Buckets}
-use Rattle.bucket_store.specs.declared.opened.Opened.{Opened}
+use Rattle.bucket_store.specs.declared.resting.Resting.{Resting}
 use Rattle.update_flow.specs.AtRest.{HasFlowCause, IsOfEither}
 use Rattle.update_flow.specs.Calls.{IsChange, MayCommit}
 use Rattle.update_flow.specs.AtRest.{RestsAt as StaysAt}
@@ -94,13 +94,13 @@ pub record CommitsWith {D : Type 0} {g : Ghosts D} (made : Image → Image) (fau
   pub ends : (step : Step) → EndsIn (Some step) fault old new
 
 -- a store at rest of this state is on the disk, and what is kept of it is so
-pub record IsKept (state : State) (disk : DiskView) (kept : Option Opened) : Type 0 where
+pub record IsKept (state : State) (disk : DiskView) (kept : Option Resting) : Type 0 where
   pub holds : HoldsState state disk
   pub fits : KeptFits kept disk
 
 -- the store on a disk is taken a step further
 pub record TurnsOn (limits : LimitNumbers) (state : State) (step : Step) (fault : Option FlowFault) (old new : DiskView)
-    (kept : Option Opened) : Type 0 where
+    (kept : Option Resting) : Type 0 where
   pub answer : MayAnswer limits state step fault
   pub needs : FitsLimit limits (NeedsOn old (after state step)) fault
   pub done : fault ≡ None → IsKept (after state step) new kept
@@ -109,14 +109,14 @@ pub record TurnsOn (limits : LimitNumbers) (state : State) (step : Step) (fault 
   pub moments : Goes (IsOfEither state (after state step)) old.crashes new.crashes
 
 -- it is looked at
-pub record LooksOn (state : State) (fault : Option FlowFault) (old new : DiskView) (kept : Option Opened) : Type 0 where
+pub record LooksOn (state : State) (fault : Option FlowFault) (old new : DiskView) (kept : Option Resting) : Type 0 where
   pub answer : MayLook state fault
   pub only : Stays old new
   pub stays : IsNoDiskFault fault → IsKept state new kept
   pub moments : StaysAt state old new
 
 -- whatever it holds, a call leaves this of a disk that had not failed
-pub record EndsOn (call : Option Step) (fault : Option FlowFault) (old new : DiskView) (kept : Option Opened) : Type 0 where
+pub record EndsOn (call : Option Step) (fault : Option FlowFault) (old new : DiskView) (kept : Option Resting) : Type 0 where
   pub alone : MayEnd call fault
   pub whole : IsNoDiskFault fault → is_some kept ≡ true
   pub cause : HasFlowCause fault old new

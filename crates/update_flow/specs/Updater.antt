@@ -7,7 +7,7 @@ use Rattle.outside.specs.Disk.{DiskView, Stays}
 use Rattle.outside.specs.declared.disk.Disk.{Ghosts}
 use Rattle.bucket_store.specs.Opening.{Fits}
 use Rattle.page_journal.specs.declared.fault.StoreFault.TheVariants.{Broken}
-use Rattle.bucket_store.specs.declared.opened.Opened.{Opened}
+use Rattle.bucket_store.specs.declared.resting.Resting.{Resting}
 use Rattle.update_flow.specs.AtRest.{HasFlowCause}
 use Rattle.update_flow.specs.Calls.{IsFirst, IsForImported, IsForToday, IsLook, IsStill}
 use Rattle.update_flow.specs.Handle.{Handle, TellsAs, changes_of, is_imported, is_old, is_whole, limits_of, style_of, view_of}
@@ -29,8 +29,8 @@ abbrev pub loan_of : {D : Type 0} {g : Ghosts D} → Updater D g → GName
 loan_of updater = updater.disk.ghost_name
 
 -- what is kept of a store, if anything is, fits this disk
-abbrev pub KeptFits : Option Opened → DiskView → Type 0
-KeptFits kept disk = (opened : Opened) × (kept ≡ Some opened) × Fits opened disk
+abbrev pub KeptFits : Option Resting → DiskView → Type 0
+KeptFits kept disk = (opened : Resting) × (kept ≡ Some opened) × Fits opened disk
 
 -- what is seen of it from outside
 abbrev pub handle_of : {D : Type 0} {g : Ghosts D} → Updater D g → Handle

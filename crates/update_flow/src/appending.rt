@@ -23,7 +23,7 @@ ghost use Rattle.update_flow.specs.declared.fault.TheConstants.{LAST_CHANGE};
 use crate::due_text::load_due;
 use crate::fault::step_fault;
 use crate::ids::known_ids;
-use crate::maps::KeptMaps;
+use crate::maps::StoreTxn;
 use crate::settling::settle;
 use crate::{FlowFault, LAST_CHANGE};
 use geom_workers::Hands;
@@ -40,7 +40,7 @@ use update_step::change_maps;
 /// changes. Answers how the rows of the tables differ from then on.
 pub(crate) fn append<D: Disk, R: Threads + Sync, G: Gate>(
     hands: &Hands<'_, R, G>,
-    maps: &mut KeptMaps<'_, '_, D>,
+    maps: &mut StoreTxn<'_, '_, D>,
     style: &Style,
     bounds: &Bounds,
     change: &Change,

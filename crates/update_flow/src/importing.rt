@@ -14,7 +14,7 @@ ghost use Rattle.update_flow.specs.Within.{IsGoing};
 use crate::fault::step_fault;
 use crate::finishing::finish;
 use crate::ids::known_ids;
-use crate::maps::KeptMaps;
+use crate::maps::StoreTxn;
 use crate::style_text::store_style;
 use crate::{FlowFault, IMPORTED, IMPORTED_FORMAT};
 use bucket_store::Buckets;
@@ -32,7 +32,7 @@ use update_step::import_maps;
 /// commits them with the style's bytes.
 pub(crate) fn import<D: Disk, R: Threads + Sync, G: Gate>(
     hands: &Hands<'_, R, G>,
-    maps: &mut KeptMaps<'_, '_, D>,
+    maps: &mut StoreTxn<'_, '_, D>,
     style_bytes: &[u8],
     style: &Style,
     change: Change,

@@ -19,7 +19,7 @@ use crate::fault::store_fault;
 use crate::fields::{is_blank, is_imported, is_old};
 use crate::style_text::load_style;
 use crate::{FlowFault, Opened};
-use bucket_store::{Buckets, Opened as Stored};
+use bucket_store::{Buckets, Resting};
 use dep_closure::reaches_nodes;
 use osm_base::Limits;
 use outside::Disk;
@@ -53,7 +53,7 @@ fn judged<D: Disk>(
     alloc: Global,
     disk: &mut D,
     limits: &Limits,
-    found: Stored,
+    found: Resting,
 ) -> Result<Opened, FlowFault>
     ensures found { IfOk result (λ opened. Fits found (D.view disk.old) → (state : State) → HoldsState state (D.view disk.old)
         → Found state (D.view disk.new) opened) }
@@ -85,7 +85,7 @@ fn with_style<D: Disk>(
     alloc: Global,
     disk: &mut D,
     limits: &Limits,
-    found: Stored,
+    found: Resting,
     changes: u64,
     outdated: bool,
 ) -> Result<Opened, FlowFault>

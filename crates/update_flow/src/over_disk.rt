@@ -22,11 +22,11 @@ use crate::appending::append;
 use crate::clearing::clear;
 use crate::due_text::load_due;
 use crate::importing::import;
-use crate::maps::KeptMaps;
+use crate::maps::StoreTxn;
 use crate::migrating::migrate;
 use crate::reading::load_rows;
 use crate::{FlowFault, LAST_CHANGE};
-use bucket_store::{Buckets, Opened as Stored};
+use bucket_store::{Buckets, Resting};
 use geom_workers::Hands;
 use object_fold::Change;
 use osm_base::{Limits, RowChanges, Tables};
@@ -41,8 +41,8 @@ pub(crate) fn clear_on<D: Disk>(
     alloc: Global,
     disk: &mut D,
     limits: &Limits,
-    store: Stored,
-    kept: &mut Option<Stored>,
+    store: Resting,
+    kept: &mut Option<Resting>,
 ) -> Result<(), FlowFault>
     ensures turns { (held : Holding) → Fits store (D.view disk.old) → HoldsState (imported held) (D.view disk.old)
         → TurnsOn limits.now (imported held) Clear (result_err result) (D.view disk.old) (D.view disk.new) kept.new }
@@ -59,8 +59,8 @@ pub(crate) fn migrate_on<D: Disk>(
     alloc: Global,
     disk: &mut D,
     limits: &Limits,
-    store: Stored,
-    kept: &mut Option<Stored>,
+    store: Resting,
+    kept: &mut Option<Resting>,
 ) -> Result<(), FlowFault>
     ensures turns { (held : Holding) → Fits store (D.view disk.old) → HoldsState (outdated held) (D.view disk.old)
         → TurnsOn limits.now (outdated held) Migrate (result_err result) (D.view disk.old) (D.view disk.new) kept.new }
@@ -77,8 +77,8 @@ pub(crate) fn due_on<D: Disk>(
     alloc: Global,
     disk: &mut D,
     limits: &Limits,
-    store: Stored,
-    kept: &mut Option<Stored>,
+    store: Resting,
+    kept: &mut Option<Resting>,
 ) -> Result<TileRuns, FlowFault>
     ensures looks { (held : Holding) → Fits store (D.view disk.old) → HoldsState (imported held) (D.view disk.old)
         → LooksOn (imported held) (result_err result) (D.view disk.old) (D.view disk.new) kept.new }
@@ -98,8 +98,8 @@ pub(crate) fn rows_on<D: Disk>(
     alloc: Global,
     disk: &mut D,
     limits: &Limits,
-    store: Stored,
-    kept: &mut Option<Stored>,
+    store: Resting,
+    kept: &mut Option<Resting>,
     style: &Style,
     wanted: Option<u32>,
 ) -> Result<Tables, FlowFault>
@@ -121,8 +121,8 @@ pub(crate) fn import_on<D: Disk, R: Threads + Sync, G: Gate>(
     hands: &Hands<'_, R, G>,
     disk: &mut D,
     limits: &Limits,
-    store: Stored,
-    kept: &mut Option<Stored>,
+    store: Resting,
+    kept: &mut Option<Resting>,
     style_bytes: &[u8],
     style: &Style,
     change: Change,
@@ -134,7 +134,7 @@ pub(crate) fn import_on<D: Disk, R: Threads + Sync, G: Gate>(
     ensures ends { EndsOn (Some (Import style.now style_bytes.now buckets change)) (result_err result) (D.view disk.old) (D.view disk.new) kept.new }
 {
     let opened = Buckets::on(hands.alloc, disk, limits, store);
-    let mut maps = KeptMaps::over(hands.alloc, opened, style);
+    let mut maps = StoreTxn::over(hands.alloc, opened, style);
     let done = import(hands, &mut maps, style_bytes, style, change, buckets);
     let _disk = maps.close().hand_back(kept);
     done
@@ -145,8 +145,8 @@ pub(crate) fn append_on<D: Disk, R: Threads + Sync, G: Gate>(
     hands: &Hands<'_, R, G>,
     disk: &mut D,
     limits: &Limits,
-    store: Stored,
-    kept: &mut Option<Stored>,
+    store: Resting,
+    kept: &mut Option<Resting>,
     style: &Style,
     bounds: &Bounds,
     change: &Change,
@@ -164,7 +164,7 @@ pub(crate) fn append_on<D: Disk, R: Threads + Sync, G: Gate>(
     ensures ends { EndsOn (Some (Append bounds.now change.now)) (result_err result) (D.view disk.old) (D.view disk.new) kept.new }
 {
     let buckets = Buckets::on(hands.alloc, disk, limits, store);
-    let mut maps = KeptMaps::over(hands.alloc, buckets, style);
+    let mut maps = StoreTxn::over(hands.alloc, buckets, style);
     let told = append(hands, &mut maps, style, bounds, change, limits, number);
     let _disk = maps.close().hand_back(kept);
     told

@@ -14,7 +14,7 @@ mod migrating;
 mod turning;
 
 use crate::Opened;
-use bucket_store::Opened as Stored;
+use bucket_store::Resting;
 use osm_base::Limits;
 use outside::Disk;
 use std::alloc::Global;
@@ -26,7 +26,7 @@ pub struct Updater<'d, D: Disk> {
     disk: &'d mut D,
     alloc: Global,
     limits: Limits,
-    store: Option<Stored>,
+    store: Option<Resting>,
     changes: u64,
     style: Option<Style>,
     outdated: bool,

@@ -30,7 +30,7 @@ use Rattle.store_maps.specs.Named.{WaysAreThere, index_on}
 use Rattle.update_flow.specs.maps.Calls.{AreAsked, IsAllowed, IsLater, Keeps, WasRefused, buckets_of, faults_of, is_over, stop_of, style_in}
 use Rattle.update_flow.specs.maps.Held.{Beside, HasMaps}
 use Rattle.update_flow.specs.maps.Kept.{HoldsMaps}
-use Rattle.update_flow.specs.declared.maps.kept.KeptMaps.{KeptMaps}
+use Rattle.update_flow.specs.declared.maps.kept.StoreTxn.{StoreTxn}
 
 -- a call that was refused for the disk or for want of memory alone
 pub allowed_of : (fault : StoreFault) → Refuses (λ at. ⊥) fault → IsAllowed fault
@@ -79,7 +79,7 @@ module _ {D : Type 0} {g : Ghosts D} where
   looks_read old new stays later = record { looked = stays.looked; kept = stays.kept; later = later }
 
   -- maps that may be asked are those of a transaction that goes on
-  module _ (kept : KeptMaps D g) where
+  module _ (kept : StoreTxn D g) where
     pub over_fresh : stop_of kept ≡ None → is_spent (buckets_of kept) ≡ false → is_over kept ≡ false
     over_fresh none fresh = over_none (stop_of kept) (is_spent (buckets_of kept)) none fresh
 
@@ -99,10 +99,10 @@ module _ {D : Type 0} {g : Ghosts D} where
     over_some fresh = spent_some (buckets_of kept) (over_spent fresh)
 
   -- looks after looks
-  pub later_same : (kept : KeptMaps D g) → IsLater kept kept
+  pub later_same : (kept : StoreTxn D g) → IsLater kept kept
   later_same kept = record { looks = looks_same (buckets_of kept); reads = λ going. reads_none (buckets_of kept); same_style = refl }
 
-  pub later_then : (first old new : KeptMaps D g) → OnlyLooks (buckets_of old) (buckets_of new)
+  pub later_then : (first old new : StoreTxn D g) → OnlyLooks (buckets_of old) (buckets_of new)
       → (has_refused (buckets_of old) ≡ true → has_refused (buckets_of new) ≡ true)
       → (has_refused (buckets_of new) ≡ false → ReadsBuckets (buckets_of old) (buckets_of new)) → style_in new ≡ style_in old
       → IsLater first old → IsLater first new
@@ -114,10 +114,10 @@ module _ {D : Type 0} {g : Ghosts D} where
   }
 
   -- questions, one after another
-  pub are_asked_none : (kept : KeptMaps D g) → AreAsked [] kept kept
+  pub are_asked_none : (kept : StoreTxn D g) → AreAsked [] kept kept
   are_asked_none kept = record { asked = asked_none (buckets_of kept) (stop_of kept); same_style = refl }
 
-  pub are_asked_then : (before after : List Question) (first second third : KeptMaps D g) → AreAsked before first second
+  pub are_asked_then : (before after : List Question) (first second third : StoreTxn D g) → AreAsked before first second
       → AreAsked after second third → AreAsked (before ++ after) first third
   are_asked_then before after first second third once again = record {
     asked = asked_then before after (buckets_of first) (buckets_of second) (buckets_of third) (stop_of first) (stop_of second)
@@ -125,12 +125,12 @@ module _ {D : Type 0} {g : Ghosts D} where
     same_style = again.same_style ∙ once.same_style;
   }
 
-  pub was_fewer : (kept : KeptMaps D g) (fewer more : ℕ) (fault : StoreFault) → fewer ≤ more → WasRefused kept more fault
+  pub was_fewer : (kept : StoreTxn D g) (fewer more : ℕ) (fault : StoreFault) → fewer ≤ more → WasRefused kept more fault
       → WasRefused kept fewer fault
   was_fewer kept fewer more fault le was = bears_fewer (buckets_of kept) (stop_of kept) fewer more fault le was
 
   -- the index is that of the maps
-  pub keeps_index : (kept : KeptMaps D g) (under : Beside) (maps : Maps) → Keeps kept under maps → Knows (buckets_of kept) (index_on maps)
+  pub keeps_index : (kept : StoreTxn D g) (under : Beside) (maps : Maps) → Keeps kept under maps → Knows (buckets_of kept) (index_on maps)
   keeps_index kept under maps had = record {
     rest = under.rest;
     now = had.now;
@@ -141,8 +141,8 @@ module _ {D : Type 0} {g : Ghosts D} where
     index_is = refl;
   }
 
-  module _ (questions : List Question) (old new : KeptMaps D g) (are : AreAsked questions old new) where
-    pub asked_later : (first : KeptMaps D g) → IsLater first old → IsLater first new
+  module _ (questions : List Question) (old new : StoreTxn D g) (are : AreAsked questions old new) where
+    pub asked_later : (first : StoreTxn D g) → IsLater first old → IsLater first new
     asked_later first later = later_then first old new
         (looks_read (buckets_of old) (buckets_of new) are.asked.stays are.asked.later) are.asked.refused are.asked.reads are.same_style
         later
@@ -152,7 +152,7 @@ module _ {D : Type 0} {g : Ghosts D} where
         subst (λ (s : StyleOf). HasMaps s.tables under maps (buckets_of new)) (sym are.same_style)
         (maps_stay (style_in old).tables under maps (buckets_of old) (buckets_of new) (are.asked.has_still (over_whole new fresh)) had)
 
-    pub asked_refused : (first : KeptMaps D g) (refusal : StoreFault) → IsLater first old → WasRefused new (faults_of old) refusal
+    pub asked_refused : (first : StoreTxn D g) (refusal : StoreFault) → IsLater first old → WasRefused new (faults_of old) refusal
         → WasRefused new (faults_of first) refusal
     asked_refused first refusal later was = was_fewer new (faults_of first) (faults_of old) refusal later.looks.later was
 

@@ -15,13 +15,13 @@ use value_bytes::StoreMap;
 
 /// The maps of an open store, within a transaction, with rows of a style.
 #[derive(Drop)]
-pub(crate) struct KeptMaps<'d, 's, D: Disk> {
+pub(crate) struct StoreTxn<'d, 's, D: Disk> {
     pub indexed: Indexed<'d, D>,
     style: &'s Style,
     alloc: Global,
 }
 
-impl<'d, 's, D: Disk> KeptMaps<'d, 's, D> {
+impl<'d, 's, D: Disk> StoreTxn<'d, 's, D> {
     ghost use Rattle.update_flow.specs.maps.Calls.{buckets_of, stop_of, style_in};
 
     /// The maps in these buckets, with rows of this style.
@@ -50,7 +50,7 @@ impl<'d, 's, D: Disk> KeptMaps<'d, 's, D> {
     }
 }
 
-impl<D: Disk> Back for KeptMaps<'_, '_, D> {
+impl<D: Disk> Back for StoreTxn<'_, '_, D> {
     ghost use Rattle.back_index.specs.Index.{Knows};
     ghost use Rattle.update_flow.specs.maps.Calls.{AreAsked, WasRefused, buckets_of, faults_of, is_over};
     ghost use Rattle.update_flow.specs.maps.Laws.{are_asked_none, are_asked_then, was_fewer};
@@ -86,7 +86,7 @@ impl<D: Disk> Back for KeptMaps<'_, '_, D> {
     ghost asks_then = { λ first second third before after once again. are_asked_then before after first second third once again };
 }
 
-impl<D: Disk> MapStore for KeptMaps<'_, '_, D> {
+impl<D: Disk> MapStore for StoreTxn<'_, '_, D> {
     ghost use Rattle.back_index.specs.Reads.{HasReadOnly};
     ghost use Rattle.update_flow.specs.maps.Calls.{IsAllowed, IsLater, Keeps, buckets_of, style_in};
     ghost use Rattle.update_flow.specs.maps.Held.{Beside};

@@ -4,7 +4,7 @@ use Rattle.page_journal.proofs.ReadCounts.{reads_more, reads_then}
 use Rattle.chain_store.specs.Kept.{page_total}
 use Rattle.bucket_store.proofs.Reopened.{goes_meant, holds_found, image_state, kept_formatted, rests_stays, sound_kept, sound_open}
 use Rattle.bucket_store.specs.Opening.{MeansOne}
-use Rattle.bucket_store.specs.declared.opened.Opened.{Opened}
+use Rattle.bucket_store.specs.declared.resting.Resting.{Resting}
 use Rattle.page_journal.proofs.Moments.{goes_stays, stays_then}
 use Rattle.page_journal.specs.declared.fault.StoreFault.TheVariants.{NotFormatted}
 use Rattle.chain_store.specs.declared.kept.Kept.{Kept}
@@ -14,7 +14,7 @@ use Rattle.bucket_store.proofs.opening.open.Goals as goal
 pub returns-in-Err-clause-image : goal.returns-in-Err-clause-image
 returns-in-Err-clause-image g c = record {
   found = tt;
-  sound = λ bytes told image has. sound_open Opened c.in-Err.fault bytes has.state.pages has.state.home
+  sound = λ bytes told image has. sound_open Resting c.in-Err.fault bytes has.state.pages has.state.home
       (c.in-Err.ensures.answers bytes told);
   any_moment = λ bytes told meant.
       goes_meant (g.D.Disk.view c.args.disk.now).crashes (g.D.Disk.view c.open.new.disk).crashes meant
@@ -26,9 +26,9 @@ returns-in-Err-clause-leaves g c =
     let done = c.in-Err.ensures.opens in
     record {
       looked = c.open.ensures.opens.looked;
-      refused = λ is. done.refused (err_of Opened ℕ c.in-Err.fault NotFormatted is);
+      refused = λ is. done.refused (err_of Resting ℕ c.in-Err.fault NotFormatted is);
       told = done.told;
-      cause = cause_of ℕ Opened _ _ c.in-Err.fault done.cause;
+      cause = cause_of ℕ Resting _ _ c.in-Err.fault done.cause;
     }
 
 pub returns-in-Ok-kept_on-clause-fits : goal.returns-in-Ok-kept_on-clause-fits
@@ -77,7 +77,7 @@ returns-in-Err-kept_on-clause-image g c =
       found = tt;
       sound = λ bytes told image has.
           let done = c.in-Ok.ensures.done bytes told in
-          sound_kept image.root has.strings done.0 (image_state image bytes done.0 has done.1) Opened c.in-Err-kept_on.fault
+          sound_kept image.root has.strings done.0 (image_state image bytes done.0 has done.1) Resting c.in-Err-kept_on.fault
           (c.in-Err-kept_on.ensures.answers done.0 done.3 done.2) c.in-Err-kept_on.ensures.alone;
       any_moment = λ bytes told meant.
           goes_stays (MeansOne old) old mid new (goes_meant old mid.crashes meant (c.open.ensures.any_moment bytes told))
@@ -90,7 +90,7 @@ returns-in-Err-kept_on-clause-leaves g c =
     let mid = g.D.Disk.view c.open.new.disk in
     let new = g.D.Disk.view c.kept_on.new.disk in
     let fault = c.in-Err-kept_on.fault in
-    let cause = cause_of Kept Opened _ _ fault c.in-Err-kept_on.ensures.cause in
+    let cause = cause_of Kept Resting _ _ fault c.in-Err-kept_on.ensures.cause in
     record {
       looked = λ bytes told shut. stays_then old mid new (c.open.ensures.opens.looked bytes told shut) c.kept_on.ensures.stays;
       refused = λ is. absurd (kept_formatted fault c.in-Err-kept_on.ensures.alone is);

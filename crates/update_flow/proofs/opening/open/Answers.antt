@@ -12,7 +12,7 @@ use Rattle.page_journal.specs.declared.layout.TheConstants.{OPEN}
 use Rattle.bucket_store.specs.Image.{IsSoundAnswer}
 use Rattle.chain_store.specs.declared.root.Root.{Root}
 use Rattle.bucket_store.specs.Opening.{Fits, opened_root}
-use Rattle.bucket_store.specs.declared.opened.Opened.{Opened as Stored}
+use Rattle.bucket_store.specs.declared.resting.Resting.{Resting}
 use Rattle.update_flow.specs.AtRest.{IsAt, IsOfEither}
 use Rattle.update_flow.specs.Opening.{Found, HoldsState, RootTells}
 use Rattle.update_flow.specs.Roots.{AreFieldsOf}
@@ -85,15 +85,15 @@ returns-in-Err-clause-any g c = record {
   untouched = search rules;
   told = λ told no.
       c.in-Err.ensures.leaves.told told.0 told.1
-      (quiet_fault Stored c.in-Err.fault (subst (λ (f : FlowFault). IsNoDiskFault (Some f)) c.store_fault.ensures no));
+      (quiet_fault Resting c.in-Err.fault (subst (λ (f : FlowFault). IsNoDiskFault (Some f)) c.store_fault.ensures no));
   bad = λ page is bytes told. record {
     formed =
         let own : c.store_fault.result ≡ flow.Store (store.BadStore page) = cc (is) in
-        bad_formed Stored bytes page c.in-Err.fault (sym c.store_fault.ensures ∙ own) (c.in-Err.ensures.answers bytes told);
+        bad_formed Resting bytes page c.in-Err.fault (sym c.store_fault.ensures ∙ own) (c.in-Err.ensures.answers bytes told);
     none = λ state stands.
         let sound : IsSound (Some c.store_fault.result) =
         subst (λ (f : FlowFault). IsSound (Some f)) (sym c.store_fault.ensures)
-        (sound_store Stored c.in-Err.fault (c.in-Err.ensures.image.sound bytes told stands.0 stands.2)) in
+        (sound_store Resting c.in-Err.fault (c.in-Err.ensures.image.sound bytes told stands.0 stands.2)) in
         bad_none Opened (Err c.store_fault.result) page is sound;
   };
   same = λ bytes told shut. (c.open.ensures.leaves.looked bytes told (λ (opened : HasOpenJournal bytes). shut opened.is_open)).content;
@@ -151,7 +151,7 @@ unfolding StandsFor
 returns-in-Err-clause-reads g c = λ bytes state told stands.
     let sound : IsSound (Some c.store_fault.result) =
     subst (λ (f : FlowFault). IsSound (Some f)) (sym c.store_fault.ensures)
-    (sound_store Stored c.in-Err.fault (c.in-Err.ensures.image.sound bytes told stands.0 stands.2)) in
+    (sound_store Resting c.in-Err.fault (c.in-Err.ensures.image.sound bytes told stands.0 stands.2)) in
     record { answer = sound_answer (Some c.store_fault.result) sound; found = λ none. absurd (cc) }
 
 pub returns-in-Err-clause-opens : goal.returns-in-Err-clause-opens
@@ -161,13 +161,13 @@ returns-in-Err-clause-opens g c = λ one other either.
     let new = g.D.Disk.view c.open.new.disk in
     let bytes = either.told.0 in
     let told = either.told.1 in
-    let meant : IsSoundAnswer {T = Stored} (Err c.in-Err.fault) =
+    let meant : IsSoundAnswer {T = Resting} (Err c.in-Err.fault) =
     elim (either.only bytes (g.met.D.Disk.reads_stay c.args.disk.now bytes told)) [
       | inl stands ↦ c.in-Err.ensures.image.sound bytes told stands.0 stands.2
       | inr stands ↦ c.in-Err.ensures.image.sound bytes told stands.0 stands.2
     ] in
     let sound : IsSound (Some c.store_fault.result) =
-    subst (λ (f : FlowFault). IsSound (Some f)) (sym c.store_fault.ensures) (sound_store Stored c.in-Err.fault meant) in
+    subst (λ (f : FlowFault). IsSound (Some f)) (sym c.store_fault.ensures) (sound_store Resting c.in-Err.fault meant) in
     record {
       answer = sound_answer (Some c.store_fault.result) sound;
       found = λ none. absurd {A = IsAt one new ⊎ IsAt other new} (cc);

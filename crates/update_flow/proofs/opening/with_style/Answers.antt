@@ -5,7 +5,7 @@ use Rattle.chain_store.specs.Chains.{disk_of}
 use Rattle.bucket_store.specs.Image.{Image, RestsAt}
 use Rattle.bucket_store.specs.Opening.{Fits}
 use Rattle.bucket_store.specs.Transaction.{chains_of}
-use Rattle.bucket_store.specs.declared.opened.Opened.{Opened}
+use Rattle.bucket_store.specs.declared.resting.Resting.{Resting}
 use Rattle.row_map.specs.Condition.{reaches_nodes}
 use Rattle.update_flow.specs.OpeningReads.{ReadsStyle}
 use Rattle.update_flow.specs.State.{was_old}
@@ -18,7 +18,7 @@ pub returns-clause-found : goal.returns-clause-found
 returns-clause-found g c = λ before state holds begun.
     let after = c.load_style-read.new.buckets in
     let fits : (image : Image) → RestsAt image after → Fits c.in-Some.store (disk_of (chains_of after)) =
-    subst (λ (o : Option Opened). IfSome o (λ opened. (image : Image) → RestsAt image after → Fits opened (disk_of (chains_of after))))
+    subst (λ (o : Option Resting). IfSome o (λ opened. (image : Image) → RestsAt image after → Fits opened (disk_of (chains_of after))))
     c.in-Some.is
     c.hand_back-disk.ensures.fits in
     let own = found_styled c.on-buckets.result after c.args.disk.now c.hand_back-disk.result.now c.on-buckets.ensures.disk

@@ -1,4 +1,4 @@
-use Rattle.std.proofs.Common.{◌∙◌, refl}
+use Rattle.std.proofs.Common.{rules, ◌∙◌, refl}
 use Rattle.outside.specs.Tape.{Medium}
 use Rattle.outside.specs.Recorded.{first_bytes}
 use Rattle.outside.proofs.recorded.Recorded.sync.Goals as goal
@@ -7,5 +7,10 @@ pub invariant_of-self-clause-kept : goal.invariant_of-self-clause-kept
 invariant_of-self-clause-kept c =
     c.note.ensures.idle (λ (medium : Medium). refl) (first_bytes c.args.self.now.start c.args.self.now.bytes.items) ∙ c.args.self.now.kept
 
-pub returns-clause-time : goal.returns-clause-time
-returns-clause-time c = c.note.ensures.time (first_bytes c.args.self.now.start c.args.self.now.bytes.items)
+pub returns-clause-keeps : goal.returns-clause-keeps
+returns-clause-keeps c = record {
+  kept = search rules;
+  lost = search rules;
+  start = search rules;
+  time = c.note.ensures.time (first_bytes c.args.self.now.start c.args.self.now.bytes.items);
+}

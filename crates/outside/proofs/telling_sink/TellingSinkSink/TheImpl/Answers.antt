@@ -9,8 +9,7 @@ untold (Err error) new piece = tt
 
 pub put-tells : goal.put-tells
 put-tells g c = record {
-  least = c.ensures.least;
-  bound = c.ensures.bound;
+  some = c.ensures.some;
   bytes = untold c.result None c.args.piece.now;
   cause = c.ensures.cause;
 }

@@ -5,7 +5,7 @@ use Rattle.update_flow.specs.maps.Calls.{buckets_of, style_in}
 use Rattle.update_flow.proofs.Findings.{touched_index}
 use Rattle.update_flow.proofs.Keeping.{allowed_sound, over_ready, sets_done, sets_stopped}
 use Rattle.update_flow.proofs.Settings.{relist_sound, relists_set}
-use Rattle.update_flow.proofs.maps.kept.KeptMapsMapStore.relist.Goals as goal
+use Rattle.update_flow.proofs.maps.kept.StoreTxnMapStore.relist.Goals as goal
 
 pub relist-requires : goal.relist-requires
 relist-requires g c = record { ready = over_ready c.args.self.now c.requires.spent }

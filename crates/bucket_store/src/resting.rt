@@ -6,7 +6,7 @@ use chain_store::{Kept, Root};
 
 /// What was read of a store when it was opened. The disk and this are the open store.
 #[derive(Drop)]
-pub struct Opened {
+pub struct Resting {
     pub(crate) pages: u64,
     pub(crate) kept: Kept,
     ghost some: { 2 ≤ pages },
@@ -14,7 +14,7 @@ pub struct Opened {
     ghost inside: { AreAllBehindRoot pages kept.directories.items },
 }
 
-impl Opened {
+impl Resting {
     ghost use Rattle.bucket_store.specs.Opening.{opened_root};
 
     /// The fields of the store.

@@ -4,14 +4,14 @@ use Rattle.back_index.specs.Calls.{page_in}
 use Rattle.update_flow.specs.maps.Calls.{buckets_of}
 use Rattle.update_flow.proofs.Findings.{list_allowed, list_found, touched_index}
 use Rattle.update_flow.proofs.Keeping.{looks_done, looks_stopped, over_ready}
-use Rattle.update_flow.proofs.maps.kept.KeptMapsMapStore.around_node.Goals as goal
+use Rattle.update_flow.proofs.maps.kept.StoreTxnMapStore.along_way.Goals as goal
 
 pub listers-requires : goal.listers-requires
 listers-requires g c = record { ready = over_ready c.args.self.now c.requires }
 
 pub returns-in-Ok-clause-ids : goal.returns-in-Ok-clause-ids
 returns-in-Ok-clause-ids g c under maps had =
-    list_found had.now 4 c.args.id maps.relations_of_nodes had.kept.relations_of_nodes c.in-Ok.ids
+    list_found had.now 5 c.args.id maps.relations_of_ways had.kept.relations_of_ways c.in-Ok.ids
     (c.in-Ok.ensures.ids.are under.rest had.now had.has)
 
 pub returns-in-Ok-clause-looks : goal.returns-in-Ok-clause-looks
@@ -27,6 +27,6 @@ returns-in-Err-clause-looks g c =
     (touched_index (buckets_of c.args.self.now) c.listers.new.buckets {T = List ℕ}
     (Err c.in-Err.fault) c.in-Err.ensures.asks.touches.answers tt)
     (λ under maps had.
-    list_allowed had.now 4 c.args.id maps.relations_of_nodes had.kept.relations_of_nodes
-    (page_in (buckets_of c.args.self.now) 4 c.args.id) c.in-Err.fault
+    list_allowed had.now 5 c.args.id maps.relations_of_ways had.kept.relations_of_ways
+    (page_in (buckets_of c.args.self.now) 5 c.args.id) c.in-Err.fault
     (c.in-Err.ensures.asks.touches.stops under.rest had.now had.has))

@@ -8,7 +8,7 @@ use Rattle.update_flow.specs.maps.Laws.{over_going}
 use Rattle.update_flow.proofs.Findings.{record_found, record_sound, told_err, told_ok, touched_key}
 use Rattle.update_flow.proofs.Keeping.{allowed_sound, looks_done, looks_stopped, over_ready}
 use Rattle.update_flow.proofs.Within.{within_touched}
-use Rattle.update_flow.proofs.maps.kept.KeptMapsMapStore.place.Goals as goal
+use Rattle.update_flow.proofs.maps.kept.StoreTxnMapStore.place.Goals as goal
 
 pub get-requires : goal.get-requires
 get-requires g c = record { ready = over_ready c.args.self.now c.requires }

@@ -10,7 +10,7 @@ use Rattle.update_flow.specs.maps.Laws.{over_going}
 use Rattle.update_flow.proofs.Findings.{form_finds, node_form, touched_key, touched_none}
 use Rattle.update_flow.proofs.Keeping.{allowed_sound, looks_done, looks_stopped, over_ready}
 use Rattle.update_flow.proofs.Within.{object_allowed, within_touched}
-use Rattle.update_flow.proofs.maps.kept.KeptMapsMapStore.form.Goals as goal
+use Rattle.update_flow.proofs.maps.kept.StoreTxnMapStore.form.Goals as goal
 
 pub returns-in-Node-clause-form : goal.returns-in-Node-clause-form
 returns-in-Node-clause-form g c under maps had =

@@ -3,7 +3,7 @@ use Rattle.std.proofs.Common.{Option, refl}
 use Rattle.osm_base.specs.declared.values.object.Object.{Object}
 use Rattle.update_flow.specs.maps.Calls.{style_in}
 use Rattle.update_flow.proofs.Keeping.{allowed_sound, looks_done, looks_stopped, over_ready}
-use Rattle.update_flow.proofs.maps.kept.KeptMapsMapStore.object.Goals as goal
+use Rattle.update_flow.proofs.maps.kept.StoreTxnMapStore.object.Goals as goal
 
 pub find_object-requires : goal.find_object-requires
 find_object-requires g c = record { ready = over_ready c.args.self.now c.requires }

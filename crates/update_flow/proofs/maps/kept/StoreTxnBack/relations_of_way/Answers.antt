@@ -4,7 +4,7 @@ use Rattle.back_index.specs.Index.{is_spent}
 use Rattle.back_index.proofs.Reading.{on_ok}
 use Rattle.update_flow.specs.maps.Laws.{neither_over, over_spent}
 use Rattle.update_flow.proofs.Keeping.{fresh_asked}
-use Rattle.update_flow.proofs.maps.kept.KeptMapsBack.relations_of_way.Goals as goal
+use Rattle.update_flow.proofs.maps.kept.StoreTxnBack.relations_of_way.Goals as goal
 
 pub relations_of_way-requires : goal.relations_of_way-requires
 relations_of_way-requires g c = over_spent c.args.self.now c.requires

@@ -4,7 +4,7 @@ use Rattle.update_flow.specs.maps.Calls.{buckets_of, style_in}
 use Rattle.update_flow.proofs.Filled.{fill_sound, fills_set}
 use Rattle.update_flow.proofs.Findings.{touched_index}
 use Rattle.update_flow.proofs.Keeping.{allowed_sound, over_ready, sets_done, sets_stopped}
-use Rattle.update_flow.proofs.maps.kept.KeptMapsMapStore.list_all.Goals as goal
+use Rattle.update_flow.proofs.maps.kept.StoreTxnMapStore.list_all.Goals as goal
 
 pub fill-requires : goal.fill-requires
 fill-requires g c = record { ready = over_ready c.args.self.now c.requires }

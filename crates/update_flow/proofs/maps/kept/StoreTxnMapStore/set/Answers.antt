@@ -6,7 +6,7 @@ use Rattle.update_flow.specs.maps.Calls.{Keeps, buckets_of, style_in}
 use Rattle.update_flow.specs.maps.Held.{HasMaps}
 use Rattle.update_flow.proofs.Findings.{told_err, told_ok}
 use Rattle.update_flow.proofs.Keeping.{allowed_sound, over_ready, sets_done, sets_stopped}
-use Rattle.update_flow.proofs.maps.kept.KeptMapsMapStore.set.Goals as goal
+use Rattle.update_flow.proofs.maps.kept.StoreTxnMapStore.set.Goals as goal
 
 pub put_object-requires-clause-ready : goal.put_object-requires-clause-ready
 put_object-requires-clause-ready g c = over_ready c.args.self.now c.requires.spent

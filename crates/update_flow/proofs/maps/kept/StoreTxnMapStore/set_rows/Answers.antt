@@ -1,7 +1,7 @@
 -- What the call on the buckets answers is what the maps answer.
 use Rattle.std.proofs.Common.{refl}
 use Rattle.update_flow.proofs.Keeping.{allowed_sound, over_ready, sets_done, sets_stopped}
-use Rattle.update_flow.proofs.maps.kept.KeptMapsMapStore.set_rows.Goals as goal
+use Rattle.update_flow.proofs.maps.kept.StoreTxnMapStore.set_rows.Goals as goal
 
 pub keep_rows-requires-clause-ready : goal.keep_rows-requires-clause-ready
 keep_rows-requires-clause-ready g c = over_ready c.args.self.now c.requires.spent
