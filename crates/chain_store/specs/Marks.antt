@@ -1,5 +1,5 @@
 -- Which pages of a chain keep their bytes: a mark for each page, 1 where it has the same bytes as before.
-use Rattle.std.specs.Prelude.{◌≡◌, ℕ, zero, suc, List, [], ◌∷◌, cond, length}
+use Rattle.std.specs.Prelude.{◌≡◌, ℕ, zero, suc, List, [], ◌∷◌, Option, None, Some, cond, length}
 use Rattle.std.specs.Str.{bytes_eq}
 use Rattle.chain_store.specs.Parts.{first_held, later_held, pages_for}
 
@@ -15,6 +15,11 @@ same_from (suc many) before bytes = mark_of (first_held before) (first_held byte
 -- those of all its pages
 unfoldable pub same_pages : List ℕ → List ℕ → List ℕ
 same_pages before bytes = same_from (pages_for (length bytes)) before bytes
+
+-- those where the bytes before are known; else none
+abbrev pub marks_over : Option (List ℕ) → List ℕ → List ℕ
+marks_over None bytes = []
+marks_over (Some before) bytes = same_pages before bytes
 
 -- only pages that keep their bytes are marked
 abbrev pub AreSame : List ℕ → List ℕ → List ℕ → Type 0

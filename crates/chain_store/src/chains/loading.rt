@@ -1,10 +1,11 @@
 //! Chains are read, and what they are to have is noted.
-ghost use Rattle.std.specs.Prelude.{◌≡◌, ◌*◌, ◌⊎◌, ◌<◌, List, ℕ, None, Some, false, is_err, IfOk, IfSome, IsSome, OnOk};
+ghost use Rattle.std.specs.Prelude.{◌≡◌, ◌*◌, ◌⊎◌, ◌<◌, ◌≤◌, List, ℕ, None, Some, false, is_err, IfOk, IfSome, IsSome, OnOk};
 ghost use Rattle.std.specs.FinMap as map;
 ghost use Rattle.std.specs.Option.{IsNone};
 ghost use Rattle.page_journal.specs.Journal.{home_count};
 ghost use Rattle.chain_store.specs.Directories.{IsChain, IsString};
 ghost use Rattle.chain_store.specs.Known.{ReadsChain};
+ghost use Rattle.chain_store.specs.Marks.{marks_over, same_pages};
 
 use super::Chains;
 use crate::layout::BUCKET;
@@ -79,6 +80,7 @@ impl<'d, D: Disk> Chains<'d, D> {
     fn marks(&self, n: u32, bytes: &Bytes) -> Result<Bytes, OutOfMemory>
         ensures marked { IfOk result (λ same. (pages : List (List ℕ)) → IsOpen pages self.now
             → IsMarked pages n (first_of self.now n) same bytes.now) }
+        ensures exact { IfOk result (λ same. same ≡ marks_over (map.get (texts_of self.now) n) bytes.now) }
     {
         match self.texts.get(n) {
             Some(text) => same_pages(self.alloc, text.as_slice(), bytes.as_slice()),
@@ -91,6 +93,7 @@ impl<'d, D: Disk> Chains<'d, D> {
         ensures marked { IfOk result (λ same. (pages : List (List ℕ)) → IsOpen pages self.now
             → LoadedIs pages n (first_of self.now n) (map.get (written_of self.now) n) before
             → IsMarked pages n (first_of self.now n) same bytes.now) }
+        ensures exact { map.get (written_of self.now) n ≡ None → IfOk result (λ same. same ≡ same_pages before bytes.now) }
     {
         if self.written.get(n).is_some() {
             return self.marks(n, bytes);
@@ -203,6 +206,7 @@ fn hold(
 ) -> Result<(), OutOfMemory>
     ensures held { OnOk result (n < 16 → IsSome (map.get texts.new n)) }
     ensures more { (texts.new ≡ map.insert texts.old n bytes.now) ⊎ (texts.new ≡ texts.old) }
+    ensures none { 16 ≤ n → texts.new ≡ texts.old }
 {
     if n >= BUCKET {
         return Ok(());

@@ -1,5 +1,5 @@
 -- What a chain has that was not written is what stands in the store.
-use Rattle.std.proofs.Common.{◌≡◌, List, ℕ, Bool, false, Option, Some, None, Bor, refl, sym, subst, ◌∙◌}
+use Rattle.std.proofs.Common.{◌≡◌, List, ℕ, Bool, false, Option, Some, None, Bor, ap, refl, sym, subst, ◌∙◌}
 use Rattle.std.specs.Option.{is_some, option_copied}
 use Rattle.std.specs.FinMap as map
 use Rattle.chain_store.specs.Chains.{IsMarked, IsOpen, LoadedIs, first_of, written_of}
@@ -27,5 +27,11 @@ returns g c =
           c.as_slice.result.now c.as_slice-2.result.now
           (subst (λ (o : Option (List ℕ)). LoadedIs pages c.args.n (first_of self c.args.n) o c.args.before) none loaded)
           c.as_slice.ensures.items c.as_slice-2.ensures.items is)
+          c.same_pages.ensures;
+      exact = λ unwritten. on_value (λ (same : List ℕ). same ≡ same_pages c.as_slice.result.now c.as_slice-2.result.now)
+          (λ (same : List ℕ). same ≡ same_pages c.args.before c.args.bytes.now)
+          c.same_pages.result
+          (λ same is. is ∙ ap (λ (l : List ℕ). same_pages l c.as_slice-2.result.now) c.as_slice.ensures.items
+          ∙ ap (λ (l : List ℕ). same_pages c.args.before l) c.as_slice-2.ensures.items)
           c.same_pages.ensures;
     }
