@@ -124,7 +124,7 @@ impl<'d, D: Disk> Chains<'d, D> {
         self.refused = false;
     }
 
-    /// How many home pages the store has.
+    /// How many home pages the store has. For callers outside: the program does not use it.
     pub fn pages(&self) -> u64
         ensures { result ≡ home_count (journal_of self.now) }
     {

@@ -18,6 +18,7 @@ use tile_cover::{MAX_ZOOM, Run, TileRuns};
 
 /// Writes a line for each tile of a set and each tile above one, from a least zoom on, by zoom, column
 /// and row. After a fault the output has taken some front of the text.
+/// For callers outside: the program does not use it.
 pub fn write_tiles<S: Sink>(
     alloc: Global,
     runs: &TileRuns,

@@ -32,6 +32,7 @@ struct Search<'g> {
 
 impl Grid {
     /// The keys of a table whose boxes are wide or share a cell with the asked one, rising.
+    /// For callers outside: the program does not use it.
     pub fn candidates(
         &self,
         alloc: Global,

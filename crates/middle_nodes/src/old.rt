@@ -16,6 +16,7 @@ use std::alloc::Global;
 use value_bytes::{StoreMap, ValueFault, read_whole};
 
 /// What a store of the old format keeps of a node, which is its place. `None`: nothing.
+/// For callers outside: the program does not use it.
 pub fn get_old<D: Disk>(
     alloc: Global,
     buckets: &mut Buckets<'_, D>,

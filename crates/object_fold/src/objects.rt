@@ -77,6 +77,7 @@ impl Objects {
     }
 
     /// What the entries of a change say is so from now on. After `Err` some first of them were taken.
+    /// For callers outside: the program does not use it.
     pub fn fold(&mut self, change: Change) -> Result<(), OutOfMemory>
         ensures ok { OnOk result (self.new ≡ folded_all self.old change) }
         ensures err { OnErr result ((count : ℕ) × (self.new ≡ folded_all self.old (take count change))) }

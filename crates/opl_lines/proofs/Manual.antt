@@ -1,6 +1,6 @@
 -- What the manual says of lines, on files that are written out.
 -- osmium manual, "OPL File Format": each line contains one object; lines are separated by a newline.
-use Rattle.std.proofs.Common.{◌≡◌, [], ◌∷◌, refl}
+use Rattle.std.proofs.Common.{◌≡◌, [], ◌∷◌, ◌++◌, refl}
 use Rattle.std.specs.Prelude.{codes}
 use Rattle.opl_lines.specs.Lines.{lines_of}
 
@@ -31,7 +31,8 @@ returns = refl
 
 -- one object a line: two nodes with their metadata and tags, as osmium writes them
 objects : lines_of
-    (codes "n1 v3 dV c101 t2024-05-01T10:00:00Z i7 uanna Tamenity=cafe x13.3777 y52.5163\nn2 v1 dV c100 t2024-05-01T09:00:00Z i7 uanna T x13.378 y52.5163\n")
+    (codes "n1 v3 dV c101 t2024-05-01T10:00:00Z i7 uanna Tamenity=cafe x13.3777 y52.5163\n"
+    ++ codes "n2 v1 dV c100 t2024-05-01T09:00:00Z i7 uanna T x13.378 y52.5163\n")
     ≡ codes "n1 v3 dV c101 t2024-05-01T10:00:00Z i7 uanna Tamenity=cafe x13.3777 y52.5163"
     ∷ codes "n2 v1 dV c100 t2024-05-01T09:00:00Z i7 uanna T x13.378 y52.5163" ∷ []
 unfolding lines_of

@@ -21,7 +21,7 @@ pub fn shared_numbers()
     ensures newline { NEWLINE ≡ 10 }
 {}
 
-/// What `take` did with a piece.
+/// What `take` did with a piece. For callers outside: the program does not use it.
 #[derive(Clone, Copy)]
 pub struct Taken {
     /// How many bytes of the piece were taken.
@@ -140,6 +140,7 @@ impl LineReader {
     }
 
     /// The number of the line that ended last, from 1; 0 before the first.
+    /// For callers outside: the program does not use it.
     pub fn number(&self) -> u64
         ensures number { result ≡ self.now.number }
     {
@@ -155,7 +156,7 @@ impl LineReader {
     }
 
     /// Takes bytes up to and with the first newline, or all of the piece. The next call after a
-    /// whole line begins a new one.
+    /// whole line begins a new one. For callers outside: the program does not use it.
     pub fn take(&mut self, piece: &[u8]) -> Result<Taken, LineFault>
         requires some { 0 < length piece.now }
         ensures ok { IfOk result (λ taken. Takes self.old self.new piece.now taken.used

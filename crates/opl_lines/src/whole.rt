@@ -9,6 +9,7 @@ use osm_base::Limits;
 use std::alloc::Global;
 
 /// The lines of a file that comes in these pieces, or the limit that its lines pass first.
+/// For callers outside: the program does not use it.
 pub fn lines_in(alloc: Global, limits: &Limits, pieces: &[&[u8]]) -> Result<Vec<Vec<u8>>, LineFault>
     ensures lines { IfOk result (λ lines. texts lines.items ≡ lines_of (flat_map (λ piece. piece.now) pieces.now)) }
     ensures within { OnOk result (limit_passed limits.now.line_bytes limits.now.lines

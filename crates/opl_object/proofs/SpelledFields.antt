@@ -155,7 +155,8 @@ letter_of_is kind byte letter e =
                             (cond (eqb byte 117) (Some User) (cond (eqb byte 84) (Some Tags) (own_letter kind byte))) refl tt e4) [
                               | inl found ↦ found
                               | inr e5 ↦
-                                  elim (tested kind byte 117 User letter (cond (eqb byte 84) (Some Tags) (own_letter kind byte)) refl tt e5) [
+                                  elim (tested kind byte 117 User letter
+                                  (cond (eqb byte 84) (Some Tags) (own_letter kind byte)) refl tt e5) [
                                     | inl found ↦ found
                                     | inr e6 ↦
                                         elim (tested kind byte 84 Tags letter (own_letter kind byte) refl tt e6) [

@@ -46,6 +46,7 @@ pub fn read_line(alloc: Global, line: &[u8]) -> Result<Option<Entry>, LineRefuse
 }
 
 /// The same, each value cut off and read by itself: what `read_line` is compared with.
+/// For callers outside: the program does not use it.
 pub fn read_line_exactly(alloc: Global, line: &[u8]) -> Result<Option<Entry>, LineRefused>
     ensures exact { Gives (λ entry. entry) result (reading line.now) }
 {

@@ -17,7 +17,7 @@ use osm_base::{DegreesBuffer, Entry, Member, Object, Place, Tags};
 use outside::{Failed, Sink, put_all};
 
 /// Writes the line of an entry, which `read_line` reads as the same entry. After `Failed` the sink has taken
-/// some front of it.
+/// some front of it. For callers outside: the program does not use it.
 pub fn write_entry<S: Sink>(entry: &Entry, out: &mut S) -> Result<(), Failed>
     requires { IsWritable entry.now }
     ensures ok { OnOk result (Appends (S.view out.old).taken (S.view out.new).taken (entry_text entry.now)) }

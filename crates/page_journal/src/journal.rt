@@ -31,7 +31,7 @@ impl<'d, D: Disk> Journal<'d, D> {
     ghost use Rattle.page_journal.specs.JournalCalls.{KeepsJournal, LooksAtJournal};
 
     /// Opens the store on this disk. It is the call of `open`, which says what a refusal leaves on the
-    /// disk, and then `over`.
+    /// disk, and then `over`. For callers outside: the program does not use it.
     pub fn attach(disk: &'d mut D, limits: &Limits) -> Result<Self, StoreFault>
         ensures same_disk { IfOk result (λ journal. loan_of journal ≡ disk.entry.ghost_name) }
         ensures answers { (bytes : List ℕ) → Tells (D.view disk.entry.now) bytes
@@ -100,6 +100,7 @@ impl<'d, D: Disk> Journal<'d, D> {
     }
 
     /// Whether the set may be committed, so that there are `home` home pages from then on.
+    /// For callers outside: the program does not use it.
     pub fn can_commit(&self, set: &PageSet, home: u64) -> bool
         ensures { IsTrue result ↔ CanCommit set.now (home_count self.now) home }
     {

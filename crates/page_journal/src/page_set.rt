@@ -54,6 +54,7 @@ impl PageSet {
     }
 
     /// Whether a commit may write the set over so many home pages, so that there are `home` from then on.
+    /// For callers outside: the program does not use it.
     pub fn can_commit(&self, count: u64, home: u64) -> bool
         ensures { IsTrue result ↔ CanCommit self.now count home }
     {

@@ -30,6 +30,7 @@ impl Model for Drawn {
 
 impl Drawn {
     /// How many draws were made of the book, those that gave no ticket too.
+    /// For callers outside: the program does not use it.
     pub fn draws(&self) -> u64
         ensures draws { result ≡ self.now.draws }
         ensures tickets { self.now.tickets ≤ result }

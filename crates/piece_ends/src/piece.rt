@@ -40,7 +40,7 @@ pub fn is_piece(line: &[Place]) -> bool
     line.len() >= 2
 }
 
-/// Whether each of these lines may be joined to others.
+/// Whether each of these lines may be joined to others. For callers outside: the program does not use it.
 pub fn are_pieces(lines: &LineList) -> bool
     ensures pieces { IsTrue result ↔ ArePieces lines.now }
 {

@@ -50,7 +50,7 @@ fn is_ring(line: &[Place]) -> bool
     line.len() >= 4 && is_closed(line)
 }
 
-/// Whether each of these lines may bound an area.
+/// Whether each of these lines may bound an area. For callers outside: the program does not use it.
 pub fn are_rings(lines: &LineList) -> bool
     ensures rings { IsTrue result ↔ All IsRing lines.now }
 {

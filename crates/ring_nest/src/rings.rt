@@ -8,6 +8,7 @@ use lanes_geo::odd_crossings;
 use osm_base::Place;
 
 /// Whether an odd number of a ring's segments cross the latitude of a place strictly east of it.
+/// For callers outside: the program does not use it.
 pub fn crosses_odd(ring: &[Place], place: Place) -> bool
     ensures { result ≡ odd ring.now place }
 {
@@ -15,6 +16,7 @@ pub fn crosses_odd(ring: &[Place], place: Place) -> bool
 }
 
 /// Whether a place lies on one of a ring's segments, their ends included.
+/// It is exported for callers outside.
 pub fn lies_on(ring: &[Place], place: Place) -> bool
     ensures { result ≡ lies_on_ring ring.now place }
 {

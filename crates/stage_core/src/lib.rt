@@ -5,6 +5,7 @@
 //! to readers. A running program takes these steps in some order, which no one chooses. What holds here
 //! after every list of steps, `each_ticket_once`, therefore holds of each order. It stands beside the
 //! path of the data: `docs/THREADS.md` says which step of the running program is which event.
+//! For callers outside: the program does not use it.
 #![tactic(auto)]
 
 mod event;

@@ -59,6 +59,7 @@ fn events_of(alloc: Global, bounds: &Bounds, geometry: &Geometry) -> Result<Vec<
 
 impl Bounds {
     /// Whether a geometry meets the tile in a column and a row of the table's zoom, in a mode.
+    /// For callers outside: the program does not use it.
     pub fn meets(&self, x: u32, y: u32, geometry: &Geometry, mode: Mode) -> bool
         requires column { x < 2 ^ self.now.zoom }
         requires row { y < 2 ^ self.now.zoom }

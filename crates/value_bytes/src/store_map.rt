@@ -24,7 +24,7 @@ pub enum StoreMap {
 }
 
 impl StoreMap {
-    /// The map with this number. For callers that are told numbers; the program itself names its maps.
+    /// The map with this number. For callers outside: the program does not use it.
     pub fn with_number(number: u64) -> Option<StoreMap>
         ensures map { IfSome result (λ map. number_of map ≡ number) }
         ensures none { IsNone result ↔ 8 ≤ number }

@@ -15,7 +15,7 @@ impl<'d, D: Disk> Buckets<'d, D> {
     ghost use Rattle.bucket_store.specs.Listing.{ListsChainOf, ListsFree};
     ghost use Rattle.bucket_store.specs.Transaction.{IsReadyAt, chains_of, has_refused};
 
-    /// How many home pages the store has.
+    /// How many home pages the store has. For callers outside: the program does not use it.
     pub fn pages(&self) -> u64
         ensures { result ≡ home_count (journal_of (chains_of self.now)) }
     {
@@ -23,6 +23,7 @@ impl<'d, D: Disk> Buckets<'d, D> {
     }
 
     /// The pages that a chain has in the store, in their order. A bucket is read as for its records.
+    /// For callers outside: the program does not use it.
     pub fn pages_of(&mut self, n: u32) -> Result<Ids, StoreFault>
         requires chain { (n < 16) ⊎ IsBucketChain (bucket_count (chains_of self.old)) n }
         requires going { has_refused self.old ≡ false }
@@ -43,6 +44,7 @@ impl<'d, D: Disk> Buckets<'d, D> {
     }
 
     /// The free pages of the store, in their order. A commit reads them again.
+    /// For callers outside: the program does not use it.
     pub fn free_pages(&mut self) -> Result<Ids, StoreFault>
         requires going { has_refused self.old ≡ false }
         ensures lists { ListsFree self.old self.new result }

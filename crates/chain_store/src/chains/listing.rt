@@ -19,6 +19,7 @@ impl<'d, D: Disk> Chains<'d, D> {
     ghost use Rattle.chain_store.specs.StoreCalls.{LooksAtStore};
 
     /// The pages that a chain has in the store, in their order.
+    /// For callers outside: the program does not use it.
     pub fn pages_of(&mut self, n: u32) -> Result<Ids, StoreFault>
         requires chain { IsChain n }
         requires going { is_refused self.old ≡ false }
@@ -41,6 +42,7 @@ impl<'d, D: Disk> Chains<'d, D> {
     }
 
     /// The free pages of the store, in their order. A commit reads them again.
+    /// For callers outside: the program does not use it.
     pub fn free_pages(&mut self) -> Result<Ids, StoreFault>
         requires going { is_refused self.old ≡ false }
         ensures answers { (pages : List (List ℕ)) → IsOpen pages self.old → ListsPages pages FREE (first_of self.old FREE) result }
@@ -59,6 +61,7 @@ impl<'d, D: Disk> Chains<'d, D> {
     }
 
     /// The pages of a chain that the transaction has read, in their order. Reads nothing.
+    /// For callers outside: the program does not use it.
     pub fn known_pages(&self, n: u32) -> Result<Ids, OutOfMemory>
         requires there { IsSome (map.get (read_of self.now) n) }
         ensures pages { IfOk result (λ pages. map.get (read_of self.now) n ≡ Some pages) }
