@@ -1,9 +1,7 @@
 //! The cells of a row.
 ghost use Rattle.std.specs.Prelude.{◌≡◌, map, true, IfOk};
-ghost use Rattle.std.specs.List.{AllByRecursion};
 ghost use Rattle.std.specs.Str.{chars};
 ghost use Rattle.osm_base.specs.declared.values.row.Cell.TheVariants as cells;
-ghost use Rattle.osm_base.specs.values.Key.{IsId};
 ghost use Rattle.row_map.specs.Cell as spec;
 ghost use Rattle.row_map.specs.Material.{selecting_among};
 
@@ -49,7 +47,6 @@ fn cell_of<L: Lookup>(
     tags: &Tags,
     relations: &Relations<L>,
 ) -> Result<Cell, OutOfMemory>
-    requires ids { AllByRecursion IsId relations.now.ids.now }
     ensures cell { IfOk result (λ cell. cell ≡ spec.cell_of relations.now.selections.now
         (selecting_among relations.now.selections.now (L.known relations.now.lookup.now).object relations.now.ids.now) tags.now column.now) }
 {
@@ -70,7 +67,6 @@ pub(crate) fn cells_of<L: Lookup>(
     tags: &Tags,
     relations: &Relations<L>,
 ) -> Result<Cells, OutOfMemory>
-    requires ids { AllByRecursion IsId relations.now.ids.now }
     ensures cells { IfOk result (λ cells. cells ≡ map (spec.cell_of relations.now.selections.now
         (selecting_among relations.now.selections.now (L.known relations.now.lookup.now).object relations.now.ids.now) tags.now) columns.now) }
 {

@@ -1,8 +1,7 @@
 //! Conditions on the tags of an object, and on the relations that it is a member of.
 ghost use Rattle.std.specs.Prelude.{◌≡◌, ◌<◌, length, false};
-ghost use Rattle.std.specs.List.{AllByRecursion, list_all, list_any};
+ghost use Rattle.std.specs.List.{list_all, list_any};
 ghost use Rattle.std.specs.Str.{chars};
-ghost use Rattle.osm_base.specs.values.Key.{IsId};
 ghost use Rattle.row_map.specs.Condition as spec;
 ghost use Rattle.row_map.specs.Condition.{meets_number};
 ghost use Rattle.row_map.specs.Material.{is_selected, selecting_among};
@@ -66,7 +65,6 @@ pub(crate) fn holds_of_tags(condition: &Condition, tags: &Tags) -> bool
 
 /// Whether a condition holds of an object.
 fn holds<L: Lookup>(condition: &Condition, tags: &Tags, relations: &Relations<L>) -> bool
-    requires ids { AllByRecursion IsId relations.now.ids.now }
     ensures holds { result ≡ spec.holds (is_selected (selecting_among relations.now.selections.now (L.known relations.now.lookup.now).object relations.now.ids.now)) tags.now condition.now }
 {
     match condition {
@@ -77,7 +75,6 @@ fn holds<L: Lookup>(condition: &Condition, tags: &Tags, relations: &Relations<L>
 
 /// Whether all of these hold.
 fn all_hold<L: Lookup>(conditions: &[Condition], tags: &Tags, relations: &Relations<L>) -> bool
-    requires ids { AllByRecursion IsId relations.now.ids.now }
     ensures hold { result ≡ list_all (spec.holds (is_selected (selecting_among relations.now.selections.now (L.known relations.now.lookup.now).object relations.now.ids.now)) tags.now) conditions.now }
 {
     for condition in conditions {
@@ -90,7 +87,6 @@ fn all_hold<L: Lookup>(conditions: &[Condition], tags: &Tags, relations: &Relati
 
 /// Whether one of these holds.
 fn any_holds<L: Lookup>(conditions: &[Condition], tags: &Tags, relations: &Relations<L>) -> bool
-    requires ids { AllByRecursion IsId relations.now.ids.now }
     ensures holds { result ≡ list_any (spec.holds (is_selected (selecting_among relations.now.selections.now (L.known relations.now.lookup.now).object relations.now.ids.now)) tags.now) conditions.now }
 {
     for condition in conditions {
@@ -103,7 +99,6 @@ fn any_holds<L: Lookup>(conditions: &[Condition], tags: &Tags, relations: &Relat
 
 /// Whether the conditions of a table hold of an object.
 pub(crate) fn wants<L: Lookup>(table: &TableDef, tags: &Tags, relations: &Relations<L>) -> bool
-    requires ids { AllByRecursion IsId relations.now.ids.now }
     ensures wants { result ≡ spec.table_wants (is_selected (selecting_among relations.now.selections.now (L.known relations.now.lookup.now).object relations.now.ids.now)) tags.now table.now }
 {
     let one_of = table.one_of.as_slice();

@@ -1,5 +1,6 @@
 //! The relations that an object is a member of.
 ghost use Rattle.std.specs.Prelude.{◌≡◌};
+ghost use Rattle.std.proofs.Props.{props};
 ghost use Rattle.std.specs.List.{AllByRecursion};
 ghost use Rattle.std.specs.Option.{option_copied};
 ghost use Rattle.osm_base.specs.values.Ids.{AreRisingIds};
@@ -17,6 +18,7 @@ pub(crate) struct Relations<'a, L> {
     pub(crate) selections: &'a [Selection],
     pub(crate) ids: &'a [u64],
     pub(crate) lookup: &'a L,
+    ghost each: { AllByRecursion IsId ids.now } by { Prim.hlevel props },
 }
 
 /// The ids of the relations that have an object as a member and may select it.
@@ -70,7 +72,6 @@ fn tags_if_selecting<'l>(
 impl<L: Lookup> Relations<'_, L> {
     /// Whether one of the relations meets the selection with a number.
     pub(crate) fn select(&self, number: u32) -> bool
-        requires ids { AllByRecursion IsId self.now.ids.now }
         ensures selected { result ≡ is_selected (selecting_among self.now.selections.now (L.known self.now.lookup.now).object self.now.ids.now) number }
     {
         for &id in self.ids {

@@ -1,8 +1,6 @@
 //! The row of an object in a table.
 ghost use Rattle.std.specs.Prelude.{◌≡◌, IfOk};
-ghost use Rattle.std.specs.List.{AllByRecursion};
 ghost use Rattle.std.specs.Option.{option_and_then};
-ghost use Rattle.osm_base.specs.values.Key.{IsId};
 ghost use Rattle.row_map.specs.Agree.{Suffices};
 ghost use Rattle.row_map.specs.Material.{material_among, material_known};
 ghost use Rattle.row_map.specs.Material.{relations_with as ids_with};
@@ -49,7 +47,6 @@ fn wanted_row<L: Lookup>(
     object: &Object,
     relations: &Relations<L>,
 ) -> Result<Option<Row>, OutOfMemory>
-    requires ids { AllByRecursion IsId relations.now.ids.now }
     ensures row { IfOk result (λ found. found ≡ spec.with_geometry
         (spec.cells_of relations.now.selections.now (material_among relations.now.selections.now (L.known relations.now.lookup.now) relations.now.ids.now) table.now object.now)
         (shape.geometry_of (L.known relations.now.lookup.now).place (L.known relations.now.lookup.now).object table.now.source object.now)) }
@@ -70,7 +67,6 @@ pub(crate) fn row_in<L: Lookup>(
     object: &Object,
     relations: &Relations<L>,
 ) -> Result<Option<Row>, OutOfMemory>
-    requires ids { AllByRecursion IsId relations.now.ids.now }
     ensures row { IfOk result (λ found. found ≡ spec.row_of relations.now.selections.now
         (material_among relations.now.selections.now (L.known relations.now.lookup.now) relations.now.ids.now) table.now key object.now) }
 {

@@ -1,9 +1,7 @@
 //! The rows of an object in all tables.
 ghost use Rattle.std.specs.Prelude.{◌≡◌, ◌≤◌, ◌++◌, ℕ, IfOk, OnOk, length};
-ghost use Rattle.std.specs.List.{AllByRecursion};
 ghost use Rattle.std.specs.Option.{option_to_list};
 ghost use Rattle.osm_base.specs.map.Objects.{ObjectSet};
-ghost use Rattle.osm_base.specs.values.Key.{IsId};
 ghost use Rattle.row_map.specs.Agree.{Suffices};
 ghost use Rattle.row_map.specs.Material.{material_among};
 ghost use Rattle.row_map.specs.Rows.{in_table, rows_from, rows_in, rows_known};
@@ -35,7 +33,6 @@ fn rows_among<L: Lookup>(
     object: &Object,
     relations: &Relations<L>,
 ) -> Result<TableRows, OutOfMemory>
-    requires ids { AllByRecursion IsId relations.now.ids.now }
     requires few { length tables.now ≤ MAX_TABLES }
     ensures rows { IfOk result (λ rows. rows ≡ rows_from relations.now.selections.now
         (material_among relations.now.selections.now (L.known relations.now.lookup.now) relations.now.ids.now) key object.now 0 tables.now) }

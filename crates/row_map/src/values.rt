@@ -1,7 +1,7 @@
 //! The values that selections hand on.
 ghost use Rattle.std.specs.Prelude.{◌≡◌, ◌++◌, ◌∷◌, [], map, encode_utf8_all, IfOk, OnOk};
 ghost use Rattle.std.specs.FinMap as finite;
-ghost use Rattle.std.specs.List.{AllByRecursion, join_with_byte, slice_get};
+ghost use Rattle.std.specs.List.{join_with_byte, slice_get};
 ghost use Rattle.std.specs.Option.{option_and_then, option_map};
 ghost use Rattle.std.specs.Str.{chars};
 ghost use Rattle.osm_base.specs.values.Key.{IsId, relation_key};
@@ -47,7 +47,6 @@ fn values_of<'l, L: Lookup>(
     number: u32,
     key: &str,
 ) -> Result<Vec<&'l str>, OutOfMemory>
-    requires ids { AllByRecursion IsId relations.now.ids.now }
     ensures values { IfOk result (λ values. map (λ value. value.now) values.items
         ≡ spec.values_of (chars key.now) (selecting_among relations.now.selections.now (L.known relations.now.lookup.now).object relations.now.ids.now number)) }
 {
@@ -98,7 +97,6 @@ pub(crate) fn selected_cell<L: Lookup>(
     relations: &Relations<L>,
     number: u32,
 ) -> Result<Cell, OutOfMemory>
-    requires ids { AllByRecursion IsId relations.now.ids.now }
     ensures cell { IfOk result (λ cell. cell ≡ spec.selected_cell (slice_get relations.now.selections.now number)
         (selecting_among relations.now.selections.now (L.known relations.now.lookup.now).object relations.now.ids.now number)) }
 {
