@@ -15,7 +15,7 @@ use Rattle.opl_object.specs.declared.parts.Parts.{Parts}
 use Rattle.opl_object.specs.declared.why.Why.{Why}
 use Rattle.opl_object.specs.declared.why.Why.TheVariants as causes
 use Rattle.opl_object.specs.Coordinate.{coordinate}
-use Rattle.opl_object.specs.Fields.{is_blank, fields_of}
+use Rattle.opl_object.specs.Fields.{IsValueEnd, is_blank, fields_of}
 use Rattle.opl_object.specs.Letter.{letter_of, letter_at, also, byte_of}
 use Rattle.opl_object.specs.Parts.{with_lon, with_lat, with_value, new_field, with_field, PassesLetter}
 use Rattle.opl_object.specs.Spelling.{SpellsCoordinate}
@@ -52,17 +52,18 @@ user_plain value parts plain =
     ap with_it (bytes_of-plain value plain)
 
 pub user_read : (letter : Letter) (result : Option ℕ) (text : List ℕ) → letter ≡ User
-    → IfSome result (λ end. is_plain (take end text) ≡ true)
-    → IfSome result (λ end. (parts : Parts) → with_value letter (take end text) parts ≡ Ok parts)
+    → IfSome result (IsValueEnd (λ value. is_plain value ≡ true) text)
+    → IfSome result (IsValueEnd (λ value. (parts : Parts) → with_value letter value parts ≡ Ok parts) text)
 user_read letter None text is plain = tt
-user_read letter (Some end) text is plain = λ parts. rw is (user_plain (take end text) parts plain)
+user_read letter (Some end) text is plain =
+    record { place = plain.place; value = λ parts. rw is (user_plain (take end text) parts plain.value) }
 
 -- each value that parts may have is one that these have
 pub kept_by : (letter : Letter) (result : Option ℕ) (text : List ℕ) (parts : Parts)
-    → IfSome result (λ end. (parts : Parts) → with_value letter (take end text) parts ≡ Ok parts)
-    → IfSome result (λ end. with_value letter (take end text) parts ≡ Ok parts)
+    → IfSome result (IsValueEnd (λ value. (parts : Parts) → with_value letter value parts ≡ Ok parts) text)
+    → IfSome result (IsValueEnd (λ value. with_value letter value parts ≡ Ok parts) text)
 kept_by letter None text parts all = tt
-kept_by letter (Some end) text parts all = all parts
+kept_by letter (Some end) text parts all = record { place = all.place; value = all.value parts }
 
 -- ---- the letter in front
 

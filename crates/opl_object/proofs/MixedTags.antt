@@ -1,5 +1,6 @@
 -- Tags that are found in turn and kept in another order.
-use Rattle.std.proofs.Common.{◌≡◌, ℕ, ◌+◌, ◌<◌, length, take, List, [], ◌∷◌, ◌++◌, Option, Some, Result, Ok, Err, refl, sym, ◌∙◌, ap}
+use Rattle.std.proofs.Common.{◌≡◌, ℕ, ◌+◌, ◌<◌, length, take, List, [], ◌∷◌, ◌++◌, Option, Some, Result, Ok, Err, append_assoc}
+use Rattle.std.proofs.Common.{refl, sym, ◌∙◌, ap}
 use lib.ListN.{get_or}
 use Rattle.std.proofs.lemmas.List.{map-append, take_more}
 use Rattle.std.proofs.lemmas.List.Sorted.{IsPermutation-map}
@@ -41,14 +42,15 @@ pub tags_in-push : (pieces : List Piece) (piece : Piece) → tags_in (pieces ++ 
 tags_in-push pieces piece = map-append (λ own. tag_of own.text.now) pieces (piece ∷ [])
 
 -- one piece more of those that are added
-pub found_more : (found : List Piece) (place : ℕ) (past : Piece) (list next : TagPairs) → place < length found
-    → list ≡ tags_in (take place found)
-    → listed list (get_or found place past).text.now ≡ Ok next → next ≡ tags_in (take (place + 1) found)
-found_more found place past list next below so_far e =
+pub found_more : (found : List Piece) (place : ℕ) (past : Piece) (start list next : TagPairs) → place < length found
+    → list ≡ start ++ tags_in (take place found)
+    → listed list (get_or found place past).text.now ≡ Ok next → next ≡ start ++ tags_in (take (place + 1) found)
+found_more found place past start list next below so_far e =
     tag-listed list (get_or found place past).text.now next e
     ∙ ap (λ tags. tags ++ tag_of (get_or found place past).text.now ∷ []) so_far
-    ∙ sym (tags_in-push (take place found) (get_or found place past))
-    ∙ ap tags_in (sym (take_more found place past below))
+    ∙ append_assoc start (tags_in (take place found)) (tag_of (get_or found place past).text.now ∷ [])
+    ∙ ap (λ tags. start ++ tags) (sym (tags_in-push (take place found) (get_or found place past))
+    ∙ ap tags_in (sym (take_more found place past below)))
 
 pub gathered-permuted : (pieces others : List Piece) (fault : Option Why) → IsPermutation pieces others
     → gathered (tags_in pieces) fault ≡ gathered (tags_in others) fault

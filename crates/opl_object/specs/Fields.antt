@@ -1,7 +1,8 @@
 -- How a line and its values are cut.
 -- osmium "OPL File Format": a line consists of fields that are separated by one or more spaces or tabs;
 -- the first character of a field is its letter, and the items of a list are separated by commas.
-use Rattle.std.specs.Prelude.{ℕ, Bool, ◌||◌, not, ◌==◌, nat_lt, if◌then◌else◌, List, [], length, drop, slice_index, Option, None, Some}
+use Rattle.std.specs.Prelude.{ℕ, ◌≡◌, Bool, ◌||◌, not, ◌==◌, nat_lt, if◌then◌else◌, List, [], length, take, drop, slice_index}
+use Rattle.std.specs.Prelude.{Option, None, Some}
 use Rattle.std.specs.List.{slice_split, filter, position_or_len, before_first, after_first}
 use Rattle.opl_object.specs.declared.ascii.TheConstants.{TAB, SPACE}
 
@@ -12,6 +13,11 @@ is byte other = other == byte
 -- a space or a tab
 abbrev pub is_blank : ℕ → Bool
 is_blank byte = byte == SPACE || byte == TAB
+
+-- the value in front of a text ends here, at its first space or tab or where the text ends, and this is so of it
+pub record IsValueEnd (Says : List ℕ → Type 0) (text : List ℕ) (end : ℕ) : Type 0 where
+  pub place : end ≡ position_or_len is_blank text
+  pub value : Says (take end text)
 
 -- the text from its first space or tab on
 abbrev pub from_blank : List ℕ → List ℕ

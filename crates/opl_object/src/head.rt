@@ -1,9 +1,8 @@
 //! The fields that most lines begin with behind their key, and that no entry keeps.
-ghost use Rattle.std.specs.Prelude.{◌≡◌, take, Ok, Some, IfSome};
-ghost use Rattle.std.specs.List.{position_or_len};
+ghost use Rattle.std.specs.Prelude.{◌≡◌, Ok, Some, IfSome};
 ghost use Rattle.osm_base.specs.declared.values.key.Kind.{Kind};
 ghost use Rattle.opl_object.specs.declared.parts.Parts.{Parts};
-ghost use Rattle.opl_object.specs.Fields.{is_blank};
+ghost use Rattle.opl_object.specs.Fields.{IsValueEnd};
 ghost use Rattle.opl_object.specs.Letter.{letter_of, byte_of, none_stood, head_stood};
 ghost use Rattle.opl_object.specs.Parts.{nothing, with_value, said_behind, PassesLetter};
 ghost use Rattle.opl_object.specs.Seen.{stands};
@@ -69,8 +68,7 @@ fn pass(letter: Letter, text: &str) -> Option<&str>
 #[inline(always)]
 #[tactic(auto, unfolding(crate::specs::Parts::with_value, crate::specs::Letter::letter_of))]
 pub(crate) fn passed_end(letter: Letter, text: &[u8]) -> Option<usize>
-    ensures end { IfSome result (λ end. end ≡ position_or_len is_blank text.now) }
-    ensures value { IfSome result (λ end. (parts : Parts) → with_value letter (take end text.now) parts ≡ Ok parts) }
+    ensures end { IfSome result (IsValueEnd (λ value. (parts : Parts) → with_value letter value parts ≡ Ok parts) text.now) }
     ensures common { IfSome result (λ _. (kind : Kind) → letter_of kind (byte_of letter) ≡ Some letter) }
 {
     match letter {

@@ -1,5 +1,5 @@
 //! Many tags whose keys come in no order: their pieces are put in order before the tags are kept.
-ghost use Rattle.std.specs.Prelude.{◌≡◌, [], IfOk};
+ghost use Rattle.std.specs.Prelude.{◌≡◌, [], ◌++◌, IfOk, OnOk};
 ghost use Rattle.std.specs.FinMap as map;
 ghost use Rattle.std.specs.List.{slice_split};
 ghost use Rattle.std.specs.List.Sorted.{IsPermutation};
@@ -99,8 +99,7 @@ fn sort(found: &mut Vec<Piece<'_>>)
 
 /// Adds the tags of pieces.
 fn add_found(alloc: Global, list: &mut TagList, found: &[Piece<'_>]) -> Result<(), OutOfMemory>
-    requires { list.old ≡ [] }
-    ensures tags { IfOk result (λ _. list.new ≡ tags_in found.now) }
+    ensures tags { OnOk result (list.new ≡ list.old ++ tags_in found.now) }
 {
     for piece in found {
         // Each is a tag, so that only memory can be missing.

@@ -1,9 +1,9 @@
 //! What the fields of a line say.
-ghost use Rattle.std.specs.Prelude.{◌≡◌, ◌<◌, take, Ok, OnOk, IfOk, IfSome, IsNone};
+ghost use Rattle.std.specs.Prelude.{◌≡◌, ◌<◌, Ok, OnOk, IfOk, IfSome, IsNone};
 ghost use Rattle.std.specs.List.{position_or_len, before_first};
 ghost use Rattle.std.specs.FinMap as map;
 ghost use Rattle.opl_object.specs.Earth.{AreOnEarth};
-ghost use Rattle.opl_object.specs.Fields.{is_blank, fields_of};
+ghost use Rattle.opl_object.specs.Fields.{IsValueEnd, is_blank, fields_of};
 ghost use Rattle.opl_object.specs.Letter.{none_stood};
 ghost use Rattle.opl_object.specs.Parts.{nothing, with_visible, with_lon, with_lat, with_value, new_field, with_field, parts_of};
 ghost use Rattle.opl_object.specs.Seen.{stands};
@@ -97,8 +97,7 @@ impl Parts {
     /// Adds the value of a letter where the text begins with one in its usual form, and tells where it ends.
     #[tactic(auto, unfolding(crate::specs::Parts::with_value, crate::specs::Text::text_of))]
     fn add_usual(&mut self, usual: bool, letter: Letter, text: &[u8]) -> Option<usize>
-        ensures end { IfSome result (λ end. end ≡ position_or_len is_blank text.now) }
-        ensures parts { IfSome result (λ end. with_value letter (take end text.now) self.old ≡ Ok self.new) }
+        ensures end { IfSome result (IsValueEnd (λ value. with_value letter value self.old ≡ Ok self.new) text.now) }
         ensures kept { IsNone result → self.new ≡ self.old }
         ensures earth { AreOnEarth self.old → AreOnEarth self.new }
     {
@@ -114,8 +113,7 @@ impl Parts {
 
     /// Adds a longitude in its usual form.
     fn add_usual_lon(&mut self, text: &[u8]) -> Option<usize>
-        ensures end { IfSome result (λ end. end ≡ position_or_len is_blank text.now) }
-        ensures parts { IfSome result (λ end. with_lon (take end text.now) self.old ≡ Ok self.new) }
+        ensures end { IfSome result (IsValueEnd (λ value. with_lon value self.old ≡ Ok self.new) text.now) }
         ensures kept { IsNone result → self.new ≡ self.old }
         ensures earth { AreOnEarth self.old → AreOnEarth self.new }
     {
@@ -126,8 +124,7 @@ impl Parts {
 
     /// Adds a latitude in its usual form.
     fn add_usual_lat(&mut self, text: &[u8]) -> Option<usize>
-        ensures end { IfSome result (λ end. end ≡ position_or_len is_blank text.now) }
-        ensures parts { IfSome result (λ end. with_lat (take end text.now) self.old ≡ Ok self.new) }
+        ensures end { IfSome result (IsValueEnd (λ value. with_lat value self.old ≡ Ok self.new) text.now) }
         ensures kept { IsNone result → self.new ≡ self.old }
         ensures earth { AreOnEarth self.old → AreOnEarth self.new }
     {

@@ -1,7 +1,7 @@
 //! Values at the front of a text in the form that files mostly have: one pass tests them and finds where they end.
 ghost use Rattle.std.specs.Prelude.{◌≡◌, ◌≤◌, ◌<◌, ◌^◌, ◌-◌, ◌+◌, ◌≤ℤ◌, pos, neg_ℤ, [], ◌∷◌, IsTrue, IfSome, if◌then◌else◌, length, take};
 ghost use Rattle.std.specs.List.{position_or_len};
-ghost use Rattle.opl_object.specs.Fields.{is_blank};
+ghost use Rattle.opl_object.specs.Fields.{IsValueEnd, is_blank};
 ghost use Rattle.opl_object.specs.Number.{is_whole, is_time};
 ghost use Rattle.opl_object.specs.Spelling.{SpellsUnits, SpellsCoordinate};
 ghost use Rattle.opl_object.specs.Text.{is_plain, is_reserved};
@@ -23,8 +23,7 @@ const DECIMALS: usize = 7;
 
 /// Where a whole number without a sign ends.
 pub(crate) fn number_end(text: &[u8]) -> Option<usize>
-    ensures end { IfSome result (λ end. end ≡ position_or_len is_blank text.now) }
-    ensures whole { IfSome result (λ end. IsTrue (is_whole (take end text.now))) }
+    ensures end { IfSome result (IsValueEnd (λ value. IsTrue (is_whole value)) text.now) }
 {
     let end = digits_len(text);
     if end < 1 || WHOLE_DIGITS < end {
@@ -38,8 +37,7 @@ pub(crate) fn number_end(text: &[u8]) -> Option<usize>
 
 /// Where a time ends.
 pub(crate) fn time_end(text: &[u8]) -> Option<usize>
-    ensures end { IfSome result (λ end. end ≡ position_or_len is_blank text.now) }
-    ensures time { IfSome result (λ end. IsTrue (is_time (take end text.now))) }
+    ensures end { IfSome result (IsValueEnd (λ value. IsTrue (is_time value)) text.now) }
 {
     let end = TIME_FORM.len();
     if text.len() < end || !all_formed(&text[..end]) {
@@ -53,8 +51,7 @@ pub(crate) fn time_end(text: &[u8]) -> Option<usize>
 
 /// Where a `V` ends.
 pub(crate) fn there_end(text: &[u8]) -> Option<usize>
-    ensures end { IfSome result (λ end. end ≡ position_or_len is_blank text.now) }
-    ensures there { IfSome result (λ end. take end text.now ≡ CAPITAL_V ∷ []) }
+    ensures end { IfSome result (IsValueEnd (λ value. value ≡ CAPITAL_V ∷ []) text.now) }
 {
     if text.is_empty() || text[0] != CAPITAL_V || !ends_at(text, 1) {
         return None;
@@ -64,8 +61,7 @@ pub(crate) fn there_end(text: &[u8]) -> Option<usize>
 
 /// Where a text without escapes ends.
 pub(crate) fn plain_end(text: &[u8]) -> Option<usize>
-    ensures end { IfSome result (λ end. end ≡ position_or_len is_blank text.now) }
-    ensures plain { IfSome result (λ end. IsTrue (is_plain (take end text.now))) }
+    ensures end { IfSome result (IsValueEnd (λ value. IsTrue (is_plain value)) text.now) }
 {
     let end = plain_len(text);
     if !ends_at(text, end) {

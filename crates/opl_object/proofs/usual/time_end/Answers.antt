@@ -5,8 +5,13 @@ use Rattle.opl_object.specs.Number.{is_formed}
 use Rattle.opl_object.proofs.Fronts.{ends_field, time_filled}
 use Rattle.opl_object.proofs.usual.time_end.Goals as goal
 
-pub returns-clause-end : goal.returns-clause-end
-returns-clause-end c =
+pub returns : goal.returns
+returns c =
     let all : list_all is_formed (zip TIME_FORM (take 20 c.args.text.now)) ≡ true = search rules in
-    ends_field c.args.text.now 20 (omega arith) (time_filled c.args.text.now (omega arith) all)
-    (c.ends_at.ensures.blank c.if-not-ends_at.false)
+    record {
+      end = record {
+        place = ends_field c.args.text.now 20 (omega arith) (time_filled c.args.text.now (omega arith) all)
+            (c.ends_at.ensures.blank c.if-not-ends_at.false);
+        value = search rules;
+      };
+    }
