@@ -12,6 +12,7 @@ pub mod GatheredTags
 pub mod Letters
 mod Manual
 pub mod MixedTags
+pub mod OnEarth
 pub mod OneMeaning
 pub mod Passes
 pub mod Pieces

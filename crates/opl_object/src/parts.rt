@@ -1,11 +1,10 @@
 //! What the fields of a line say.
-ghost use Rattle.std.specs.Prelude.{◌≡◌, ◌<◌, Ok, OnOk, IfOk, IfSome, IsNone};
+ghost use Rattle.std.specs.Prelude.{◌≡◌, ◌<◌, Ok, IfOk, IfSome, IsNone};
 ghost use Rattle.std.specs.List.{position_or_len, before_first};
 ghost use Rattle.std.specs.FinMap as map;
 ghost use Rattle.opl_object.specs.Earth.{AreOnEarth};
 ghost use Rattle.opl_object.specs.Fields.{IsValueEnd, is_blank, fields_of};
-ghost use Rattle.opl_object.specs.Letter.{none_stood};
-ghost use Rattle.opl_object.specs.Parts.{nothing, with_visible, with_lon, with_lat, with_value, new_field, with_field, parts_of};
+ghost use Rattle.opl_object.specs.Parts.{nothing, with_visible, with_lon, with_lat, with_value, with_field, parts_of};
 ghost use Rattle.opl_object.specs.Seen.{stands};
 ghost use Rattle.opl_object.specs.Why.{Gives, Tells};
 
@@ -38,7 +37,6 @@ impl Parts {
     /// Nothing yet.
     pub(crate) fn new(alloc: Global) -> Self
         ensures nothing { result ≡ nothing }
-        ensures earth { AreOnEarth result }
     {
         Self {
             deleted: false,
@@ -60,7 +58,6 @@ impl Parts {
         value: &str,
     ) -> Result<(), LineRefused>
         ensures parts { Gives (λ _. self.new) result (with_value letter value.now self.old) }
-        ensures earth { OnOk result (AreOnEarth self.old → AreOnEarth self.new) }
     {
         match letter {
             Letter::Version | Letter::Changeset | Letter::UserId => {
@@ -99,7 +96,6 @@ impl Parts {
     fn add_usual(&mut self, usual: bool, letter: Letter, text: &[u8]) -> Option<usize>
         ensures end { IfSome result (IsValueEnd (λ value. with_value letter value self.old ≡ Ok self.new) text.now) }
         ensures kept { IsNone result → self.new ≡ self.old }
-        ensures earth { AreOnEarth self.old → AreOnEarth self.new }
     {
         if !usual {
             return None;
@@ -115,7 +111,6 @@ impl Parts {
     fn add_usual_lon(&mut self, text: &[u8]) -> Option<usize>
         ensures end { IfSome result (IsValueEnd (λ value. with_lon value self.old ≡ Ok self.new) text.now) }
         ensures kept { IsNone result → self.new ≡ self.old }
-        ensures earth { AreOnEarth self.old → AreOnEarth self.new }
     {
         let (lon, end) = usual_coordinate(FURTHEST_EAST, text)?;
         self.lon = Some(lon);
@@ -126,7 +121,6 @@ impl Parts {
     fn add_usual_lat(&mut self, text: &[u8]) -> Option<usize>
         ensures end { IfSome result (IsValueEnd (λ value. with_lat value self.old ≡ Ok self.new) text.now) }
         ensures kept { IsNone result → self.new ≡ self.old }
-        ensures earth { AreOnEarth self.old → AreOnEarth self.new }
     {
         let (lat, end) = usual_coordinate(FURTHEST_NORTH, text)?;
         self.lat = Some(lat);
@@ -136,7 +130,6 @@ impl Parts {
     /// Adds a longitude, where there is one.
     fn add_lon(&mut self, value: &str) -> Result<(), Why>
         ensures parts { Tells (λ _. self.new) result (with_lon value.now self.old) }
-        ensures earth { OnOk result (AreOnEarth self.old → AreOnEarth self.new) }
     {
         if value.is_empty() {
             return Ok(());
@@ -148,7 +141,6 @@ impl Parts {
     /// Adds a latitude, where there is one.
     fn add_lat(&mut self, value: &str) -> Result<(), Why>
         ensures parts { Tells (λ _. self.new) result (with_lat value.now self.old) }
-        ensures earth { OnOk result (AreOnEarth self.old → AreOnEarth self.new) }
     {
         if value.is_empty() {
             return Ok(());
@@ -160,7 +152,6 @@ impl Parts {
     /// Adds whether the object is deleted.
     fn add_visible(&mut self, value: &str) -> Result<(), Why>
         ensures parts { Tells (λ _. self.new) result (with_visible value.now self.old) }
-        ensures earth { OnOk result (AreOnEarth self.old → AreOnEarth self.new) }
     {
         match value.as_bytes() {
             [b'V'] => Ok(()),
@@ -206,7 +197,6 @@ fn read_field(
     ensures parts { Gives (λ _. (stands seen.new, parts.new)) result
         (with_field kind (stands seen.old, parts.old) (before_first is_blank text.now)) }
     ensures end { IfOk result (λ end. end ≡ position_or_len is_blank text.now) }
-    ensures earth { OnOk result (AreOnEarth parts.old → AreOnEarth parts.new) }
 {
     let Some((letter, value)) = letter_at(kind, text) else {
         return Err(LineRefused::Bad(Why::Field));

@@ -1,7 +1,6 @@
 use Rattle.std.proofs.Common.{◌≡◌, length}
 use denote.Text.{Utf8}
 use denote.Shadow.{shadow}
-use Rattle.opl_object.specs.Earth.{AreOnEarth}
 use Rattle.opl_object.specs.Fields.{fields_of}
 use Rattle.opl_object.specs.Letter.{none_stood}
 use Rattle.opl_object.specs.Parts.{nothing, with_field}
@@ -11,7 +10,7 @@ use Rattle.opl_object.proofs.parts.read_fields.Given as goal
 
 -- the fields that are left say the same, behind those before them
 abbrev pub invariant-loop-field : goal.invariant-loop-field
-invariant-loop-field l = shadow (Utf8 l.left) × AreOnEarth l.parts
+invariant-loop-field l = shadow (Utf8 l.left)
     × (each_piece (with_field l.kind) (stands l.seen, l.parts) (fields_of l.left)
     ≡ each_piece (with_field l.kind) (none_stood, nothing) (fields_of l.fn.text))
 
