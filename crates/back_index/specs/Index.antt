@@ -92,6 +92,14 @@ abbrev pub HasNodes : Option (List ℕ) → List ℕ → Type 0
 HasNodes None nodes = ⊥
 HasNodes (Some bytes) nodes = IsAtFront (list_bytes number_bytes) (IsList IsNumber) bytes nodes
 
+-- each of these ways is there and begins with its nodes
+abbrev pub AreThere : Image → List ℕ → Type 0
+AreThere now ways = AllByRecursion (λ way. (nodes : List ℕ) × HasNodes (finite.get (now.maps (number_of Ways)) way) nodes) ways
+
+-- the list of a node's block reads, and each way in it is there
+abbrev pub HasWays : Image → ℕ → Type 0
+HasWays now block = (ways : List ℕ) × ReadsIds (finite.get (now.maps (number_of WaysOfBlocks)) block) ways × AreThere now ways
+
 -- there are none
 abbrev pub IsNodeless : Option (List ℕ) → Type 0
 IsNodeless None = Unit {0}

@@ -1,5 +1,5 @@
 //! The ways of a block, looked at for a node.
-ghost use Rattle.std.specs.Prelude.{◌≡◌, ℕ, List, [], ◌∷◌, ◌++◌, if◌then◌else◌, IfOk, IfErr, OnOk};
+ghost use Rattle.std.specs.Prelude.{◌≡◌, ◌/◌, ℕ, List, [], ◌∷◌, ◌++◌, if◌then◌else◌, IfOk, IfErr, OnOk};
 ghost use Rattle.std.specs.List.{filter};
 ghost use Rattle.std.specs.FinMap as finite;
 ghost use Rattle.osm_base.specs.values.Ids.{AreRisingIds, has};
@@ -12,7 +12,7 @@ ghost use Rattle.value_bytes.specs.Forms.{NeedsFor};
 ghost use Rattle.value_bytes.specs.StoreMap.{number_of};
 ghost use Rattle.value_bytes.specs.declared.store_map.StoreMap.TheVariants.{Ways};
 ghost use Rattle.back_index.specs.Calls.{AsksLists, FindsIds};
-ghost use Rattle.back_index.specs.Index.{HasNodes, HoldsIndex, HoldsWays, IsDamaged, IsNodeless, MayWays};
+ghost use Rattle.back_index.specs.Index.{AreThere, HasNodes, HasWays, HoldsIndex, HoldsWays, IsDamaged, IsNodeless, MayWays};
 ghost use Rattle.back_index.specs.Visits.{StopsAt};
 
 use crate::lists::{listers, refused};
@@ -36,6 +36,8 @@ pub fn ways_of_node<D: Disk>(
     requires ready { IsReady buckets.old }
     ensures ids { IfOk result (FindsIds (λ now ids. (maps : Maps) → HoldsIndex now maps → HoldsWays now maps → ids ≡ (index_on maps).ways_of_node id)
         buckets.old) }
+    // A way that is not there is a refusal, and is never passed over.
+    ensures there { OnOk result ((rest now : Image) → Has rest now buckets.old → HasWays now (id / BLOCK)) }
     ensures asks { AsksLists (MayWays buckets.old id) (IsDamaged buckets.old) buckets.old buckets.new result }
 {
     let block = id / BLOCK;
@@ -59,6 +61,7 @@ fn ways_with<D: Disk>(
     requires ready { IsReady buckets.old }
     requires rising { AreRisingIds ways.now }
     ensures ids { IfOk result (FindsIds (λ now ids. (maps : Maps) → HoldsWays now maps → ids ≡ filter (list_it maps node) ways.now) buckets.old) }
+    ensures there { OnOk result ((rest now : Image) → Has rest now buckets.old → AreThere now ways.now) }
     ensures asks { AsksLists (λ may. MayEach may (number_of Ways) ways.now)
         (λ now. StopsAt (λ way. (nodes : List ℕ) × HasNodes (finite.get (now.maps (number_of Ways)) way) nodes) (λ _. page) ways.now)
         buckets.old buckets.new result }

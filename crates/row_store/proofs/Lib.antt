@@ -3,3 +3,4 @@ pub mod LookLaws
 pub mod Manual
 pub mod RowLaws
 pub mod RowsLaws
+pub mod SpelledLaws

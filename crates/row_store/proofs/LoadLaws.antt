@@ -31,7 +31,7 @@ use Rattle.row_store.specs.Rows.{AreRows, rows_bytes}
 use Rattle.row_store.specs.Loading.{Among, AreTold, Fills, IsTold, IsWithin, RowsBySpot, is_wanted, key_of, row_or, spot_at, with_all}
 use Rattle.row_store.specs.Loading.{with_wanted}
 
-decide : (b : Bool) → (b ≡ true) ⊎ (b ≡ false)
+pub decide : (b : Bool) → (b ≡ true) ⊎ (b ≡ false)
 decide true = inl refl
 decide false = inr refl
 

@@ -63,6 +63,18 @@ pub record IsTold (definitions : List TableDef) (wanted : Option ℕ) (which : �
   pub id : IsId (key_of which number).id
   pub at : (table : ℕ) → rows (spot_at which number table) ≡ (if is_wanted wanted table then row_or own table None else None)
 
+-- the bytes that a map has under a number are rows of a key that an object can have
+pub record AreRowsOf (definitions : List TableDef) (which number : ℕ) (bytes : List ℕ) : Type 0 where
+  pub own : List TableRow
+  pub are : AreRows definitions own
+  pub bytes_are : bytes ≡ rows_bytes own
+  pub id : IsId (key_of which number).id
+
+-- so are all that a map has
+abbrev pub HasOnlyRows : List TableDef → StoreMap → Image → Type 0
+HasOnlyRows definitions map_of image = (number : ℕ) (bytes : List ℕ) → map.get (image.maps (number_of map_of)) number ≡ Some bytes
+    → AreRowsOf definitions (number_of map_of) number bytes
+
 -- all that a map has tells rows
 abbrev pub AreTold : List TableDef → Option ℕ → ℕ → RowsBySpot → BucketMap → Type 0
 AreTold definitions wanted which rows values = (number : ℕ) (bytes : List ℕ) → map.get values number ≡ Some bytes

@@ -6,7 +6,7 @@ ghost use Rattle.osm_base.specs.values.Key.{IsId};
 ghost use Rattle.value_bytes.specs.declared.fault.ValueFault.TheVariants as faults;
 ghost use Rattle.bucket_store.specs.Image.{Has, Image, IsSoundAnswer};
 ghost use Rattle.bucket_store.specs.Transaction.{IsReady};
-ghost use Rattle.row_store.specs.Loading.{Among, Fills, IsTold, Looks, RowsBySpot, TellsRows, is_wanted, key_of, with_all, with_wanted};
+ghost use Rattle.row_store.specs.Loading.{Among, AreRowsOf, Fills, HasOnlyRows, IsTold, Looks, RowsBySpot, TellsRows, is_wanted, key_of, with_all, with_wanted};
 ghost use Rattle.value_bytes.specs.StoreMap.{number_of};
 ghost use Rattle.value_bytes.specs.declared.store_map.StoreMap.TheVariants.{NodeRows, OtherRows};
 
@@ -34,6 +34,9 @@ pub fn load<D: Disk>(
     ensures others { OnOk result ((rest now : Image) (rows : RowsBySpot) → Has rest now buckets.old
         → TellsRows style.now.tables wanted NodeRows rows now → TellsRows style.now.tables wanted OtherRows rows now
         → Fills (number_of OtherRows) rows (λ n. IsSome (finite.get (now.maps (number_of OtherRows)) n)) tables.old tables.new) }
+    // A record that does not spell rows is a refusal, and is never passed over.
+    ensures spelled { OnOk result ((rest now : Image) → Has rest now buckets.old
+        → HasOnlyRows style.now.tables NodeRows now × HasOnlyRows style.now.tables OtherRows now) }
     ensures has { OnOk result ((rest now : Image) → Has rest now buckets.old → Has rest now buckets.new) }
     ensures sound { (rest now : Image) (rows : RowsBySpot) → Has rest now buckets.old
         → TellsRows style.now.tables wanted NodeRows rows now → TellsRows style.now.tables wanted OtherRows rows now
@@ -62,6 +65,7 @@ fn add_map<D: Disk>(
     ensures filled { OnOk result ((rest now : Image) (rows : RowsBySpot) → Has rest now buckets.old
         → TellsRows style.now.tables wanted map rows now
         → Fills (number_of map) rows (λ n. IsSome (finite.get (now.maps (number_of map)) n)) tables.old tables.new) }
+    ensures spelled { OnOk result ((rest now : Image) → Has rest now buckets.old → HasOnlyRows style.now.tables map now) }
     ensures has { OnOk result ((rest now : Image) → Has rest now buckets.old → Has rest now buckets.new) }
     ensures sound { (rest now : Image) (rows : RowsBySpot) → Has rest now buckets.old
         → TellsRows style.now.tables wanted map rows now → IsSoundAnswer result }
@@ -92,6 +96,9 @@ fn add_bucket<D: Disk>(
     ensures filled { OnOk result ((rest now : Image) (rows : RowsBySpot) → Has rest now buckets.old
         → TellsRows style.now.tables wanted map rows now
         → Fills (number_of map) rows (λ n. IsSome (finite.get (now.maps (number_of map)) n) × (n % now.root.buckets ≡ bucket % now.root.buckets)) tables.old tables.new) }
+    ensures spelled { OnOk result ((rest now : Image) → Has rest now buckets.old → (number : ℕ) (bytes : List ℕ)
+        → finite.get (now.maps (number_of map)) number ≡ Some bytes → number % now.root.buckets ≡ bucket % now.root.buckets
+        → AreRowsOf style.now.tables (number_of map) number bytes) }
     ensures has { OnOk result ((rest now : Image) → Has rest now buckets.old → Has rest now buckets.new) }
     ensures sound { (rest now : Image) (rows : RowsBySpot) → Has rest now buckets.old
         → TellsRows style.now.tables wanted map rows now → IsSoundAnswer result }
@@ -118,6 +125,7 @@ fn add_records(
 ) -> Result<(), ValueFault>
     ensures filled { OnOk result ((rows : RowsBySpot) → AllByRecursion (λ one. IsTold style.now.tables wanted (number_of map) rows one.0 one.1) records.now
         → Fills (number_of map) rows (Among records.now) tables.old tables.new) }
+    ensures spelled { OnOk result (AllByRecursion (λ one. AreRowsOf style.now.tables (number_of map) one.0 one.1) records.now) }
     ensures sound { (rows : RowsBySpot) → AllByRecursion (λ one. IsTold style.now.tables wanted (number_of map) rows one.0 one.1) records.now
         → IfErr result (λ fault. fault ≡ faults.OutOfMemory) }
 {
@@ -149,6 +157,7 @@ fn add_record(
 ) -> Result<(), ValueFault>
     ensures filled { OnOk result ((rows : RowsBySpot) → IsTold style.now.tables wanted (number_of map) rows number bytes.now
         → Fills (number_of map) rows (λ n. number ≡ n) tables.old tables.new) }
+    ensures spelled { OnOk result (AreRowsOf style.now.tables (number_of map) number bytes.now) }
     ensures sound { (rows : RowsBySpot) → IsTold style.now.tables wanted (number_of map) rows number bytes.now → IfErr result (λ fault. fault ≡ faults.OutOfMemory) }
 {
     let Some(key) = key_of(map, number) else {
@@ -214,6 +223,7 @@ fn is_wanted(wanted: Option<u32>, table: u32) -> bool
 // The key whose rows a map has under a number. `None`: no key has that id.
 fn key_of(map: StoreMap, number: u64) -> Option<Key>
     ensures key { IfSome result (λ key. key ≡ key_of (number_of map) number) }
+    ensures id { IfSome result (λ _. IsId (key_of (number_of map) number).id) }
     ensures none { IsNone result → IsId (key_of (number_of map) number).id → ⊥ }
 {
     let (kind, id) = if matches!(map, StoreMap::NodeRows) {

@@ -17,7 +17,7 @@ use Rattle.back_index.specs.Visits.{StopsAt}
 use Rattle.back_index.proofs.Chained.{page_same, ready_after}
 use Rattle.back_index.proofs.Held.{reads_one}
 use Rattle.back_index.proofs.ReadKeys.{reads_then}
-use Rattle.back_index.proofs.Reading.{if_ok, refuses_more, refuses_result}
+use Rattle.back_index.proofs.Reading.{if_ok, on_ok, refuses_more, refuses_result}
 use Rattle.back_index.proofs.WayLaws.{has_part}
 use Rattle.back_index.proofs.candidates.ways_of_node.Goals as goal
 
@@ -99,3 +99,15 @@ returns-clause-asks g c =
       };
       has = λ none rest now owns. second.has none rest now (first.asks.has refl rest now owns);
     }
+
+pub returns-clause-there : goal.returns-clause-there
+returns-clause-there g c =
+    let block = c.args.id / BLOCK in
+    on_ok (List ℕ) _ _ c.ways_with.result
+    (λ there rest now owns. (
+      c.as_slice.result.now,
+      subst (λ (l : List ℕ). ReadsIds (finite.get (now.maps (number_of WaysOfBlocks)) block) l) (sym c.as_slice.ensures.items)
+          (c.in-Ok.ensures.ids.are rest now owns),
+      there rest now (c.in-Ok.ensures.asks.has refl rest now owns),
+    ))
+    c.ways_with.ensures.there

@@ -130,3 +130,9 @@ returns-clause-asks g c = record {
   };
   has = λ none rest now owns. c.loop-way.invariant.has_still rest now owns;
 }
+
+pub returns-clause-there : goal.returns-clause-there
+returns-clause-there g c rest now owns =
+    let fine : ℕ → Type 0 = λ way. (nodes : List ℕ) × HasNodes (finite.get (now.maps (number_of Ways)) way) nodes in
+    subst (λ (l : List ℕ). AllByRecursion fine l) (take_all c.loop-way.way-index c.args.ways.now c.loop-way-test.false)
+    (c.loop-way.invariant.fine rest now owns)

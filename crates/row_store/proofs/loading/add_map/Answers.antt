@@ -41,6 +41,12 @@ loop-bucket-preserved g c =
             | inl less ↦ inl (part.0, less)
             | inr same ↦ inr (part.0, same)
           ]);
+      spelled = λ rest now had number bytes there low.
+          let count : c.root-count.result.buckets ≡ now.root.buckets = ap (λ (r : Root). r.buckets) (c.root-count.ensures ∙ had.root) in
+          elim (bucket_split number bucket now.root.buckets (omega (arith, c.loop-bucket-test.true, count)) low) [
+            | inl less ↦ before.spelled rest now had number bytes there less
+            | inr same ↦ done.spelled rest now (before.has rest now had) number bytes there same
+          ];
     }
 
 pub returns-clause-filled : goal.returns-clause-filled
@@ -54,3 +60,10 @@ returns-clause-filled g c rest now rows has told =
     (λ n some.
     let low : n % now.root.buckets < now.root.buckets = mod-lt n (omega (arith, c.requires.ready.some, own)) in
     (some, omega (arith, low, c.loop-bucket-test.false, count)))
+
+pub returns-clause-spelled : goal.returns-clause-spelled
+returns-clause-spelled g c rest now has number bytes there =
+    let count : c.root-count.result.buckets ≡ now.root.buckets = ap (λ (r : Root). r.buckets) (c.root-count.ensures ∙ has.root) in
+    let own : bucket_count (chains_of c.args.buckets.now) ≡ now.root.buckets = ap (λ (r : Root). r.buckets) has.root in
+    let low : number % now.root.buckets < now.root.buckets = mod-lt number (omega (arith, c.requires.ready.some, own)) in
+    c.loop-bucket.invariant.spelled rest now has number bytes there (omega (arith, low, c.loop-bucket-test.false, count))

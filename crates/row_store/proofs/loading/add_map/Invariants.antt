@@ -1,15 +1,15 @@
-use Rattle.std.proofs.Common.{◌≡◌, ◌-◌, ◌%◌, ◌<◌, false}
+use Rattle.std.proofs.Common.{◌≡◌, ◌-◌, ◌%◌, ◌<◌, ℕ, List, Some, false}
 use Rattle.std.specs.FinMap as map
 use Rattle.std.specs.Option.{IsSome}
 use Rattle.page_journal.specs.Journal.{is_broken}
 use Rattle.chain_store.specs.Chains.{OnlyRead, journal_of}
 use Rattle.bucket_store.specs.Image.{Has, Image, OnlyLooks}
 use Rattle.bucket_store.specs.Transaction.{chains_of, has_refused}
-use Rattle.row_store.specs.Loading.{AreTold, Fills, RowsBySpot}
+use Rattle.row_store.specs.Loading.{AreRowsOf, AreTold, Fills, RowsBySpot}
 use Rattle.value_bytes.specs.StoreMap.{number_of}
 use Rattle.row_store.proofs.loading.add_map.Given as goal
 
--- the buckets so far have filled in their rows, and the store was only read
+-- the buckets so far have rows alone and have filled in theirs, and the store was only read
 abbrev pub invariant-loop-bucket : goal.invariant-loop-bucket
 invariant-loop-bucket g l = record {
   going : has_refused l.buckets ≡ false;
@@ -21,6 +21,9 @@ invariant-loop-bucket g l = record {
       → AreTold l.style.tables l.wanted (number_of l.map) rows (now.maps (number_of l.map))
       → Fills (number_of l.map) rows (λ n. IsSome (map.get (now.maps (number_of l.map)) n) × (n % now.root.buckets < l.bucket))
       l.initial.tables l.tables;
+  spelled : (rest now : Image) → Has rest now l.initial.buckets → (number : ℕ) (bytes : List ℕ)
+      → map.get (now.maps (number_of l.map)) number ≡ Some bytes → number % now.root.buckets < l.bucket
+      → AreRowsOf l.style.tables (number_of l.map) number bytes;
 }
 
 abbrev pub decreases-loop-bucket : goal.decreases-loop-bucket

@@ -6,3 +6,11 @@ pub returns-in-Ok-add_rows-clause-filled : goal.returns-in-Ok-add_rows-clause-fi
 returns-in-Ok-add_rows-clause-filled c rows told =
     record_fills c.args.style.now.tables c.args.wanted (number_of c.args.map) rows c.args.number c.args.bytes.now c.in-Ok.rows c.in-Some.key
     c.args.tables.now c.add_rows.new.tables c.in-Ok.ensures.rows c.in-Some.ensures.key c.in-Ok-add_rows.ensures.ok told
+
+pub returns-in-Ok-add_rows-clause-spelled : goal.returns-in-Ok-add_rows-clause-spelled
+returns-in-Ok-add_rows-clause-spelled c = record {
+  own = c.in-Ok.rows;
+  are = c.in-Ok.ensures.rows.is;
+  bytes_are = c.in-Ok.ensures.rows.bytes_are;
+  id = c.in-Some.ensures.id;
+}

@@ -1,11 +1,13 @@
 use Rattle.std.proofs.Common.{take}
 use Rattle.std.specs.List.{AllByRecursion}
-use Rattle.row_store.specs.Loading.{Among, Fills, IsTold, RowsBySpot}
+use Rattle.row_store.specs.Loading.{Among, AreRowsOf, Fills, IsTold, RowsBySpot}
 use Rattle.value_bytes.specs.StoreMap.{number_of}
 use Rattle.row_store.proofs.loading.add_records.Given as goal
 
--- the records so far have filled in their rows
+-- the records so far are rows, and have filled in theirs
 abbrev pub invariant-loop-number : goal.invariant-loop-number
-invariant-loop-number l = (rows : RowsBySpot)
-    → AllByRecursion (λ one. IsTold l.style.tables l.wanted (number_of l.map) rows one.0 one.1) l.records
-    → Fills (number_of l.map) rows (Among (take l.number-index l.records)) l.fn.tables l.tables
+invariant-loop-number l = record {
+  filled : (rows : RowsBySpot) → AllByRecursion (λ one. IsTold l.style.tables l.wanted (number_of l.map) rows one.0 one.1) l.records
+      → Fills (number_of l.map) rows (Among (take l.number-index l.records)) l.fn.tables l.tables;
+  spelled : AllByRecursion (λ one. AreRowsOf l.style.tables (number_of l.map) one.0 one.1) (take l.number-index l.records);
+}

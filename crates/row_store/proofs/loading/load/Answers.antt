@@ -26,3 +26,7 @@ returns-in-Ok-clause-others g c rest now rows has nodes others =
 pub returns-in-Err-add_map-clause-sound : goal.returns-in-Err-add_map-clause-sound
 returns-in-Err-add_map-clause-sound g c rest now rows has nodes others =
     c.in-Err-add_map.ensures.sound rest now rows (c.in_default.ensures.has rest now has) others
+
+pub returns-in-Ok-clause-spelled : goal.returns-in-Ok-clause-spelled
+returns-in-Ok-clause-spelled g c rest now has =
+    (c.in_default.ensures.spelled rest now has, c.in-Ok.ensures.spelled rest now (c.in_default.ensures.has rest now has))
