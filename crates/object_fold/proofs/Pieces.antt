@@ -1,8 +1,9 @@
 -- How far a file was read, from one read to the next.
-use Rattle.std.proofs.Common.{◌≡◌, ℕ, suc, zero, ◌+◌, ◌≤◌, Bool, Option, Some, None, Result, Ok, Err, OnErr, List, [], ◌∷◌, ◌++◌, length}
-use Rattle.std.proofs.Common.{replicate, length-append, append_assoc, refl, sym, ◌∙◌, ap, subst, arith}
+use Rattle.std.proofs.Common.{◌≡◌, ℕ, suc, zero, ◌+◌, ◌≤◌, Bool, Option, Some, None, Result, Ok, Err, OnErr, List, [], ◌∷◌, ◌++◌}
+use Rattle.std.proofs.Common.{length, replicate, length-append, append_assoc, refl, sym, ◌∙◌, ap, subst, arith}
 use Rattle.std.specs.Io.KnownBytes.{Consumes, Keeps}
 use Rattle.outside.specs.Bytes.{BothKnown}
+use Rattle.outside.specs.Inputs.{FilesView}
 use Rattle.osm_base.specs.declared.bounds.limits.LimitNumbers.{LimitNumbers}
 use Rattle.osm_base.specs.declared.values.object.Entry.{Entry}
 use Rattle.object_fold.specs.declared.progress.Progress.{Progress}
@@ -10,7 +11,7 @@ use Rattle.object_fold.specs.declared.scan.TheConstants.{PIECE}
 use Rattle.object_fold.specs.Entries.{entries_of}
 use Rattle.object_fold.specs.Keeps.{kept_all}
 use Rattle.object_fold.specs.Progress.{entries_left, IsReady, HasRead, ReadsPiece}
-use Rattle.object_fold.specs.Reading.{ReadsAtMost, ReadsNoFurther}
+use Rattle.object_fold.specs.Reading.{ReadsAtMost, ReadsNoFurther, ReadsNoOther, ReadsOnce}
 use Rattle.object_fold.specs.Whole.{MovesBytes}
 use Rattle.object_fold.proofs.Undecided.{LeavesOpen-none, undecided}
 
@@ -127,16 +128,27 @@ replicate-more : (count file : ℕ) → replicate count file ++ file ∷ [] ≡ 
 replicate-more zero file = refl
 replicate-more (suc count) file = ap (λ files. file ∷ files) (replicate-more count file)
 
-pub read_again : {I : Type 0} (reads : I → List ℕ → I → Type 0)
-    (law : (first second third : I) (before after : List ℕ) → reads first before second → reads second after third
-    → reads first (before ++ after) third)
-    (file : ℕ) (old now new : I) → ((count : ℕ) × reads old (replicate count file) now) → reads now (file ∷ []) new
-    → ((count : ℕ) × reads old (replicate count file) new)
-read_again reads law file old now new so_far again = (
-  suc so_far.0,
-  subst (λ files. reads old files new) (replicate-more so_far.0 file)
-      (law old now new (replicate so_far.0 file) (file ∷ []) so_far.1 again),
-)
+module _ {I : Type 0} (reads : I → List ℕ → I → Type 0) (view : I → FilesView) (file : ℕ) where
+  pub read_never : ((inputs : I) → reads inputs [] inputs) → (old : I)
+      → ReadsNoOther file (λ asked. reads old asked old) (view old) (view old)
+  read_never law old = record { asked = (0, law old); alone = record { others = λ other differs. refl; later = omega arith } }
+
+  pub read_again : ((first second third : I) (before after : List ℕ) → reads first before second → reads second after third
+      → reads first (before ++ after) third)
+      → (old now new : I) → ReadsNoOther file (λ asked. reads old asked now) (view old) (view now)
+      → ReadsOnce file (λ asked. reads now asked new) (view now) (view new)
+      → ReadsNoOther file (λ asked. reads old asked new) (view old) (view new)
+  read_again law old now new so_far again = record {
+    asked = (
+      suc so_far.asked.0,
+      subst (λ files. reads old files new) (replicate-more so_far.asked.0 file)
+          (law old now new (replicate so_far.asked.0 file) (file ∷ []) so_far.asked.1 again.asked),
+    );
+    alone = record {
+      others = λ other differs. again.alone.others other differs ∙ so_far.alone.others other differs;
+      later = omega (arith, so_far.alone.later, again.alone.later);
+    };
+  }
 
 -- the bytes of a file that are kept
 

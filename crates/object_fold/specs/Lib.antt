@@ -3,6 +3,7 @@ pub mod Entries
 pub mod Keeps
 pub mod Listing
 pub mod Listings
+pub mod Objects
 pub mod Passed
 pub mod Progress
 pub mod Reading

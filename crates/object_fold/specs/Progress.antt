@@ -17,6 +17,7 @@ use Rattle.object_fold.specs.declared.progress.Progress.{Progress}
 use Rattle.object_fold.specs.Entries.{unless, entries_of}
 use Rattle.object_fold.specs.Keeps.{kept_all}
 use Rattle.object_fold.specs.Passed.{spelled, line_fault}
+use Rattle.object_fold.specs.Reading.{TakesNext}
 
 -- the key of an entry, if there is one, and else this one
 abbrev pub last_of : Option KeyOf → Option Entry → Option KeyOf
@@ -56,6 +57,11 @@ pub record IsReady (limits : LimitNumbers) (progress : Progress) : Type 0 where
   pub entries : progress.passed.entries ≤ limits.entries
   pub no_fault : progress.reader.failed ≡ None
   pub keeps : KeepsLimits progress.reader
+
+-- the reader is ready, and one who is given the entries may be given each that comes next
+pub record IsReadyFor {K : Type 0} (takes : K → KeyOf → Type 0) (limits : LimitNumbers) (progress : Progress) (keeper : K) : Type 0 where
+  pub ready : IsReady limits progress
+  pub next : TakesNext takes progress.passed.last keeper
 
 -- from the front of the bytes some were read: whatever follows them, they and it come to what it comes to now
 pub record Reads {K : Type 0} (after : K → Entry → K) (limits : LimitNumbers) (whole : List ℕ → Result (List Entry) FileFault) (before : K)

@@ -1,9 +1,10 @@
 -- What reading a file comes to: `entries_of` its bytes, or its first fault, and how far it was read.
-use Rattle.std.specs.Prelude.{◌≡◌, ◌≤◌, List, [], ◌++◌, ℕ, length, Option, Ok, Err, IfSome}
+use Rattle.std.specs.Prelude.{◌≡◌, ◌≢◌, ◌≤◌, List, [], ◌∷◌, ◌++◌, ℕ, length, replicate, Option, Ok, Err, IfSome}
 use Rattle.osm_base.specs.declared.bounds.limits.LimitNumbers.{LimitNumbers}
 use Rattle.osm_base.specs.declared.values.object.Entry.{Entry}
 use Rattle.osm_base.specs.values.Key.{KeyOf}
 use Rattle.outside.specs.Bytes.{BothKnown}
+use Rattle.outside.specs.Inputs.{FilesView}
 use Rattle.object_fold.specs.declared.fault.FileFault.{FileFault}
 use Rattle.object_fold.specs.declared.scan.TheConstants.{PIECE}
 use Rattle.object_fold.specs.Change.{Follows}
@@ -13,6 +14,21 @@ use Rattle.object_fold.specs.Keeps.{kept_all}
 -- one who may be given each entry that comes after the last one
 abbrev pub TakesNext : {K : Type 0} → (K → KeyOf → Type 0) → Option KeyOf → K → Type 0
 TakesNext takes last keeper = (next : KeyOf) → Follows last next → takes keeper next
+
+-- no other file was touched, and the count of faults did not fall
+pub record IsReadAlone (file : ℕ) (old new : FilesView) : Type 0 where
+  pub others : (other : ℕ) → other ≢ file → new.left other ≡ old.left other
+  pub later : old.faults ≤ new.faults
+
+-- one read was asked for, of this file
+pub record ReadsOnce (file : ℕ) (asks : List ℕ → Type 0) (old new : FilesView) : Type 0 where
+  pub asked : asks (file ∷ [])
+  pub alone : IsReadAlone file old new
+
+-- some reads were asked for, each of this file
+pub record ReadsNoOther (file : ℕ) (asks : List ℕ → Type 0) (old new : FilesView) : Type 0 where
+  pub asked : (count : ℕ) × asks (replicate count file)
+  pub alone : IsReadAlone file old new
 
 -- the whole file was read, to its end, and this is made of the keeper
 abbrev pub ReadsAll : {K : Type 0} → (K → Entry → K) → LimitNumbers → K → K → Option (List ℕ) → Option (List ℕ) → Type 0

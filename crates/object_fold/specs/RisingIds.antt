@@ -1,5 +1,5 @@
 -- Lists of ids that rise, each id once.
-use Rattle.std.specs.Prelude.{◌≡◌, ◌<◌, ◌≤◌, ℕ, Bool, not, ◌&&◌, ◌||◌, List, length, slice_index_or, nat_eq}
+use Rattle.std.specs.Prelude.{◌≡◌, ◌<◌, ◌≤◌, ℕ, not, ◌&&◌, ◌||◌, List, length, slice_index_or, nat_eq}
 use Rattle.osm_base.specs.values.Ids.{has}
 
 -- the second list has the ids of the first one, and this one

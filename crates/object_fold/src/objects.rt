@@ -1,15 +1,14 @@
 //! The objects of a map, in memory.
-ghost use Rattle.std.specs.Prelude.{◌≡◌, ◌≤◌, ℕ, false, Some, take, IfOk, IfErr, OnOk, OnErr};
+ghost use Rattle.std.specs.Prelude.{◌≡◌, ℕ, false, Some, take, IfOk, OnOk, OnErr};
 ghost use Rattle.std.proofs.Common.{◌∙◌};
 ghost use Rattle.std.specs.FinMap as map;
-ghost use Rattle.std.specs.Option.{option_copied};
 ghost use Rattle.osm_base.specs.values.Ids.{AreRisingIds};
 ghost use Rattle.osm_base.specs.values.KeyOrder.{key_cmp};
-ghost use Rattle.osm_base.specs.declared.bounds.memory.OutOfMemory.{OutOfMemory as NoMemory};
 ghost use Rattle.osm_base.specs.map.Objects.{folded, folded_all, objects_in, place_in};
 ghost use Rattle.osm_base.specs.map.Listers.{index_of, known_of};
 ghost use Rattle.osm_base.specs.values.Ids.{has};
 ghost use Rattle.object_fold.specs.Listings.{AreListingsOf, AreListedBy, HasIds, AreListed, AddsSome, Turns, added};
+ghost use Rattle.object_fold.specs.Objects.{MakesOrKeeps};
 
 use crate::Change;
 use crate::listed::Listed;
@@ -133,8 +132,8 @@ fn set_object(
     key: Key,
     object: Object,
 ) -> Result<(), OutOfMemory>
-    ensures ok { OnOk result (objects_in objects.new ≡ map.insert (objects_in objects.old) key object) }
-    ensures err { OnErr result (objects_in objects.new ≡ objects_in objects.old) }
+    ensures objects { MakesOrKeeps result (objects_in objects.old) (map.insert (objects_in objects.old) key object)
+        (objects_in objects.new) }
 {
     objects.insert(key, object)?;
     Ok(())
@@ -157,9 +156,9 @@ fn insert(
     object: Object,
     ids: &Listed,
 ) -> Result<(), OutOfMemory>
-    ensures ok { OnOk result (objects_in objects.new ≡ map.insert (objects_in objects.old) key object) }
+    ensures objects { MakesOrKeeps result (objects_in objects.old) (map.insert (objects_in objects.old) key object)
+        (objects_in objects.new) }
     ensures listed { OnOk result (Turns (added key ids.now) listings.old listings.new) }
-    ensures err { OnErr result (objects_in objects.new ≡ objects_in objects.old) }
     ensures some { OnErr result (AddsSome key ids.now listings.old listings.new) }
 {
     listings.add(alloc, key, ids)?;
@@ -176,8 +175,8 @@ fn put(
     object: Object,
 ) -> Result<(), OutOfMemory>
     requires { AreListingsOf (objects_in objects.old) listings.old }
-    ensures ok { OnOk result (objects_in objects.new ≡ map.insert (objects_in objects.old) key object) }
-    ensures err { OnErr result (objects_in objects.new ≡ objects_in objects.old) }
+    ensures objects { MakesOrKeeps result (objects_in objects.old) (map.insert (objects_in objects.old) key object)
+        (objects_in objects.new) }
     ensures listings { AreListingsOf (objects_in objects.new) listings.new }
 {
     prove!(1 <= key.id && key.id <= MAX_ID);
@@ -203,8 +202,7 @@ fn take_out(
     key: Key,
 ) -> Result<(), OutOfMemory>
     requires { AreListingsOf (objects_in objects.old) listings.old }
-    ensures ok { OnOk result (objects_in objects.new ≡ map.remove (objects_in objects.old) key) }
-    ensures err { OnErr result (objects_in objects.new ≡ objects_in objects.old) }
+    ensures objects { MakesOrKeeps result (objects_in objects.old) (map.remove (objects_in objects.old) key) (objects_in objects.new) }
     ensures listings { AreListingsOf (objects_in objects.new) listings.new }
 {
     if key.kind == Kind::Node {

@@ -1,10 +1,10 @@
 //! The entries of a file, while it is read piece by piece.
-ghost use Rattle.std.specs.Prelude.{◌≡◌, ◌≢◌, ◌<◌, ◌≤◌, ◌+◌, ◌++◌, ℕ, List, [], Ok, Err, None, Some, length, drop, IfOk, IfErr, OnOk};
+ghost use Rattle.std.specs.Prelude.{◌≡◌, ◌<◌, ◌≤◌, ◌+◌, ◌++◌, ℕ, List, [], Ok, Err, None, Some, length, drop, IfOk, IfErr, OnOk};
 ghost use Rattle.opl_lines.specs.Reading.{room};
 ghost use Rattle.object_fold.specs.Entries.{entries_of};
 ghost use Rattle.object_fold.specs.Keeps.{kept, kept_all};
 ghost use Rattle.object_fold.specs.Passed.{spelled, text_fault};
-ghost use Rattle.object_fold.specs.Progress.{IsReady, entries_left, passed_line};
+ghost use Rattle.object_fold.specs.Progress.{IsReady, IsReadyFor, entries_left, passed_line};
 ghost use Rattle.object_fold.specs.Reading.{TakesNext};
 ghost use Rattle.object_fold.specs.Stops.{StopsAt};
 
@@ -91,12 +91,9 @@ impl Progress {
         piece: &[u8],
     ) -> Result<usize, FileFault>
         requires some { 0 < length piece.now }
-        requires ready { IsReady limits.now self.old }
-        requires takes { TakesNext K.takes self.old.passed.last keeper.old }
-        ensures ready { OnOk result (IsReady limits.now self.new) }
-        ensures takes { OnOk result (TakesNext K.takes self.new.passed.last keeper.new) }
-        ensures some { IfOk result (λ used. 0 < used) }
-        ensures within { IfOk result (λ used. used ≤ length piece.now) }
+        requires ready { IsReadyFor K.takes limits.now self.old keeper.old }
+        ensures ready { OnOk result (IsReadyFor K.takes limits.now self.new keeper.new) }
+        ensures used { IfOk result (λ used. (0 < used) × (used ≤ length piece.now)) }
         ensures entries { IfOk result (λ used. (later : List ℕ) →
             kept_all K.after keeper.old (entries_left limits.now self.old (piece.now ++ later))
             ≡ kept_all K.after keeper.new (entries_left limits.now self.new (drop used piece.now ++ later))) }
@@ -122,10 +119,8 @@ impl Progress {
         keeper: &mut K,
         piece: &[u8],
     ) -> Result<(), FileFault>
-        requires ready { IsReady limits.now self.old }
-        requires takes { TakesNext K.takes self.old.passed.last keeper.old }
-        ensures ready { OnOk result (IsReady limits.now self.new) }
-        ensures takes { OnOk result (TakesNext K.takes self.new.passed.last keeper.new) }
+        requires ready { IsReadyFor K.takes limits.now self.old keeper.old }
+        ensures ready { OnOk result (IsReadyFor K.takes limits.now self.new keeper.new) }
         ensures entries { OnOk result ((later : List ℕ) →
             kept_all K.after keeper.old (entries_left limits.now self.old (piece.now ++ later))
             ≡ kept_all K.after keeper.new (entries_left limits.now self.new later)) }
@@ -149,8 +144,7 @@ impl Progress {
         limits: &Limits,
         keeper: &mut K,
     ) -> Result<(), FileFault>
-        requires ready { IsReady limits.now self }
-        requires takes { TakesNext K.takes self.passed.last keeper.old }
+        requires ready { IsReadyFor K.takes limits.now self keeper.old }
         ensures kept { OnOk result (kept_all K.after keeper.old (entries_left limits.now self []) ≡ Ok keeper.new) }
         ensures stopped { IfErr result (StopsAt (λ fault. kept_all K.after keeper.old (entries_left limits.now self []) ≡ Err fault)) }
     {

@@ -1,11 +1,12 @@
 //! A file of entries, read piece by piece to its end.
-ghost use Rattle.std.specs.Prelude.{◌≡◌, ◌≢◌, ◌≤◌, ◌<◌, ℕ, [], ◌∷◌, None, true, length, replicate, IfOk, IfErr, OnOk, OnErr};
+ghost use Rattle.std.specs.Prelude.{◌≡◌, ◌≤◌, ◌<◌, None, true, length, IfOk, IfErr, OnOk, OnErr};
 ghost use Rattle.opl_lines.specs.Reading.{room};
 ghost use Rattle.outside.specs.Bytes.{IfTold};
 ghost use Rattle.outside.specs.Causes.{Rose};
 ghost use Rattle.object_fold.specs.Entries.{IsAccepted};
-ghost use Rattle.object_fold.specs.Progress.{IsReady, ReadsOn, ReadsPiece, IsKeptFault};
-ghost use Rattle.object_fold.specs.Reading.{TakesNext, ReadsAll, ReadsAtMost, ReadsNoFurther, IsFaultOf, HasEntries};
+ghost use Rattle.object_fold.specs.Progress.{IsReadyFor, ReadsOn, ReadsPiece, IsKeptFault};
+ghost use Rattle.object_fold.specs.Reading.{TakesNext, ReadsAll, ReadsAtMost, ReadsNoFurther, ReadsNoOther, ReadsOnce};
+ghost use Rattle.object_fold.specs.Reading.{IsFaultOf, HasEntries};
 ghost use Rattle.object_fold.specs.Stops.{Stops};
 
 use crate::progress::Progress;
@@ -36,21 +37,17 @@ fn read_on<I: Inputs, K: Keeper>(
     keeper: &mut K,
 ) -> Result<bool, FileFault>
     requires some { 0 < length buffer.old }
-    requires ready { IsReady limits.now progress.old }
-    requires takes { TakesNext K.takes progress.old.passed.last keeper.old }
-    ensures ready { OnOk result (IsReady limits.now progress.new) }
-    ensures takes { OnOk result (TakesNext K.takes progress.new.passed.last keeper.new) }
+    requires ready { IsReadyFor K.takes limits.now progress.old keeper.old }
+    ensures ready { OnOk result (IsReadyFor K.takes limits.now progress.new keeper.new) }
     ensures bytes { IfOk result (λ more. ReadsOn K.after limits.now progress.old keeper.old progress.new keeper.new more
         ((I.view inputs.old).left file) ((I.view inputs.new).left file)) }
     ensures piece { OnOk result (ReadsPiece K.after limits.now progress.old keeper.old progress.new keeper.new
         ((I.view inputs.old).left file) ((I.view inputs.new).left file)) }
     ensures left { OnErr result (ReadsAtMost (length buffer.old) ((I.view inputs.old).left file) ((I.view inputs.new).left file)) }
-    ensures read { I.reads inputs.old (file ∷ []) inputs.new }
+    ensures read { ReadsOnce file (λ asked. I.reads inputs.old asked inputs.new) (I.view inputs.old) (I.view inputs.new) }
     ensures room { IfOk result (λ more. more ≡ true → room progress.new.reader < room progress.old.reader) }
     ensures stopped { IfErr result (Stops (IsKeptFault K.after limits.now progress.old keeper.old ((I.view inputs.old).left file))
         (Rose (I.view inputs.old).faults (I.view inputs.new).faults)) }
-    ensures later { (I.view inputs.old).faults ≤ (I.view inputs.new).faults }
-    ensures others { (other : ℕ) → other ≢ file → (I.view inputs.new).left other ≡ (I.view inputs.old).left other }
 {
     let Ok(count) = inputs.next(file, buffer) else {
         return Err(FileFault::ReadFault);
@@ -71,12 +68,12 @@ pub fn scan_file<I: Inputs, K: Keeper>(
     keeper: &mut K,
 ) -> Result<(), FileFault>
     requires takes { TakesNext K.takes None keeper.old }
-    ensures ok { OnOk result (ReadsAll K.after limits.now keeper.old keeper.new ((I.view inputs.old).left file) ((I.view inputs.new).left file)) }
-    ensures stopped { IfErr result (Stops (IsFaultOf limits.now ((I.view inputs.old).left file)) (Rose (I.view inputs.old).faults (I.view inputs.new).faults)) }
+    ensures ok { OnOk result (ReadsAll K.after limits.now keeper.old keeper.new
+        ((I.view inputs.old).left file) ((I.view inputs.new).left file)) }
+    ensures stopped { IfErr result (Stops (IsFaultOf limits.now ((I.view inputs.old).left file))
+        (Rose (I.view inputs.old).faults (I.view inputs.new).faults)) }
     ensures left { OnErr result (ReadsNoFurther limits.now ((I.view inputs.old).left file) ((I.view inputs.new).left file)) }
-    ensures read { (count : ℕ) × I.reads inputs.old (replicate count file) inputs.new }
-    ensures later { (I.view inputs.old).faults ≤ (I.view inputs.new).faults }
-    ensures others { (other : ℕ) → other ≢ file → (I.view inputs.new).left other ≡ (I.view inputs.old).left other }
+    ensures read { ReadsNoOther file (λ asked. I.reads inputs.old asked inputs.new) (I.view inputs.old) (I.view inputs.new) }
 {
     let mut buffer = piece_buffer(alloc)?;
     let mut progress = Progress::new(alloc, limits);
@@ -101,11 +98,10 @@ pub fn read_file<I: Inputs>(
 ) -> Result<Change, FileFault>
     ensures ok { IfOk result (λ change. HasEntries limits.now change ((I.view inputs.old).left file) ((I.view inputs.new).left file)) }
     ensures accepted { IfOk result (λ change. IfTold ((I.view inputs.old).left file) (λ bytes. IsAccepted limits.now bytes change)) }
-    ensures stopped { IfErr result (Stops (IsFaultOf limits.now ((I.view inputs.old).left file)) (Rose (I.view inputs.old).faults (I.view inputs.new).faults)) }
+    ensures stopped { IfErr result (Stops (IsFaultOf limits.now ((I.view inputs.old).left file))
+        (Rose (I.view inputs.old).faults (I.view inputs.new).faults)) }
     ensures left { OnErr result (ReadsNoFurther limits.now ((I.view inputs.old).left file) ((I.view inputs.new).left file)) }
-    ensures read { (count : ℕ) × I.reads inputs.old (replicate count file) inputs.new }
-    ensures later { (I.view inputs.old).faults ≤ (I.view inputs.new).faults }
-    ensures others { (other : ℕ) → other ≢ file → (I.view inputs.new).left other ≡ (I.view inputs.old).left other }
+    ensures read { ReadsNoOther file (λ asked. I.reads inputs.old asked inputs.new) (I.view inputs.old) (I.view inputs.new) }
 {
     let mut change = Change::new(alloc);
     scan_file(alloc, inputs, file, limits, &mut change)?;

@@ -1,7 +1,7 @@
 //! All bytes of a short file.
-ghost use Rattle.std.specs.Prelude.{◌≡◌, ◌≢◌, ◌≤◌, ◌<◌, ◌+◌, ℕ, [], ◌∷◌, true, length, replicate, IfOk, IfErr, OnOk, OnErr};
+ghost use Rattle.std.specs.Prelude.{◌≡◌, ◌≤◌, ◌<◌, ◌+◌, true, length, IfOk, IfErr, OnOk, OnErr};
 ghost use Rattle.outside.specs.Causes.{Rose};
-ghost use Rattle.object_fold.specs.Reading.{ReadsAtMost};
+ghost use Rattle.object_fold.specs.Reading.{ReadsAtMost, ReadsNoOther, ReadsOnce};
 ghost use Rattle.object_fold.specs.Whole.{IsWhole, MovesBytes, IsOver, StopsWhole};
 ghost use Rattle.object_fold.specs.declared.whole.WholeFault.TheVariants.{OutOfMemory as NoMemory};
 
@@ -49,13 +49,13 @@ fn add_piece<I: Inputs>(
     requires some { 0 < length buffer.old }
     requires within { length bytes.old.items ≤ max }
     ensures within { OnOk result (length bytes.new.items ≤ max) }
-    ensures bytes { IfOk result (λ more. MovesBytes bytes.old.items bytes.new.items more ((I.view inputs.old).left file) ((I.view inputs.new).left file)) }
+    ensures bytes { IfOk result (λ more. MovesBytes bytes.old.items bytes.new.items more
+        ((I.view inputs.old).left file) ((I.view inputs.new).left file)) }
     ensures left { OnErr result (ReadsAtMost (length buffer.old) ((I.view inputs.old).left file) ((I.view inputs.new).left file)) }
-    ensures read { I.reads inputs.old (file ∷ []) inputs.new }
+    ensures read { ReadsOnce file (λ asked. I.reads inputs.old asked inputs.new) (I.view inputs.old) (I.view inputs.new) }
     ensures grows { IfOk result (λ more. more ≡ true → length bytes.old.items < length bytes.new.items) }
-    ensures stopped { IfErr result (StopsWhole (IsOver max (length bytes.old.items) ((I.view inputs.old).left file)) (Rose (I.view inputs.old).faults (I.view inputs.new).faults)) }
-    ensures later { (I.view inputs.old).faults ≤ (I.view inputs.new).faults }
-    ensures others { (other : ℕ) → other ≢ file → (I.view inputs.new).left other ≡ (I.view inputs.old).left other }
+    ensures stopped { IfErr result (StopsWhole (IsOver max (length bytes.old.items) ((I.view inputs.old).left file))
+        (Rose (I.view inputs.old).faults (I.view inputs.new).faults)) }
 {
     let Ok(count) = inputs.next(file, buffer) else {
         return Err(WholeFault::ReadFault);
@@ -79,12 +79,11 @@ pub fn read_all<I: Inputs>(
 ) -> Result<Bytes, WholeFault>
     ensures whole { IfOk result (λ bytes. IsWhole bytes ((I.view inputs.old).left file) ((I.view inputs.new).left file)) }
     ensures within { IfOk result (λ bytes. length bytes ≤ max) }
-    ensures stopped { IfErr result (StopsWhole (IsOver max 0 ((I.view inputs.old).left file)) (Rose (I.view inputs.old).faults (I.view inputs.new).faults)) }
+    ensures stopped { IfErr result (StopsWhole (IsOver max 0 ((I.view inputs.old).left file))
+        (Rose (I.view inputs.old).faults (I.view inputs.new).faults)) }
     // No more is read than the bytes that there may be and one piece.
     ensures left { OnErr result (ReadsAtMost (max + PIECE) ((I.view inputs.old).left file) ((I.view inputs.new).left file)) }
-    ensures read { (count : ℕ) × I.reads inputs.old (replicate count file) inputs.new }
-    ensures later { (I.view inputs.old).faults ≤ (I.view inputs.new).faults }
-    ensures others { (other : ℕ) → other ≢ file → (I.view inputs.new).left other ≡ (I.view inputs.old).left other }
+    ensures read { ReadsNoOther file (λ asked. I.reads inputs.old asked inputs.new) (I.view inputs.old) (I.view inputs.new) }
 {
     let mut buffer = piece_buffer(alloc)?;
     let mut bytes = Vec::new(alloc);

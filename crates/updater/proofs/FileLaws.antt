@@ -15,7 +15,7 @@ use Rattle.outside.specs.Bytes.{IfTold}
 use Rattle.outside.specs.Causes.{Rose}
 use Rattle.outside.specs.Inputs.{FilesView}
 use Rattle.object_fold.specs.Entries.{IsAccepted, entries_of}
-use Rattle.object_fold.specs.Reading.{HasEntries, IsFaultOf}
+use Rattle.object_fold.specs.Reading.{HasEntries, IsFaultOf, IsReadAlone}
 use Rattle.object_fold.specs.Stops.{Stops}
 use Rattle.object_fold.specs.Whole.{IsOver, IsWhole, StopsWhole}
 use Rattle.object_fold.specs.declared.fault.FileFault.{FileFault}
@@ -32,7 +32,7 @@ use Rattle.tile_cover.specs.declared.fault.BoundsFault.{BoundsFault}
 use Rattle.tile_cover.specs.declared.fault.BoundsFault.TheVariants as bounds
 use Rattle.run_promise.specs.declared.fault.Fault.TheVariants as faults
 use Rattle.run_promise.specs.declared.files.TheConstants.{MAX_WHOLE}
-use Rattle.updater.specs.FileReads.{IsRead, IsReadAlone, IsUnread}
+use Rattle.updater.specs.FileReads.{IsRead, IsUnread}
 use Rattle.run_promise.specs.Files.{IsBounds, IsChange, IsQueries, IsStyle, bounds_fault, change_in, fault_in, of_file, query_fault}
 use Rattle.run_promise.specs.Files.{style_fault, whole_fault}
 

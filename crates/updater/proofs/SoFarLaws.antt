@@ -12,7 +12,8 @@ use Rattle.run_promise.specs.declared.fault.Fault.{Fault}
 use Rattle.run_promise.specs.declared.fault.Fault.TheVariants as faults
 use Rattle.run_promise.specs.Comes.{AreTold, Comes, IsCertain, BreaksIn, unread, short, refused}
 use Rattle.run_promise.specs.Course.{Course, ends, refuses, reads, tells, writes}
-use Rattle.updater.specs.FileReads.{IsRead, IsReadAlone, IsUnread, StopsFor}
+use Rattle.object_fold.specs.Reading.{IsReadAlone}
+use Rattle.updater.specs.FileReads.{IsRead, IsUnread, StopsFor}
 use Rattle.updater.specs.Heads.{GoesOn, IsSoFar}
 use Rattle.run_promise.specs.Leaves.{HasCause, Leaves, StandsOn}
 use Rattle.run_promise.specs.Progress.{Standing, unused, unknown, keeps, half_made, Progress, Ending, at, at_file, at_text, past, plus}

@@ -1,5 +1,6 @@
 -- What reading a file of a command comes to.
-use Rattle.std.specs.Prelude.{◌≡◌, ◌≢◌, ◌≤◌, ◌<◌, ◌+◌, ℕ, List, [], Some, Result, Ok, Err, IfOk, IfErr, replicate}
+use Rattle.std.specs.Prelude.{◌≡◌, ◌≤◌, ◌<◌, ◌+◌, ℕ, List, [], Some, Result, Ok, Err, IfOk, IfErr, replicate}
+use Rattle.object_fold.specs.Reading.{IsReadAlone}
 use Rattle.outside.specs.Bytes.{IfTold}
 use Rattle.outside.specs.Causes.{Rose}
 use Rattle.outside.specs.Inputs.{FilesView}
@@ -10,11 +11,6 @@ use Rattle.run_promise.specs.Comes.{IsOfFile}
 -- so many files from this one on
 abbrev pub Among : (first count : ℕ) → ℕ → Type 0
 Among first count file = (first ≤ file) × (file < first + count)
-
--- no other file was touched, and the count of faults did not fall
-pub record IsReadAlone (file : ℕ) (old new : FilesView) : Type 0 where
-  pub others : (other : ℕ) → other ≢ file → new.left other ≡ old.left other
-  pub later : old.faults ≤ new.faults
 
 -- the file was read to its end, and as this
 pub record IsRead {A : Type 0} (Reads : List ℕ → Result A Fault → Type 0) (file : ℕ) (found : A) (old new : FilesView) : Type 0 where

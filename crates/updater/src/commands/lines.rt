@@ -1,9 +1,9 @@
 //! `lines KEY INPUT CHANGE*`: a row for each way that has the tag and a line.
-ghost use Rattle.std.specs.Prelude.{◌≡◌, ◌≢◌, ◌≤◌, ℕ, IfErr, IfOk, OnOk, replicate};
+ghost use Rattle.std.specs.Prelude.{IfErr, IfOk, OnOk};
 ghost use Rattle.std.specs.Result.{result_err};
 ghost use Rattle.std.specs.Str.{chars};
 ghost use Rattle.outside.specs.Causes.{Rose};
-ghost use Rattle.object_fold.specs.Reading.{IsFaultOf, ReadsAll};
+ghost use Rattle.object_fold.specs.Reading.{IsFaultOf, ReadsAll, ReadsNoOther};
 ghost use Rattle.object_fold.specs.Stops.{Stops};
 ghost use Rattle.run_promise.specs.CommandOf.{Fit, Names, lines_of};
 ghost use Rattle.updater.specs.Command.{IsReadAs};
@@ -76,9 +76,7 @@ fn import<'k, I: Inputs>(
         ((I.view inputs.old).left file) ((I.view inputs.new).left file)) }
     ensures stopped { IfErr result (Stops (IsFaultOf limits.now ((I.view inputs.old).left file))
         (Rose (I.view inputs.old).faults (I.view inputs.new).faults)) }
-    ensures later { (I.view inputs.old).faults ≤ (I.view inputs.new).faults }
-    ensures others { (other : ℕ) → other ≢ file → (I.view inputs.new).left other ≡ (I.view inputs.old).left other }
-    ensures read { (count : ℕ) × I.reads inputs.old (replicate count file) inputs.new }
+    ensures read { ReadsNoOther file (λ asked. I.reads inputs.old asked inputs.new) (I.view inputs.old) (I.view inputs.new) }
 {
     let mut import = WayImport::new(alloc, key);
     scan_file(alloc, inputs, file, limits, &mut import)?;
@@ -97,9 +95,7 @@ fn change<I: Inputs>(
         ((I.view inputs.old).left file) ((I.view inputs.new).left file)) }
     ensures stopped { IfErr result (Stops (IsFaultOf limits.now ((I.view inputs.old).left file))
         (Rose (I.view inputs.old).faults (I.view inputs.new).faults)) }
-    ensures later { (I.view inputs.old).faults ≤ (I.view inputs.new).faults }
-    ensures others { (other : ℕ) → other ≢ file → (I.view inputs.new).left other ≡ (I.view inputs.old).left other }
-    ensures read { (count : ℕ) × I.reads inputs.old (replicate count file) inputs.new }
+    ensures read { ReadsNoOther file (λ asked. I.reads inputs.old asked inputs.new) (I.view inputs.old) (I.view inputs.new) }
 {
     let mut change = rows.begin();
     scan_file(alloc, inputs, file, limits, &mut change)?;

@@ -1,8 +1,8 @@
-use Rattle.std.proofs.Common.{refl, length, sym, subst, ap, ◌∙◌, arith}
+use Rattle.std.proofs.Common.{length, sym, subst, ap, arith}
 use Rattle.std.proofs.lemmas.Grind.{common_steps}
 use Rattle.object_fold.specs.declared.scan.TheConstants.{PIECE}
 use Rattle.object_fold.specs.Reading.{TakesNext}
-use Rattle.object_fold.proofs.Pieces.{on_err, reads_nothing, reads_within, read_nothing, read_more, read_comes_to, read_again}
+use Rattle.object_fold.proofs.Pieces.{on_err, reads_nothing, reads_within, read_nothing, read_more, read_comes_to, read_again, read_never}
 use Rattle.object_fold.proofs.Pieces.{stops_at_start, stops_in_time}
 use Rattle.object_fold.proofs.scan.scan_file.Goals as goal
 
@@ -15,7 +15,7 @@ returns-in_err-buffer-clause-left g c = on_err c.from_residual.result _
 pub returns-in_err-buffer-clause-read : goal.returns-in_err-buffer-clause-read
 returns-in_err-buffer-clause-read g c =
     let laws = g.met.I.Inputs g.world.𝓛 g.world.𝓜 g.world.𝓡 ((λ s x. x), (λ x. x), (λ x. x), λ x. x) in
-    (0, laws.reads_none c.args.inputs.now)
+    read_never g.I.Inputs.reads g.I.Inputs.view c.args.file laws.reads_none c.args.inputs.now
 
 pub loop-progress-init : goal.loop-progress-init
 loop-progress-init g c =
@@ -23,15 +23,15 @@ loop-progress-init g c =
     let start = (g.I.Inputs.view c.args.inputs.now).left c.args.file in
     let read = read_nothing g.K.Keeper.after c.args.limits.now c.args.keeper.now c.new-progress.result c.new-progress.ensures.start start in
     record {
-      ready = c.new-progress.ensures.ready;
       some = c.in_ok-buffer.ensures.some;
       room = c.in_ok-buffer.ensures.room;
-      takes = subst (λ last. TakesNext g.K.Keeper.takes last c.args.keeper.now) (sym c.new-progress.ensures.first) c.requires.takes;
+      ready = record {
+        ready = c.new-progress.ensures.ready;
+        next = subst (λ last. TakesNext g.K.Keeper.takes last c.args.keeper.now) (sym c.new-progress.ensures.first) c.requires.takes;
+      };
       entries = read_comes_to g.K.Keeper.after c.args.limits.now c.args.keeper.now c.new-progress.result c.args.keeper.now start start read;
       read = read;
-      reads = (0, laws.reads_none c.args.inputs.now);
-      later = omega arith;
-      others = λ other differs. refl;
+      alone = read_never g.I.Inputs.reads g.I.Inputs.view c.args.file laws.reads_none c.args.inputs.now;
     }
 
 -- one more
@@ -43,15 +43,15 @@ returns-in_err-read_on-clause-left g c =
     let rest = (g.I.Inputs.view c.read_on.new.inputs).left c.args.file in
     on_err c.from_residual-in_err-read_on.result _
     (stops_in_time g.K.Keeper.after c.args.limits.now c.args.keeper.now c.loop-progress.progress c.loop-progress.keeper start left rest
-    c.loop-progress.invariant.ready c.loop-progress.invariant.read
+    c.loop-progress.invariant.ready.ready c.loop-progress.invariant.read
     (reads_within (length c.deref_mut.result.now) PIECE left rest
     (omega (arith, ap length c.deref_mut.ensures.value, c.loop-progress.invariant.room)) c.in_err-read_on.ensures.left))
 
 pub returns-in_err-read_on-clause-read : goal.returns-in_err-read_on-clause-read
 returns-in_err-read_on-clause-read g c =
     let laws = g.met.I.Inputs g.world.𝓛 g.world.𝓜 g.world.𝓡 ((λ s x. x), (λ x. x), (λ x. x), λ x. x) in
-    read_again g.I.Inputs.reads laws.reads_then c.args.file c.args.inputs.now c.loop-progress.inputs c.read_on.new.inputs
-    c.loop-progress.invariant.reads c.read_on.ensures.read
+    read_again g.I.Inputs.reads g.I.Inputs.view c.args.file laws.reads_then c.args.inputs.now c.loop-progress.inputs c.read_on.new.inputs
+    c.loop-progress.invariant.alone c.read_on.ensures.read
 
 pub loop-progress-preserved : goal.loop-progress-preserved
 loop-progress-preserved g c =
@@ -66,14 +66,11 @@ loop-progress-preserved g c =
       ready = c.in_ok-read_on.ensures.ready;
       some = grind (arith, common_steps);
       room = grind (arith, common_steps);
-      takes = c.in_ok-read_on.ensures.takes;
       entries = read_comes_to g.K.Keeper.after c.args.limits.now c.args.keeper.now c.read_on.new.progress c.read_on.new.keeper start rest
           read;
       read = read;
-      reads = read_again g.I.Inputs.reads laws.reads_then c.args.file c.args.inputs.now c.loop-progress.inputs c.read_on.new.inputs
-          c.loop-progress.invariant.reads c.in_ok-read_on.ensures.read;
-      later = omega (arith, c.loop-progress.invariant.later, c.in_ok-read_on.ensures.later);
-      others = λ other differs. c.in_ok-read_on.ensures.others other differs ∙ c.loop-progress.invariant.others other differs;
+      alone = read_again g.I.Inputs.reads g.I.Inputs.view c.args.file laws.reads_then c.args.inputs.now c.loop-progress.inputs
+          c.read_on.new.inputs c.loop-progress.invariant.alone c.in_ok-read_on.ensures.read;
     }
 
 -- at the end of the file
@@ -85,7 +82,7 @@ returns-clause-left g c =
     let rest = (g.I.Inputs.view c.read_on.new.inputs).left c.args.file in
     on_err c.finish.result _
     (stops_in_time g.K.Keeper.after c.args.limits.now c.args.keeper.now c.read_on.new.progress c.read_on.new.keeper start rest rest
-    c.in_ok-read_on.ensures.ready
+    c.in_ok-read_on.ensures.ready.ready
     (read_more g.K.Keeper.after c.args.limits.now c.args.keeper.now c.loop-progress.progress c.loop-progress.keeper c.read_on.new.progress
     c.read_on.new.keeper start left rest
     c.loop-progress.invariant.read c.in_ok-read_on.ensures.piece)
@@ -94,5 +91,5 @@ returns-clause-left g c =
 pub returns-clause-read : goal.returns-clause-read
 returns-clause-read g c =
     let laws = g.met.I.Inputs g.world.𝓛 g.world.𝓜 g.world.𝓡 ((λ s x. x), (λ x. x), (λ x. x), λ x. x) in
-    read_again g.I.Inputs.reads laws.reads_then c.args.file c.args.inputs.now c.loop-progress.inputs c.read_on.new.inputs
-    c.loop-progress.invariant.reads c.in_ok-read_on.ensures.read
+    read_again g.I.Inputs.reads g.I.Inputs.view c.args.file laws.reads_then c.args.inputs.now c.loop-progress.inputs c.read_on.new.inputs
+    c.loop-progress.invariant.alone c.in_ok-read_on.ensures.read

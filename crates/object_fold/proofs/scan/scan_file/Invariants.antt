@@ -1,28 +1,26 @@
-use Rattle.std.proofs.Common.{◌≡◌, ◌≢◌, ◌≤◌, ◌<◌, ℕ, length, replicate}
+use Rattle.std.proofs.Common.{◌≡◌, ◌≤◌, ◌<◌, length}
 use Rattle.opl_lines.specs.Reading.{room}
 use Rattle.outside.specs.Bytes.{BothKnown}
 use Rattle.object_fold.specs.declared.scan.TheConstants.{PIECE}
 use Rattle.object_fold.specs.Entries.{entries_of}
 use Rattle.object_fold.specs.Keeps.{kept_all}
-use Rattle.object_fold.specs.Progress.{entries_left, IsReady, HasRead}
-use Rattle.object_fold.specs.Reading.{TakesNext}
+use Rattle.object_fold.specs.Progress.{entries_left, IsReadyFor, HasRead}
+use Rattle.object_fold.specs.Reading.{ReadsNoOther}
 use Rattle.object_fold.proofs.scan.scan_file.Given as goal
 
 -- what is left of the file makes of the keeper now what the whole file makes of it
 abbrev pub invariant-loop-progress : goal.invariant-loop-progress
 invariant-loop-progress g l = record {
-  ready : IsReady l.limits l.progress;
+  ready : IsReadyFor g.K.Keeper.takes l.limits l.progress l.keeper;
   some : 0 < length l.buffer.items;
   room : length l.buffer.items ≤ PIECE;
-  takes : TakesNext g.K.Keeper.takes l.progress.passed.last l.keeper;
   entries : BothKnown ((g.I.Inputs.view l.fn.inputs).left l.file) ((g.I.Inputs.view l.inputs).left l.file)
       (λ bytes rest. kept_all g.K.Keeper.after l.fn.keeper (entries_of l.limits bytes)
       ≡ kept_all g.K.Keeper.after l.keeper (entries_left l.limits l.progress rest));
   read : HasRead g.K.Keeper.after l.limits l.fn.keeper l.progress l.keeper ((g.I.Inputs.view l.fn.inputs).left l.file)
       ((g.I.Inputs.view l.inputs).left l.file);
-  reads : ((count : ℕ) × g.I.Inputs.reads l.fn.inputs (replicate count l.file) l.inputs);
-  later : (g.I.Inputs.view l.fn.inputs).faults ≤ (g.I.Inputs.view l.inputs).faults;
-  others : (other : ℕ) → other ≢ l.file → (g.I.Inputs.view l.inputs).left other ≡ (g.I.Inputs.view l.fn.inputs).left other;
+  alone : ReadsNoOther l.file (λ asked. g.I.Inputs.reads l.fn.inputs asked l.inputs) (g.I.Inputs.view l.fn.inputs)
+      (g.I.Inputs.view l.inputs);
 }
 
 abbrev pub decreases-loop-progress : goal.decreases-loop-progress

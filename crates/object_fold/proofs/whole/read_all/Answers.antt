@@ -1,13 +1,13 @@
-use Rattle.std.proofs.Common.{refl, length, ap, ◌∙◌, arith}
+use Rattle.std.proofs.Common.{length, ap, arith}
 use Rattle.std.proofs.lemmas.Grind.{common_steps}
 use Rattle.object_fold.specs.declared.scan.TheConstants.{PIECE}
-use Rattle.object_fold.proofs.Pieces.{on_err, reads_behind, reads_within, read_again, whole_none, whole_more}
+use Rattle.object_fold.proofs.Pieces.{on_err, reads_behind, reads_within, read_again, read_never, whole_none, whole_more}
 use Rattle.object_fold.proofs.whole.read_all.Goals as goal
 
 pub returns-in_err-buffer-clause-read : goal.returns-in_err-buffer-clause-read
 returns-in_err-buffer-clause-read g c =
     let laws = g.met.I.Inputs g.world.𝓛 g.world.𝓜 g.world.𝓡 ((λ s x. x), (λ x. x), (λ x. x), λ x. x) in
-    (0, laws.reads_none c.args.inputs.now)
+    read_never g.I.Inputs.reads g.I.Inputs.view c.args.file laws.reads_none c.args.inputs.now
 
 pub loop-bytes-init : goal.loop-bytes-init
 loop-bytes-init g c =
@@ -17,9 +17,7 @@ loop-bytes-init g c =
       room = c.in_ok-buffer.ensures.room;
       within = omega (arith, ap length c.new-bytes.ensures.items);
       whole = whole_none c.new-bytes.result.items c.new-bytes.ensures.items ((g.I.Inputs.view c.args.inputs.now).left c.args.file);
-      reads = (0, laws.reads_none c.args.inputs.now);
-      later = omega arith;
-      others = λ other differs. refl;
+      alone = read_never g.I.Inputs.reads g.I.Inputs.view c.args.file laws.reads_none c.args.inputs.now;
     }
 
 pub returns-in_err-add_piece-clause-left : goal.returns-in_err-add_piece-clause-left
@@ -35,8 +33,8 @@ returns-in_err-add_piece-clause-left g c =
 pub returns-in_err-add_piece-clause-read : goal.returns-in_err-add_piece-clause-read
 returns-in_err-add_piece-clause-read g c =
     let laws = g.met.I.Inputs g.world.𝓛 g.world.𝓜 g.world.𝓡 ((λ s x. x), (λ x. x), (λ x. x), λ x. x) in
-    read_again g.I.Inputs.reads laws.reads_then c.args.file c.args.inputs.now c.loop-bytes.inputs c.add_piece.new.inputs
-    c.loop-bytes.invariant.reads c.add_piece.ensures.read
+    read_again g.I.Inputs.reads g.I.Inputs.view c.args.file laws.reads_then c.args.inputs.now c.loop-bytes.inputs c.add_piece.new.inputs
+    c.loop-bytes.invariant.alone c.add_piece.ensures.read
 
 pub loop-bytes-preserved : goal.loop-bytes-preserved
 loop-bytes-preserved g c =
@@ -50,14 +48,12 @@ loop-bytes-preserved g c =
       within = c.in_ok-add_piece.ensures.within;
       whole = whole_more c.loop-bytes.bytes.items c.add_piece.new.bytes.items c.in_ok-add_piece.field-0 start left rest
           c.loop-bytes.invariant.whole c.in_ok-add_piece.ensures.bytes;
-      reads = read_again g.I.Inputs.reads laws.reads_then c.args.file c.args.inputs.now c.loop-bytes.inputs c.add_piece.new.inputs
-          c.loop-bytes.invariant.reads c.in_ok-add_piece.ensures.read;
-      later = omega (arith, c.loop-bytes.invariant.later, c.in_ok-add_piece.ensures.later);
-      others = λ other differs. c.in_ok-add_piece.ensures.others other differs ∙ c.loop-bytes.invariant.others other differs;
+      alone = read_again g.I.Inputs.reads g.I.Inputs.view c.args.file laws.reads_then c.args.inputs.now c.loop-bytes.inputs
+          c.add_piece.new.inputs c.loop-bytes.invariant.alone c.in_ok-add_piece.ensures.read;
     }
 
 pub returns-clause-read : goal.returns-clause-read
 returns-clause-read g c =
     let laws = g.met.I.Inputs g.world.𝓛 g.world.𝓜 g.world.𝓡 ((λ s x. x), (λ x. x), (λ x. x), λ x. x) in
-    read_again g.I.Inputs.reads laws.reads_then c.args.file c.args.inputs.now c.loop-bytes.inputs c.add_piece.new.inputs
-    c.loop-bytes.invariant.reads c.in_ok-add_piece.ensures.read
+    read_again g.I.Inputs.reads g.I.Inputs.view c.args.file laws.reads_then c.args.inputs.now c.loop-bytes.inputs c.add_piece.new.inputs
+    c.loop-bytes.invariant.alone c.in_ok-add_piece.ensures.read

@@ -1,6 +1,7 @@
-use Rattle.std.proofs.Common.{◌≡◌, ◌≢◌, ◌≤◌, ◌<◌, ◌-◌, ◌++◌, ℕ, length, replicate}
+use Rattle.std.proofs.Common.{◌≡◌, ◌≤◌, ◌<◌, ◌-◌, ◌++◌, length}
 use Rattle.outside.specs.Bytes.{BothKnown}
 use Rattle.object_fold.specs.declared.scan.TheConstants.{PIECE}
+use Rattle.object_fold.specs.Reading.{ReadsNoOther}
 use Rattle.object_fold.proofs.whole.read_all.Given as goal
 
 -- the bytes that are kept, and then those that are left, are the file
@@ -11,9 +12,8 @@ invariant-loop-bytes g l = record {
   within : length l.bytes.items ≤ l.max;
   whole : BothKnown ((g.I.Inputs.view l.fn.inputs).left l.file) ((g.I.Inputs.view l.inputs).left l.file)
       (λ before after. before ≡ l.bytes.items ++ after);
-  reads : ((count : ℕ) × g.I.Inputs.reads l.fn.inputs (replicate count l.file) l.inputs);
-  later : (g.I.Inputs.view l.fn.inputs).faults ≤ (g.I.Inputs.view l.inputs).faults;
-  others : (other : ℕ) → other ≢ l.file → (g.I.Inputs.view l.inputs).left other ≡ (g.I.Inputs.view l.fn.inputs).left other;
+  alone : ReadsNoOther l.file (λ asked. g.I.Inputs.reads l.fn.inputs asked l.inputs) (g.I.Inputs.view l.fn.inputs)
+      (g.I.Inputs.view l.inputs);
 }
 
 abbrev pub decreases-loop-bytes : goal.decreases-loop-bytes

@@ -17,6 +17,6 @@ returns-then-entries-gt-MAX_ENTRIES-clause-reads g c =
           (subst (λ (limits : LimitNumbers). IfTold (old.left c.args.file) (λ (bytes : List ℕ). IsAccepted limits bytes c.in-Ok.change))
           c.standard.ensures.numbers c.in-Ok.ensures.accepted)
           (subst (λ (entries : List Entry). MAX_ENTRIES < length entries) c.entries.ensures.entries c.if-entries-gt-MAX_ENTRIES.true)
-          (record { others = c.read_file.ensures.others; later = c.read_file.ensures.later });
-      asked = c.read_file.ensures.read;
+          c.read_file.ensures.read.alone;
+      asked = c.read_file.ensures.read.asked;
     }

@@ -6,7 +6,6 @@ use Rattle.object_fold.proofs.progress.Progress.take.Goals as goal
 pub loop-rest-preserved : goal.loop-rest-preserved
 loop-rest-preserved g c = record {
   ready = c.in_ok-used.ensures.ready;
-  takes = c.in_ok-used.ensures.takes;
   entries = λ later. c.loop-rest.invariant.entries later ∙ c.in_ok-used.ensures.entries later
       ∙ ap (λ (rest : List ℕ). kept_all g.K.Keeper.after c.take_line.new.keeper
       (entries_left c.args.limits.now c.take_line.new.self (rest ++ later))) (sym c.split_at.ensures.back);

@@ -1,15 +1,13 @@
 use Rattle.std.proofs.Common.{◌≡◌, ◌≤◌, ◌<◌, ◌++◌, ℕ, List, length}
 use Rattle.opl_lines.specs.Reading.{room}
 use Rattle.object_fold.specs.Keeps.{kept_all}
-use Rattle.object_fold.specs.Progress.{entries_left, IsReady}
-use Rattle.object_fold.specs.Reading.{TakesNext}
+use Rattle.object_fold.specs.Progress.{entries_left, IsReadyFor}
 use Rattle.object_fold.proofs.progress.Progress.take.Given as goal
 
 -- what is left makes of the keeper now what all of it made of it before
 abbrev pub invariant-loop-rest : goal.invariant-loop-rest
 invariant-loop-rest g l = record {
-  ready : IsReady l.limits l.self;
-  takes : TakesNext g.K.Keeper.takes l.self.passed.last l.keeper;
+  ready : IsReadyFor g.K.Keeper.takes l.limits l.self l.keeper;
   entries : (later : List ℕ) → kept_all g.K.Keeper.after l.fn.keeper (entries_left l.limits l.fn.self (l.fn.piece ++ later))
       ≡ kept_all g.K.Keeper.after l.keeper (entries_left l.limits l.self (l.rest ++ later));
   shorter : length l.rest ≤ length l.fn.piece;

@@ -11,7 +11,7 @@ use Rattle.object_fold.proofs.progress.Progress.take_line.Goals.{in-Some+in_ok-a
 
 pub returns-in-Err-clause-stopped : goal.returns-in-Err-clause-stopped
 returns-in-Err-clause-stopped g c =
-    stopped_at_limit g.K.Keeper.after c.args.keeper.now c.args.limits.now c.args.self.now c.requires.ready c.take_line.new.self
+    stopped_at_limit g.K.Keeper.after c.args.keeper.now c.args.limits.now c.args.self.now c.requires.ready.ready c.take_line.new.self
     c.args.piece.now
     c.in-Err.fault c.limit_fault.result c.limit_fault.ensures.line_bytes c.limit_fault.ensures.file_lines c.limit_fault.ensures.memory
     c.in-Err.ensures.err
@@ -22,9 +22,8 @@ returns-in_err-add_line-clause-stopped g c =
     (sym c.in-Some.ensures.line) c.in-Ok.ensures.ok in
     let p = err_from_is_err_and c.from_residual.result c.from_residual.ensures.1 in
     rw (p.1, p.2) (StopsAt-weaker _ _ c.in_err-add_line.field-0.0
-    (λ own cause. stopped_at_line g.K.Keeper.after c.args.keeper.now c.args.limits.now c.args.self.now c.requires.ready c.take_line.new.self
-    c.args.piece.now
-    c.in-Ok.cut.used c.in-Some.line.now takes own cause)
+    (λ own cause. stopped_at_line g.K.Keeper.after c.args.keeper.now c.args.limits.now c.args.self.now c.requires.ready.ready
+    c.take_line.new.self c.args.piece.now c.in-Ok.cut.used c.in-Some.line.now takes own cause)
     c.in_err-add_line.ensures.stopped)
 
 pub returns-clause-entries : goal.returns-clause-entries
@@ -38,8 +37,8 @@ returns-clause-entries g c =
       | in-Some+in_ok-add_line w ↦
           let line = w.in-Some.line.now in
           let takes = subst (Takes old.reader new c.args.piece.now c.in-Ok.cut.used) (sym w.in-Some.ensures.line) c.in-Ok.ensures.ok in
-          took_line g.K.Keeper.after c.args.keeper.now c.args.limits.now old c.requires.ready new c.args.piece.now c.in-Ok.cut.used line
-          takes w.in_ok-add_line.ensures.ok later
+          took_line g.K.Keeper.after c.args.keeper.now c.args.limits.now old c.requires.ready.ready new c.args.piece.now c.in-Ok.cut.used
+          line takes w.in_ok-add_line.ensures.ok later
           ∙ ap (λ keeper. left keeper (record { reader = new; passed = passed_line old.passed (spelled line) }) (rest ++ later))
           (sym w.in_ok-add_line.ensures.kept ∙ sym w.keeper-is)
           ∙ ap (λ passed. left c.match-bytes.keeper (record { reader = new; passed = passed }) (rest ++ later))
@@ -47,8 +46,8 @@ returns-clause-entries g c =
           ∙ ap (λ own. left c.match-bytes.keeper own (rest ++ later)) (sym w.self-is)
       | in_default w ↦
           let takes = subst (Takes old.reader new c.args.piece.now c.in-Ok.cut.used) (sym w.in_default.ensures.line) c.in-Ok.ensures.ok in
-          took_part g.K.Keeper.after c.args.keeper.now c.args.limits.now old c.requires.ready new c.args.piece.now c.in-Ok.cut.used takes
-          later
+          took_part g.K.Keeper.after c.args.keeper.now c.args.limits.now old c.requires.ready.ready new c.args.piece.now c.in-Ok.cut.used
+          takes later
           ∙ ap (λ keeper. left keeper (record { reader = new; passed = old.passed }) (rest ++ later)) (sym w.keeper-is)
           ∙ ap (λ own. left c.match-bytes.keeper own (rest ++ later)) (sym w.self-is)
     ]

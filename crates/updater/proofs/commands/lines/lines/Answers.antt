@@ -31,14 +31,14 @@ returns-in-Err g c =
           (first_turn after_way (no_ways (chars key)) (λ entries. writes_text (lines_text_of key entries) ends)
           (course_of (lines_of key files))
           (g.I.Inputs.view c.args.inputs.now) (g.D.Disk.view c.args.disk.now) (g.S.Sink.view c.args.out.now) files.first files.count
-          (no_ways (chars key)) refl refl) c.import.ensures.others c.import.ensures.later c.in-Err.fault
+          (no_ways (chars key)) refl refl) c.import.ensures.read.alone.others c.import.ensures.read.alone.later c.in-Err.fault
           (subst (λ (limits : LimitNumbers). Stops (IsFaultOf limits ((g.I.Inputs.view c.args.inputs.now).left file))
           (Rose (g.I.Inputs.view c.args.inputs.now).faults (g.I.Inputs.view c.import.new.inputs).faults) c.in-Err.fault)
           c.standard-limits.ensures.numbers c.in-Err.ensures.stopped);
       asked = asked_more g.I.Inputs.reads laws.reads_then
           (Names (lines_of key files)) c.args.inputs.now c.args.inputs.now c.import.new.inputs file
           (asked_none g.I.Inputs.reads (Names (lines_of key files)) c.args.inputs.now (laws.reads_none c.args.inputs.now))
-          c.import.ensures.read (omega arith, omega (arith, c.requires.fits.some));
+          c.import.ensures.read.asked (omega arith, omega (arith, c.requires.fits.some));
     })
 
 pub loop-file-init : goal.loop-file-init
@@ -52,7 +52,7 @@ loop-file-init g c =
       asked = asked_more g.I.Inputs.reads laws.reads_then
           (Names (lines_of key files)) c.args.inputs.now c.args.inputs.now c.import.new.inputs file
           (asked_none g.I.Inputs.reads (Names (lines_of key files)) c.args.inputs.now (laws.reads_none c.args.inputs.now))
-          c.import.ensures.read (omega arith, omega (arith, c.requires.fits.some));
+          c.import.ensures.read.asked (omega arith, omega (arith, c.requires.fits.some));
       within = omega (arith, c.requires.fits.some);
       turn = next_turn after_way (no_ways (chars key)) (λ entries. writes_text (lines_text_of key entries) ends)
           (course_of (lines_of key files))
@@ -62,7 +62,7 @@ loop-file-init g c =
           (first_turn after_way (no_ways (chars key)) (λ entries. writes_text (lines_text_of key entries) ends)
           (course_of (lines_of key files))
           (g.I.Inputs.view c.args.inputs.now) (g.D.Disk.view c.args.disk.now) (g.S.Sink.view c.args.out.now) files.first files.count
-          (no_ways (chars key)) refl refl) c.import.ensures.others c.import.ensures.later c.in-Ok.rows
+          (no_ways (chars key)) refl refl) c.import.ensures.read.alone.others c.import.ensures.read.alone.later c.in-Ok.rows
           (subst (λ (limits : LimitNumbers). ReadsAll after_way limits (no_ways (chars key)) c.in-Ok.rows
           ((g.I.Inputs.view c.args.inputs.now).left file) ((g.I.Inputs.view c.import.new.inputs).left file))
           c.standard-limits.ensures.numbers c.in-Ok.ensures.ok);
@@ -80,14 +80,14 @@ returns-in-Err-change g c =
           (g.I.Inputs.view c.args.inputs.now) (g.D.Disk.view c.args.disk.now) (g.S.Sink.view c.args.out.now) file
           (files.first + files.count - file) (files.first + files.count - (file + 1)) (omega (arith, c.loop-file-test.true))
           c.loop-file.rows (g.I.Inputs.view c.loop-file.inputs)
-          (g.I.Inputs.view c.change.new.inputs) c.loop-file.invariant.turn c.change.ensures.others c.change.ensures.later
-          c.in-Err-change.fault
+          (g.I.Inputs.view c.change.new.inputs) c.loop-file.invariant.turn c.change.ensures.read.alone.others
+          c.change.ensures.read.alone.later c.in-Err-change.fault
           (subst (λ (limits : LimitNumbers). Stops (IsFaultOf limits ((g.I.Inputs.view c.loop-file.inputs).left file))
           (Rose (g.I.Inputs.view c.loop-file.inputs).faults (g.I.Inputs.view c.change.new.inputs).faults) c.in-Err-change.fault)
           c.standard-limits.ensures.numbers c.in-Err-change.ensures.stopped);
       asked = asked_more g.I.Inputs.reads laws.reads_then
           (Names (lines_of key files)) c.args.inputs.now c.loop-file.inputs c.change.new.inputs file c.loop-file.invariant.asked
-          c.change.ensures.read (c.loop-file.invariant.least, omega (arith, c.loop-file-test.true));
+          c.change.ensures.read.asked (c.loop-file.invariant.least, omega (arith, c.loop-file-test.true));
     })
 
 pub loop-file-preserved : goal.loop-file-preserved
@@ -100,15 +100,15 @@ loop-file-preserved g c =
       least = omega (arith, c.loop-file.invariant.least);
       asked = asked_more g.I.Inputs.reads laws.reads_then
           (Names (lines_of key files)) c.args.inputs.now c.loop-file.inputs c.change.new.inputs file c.loop-file.invariant.asked
-          c.change.ensures.read (c.loop-file.invariant.least, omega (arith, c.loop-file-test.true));
+          c.change.ensures.read.asked (c.loop-file.invariant.least, omega (arith, c.loop-file-test.true));
       within = omega (arith, c.loop-file-test.true);
       turn = next_turn after_way (no_ways (chars key)) (λ entries. writes_text (lines_text_of key entries) ends)
           (course_of (lines_of key files))
           (g.I.Inputs.view c.args.inputs.now) (g.D.Disk.view c.args.disk.now) (g.S.Sink.view c.args.out.now) file
           (files.first + files.count - file) (files.first + files.count - (file + 1)) (omega (arith, c.loop-file-test.true))
           c.loop-file.rows (g.I.Inputs.view c.loop-file.inputs)
-          (g.I.Inputs.view c.change.new.inputs) c.loop-file.invariant.turn c.change.ensures.others c.change.ensures.later
-          c.change.new.rows
+          (g.I.Inputs.view c.change.new.inputs) c.loop-file.invariant.turn c.change.ensures.read.alone.others
+          c.change.ensures.read.alone.later c.change.new.rows
           (subst (λ (limits : LimitNumbers). ReadsAll after_way limits c.loop-file.rows c.change.new.rows
           ((g.I.Inputs.view c.loop-file.inputs).left file) ((g.I.Inputs.view c.change.new.inputs).left file))
           c.standard-limits.ensures.numbers c.in_default.ensures.ok);
