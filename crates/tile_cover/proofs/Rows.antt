@@ -1,10 +1,11 @@
 -- The rows that a segment reaches, by a search of falling latitudes.
-use Rattle.std.proofs.Common.{◌≡◌, ℕ, ◌+◌, ◌<◌, ◌≤◌, ◌-◌, zero, suc, refl, arith, nat_lt, nat_le, min, max, ℤ, pos, ◌-ℤ◌, ◌<ℤ◌, ◌≤ℤ◌}
+use Rattle.std.proofs.Common.{◌≡◌, ◌∙◌, ℕ, ◌+◌, ◌<◌, ◌≤◌, ◌-◌, zero, suc, refl, arith, nat_lt, nat_le, min, max, ℤ, pos, ◌-ℤ◌, ◌<ℤ◌, ◌≤ℤ◌}
 use Rattle.std.proofs.Common.{int_lt, int_le, Bool, true, false, ◌&&◌, List, [], ◌∷◌, length, slice_index_or}
+use Rattle.std.proofs.Common.{neg_ℤ, unsigned_abs, w32, FitsSigned}
 use Rattle.std.specs.List.{AllByRecursion}
 use Rattle.std.specs.List.Sorted.{IsPartitionedBy}
-use Rattle.std.proofs.lemmas.Int.{ints}
-use Rattle.tile_cover.specs.Table.{AreFalling}
+use Rattle.std.proofs.lemmas.Int.{fits_signed_from_abs, ints}
+use Rattle.tile_cover.specs.Table.{AreFalling, IsLatitude}
 use Rattle.tile_cover.proofs.Touches.{same_tests, both_true, true_le, le_true, true_lt, lt_true, at_most}
 
 pub all_at : {A : Type 0} (P : A → Type 0) (xs : List A) (i : ℕ) (d : A) → AllByRecursion P xs → i < length xs → P (slice_index_or xs i d)
@@ -32,6 +33,16 @@ lt_north y z e = grind (arith, ints)
 
 pub not_lt_north : (y z : ℤ) → int_lt y z ≡ false → z ≤ℤ y
 not_lt_north y z e = grind (arith, ints)
+
+-- an item that is there is the same with any other
+pub same_item : {A : Type 0} (xs : List A) (i : ℕ) (d other item : A) → item ≡ slice_index_or xs i d → i < length xs
+    → item ≡ slice_index_or xs i other
+same_item {A = A} xs i d other item e h = e ∙ go xs i h
+  where
+    go : (rest : List A) (k : ℕ) → k < length rest → slice_index_or rest k d ≡ slice_index_or rest k other
+    go [] k f = absurd (omega arith)
+    go (x ∷ rest) zero f = refl
+    go (x ∷ rest) (suc k) f = go rest k (omega arith)
 
 -- the rows between the two numbers
 pub rows_told : (table : ℕ → ℤ) (n long above below from to row : ℕ) (north south N S : ℤ) → N ≡ north → S ≡ south -ℤ pos 1 → long ≡ n + 1
@@ -79,6 +90,13 @@ falls (lat ∷ lats) (suc row) d e h = rw (one_more row) (falls lats row d e.1 (
   where
     one_more : (row : ℕ) → suc row + 1 ≡ suc (row + 1)
     one_more row = omega arith
+
+-- a latitude is a number of 32 bits
+pub fits_lat : (z : ℤ) → IsLatitude z → FitsSigned w32 z
+fits_lat z e = fits_signed_from_abs w32 z (small z e.north e.south)
+  where
+    small : (z : ℤ) → z ≤ℤ pos 900000000 → neg_ℤ (pos 900000000) ≤ℤ z → unsigned_abs z < 2147483648
+    small z e f = grind (arith, ints)
 
 pub ordered : (south north : ℕ) (y z : ℤ) → pos south -ℤ pos 900000000 ≡ y → pos north -ℤ pos 900000000 ≡ z → y <ℤ z → south ≤ north
 ordered south north y z e f g = grind (arith, ints)

@@ -143,6 +143,65 @@ reached_one table climb row y l h t within other l_is h_is south north up =
     ∙ sym (reached_is sides.south sides.north climb.south climb.north)
     )
 
+-- the tests of natural numbers tell whether a place lies between the sides of a tile
+pub between_is : (place : PlaceOf) (column l h lon lat : ℕ) → pos lon ≡ place.lon → lat_of lat ≡ place.lat
+    → ((((nat_lt (column * 3600000000) lon && nat_lt lon (column * 3600000000 + 3600000000)) && nat_lt l lat) && nat_lt lat h) ≡ true
+    → IsBetween (box_between (lat_of l) (lat_of h) column) place)
+    × (IsBetween (box_between (lat_of l) (lat_of h) column) place
+    → (((nat_lt (column * 3600000000) lon && nat_lt lon (column * 3600000000 + 3600000000)) && nat_lt l lat) && nat_lt lat h) ≡ true)
+between_is place column l h lon lat e f = (
+  λ tests.
+      let north = both _ _ tests in
+      let south = both _ _ north.0 in
+      let sides = both _ _ south.0 in
+      record {
+        west = west_so (column * 3600000000) lon place.lon e (less _ _ sides.0);
+        east = east_so column lon place.lon e (less _ _ sides.1);
+        south = south_so l lat place.lat f (less _ _ south.1);
+        north = north_so h lat place.lat f (less _ _ north.1);
+      },
+  λ between. rw (
+    is_less _ _ (west_is (column * 3600000000) lon place.lon e between.west),
+    is_less _ _ (east_is column lon place.lon e between.east),
+    is_less _ _ (south_is l lat place.lat f between.south),
+    is_less _ _ (north_is h lat place.lat f between.north),
+  ) refl,
+)
+  where
+    both : (a b : Bool) → (a && b) ≡ true → (a ≡ true) × (b ≡ true)
+    both true b e = (refl, e)
+    both false b e = absurd (cc)
+
+    less : (a b : ℕ) → nat_lt a b ≡ true → a < b
+    less a b e = grind (arith, nat_tests)
+
+    is_less : (a b : ℕ) → a < b → nat_lt a b ≡ true
+    is_less a b e = grind (arith, nat_tests)
+
+    west_so : (P n : ℕ) (z : ℤ) → pos n ≡ z → P < n → pos P <ℤ z
+    west_so P n z e f = rw (← e) (grind (arith, ints))
+
+    east_so : (column n : ℕ) (z : ℤ) → pos n ≡ z → n < column * 3600000000 + 3600000000 → z <ℤ pos ((column + 1) * 3600000000)
+    east_so column n z e f = rw (← e) (grind (arith, ints))
+
+    south_so : (l n : ℕ) (z : ℤ) → lat_of n ≡ z → l < n → lat_of l <ℤ z
+    south_so l n z e f = rw (← e) (grind (arith, ints))
+
+    north_so : (h n : ℕ) (z : ℤ) → lat_of n ≡ z → n < h → z <ℤ lat_of h
+    north_so h n z e f = rw (← e) (grind (arith, ints))
+
+    west_is : (P n : ℕ) (z : ℤ) → pos n ≡ z → pos P <ℤ z → P < n
+    west_is P n z e f = grind (arith, ints)
+
+    east_is : (column n : ℕ) (z : ℤ) → pos n ≡ z → z <ℤ pos ((column + 1) * 3600000000) → n < column * 3600000000 + 3600000000
+    east_is column n z e f = grind (arith, ints)
+
+    south_is : (l n : ℕ) (z : ℤ) → lat_of n ≡ z → lat_of l <ℤ z → l < n
+    south_is l n z e f = grind (arith, ints)
+
+    north_is : (h n : ℕ) (z : ℤ) → lat_of n ≡ z → z <ℤ lat_of h → n < h
+    north_is h n z e f = grind (arith, ints)
+
 -- a place between the sides of a tile, by natural numbers
 record IsToldBetween (place : PlaceOf) (column l h : ℕ) : Type 0 where
   lon : place.lon ≡ pos (unsigned_abs place.lon)

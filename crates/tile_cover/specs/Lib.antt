@@ -1,5 +1,6 @@
 pub mod Boundaries
 pub mod Events
+pub mod Gathered
 pub mod Inside
 pub mod Runs
 pub mod Sweep

@@ -1,7 +1,7 @@
 //! The table of the latitudes that bound the rows of tiles of a zoom.
 ghost use Rattle.std.specs.Prelude.{◌≡◌, ℕ, ◌+◌, ◌<◌, ◌≤◌, ◌^◌, ◌&&◌, pos, length, slice_index_or, nat_le, nat_lt, ◌<ℤ◌, ◌≤ℤ◌};
 ghost use Rattle.tile_cover.specs.Span.{IsWithinWorld, is_reached, lat_of};
-ghost use Rattle.tile_cover.specs.Table.{AreFalling, IsLatitude, IsTable, boundary};
+ghost use Rattle.tile_cover.specs.Table.{AreFalling, IsTable, boundary};
 
 use crate::climb::{Climb, from_pole, lat_from_pole, lat_south_of};
 use std::marker::Model;
@@ -60,16 +60,6 @@ impl Bounds {
         1 << self.zoom
     }
 
-    /// The northern side of a row, and of the last one the southern one.
-    pub(crate) fn boundary(&self, row: u32) -> i32
-        requires { row ≤ 2 ^ self.now.zoom }
-        ensures lat { result ≡ boundary self.now row }
-        ensures latitude { IsLatitude result }
-        ensures table { IsTable self.now }
-    {
-        self.lats[row as usize]
-    }
-
     /// The southern and the northern side of a row, from the south pole on.
     pub(crate) fn sides(&self, row: u32) -> (u64, u64)
         requires { row < 2 ^ self.now.zoom }
@@ -78,8 +68,8 @@ impl Bounds {
         ensures ordered { result.0 ≤ result.1 }
         ensures table { IsTable self.now }
     {
-        let north = self.boundary(row);
-        let south = self.boundary(row + 1);
+        let north = self.lats[row as usize];
+        let south = self.lats[row as usize + 1];
         (from_pole(south), from_pole(north))
     }
 

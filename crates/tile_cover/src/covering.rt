@@ -8,11 +8,12 @@ ghost use Rattle.tile_cover.specs.Sweep.{AreRising, position_of as position_of_e
 ghost use Rattle.tile_cover.specs.Tile.{counts_filled as counts_filled_tiles, is_covered, met, segments_of};
 
 use crate::bounds::Bounds;
-use crate::events::{Event, add_geometry};
+use crate::events::{Event, Events};
 use crate::inside::lone_event;
 use crate::runs::TileRuns;
-use crate::seen::{Seen, Tile, see};
+use crate::seen::{Seen, see};
 use crate::sweep::runs_of;
+use crate::tile::Tile;
 use osm_base::{Geometry, OutOfMemory};
 use std::alloc::Global;
 use style_read::Mode;
@@ -51,10 +52,17 @@ fn events_of(alloc: Global, bounds: &Bounds, geometry: &Geometry) -> Result<Vec<
     ensures rising { IfOk result (λ events. AreRising events.items) }
     ensures gains { IfOk result (λ events. Gains bounds.now (segments_of (2 ^ bounds.now.zoom) geometry.now) [] events.items) }
 {
-    let mut events = Vec::new(alloc);
-    add_geometry(bounds, geometry, &mut events)?;
-    sort(&mut events);
-    Ok(events)
+    let mut events = Events {
+        bounds,
+        list: Vec::new(alloc),
+    };
+    events.add_geometry(geometry)?;
+    let Events {
+        bounds: _,
+        mut list,
+    } = events;
+    sort(&mut list);
+    Ok(list)
 }
 
 impl Bounds {

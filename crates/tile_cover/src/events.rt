@@ -1,7 +1,8 @@
 //! The columns that the segments of a geometry meet, row by row.
-ghost use Rattle.std.specs.Prelude.{◌≡◌, ℕ, ◌+◌, ◌<◌, ◌≤◌, ◌^◌, ◌&&◌, ◌==◌, [], ◌∷◌, map, nat_le, nat_lt, OnOk};
+ghost use Rattle.std.specs.Prelude.{◌+◌, ◌<◌, ◌^◌, ◌==◌, [], ◌∷◌, OnOk};
+ghost use Rattle.std.proofs.Props.{props};
 ghost use Rattle.std.specs.List.{AllByRecursion, flat_map};
-ghost use Rattle.tile_cover.specs.Events.{Gains, GainsIn, IsEvent};
+ghost use Rattle.tile_cover.specs.Events.{IsEvent};
 ghost use Rattle.tile_cover.specs.Span.{IsWithinWorld, segment_of};
 ghost use Rattle.tile_cover.specs.Tile.{line_segments, lines_segments, segments_of, widened};
 
@@ -17,116 +18,98 @@ pub(crate) struct Event {
     pub(crate) span: Span,
 }
 
-/// Adds what a segment meets in a row.
-fn add_row(
-    bounds: &Bounds,
-    climb: Climb,
-    row: u32,
-    events: &mut Vec<Event>,
-) -> Result<(), OutOfMemory>
-    requires row { row < 2 ^ bounds.now.zoom }
-    requires climb { IsWithinWorld (2 ^ bounds.now.zoom) climb }
-    requires events { AllByRecursion (IsEvent (2 ^ bounds.now.zoom)) events.old.items }
-    ensures events { AllByRecursion (IsEvent (2 ^ bounds.now.zoom)) events.new.items }
-    ensures ok { OnOk result (GainsIn bounds.now (λ other. other == row) (segment_of climb) events.old.items events.new.items) }
-{
-    let columns = bounds.columns();
-    let (south, north) = bounds.sides(row);
-    if let Some(span) = span_in(climb, columns, south, north) {
-        events.push(Event { row, span })?;
-    }
-    Ok(())
+/// What segments meet in the rows of a table.
+#[derive(Drop)]
+pub(crate) struct Events<'b> {
+    pub(crate) bounds: &'b Bounds,
+    pub(crate) list: Vec<Event>,
+    ghost each: { AllByRecursion (IsEvent (2 ^ bounds.now.zoom)) list.items } by { Prim.hlevel props },
 }
 
-/// The row of the last event; the first one where there is none.
-fn last_row(bounds: &Bounds, events: &[Event]) -> u32
-    requires events { AllByRecursion (IsEvent (2 ^ bounds.now.zoom)) events.now }
-    ensures within { result < 2 ^ bounds.now.zoom }
-{
-    let count = events.len();
-    if count == 0 {
-        return 0;
-    }
-    events[count - 1].row
-}
+impl Events<'_> {
+    ghost use Rattle.tile_cover.specs.Gathered.{Gathers, GathersIn};
 
-/// Adds what a segment meets.
-fn add_segment(
-    bounds: &Bounds,
-    start: Place,
-    end: Place,
-    events: &mut Vec<Event>,
-) -> Result<(), OutOfMemory>
-    requires events { AllByRecursion (IsEvent (2 ^ bounds.now.zoom)) events.old.items }
-    ensures events { AllByRecursion (IsEvent (2 ^ bounds.now.zoom)) events.new.items }
-    ensures ok { OnOk result (Gains bounds.now (record { start = widened (2 ^ bounds.now.zoom) start; end = widened (2 ^ bounds.now.zoom) end } ∷ []) events.old.items events.new.items) }
-{
-    let climb = climb_of(bounds.columns(), start, end);
-    // The segments of a geometry mostly lie in one row, one after another.
-    let row = last_row(bounds, events);
-    let (from, to) = bounds.rows_from(row, climb);
-    for row in from..to {
-        add_row(bounds, climb, row, events)?;
+    /// Adds what a segment meets in a row.
+    fn add_row(&mut self, climb: Climb, row: u32) -> Result<(), OutOfMemory>
+        requires row { row < 2 ^ self.old.bounds.now.zoom }
+        requires climb { IsWithinWorld (2 ^ self.old.bounds.now.zoom) climb }
+        ensures ok { OnOk result (GathersIn (λ other. other == row) (segment_of climb) self.old self.new) }
+    {
+        let columns = self.bounds.columns();
+        let (south, north) = self.bounds.sides(row);
+        if let Some(span) = span_in(climb, columns, south, north) {
+            self.list.push(Event { row, span })?;
+        }
+        Ok(())
     }
-    Ok(())
-}
 
-/// Adds what a line meets.
-fn add_line(bounds: &Bounds, places: &[Place], events: &mut Vec<Event>) -> Result<(), OutOfMemory>
-    requires events { AllByRecursion (IsEvent (2 ^ bounds.now.zoom)) events.old.items }
-    ensures events { AllByRecursion (IsEvent (2 ^ bounds.now.zoom)) events.new.items }
-    ensures ok { OnOk result (Gains bounds.now (line_segments (2 ^ bounds.now.zoom) places.now) events.old.items events.new.items) }
-{
-    let mut at = 0;
-    while places.len() - at > 1 {
-        add_segment(bounds, places[at], places[at + 1], events)?;
-        at += 1;
+    /// The row of the last event; the first one where there is none.
+    fn last_row(&self) -> u32
+        ensures within { result < 2 ^ self.now.bounds.now.zoom }
+    {
+        let count = self.list.len();
+        if count == 0 {
+            return 0;
+        }
+        self.list[count - 1].row
     }
-    Ok(())
-}
 
-/// Adds what lines meet, or rings.
-fn add_lines(bounds: &Bounds, lines: &[Places], events: &mut Vec<Event>) -> Result<(), OutOfMemory>
-    requires events { AllByRecursion (IsEvent (2 ^ bounds.now.zoom)) events.old.items }
-    ensures events { AllByRecursion (IsEvent (2 ^ bounds.now.zoom)) events.new.items }
-    ensures ok { OnOk result (Gains bounds.now (lines_segments (2 ^ bounds.now.zoom) lines.now) events.old.items events.new.items) }
-{
-    for line in lines {
-        add_line(bounds, line.as_slice(), events)?;
+    /// Adds what a segment meets.
+    fn add_segment(&mut self, start: Place, end: Place) -> Result<(), OutOfMemory>
+        ensures ok { OnOk result (Gathers
+            (λ columns. record { start = widened columns start; end = widened columns end } ∷ []) self.old self.new) }
+    {
+        let climb = climb_of(self.bounds.columns(), start, end);
+        // The segments of a geometry mostly lie in one row, one after another.
+        let row = self.last_row();
+        let (from, to) = self.bounds.rows_from(row, climb);
+        for row in from..to {
+            self.add_row(climb, row)?;
+        }
+        Ok(())
     }
-    Ok(())
-}
 
-/// Adds what the rings of polygons meet.
-fn add_polygons(
-    bounds: &Bounds,
-    polygons: &[LineList],
-    events: &mut Vec<Event>,
-) -> Result<(), OutOfMemory>
-    requires events { AllByRecursion (IsEvent (2 ^ bounds.now.zoom)) events.old.items }
-    ensures events { AllByRecursion (IsEvent (2 ^ bounds.now.zoom)) events.new.items }
-    ensures ok { OnOk result (Gains bounds.now (flat_map (lines_segments (2 ^ bounds.now.zoom)) polygons.now) events.old.items events.new.items) }
-{
-    for polygon in polygons {
-        add_lines(bounds, polygon.as_slice(), events)?;
+    /// Adds what a line meets.
+    fn add_line(&mut self, places: &[Place]) -> Result<(), OutOfMemory>
+        ensures ok { OnOk result (Gathers (λ columns. line_segments columns places.now) self.old self.new) }
+    {
+        let mut at = 0;
+        while places.len() - at > 1 {
+            self.add_segment(places[at], places[at + 1])?;
+            at += 1;
+        }
+        Ok(())
     }
-    Ok(())
-}
 
-/// Adds what a geometry meets.
-pub(crate) fn add_geometry(
-    bounds: &Bounds,
-    geometry: &Geometry,
-    events: &mut Vec<Event>,
-) -> Result<(), OutOfMemory>
-    requires events { AllByRecursion (IsEvent (2 ^ bounds.now.zoom)) events.old.items }
-    ensures events { AllByRecursion (IsEvent (2 ^ bounds.now.zoom)) events.new.items }
-    ensures ok { OnOk result (Gains bounds.now (segments_of (2 ^ bounds.now.zoom) geometry.now) events.old.items events.new.items) }
-{
-    match geometry {
-        Geometry::Point(place) => add_segment(bounds, *place, *place, events),
-        Geometry::Line(places) => add_line(bounds, places.as_slice(), events),
-        Geometry::Lines(lines) => add_lines(bounds, lines.as_slice(), events),
-        Geometry::Area(polygons) => add_polygons(bounds, polygons.as_slice(), events),
+    /// Adds what lines meet, or rings.
+    fn add_lines(&mut self, lines: &[Places]) -> Result<(), OutOfMemory>
+        ensures ok { OnOk result (Gathers (λ columns. lines_segments columns lines.now) self.old self.new) }
+    {
+        for line in lines {
+            self.add_line(line.as_slice())?;
+        }
+        Ok(())
+    }
+
+    /// Adds what the rings of polygons meet.
+    fn add_polygons(&mut self, polygons: &[LineList]) -> Result<(), OutOfMemory>
+        ensures ok { OnOk result (Gathers (λ columns. flat_map (lines_segments columns) polygons.now) self.old self.new) }
+    {
+        for polygon in polygons {
+            self.add_lines(polygon.as_slice())?;
+        }
+        Ok(())
+    }
+
+    /// Adds what a geometry meets.
+    pub(crate) fn add_geometry(&mut self, geometry: &Geometry) -> Result<(), OutOfMemory>
+        ensures ok { OnOk result (Gathers (λ columns. segments_of columns geometry.now) self.old self.new) }
+    {
+        match geometry {
+            Geometry::Point(place) => self.add_segment(*place, *place),
+            Geometry::Line(places) => self.add_line(places.as_slice()),
+            Geometry::Lines(lines) => self.add_lines(lines.as_slice()),
+            Geometry::Area(polygons) => self.add_polygons(polygons.as_slice()),
+        }
     }
 }

@@ -1,21 +1,19 @@
 //! A geometry that lies within one tile, on none of its sides.
-ghost use Rattle.std.specs.Prelude.{◌≡◌, ℕ, ◌<◌, ◌≤◌, ◌^◌, ◌↔◌, [], ◌∷◌, length, IsTrue, IfSome};
+ghost use Rattle.std.specs.Prelude.{ℕ, ◌<◌, ◌^◌, ◌↔◌, [], ◌∷◌, length, IsTrue, IfSome};
 ghost use Rattle.tile_cover.specs.Events.{Gains, IsEvent};
 ghost use Rattle.tile_cover.specs.Inside.{AreInside, AreLinesInside, HasSegment, IsInside, IsLineInside};
-ghost use Rattle.tile_cover.specs.Seen.{IsTile, box_of};
-ghost use Rattle.tile_cover.specs.Table.{IsTable};
-ghost use Rattle.tile_cover.specs.Tile.{line_segments, lines_segments, segments_of, tile_box};
+ghost use Rattle.tile_cover.specs.Seen.{IsTileOf, box_of};
+ghost use Rattle.tile_cover.specs.Tile.{line_segments, lines_segments, segments_of};
 
 use crate::bounds::Bounds;
 use crate::climb::{from_pole, wide_lon};
 use crate::events::Event;
-use crate::seen::Tile;
 use crate::span::{COLUMN, Span};
+use crate::tile::Tile;
 use osm_base::{Geometry, LineList, Place, Places};
 
 /// Whether a place lies strictly between the sides of a tile.
 fn is_inside(tile: Tile, place: Place) -> bool
-    requires { IsTile tile }
     ensures inside { IsTrue result ↔ IsInside tile.columns (box_of tile) place }
 {
     let lon = wide_lon(tile.columns, place);
@@ -26,7 +24,6 @@ fn is_inside(tile: Tile, place: Place) -> bool
 
 /// Whether all places of a line do.
 fn is_line_inside(tile: Tile, places: &[Place]) -> bool
-    requires { IsTile tile }
     ensures inside { IsTrue result ↔ IsLineInside tile.columns (box_of tile) places.now }
 {
     places.iter().all(|place| is_inside(tile, *place))
@@ -34,7 +31,6 @@ fn is_line_inside(tile: Tile, places: &[Place]) -> bool
 
 /// Whether all places of lines do, or of rings.
 fn are_lines_inside(tile: Tile, lines: &[Places]) -> bool
-    requires { IsTile tile }
     ensures inside { IsTrue result ↔ AreLinesInside tile.columns (box_of tile) lines.now }
 {
     lines
@@ -44,7 +40,6 @@ fn are_lines_inside(tile: Tile, lines: &[Places]) -> bool
 
 /// Whether all places of a geometry do.
 fn are_inside(tile: Tile, geometry: &Geometry) -> bool
-    requires { IsTile tile }
     ensures inside { IsTrue result ↔ AreInside tile.columns (box_of tile) geometry.now }
 {
     match geometry {
@@ -97,25 +92,21 @@ fn start_of(geometry: &Geometry) -> Option<Place>
 }
 
 /// The column that a place lies in.
-fn column_near(columns: u32, place: Place) -> u32
-    requires columns { 0 < columns × columns ≤ 65536 }
-    ensures within { result < columns }
+fn column_near(bounds: &Bounds, place: Place) -> u32
+    ensures within { result < 2 ^ bounds.now.zoom }
 {
+    let columns = bounds.columns();
     (wide_lon(columns, place) / COLUMN).min(u64::from(columns) - 1) as u32
 }
 
 /// A row, and the tile in it that a place lies in, where it lies in a tile of the table.
 fn tile_near(bounds: &Bounds, place: Place) -> (u32, Tile)
-    ensures row { result.0 < 2 ^ bounds.now.zoom }
-    ensures tile { IsTile result.1 }
-    ensures columns { result.1.columns ≡ 2 ^ bounds.now.zoom }
-    ensures sides { box_of result.1 ≡ tile_box bounds.now result.1.x result.0 }
-    ensures table { IsTable bounds.now }
+    ensures tile { IsTileOf bounds.now result.0 result.1 }
 {
     let columns = bounds.columns();
     let row = bounds.row_near(place.lat);
     let (south, north) = bounds.sides(row);
-    let x = column_near(columns, place);
+    let x = column_near(bounds, place);
     let tile = Tile {
         x,
         columns,

@@ -20,6 +20,7 @@ mod runs;
 mod seen;
 mod span;
 mod sweep;
+mod tile;
 
 pub use bounds::Bounds;
 pub use covering::cover;

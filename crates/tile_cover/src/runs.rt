@@ -83,19 +83,6 @@ fn push_run(runs: &mut Vec<Run>, run: Run) -> Result<(), OutOfMemory>
     Ok(())
 }
 
-/// Adds a run at the end, which is apart from the others.
-fn push_apart(runs: &mut Vec<Run>, run: Run) -> Result<(), OutOfMemory>
-    requires set { IsTileSet runs.old.items }
-    requires run { IsRun run }
-    requires apart { AllByRecursion (λ before. Follows before run) runs.old.items }
-    ensures set { IsTileSet runs.new.items }
-    ensures ok { OnOk result (runs.new.items ≡ runs.old.items ++ run ∷ []) }
-    ensures err { OnErr result (runs.new.items ≡ runs.old.items) }
-{
-    runs.push(run)?;
-    Ok(())
-}
-
 /// Puts runs in the place of those between two positions.
 fn replace_runs(
     runs: &mut Vec<Run>,
@@ -147,7 +134,8 @@ impl TileRuns {
         ensures ok { OnOk result (self.new ≡ self.old ++ run ∷ []) }
         ensures err { OnErr result (self.new ≡ self.old) }
     {
-        push_apart(&mut self.runs, run)
+        self.runs.push(run)?;
+        Ok(())
     }
 
     /// Puts a set's runs in the place of those between two positions, where the whole is a set again.

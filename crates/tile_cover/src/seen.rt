@@ -1,22 +1,14 @@
 //! One tile, and the segments of a geometry.
 ghost use Rattle.std.specs.Prelude.{◌≡◌, ℕ, ◌<◌, ◌≤◌, ◌&&◌, [], ◌∷◌, nat_le, nat_lt};
 ghost use Rattle.std.specs.List.{flat_map};
-ghost use Rattle.tile_cover.specs.Seen.{IsTile, Sees, box_of};
+ghost use Rattle.tile_cover.specs.Seen.{Sees, box_of};
 ghost use Rattle.tile_cover.specs.Span.{covers as covers_column, is_further as is_further_east};
 ghost use Rattle.tile_cover.specs.Tile.{line_segments, lines_segments, segments_of, widened};
 
 use crate::climb::climb_of;
 use crate::span::{Span, span_in};
+use crate::tile::Tile;
 use osm_base::{Geometry, LineList, Place, Places};
-
-/// A tile: its column, how many there are, and the sides of its row from the south pole on.
-#[derive(Clone, Copy)]
-pub(crate) struct Tile {
-    pub(crate) x: u32,
-    pub(crate) columns: u32,
-    pub(crate) south: u64,
-    pub(crate) north: u64,
-}
 
 /// What is seen of segments.
 #[derive(Clone, Copy)]
@@ -43,7 +35,6 @@ fn is_further(x: u32, span: Span) -> bool
 
 /// What is seen after one more segment.
 fn see_segment(tile: Tile, seen: Seen, start: Place, end: Place) -> Seen
-    requires { IsTile tile }
     ensures sees { Sees (box_of tile) (record { start = widened tile.columns start; end = widened tile.columns end } ∷ []) seen result }
 {
     let climb = climb_of(tile.columns, start, end);
@@ -57,7 +48,6 @@ fn see_segment(tile: Tile, seen: Seen, start: Place, end: Place) -> Seen
 
 /// What is seen after the segments of a line.
 fn see_line(tile: Tile, seen: Seen, places: &[Place]) -> Seen
-    requires { IsTile tile }
     ensures sees { Sees (box_of tile) (line_segments tile.columns places.now) seen result }
 {
     let mut now = seen;
@@ -71,7 +61,6 @@ fn see_line(tile: Tile, seen: Seen, places: &[Place]) -> Seen
 
 /// What is seen after the segments of lines, or rings.
 fn see_lines(tile: Tile, seen: Seen, lines: &[Places]) -> Seen
-    requires { IsTile tile }
     ensures sees { Sees (box_of tile) (lines_segments tile.columns lines.now) seen result }
 {
     let mut now = seen;
@@ -83,7 +72,6 @@ fn see_lines(tile: Tile, seen: Seen, lines: &[Places]) -> Seen
 
 /// What is seen after the segments of the rings of polygons.
 fn see_polygons(tile: Tile, seen: Seen, polygons: &[LineList]) -> Seen
-    requires { IsTile tile }
     ensures sees { Sees (box_of tile) (flat_map (lines_segments tile.columns) polygons.now) seen result }
 {
     let mut now = seen;
@@ -95,7 +83,6 @@ fn see_polygons(tile: Tile, seen: Seen, polygons: &[LineList]) -> Seen
 
 /// What is seen after the segments of a geometry.
 pub(crate) fn see(tile: Tile, seen: Seen, geometry: &Geometry) -> Seen
-    requires { IsTile tile }
     ensures sees { Sees (box_of tile) (segments_of tile.columns geometry.now) seen result }
 {
     match geometry {

@@ -1,15 +1,24 @@
-use Rattle.std.proofs.Common.{◌+◌, arith, pos, ◌∙◌, w32, FitsSigned}
+use Rattle.std.proofs.Common.{◌+◌, arith, pos, ◌∙◌, w32, slice_index_or}
 use Rattle.std.proofs.lemmas.Int.{to_z-of_z}
-use Rattle.tile_cover.specs.Table.{boundary}
-use Rattle.tile_cover.proofs.Rows.{falls, ordered}
+use Rattle.tile_cover.specs.Table.{IsLatitude}
+use Rattle.tile_cover.proofs.Rows.{all_at, falls, fits_lat, ordered, same_item}
 use Rattle.tile_cover.proofs.bounds.Bounds.sides.Goals as goal
 
 pub returns-clause-ordered : goal.returns-clause-ordered
 returns-clause-ordered c =
-    let north_fits : FitsSigned w32 c.boundary-north.result = record { sfits = c.boundary-north.type_inv } in
-    let south_fits : FitsSigned w32 c.boundary-south.result = record { sfits = c.boundary-south.type_inv } in
-    ordered c.from_pole.result c.from_pole-2.result (boundary c.args.self.now (c.args.row + 1)) (boundary c.args.self.now c.args.row)
-    (c.from_pole.ensures.lat ∙ to_z-of_z w32 c.boundary-south.result south_fits ∙ c.boundary-south.ensures.lat)
-    (c.from_pole-2.ensures.lat ∙ to_z-of_z w32 c.boundary-north.result north_fits ∙ c.boundary-north.ensures.lat)
-    (falls c.args.self.now.lats c.args.row (pos 0) c.boundary-north.ensures.table.falling
-    (let long = c.boundary-north.ensures.table.whole in omega (arith, c.requires, long)))
+    let table = c.self.inside in
+    let lats = table.lats.items in
+    let row = c.args.row in
+    let whole = c.self.invariant.whole in
+    let within = rw (← c.self.view_is) at c.requires in
+    let south = slice_index_or lats (row + 1) (pos 0) in
+    let north = slice_index_or lats row (pos 0) in
+    let south_is = same_item lats (row + 1) _ (pos 0) c.index-south.result.now c.index-south.ensures (omega (arith, within, whole)) in
+    let north_is = same_item lats row _ (pos 0) c.index-north.result.now c.index-north.ensures (omega (arith, within, whole)) in
+    let latitudes = c.self.invariant.latitudes in
+    ordered c.from_pole.result c.from_pole-2.result south north
+    (rw south_is at c.from_pole.ensures.lat ∙ to_z-of_z w32 south
+    (fits_lat south (all_at IsLatitude lats (row + 1) (pos 0) latitudes (omega (arith, within, whole)))))
+    (rw north_is at c.from_pole-2.ensures.lat ∙ to_z-of_z w32 north
+    (fits_lat north (all_at IsLatitude lats row (pos 0) latitudes (omega (arith, within, whole)))))
+    (falls lats row (pos 0) c.self.invariant.falling (omega (arith, within, whole)))
