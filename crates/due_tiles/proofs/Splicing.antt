@@ -233,10 +233,8 @@ drop_more (run ∷ runs) (suc from) count = ap (λ n. drop n (run ∷ runs)) (on
 pub after_front : (runs : List Run) (from : ℕ) → IsTileSet runs → IsTileSet (drop from runs)
 after_front runs from set = back_set (take from runs) (drop from runs) (subst IsTileSet (sym (take-append-drop from runs)) set)
 
-pub between_set : (runs : List Run) (from count : ℕ) → IsTileSet runs → IsTileSet (take count (drop from runs))
-between_set runs from count set =
-    front_set (take count (drop from runs)) (drop count (drop from runs))
-    (subst IsTileSet (sym (take-append-drop count (drop from runs))) (after_front runs from set))
+pub before_back : (runs : List Run) (count : ℕ) → IsTileSet runs → IsTileSet (take count runs)
+before_back runs count set = front_set (take count runs) (drop count runs) (subst IsTileSet (sym (take-append-drop count runs)) set)
 
 pub first_is : (runs : List Run) (first : Run) (rest : List Run) → runs ≡ first ∷ rest → first ≡ get_or runs 0 first
 first_is runs first rest e = sym (ap (λ own. get_or own 0 first) e)

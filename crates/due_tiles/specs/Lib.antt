@@ -1,4 +1,5 @@
 pub mod Ends
 pub mod Joining
+pub mod Part
 pub mod Spelling
 pub mod TileText

@@ -1,9 +1,11 @@
 //! Two sets of tiles as one.
-ghost use Rattle.std.specs.Prelude.{◌≡◌, ◌||◌, ◌<◌, ◌≤◌, ◌+◌, ◌-◌, ◌^◌, ◌∷◌, ℕ, nat_le, length, slice_index_or, take, drop, IfOk, OnOk, OnErr};
+ghost use Rattle.std.specs.Prelude.{◌≡◌, ◌||◌, ◌<◌, ◌≤◌, ◌+◌, ◌-◌, ◌∷◌, ℕ, nat_le, length, slice_index_or, take, drop, IfOk, OnOk, OnErr};
 ghost use Rattle.std.specs.List.{AllByRecursion};
 ghost use Rattle.tile_cover.specs.Runs.{Follows, IsRun, IsTileSet, end_of, has, start_of};
 ghost use Rattle.due_tiles.specs.Joining.{IsTaken};
 
+use crate::part::Part;
+use crate::places::{end_of, start_of};
 use osm_base::OutOfMemory;
 use std::alloc::Global;
 use tile_cover::{Run, TileRuns};
@@ -15,53 +17,49 @@ pub fn union(alloc: Global, one: &mut TileRuns, other: &TileRuns) -> Result<(), 
         → has one.new zoom x y ≡ (has one.old zoom x y || has other.now zoom x y)) }
     ensures err { OnErr result (one.new ≡ one.old) }
 {
-    let others = other.as_slice();
-    if others.len() == 0 {
+    let others = Part::of(other);
+    if others.runs.len() == 0 {
         return Ok(());
     }
     let (first, _) = first_run(others);
-    let last = last_run(others);
-    let runs = one.as_slice();
-    let from = count_before(runs, first);
-    let (_, rest) = runs.split_at(from);
+    let last = last_run(others.runs);
+    let all = Part::of(one);
+    let from = count_before(all, first);
+    let rest = all.behind(from);
     let count = count_reached(rest, last);
-    let (between, _) = rest.split_at(count);
+    let between = rest.front(count);
     let both = joined(alloc, between, others)?;
     one.replace(from, from + count, both)?;
     Ok(())
 }
 
-/// How many runs of a set stand before a run and apart from it.
-fn count_before(runs: &[Run], run: Run) -> usize
-    requires set { IsTileSet runs.now }
-    ensures bound { result ≤ length runs.now }
-    ensures before { AllByRecursion (λ own. Follows own run) (take result runs.now) }
+/// How many runs stand before a run and apart from it.
+fn count_before(part: Part<'_>, run: Run) -> usize
+    ensures bound { result ≤ length part.entry.runs.now }
+    ensures before { AllByRecursion (λ own. Follows own run) (take result part.entry.runs.now) }
 {
     let start = start_of(run);
-    runs.partition_point(|own| end_of(*own) + 1 < start)
+    part.runs.partition_point(|own| end_of(*own) + 1 < start)
 }
 
-/// How many runs of a set a run does not stand before, apart from them.
-fn count_reached(runs: &[Run], run: Run) -> usize
-    requires set { IsTileSet runs.now }
-    ensures bound { result ≤ length runs.now }
-    ensures behind { AllByRecursion (Follows run) (drop result runs.now) }
+/// How many runs a run does not stand before, apart from them.
+fn count_reached(part: Part<'_>, run: Run) -> usize
+    ensures bound { result ≤ length part.entry.runs.now }
+    ensures behind { AllByRecursion (Follows run) (drop result part.entry.runs.now) }
 {
     let end = end_of(run);
-    runs.partition_point(|own| start_of(*own) <= end + 1)
+    part.runs.partition_point(|own| start_of(*own) <= end + 1)
 }
 
 /// The tiles of two sets.
-fn joined(alloc: Global, left: &[Run], right: &[Run]) -> Result<TileRuns, OutOfMemory>
-    requires left { IsTileSet left.now }
-    requires right { IsTileSet right.now }
+fn joined(alloc: Global, left: Part<'_>, right: Part<'_>) -> Result<TileRuns, OutOfMemory>
     ensures tiles { IfOk result (λ set. (zoom x y : ℕ)
-        → has set zoom x y ≡ (has left.now zoom x y || has right.now zoom x y)) }
+        → has set zoom x y ≡ (has left.entry.runs.now zoom x y || has right.entry.runs.now zoom x y)) }
     ensures set { IfOk result IsTileSet }
 {
     let mut set = TileRuns::new(alloc);
     let (mut left_rest, mut right_rest) = (left, right);
-    while left_rest.len() > 0 || right_rest.len() > 0 {
+    while left_rest.runs.len() > 0 || right_rest.runs.len() > 0 {
         let (run, left_behind, right_behind) = next_run(left_rest, right_rest);
         set.add(run)?;
         left_rest = left_behind;
@@ -72,17 +70,15 @@ fn joined(alloc: Global, left: &[Run], right: &[Run]) -> Result<TileRuns, OutOfM
 }
 
 /// The run that begins first among two sets, and what is left of the two.
-fn next_run<'a>(left: &'a [Run], right: &'a [Run]) -> (Run, &'a [Run], &'a [Run])
-    requires left { IsTileSet left.now }
-    requires right { IsTileSet right.now }
-    requires some { 0 < length left.now + length right.now }
-    ensures taken { IsTaken left.now right.now result.0 result.1.now result.2.now }
+fn next_run<'s>(left: Part<'s>, right: Part<'s>) -> (Run, Part<'s>, Part<'s>)
+    requires some { 0 < length left.runs.now + length right.runs.now }
+    ensures taken { IsTaken left.entry.runs.now right.entry.runs.now result.0 result.1.runs.now result.2.runs.now }
 {
-    if right.len() == 0 {
+    if right.runs.len() == 0 {
         let (run, rest) = first_run(left);
         return (run, rest, right);
     }
-    if left.len() == 0 {
+    if left.runs.len() == 0 {
         let (run, rest) = first_run(right);
         return (run, left, rest);
     }
@@ -95,15 +91,12 @@ fn next_run<'a>(left: &'a [Run], right: &'a [Run]) -> (Run, &'a [Run], &'a [Run]
 }
 
 /// The first run, and those behind it.
-fn first_run(runs: &[Run]) -> (Run, &[Run])
-    requires some { 0 < length runs.now }
-    requires set { IsTileSet runs.now }
-    ensures parts { runs.now ≡ result.0 ∷ result.1.now }
+fn first_run(part: Part<'_>) -> (Run, Part<'_>)
+    requires some { 0 < length part.runs.now }
+    ensures parts { part.entry.runs.now ≡ result.0 ∷ result.1.runs.now }
     ensures run { IsRun result.0 }
 {
-    let run = runs[0];
-    let (_, rest) = runs.split_at(1);
-    (run, rest)
+    (part.runs[0], part.behind(1))
 }
 
 /// The last run.
@@ -119,20 +112,4 @@ fn begins_first(run: Run, other: Run) -> bool
     ensures first { result ≡ nat_le (start_of run) (start_of other) }
 {
     start_of(run) <= start_of(other)
-}
-
-/// The number of a run's first column, counted over all rows of all zooms.
-fn start_of(run: Run) -> u128
-    ensures start { result ≡ start_of run }
-    ensures small { result < 2 ^ 66 }
-{
-    (u128::from(run.zoom) * 65_536 + u128::from(run.y)) * 131_072 + u128::from(run.first)
-}
-
-/// The number of its last column.
-fn end_of(run: Run) -> u128
-    ensures end { result ≡ end_of run }
-    ensures small { result < 2 ^ 66 }
-{
-    (u128::from(run.zoom) * 65_536 + u128::from(run.y)) * 131_072 + u128::from(run.last)
 }

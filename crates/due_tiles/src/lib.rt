@@ -8,9 +8,12 @@
 
 mod fault;
 mod joining;
+mod part;
+mod places;
 mod spelling;
 mod tile_numbers;
 mod tile_text;
+mod zoom;
 
 pub use fault::{DueFault, TilesFault};
 pub use joining::union;

@@ -1,11 +1,12 @@
 //! Sets of tiles in bytes.
-ghost use Rattle.std.specs.Prelude.{◌≡◌, ◌++◌, ◌+◌, ◌↔◌, nat_lt, IsTrue, IfOk, IfErr, IfSome, IsNone, OnOk};
+ghost use Rattle.std.specs.Prelude.{◌≡◌, ◌++◌, ◌↔◌, IsTrue, IfOk, IfErr, IfSome, IsNone, OnOk};
 ghost use Rattle.std.specs.List.{AllByRecursion};
-ghost use Rattle.tile_cover.specs.Runs.{IsRun, IsTileSet, Follows, end_of, start_of};
+ghost use Rattle.tile_cover.specs.Runs.{IsRun, IsTileSet, Follows};
 ghost use Rattle.value_bytes.specs.Forms.{IsFront, IsFrontless, IsNoValue, Spells};
 ghost use Rattle.due_tiles.specs.Spelling.{IsRead, IsSpelling, NeedsFor, NumbersOf, TakesRun, run_bytes, set_bytes};
 
 use crate::DueFault;
+use crate::places::follows;
 use osm_base::{Bytes, Items, OutOfMemory};
 use std::alloc::Global;
 use tile_cover::{MAX_ZOOM, Run, TileRuns};
@@ -64,7 +65,7 @@ fn take_run<'b>(alloc: Global, set: &mut TileRuns, rest: &'b [u8]) -> Result<&'b
         Ok(found) => found,
         Err(fault) => return Err(fault),
     };
-    if !is_behind(set.as_slice(), run) {
+    if !is_behind(set, run) {
         return Err(DueFault::NotSpelled);
     }
     set.push(run)?;
@@ -72,41 +73,15 @@ fn take_run<'b>(alloc: Global, set: &mut TileRuns, rest: &'b [u8]) -> Result<&'b
 }
 
 /// Whether a run follows all of a set.
-fn is_behind(runs: &[Run], run: Run) -> bool
-    requires set { IsTileSet runs.now }
-    requires run { IsRun run }
-    ensures behind { IsTrue result ↔ AllByRecursion (λ before. Follows before run) runs.now }
+fn is_behind(set: &TileRuns, run: Run) -> bool
+    ensures behind { IsTrue result ↔ AllByRecursion (λ before. Follows before run) set.now }
 {
+    let runs = set.as_slice();
     let count = runs.len();
     if count == 0 {
         return true;
     }
     follows(runs[count - 1], run)
-}
-
-/// Whether a run follows another one.
-fn follows(run: Run, next: Run) -> bool
-    requires run { IsRun run }
-    requires next { IsRun next }
-    ensures follows { result ≡ nat_lt (end_of run + 1) (start_of next) }
-{
-    end_of(run) + 1 < start_of(next)
-}
-
-/// The number of a run's first column, counted over all rows of all zooms.
-fn start_of(run: Run) -> u64
-    requires { IsRun run }
-    ensures { result ≡ start_of run }
-{
-    (u64::from(run.zoom) * 65_536 + u64::from(run.y)) * 131_072 + u64::from(run.first)
-}
-
-/// The number of its last column.
-fn end_of(run: Run) -> u64
-    requires { IsRun run }
-    ensures { result ≡ end_of run }
-{
-    start_of(run) + u64::from(run.last - run.first)
 }
 
 /// The run at the front, and the bytes behind it.

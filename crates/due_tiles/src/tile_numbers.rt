@@ -1,20 +1,20 @@
 //! The tiles of a zoom that are listed, by their numbers, which go column by column.
-ghost use Rattle.std.specs.Prelude.{◌≡◌, ◌≤◌, ◌<◌, ◌+◌, ◌*◌, ◌/◌, ◌%◌, ◌^◌, ◌==◌, ◌&&◌, ◌||◌, ℕ, nat_le, IfOk, OnOk};
+ghost use Rattle.std.specs.Prelude.{◌≡◌, ◌≤◌, ◌<◌, ◌+◌, ◌*◌, ◌/◌, ◌%◌, ◌==◌, ◌&&◌, ◌||◌, ℕ, nat_le, IfOk, OnOk};
 ghost use Rattle.std.specs.List.{AllByRecursion, list_any};
 ghost use Rattle.osm_base.specs.values.Ids.{has, IsRising};
 ghost use Rattle.tile_cover.specs.Runs.{IsRun};
 ghost use Rattle.due_tiles.specs.TileText.{column_of, is_above, is_listed, row_of};
 
+use crate::zoom::{Zoom, side_of};
 use object_fold::RisingIds;
 use osm_base::OutOfMemory;
 use std::alloc::Global;
-use tile_cover::{MAX_ZOOM, Run};
+use tile_cover::Run;
 
 /// The numbers of the tiles of a zoom that are those of runs or above them, rising.
-pub(crate) fn listed(alloc: Global, runs: &[Run], zoom: u32) -> Result<RisingIds, OutOfMemory>
+pub(crate) fn listed(alloc: Global, runs: &[Run], zoom: Zoom) -> Result<RisingIds, OutOfMemory>
     requires runs { AllByRecursion IsRun runs.now }
-    requires zoom { zoom ≤ MAX_ZOOM }
-    ensures listed { IfOk result (λ numbers. (number : ℕ) → has numbers number ≡ is_listed runs.now zoom number) }
+    ensures listed { IfOk result (λ numbers. (number : ℕ) → has numbers number ≡ is_listed runs.now zoom.level number) }
 {
     let mut numbers = Vec::new(alloc);
     for run in runs {
@@ -24,16 +24,15 @@ pub(crate) fn listed(alloc: Global, runs: &[Run], zoom: u32) -> Result<RisingIds
 }
 
 /// Adds the numbers of the tiles above a run.
-fn add_run(numbers: &mut Vec<u64>, zoom: u32, run: Run) -> Result<(), OutOfMemory>
+fn add_run(numbers: &mut Vec<u64>, zoom: Zoom, run: Run) -> Result<(), OutOfMemory>
     requires run { IsRun run }
-    requires zoom { zoom ≤ MAX_ZOOM }
     ensures added { OnOk result ((number : ℕ) → has numbers.new.items number
-        ≡ (is_above zoom (column_of zoom number) (row_of zoom number) run || has numbers.old.items number)) }
+        ≡ (is_above zoom.level (column_of zoom.level number) (row_of zoom.level number) run || has numbers.old.items number)) }
 {
-    if zoom > run.zoom {
+    if zoom.level > run.zoom {
         return Ok(());
     }
-    let shift = run.zoom - zoom;
+    let shift = run.zoom - zoom.level;
     add_row(
         numbers,
         side_of(zoom),
@@ -62,14 +61,4 @@ fn add_row(
         numbers.push(u64::from(x) * side + u64::from(y))?;
     }
     Ok(())
-}
-
-/// How many columns, and rows, a zoom has.
-pub(crate) fn side_of(zoom: u32) -> u64
-    requires { zoom ≤ MAX_ZOOM }
-    ensures power { result ≡ 2 ^ zoom }
-    ensures small { result ≤ 65536 }
-    ensures some { 0 < result }
-{
-    1 << zoom
 }

@@ -1,5 +1,5 @@
 //! The text of the tiles that are due.
-ghost use Rattle.std.specs.Prelude.{◌≡◌, ◌≤◌, ◌++◌, IfErr, IfOk, OnErr, OnOk, flat_map};
+ghost use Rattle.std.specs.Prelude.{◌≡◌, ◌++◌, IfErr, IfOk, OnErr, OnOk, flat_map};
 ghost use Rattle.std.specs.Fmt.{decimal};
 ghost use Rattle.std.specs.Io.KnownBytes.{Appends};
 ghost use Rattle.std.specs.List.{AllByRecursion};
@@ -10,7 +10,8 @@ ghost use Rattle.due_tiles.specs.Ends.{Ends};
 ghost use Rattle.due_tiles.specs.TileText.{line_of, tile_line, tile_text, zoom_text};
 
 use crate::TilesFault;
-use crate::tile_numbers::{listed, side_of};
+use crate::tile_numbers::listed;
+use crate::zoom::{Zoom, side_of};
 use osm_base::OutOfMemory;
 use outside::{Sink, put_all};
 use std::alloc::Global;
@@ -49,17 +50,16 @@ fn text_of(alloc: Global, runs: &[Run], least: u32) -> Result<Vec<u8>, OutOfMemo
     ensures text { IfOk result (λ text. text.items ≡ tile_text runs.now least) }
 {
     let mut text = Vec::new(alloc);
-    for zoom in least..MAX_ZOOM + 1 {
-        push_zoom(alloc, runs, zoom, &mut text)?;
+    for level in least..MAX_ZOOM + 1 {
+        push_zoom(alloc, runs, Zoom { level }, &mut text)?;
     }
     Ok(text)
 }
 
 /// Adds the lines of a zoom.
-fn push_zoom(alloc: Global, runs: &[Run], zoom: u32, text: &mut Vec<u8>) -> Result<(), OutOfMemory>
+fn push_zoom(alloc: Global, runs: &[Run], zoom: Zoom, text: &mut Vec<u8>) -> Result<(), OutOfMemory>
     requires runs { AllByRecursion IsRun runs.now }
-    requires zoom { zoom ≤ MAX_ZOOM }
-    ensures ok { OnOk result (text.new.items ≡ text.old.items ++ zoom_text runs.now zoom) }
+    ensures ok { OnOk result (text.new.items ≡ text.old.items ++ zoom_text runs.now zoom.level) }
 {
     let numbers = listed(alloc, runs, zoom)?;
     push_lines(zoom, numbers.as_slice(), text)?;
@@ -67,9 +67,8 @@ fn push_zoom(alloc: Global, runs: &[Run], zoom: u32, text: &mut Vec<u8>) -> Resu
 }
 
 /// Adds the lines of the tiles with these numbers.
-fn push_lines(zoom: u32, numbers: &[u64], text: &mut Vec<u8>) -> Result<(), OutOfMemory>
-    requires zoom { zoom ≤ MAX_ZOOM }
-    ensures ok { OnOk result (text.new.items ≡ text.old.items ++ flat_map (line_of zoom) numbers.now) }
+fn push_lines(zoom: Zoom, numbers: &[u64], text: &mut Vec<u8>) -> Result<(), OutOfMemory>
+    ensures ok { OnOk result (text.new.items ≡ text.old.items ++ flat_map (line_of zoom.level) numbers.now) }
 {
     for &number in numbers {
         push_line(zoom, number, text)?;
@@ -78,12 +77,11 @@ fn push_lines(zoom: u32, numbers: &[u64], text: &mut Vec<u8>) -> Result<(), OutO
 }
 
 /// Adds the line of the tile with this number.
-fn push_line(zoom: u32, number: u64, text: &mut Vec<u8>) -> Result<(), OutOfMemory>
-    requires zoom { zoom ≤ MAX_ZOOM }
-    ensures ok { OnOk result (text.new.items ≡ text.old.items ++ line_of zoom number) }
+fn push_line(zoom: Zoom, number: u64, text: &mut Vec<u8>) -> Result<(), OutOfMemory>
+    ensures ok { OnOk result (text.new.items ≡ text.old.items ++ line_of zoom.level number) }
 {
     let side = side_of(zoom);
-    push_tile(zoom, number / side, number % side, text)
+    push_tile(zoom.level, number / side, number % side, text)
 }
 
 /// Adds the line of a tile.

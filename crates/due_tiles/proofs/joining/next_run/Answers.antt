@@ -13,9 +13,9 @@ returns-then-begins_first c =
         parts = first.ensures.parts;
         same = refl;
         before = subst (BeginsBefore first.result.0) (sym other.ensures.parts)
-            (before_all first.result.0 other.result.0 other.result.1.now
+            (before_all first.result.0 other.result.0 other.result.1.runs.now
             (before_true first.result.0 other.result.0 c.if-begins_first.ensures.first)
-            (subst IsTileSet other.ensures.parts c.requires.right));
+            (subst IsTileSet other.ensures.parts c.args.right.set));
       });
     }
 
@@ -28,8 +28,8 @@ returns c =
         parts = other.ensures.parts;
         same = refl;
         before = subst (BeginsBefore other.result.0) (sym first.ensures.parts)
-            (before_all other.result.0 first.result.0 first.result.1.now
+            (before_all other.result.0 first.result.0 first.result.1.runs.now
             (before_false first.result.0 other.result.0 c.if-begins_first.ensures.first)
-            (subst IsTileSet first.ensures.parts c.requires.left));
+            (subst IsTileSet first.ensures.parts c.args.left.set));
       });
     }

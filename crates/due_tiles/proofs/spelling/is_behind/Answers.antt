@@ -4,8 +4,9 @@ use Rattle.due_tiles.proofs.spelling.is_behind.Goals as goal
 
 pub returns : goal.returns
 returns c =
-    let runs = c.args.runs.now in
+    let runs = c.as_slice-runs.result.now in
     record {
-      behind = behind_is runs c.args.run (length runs - 1)
-          (record { zoom = 0; y = 0; first = 0; last = 0 }) c.follows.result c.requires.set (omega arith) c.follows.ensures.follows;
+      behind = rw (← c.as_slice-runs.ensures.runs) (behind_is runs c.args.run (length runs - 1)
+          (record { zoom = 0; y = 0; first = 0; last = 0 }) c.follows.result c.as_slice-runs.ensures.tiles (omega arith)
+          c.follows.ensures.follows);
     }

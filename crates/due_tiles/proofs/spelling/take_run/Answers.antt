@@ -1,8 +1,4 @@
-use Rattle.std.proofs.Common.{List, sym, subst}
 use mathlib.Core.Bool.{false≢true}
-use Rattle.std.specs.List.{AllByRecursion}
-use Rattle.tile_cover.specs.declared.runs.Run.{Run}
-use Rattle.tile_cover.specs.Runs.{Follows}
 use Rattle.due_tiles.proofs.Reading.{needs_more, no_run, not_behind}
 use Rattle.due_tiles.proofs.spelling.take_run.Goals as goal
 
@@ -13,5 +9,4 @@ pub returns-then-not-is_behind-clause-refused : goal.returns-then-not-is_behind-
 returns-then-not-is_behind-clause-refused c =
     let found = c.in-Ok.found in
     not_behind c.args.set.now c.args.rest.now found.0 found.1.now c.in-Ok.ensures.run
-    (λ all. false≢true (c.if-not-is_behind.ensures.behind.1
-    (subst (λ (runs : List Run). AllByRecursion (λ before. Follows before found.0) runs) (sym c.as_slice.ensures.runs) all)))
+    (λ all. false≢true (c.if-not-is_behind.ensures.behind.1 all))
