@@ -13,7 +13,7 @@ use Rattle.osm_base.specs.values.Ids.{IsRising, has}
 use Rattle.object_fold.proofs.SortedIds.{none-rise}
 use Rattle.object_fold.specs.Listing.{ListingOf}
 use Rattle.store_maps.specs.Filling.{all_listed_on, all_objects_on, entries_tell, listed_on, object_on}
-use Rattle.store_maps.specs.Maps.{Maps, form_in, set_object}
+use Rattle.store_maps.specs.Maps.{Maps, set_object, way_or_relation_in}
 use Rattle.store_maps.specs.Step.{entry_on, relisted, relisted_all, relisted_to, with_id, without_id}
 use Rattle.store_maps.specs.Turns.{IsListing, Told, added, blocks_in, ids_for, listed_by}
 use Rattle.store_maps.proofs.Listings.{listed_too, retold}
@@ -94,7 +94,7 @@ none_for : (by : Kind) (what : Object → List ℕ) (kind : Kind) → ids_for by
 none_for by what kind = elim (is_kind by kind) as (λ b. (if b then listed_by what None else []) ≡ []) [ true ↦ refl | false ↦ refl ]
 
 -- where a key has no form, its entry lists its object and puts it
-pub fresh-entry : (maps : Maps) (entry : Entry) → form_in maps entry.key.kind entry.key.id ≡ None
+pub fresh-entry : (maps : Maps) (entry : Entry) → way_or_relation_in maps entry.key.kind entry.key.id ≡ None
     → object_on (listed_on maps entry) entry ≡ entry_on maps entry
 fresh-entry maps entry none =
     let kind = entry.key.kind in

@@ -20,7 +20,7 @@ use Rattle.osm_base.specs.values.Place.{PlaceOf}
 use Rattle.osm_base.specs.values.Tags.{TagMap}
 use Rattle.osm_base.proofs.KeyLaws.{key_cmp-IsAntisymmetric}
 use Rattle.value_bytes.specs.declared.nodes.NodeRecord.{NodeRecord}
-use Rattle.store_maps.specs.Maps.{Maps, form_in, node_in, node_record, object_in, set_object}
+use Rattle.store_maps.specs.Maps.{Maps, node_in, node_record, object_in, set_object, way_or_relation_in}
 use Rattle.store_maps.specs.Named.{known_on, place_in}
 use Rattle.store_maps.specs.Stands.{HoldsNode, HoldsTags, StandsOn}
 use Rattle.store_maps.specs.Step.{change_on, entry_on, relisted_to}
@@ -125,7 +125,8 @@ module _ (id : ℕ) where
 
   entry_knows : (maps : Maps) (entry : Entry) → Knows maps → Knows (entry_on maps entry)
   entry_knows maps entry knows = set_knows
-      (relisted_to maps entry.key (form_in maps entry.key.kind entry.key.id) entry.object) entry.key.kind entry.key.id entry.object knows
+      (relisted_to maps entry.key (way_or_relation_in maps entry.key.kind entry.key.id) entry.object)
+      entry.key.kind entry.key.id entry.object knows
 
   stays_known : (entries : List Entry) (maps : Maps) → Knows maps → Knows (change_on maps entries)
   stays_known [] maps knows = knows

@@ -22,7 +22,7 @@ use Rattle.object_fold.proofs.SortedIds.{none-rise}
 use Rattle.object_fold.proofs.Listers.{kind_same}
 use Rattle.object_fold.specs.Change.{IsOfKind}
 use Rattle.object_fold.specs.Listing.{ListingOf, is_listed}
-use Rattle.store_maps.specs.Maps.{Maps, empty_maps, form_in, node_record}
+use Rattle.store_maps.specs.Maps.{Maps, empty_maps, node_record, way_or_relation_in}
 use Rattle.store_maps.specs.Stands.{AreProper, HoldsIndex, HoldsNode, HoldsObjects, StandsOn}
 use Rattle.store_maps.specs.Step.{AllListed, AreProperEntries, AreTold, change_on, entry_on, relisted_to}
 use Rattle.store_maps.specs.Turns.{IsListing, blocks_in, ids_for, listed_by, told_by}
@@ -96,23 +96,23 @@ module _ (reaches : Bool) (maps : Maps) (objects : ObjectSet) (stands : StandsOn
   }
 
   -- the form that is listed no longer is that of the objects
-  was_way : (kind : Kind) → is_kind kinds.Way kind ≡ true → form_in maps kind own ≡ finite.get objects (key kind)
+  was_way : (kind : Kind) → is_kind kinds.Way kind ≡ true → way_or_relation_in maps kind own ≡ finite.get objects (key kind)
   was_way kinds.Node same = absurd (cc)
   was_way kinds.Way same = stands.objects.ways own
   was_way kinds.Relation same = absurd (cc)
 
-  was_relation : (kind : Kind) → is_kind kinds.Relation kind ≡ true → form_in maps kind own ≡ finite.get objects (key kind)
+  was_relation : (kind : Kind) → is_kind kinds.Relation kind ≡ true → way_or_relation_in maps kind own ≡ finite.get objects (key kind)
   was_relation kinds.Node same = absurd (cc)
   was_relation kinds.Way same = absurd (cc)
   was_relation kinds.Relation same = stands.objects.relations own
 
-  index_relisted : (kind : Kind) → HoldsIndex (relisted_to maps (key kind) (form_in maps kind own) object) (after kind)
+  index_relisted : (kind : Kind) → HoldsIndex (relisted_to maps (key kind) (way_or_relation_in maps kind own) object) (after kind)
   index_relisted kind = record {
-    ways_of_blocks = listing_follows kinds.Way blocks_in objects kind own (form_in maps kind own) object
+    ways_of_blocks = listing_follows kinds.Way blocks_in objects kind own (way_or_relation_in maps kind own) object
         (was_way kind) maps.ways_of_blocks stands.index.ways_of_blocks;
-    relations_of_nodes = listing_follows kinds.Relation (listed kinds.Node) objects kind own (form_in maps kind own) object
+    relations_of_nodes = listing_follows kinds.Relation (listed kinds.Node) objects kind own (way_or_relation_in maps kind own) object
         (was_relation kind) maps.relations_of_nodes stands.index.relations_of_nodes;
-    relations_of_ways = listing_follows kinds.Relation (listed kinds.Way) objects kind own (form_in maps kind own) object
+    relations_of_ways = listing_follows kinds.Relation (listed kinds.Way) objects kind own (way_or_relation_in maps kind own) object
         (was_relation kind) maps.relations_of_ways stands.index.relations_of_ways;
   }
 
@@ -168,14 +168,16 @@ all_listed listing by what objects kind own object is was =
     )
 
 pub are_told : (reaches : Bool) (maps : Maps) (objects : ObjectSet) → StandsOn reaches maps objects → (own : KeyOf)
-    → AreTold maps own (form_in maps own.kind own.id)
+    → AreTold maps own (way_or_relation_in maps own.kind own.id)
 are_told reaches maps objects stands own = record {
   ways_of_blocks = all_listed maps.ways_of_blocks kinds.Way blocks_in objects own.kind own.id
-      (form_in maps own.kind own.id) stands.index.ways_of_blocks (was_way reaches maps objects stands own.id None own.kind);
+      (way_or_relation_in maps own.kind own.id) stands.index.ways_of_blocks (was_way reaches maps objects stands own.id None own.kind);
   relations_of_nodes = all_listed maps.relations_of_nodes kinds.Relation (listed kinds.Node) objects own.kind own.id
-      (form_in maps own.kind own.id) stands.index.relations_of_nodes (was_relation reaches maps objects stands own.id None own.kind);
+      (way_or_relation_in maps own.kind own.id) stands.index.relations_of_nodes
+      (was_relation reaches maps objects stands own.id None own.kind);
   relations_of_ways = all_listed maps.relations_of_ways kinds.Relation (listed kinds.Way) objects own.kind own.id
-      (form_in maps own.kind own.id) stands.index.relations_of_ways (was_relation reaches maps objects stands own.id None own.kind);
+      (way_or_relation_in maps own.kind own.id) stands.index.relations_of_ways
+      (was_relation reaches maps objects stands own.id None own.kind);
 }
 
 no_list : (found : Option (List ℕ)) → found ≡ None → found ≢ Some []

@@ -13,7 +13,7 @@ use Rattle.osm_base.specs.declared.values.row.TableRow.{TableRow}
 use Rattle.osm_base.specs.values.Key.{KeyOf}
 use Rattle.osm_base.specs.values.KeyOrder.{key_cmp}
 use Rattle.store_maps.specs.Append.{appended, set_all_rows}
-use Rattle.store_maps.specs.Maps.{Maps, empty_maps, form_in, rows_at, set_object, set_rows, unless_empty}
+use Rattle.store_maps.specs.Maps.{Maps, empty_maps, rows_at, set_object, set_rows, unless_empty, way_or_relation_in}
 use Rattle.store_maps.specs.Stands.{HoldsRows}
 use Rattle.store_maps.specs.Step.{change_on, entry_on, relisted_to}
 use Rattle.store_maps.proofs.ObjectMaps.{same_key}
@@ -44,9 +44,10 @@ pub rows_stay : (entries : List Entry) (maps : Maps) (kind : Kind) (id : ℕ)
 rows_stay [] maps kind id = refl
 rows_stay (entry ∷ entries) maps kind id =
     rows_stay entries (entry_on maps entry) kind id
-    ∙ stay_set (relisted_to maps entry.key (form_in maps entry.key.kind entry.key.id) entry.object) entry.key.kind entry.key.id entry.object
+    ∙ stay_set (relisted_to maps entry.key (way_or_relation_in maps entry.key.kind entry.key.id) entry.object)
+    entry.key.kind entry.key.id entry.object
     kind id
-    ∙ stay_listed maps entry.key (form_in maps entry.key.kind entry.key.id) entry.object kind id
+    ∙ stay_listed maps entry.key (way_or_relation_in maps entry.key.kind entry.key.id) entry.object kind id
 
 abbrev key : Kind → ℕ → KeyOf
 key kind id = record { kind = kind; id = id }

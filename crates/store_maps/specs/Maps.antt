@@ -76,10 +76,10 @@ object_in maps kinds.Way id = finite.get maps.ways id
 object_in maps kinds.Relation id = finite.get maps.relations id
 
 -- the way or the relation of a key; of a node none
-abbrev pub form_in : Maps → Kind → ℕ → Option Object
-form_in maps kinds.Node id = None
-form_in maps kinds.Way id = finite.get maps.ways id
-form_in maps kinds.Relation id = finite.get maps.relations id
+abbrev pub way_or_relation_in : Maps → Kind → ℕ → Option Object
+way_or_relation_in maps kinds.Node id = None
+way_or_relation_in maps kinds.Way id = finite.get maps.ways id
+way_or_relation_in maps kinds.Relation id = finite.get maps.relations id
 
 -- the object of a key is now this one, or there is none
 abbrev pub set_object : Maps → Kind → ℕ → Option Object → Maps

@@ -9,7 +9,7 @@ use Rattle.osm_base.specs.map.Listers.{listed}
 use Rattle.osm_base.specs.values.Key.{KeyOf}
 use Rattle.object_fold.specs.Change.{IsProper}
 use Rattle.object_fold.specs.Listing.{ListingOf, is_listed, listers}
-use Rattle.store_maps.specs.Maps.{Maps, form_in, set, set_object, unless_empty}
+use Rattle.store_maps.specs.Maps.{Maps, set, set_object, unless_empty, way_or_relation_in}
 use Rattle.store_maps.specs.Turns.{blocks_in, ids_for}
 
 -- rising ids with this one, and without it
@@ -51,7 +51,8 @@ pub record AreTold (maps : Maps) (own : KeyOf) (object : Option Object) : Type 0
 -- what an entry says is so: the old form of its key is listed no longer, the new one is, and takes its place
 abbrev pub entry_on : Maps → Entry → Maps
 entry_on maps entry =
-    set_object (relisted_to maps entry.key (form_in maps entry.key.kind entry.key.id) entry.object) entry.key.kind entry.key.id entry.object
+    set_object (relisted_to maps entry.key (way_or_relation_in maps entry.key.kind entry.key.id) entry.object)
+    entry.key.kind entry.key.id entry.object
 
 -- what entries say, one after another
 abbrev pub change_on : Maps → List Entry → Maps

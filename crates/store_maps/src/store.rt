@@ -12,7 +12,7 @@ ghost use Rattle.store_maps.specs.Append.{MayKeep};
 ghost use Rattle.store_maps.specs.Asked.{May, MayAnswer, MayKey, MayList, MayObject, MayRows};
 ghost use Rattle.store_maps.specs.Filling.{HasNoLists, MayListAll, all_listed_on};
 ghost use Rattle.store_maps.specs.Looks.{Looks, Sets};
-ghost use Rattle.store_maps.specs.Maps.{Maps, form_in, object_in, rows_at, set_object, set_rows};
+ghost use Rattle.store_maps.specs.Maps.{Maps, object_in, rows_at, set_object, set_rows, way_or_relation_in};
 ghost use Rattle.store_maps.specs.Named.{WaysAreThere, index_on, place_in};
 ghost use Rattle.store_maps.specs.Step.{AreTold, relisted_to};
 
@@ -49,9 +49,10 @@ pub trait MapStore: Back {
     ghost allowed: { Self.Refusal → Type 0 };
 
     /// The way or the relation of a key; of a node none.
-    fn form(&mut self, key: Key) -> Result<Option<Object>, Self::Refusal>
+    fn way_or_relation(&mut self, key: Key) -> Result<Option<Object>, Self::Refusal>
         requires { Self.spent self.old ≡ false }
-        ensures form { IfOk result (λ form. (under : Under) (maps : Maps) → holds self.old under maps → form ≡ form_in maps key.kind key.id) }
+        ensures found { IfOk result (λ found. (under : Under) (maps : Maps) → holds self.old under maps
+            → found ≡ way_or_relation_in maps key.kind key.id) }
         ensures within { (may : May) → MayObject may key → within may self.old → within may self.new }
         ensures looks { Looks holds looked Self.spent Self.bears Self.faults allowed self.old self.new result };
 

@@ -42,7 +42,7 @@ use Rattle.object_fold.specs.Listing.{ListingOf, listers}
 use Rattle.update_flow.specs.maps.Calls.{IsAllowed}
 use Rattle.update_flow.specs.maps.Laws.{allowed_of}
 use Rattle.store_maps.specs.Asked.{May}
-use Rattle.store_maps.specs.Maps.{Maps, form_in, object_in, rows_at}
+use Rattle.store_maps.specs.Maps.{Maps, object_in, rows_at, way_or_relation_in}
 use Rattle.update_flow.specs.maps.Held.{Beside, HasMaps}
 use Rattle.update_flow.specs.maps.Touched.{Asks, Finds, Touched}
 
@@ -74,11 +74,11 @@ err_of : (T U : Type 0) (fault other : StoreFault) → IsErrOf {T = U} (Err faul
 err_of T U fault other is = let same : fault ≡ other = cc (is) in λ i. Err (same i)
 
 -- of a node there is no form
-pub node_form : (maps : Maps) (kind : Kind) (id : ℕ) → kind ≡ kinds.Node → None ≡ form_in maps kind id
-node_form maps kind id is = subst (λ (k : Kind). None ≡ form_in maps k id) (sym is) refl
+pub node_none : (maps : Maps) (kind : Kind) (id : ℕ) → kind ≡ kinds.Node → None ≡ way_or_relation_in maps kind id
+node_none maps kind id is = subst (λ (k : Kind). None ≡ way_or_relation_in maps k id) (sym is) refl
 
 -- of a key that is none of a node the form is the object
-pub object_form : (maps : Maps) (kind : Kind) (id : ℕ) → (kind ≡ kinds.Node → ⊥) → form_in maps kind id ≡ object_in maps kind id
+pub object_form : (maps : Maps) (kind : Kind) (id : ℕ) → (kind ≡ kinds.Node → ⊥) → way_or_relation_in maps kind id ≡ object_in maps kind id
 object_form maps kinds.Node id apart = absurd (apart refl)
 object_form maps kinds.Way id apart = refl
 object_form maps kinds.Relation id apart = refl
@@ -190,23 +190,24 @@ module _ {D : Type 0} {g : Ghosts D} (old new : Buckets D g) where
   }
 
   -- the way or the relation of a key
-  pub form_finds : (definitions : List TableDef) (kind : Kind) (id : ℕ) (result : Result (Option Object) StoreFault)
+  pub way_or_relation_finds : (definitions : List TableDef) (kind : Kind) (id : ℕ) (result : Result (Option Object) StoreFault)
       → (kind ≡ kinds.Node → ⊥)
-      → GetsValue object_bytes (IsStored kind) (map_of kind) id old new result → Finds definitions (λ maps. form_in maps kind id) old result
-  form_finds definitions kinds.Node id result apart gets = absurd (apart refl)
-  form_finds definitions kinds.Way id (Ok found) apart gets = record {
+      → GetsValue object_bytes (IsStored kind) (map_of kind) id old new result
+      → Finds definitions (λ maps. way_or_relation_in maps kind id) old result
+  way_or_relation_finds definitions kinds.Node id result apart gets = absurd (apart refl)
+  way_or_relation_finds definitions kinds.Way id (Ok found) apart gets = record {
     found = λ under maps had. gets.value under.rest had.now maps.ways had.has had.kept.ways;
     sound = λ under maps had. tt;
   }
-  form_finds definitions kinds.Way id (Err fault) apart gets = record {
+  way_or_relation_finds definitions kinds.Way id (Err fault) apart gets = record {
     found = tt;
     sound = λ under maps had. gets.sound under.rest had.now maps.ways had.has had.kept.ways;
   }
-  form_finds definitions kinds.Relation id (Ok found) apart gets = record {
+  way_or_relation_finds definitions kinds.Relation id (Ok found) apart gets = record {
     found = λ under maps had. gets.value under.rest had.now maps.relations had.has had.kept.relations;
     sound = λ under maps had. tt;
   }
-  form_finds definitions kinds.Relation id (Err fault) apart gets = record {
+  way_or_relation_finds definitions kinds.Relation id (Err fault) apart gets = record {
     found = tt;
     sound = λ under maps had. gets.sound under.rest had.now maps.relations had.has had.kept.relations;
   }

@@ -24,7 +24,7 @@ use Rattle.row_map.specs.Rows.{rows_in, rows_known}
 use Rattle.row_map.specs.Wanted.{may_have_rows}
 use Rattle.row_map.proofs.TableRows.{rows_known-none, rows_known-unwanted}
 use Rattle.store_maps.specs.Append.{MayKeep, appended, set_all_rows}
-use Rattle.store_maps.specs.Maps.{Maps, empty_maps, form_in, rows_at, unless_empty}
+use Rattle.store_maps.specs.Maps.{Maps, empty_maps, rows_at, unless_empty, way_or_relation_in}
 use Rattle.store_maps.specs.Stands.{Stands, StandsOn}
 use Rattle.store_maps.specs.Step.{AllListed, AreTold, change_on}
 use Rattle.store_maps.specs.Turns.{blocks_in, ids_for, listed_by}
@@ -53,7 +53,7 @@ none-told maps own = record {
 }
 
 form_untouched : (maps : Maps) (entries : List Entry) → StandsOn true maps (folded_all finite.empty entries) → (kind : Kind) (id : ℕ)
-    → Untouched (record { kind = kind; id = id }) entries → form_in maps kind id ≡ None
+    → Untouched (record { kind = kind; id = id }) entries → way_or_relation_in maps kind id ≡ None
 form_untouched maps entries stands kinds.Node id untouched = refl
 form_untouched maps entries stands kinds.Way id untouched =
     stands.objects.ways id ∙ get-untouched finite.empty entries (way_key id) untouched ∙ finite.get-empty key_cmp (way_key id)
@@ -63,7 +63,7 @@ form_untouched maps entries stands kinds.Relation id untouched =
 
 -- the entries before an entry have given its key no form
 pub no-form : (entries : List Entry) (at : ℕ) (own : Entry) → IsChange entries → at < length entries → own ≡ slice_index_or entries at own
-    → form_in (change_on empty_maps (take at entries)) own.key.kind own.key.id ≡ None
+    → way_or_relation_in (change_on empty_maps (take at entries)) own.key.kind own.key.id ≡ None
 no-form entries at own rise below is =
     let front : List Entry = take at entries in
     form_untouched (change_on empty_maps front) front

@@ -114,7 +114,7 @@ module _ (P : Ask → Type 0) (to : Known) where
     two-keys keys = two-flat parts (parts_of style reaches to) two-parts keys
 
     -- the first round
-    pub of-keys : (keys : List KeyOf) → AllByRecursion P (all_needs style reaches to keys) → AllByRecursion P (map OfKey keys)
+    of-keys : (keys : List KeyOf) → AllByRecursion P (all_needs style reaches to keys) → AllByRecursion P (map OfKey keys)
     of-keys [] all = tt
     of-keys (own ∷ keys) all =
         (all.0, of-keys keys (all-back P (parts own) (all_needs style reaches to keys) all.1))
@@ -135,17 +135,17 @@ module _ (P : Ask → Type 0) (to : Known) where
     )
 
     -- the second round
-    pub of-parts : (keys : List KeyOf) → AllByRecursion P (all_needs style reaches to keys)
+    of-parts : (keys : List KeyOf) → AllByRecursion P (all_needs style reaches to keys)
         → AllByRecursion P (flat_map (parts_of style reaches to) keys)
     of-parts keys all = (two-keys keys).front (later-parts keys all)
 
     -- the third round
-    pub of-answers : (keys : List KeyOf) → AllByRecursion P (all_needs style reaches to keys)
+    of-answers : (keys : List KeyOf) → AllByRecursion P (all_needs style reaches to keys)
         → AllByRecursion P (flat_map (asks_behind to) (flat_map (parts_of style reaches to) keys))
     of-answers keys all = (two-keys keys).back (later-parts keys all)
 
     -- there is no fourth
-    pub whole-rounds : (keys : List KeyOf) → AllByRecursion P (map OfKey keys)
+    whole-rounds : (keys : List KeyOf) → AllByRecursion P (map OfKey keys)
         → AllByRecursion P (flat_map (parts_of style reaches to) keys)
         → AllByRecursion P (flat_map (asks_behind to) (flat_map (parts_of style reaches to) keys))
         → AllByRecursion P (all_needs style reaches to keys)
@@ -159,49 +159,66 @@ module _ (to : Known) (g : Gathered) (right : IsRight g to) where
   behind-one (AlongWay id) asked = ap relation_asks (right (AlongWay id) asked)
   behind-one (AroundNode id) asked = ap relation_asks (right (AroundNode id) asked)
 
-  pub behind-right : (asks : List Ask) → AreAsked g asks → flat_map (asks_behind (known_in g)) asks ≡ flat_map (asks_behind to) asks
+  behind-right : (asks : List Ask) → AreAsked g asks → flat_map (asks_behind (known_in g)) asks ≡ flat_map (asks_behind to) asks
   behind-right [] asked = refl
   behind-right (ask ∷ asks) asked = λ i. behind-one ask asked.0 i ++ behind-right asks asked.1 i
 
-  pub parts-right : (style : StyleOf) (reaches : Bool) (keys : List KeyOf) → AreAsked g (map OfKey keys)
+  parts-right : (style : StyleOf) (reaches : Bool) (keys : List KeyOf) → AreAsked g (map OfKey keys)
       → flat_map (parts_of style reaches (known_in g)) keys ≡ flat_map (parts_of style reaches to) keys
   parts-right style reaches [] asked = refl
   parts-right style reaches (own ∷ keys) asked =
       λ i. parts_asked style reaches own (right (OfKey own) asked.0 i) ++ parts-right style reaches keys asked.1 i
 
 -- The three rounds, each gathered.
-module _ (to : Known) (style : StyleOf) (reaches : Bool) (keys : List KeyOf) (none one : Gathered) (first second : List Ask)
-    (right : IsRight none to) (first_is : first ≡ map OfKey keys) (objects : Gathers to none one first)
-    (second_is : second ≡ flat_map (parts_of style reaches (known_in one)) keys) where
-  one_right : IsRight one to
-  one_right = objects.right right
 
-  of_map : second ≡ flat_map (parts_of style reaches to) keys
-  of_map = second_is ∙ parts-right to one one_right style reaches keys (subst (AreAsked one) first_is objects.asked)
+-- the first round is answered, and these asks are those of the second
+pub record IsFirst (to : Known) (style : StyleOf) (reaches : Bool) (keys : List KeyOf) (one : Gathered) (second : List Ask) : Type 0 where
+  pub right : IsRight one to
+  pub asked : AreAsked one (map OfKey keys)
+  pub next : second ≡ flat_map (parts_of style reaches to) keys
 
-  -- what holds of all holds of the second round
-  pub second-all : (P : Ask → Type 0) → AllByRecursion P (all_needs style reaches to keys) → AllByRecursion P second
-  second-all P all = subst (AllByRecursion P) (sym of_map) (of-parts P to style reaches keys all)
+-- both are answered, and these asks are those of the third
+pub record IsSecond (to : Known) (style : StyleOf) (reaches : Bool) (keys : List KeyOf) (two : Gathered) (third : List Ask) : Type 0 where
+  pub right : IsRight two to
+  pub asked : AreAsked two (map OfKey keys)
+  pub asked_too : AreAsked two (flat_map (parts_of style reaches to) keys)
+  pub next : third ≡ flat_map (asks_behind to) (flat_map (parts_of style reaches to) keys)
 
-  module _ (two : Gathered) (third : List Ask) (parts : Gathers to one two second)
-      (third_is : third ≡ flat_map (asks_behind (known_in two)) second) where
-    two_right : IsRight two to
-    two_right = parts.right one_right
+module _ (to : Known) (style : StyleOf) (reaches : Bool) (keys : List KeyOf) where
+  pub first-round : (none one : Gathered) (first second : List Ask) → IsRight none to → first ≡ map OfKey keys → Gathers to none one first
+      → second ≡ flat_map (parts_of style reaches (known_in one)) keys → IsFirst to style reaches keys one second
+  first-round none one first second right first_is objects second_is =
+      let one_right = objects.right right in
+      let asked = subst (AreAsked one) first_is objects.asked in
+      record { right = one_right; asked = asked; next = second_is ∙ parts-right to one one_right style reaches keys asked }
 
-    of_map_too : third ≡ flat_map (asks_behind to) (flat_map (parts_of style reaches to) keys)
-    of_map_too = third_is ∙ behind-right to two two_right second parts.asked ∙ ap (flat_map (asks_behind to)) of_map
+  pub second-round : (one two : Gathered) (second third : List Ask) → IsFirst to style reaches keys one second → Gathers to one two second
+      → third ≡ flat_map (asks_behind (known_in two)) second → IsSecond to style reaches keys two third
+  second-round one two second third before parts third_is =
+      let two_right = parts.right before.right in
+      record {
+        right = two_right;
+        asked = asked-grows one two (map OfKey keys) parts.grows before.asked;
+        asked_too = subst (AreAsked two) before.next parts.asked;
+        next = third_is ∙ behind-right to two two_right second parts.asked ∙ ap (flat_map (asks_behind to)) before.next;
+      }
 
-    -- and of the third
-    pub third-all : (P : Ask → Type 0) → AllByRecursion P (all_needs style reaches to keys) → AllByRecursion P third
-    third-all P all = subst (AllByRecursion P) (sym of_map_too) (of-answers P to style reaches keys all)
+  -- then all is answered
+  pub third-round : (two three : Gathered) (third : List Ask) → IsSecond to style reaches keys two third → Gathers to two three third
+      → AreAsked three (all_needs style reaches to keys)
+  third-round two three third before more =
+      whole-rounds (λ ask. was_asked three ask ≡ true) to style reaches keys
+      (asked-grows two three (map OfKey keys) more.grows before.asked)
+      (asked-grows two three (flat_map (parts_of style reaches to) keys) more.grows before.asked_too)
+      (subst (AreAsked three) before.next more.asked)
 
-    module _ (three : Gathered) (more : Gathers to two three third) where
-      pub all-right : IsRight three to
-      all-right = more.right two_right
+  -- what holds of all that is needed holds of each round
+  module _ (P : Ask → Type 0) (all : AllByRecursion P (all_needs style reaches to keys)) where
+    pub first-all : (first : List Ask) → first ≡ map OfKey keys → AllByRecursion P first
+    first-all first is = subst (AllByRecursion P) (sym is) (of-keys P to style reaches keys all)
 
-      pub all-asked : AreAsked three (all_needs style reaches to keys)
-      all-asked = whole-rounds (λ ask. was_asked three ask ≡ true) to style reaches keys
-          (asked-grows two three (map OfKey keys) more.grows
-          (asked-grows one two (map OfKey keys) parts.grows (subst (AreAsked one) first_is objects.asked)))
-          (subst (AreAsked three) of_map (asked-grows two three second more.grows parts.asked))
-          (subst (AreAsked three) of_map_too more.asked)
+    pub second-all : (one : Gathered) (second : List Ask) → IsFirst to style reaches keys one second → AllByRecursion P second
+    second-all one second round = subst (AllByRecursion P) (sym round.next) (of-parts P to style reaches keys all)
+
+    pub third-all : (two : Gathered) (third : List Ask) → IsSecond to style reaches keys two third → AllByRecursion P third
+    third-all two third round = subst (AllByRecursion P) (sym round.next) (of-answers P to style reaches keys all)

@@ -31,7 +31,7 @@ use Rattle.row_map.specs.Rows.{rows_in, rows_known}
 use Rattle.dep_closure.specs.PendingSet.{HasOldForms, IsPendingOf, LeavesRows, is_among, is_named, size}
 use Rattle.geom_workers.specs.Keys.{keys_of}
 use Rattle.store_maps.specs.Append.{MayKeep}
-use Rattle.store_maps.specs.Maps.{Maps, form_in}
+use Rattle.store_maps.specs.Maps.{Maps, way_or_relation_in}
 use Rattle.store_maps.specs.Named.{known_on}
 use Rattle.store_maps.specs.Stands.{StandsOn}
 use Rattle.store_maps.specs.Step.{change_on}
@@ -277,7 +277,7 @@ module _ (maps : Maps) where
   in_turn false false x y = refl
 
   abbrev form : KeyOf → Option Object
-  form own = form_in maps own.kind own.id
+  form own = way_or_relation_in maps own.kind own.id
 
   got-one : (objects : ObjectSet) (entry : Entry) (own : KeyOf) → is_kind kinds.Relation own.kind ≡ true
       → finite.get (with_old maps objects entry) own ≡ cond (eq_by_cmp key_cmp own entry.key) (form own) (finite.get objects own)
@@ -328,7 +328,7 @@ module _ (maps : Maps) where
   relation-form objects reaches stands own is = by own.kind own.id is
     where
       by : (kind : Kind) (id : ℕ) → is_kind kinds.Relation kind ≡ true
-          → form_in maps kind id ≡ finite.get objects (record { kind = kind; id = id })
+          → way_or_relation_in maps kind id ≡ finite.get objects (record { kind = kind; id = id })
       by kinds.Node id same = absurd (false≢true same)
       by kinds.Way id same = absurd (false≢true same)
       by kinds.Relation id same = stands.objects.relations id

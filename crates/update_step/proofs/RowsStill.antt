@@ -1,5 +1,7 @@
 -- Rows that are set where they are there already.
-use Rattle.std.proofs.Common.{◌≡◌, ◌+◌, ◌*◌, ℕ, true, false, cond, List, [], ◌∷◌, Option, None, refl, sym, ap, ◌∙◌, nat_eq}
+use mathlib.Core.Bool.{false≢true}
+use Rattle.std.proofs.Common.{◌≡◌, ◌==◌, ◌+◌, ◌*◌, ℕ, Bool, true, false, not, cond, List, [], ◌∷◌, length, Option, refl, sym, ap}
+use Rattle.std.proofs.Common.{◌∙◌, arith, nat_eq}
 use Rattle.std.specs.Cmp.{nat_cmp_total}
 use Rattle.std.specs.FinMap as finite
 use Rattle.std.specs.FinMap.{nat_cmp-IsAntisymmetric}
@@ -38,10 +40,11 @@ same-set maps kinds.Way id rows is = sym
 same-set maps kinds.Relation id rows is =
     sym (ap (λ values. record maps { other_rows = values }) (found_set maps.other_rows (2 * id + 1) (unless_empty rows) is))
 
--- nor does it to set none where there are none
-pub none-set : (maps : Maps) (kind : Kind) (id : ℕ) (rows : List TableRow) → rows ≡ [] → rows_at maps kind id ≡ None
-    → maps ≡ set_rows maps kind id rows
-none-set maps kind id rows empty none = same-set maps kind id rows (none ∙ ap unless_empty (sym empty))
+-- rows of which it is not so that there are some
+pub no-items : {X : Type 0} (xs : List X) (none : Bool) → none ≡ (length xs == 0) → not none ≡ false → xs ≡ []
+no-items [] none is not_some = refl
+no-items (x ∷ xs) true is not_some = absurd (let zero_long = same_as (length (x ∷ xs)) 0 (sym is) in omega (arith, zero_long))
+no-items (x ∷ xs) false is not_some = absurd (false≢true (sym not_some))
 
 -- a key whose rows are to stay has them, where other keys got theirs
 pub rows-still : (old new : KeyOf → List TableRow) (maps : Maps) (keys : List KeyOf) → HoldsRows maps old → (own : KeyOf)

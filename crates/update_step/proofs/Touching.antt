@@ -32,7 +32,7 @@ use Rattle.dep_closure.specs.Questions.{of_all, of_entry, of_member, of_members,
 use Rattle.dep_closure.specs.Ways.{is_due, makes_due}
 use Rattle.geom_workers.specs.Keys.{keys_of}
 use Rattle.store_maps.specs.Asked.{May, MayAnswer, MayEach, MayList, MayObject, MayRows}
-use Rattle.store_maps.specs.Maps.{Maps, block_of, empty_maps, form_in}
+use Rattle.store_maps.specs.Maps.{Maps, block_of, empty_maps, way_or_relation_in}
 use Rattle.store_maps.specs.Named.{known_on}
 use Rattle.store_maps.specs.Stands.{StandsOn}
 use Rattle.store_maps.specs.Step.{change_on}
@@ -120,11 +120,11 @@ module _ (may : May) where
 
 -- so where the form is that which maps have
 pub lists-of-form : (may : May) (reaches : Bool) (maps : Maps) (objects : ObjectSet) → StandsOn reaches maps objects → (own : KeyOf)
-    → MayList may own (finite.get objects own) → MayList may own (form_in maps own.kind own.id)
+    → MayList may own (finite.get objects own) → MayList may own (way_or_relation_in maps own.kind own.id)
 lists-of-form may reaches maps objects stands own all = by own.kind own.id all
   where
     by : (kind : Kind) (id : ℕ) → MayList may (record { kind = kind; id = id }) (finite.get objects (record { kind = kind; id = id }))
-        → MayList may (record { kind = kind; id = id }) (form_in maps kind id)
+        → MayList may (record { kind = kind; id = id }) (way_or_relation_in maps kind id)
     by kinds.Node id all = record { ways_of_blocks = tt; relations_of_nodes = tt; relations_of_ways = tt }
     by kinds.Way id all = subst (MayList may (way_key id)) (sym (stands.objects.ways id)) all
     by kinds.Relation id all = subst (MayList may (relation_key id)) (sym (stands.objects.relations id)) all
@@ -362,7 +362,7 @@ module _ (may : May) (reaches : Bool) (maps : Maps) (objects : ObjectSet) (stand
   pub entry-new : MayList may entry.key entry.object
   entry-new = turn.new
 
-  pub entry-old : MayList may entry.key (form_in (change_on maps (take at change)) entry.key.kind entry.key.id)
+  pub entry-old : MayList may entry.key (way_or_relation_in (change_on maps (take at change)) entry.key.kind entry.key.id)
   entry-old =
       let front : List Entry = take at change in
       lists-of-form may reaches (change_on maps front) (folded_all objects front)

@@ -13,7 +13,7 @@ ghost use Rattle.update_step.specs.Touch.{MayTouch};
 use crate::StepFault;
 use crate::entries::{apply_change, old_relations};
 use crate::lacking::keys_lacking;
-use crate::pending_keys::keys_due;
+use crate::pending_keys::{PendingKeys, keys_due};
 use crate::rebuilding::rebuild;
 use geom_workers::Hands;
 use object_fold::Change;
@@ -56,7 +56,10 @@ pub fn change_maps<S: MapStore, R: Threads + Sync, G: Gate>(
     let old = old_relations(alloc, store, change)?;
     apply_change(store, change).map_err(StepFault::Store)?;
     match keys_due(alloc, store, style, change, &old, limits) {
-        Ok(set) => rebuild(hands, store, style, bounds, &set, lacking, due),
+        Ok(set) => {
+            let pending = PendingKeys { set };
+            rebuild(hands, store, style, bounds, &pending, lacking, due)
+        }
         Err(why) => Err(why),
     }
 }

@@ -1,11 +1,12 @@
-//! What the entries of a change make of the maps, and the forms that they replace.
+//! What the entries of a change make of the maps, and the relations that they replace.
 ghost use Rattle.std.specs.Prelude.{◌≡◌, Bool, false, fold, IfOk, IfErr, OnOk};
 ghost use Rattle.std.specs.FinMap as finite;
+ghost use Rattle.osm_base.specs.map.Listers.{is_kind};
 ghost use Rattle.osm_base.specs.map.Objects.{ObjectSet};
 ghost use Rattle.object_fold.specs.Change.{IsProper};
 ghost use Rattle.store_maps.specs.Asked.{May, MayList, MayObject};
 ghost use Rattle.store_maps.specs.Looks.{Sets};
-ghost use Rattle.store_maps.specs.Maps.{Maps, form_in};
+ghost use Rattle.store_maps.specs.Maps.{Maps, way_or_relation_in};
 ghost use Rattle.store_maps.specs.Stands.{StandsOn};
 ghost use Rattle.store_maps.specs.Step.{AreTold, change_on, entry_on};
 ghost use Rattle.update_step.specs.Looks.{Looks};
@@ -13,11 +14,17 @@ ghost use Rattle.update_step.specs.Old.{with_old};
 ghost use Rattle.update_step.specs.Touch.{MayEntries, MayTurnAll};
 
 use crate::StepFault;
-use crate::looking::form_of;
 use object_fold::{Change, Objects};
-use osm_base::{Entry, Kind};
+use osm_base::{Entry, Key, Kind};
 use std::alloc::Global;
 use store_maps::MapStore;
+
+/// Whether a key is of a kind.
+pub(crate) fn is_of_kind(key: Key, kind: Kind) -> bool
+    ensures same { result ≡ is_kind kind key.kind }
+{
+    key.kind == kind
+}
 
 /// What an entry says is so in the maps.
 fn apply_entry<S: MapStore>(store: &mut S, entry: &Entry) -> Result<(), S::Refusal>
@@ -25,13 +32,14 @@ fn apply_entry<S: MapStore>(store: &mut S, entry: &Entry) -> Result<(), S::Refus
     requires proper { IsProper entry.now }
     ensures holds { OnOk result ((under : S.Under) (maps : Maps) → S.holds store.old under maps → S.holds store.new under (entry_on maps entry.now)) }
     ensures within { (under : S.Under) (maps : Maps) → S.holds store.old under maps → (may : May)
-        → MayObject may entry.now.key → MayList may entry.now.key (form_in maps entry.now.key.kind entry.now.key.id) → MayList may entry.now.key entry.now.object
+        → MayObject may entry.now.key → MayList may entry.now.key (way_or_relation_in maps entry.now.key.kind entry.now.key.id)
+        → MayList may entry.now.key entry.now.object
         → S.within may store.old → S.within may store.new }
     ensures allowed { (under : S.Under) (maps : Maps) → S.holds store.old under maps
-        → AreTold maps entry.now.key (form_in maps entry.now.key.kind entry.now.key.id) → IfErr result S.allowed }
+        → AreTold maps entry.now.key (way_or_relation_in maps entry.now.key.kind entry.now.key.id) → IfErr result S.allowed }
     ensures sets { Sets S.looked S.spent S.bears S.faults store.old store.new result }
 {
-    let old = store.form(entry.key)?;
+    let old = store.way_or_relation(entry.key)?;
     store.relist(entry.key, &old, &entry.object)?;
     store.set(entry.key, &entry.object)?;
     Ok(())
@@ -53,26 +61,6 @@ pub(crate) fn apply_change<S: MapStore>(store: &mut S, change: &Change) -> Resul
     Ok(())
 }
 
-/// Adds the relation that an entry replaces.
-fn add_old<S: MapStore>(
-    store: &mut S,
-    objects: &mut Objects,
-    entry: &Entry,
-) -> Result<(), StepFault<S::Refusal>>
-    requires spent { S.spent store.old ≡ false }
-    ensures old { OnOk result ((under : S.Under) (maps : Maps) → S.holds store.old under maps → objects.new ≡ with_old maps objects.old entry.now) }
-    ensures within { (may : May) → MayObject may entry.now.key → S.within may store.old → S.within may store.new }
-    ensures looks { Looks S.MapStore.own S.Back store.old store.new result }
-{
-    let key = entry.key;
-    if key.kind != Kind::Relation {
-        return Ok(());
-    }
-    let object = form_of(store, key)?;
-    objects.apply(Entry { key, object })?;
-    Ok(())
-}
-
 /// The relations that a change replaces.
 pub(crate) fn old_relations<S: MapStore>(
     alloc: Global,
@@ -86,7 +74,11 @@ pub(crate) fn old_relations<S: MapStore>(
 {
     let mut objects = Objects::new(alloc);
     for entry in change.entries() {
-        add_old(store, &mut objects, entry)?;
+        let key = entry.key;
+        if is_of_kind(key, Kind::Relation) {
+            let object = store.way_or_relation(key).map_err(StepFault::Store)?;
+            objects.apply(Entry { key, object })?;
+        }
     }
     Ok(objects)
 }

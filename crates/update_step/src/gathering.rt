@@ -11,7 +11,6 @@ use crate::StepFault;
 use crate::answers::Answers;
 use crate::asks::{Ask, behind, of_keys, of_parts};
 use crate::listers::Listers;
-use crate::looking::{object_of, place_of, relations_along, relations_around};
 use osm_base::Key;
 use std::alloc::Global;
 use store_maps::MapStore;
@@ -34,22 +33,22 @@ fn ask_one<S: MapStore>(
     }
     match ask {
         Ask::AtNode(id) => {
-            let place = place_of(store, id)?;
+            let place = store.place(id).map_err(StepFault::Store)?;
             answers.put_place(id, place)?;
             Ok(())
         }
         Ask::OfKey(key) => {
-            let form = object_of(store, key)?;
+            let form = store.object(key).map_err(StepFault::Store)?;
             answers.put_form(key, form)?;
             Ok(())
         }
         Ask::AlongWay(id) => {
-            let ids = relations_along(store, id)?;
+            let ids = store.along_way(id).map_err(StepFault::Store)?;
             answers.put_along(id, Listers::new(ids))?;
             Ok(())
         }
         Ask::AroundNode(id) => {
-            let ids = relations_around(store, id)?;
+            let ids = store.around_node(id).map_err(StepFault::Store)?;
             answers.put_around(id, Listers::new(ids))?;
             Ok(())
         }

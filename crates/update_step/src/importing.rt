@@ -1,5 +1,5 @@
 //! The first import.
-ghost use Rattle.std.specs.Prelude.{◌≡◌, ◌≤◌, ◌&&◌, ℕ, List, [], None, false, length, map, IfOk, IfErr, OnOk};
+ghost use Rattle.std.specs.Prelude.{◌≡◌, ◌≤◌, ◌&&◌, ℕ, List, false, length, map, IfOk, IfErr, OnOk};
 ghost use Rattle.std.specs.FinMap as finite;
 ghost use Rattle.std.specs.List.{AllByRecursion};
 ghost use Rattle.osm_base.specs.declared.values.row.TableRow.{TableRow};
@@ -11,18 +11,20 @@ ghost use Rattle.row_map.specs.Rows.{rows_in};
 ghost use Rattle.row_map.specs.Wanted.{may_have_rows};
 ghost use Rattle.geom_workers.specs.Keys.{keys_of};
 ghost use Rattle.store_maps.specs.Append.{MayKeep, set_all_rows};
-ghost use Rattle.store_maps.specs.Filling.{all_objects_on};
 ghost use Rattle.store_maps.specs.Looks.{Sets};
-ghost use Rattle.store_maps.specs.Maps.{Maps, empty_maps, rows_at, set_rows};
+ghost use Rattle.store_maps.specs.Maps.{Maps, empty_maps};
 ghost use Rattle.store_maps.specs.Stands.{Stands};
-ghost use Rattle.store_maps.specs.Step.{AreProperEntries, change_on};
+ghost use Rattle.store_maps.specs.Step.{change_on};
 ghost use Rattle.update_step.specs.Ends.{MayRefuse};
 ghost use Rattle.update_step.specs.Importing.{LacksRows, ids_named, keys_named, wanted_among};
 ghost use Rattle.update_step.specs.Looks.{Goes};
 
 use crate::StepFault;
+use crate::entries::is_of_kind;
 use crate::new_objects::NewObjects;
-use geom_workers::{Built, Hands, MAX_KEYS, build_all, key_count, key_of};
+use crate::pending_keys::PendingKeys;
+use crate::row_lists::put_turned;
+use geom_workers::{Built, Hands, build_all, key_count, key_of};
 use object_fold::Change;
 use osm_base::{
     Entry, Ids, Key, Kind, MAX_ID, MAX_PENDING, OutOfMemory, PendingSet, RowLists, TableRows,
@@ -33,13 +35,6 @@ use std::alloc::Global;
 use std::thread::Threads;
 use store_maps::MapStore;
 use style_read::Style;
-
-/// Whether a key is of a kind.
-fn is_of_kind(key: Key, kind: Kind) -> bool
-    ensures same { result ≡ is_kind kind key.kind }
-{
-    key.kind == kind
-}
 
 /// Whether an entry is of a kind and its object may have rows.
 fn is_wanted(style: &Style, kind: Kind, entry: &Entry) -> bool
@@ -65,14 +60,16 @@ fn ids_of(alloc: Global, style: &Style, kind: Kind, change: &Change) -> Result<I
 }
 
 /// The keys of the entries whose objects may have rows.
-fn wanted_keys(alloc: Global, style: &Style, change: &Change) -> Result<PendingSet, OutOfMemory>
-    ensures keys { IfOk result (λ keys. keys_of keys ≡ keys_named (wanted_among style.now change.now)) }
+fn wanted_keys(alloc: Global, style: &Style, change: &Change) -> Result<PendingKeys, OutOfMemory>
+    requires few { length change.now ≤ MAX_PENDING }
+    ensures keys { IfOk result (λ keys. keys_of keys.set ≡ keys_named (wanted_among style.now change.now)) }
 {
     let _entries = change.entries();
     let nodes = ids_of(alloc, style, Kind::Node, change)?;
     let ways = ids_of(alloc, style, Kind::Way, change)?;
     let relations = ids_of(alloc, style, Kind::Relation, change)?;
-    Ok(PendingSet::new(nodes, ways, relations))
+    let set = PendingSet::new(nodes, ways, relations);
+    Ok(PendingKeys { set })
 }
 
 /// What the entries of a change say is so in maps without a value: first who lists what, each list once, and then the objects.
@@ -84,18 +81,6 @@ fn add_entries<S: MapStore>(store: &mut S, change: &Change) -> Result<(), S::Ref
 {
     let entries = change.entries();
     store.list_all(entries)?;
-    put_objects(store, entries)?;
-    Ok(())
-}
-
-/// The objects of entries take the place of their keys' objects, one after another.
-fn put_objects<S: MapStore>(store: &mut S, entries: &[Entry]) -> Result<(), S::Refusal>
-    requires spent { S.spent store.old ≡ false }
-    requires proper { AreProperEntries entries.now }
-    ensures holds { OnOk result ((under : S.Under) (maps : Maps) → S.holds store.old under maps → S.holds store.new under (all_objects_on maps entries.now)) }
-    ensures allowed { (under : S.Under) (maps : Maps) → S.holds store.old under maps → IfErr result S.allowed }
-    ensures sets { Sets S.looked S.spent S.bears S.faults store.old store.new result }
-{
     for entry in entries {
         store.set(entry.key, &entry.object)?;
     }
@@ -107,51 +92,40 @@ fn rows_of<R: Threads + Sync, G: Gate>(
     hands: &Hands<'_, R, G>,
     style: &Style,
     change: Change,
-    keys: &PendingSet,
+    keys: &PendingKeys,
 ) -> Result<RowLists, OutOfMemory>
-    requires few { length (keys_of keys.now) ≤ MAX_KEYS }
-    ensures rows { IfOk result (λ rows. rows ≡ map (rows_in style.now (folded_all finite.empty change)) (keys_of keys.now)) }
+    ensures rows { IfOk result (λ rows. rows ≡ map (rows_in style.now (folded_all finite.empty change)) (keys_of keys.now.set)) }
     ensures kept { IfOk result (AllByRecursion (MayKeep style.now.tables)) }
 {
     let objects = NewObjects::of(hands.alloc, change)?;
-    let Built { rows, .. } = build_all(hands, style, keys, &objects)?;
+    let Built { rows, .. } = build_all(hands, style, &keys.set, &objects)?;
     Ok(rows)
-}
-
-/// A key without rows has these; where there are none, nothing is to be done.
-fn put_some<S: MapStore>(store: &mut S, key: Key, rows: &TableRows) -> Result<(), S::Refusal>
-    requires spent { S.spent store.old ≡ false }
-    requires kept { MayKeep (S.style store.old).tables rows.now }
-    ensures holds { OnOk result ((under : S.Under) (maps : Maps) → S.holds store.old under maps
-        → (rows.now ≡ [] → rows_at maps key.kind key.id ≡ None) → S.holds store.new under (set_rows maps key.kind key.id rows.now)) }
-    ensures allowed { (under : S.Under) (maps : Maps) → S.holds store.old under maps → IfErr result S.allowed }
-    ensures sets { Sets S.looked S.spent S.bears S.faults store.old store.new result }
-{
-    if rows.as_slice().is_empty() {
-        return Ok(());
-    }
-    store.set_rows(key, rows)?;
-    Ok(())
 }
 
 /// Each of these keys, which have no rows yet, has its rows.
 fn put_all<S: MapStore>(
     store: &mut S,
-    keys: &PendingSet,
+    keys: &PendingKeys,
     rows: &[TableRows],
 ) -> Result<(), S::Refusal>
     requires spent { S.spent store.old ≡ false }
-    requires few { length (keys_of keys.now) ≤ MAX_KEYS }
-    requires count { length rows.now ≡ length (keys_of keys.now) }
+    requires count { length rows.now ≡ length (keys_of keys.now.set) }
     requires kept { AllByRecursion (MayKeep (S.style store.old).tables) rows.now }
-    ensures holds { OnOk result ((under : S.Under) (maps : Maps) (new : KeyOf → List TableRow) → rows.now ≡ map new (keys_of keys.now)
-        → LacksRows maps new → S.holds store.old under maps → S.holds store.new under (set_all_rows maps new (keys_of keys.now))) }
-    ensures allowed { (under : S.Under) (maps : Maps) (new : KeyOf → List TableRow) → rows.now ≡ map new (keys_of keys.now)
+    ensures holds { OnOk result ((under : S.Under) (maps : Maps) (new : KeyOf → List TableRow) → rows.now ≡ map new (keys_of keys.now.set)
+        → LacksRows maps new → S.holds store.old under maps → S.holds store.new under (set_all_rows maps new (keys_of keys.now.set))) }
+    ensures allowed { (under : S.Under) (maps : Maps) (new : KeyOf → List TableRow) → rows.now ≡ map new (keys_of keys.now.set)
         → LacksRows maps new → S.holds store.old under maps → IfErr result S.allowed }
     ensures sets { Sets S.looked S.spent S.bears S.faults store.old store.new result }
 {
-    for index in 0..key_count(keys) {
-        put_some(store, key_of(keys, index as u32), &rows[index])?;
+    let set = &keys.set;
+    for index in 0..key_count(set) {
+        let own = &rows[index];
+        put_turned(
+            store,
+            key_of(set, index as u32),
+            !own.as_slice().is_empty(),
+            own,
+        )?;
     }
     Ok(())
 }

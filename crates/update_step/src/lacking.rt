@@ -1,5 +1,5 @@
 //! The keys of a change that have no rows before it, so that none need be read.
-ghost use Rattle.std.specs.Prelude.{◌≡◌, ◌&&◌, not, is_some, true, false, [], IfOk, OnOk};
+ghost use Rattle.std.specs.Prelude.{◌≡◌, ◌&&◌, not, is_some, true, false, [], IfOk};
 ghost use Rattle.osm_base.specs.declared.values.key.Kind.TheVariants as kinds;
 ghost use Rattle.osm_base.specs.map.Listers.{is_kind};
 ghost use Rattle.osm_base.specs.map.Objects.{ObjectSet};
@@ -13,7 +13,6 @@ ghost use Rattle.update_step.specs.Looks.{Looks};
 ghost use Rattle.update_step.specs.Touch.{MayEntries};
 
 use crate::StepFault;
-use crate::looking::{object_of, place_of};
 use object_fold::Change;
 use osm_base::{Key, Kind, Object};
 use row_map::may_have_rows;
@@ -41,33 +40,12 @@ fn lacks_rows<S: MapStore>(
     ensures within { (may : May) → MayObject may key → S.within may store.old → S.within may store.new }
     ensures looks { Looks S.MapStore.own S.Back store.old store.new result }
 {
-    let object = object_of(store, key)?;
+    let object = store.object(key).map_err(StepFault::Store)?;
     if is_unknown_node(key, &object) {
-        let place = place_of(store, key.id)?;
+        let place = store.place(key.id).map_err(StepFault::Store)?;
         return Ok(place.is_none());
     }
     Ok(!may_have_rows(style, &object))
-}
-
-/// Adds a key that has no rows.
-fn add_lacking<S: MapStore>(
-    store: &mut S,
-    style: &Style,
-    keys: &mut Vec<Key>,
-    key: Key,
-) -> Result<(), StepFault<S::Refusal>>
-    requires spent { S.spent store.old ≡ false }
-    ensures lacking { OnOk result ((under : S.Under) (maps : Maps) (objects : ObjectSet) → S.holds store.old under maps → StandsOn (reaches_nodes style.now) maps objects
-        → AreLacking (rows_in style.now objects) keys.old.items → AreLacking (rows_in style.now objects) keys.new.items) }
-    ensures within { (may : May) → MayObject may key → S.within may store.old → S.within may store.new }
-    ensures looks { Looks S.MapStore.own S.Back store.old store.new result }
-{
-    let lacks = lacks_rows(store, style, key)?;
-    if !lacks {
-        return Ok(());
-    }
-    keys.push(key)?;
-    Ok(())
 }
 
 /// The keys of a change that have no rows before it, in the order of the entries.
@@ -85,7 +63,11 @@ pub(crate) fn keys_lacking<S: MapStore>(
 {
     let mut keys = Vec::new(alloc);
     for entry in change.entries() {
-        add_lacking(store, style, &mut keys, entry.key)?;
+        let key = entry.key;
+        let lacks = lacks_rows(store, style, key)?;
+        if lacks {
+            keys.push(key)?;
+        }
     }
     Ok(keys)
 }

@@ -15,7 +15,6 @@ mod gathering;
 mod importing;
 mod lacking;
 mod listers;
-mod looking;
 mod new_objects;
 mod pending_keys;
 mod rebuilding;

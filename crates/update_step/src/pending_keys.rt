@@ -1,8 +1,10 @@
 //! The keys whose rows a change may change.
-ghost use Rattle.std.specs.Prelude.{◌≡◌, ◌≤◌, false, IfOk, IfErr, OnOk};
+ghost use Rattle.std.specs.Prelude.{◌≡◌, ◌≤◌, length, false, IfOk, IfErr, OnOk};
 ghost use Rattle.osm_base.specs.map.Objects.{ObjectSet, folded_all};
 ghost use Rattle.row_map.specs.Condition.{reaches_nodes};
 ghost use Rattle.dep_closure.specs.PendingSet.{AreTooMany, HasOldForms, IsPendingOf, LeavesRows, size};
+ghost use Rattle.geom_workers.specs.Keys.{keys_of};
+ghost use Rattle.geom_workers.specs.declared.keys.TheConstants.{MAX_KEYS};
 ghost use Rattle.store_maps.specs.Asked.{May};
 ghost use Rattle.store_maps.specs.Maps.{Maps};
 ghost use Rattle.store_maps.specs.Named.{WaysAreThere};
@@ -18,6 +20,13 @@ use osm_base::{Limits, PendingSet};
 use std::alloc::Global;
 use store_maps::MapStore;
 use style_read::Style;
+
+/// A pending set of no more keys than can be numbered.
+#[derive(Drop)]
+pub(crate) struct PendingKeys {
+    pub(crate) set: PendingSet,
+    ghost few: { length (keys_of set) ≤ MAX_KEYS },
+}
 
 /// Why a change is not made, where the search for what it makes due ended so.
 fn step_fault<E>(why: PendingFault<E>) -> StepFault<E>

@@ -1,5 +1,5 @@
 //! The rows of pending keys, built anew.
-ghost use Rattle.std.specs.Prelude.{◌≡◌, ◌≤◌, List, length, map, false, IfErr};
+ghost use Rattle.std.specs.Prelude.{◌≡◌, List, length, map, false, IfErr};
 ghost use Rattle.std.specs.List.{AllByRecursion};
 ghost use Rattle.osm_base.specs.declared.values.row.TableRow.{TableRow};
 ghost use Rattle.osm_base.specs.values.Key.{KeyOf};
@@ -20,11 +20,12 @@ ghost use Rattle.update_step.specs.Turned.{HadRows};
 
 use crate::StepFault;
 use crate::gathering::gathered;
-use crate::row_lists::{all_before, keys_in, put_rows};
+use crate::pending_keys::PendingKeys;
+use crate::row_lists::{NewRows, all_before, keys_in, put_rows};
 use crate::turns::turns_of;
 use dep_closure::reaches_nodes;
-use geom_workers::{Hands, MAX_KEYS, build_all};
-use osm_base::{Key, PendingSet, RowChanges, TableRows};
+use geom_workers::{Hands, build_all};
+use osm_base::{Key, RowChanges};
 use outside::Gate;
 use std::alloc::Global;
 use std::thread::Threads;
@@ -39,27 +40,26 @@ fn replace<S: MapStore>(
     store: &mut S,
     style: &Style,
     bounds: &Bounds,
-    keys: &[Key],
     lacking: &[Key],
-    news: &[TableRows],
+    news: NewRows<'_>,
     due: &mut TileRuns,
 ) -> Result<RowChanges, StepFault<S::Refusal>>
     requires spent { S.spent store.old ≡ false }
     requires style { S.style store.old ≡ style.now }
-    requires news { length news.now ≡ length keys.now }
-    requires kept { AllByRecursion (MayKeep style.now.tables) news.now }
+    requires kept { AllByRecursion (MayKeep style.now.tables) news.rows.now }
     ensures replaces { (under : S.Under) (maps : Maps) (old new : KeyOf → List TableRow) → S.holds store.old under maps → HadRows (length style.now.tables) lacking.now maps old
-        → news.now ≡ map new keys.now → Replaces (S.holds store.new under) style.now bounds.now maps keys.now old new (has due.old) (has due.new) result }
-    ensures within { (may : May) → MayAllRows may keys.now → S.within may store.old → S.within may store.new }
+        → news.entry.rows.now ≡ map new news.entry.keys.now
+        → Replaces (S.holds store.new under) style.now bounds.now maps news.entry.keys.now old new (has due.old) (has due.new) result }
+    ensures within { (may : May) → MayAllRows may news.entry.keys.now → S.within may store.old → S.within may store.new }
     ensures allowed { (under : S.Under) (maps : Maps) (old new : KeyOf → List TableRow) → S.holds store.old under maps → HadRows (length style.now.tables) lacking.now maps old
-        → news.now ≡ map new keys.now → IfErr result (MayRefuse S.allowed) }
+        → news.entry.rows.now ≡ map new news.entry.keys.now → IfErr result (MayRefuse S.allowed) }
     ensures goes { Goes S.MapStore.own S.Back (λ _. ⊥) store.old store.new result }
 {
-    let before = all_before(alloc, store, keys, lacking)?;
+    let before = all_before(alloc, store, news.keys, lacking)?;
     let olds = before.as_slice();
-    let turns = turns_of(alloc, style, bounds, keys, olds, news, due)?;
+    let turns = turns_of(alloc, style, bounds, olds, news, due)?;
     let turned = turns.turned.as_slice();
-    match put_rows(store, keys, turned, news) {
+    match put_rows(store, news, turned) {
         Ok(()) => Ok(turns.changes),
         Err(refusal) => Err(StepFault::Store(refusal)),
     }
@@ -72,18 +72,19 @@ pub(crate) fn rebuild<S: MapStore, R: Threads + Sync, G: Gate>(
     store: &mut S,
     style: &Style,
     bounds: &Bounds,
-    pending: &PendingSet,
+    pending: &PendingKeys,
     lacking: &[Key],
     due: &mut TileRuns,
 ) -> Result<RowChanges, StepFault<S::Refusal>>
     requires spent { S.spent store.old ≡ false }
     requires style { S.style store.old ≡ style.now }
-    requires few { length (keys_of pending.now) ≤ MAX_KEYS }
     ensures replaces { (under : S.Under) (maps : Maps) (old rows : KeyOf → List TableRow) → S.holds store.old under maps → HadRows (length style.now.tables) lacking.now maps old
-        → IsBuilt style.now maps (keys_of pending.now) rows
-        → Replaces (S.holds store.new under) style.now bounds.now maps (keys_of pending.now) old rows (has due.old) (has due.new) result }
+        → IsBuilt style.now maps (keys_of pending.now.set) rows
+        → Replaces (S.holds store.new under) style.now bounds.now maps (keys_of pending.now.set) old rows
+        (has due.old) (has due.new) result }
     ensures within { (under : S.Under) (maps : Maps) → S.holds store.old under maps → (may : May)
-        → MayAskAll may (all_needs style.now (reaches_nodes style.now) (known_on maps) (keys_of pending.now)) → MayAllRows may (keys_of pending.now) → S.within may store.old → S.within may store.new }
+        → MayAskAll may (all_needs style.now (reaches_nodes style.now) (known_on maps) (keys_of pending.now.set))
+        → MayAllRows may (keys_of pending.now.set) → S.within may store.old → S.within may store.new }
     ensures allowed { (under : S.Under) (maps : Maps) (old : KeyOf → List TableRow) → S.holds store.old under maps → HadRows (length style.now.tables) lacking.now maps old
         → IfErr result (MayRefuse S.allowed) }
     ensures goes { Goes S.MapStore.own S.Back (λ _. ⊥) store.old store.new result }
@@ -92,7 +93,8 @@ pub(crate) fn rebuild<S: MapStore, R: Threads + Sync, G: Gate>(
     let keys = keys_in(alloc, pending)?;
     let keys = keys.as_slice();
     let known = gathered(alloc, store, style, reaches_nodes(style), keys)?;
-    let built = build_all(hands, style, pending, &known)?;
-    let news = built.rows.as_slice();
-    replace(alloc, store, style, bounds, keys, lacking, news, due)
+    let built = build_all(hands, style, &pending.set, &known)?;
+    let rows = built.rows.as_slice();
+    let news = NewRows { keys, rows };
+    replace(alloc, store, style, bounds, lacking, news, due)
 }

@@ -1,5 +1,5 @@
 //! The rows of keys in a store, as they are and as they come to be.
-ghost use Rattle.std.specs.Prelude.{◌≡◌, ◌≤◌, List, [], length, map, true, false, IfOk, IfErr, OnOk};
+ghost use Rattle.std.specs.Prelude.{◌≡◌, List, [], length, map, true, false, IfOk, IfErr, OnOk};
 ghost use Rattle.std.specs.List.{AllByRecursion};
 ghost use Rattle.osm_base.specs.declared.values.row.TableRow.{TableRow as RowOfTable};
 ghost use Rattle.osm_base.specs.values.Key.{KeyOf};
@@ -15,21 +15,29 @@ ghost use Rattle.update_step.specs.Touch.{MayAllRows};
 ghost use Rattle.update_step.specs.Turned.{HasTurned};
 
 use crate::StepFault;
-use crate::looking::rows_of;
-use geom_workers::{MAX_KEYS, key_count, key_of};
-use osm_base::{Key, OutOfMemory, PendingSet, RowLists, TableRows};
+use crate::pending_keys::PendingKeys;
+use geom_workers::{key_count, key_of};
+use osm_base::{Key, OutOfMemory, RowLists, TableRows};
 use std::alloc::Global;
 use store_maps::MapStore;
 
+/// Keys with the rows that each of them comes to have.
+#[derive(Clone, Copy)]
+pub(crate) struct NewRows<'a> {
+    pub(crate) keys: &'a [Key],
+    pub(crate) rows: &'a [TableRows],
+    ghost same: { length rows.now ≡ length keys.now },
+}
+
 /// The keys of a pending set: its nodes, its ways and its relations.
-pub(crate) fn keys_in(alloc: Global, pending: &PendingSet) -> Result<Vec<Key>, OutOfMemory>
-    requires few { length (keys_of pending.now) ≤ MAX_KEYS }
-    ensures keys { IfOk result (λ keys. keys.items ≡ keys_of pending.now) }
+pub(crate) fn keys_in(alloc: Global, pending: &PendingKeys) -> Result<Vec<Key>, OutOfMemory>
+    ensures keys { IfOk result (λ keys. keys.items ≡ keys_of pending.now.set) }
 {
-    let count = key_count(pending);
+    let set = &pending.set;
+    let count = key_count(set);
     let mut keys = Vec::with_capacity(alloc, count)?;
     for number in 0..count as u32 {
-        keys.push(key_of(pending, number))?;
+        keys.push(key_of(set, number))?;
     }
     Ok(keys)
 }
@@ -57,7 +65,7 @@ fn rows_before<S: MapStore>(
     if is_among(lacking, key) {
         return Ok(TableRows::new(alloc));
     }
-    let kept = rows_of(store, key)?;
+    let kept = store.rows(key).map_err(StepFault::Store)?;
     match kept {
         Some(rows) => Ok(rows),
         None => Ok(TableRows::new(alloc)),
@@ -87,7 +95,7 @@ pub(crate) fn all_before<S: MapStore>(
 }
 
 /// A key has these rows from now on. Where it has them already, nothing is to be done.
-fn put_turned<S: MapStore>(
+pub(crate) fn put_turned<S: MapStore>(
     store: &mut S,
     key: Key,
     turned: bool,
@@ -111,23 +119,25 @@ fn put_turned<S: MapStore>(
 /// Each of these keys has its new rows. `turned` tells of each whether they differ from those that it had.
 pub(crate) fn put_rows<S: MapStore>(
     store: &mut S,
-    keys: &[Key],
+    news: NewRows<'_>,
     turned: &[bool],
-    news: &[TableRows],
 ) -> Result<(), S::Refusal>
     requires spent { S.spent store.old ≡ false }
-    requires turned { length turned.now ≡ length keys.now }
-    requires news { length news.now ≡ length keys.now }
-    requires kept { AllByRecursion (MayKeep (S.style store.old).tables) news.now }
+    requires turned { length turned.now ≡ length news.keys.now }
+    requires kept { AllByRecursion (MayKeep (S.style store.old).tables) news.rows.now }
     ensures holds { OnOk result ((under : S.Under) (maps : Maps) (old new : KeyOf → List RowOfTable) → S.holds store.old under maps
-        → HasTurned (length (S.style store.old).tables) maps keys.now old new turned.now news.now → S.holds store.new under (set_all_rows maps new keys.now)) }
-    ensures within { (may : May) → MayAllRows may keys.now → S.within may store.old → S.within may store.new }
+        → HasTurned (length (S.style store.old).tables) maps news.entry.keys.now old new turned.now news.entry.rows.now
+        → S.holds store.new under (set_all_rows maps new news.entry.keys.now)) }
+    ensures within { (may : May) → MayAllRows may news.entry.keys.now → S.within may store.old → S.within may store.new }
     ensures allowed { (under : S.Under) (maps : Maps) (old new : KeyOf → List RowOfTable) → S.holds store.old under maps
-        → HasTurned (length (S.style store.old).tables) maps keys.now old new turned.now news.now → IfErr result S.allowed }
+        → HasTurned (length (S.style store.old).tables) maps news.entry.keys.now old new turned.now news.entry.rows.now
+        → IfErr result S.allowed }
     ensures sets { Sets S.looked S.spent S.bears S.faults store.old store.new result }
 {
+    let keys = news.keys;
+    let rows = news.rows;
     for index in 0..keys.len() {
-        put_turned(store, keys[index], turned[index], &news[index])?;
+        put_turned(store, keys[index], turned[index], &rows[index])?;
     }
     Ok(())
 }

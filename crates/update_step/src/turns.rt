@@ -11,6 +11,7 @@ ghost use Rattle.tile_cover.specs.Runs.{has};
 ghost use Rattle.update_step.specs.Due.{is_due_in, is_due_key, met_under};
 ghost use Rattle.update_step.specs.Turned.{AreTurns, is_turned, is_turned_in};
 
+use crate::row_lists::NewRows;
 use due_tiles::union;
 use osm_base::{Key, OutOfMemory, Row, RowChange, RowChanges, Same, TableRow, TableRows, TryCopy};
 use std::alloc::Global;
@@ -159,23 +160,24 @@ pub(crate) fn turns_of(
     alloc: Global,
     style: &Style,
     bounds: &Bounds,
-    keys: &[Key],
     olds: &[TableRows],
-    news: &[TableRows],
+    news: NewRows<'_>,
     due: &mut TileRuns,
 ) -> Result<Turns, OutOfMemory>
-    requires olds { length olds.now ≡ length keys.now }
-    requires news { length news.now ≡ length keys.now }
-    ensures turns { IfOk result (λ turns. (old new : KeyOf → List RowOfTable) → olds.now ≡ map old keys.now → news.now ≡ map new keys.now
-        → AreTurns style.now bounds.now keys.now old new (has due.old) (has due.new) turns) }
-    ensures count { IfOk result (λ turns. length turns.turned.items ≡ length keys.now) }
+    requires olds { length olds.now ≡ length news.keys.now }
+    ensures turns { IfOk result (λ turns. (old new : KeyOf → List RowOfTable) → olds.now ≡ map old news.entry.keys.now
+        → news.entry.rows.now ≡ map new news.entry.keys.now
+        → AreTurns style.now bounds.now news.entry.keys.now old new (has due.old) (has due.new) turns) }
+    ensures count { IfOk result (λ turns. length turns.turned.items ≡ length news.entry.keys.now) }
 {
+    let keys = news.keys;
+    let rows = news.rows;
     let mut changes = RowChanges::new(alloc);
     let mut turned = Vec::with_capacity(alloc, keys.len())?;
     let mut batch = TileRuns::new(alloc);
     for index in 0..keys.len() {
         let old = olds[index].as_slice();
-        let new = news[index].as_slice();
+        let new = rows[index].as_slice();
         let here = turn_key(
             alloc,
             style,

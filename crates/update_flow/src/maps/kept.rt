@@ -104,7 +104,7 @@ impl<D: Disk> MapStore for StoreTxn<'_, '_, D> {
 
     ghost allowed = { λ refusal. IsAllowed refusal };
 
-    fn form(&mut self, key: Key) -> Result<Option<Object>, StoreFault> {
+    fn way_or_relation(&mut self, key: Key) -> Result<Option<Object>, StoreFault> {
         match key.kind {
             Kind::Node => Ok(None),
             _ => match middle_objs::get(self.alloc, &mut self.indexed.buckets, key) {

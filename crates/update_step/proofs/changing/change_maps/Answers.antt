@@ -45,8 +45,8 @@ rebuild-requires-clause-style g c _ _ =
     (c.keys_lacking.ensures.looks.looked first (g.met.S.MapStore.looked_none first)))))
     ∙ c.requires.style
 
-pub rebuild-requires-clause-few : goal.rebuild-requires-clause-few
-rebuild-requires-clause-few g c =
+pub invariant_of-pending : goal.invariant_of-pending
+invariant_of-pending g c =
     let count = keys-size c.in-Ok.set in
     let few = c.in-Ok.ensures.few in
     let number = c.pending-most.ensures.number in

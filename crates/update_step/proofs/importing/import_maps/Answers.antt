@@ -1,7 +1,6 @@
-use Rattle.std.proofs.Common.{rules, arith, ◌≡◌, ◌≤◌, List, length, map, sym, subst, ◌∙◌}
+use Rattle.std.proofs.Common.{rules, ◌≡◌, List, map, sym, subst, ◌∙◌}
 use Rattle.std.specs.FinMap as finite
 use Rattle.std.specs.List.{AllByRecursion}
-use Rattle.osm_base.specs.declared.values.object.Entry.{Entry}
 use Rattle.osm_base.specs.declared.values.row.TableRow.{TableRow}
 use Rattle.osm_base.specs.map.Objects.{folded_all}
 use Rattle.osm_base.specs.values.Key.{KeyOf}
@@ -11,28 +10,8 @@ use Rattle.geom_workers.specs.Keys.{keys_of}
 use Rattle.store_maps.specs.Append.{MayKeep, appended}
 use Rattle.store_maps.specs.Maps.{Maps, empty_maps}
 use Rattle.store_maps.specs.Step.{change_on}
-use Rattle.update_step.specs.Importing.{keys_named, wanted_among}
 use Rattle.update_step.proofs.Imported.{imported-stands, lacks-first}
-use Rattle.update_step.proofs.WantedEntries.{wanted-few}
 use Rattle.update_step.proofs.importing.import_maps.Goals as goal
-
-keys_few : (style : StyleOf) (change : List Entry) (keys : List KeyOf) → keys ≡ keys_named (wanted_among style change)
-    → length keys ≤ length change
-keys_few style change keys are = subst (λ (own : List KeyOf). length own ≤ length change) (sym are) (wanted-few style change)
-
-pub rows_of-requires-clause-few : goal.rows_of-requires-clause-few
-rows_of-requires-clause-few g c =
-    let few = c.requires.few in
-    let fewer : length (keys_of c.in_ok-keys.keys) ≤ length c.args.change =
-    keys_few c.args.style.now c.args.change (keys_of c.in_ok-keys.keys) c.in_ok-keys.ensures.keys in
-    first_of (omega (arith, few, fewer), search (rules, few, fewer), grind (arith, few, fewer))
-
-pub put_all-requires-clause-few : goal.put_all-requires-clause-few
-put_all-requires-clause-few g c =
-    let few = c.requires.few in
-    let fewer : length (keys_of c.in_ok-keys.keys) ≤ length c.args.change =
-    keys_few c.args.style.now c.args.change (keys_of c.in_ok-keys.keys) c.in_ok-keys.ensures.keys in
-    first_of (omega (arith, few, fewer), search (rules, few, fewer), grind (arith, few, fewer))
 
 pub put_all-requires-clause-kept : goal.put_all-requires-clause-kept
 put_all-requires-clause-kept g c =
@@ -45,7 +24,7 @@ put_all-requires-clause-kept g c =
 pub returns-in-Ok-clause-stands : goal.returns-in-Ok-clause-stands
 returns-in-Ok-clause-stands g c under held =
     let style = c.args.style.now in
-    let keys : List KeyOf = keys_of c.in_ok-keys.keys in
+    let keys : List KeyOf = keys_of c.in_ok-keys.keys.set in
     let rows : KeyOf → List TableRow = rows_in style (folded_all finite.empty c.args.change) in
     let changed : Maps = change_on empty_maps c.args.change in
     let read : g.S.MapStore.holds c.add_entries.new.store under changed = search (rules, held) in
@@ -57,7 +36,7 @@ returns-in-Ok-clause-stands g c under held =
 
 pub returns-clause-allowed : goal.returns-clause-allowed
 returns-clause-allowed g c under held =
-    let keys : List KeyOf = keys_of c.in_ok-keys.keys in
+    let keys : List KeyOf = keys_of c.in_ok-keys.keys.set in
     let rows : KeyOf → List TableRow = rows_in c.args.style.now (folded_all finite.empty c.args.change) in
     let changed : Maps = change_on empty_maps c.args.change in
     let read : g.S.MapStore.holds c.add_entries.new.store under changed = search (rules, held) in

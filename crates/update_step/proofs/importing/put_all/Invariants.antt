@@ -11,8 +11,9 @@ use Rattle.update_step.proofs.importing.put_all.Given as goal
 -- the keys so far have their rows
 abbrev pub invariant-loop-index : goal.invariant-loop-index
 invariant-loop-index g l = record {
-  holds : (under : g.S.MapStore.Under) (maps : Maps) (new : KeyOf → List TableRow) → l.rows ≡ map new (keys_of l.keys) → LacksRows maps new
+  holds : (under : g.S.MapStore.Under) (maps : Maps) (new : KeyOf → List TableRow) → l.rows ≡ map new (keys_of l.keys.set)
+      → LacksRows maps new
       → g.S.MapStore.holds l.initial.store under maps
-      → g.S.MapStore.holds l.store under (set_all_rows maps new (take l.index (keys_of l.keys)));
+      → g.S.MapStore.holds l.store under (set_all_rows maps new (take l.index (keys_of l.keys.set)));
   sets : Sets {A = Unit {0}} g.S.MapStore.looked g.S.Back.spent g.S.Back.bears g.S.Back.faults l.initial.store l.store (Ok tt);
 }

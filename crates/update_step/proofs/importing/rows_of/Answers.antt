@@ -13,7 +13,7 @@ use Rattle.update_step.proofs.importing.rows_of.Goals as goal
 pub returns-clause-rows : goal.returns-clause-rows
 returns-clause-rows g c =
     let style = c.args.style.now in
-    let keys : List KeyOf = keys_of c.args.keys.now in
+    let keys : List KeyOf = keys_of c.args.keys.now.set in
     let objects : ObjectSet = c.in_ok-objects.objects in
     let objects_are : objects ≡ folded_all finite.empty c.args.change = c.in_ok-objects.ensures.objects in
     c.in_ok-rows.ensures.rows ∙ known-rows style objects keys ∙ ap (λ (own : ObjectSet). map (rows_in style own) keys) objects_are
@@ -21,4 +21,4 @@ returns-clause-rows g c =
 pub returns-clause-kept : goal.returns-clause-kept
 returns-clause-kept g c =
     subst (AllByRecursion (MayKeep c.args.style.now.tables)) (sym c.in_ok-rows.ensures.rows)
-    (may-keep-all c.args.style.now (known_of c.in_ok-objects.objects) (keys_of c.args.keys.now))
+    (may-keep-all c.args.style.now (known_of c.in_ok-objects.objects) (keys_of c.args.keys.now.set))

@@ -1,4 +1,4 @@
-use Rattle.std.proofs.Common.{◌≡◌, true, not, ◌&&◌, is_some, Option, sym, ap, subst, ◌∙◌}
+use Rattle.std.proofs.Common.{rules, ◌≡◌, true, not, ◌&&◌, is_some, Option, sym, ap, subst, ◌∙◌}
 use Rattle.std.specs.FinMap as finite
 use Rattle.osm_base.specs.declared.values.key.Kind.TheVariants as kinds
 use Rattle.osm_base.specs.declared.values.object.Object.{Object}
@@ -13,10 +13,10 @@ use Rattle.update_step.proofs.lacking.lacks_rows.Goals as goal
 pub returns-then-is_unknown_node-clause-none : goal.returns-then-is_unknown_node-clause-none
 returns-then-is_unknown_node-clause-none g c under maps objects held on lacks =
     let key : KeyOf = c.args.key in
-    let is : c.in_ok-object.object ≡ object_in maps key.kind key.id = c.in_ok-object.ensures.object under maps held in
+    let is : c.in_ok-object.object ≡ object_in maps key.kind key.id = search (rules, held) in
     let at : c.in_ok-place.place ≡ place_in (finite.get maps.nodes key.id) =
     subst (λ (own : KeyOf). c.in_ok-place.place ≡ place_in (finite.get maps.nodes own.id)) c.key.view_is
-    (c.in_ok-place.ensures.place under maps (c.in_ok-object.ensures.looks.holds under maps held)) in
+    (let still : g.S.MapStore.holds c.object.new.self under maps = search (rules, held) in search (rules, still)) in
     let unknown = ap (λ (object : Option Object). is_kind kinds.Node key.kind && not (is_some object)) (sym is)
     ∙ sym c.is_unknown_node.ensures.unknown ∙ c.if-is_unknown_node.true in
     lacks-place c.args.style.now maps objects on key unknown (sym at ∙ none-found c.in_ok-place.place (c.is_none.ensures ∙ ap not lacks))
@@ -24,7 +24,7 @@ returns-then-is_unknown_node-clause-none g c under maps objects held on lacks =
 pub returns-clause-none : goal.returns-clause-none
 returns-clause-none g c under maps objects held on lacks =
     let key : KeyOf = c.args.key in
-    let is : c.in_ok-object.object ≡ object_in maps key.kind key.id = c.in_ok-object.ensures.object under maps held in
+    let is : c.in_ok-object.object ≡ object_in maps key.kind key.id = search (rules, held) in
     let known = ap (λ (object : Option Object). is_kind kinds.Node key.kind && not (is_some object)) (sym is)
     ∙ sym c.is_unknown_node.ensures.unknown ∙ c.if-is_unknown_node.false in
     lacks-unwanted c.args.style.now maps objects on key known
@@ -34,12 +34,12 @@ pub returns-then-is_unknown_node-clause-within : goal.returns-then-is_unknown_no
 returns-then-is_unknown_node-clause-within g c may all before =
     let asked = may-place may c.args.key (not (is_some c.in_ok-object.object))
     (sym c.is_unknown_node.ensures.unknown ∙ c.if-is_unknown_node.true) all in
-    c.place_of.ensures.within may (subst (λ (own : KeyOf). may 0 own.id ≡ true) (sym c.key.view_is) asked)
-    (c.object_of.ensures.within may all before)
+    c.place.ensures.within may (subst (λ (own : KeyOf). may 0 own.id ≡ true) (sym c.key.view_is) asked)
+    (c.object.ensures.within may all before)
 
 pub returns-in_err-place-clause-within : goal.returns-in_err-place-clause-within
 returns-in_err-place-clause-within g c may all before =
     let asked = may-place may c.args.key (not (is_some c.in_ok-object.object))
     (sym c.is_unknown_node.ensures.unknown ∙ c.if-is_unknown_node.true) all in
-    c.place_of.ensures.within may (subst (λ (own : KeyOf). may 0 own.id ≡ true) (sym c.key.view_is) asked)
-    (c.object_of.ensures.within may all before)
+    c.place.ensures.within may (subst (λ (own : KeyOf). may 0 own.id ≡ true) (sym c.key.view_is) asked)
+    (c.object.ensures.within may all before)

@@ -30,12 +30,15 @@ rows_are style maps keys own rows known reaches news built same reach right aske
     (subst (λ (all : List KeyOf). AreAsked known (all_needs style reaches (known_on maps) all)) same asked))
     ∙ ap (map rows) (sym same)
 
-pub replace-requires-clause-news : goal.replace-requires-clause-news
-replace-requires-clause-news g c =
-    let keys : List KeyOf = keys_of c.args.pending.now in
+pub invariant_of-news : goal.invariant_of-news
+invariant_of-news g c =
+    let keys : List KeyOf = keys_of c.args.pending.now.set in
     let g_in : Gathered = gathered_in c.in_ok-known.known in
-    ap length (c.as_slice-news.ensures.items ∙ c.in_ok-built.ensures.rows) ∙ length-map keys (rows_known c.args.style.now (known_in g_in))
-    ∙ sym (ap length (c.as_slice-keys.ensures.value ∙ c.in_ok-keys.ensures.keys))
+    record {
+      same = ap length (c.as_slice-rows.ensures.items ∙ c.in_ok-built.ensures.rows)
+          ∙ length-map keys (rows_known c.args.style.now (known_in g_in))
+          ∙ sym (ap length (c.as_slice-keys.ensures.value ∙ c.in_ok-keys.ensures.keys));
+    }
 
 pub replace-requires-clause-style : goal.replace-requires-clause-style
 replace-requires-clause-style g c =
@@ -46,21 +49,21 @@ replace-requires-clause-style g c =
 pub replace-requires-clause-kept : goal.replace-requires-clause-kept
 replace-requires-clause-kept g c =
     let style = c.args.style.now in
-    let keys : List KeyOf = keys_of c.args.pending.now in
+    let keys : List KeyOf = keys_of c.args.pending.now.set in
     let g_in : Gathered = gathered_in c.in_ok-known.known in
-    let news_are : c.as_slice-news.result.now ≡ map (rows_known style (known_in g_in)) keys =
-    c.as_slice-news.ensures.items ∙ c.in_ok-built.ensures.rows in
+    let news_are : c.as_slice-rows.result.now ≡ map (rows_known style (known_in g_in)) keys =
+    c.as_slice-rows.ensures.items ∙ c.in_ok-built.ensures.rows in
     subst (λ (lists : List (List TableRow)). AllByRecursion (MayKeep style.tables) lists) (sym news_are) (all-kept style g_in keys)
 
 pub returns-clause-replaces : goal.returns-clause-replaces
 returns-clause-replaces g c under maps old rows held had built =
     let style = c.args.style.now in
-    let keys : List KeyOf = keys_of c.args.pending.now in
+    let keys : List KeyOf = keys_of c.args.pending.now.set in
     let same : c.as_slice-keys.result.now ≡ keys = c.as_slice-keys.ensures.value ∙ c.in_ok-keys.ensures.keys in
     let news = rows_are style maps keys c.as_slice-keys.result.now rows
-    (gathered_in c.in_ok-known.known) c.reaches_nodes.result c.as_slice-news.result.now built same c.reaches_nodes.ensures.reaches
+    (gathered_in c.in_ok-known.known) c.reaches_nodes.result c.as_slice-rows.result.now built same c.reaches_nodes.ensures.reaches
     (c.in_ok-known.ensures.right under maps held) (c.in_ok-known.ensures.asked under maps held)
-    (c.as_slice-news.ensures.items ∙ c.in_ok-built.ensures.rows) in
+    (c.as_slice-rows.ensures.items ∙ c.in_ok-built.ensures.rows) in
     subst (λ (own : List KeyOf). Replaces (g.S.MapStore.holds c.replace.new.store under) style c.args.bounds.now maps own old rows
     (has c.args.due.now) (has c.replace.new.due) c.replace.result) same
     (c.replace.ensures.replaces under maps old rows (c.in_ok-known.ensures.looks.holds under maps held) had news)
@@ -77,17 +80,17 @@ returns-clause-goes g c = record {
 pub returns-clause-allowed : goal.returns-clause-allowed
 returns-clause-allowed g c under maps old held had =
     let style = c.args.style.now in
-    let keys : List KeyOf = keys_of c.args.pending.now in
+    let keys : List KeyOf = keys_of c.args.pending.now.set in
     let g_in : Gathered = gathered_in c.in_ok-known.known in
     let same : c.as_slice-keys.result.now ≡ keys = c.as_slice-keys.ensures.value ∙ c.in_ok-keys.ensures.keys in
-    let news : c.as_slice-news.result.now ≡ map (rows_known style (known_in g_in)) c.as_slice-keys.result.now =
-    c.as_slice-news.ensures.items ∙ c.in_ok-built.ensures.rows ∙ ap (map (rows_known style (known_in g_in))) (sym same) in
+    let news : c.as_slice-rows.result.now ≡ map (rows_known style (known_in g_in)) c.as_slice-keys.result.now =
+    c.as_slice-rows.ensures.items ∙ c.in_ok-built.ensures.rows ∙ ap (map (rows_known style (known_in g_in))) (sym same) in
     c.replace.ensures.allowed under maps old (rows_known style (known_in g_in))
     (c.in_ok-known.ensures.looks.holds under maps held) had news
 
 pub returns-clause-within : goal.returns-clause-within
 returns-clause-within g c under maps held may asks rows before =
-    let same : c.as_slice-keys.result.now ≡ keys_of c.args.pending.now = c.as_slice-keys.ensures.value ∙ c.in_ok-keys.ensures.keys in
+    let same : c.as_slice-keys.result.now ≡ keys_of c.args.pending.now.set = c.as_slice-keys.ensures.value ∙ c.in_ok-keys.ensures.keys in
     let asked = subst (λ (reaches : Bool). MayAskAll may (all_needs c.args.style.now reaches (known_on maps) c.as_slice-keys.result.now))
     (sym c.reaches_nodes.ensures.reaches)
     (subst (λ (own : List KeyOf). MayAskAll may (all_needs c.args.style.now (reaches_nodes c.args.style.now) (known_on maps) own))

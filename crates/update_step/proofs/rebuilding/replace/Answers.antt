@@ -22,7 +22,7 @@ put_rows-requires-clause-kept g c =
     let first = c.args.store.now in
     let style_is = g.met.S.MapStore.same_style first c.all_before.new.store
     (c.all_before.ensures.looks.looked first (g.met.S.MapStore.looked_none first)) ∙ c.requires.style in
-    subst (λ (own : StyleOf). AllByRecursion (MayKeep own.tables) c.args.news.now) (sym style_is) c.requires.kept
+    subst (λ (own : StyleOf). AllByRecursion (MayKeep own.tables) c.args.news.rows.now) (sym style_is) c.requires.kept
 
 pub returns-in-Ok-clause-replaces : goal.returns-in-Ok-clause-replaces
 returns-in-Ok-clause-replaces g c under maps old new held had news =
@@ -30,13 +30,13 @@ returns-in-Ok-clause-replaces g c under maps old new held had news =
     let style = c.args.style.now in
     let style_is = g.met.S.MapStore.same_style first c.all_before.new.store
     (c.all_before.ensures.looks.looked first (g.met.S.MapStore.looked_none first)) ∙ c.requires.style in
-    let olds : c.as_slice-olds.result.now ≡ map old c.args.keys.now =
+    let olds : c.as_slice-olds.result.now ≡ map old c.args.news.keys.now =
     c.as_slice-olds.ensures.items ∙ c.in_ok-before.ensures.kept under maps old held had.held had.none in
     let turns = c.in_ok-turns.ensures.turns old new olds news in
     record {
       holds = c.in-Ok.ensures.holds under maps old new (c.in_ok-before.ensures.looks.holds under maps held)
-          (has_turned (g.S.MapStore.style c.all_before.new.store) style maps c.args.lacking.now c.args.keys.now old new
-          c.as_slice-turned.result.now c.args.news.now style_is had (c.as_slice-turned.ensures.value ∙ turns.turned) news);
+          (has_turned (g.S.MapStore.style c.all_before.new.store) style maps c.args.lacking.now c.args.news.keys.now old new
+          c.as_slice-turned.result.now c.args.news.rows.now style_is had (c.as_slice-turned.ensures.value ∙ turns.turned) news);
       told = turns.told;
       due = turns.due;
     }
@@ -47,9 +47,9 @@ returns-clause-allowed g c under maps old new held had news =
     let style = c.args.style.now in
     let style_is = g.met.S.MapStore.same_style first c.all_before.new.store
     (c.all_before.ensures.looks.looked first (g.met.S.MapStore.looked_none first)) ∙ c.requires.style in
-    let olds : c.as_slice-olds.result.now ≡ map old c.args.keys.now =
+    let olds : c.as_slice-olds.result.now ≡ map old c.args.news.keys.now =
     c.as_slice-olds.ensures.items ∙ c.in_ok-before.ensures.kept under maps old held had.held had.none in
     let turns = c.in_ok-turns.ensures.turns old new olds news in
     c.in-Err.ensures.allowed under maps old new (c.in_ok-before.ensures.looks.holds under maps held)
-    (has_turned (g.S.MapStore.style c.all_before.new.store) style maps c.args.lacking.now c.args.keys.now old new
-    c.as_slice-turned.result.now c.args.news.now style_is had (c.as_slice-turned.ensures.value ∙ turns.turned) news)
+    (has_turned (g.S.MapStore.style c.all_before.new.store) style maps c.args.lacking.now c.args.news.keys.now old new
+    c.as_slice-turned.result.now c.args.news.rows.now style_is had (c.as_slice-turned.ensures.value ∙ turns.turned) news)

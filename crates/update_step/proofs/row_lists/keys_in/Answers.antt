@@ -13,13 +13,13 @@ one_more keys before after at own pushed front is below =
 
 pub loop-number-preserved : goal.loop-number-preserved
 loop-number-preserved c =
-    one_more (keys_of c.args.pending.now) _ _ c.loop-number.number c.key_of.result c.in_ok-push.ensures.items c.loop-number.invariant
+    one_more (keys_of c.args.pending.now.set) _ _ c.loop-number.number c.key_of.result c.in_ok-push.ensures.items c.loop-number.invariant
     c.key_of.ensures.key
     (subst (λ (most : ℕ). c.loop-number.number < most) c.key_count-count.ensures.count c.loop-number-test.true)
 
 pub returns : goal.returns
 returns c =
     record {
-      keys = c.loop-number.invariant ∙ take_all c.loop-number.number (keys_of c.args.pending.now)
+      keys = c.loop-number.invariant ∙ take_all c.loop-number.number (keys_of c.args.pending.now.set)
           (subst (λ (most : ℕ). most ≤ c.loop-number.number) c.key_count-count.ensures.count c.loop-number-test.false);
     }

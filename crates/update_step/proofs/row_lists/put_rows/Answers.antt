@@ -17,25 +17,25 @@ put_turned-requires-clause-kept g c =
     let first = c.args.store.now in
     let style = g.met.S.MapStore.same_style first c.loop-index.store
     (c.loop-index.invariant.sets.looked first (g.met.S.MapStore.looked_none first)) in
-    subst (λ (own : StyleOf). MayKeep own.tables c.index-news-index.result) (sym style)
-    (all_at (MayKeep (g.S.MapStore.style first).tables) c.args.news.now c.loop-index.index c.index-news-index.result
-    c.index-news-index.result c.requires.kept
-    (subst (λ most. c.loop-index.index < most) (sym c.requires.news) c.loop-index-test.true) c.index-news-index.is)
+    subst (λ (own : StyleOf). MayKeep own.tables c.index-rows-index.result) (sym style)
+    (all_at (MayKeep (g.S.MapStore.style first).tables) c.args.news.rows.now c.loop-index.index c.index-rows-index.result
+    c.index-rows-index.result c.requires.kept
+    (subst (λ most. c.loop-index.index < most) (sym c.args.news.same) c.loop-index-test.true) c.index-rows-index.is)
 
 pub loop-index-preserved : goal.loop-index-preserved
 loop-index-preserved g c =
-    let keys : List KeyOf = c.args.keys.now in
+    let keys : List KeyOf = c.args.news.keys.now in
     let key : KeyOf = c.index-keys-index.result in
-    let own : List TableRow = c.index-news-index.result in
+    let own : List TableRow = c.index-rows-index.result in
     let tables = (g.S.MapStore.style c.args.store.now).tables in
     let kept : MayKeep tables own =
-    all_at (MayKeep tables) c.args.news.now c.loop-index.index own own c.requires.kept
-    (subst (λ most. c.loop-index.index < most) (sym c.requires.news) c.loop-index-test.true) c.index-news-index.is in
+    all_at (MayKeep tables) c.args.news.rows.now c.loop-index.index own own c.requires.kept
+    (subst (λ most. c.loop-index.index < most) (sym c.args.news.same) c.loop-index-test.true) c.index-rows-index.is in
     record {
       holds = λ under maps old new held has.
           let before : Maps = set_all_rows maps new (take c.loop-index.index keys) in
-          let rows_are : own ≡ new key = rows_there new keys c.args.news.now c.loop-index.index key key own has.are
-          c.loop-index-test.true c.index-keys-index.is c.index-news-index.is in
+          let rows_are : own ≡ new key = rows_there new keys c.args.news.rows.now c.loop-index.index key key own has.are
+          c.loop-index-test.true c.index-keys-index.is c.index-rows-index.is in
           let at_turned : Bool = get_or c.args.turned.now c.loop-index.index false in
           let told : at_turned ≡ is_turned (length tables) (old key) (new key) =
           rows_there (λ (own : KeyOf). is_turned (length tables) (old own) (new own)) keys c.args.turned.now c.loop-index.index key key
@@ -50,7 +50,7 @@ loop-index-preserved g c =
           ∙ sym (fold-more (λ (own : Maps) (other : KeyOf). set_rows own other.kind other.id (new other)) maps keys c.loop-index.index key
           c.loop-index-test.true c.index-keys-index.is)) step;
       within = λ may all before. c.put_turned.ensures.within may
-          (all_at (MayRows may) c.args.keys.now c.loop-index.index c.index-keys-index.result c.index-keys-index.result all
+          (all_at (MayRows may) c.args.news.keys.now c.loop-index.index c.index-keys-index.result c.index-keys-index.result all
           c.loop-index-test.true c.index-keys-index.is)
           (c.loop-index.invariant.within may all before);
       sets = search rules;
@@ -58,13 +58,13 @@ loop-index-preserved g c =
 
 pub returns-in_err-put_turned-clause-allowed : goal.returns-in_err-put_turned-clause-allowed
 returns-in_err-put_turned-clause-allowed g c under maps old new held has =
-    let is = c.in_err-put_turned.ensures.allowed under (set_all_rows maps new (take c.loop-index.index c.args.keys.now))
+    let is = c.in_err-put_turned.ensures.allowed under (set_all_rows maps new (take c.loop-index.index c.args.news.keys.now))
     (c.loop-index.invariant.holds under maps old new held has) in
     search (rules, is)
 
 pub returns-in_err-put_turned-clause-within : goal.returns-in_err-put_turned-clause-within
 returns-in_err-put_turned-clause-within g c may all before =
     c.put_turned.ensures.within may (all_at
-    (MayRows may) c.args.keys.now c.loop-index.index c.index-keys-index.result c.index-keys-index.result all c.loop-index-test.true
+    (MayRows may) c.args.news.keys.now c.loop-index.index c.index-keys-index.result c.index-keys-index.result all c.loop-index-test.true
     c.index-keys-index.is)
     (c.loop-index.invariant.within may all before)

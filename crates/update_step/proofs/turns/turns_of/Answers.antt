@@ -14,16 +14,16 @@ use Rattle.update_step.proofs.turns.turns_of.Goals as goal
 
 pub loop-index-preserved : goal.loop-index-preserved
 loop-index-preserved c =
-    let keys : List KeyOf = c.args.keys.now in
+    let keys : List KeyOf = c.args.news.keys.now in
     let key : KeyOf = c.index-keys-index.result in
     let style = c.args.style.now in
     let count = length style.tables in
     let was = λ (old : KeyOf → List TableRow) (olds : c.args.olds.now ≡ map old keys).
     c.as_slice-old.ensures.items ∙ rows_there old keys c.args.olds.now c.loop-index.index key key c.index-olds-index.result olds
     c.loop-index-test.true c.index-keys-index.is c.index-olds-index.is in
-    let is = λ (new : KeyOf → List TableRow) (news : c.args.news.now ≡ map new keys).
-    c.as_slice-new.ensures.items ∙ rows_there new keys c.args.news.now c.loop-index.index key key c.index-news-index.result news
-    c.loop-index-test.true c.index-keys-index.is c.index-news-index.is in
+    let is = λ (new : KeyOf → List TableRow) (news : c.args.news.rows.now ≡ map new keys).
+    c.as_slice-new.ensures.items ∙ rows_there new keys c.args.news.rows.now c.loop-index.index key key c.index-rows-index.result news
+    c.loop-index-test.true c.index-keys-index.is c.index-rows-index.is in
     record {
       told = λ old new olds news.
           c.in_ok-here.ensures.told
@@ -62,7 +62,7 @@ loop-index-preserved c =
 
 pub returns-clause-turns : goal.returns-clause-turns
 returns-clause-turns c old new olds news =
-    let all = take_all c.loop-index.index c.args.keys.now c.loop-index-test.false in
+    let all = take_all c.loop-index.index c.args.news.keys.now c.loop-index-test.false in
     let count = length c.args.style.now.tables in
     record {
       told = c.loop-index.invariant.told old new olds news ∙ ap (told_all count old new) all;

@@ -11,7 +11,8 @@ use Rattle.value_bytes.specs.declared.nodes.NodeRecord.{NodeRecord}
 use Rattle.store_maps.specs.Asked.{MayObject}
 use Rattle.store_maps.specs.Maps.{node_in, object_in}
 use Rattle.update_flow.specs.maps.Touched.{Finds}
-use Rattle.update_flow.proofs.Findings.{asks_key, form_finds, object_form, record_found, record_sound, told_err, told_ok, touched_key}
+use Rattle.update_flow.proofs.Findings.{asks_key, object_form, record_found, record_sound, told_err, told_ok, way_or_relation_finds}
+use Rattle.update_flow.proofs.Findings.{touched_key}
 use Rattle.update_flow.proofs.Within.{node_allowed, object_allowed, within_touched}
 use Rattle.update_flow.proofs.maps.finding.find_object.Goals as goal
 
@@ -71,7 +72,8 @@ get-requires-in_default-clause-kind g c = subst (λ (k : KeyOf). k.kind ≡ kind
 pub returns-in_default-clause-finds : goal.returns-in_default-clause-finds
 returns-in_default-clause-finds g c definitions =
     let apart = subst (λ (k : KeyOf). k.kind ≡ kinds.Node → ⊥) c.key.view_is c.in_default.not-Node in
-    let form = form_finds c.args.buckets.now c.get-in_default.new.buckets definitions c.args.key.kind c.args.key.id c.get-in_default.result
+    let form = way_or_relation_finds c.args.buckets.now c.get-in_default.new.buckets definitions
+    c.args.key.kind c.args.key.id c.get-in_default.result
     apart c.get-in_default.ensures.value in
     record {
       found = if_ok (Option Object) _ _ c.get-in_default.result

@@ -2,7 +2,7 @@ use Rattle.std.proofs.Common.{take, Ok}
 use Rattle.store_maps.specs.Filling.{all_objects_on}
 use Rattle.store_maps.specs.Looks.{Sets}
 use Rattle.store_maps.specs.Maps.{Maps}
-use Rattle.update_step.proofs.importing.put_objects.Given as goal
+use Rattle.update_step.proofs.importing.add_entries.Given as goal
 
 -- the objects of the entries so far are there
 abbrev pub invariant-loop-entry : goal.invariant-loop-entry
