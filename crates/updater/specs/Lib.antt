@@ -8,5 +8,6 @@ pub mod commands
 pub mod FileReads
 pub mod Number
 pub mod Options
+pub mod Running
 pub mod Versions
 pub mod Works

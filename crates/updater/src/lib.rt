@@ -13,6 +13,7 @@
 
 mod answers;
 mod blocks;
+mod change_files;
 mod commands;
 mod file_reads;
 mod forms;

@@ -1,5 +1,5 @@
 //! Change files appended, told and shown to readers, one after another.
-ghost use Rattle.std.specs.Prelude.{◌≡◌, ◌≤◌, ◌+◌, [], IfOk, OnOk};
+ghost use Rattle.std.specs.Prelude.{◌≡◌, ◌+◌, [], IfOk, OnOk};
 ghost use Rattle.std.specs.Result.{result_err};
 ghost use Rattle.std.specs.String.{string_bytes};
 ghost use Rattle.osm_base.specs.map.Spots.{changed_all};
@@ -18,6 +18,7 @@ ghost use Rattle.updater.specs.Works.{Works, WorksOn};
 ghost use Rattle.run_promise.specs.World.{Before, world};
 
 use crate::blocks::blocks_text;
+use crate::change_files::ChangeFiles;
 use crate::telling::tell;
 use crate::versions::commit_file;
 use geom_workers::Hands;
@@ -25,7 +26,7 @@ use map_query::Queries;
 use osm_base::{Delta, OutOfMemory, RowChange, Tables, TryCopy};
 use outside::{Disk, Gate, GatePlace, Inputs, Sink};
 use reader_rounds::Askers;
-use run_promise::{Fault, Files};
+use run_promise::Fault;
 use std::alloc::Global;
 use std::sync::Wait;
 use std::thread::Threads;
@@ -49,14 +50,13 @@ pub fn serve_shown<R: Threads + Wait + Sync, I: Inputs, D: Disk, S: Sink, G: Gat
     hands: &Hands<'_, R, G>,
     own: Asked<'_>,
     tables: Tables,
-    files: Files,
+    files: ChangeFiles,
     inputs: &mut I,
     store: &mut Updater<'_, D>,
     out: &mut S,
     publisher: &mut Publisher,
     askers: Askers,
 ) -> Result<(), Fault>
-    requires fits { files.first + files.count ≤ 8192 }
     requires asking { AreAsking own.style.now (begin_of publisher.old.front) own.queries.now 0 askers }
     requires shown { ShowsFront (changes_of (handle_of store.old)) tables publisher.old.front }
     ensures goes_on { (old : Before) (start done : Progress) (held : Holding) → IsHead start done (imported held) files.first old (I.view inputs.old) (handle_of store.old) (S.view out.old)
@@ -91,7 +91,7 @@ pub fn serve_shown<R: Threads + Wait + Sync, I: Inputs, D: Disk, S: Sink, G: Gat
 fn show_files<R: Threads + Wait + Sync, I: Inputs, D: Disk, S: Sink, G: Gate>(
     hands: &Hands<'_, R, G>,
     own: Asked<'_>,
-    files: Files,
+    files: ChangeFiles,
     inputs: &mut I,
     store: &mut Updater<'_, D>,
     out: &mut S,
@@ -99,7 +99,6 @@ fn show_files<R: Threads + Wait + Sync, I: Inputs, D: Disk, S: Sink, G: Gate>(
     tables: &mut Tables,
     askers: &mut Askers,
 ) -> Result<(), Fault>
-    requires fits { files.first + files.count ≤ 8192 }
     requires shown { ShowsFront (changes_of (handle_of store.old)) tables.old publisher.old.front }
     ensures serves { Shows own.entry.bounds.now files.first files.count (result_err result) (I.view inputs.old) (I.view inputs.new) store.old store.new (S.view out.old) (S.view out.new) publisher.old.front publisher.new.front }
     ensures works { Works (λ asked. I.reads inputs.old asked inputs.new) (Among files.first files.count) (result_err result) store.old store.new }
@@ -114,7 +113,7 @@ fn show_files<R: Threads + Wait + Sync, I: Inputs, D: Disk, S: Sink, G: Gate>(
         files.count,
         hands.gate,
         &mut || -> Result<(), Fault>
-            requires { (files.first + files.count ≤ 8192) × ShowsFront (changes_of (handle_of store.now)) tables.now publisher.now.front }
+            requires { ShowsFront (changes_of (handle_of store.now)) tables.now publisher.now.front }
         { publish_files(hands, bounds, files, inputs, store, out, publisher, tables) },
     )
 }
@@ -123,14 +122,13 @@ fn show_files<R: Threads + Wait + Sync, I: Inputs, D: Disk, S: Sink, G: Gate>(
 fn publish_files<R: Threads + Wait + Sync, I: Inputs, D: Disk, S: Sink, G: Gate>(
     hands: &Hands<'_, R, G>,
     bounds: &Bounds,
-    files: Files,
+    files: ChangeFiles,
     inputs: &mut I,
     store: &mut Updater<'_, D>,
     out: &mut S,
     publisher: &mut Publisher,
     tables: &mut Tables,
 ) -> Result<(), Fault>
-    requires fits { files.first + files.count ≤ 8192 }
     requires shown { ShowsFront (changes_of (handle_of store.old)) tables.old publisher.old.front }
     ensures serves { Shows bounds.now files.first files.count (result_err result) (I.view inputs.old) (I.view inputs.new) store.old store.new (S.view out.old) (S.view out.new) publisher.old.front publisher.new.front }
     ensures works { Works (λ asked. I.reads inputs.old asked inputs.new) (Among files.first files.count) (result_err result) store.old store.new }

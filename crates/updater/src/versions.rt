@@ -1,5 +1,5 @@
 //! Versions of an open store: a file is imported or appended in one commit, and that is told.
-ghost use Rattle.std.specs.Prelude.{◌≡◌, ◌≤◌, ◌+◌, ℕ, List, Ok, IfErr, IfOk, OnErr, OnOk};
+ghost use Rattle.std.specs.Prelude.{◌≡◌, ◌+◌, ℕ, List, Ok, IfErr, IfOk, OnErr, OnOk};
 ghost use Rattle.std.specs.Io.KnownBytes.{Appends};
 ghost use Rattle.std.specs.Result.{result_err};
 ghost use Rattle.outside.specs.Bytes.{AppendsPrefix};
@@ -20,12 +20,13 @@ ghost use Rattle.updater.specs.Serving.{LeadsBy};
 ghost use Rattle.updater.specs.Works.{Works, WorksOn};
 ghost use Rattle.run_promise.specs.World.{Before};
 
+use crate::change_files::ChangeFiles;
 use crate::file_reads::{StyleFile, read_change};
 use crate::telling::tell;
 use geom_workers::Hands;
 use osm_base::Delta;
 use outside::{Disk, Gate, GatePlace, Inputs, Sink};
-use run_promise::{Fault, Files};
+use run_promise::Fault;
 use std::thread::Threads;
 use tile_cover::Bounds;
 use update_flow::Updater;
@@ -133,12 +134,11 @@ pub fn append_file<R: Threads + Sync, I: Inputs, D: Disk, S: Sink, G: Gate>(
 pub fn append_files<R: Threads + Sync, I: Inputs, D: Disk, S: Sink, G: Gate>(
     hands: &Hands<'_, R, G>,
     bounds: &Bounds,
-    files: Files,
+    files: ChangeFiles,
     inputs: &mut I,
     store: &mut Updater<'_, D>,
     out: &mut S,
 ) -> Result<(), Fault>
-    requires fits { files.first + files.count ≤ 8192 }
     ensures leads { (old : Before) (start done : Progress) (held : Holding) → IsHead start done (imported held) files.first old (I.view inputs.old) (handle_of store.old) (S.view out.old)
         → Leads (λ last. appends bounds.now held files.first files.count (onward last)) (result_err result) start done (files.first + files.count) old
         (I.view inputs.new) (handle_of store.new) (S.view out.new) }

@@ -17,6 +17,7 @@ ghost use Rattle.run_promise.specs.Courses.{append_to};
 ghost use Rattle.updater.specs.FileReads.{Among};
 ghost use Rattle.updater.specs.Works.{Does, Works};
 
+use crate::change_files::ChangeFiles;
 use crate::file_reads::read_bounds_file;
 use crate::forms::{Words, stored_files};
 use crate::options::{Allowed, options_of, usual_workers};
@@ -101,7 +102,7 @@ fn append_store<R: Threads + Sync, I: Inputs, D: Disk, S: Sink, G: Gate>(
         Ok(bounds) => bounds,
         Err(fault) => return Err(fault),
     };
-    let changes = Files {
+    let changes = ChangeFiles {
         first: files.first + 1,
         count: files.count - 1,
     };

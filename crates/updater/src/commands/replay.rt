@@ -21,6 +21,7 @@ ghost use Rattle.updater.specs.Works.{KeepsOpen, Works};
 ghost use Rattle.run_promise.specs.World.{Before, world};
 ghost use Rattle.updater.specs.commands.Replay as replay;
 
+use crate::change_files::ChangeFiles;
 use crate::file_reads::{StyleFile, read_bounds_file, read_style_file};
 use crate::forms::{Words, stored_files};
 use crate::options::{Allowed, options_of, usual_workers};
@@ -178,7 +179,7 @@ fn fill_store<R: Threads + Sync, I: Inputs, D: Disk, S: Sink, G: Gate>(
         Ok(()) => {}
         Err(fault) => return Err(fault),
     }
-    let files = Files {
+    let files = ChangeFiles {
         first: first + 1,
         count: changes,
     };

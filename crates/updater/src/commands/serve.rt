@@ -1,5 +1,5 @@
 //! `serve STORE BOUNDS QUERIES CHANGE*`: change files, one after another, while readers are answered.
-ghost use Rattle.std.specs.Prelude.{◌≡◌, ◌≤◌, ◌+◌, []};
+ghost use Rattle.std.specs.Prelude.{◌≡◌, []};
 ghost use Rattle.std.specs.Result.{result_err};
 ghost use Rattle.row_map.specs.Row.{tables as tables_in};
 ghost use Rattle.update_flow.specs.Handle.{view_of};
@@ -17,6 +17,7 @@ ghost use Rattle.updater.specs.Works.{Does, Works};
 ghost use Rattle.run_promise.specs.World.{Before, world};
 ghost use Rattle.updater.specs.commands.Serve as serve;
 
+use crate::change_files::ChangeFiles;
 use crate::file_reads::{read_bounds_file, read_queries_file};
 use crate::forms::{Words, stored_files};
 use crate::options::{Allowed, READERS, options_of, usual_workers};
@@ -115,7 +116,7 @@ fn serve_store<R: Threads + Wait + Sync, I: Inputs, D: Disk, S: Sink, G: Gate>(
         Ok(tables) => tables,
         Err(fault) => return Err(Fault::in_flow(fault)),
     };
-    let changes = Files {
+    let changes = ChangeFiles {
         first: files.first + 2,
         count: files.count - 2,
     };
@@ -131,13 +132,12 @@ fn serve_loaded<R: Threads + Wait + Sync, I: Inputs, D: Disk, S: Sink, G: Gate>(
     bounds: &Bounds,
     queries: &Queries,
     tables: Tables,
-    files: Files,
+    files: ChangeFiles,
     inputs: &mut I,
     store: &mut Updater<'_, D>,
     out: &mut S,
 ) -> Result<(), Fault>
     requires readers { AreReaders readers }
-    requires fits { files.first + files.count ≤ 8192 }
     ensures goes_on { (old : Before) (start done : Progress) (held : Holding) → IsHead start done (imported held) files.first old (I.view inputs.old) (handle_of store.old) (S.view out.old)
         → (IsCertain done.store → tables ≡ tables_in held.style held.objects)
         → GoesOn (serves bounds.now queries.now readers [] held files.first files.count) start done (result_err result) old (world (I.view inputs.new) (view_of (handle_of store.new)) (S.view out.new)) }

@@ -243,11 +243,5 @@ overflow_add-changes g c =
 pub overflow_sub-changes : goal.overflow_sub-changes
 overflow_sub-changes g c = let two = c.requires.fits.0.least in omega (arith, two)
 
-pub serve_loaded-requires-clause-readers : goal.serve_loaded-requires-clause-readers
-serve_loaded-requires-clause-readers g c κs within = c.requires.fits.1
-
-pub serve_loaded-requires-clause-fits : goal.serve_loaded-requires-clause-fits
-serve_loaded-requires-clause-fits g c κs within =
-    let few = c.requires.fits.0.fit.few in
-    let two = c.requires.fits.0.least in
-    omega (arith, few, two)
+pub serve_loaded-requires : goal.serve_loaded-requires
+serve_loaded-requires g c κs within = record { readers = c.requires.fits.1 }
