@@ -2,9 +2,10 @@
 //! `run` of `updater`, tells the fault and ends with the status. On a terminal it tells meanwhile how far it is.
 #![tactic(auto)]
 
-ghost use Rattle.std.specs.Prelude.{◌≡◌, [], drop, map, Some, None, is_err, if◌then◌else◌};
+ghost use Rattle.std.specs.Prelude.{◌≡◌, ◌↔◌, [], drop, map, Some, None, is_err, if◌then◌else◌};
 ghost use Rattle.std.specs.String.{string_bytes};
 ghost use Rattle.outside.specs.MemDisk.{disk_bytes};
+ghost use Rattle.run_promise.specs.Faults.{status_of};
 ghost use Rattle.updater.specs.Command.{command};
 ghost use Rattle.updater_main.specs.Asked.{asked, run_for, seen};
 
@@ -126,7 +127,7 @@ fn main(rt: HostRuntime) -> ExitCode {
     ExitCode::from(status)
 }
 
-/// The outcome of a run. Its contract ends here: the real files, disk and output tell it nothing.
+/// The outcome of a run. Its contract ends here: what real files, a real disk and a real stream hold no clause says.
 fn outcome_of<R: Threads + Wait + Sync, I: Inputs, D: Disk, S: Sink, G: Gate>(
     rt: &R,
     alloc: Global,
@@ -135,7 +136,10 @@ fn outcome_of<R: Threads + Wait + Sync, I: Inputs, D: Disk, S: Sink, G: Gate>(
     disk: &mut D,
     out: &mut S,
     gate: &G,
-) -> Outcome {
+) -> Outcome
+    ensures status { result.status ≡ status_of result.fault }
+    ensures usage { (result.fault ≡ Some Fault.Usage) ↔ (command (map string_bytes words.now) ≡ None) }
+{
     run(rt, alloc, words, inputs, disk, out, gate)
 }
 
