@@ -1,3 +1,4 @@
+pub mod Appended
 pub mod Becoming
 pub mod Blank
 pub mod Carrying

@@ -1,9 +1,8 @@
 -- The maps are changed, and all is committed with the due tiles and the number of changes.
-use Rattle.std.proofs.Common.{◌≡◌, ◌∙◌, ◌||◌, ℕ, Bool, List, Some, ap, arith, refl, sym, subst}
+use Rattle.std.proofs.Common.{◌∙◌, List, Some, ap, arith, sym, subst}
 use Rattle.osm_base.specs.map.Objects.{folded_all}
 use Rattle.dep_closure.specs.PendingSet.{AreTooMany, IsPendingOf}
 use Rattle.row_map.specs.Row.{tables}
-use Rattle.store_maps.specs.Stands.{Stands}
 use Rattle.style_read.specs.Style.{StyleOf}
 use Rattle.osm_base.specs.declared.values.object.Entry.{Entry}
 use Rattle.tile_cover.specs.Runs.{IsTileSet, has}
@@ -15,17 +14,17 @@ use Rattle.bucket_store.specs.Buckets.{bucket_count}
 use Rattle.bucket_store.specs.Transaction.{chains_of}
 use Rattle.back_index.specs.Index.{is_spent}
 use Rattle.update_flow.specs.maps.Calls.{buckets_of, stop_of, style_in}
-use Rattle.update_flow.specs.maps.Held.{Beside, HasMaps}
+use Rattle.update_flow.specs.maps.Held.{Beside}
 use Rattle.update_flow.specs.maps.Laws.{later_same, over_going, over_none, over_whole}
 use Rattle.update_flow.specs.Changes.{AreChanges}
-use Rattle.update_flow.specs.Due.{both, due_between}
 use Rattle.update_flow.specs.State.{Append, imported}
 use Rattle.update_flow.specs.Turning.{EndsIn, TurnsIn}
 use Rattle.update_flow.specs.declared.fault.FlowFault.{FlowFault}
-use Rattle.update_flow.proofs.Changed.{append_becomes, not_zero, step_answers}
+use Rattle.update_flow.proofs.Appended.{append_ends, append_turns, beside, has_maps, maps_stand}
+use Rattle.update_flow.proofs.Changed.{not_zero, step_answers}
 use Rattle.update_flow.proofs.Steps.{none_spent, step_ends}
 use Rattle.update_flow.proofs.Needs.{sound_fits, step_fits}
-use Rattle.update_flow.proofs.Turning.{ends_then, runs_ended, sound_answers, turns_committed, turns_refused}
+use Rattle.update_flow.proofs.Turning.{ends_then, runs_ended, sound_answers, turns_refused}
 use Rattle.update_flow.proofs.ReadLaws.{change_reads, none_loaded}
 use Rattle.update_flow.proofs.appending.append.Goals as goal
 
@@ -66,13 +65,10 @@ returns-in-Err-change_maps-clause-turns g c held rest same was is style next =
     let change = c.args.change.now in
     let limits = c.args.limits.now in
     let later = c.change_maps.ensures.goes.looked _ (later_same _) in
-    let own : style_in c.args.maps.now ≡ held.style = c.requires.style ∙ sym style in
-    let under : Beside = record { rest = rest; root = rest.root; texts = rest.texts } in
-    let keeps : HasMaps (style_in c.args.maps.now).tables under is.maps.maps mid =
-    subst (λ (s : StyleOf). HasMaps s.tables under is.maps.maps mid) (sym own)
-    (record { now = rest; has = c.in-Ok.ensures.has rest rest was; root = refl; texts = λ n below. refl; kept = is.maps.kept }) in
-    let stand : Stands c.args.style.now is.maps.maps held.objects =
-    subst (λ (s : StyleOf). Stands s is.maps.maps held.objects) style is.maps.stand in
+    let under : Beside = beside rest in
+    let keeps = has_maps held rest is c.args.style.now style (style_in c.args.maps.now) mid c.requires.style
+    (c.in-Ok.ensures.has rest rest was) in
+    let stand = maps_stand held rest is c.args.style.now style in
     let answers = step_answers limits held c.args.bounds.now change _ _ _ c.in-Err-change_maps.why c.in-Err-change_maps.ensures.goes.ends
     (c.in-Err-change_maps.ensures.changes under is.maps.maps held.objects keeps stand).allowed
     (λ value many. (
@@ -105,13 +101,10 @@ pub returns-in-Ok-settle-clause-changes : goal.returns-in-Ok-settle-clause-chang
 returns-in-Ok-settle-clause-changes g c held rest was is style =
     let mid = c.load_due.new.buckets in
     let change = c.args.change.now in
-    let own : style_in c.args.maps.now ≡ held.style = c.requires.style ∙ sym style in
-    let under : Beside = record { rest = rest; root = rest.root; texts = rest.texts } in
-    let keeps : HasMaps (style_in c.args.maps.now).tables under is.maps.maps mid =
-    subst (λ (s : StyleOf). HasMaps s.tables under is.maps.maps mid) (sym own)
-    (record { now = rest; has = c.in-Ok.ensures.has rest rest was; root = refl; texts = λ n below. refl; kept = is.maps.kept }) in
-    let stand : Stands c.args.style.now is.maps.maps held.objects =
-    subst (λ (s : StyleOf). Stands s is.maps.maps held.objects) style is.maps.stand in
+    let under : Beside = beside rest in
+    let keeps = has_maps held rest is c.args.style.now style (style_in c.args.maps.now) mid c.requires.style
+    (c.in-Ok.ensures.has rest rest was) in
+    let stand = maps_stand held rest is c.args.style.now style in
     let done = c.in-Ok-change_maps.ensures.changes under is.maps.maps held.objects keeps stand in
     let told = done.told in
     subst (λ (s : StyleOf). AreChanges (tables s held.objects) (tables s (folded_all held.objects change)) c.in-Ok-change_maps.told)
@@ -123,92 +116,41 @@ returns-in-Ok-settle-clause-turns g c held rest same was is style next =
     let old = buckets_of c.args.maps.now in
     let mid = c.load_due.new.buckets in
     let last = c.change_maps.new.store in
-    let change = c.args.change.now in
-    let limits = c.args.limits.now in
     let later = c.change_maps.ensures.goes.looked _ (later_same _) in
-    let done = c.in-Ok-change_maps.ensures in
-    let own : style_in c.args.maps.now ≡ held.style = c.requires.style ∙ sym style in
-    let under : Beside = record { rest = rest; root = rest.root; texts = rest.texts } in
-    let keeps : HasMaps (style_in c.args.maps.now).tables under is.maps.maps mid =
-    subst (λ (s : StyleOf). HasMaps s.tables under is.maps.maps mid) (sym own)
-    (record { now = rest; has = c.in-Ok.ensures.has rest rest was; root = refl; texts = λ n below. refl; kept = is.maps.kept }) in
-    let stand : Stands c.args.style.now is.maps.maps held.objects =
-    subst (λ (s : StyleOf). Stands s is.maps.maps held.objects) style is.maps.stand in
-    let made = (done.changes under is.maps.maps held.objects keeps stand).stands in
-    let after = made.0 in
-    let kept : HasMaps held.style.tables under after (buckets_of last) =
-    subst (λ (s : StyleOf). HasMaps s.tables under after (buckets_of last)) (later.same_style ∙ own) made.1 in
-    let stands : Stands held.style after (folded_all held.objects change) =
-    subst (λ (s : StyleOf). Stands s after (folded_all held.objects change)) (sym style) made.2 in
-    let due = c.change_maps.new.due in
-    let tiles : (zoom x y : ℕ) → has due zoom x y
-    ≡ both held.due (due_between held.style c.args.bounds.now held.objects (folded_all held.objects change)) zoom x y = λ zoom x y.
-    (done.changes under is.maps.maps held.objects keeps stand).due zoom x y
-    ∙ ap (λ (b : Bool). b || due_between c.args.style.now c.args.bounds.now held.objects (folded_all held.objects change) zoom x y)
-    (c.in-Ok.ensures.due rest rest held was is zoom x y)
-    ∙ ap (λ (s : StyleOf). held.due zoom x y || due_between s c.args.bounds.now held.objects (folded_all held.objects change) zoom x y)
-    (sym style) in
-    let becomes = append_becomes held rest c.args.bounds.now change c.args.number due after (buckets_of last) is kept stands
-    (subst (λ (l : List Run). IsTileSet l) c.as_slice-runs.ensures.runs c.as_slice-runs.ensures.tiles) tiles next c.requires.counted
-    (subst (λ (l : List Entry). AreIdEntries l) c.entries.ensures.entries c.known_ids.ensures) in
-    let looks = looks_then old mid (buckets_of last) c.in-Ok.ensures.runs.looks later.looks in
-    turns_committed limits (imported held) (Append c.args.bounds.now change) _ rest _ old (buckets_of last) c.settle.new.buckets
-    (rests_under rest rest old was) is looks becomes (
-      (λ last. absurd (omega (arith, last, next, c.requires.counted))),
-      (λ set pending. (done.changes under is.maps.maps held.objects keeps stand).few set
-          (subst (λ (s : StyleOf). IsPendingOf s held.objects change set) style pending)),
-    )
-    (c.in-Ok-settle.ensures.commits.commits limits rest kept.now (looks.looked.limit ∙ same) kept.has)
+    let under : Beside = beside rest in
+    let keeps = has_maps held rest is c.args.style.now style (style_in c.args.maps.now) mid c.requires.style
+    (c.in-Ok.ensures.has rest rest was) in
+    let stand = maps_stand held rest is c.args.style.now style in
+    append_turns held rest is c.args.style.now style c.args.limits.now c.args.bounds.now c.args.change.now c.args.number old mid
+    (buckets_of last) c.settle.new.buckets c.in-Ok.ensures.runs.looks later.looks c.change_maps.new.due _ c.in-Ok-settle.ensures.commits
+    (style_in last) _ _ (later.same_style ∙ c.requires.style) was same next c.requires.counted (c.in-Ok.ensures.due rest rest held was is)
+    (subst (λ (l : List Run). IsTileSet l) c.as_slice-runs.ensures.runs c.as_slice-runs.ensures.tiles)
+    (subst (λ (l : List Entry). AreIdEntries l) c.entries.ensures.entries c.known_ids.ensures)
+    (c.in-Ok-change_maps.ensures.changes under is.maps.maps held.objects keeps stand)
 
 pub returns-in-Ok-settle-clause-ends : goal.returns-in-Ok-settle-clause-ends
 returns-in-Ok-settle-clause-ends g c =
     let later = c.change_maps.ensures.goes.looked _ (later_same _) in
-    ends_then _ (buckets_of c.args.maps.now) (buckets_of c.change_maps.new.store) c.settle.new.buckets
-    (looks_then (buckets_of c.args.maps.now) c.load_due.new.buckets
-    (buckets_of c.change_maps.new.store) c.in-Ok.ensures.runs.looks later.looks)
-    (c.in-Ok-settle.ensures.commits.ends (Append c.args.bounds.now c.args.change.now))
+    append_ends c.args.bounds.now c.args.change.now c.args.number (buckets_of c.args.maps.now) c.load_due.new.buckets
+    (buckets_of c.change_maps.new.store) c.settle.new.buckets c.change_maps.new.due _ c.in-Ok.ensures.runs.looks later.looks
+    c.in-Ok-settle.ensures.commits
 
 pub returns-clause-turns : goal.returns-clause-turns
 returns-clause-turns g c held rest same was is style next =
     let old = buckets_of c.args.maps.now in
     let mid = c.load_due.new.buckets in
     let last = c.change_maps.new.store in
-    let change = c.args.change.now in
-    let limits = c.args.limits.now in
     let later = c.change_maps.ensures.goes.looked _ (later_same _) in
-    let done = c.in-Ok-change_maps.ensures in
-    let own : style_in c.args.maps.now ≡ held.style = c.requires.style ∙ sym style in
-    let under : Beside = record { rest = rest; root = rest.root; texts = rest.texts } in
-    let keeps : HasMaps (style_in c.args.maps.now).tables under is.maps.maps mid =
-    subst (λ (s : StyleOf). HasMaps s.tables under is.maps.maps mid) (sym own)
-    (record { now = rest; has = c.in-Ok.ensures.has rest rest was; root = refl; texts = λ n below. refl; kept = is.maps.kept }) in
-    let stand : Stands c.args.style.now is.maps.maps held.objects =
-    subst (λ (s : StyleOf). Stands s is.maps.maps held.objects) style is.maps.stand in
-    let made = (done.changes under is.maps.maps held.objects keeps stand).stands in
-    let after = made.0 in
-    let kept : HasMaps held.style.tables under after (buckets_of last) =
-    subst (λ (s : StyleOf). HasMaps s.tables under after (buckets_of last)) (later.same_style ∙ own) made.1 in
-    let stands : Stands held.style after (folded_all held.objects change) =
-    subst (λ (s : StyleOf). Stands s after (folded_all held.objects change)) (sym style) made.2 in
-    let due = c.change_maps.new.due in
-    let tiles : (zoom x y : ℕ) → has due zoom x y
-    ≡ both held.due (due_between held.style c.args.bounds.now held.objects (folded_all held.objects change)) zoom x y = λ zoom x y.
-    (done.changes under is.maps.maps held.objects keeps stand).due zoom x y
-    ∙ ap (λ (b : Bool). b || due_between c.args.style.now c.args.bounds.now held.objects (folded_all held.objects change) zoom x y)
-    (c.in-Ok.ensures.due rest rest held was is zoom x y)
-    ∙ ap (λ (s : StyleOf). held.due zoom x y || due_between s c.args.bounds.now held.objects (folded_all held.objects change) zoom x y)
-    (sym style) in
-    let becomes = append_becomes held rest c.args.bounds.now change c.args.number due after (buckets_of last) is kept stands
-    (subst (λ (l : List Run). IsTileSet l) c.as_slice-runs.ensures.runs c.as_slice-runs.ensures.tiles) tiles next c.requires.counted
-    (subst (λ (l : List Entry). AreIdEntries l) c.entries.ensures.entries c.known_ids.ensures) in
-    let looks = looks_then old mid (buckets_of last) c.in-Ok.ensures.runs.looks later.looks in
-    turns_committed limits (imported held) (Append c.args.bounds.now change) _ rest _ old (buckets_of last) c.settle.new.buckets
-    (rests_under rest rest old was) is looks becomes (
-      (λ last. absurd (omega (arith, last, next, c.requires.counted))),
-      (λ set pending. (done.changes under is.maps.maps held.objects keeps stand).few set
-          (subst (λ (s : StyleOf). IsPendingOf s held.objects change set) style pending)),
-    )
-    (c.in-Err-settle.ensures.commits.commits limits rest kept.now (looks.looked.limit ∙ same) kept.has)
+    let under : Beside = beside rest in
+    let keeps = has_maps held rest is c.args.style.now style (style_in c.args.maps.now) mid c.requires.style
+    (c.in-Ok.ensures.has rest rest was) in
+    let stand = maps_stand held rest is c.args.style.now style in
+    append_turns held rest is c.args.style.now style c.args.limits.now c.args.bounds.now c.args.change.now c.args.number old mid
+    (buckets_of last) c.settle.new.buckets c.in-Ok.ensures.runs.looks later.looks c.change_maps.new.due _ c.in-Err-settle.ensures.commits
+    (style_in last) _ _ (later.same_style ∙ c.requires.style) was same next c.requires.counted (c.in-Ok.ensures.due rest rest held was is)
+    (subst (λ (l : List Run). IsTileSet l) c.as_slice-runs.ensures.runs c.as_slice-runs.ensures.tiles)
+    (subst (λ (l : List Entry). AreIdEntries l) c.entries.ensures.entries c.known_ids.ensures)
+    (c.in-Ok-change_maps.ensures.changes under is.maps.maps held.objects keeps stand)
 
 -- no more was read than the change touches
 pub returns-in-Ok-settle-clause-reads : goal.returns-in-Ok-settle-clause-reads
@@ -218,13 +160,10 @@ returns-in-Ok-settle-clause-reads g c held rest was is style unread may touched 
     let last = c.change_maps.new.store in
     let later = c.change_maps.ensures.goes.looked _ (later_same _) in
     let done = c.in-Ok-change_maps.ensures in
-    let own : style_in c.args.maps.now ≡ held.style = c.requires.style ∙ sym style in
-    let under : Beside = record { rest = rest; root = rest.root; texts = rest.texts } in
-    let keeps : HasMaps (style_in c.args.maps.now).tables under is.maps.maps mid =
-    subst (λ (s : StyleOf). HasMaps s.tables under is.maps.maps mid) (sym own)
-    (record { now = rest; has = c.in-Ok.ensures.has rest rest was; root = refl; texts = λ n below. refl; kept = is.maps.kept }) in
-    let stand : Stands c.args.style.now is.maps.maps held.objects =
-    subst (λ (s : StyleOf). Stands s is.maps.maps held.objects) style is.maps.stand in
+    let under : Beside = beside rest in
+    let keeps = has_maps held rest is c.args.style.now style (style_in c.args.maps.now) mid c.requires.style
+    (c.in-Ok.ensures.has rest rest was) in
+    let stand = maps_stand held rest is c.args.style.now style in
     let made = (done.changes under is.maps.maps held.objects keeps stand).stands.1 in
     let going = over_going last done.goes.spent in
     let loads = c.in-Ok.ensures.reads in
@@ -238,7 +177,6 @@ returns-in-Ok-settle-clause-reads g c held rest was is style unread may touched 
 pub returns-clause-ends : goal.returns-clause-ends
 returns-clause-ends g c =
     let later = c.change_maps.ensures.goes.looked _ (later_same _) in
-    ends_then _ (buckets_of c.args.maps.now) (buckets_of c.change_maps.new.store) c.settle.new.buckets
-    (looks_then (buckets_of c.args.maps.now) c.load_due.new.buckets
-    (buckets_of c.change_maps.new.store) c.in-Ok.ensures.runs.looks later.looks)
-    (c.in-Err-settle.ensures.commits.ends (Append c.args.bounds.now c.args.change.now))
+    append_ends c.args.bounds.now c.args.change.now c.args.number (buckets_of c.args.maps.now) c.load_due.new.buckets
+    (buckets_of c.change_maps.new.store) c.settle.new.buckets c.change_maps.new.due _ c.in-Ok.ensures.runs.looks later.looks
+    c.in-Err-settle.ensures.commits
