@@ -1,6 +1,6 @@
 -- An open store, as its calls leave it.
 use Rattle.std.proofs.Common.{◌≡◌, ◌≢◌, Bool, true, false, Option, Some, None, Result, Ok, Err, refl, sym, ap, subst, ◌∙◌, arith}
-use Rattle.std.specs.Prelude.{IfErr, IsErrOf, OnOk, is_some}
+use Rattle.std.specs.Prelude.{OnOk, is_some}
 use Rattle.std.specs.Result.{result_err}
 use Rattle.outside.specs.Disk.{DiskView}
 use Rattle.page_journal.specs.declared.fault.StoreFault.TheVariants as store
@@ -12,9 +12,9 @@ use Rattle.update_flow.specs.AtRest.{HasFlowCause}
 use Rattle.update_flow.specs.Handle.{Handle, IsOpen, Looks, Shows, Takes, TellsAs, changes_of, is_imported, is_old, is_whole, limits_of}
 use Rattle.update_flow.specs.Handle.{style_of, view_of}
 use Rattle.update_flow.specs.Needed.{FitsLimit, NeedsOn}
-use Rattle.update_flow.specs.Refusals.{IsCallFault, MayAnswer}
+use Rattle.update_flow.specs.Refusals.{MayAnswer}
 use Rattle.update_flow.specs.State.{Clear, Holding, Migrate, State, Step, after, cleared, formatted, imported, outdated, was_old}
-use Rattle.update_flow.specs.Turning.{EndsOn, IsKept, LooksOn, MayEnd, TurnsOn}
+use Rattle.update_flow.specs.Turning.{EndsOn, IsKept, LooksOn, TurnsOn}
 use Rattle.update_flow.specs.Updater.{KeptFits}
 use Rattle.update_flow.specs.declared.fault.FlowFault.{FlowFault}
 use Rattle.update_flow.specs.declared.fault.FlowFault.TheVariants as flow

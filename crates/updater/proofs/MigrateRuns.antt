@@ -6,9 +6,7 @@ use Rattle.outside.specs.Bytes.{AppendsPrefix}
 use Rattle.outside.specs.Causes.{HasCause as HasCauseOf}
 use Rattle.outside.specs.Inputs.{FilesView}
 use Rattle.outside.specs.Sink.{SinkView}
-use Rattle.page_journal.specs.declared.fault.StoreFault.TheVariants as stores
 use Rattle.update_flow.specs.AtRest.{HasFlowCause}
-use Rattle.update_flow.specs.Refusals.{IsCallFault}
 use Rattle.update_flow.specs.State.{Holding, State, formatted, imported, outdated, Migrate, after}
 use Rattle.update_flow.specs.Handle.{Handle, IsOpen, Shows, Takes, is_imported, is_old, is_whole, limits_of, view_of}
 use Rattle.update_flow.specs.declared.fault.FlowFault.{FlowFault}

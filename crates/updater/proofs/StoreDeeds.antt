@@ -1,5 +1,6 @@
 -- The deeds of a run on its open store.
-use Rattle.std.proofs.Common.{◌≡◌, ◌≤◌, ◌+◌, ◌⊎◌, ℕ, true, false, Option, Some, None, Err, List, [], ◌∷◌, length, ⊎_elim, inl, inr, refl, sym}
+use Rattle.std.proofs.Common.{◌≡◌, ◌≤◌, ◌+◌, ◌⊎◌, ℕ, true, false, Option, Some, None, Err, List, [], ◌∷◌, length, ⊎_elim, inl, inr}
+use Rattle.std.proofs.Common.{refl, sym}
 use Rattle.std.proofs.Common.{◌∙◌, ap, subst, arith}
 use Rattle.osm_base.specs.bounds.Limits.{standard}
 use Rattle.osm_base.specs.declared.bounds.limits.LimitNumbers.{LimitNumbers}
@@ -560,7 +561,8 @@ module _ (start done : Progress) (held : Holding) (next : ℕ) (old : Before) (f
     unlooked_vague is (plain own) = (
       at done (Some (flow_fault fault)),
       refl,
-      inr (inl (subst (λ (store : Standing). IfUnknown store (IsRefusedFor (IsStepFault None) done (at done (Some (flow_fault fault))))) (sym is)
+      inr (inl (subst (λ (store : Standing).
+          IfUnknown store (IsRefusedFor (IsStepFault None) done (at done (Some (flow_fault fault))))) (sym is)
           (fault, own.step, refl))),
       vague_leaves start done (imported held) next old files before now output head is so.cause.later (Some (flow_fault fault))
           (own.causeless old (world files (view_of now) output)),

@@ -7,15 +7,12 @@ use Rattle.outside.specs.Bytes.{AppendsPrefix}
 use Rattle.outside.specs.Causes.{HasCause as HasCauseOf}
 use Rattle.outside.specs.Inputs.{FilesView}
 use Rattle.outside.specs.Sink.{SinkView}
-use Rattle.page_journal.specs.declared.fault.StoreFault.TheVariants as stores
 use Rattle.style_read.specs.Style.{StyleOf, table_of}
 use Rattle.update_flow.specs.AtRest.{HasFlowCause}
-use Rattle.update_flow.specs.Refusals.{IsCallFault}
 use Rattle.update_flow.specs.State.{Holding, State, formatted, imported, outdated, Clear, after}
 use Rattle.update_flow.specs.Handle.{Handle, IsOpen, Looks, Shows, Takes, TellsAs, is_imported, is_old, is_whole, limits_of, style_of}
 use Rattle.update_flow.specs.Handle.{view_of}
 use Rattle.update_flow.specs.declared.fault.FlowFault.{FlowFault}
-use Rattle.update_flow.specs.declared.fault.FlowFault.TheVariants as flow
 use Rattle.run_promise.specs.declared.fault.Fault.{Fault}
 use Rattle.run_promise.specs.declared.fault.Fault.TheVariants as faults
 use Rattle.run_promise.specs.Comes.{AreTold, IsCertain}

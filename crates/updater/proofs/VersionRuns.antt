@@ -1,5 +1,5 @@
 -- A file is imported or appended, and told.
-use Rattle.std.proofs.Common.{◌≡◌, ◌+◌, ℕ, ◌≤◌, true, false, Option, Some, None, List, Result, Ok, Err, OnOk, OnErr, IfErr, inr, sym, subst}
+use Rattle.std.proofs.Common.{◌≡◌, ◌+◌, ℕ, ◌≤◌, false, Option, Some, None, List, Result, Ok, Err, OnOk, OnErr, IfErr, inr, sym, subst}
 use Rattle.std.proofs.Common.{arith}
 use Rattle.std.specs.Result.{result_err}
 use Rattle.std.specs.Io.KnownBytes.{Appends}
@@ -8,14 +8,11 @@ use Rattle.outside.specs.Bytes.{AppendsPrefix}
 use Rattle.outside.specs.Causes.{HasCause as HasCauseOf}
 use Rattle.outside.specs.Inputs.{FilesView}
 use Rattle.outside.specs.Sink.{SinkView}
-use Rattle.page_journal.specs.declared.fault.StoreFault.TheVariants as stores
 use Rattle.update_flow.specs.AtRest.{HasFlowCause}
-use Rattle.update_flow.specs.Refusals.{IsCallFault}
 use Rattle.update_flow.specs.State.{Holding, State, imported, Step, after, was_old}
-use Rattle.update_flow.specs.Handle.{Handle, IsOpen, Shows, Takes, is_old, is_whole, limits_of, view_of}
+use Rattle.update_flow.specs.Handle.{Handle, IsOpen, Shows, Takes, is_whole, limits_of, view_of}
 use Rattle.update_flow.specs.Needed.{Writes}
 use Rattle.update_flow.specs.declared.fault.FlowFault.{FlowFault}
-use Rattle.update_flow.specs.declared.fault.FlowFault.TheVariants as flow
 use Rattle.run_promise.specs.declared.fault.Fault.{Fault}
 use Rattle.run_promise.specs.declared.fault.Fault.TheVariants as faults
 use Rattle.run_promise.specs.Comes.{Comes, IsCertain}

@@ -8,6 +8,5 @@ pub mod commands
 pub mod FileReads
 pub mod Number
 pub mod Options
-pub mod Running
 pub mod Versions
 pub mod Works

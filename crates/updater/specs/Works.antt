@@ -29,7 +29,8 @@ pub record KeepsOpen {D : Type 0} {g : Ghosts D} (fault : Option Fault) (old new
   pub formatted : fault ≢ Some NotFormatted
 
 -- So it is, and only this file is asked for, some times.
-pub record WorksOn {D : Type 0} {g : Ghosts D} (asks : List ℕ → Type 0) (file : ℕ) (fault : Option Fault) (old new : Updater D g) : Type 0 where
+pub record WorksOn {D : Type 0} {g : Ghosts D} (asks : List ℕ → Type 0) (file : ℕ) (fault : Option Fault)
+    (old new : Updater D g) : Type 0 where
   pub keeps : KeepsOpen fault old new
   pub asked : (count : ℕ) × asks (replicate count file)
 

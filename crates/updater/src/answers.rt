@@ -1,5 +1,5 @@
 //! Answers to queries as text.
-ghost use Rattle.std.specs.Prelude.{◌≡◌, ◌++◌, List, ℕ, codes, IfOk, OnOk};
+ghost use Rattle.std.specs.Prelude.{◌≡◌, ◌++◌, IfOk, OnOk};
 ghost use Rattle.std.specs.String.{string_bytes};
 ghost use Rattle.run_promise.specs.Answers.{answers_text, counted, found_text, rows_text};
 

@@ -1,6 +1,5 @@
 //! The options of a command.
 ghost use Rattle.std.specs.Prelude.{◌≡◌, IfSome, map};
-ghost use Rattle.std.specs.Option.{option_map};
 ghost use Rattle.std.specs.String.{string_bytes};
 ghost use Rattle.run_promise.specs.declared.ranges.TheConstants.{MAX_WORKERS};
 ghost use Rattle.updater.specs.Number.{in_range, number};

@@ -4,7 +4,6 @@ ghost use Rattle.std.specs.Result.{result_err};
 ghost use Rattle.std.specs.String.{string_bytes};
 ghost use Rattle.run_promise.specs.CommandOf.{CommandOf, FilesFit};
 ghost use Rattle.updater.specs.Command.{command, seen};
-ghost use Rattle.updater.specs.Running.{workers_of};
 ghost use Rattle.run_promise.specs.Faults.{status_of};
 ghost use Rattle.run_promise.specs.Runs.{IsWrongUse, Runs};
 ghost use Rattle.run_promise.specs.Safety.{IsSafe};
@@ -21,7 +20,6 @@ use crate::commands::query::query;
 use crate::commands::replay::replay;
 use crate::commands::serve::serve;
 use crate::commands::tiles::tiles;
-use crate::options::usual_workers;
 use crate::words::{Command, command_of};
 use geom_workers::Hands;
 use outside::{Disk, Gate, Inputs, Sink};
@@ -83,7 +81,6 @@ fn run_command<R: Threads + Wait + Sync, I: Inputs, D: Disk, S: Sink, G: Gate>(
         (world (I.view inputs.old) (D.view disk.old) (S.view out.old))
         (world (I.view inputs.new) (D.view disk.new) (S.view out.new)) (result_err result) }
 {
-    let hands = hands_of(rt, alloc, command, gate);
     match command {
         Command::Points { key, files } => points(alloc, key, files, inputs, disk, out),
         Command::Lines { key, files } => lines(alloc, key, files, inputs, disk, out),
@@ -92,13 +89,29 @@ fn run_command<R: Threads + Wait + Sync, I: Inputs, D: Disk, S: Sink, G: Gate>(
             store: _,
             files,
             buckets,
-            workers: _,
-        } => import(&hands, files, buckets, inputs, disk, out),
+            workers,
+        } => {
+            let hands = Hands {
+                rt,
+                alloc,
+                workers,
+                gate,
+            };
+            import(&hands, files, buckets, inputs, disk, out)
+        }
         Command::Append {
             store: _,
             files,
-            workers: _,
-        } => append(&hands, files, inputs, disk, out),
+            workers,
+        } => {
+            let hands = Hands {
+                rt,
+                alloc,
+                workers,
+                gate,
+            };
+            append(&hands, files, inputs, disk, out)
+        }
         Command::Export { store: _, table } => export(alloc, table, inputs, disk, out),
         Command::Tiles {
             store: _,
@@ -109,44 +122,30 @@ fn run_command<R: Threads + Wait + Sync, I: Inputs, D: Disk, S: Sink, G: Gate>(
         Command::Serve {
             store: _,
             files,
-            workers: _,
+            workers,
             readers,
-        } => serve(&hands, files, readers, inputs, disk, out),
+        } => {
+            let hands = Hands {
+                rt,
+                alloc,
+                workers,
+                gate,
+            };
+            serve(&hands, files, readers, inputs, disk, out)
+        }
         Command::Replay {
             store: _,
             files,
-            workers: _,
-        } => replay(&hands, files, inputs, disk, out),
+            workers,
+        } => {
+            let hands = Hands {
+                rt,
+                alloc,
+                workers,
+                gate,
+            };
+            replay(&hands, files, inputs, disk, out)
+        }
         Command::Migrate { store: _ } => migrate(alloc, inputs, disk, out),
-    }
-}
-
-/// What a command is done with. It has as many workers as its words ask for.
-fn hands_of<'a, R, G>(
-    rt: &'a R,
-    alloc: Global,
-    command: Command<'_>,
-    gate: &'a G,
-) -> Hands<'a, R, G>
-    ensures workers { result.workers ≡ workers_of (seen command.entry) }
-{
-    let workers = match command {
-        Command::Import { workers, .. }
-        | Command::Append { workers, .. }
-        | Command::Serve { workers, .. }
-        | Command::Replay { workers, .. } => workers,
-        Command::Points { .. }
-        | Command::Lines { .. }
-        | Command::Init { .. }
-        | Command::Export { .. }
-        | Command::Tiles { .. }
-        | Command::Query { .. }
-        | Command::Migrate { .. } => usual_workers(),
-    };
-    Hands {
-        rt,
-        alloc,
-        workers,
-        gate,
     }
 }

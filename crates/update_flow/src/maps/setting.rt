@@ -1,5 +1,5 @@
 //! Values are set in the buckets of an open store, by the maps that it has.
-ghost use Rattle.std.specs.Prelude.{◌≡◌, List, None, Some, OnOk};
+ghost use Rattle.std.specs.Prelude.{List, None, Some, OnOk};
 ghost use Rattle.style_read.specs.declared.style.TableDef.{TableDef};
 ghost use Rattle.object_fold.specs.Change.{IsOfKind};
 ghost use Rattle.bucket_store.specs.Transaction.{IsReady};

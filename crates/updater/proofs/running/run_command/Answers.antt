@@ -181,7 +181,8 @@ returns-in-Query g c =
     let fits = subst (λ (own : Command). FilesFit (seen own)) c.in-Query.is c.requires.fits in
     let command = query_of c.in-Query.store.now c.in-Query.files in
     let own = runs_by command (λ (asked : List ℕ). g.I.Inputs.reads c.args.inputs.now asked c.query.new.inputs) fault old new fits.1
-    c.query.ensures.does.asked c.query.ensures.does.goes (λ none. absurd (cc)) (λ not. absurd (not refl)) c.query.ensures.does.unformatted tt in
+    c.query.ensures.does.asked c.query.ensures.does.goes (λ none. absurd (cc)) (λ not. absurd (not refl))
+    c.query.ensures.does.unformatted tt in
     record {
       runs = subst (λ (own : Command). Runs (seen own)
           (λ (asked : List ℕ). g.I.Inputs.reads c.args.inputs.now asked c.query.new.inputs) old new fault) (sym c.in-Query.is) own;
@@ -197,7 +198,8 @@ returns-in-Serve g c =
     let fits = subst (λ (own : Command). FilesFit (seen own)) c.in-Serve.is c.requires.fits in
     let command = serve_of c.in-Serve.store.now c.in-Serve.files c.in-Serve.workers c.in-Serve.readers in
     let own = runs_by command (λ (asked : List ℕ). g.I.Inputs.reads c.args.inputs.now asked c.serve.new.inputs) fault old new fits.0.least
-    c.serve.ensures.does.asked c.serve.ensures.does.goes (λ none. absurd (cc)) (λ not. absurd (not refl)) c.serve.ensures.does.unformatted tt in
+    c.serve.ensures.does.asked c.serve.ensures.does.goes (λ none. absurd (cc)) (λ not. absurd (not refl))
+    c.serve.ensures.does.unformatted tt in
     record {
       runs = subst (λ (own : Command). Runs (seen own)
           (λ (asked : List ℕ). g.I.Inputs.reads c.args.inputs.now asked c.serve.new.inputs) old new fault) (sym c.in-Serve.is) own;

@@ -23,8 +23,8 @@ invariant-loop-file g l = record {
   shown : ShowsFront (changes_of (handle_of l.store)) l.tables l.publisher.front;
   turn : (old : Before) (start done : Progress) (held : Holding) (asked : List Query) (readers : ℕ)
       → IsHead start done (imported held) l.fn.files.first old (g.I.Inputs.view l.fn.inputs) (handle_of l.fn.store) (g.S.Sink.view l.fn.out)
-      → IsServing l.fn.bounds asked readers held l.fn.files.first l.fn.files.count start done l.file (l.end - l.file) old (g.I.Inputs.view l.inputs)
-      (handle_of l.store) (g.S.Sink.view l.out) l.fn.publisher.front l.publisher.front;
+      → IsServing l.fn.bounds asked readers held l.fn.files.first l.fn.files.count start done l.file (l.end - l.file) old
+      (g.I.Inputs.view l.inputs) (handle_of l.store) (g.S.Sink.view l.out) l.fn.publisher.front l.publisher.front;
 }
 
 abbrev pub decreases-loop-file : goal.decreases-loop-file

@@ -34,8 +34,10 @@ returns-in-Ok-served_text-clause-goes_on g c = λ old start done held head same 
     let turn = c.in-Ok.ensures.serves.each old start done held c.args.own.queries.now readers head in
     let text = c.as_bytes.result.now in
     let served : IsServed c.args.own.style.now now c.args.own.queries.now c.args.files.count readers text =
-    subst (λ (own : List ℕ). IsServed c.args.own.style.now now c.args.own.queries.now c.args.files.count readers own) (sym c.as_bytes.ensures.value)
-    (subst (λ (count : ℕ). IsServed c.args.own.style.now now c.args.own.queries.now c.args.files.count count (string_bytes c.in-Ok-served_text.text))
+    subst (λ (own : List ℕ). IsServed c.args.own.style.now now c.args.own.queries.now c.args.files.count readers own)
+    (sym c.as_bytes.ensures.value)
+    (subst (λ (count : ℕ).
+    IsServed c.args.own.style.now now c.args.own.queries.now c.args.files.count count (string_bytes c.in-Ok-served_text.text))
     c.show_files.ensures.asks.count c.in-Ok-served_text.ensures.text) in
     served_told c.args.own.bounds.now c.args.own.queries.now readers held c.args.files.first c.args.files.count start done
     (c.args.files.first + c.args.files.count) old files store output before now turn text (g.S.Sink.view c.tell.new.out)

@@ -1,5 +1,5 @@
 -- A bucket more is written anew, and all buckets are the map.
-use Rattle.std.proofs.Common.{◌≡◌, ◌≤◌, ◌∙◌, ℕ, Ok, Err, ap, arith, sym, subst}
+use Rattle.std.proofs.Common.{◌≡◌, ◌∙◌, Ok, Err, ap, arith}
 use Rattle.chain_store.specs.declared.root.Root.{Root}
 use Rattle.bucket_store.specs.Buckets.{bucket_count}
 use Rattle.bucket_store.specs.Transaction.{chains_of}

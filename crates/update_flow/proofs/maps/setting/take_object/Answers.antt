@@ -1,5 +1,5 @@
 -- A node is taken by its id, and a way or a relation by its key.
-use Rattle.std.proofs.Common.{◌≡◌, Bool, None, Result, IfOk, OnOk, Ok, Err, subst}
+use Rattle.std.proofs.Common.{◌≡◌, None, subst}
 use Rattle.osm_base.specs.declared.values.key.Kind.TheVariants as kinds
 use Rattle.osm_base.specs.values.Key.{KeyOf}
 use Rattle.middle_objs.specs.Maps.{map_of}

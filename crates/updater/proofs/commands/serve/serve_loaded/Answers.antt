@@ -43,7 +43,8 @@ returns-in-Ok-publish_first-clause-goes_on g c = λ old start done held head loa
     let none : front.log ≡ [] = ap (λ (own : FrontOf). own.log) is in
     let changes : held.changes ≡ front.base =
     sym (ap (λ (own : FrontOf). own.base) is ∙ c.changes-version.ensures.number ∙ shown.changes_are) in
-    subst (λ (readers : ℕ). GoesOn (serves c.args.bounds.now c.args.queries.now readers [] held c.args.files.first c.args.files.count) start done
+    subst (λ (readers : ℕ).
+    GoesOn (serves c.args.bounds.now c.args.queries.now readers [] held c.args.files.first c.args.files.count) start done
     (result_err c.serve_shown-done.result) old
     (world (g.I.Inputs.view c.serve_shown-done.new.inputs) (view_of (handle_of c.serve_shown-done.new.store))
     (g.S.Sink.view c.serve_shown-done.new.out)))

@@ -242,6 +242,3 @@ overflow_add-changes g c =
 
 pub overflow_sub-changes : goal.overflow_sub-changes
 overflow_sub-changes g c = let two = c.requires.fits.0.least in omega (arith, two)
-
-pub serve_loaded-requires : goal.serve_loaded-requires
-serve_loaded-requires g c κs within = record { readers = c.requires.fits.1 }

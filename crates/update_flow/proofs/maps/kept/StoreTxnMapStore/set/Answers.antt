@@ -2,7 +2,7 @@
 use Rattle.std.proofs.Common.{Bool, Option, refl, sym, subst}
 use Rattle.osm_base.specs.declared.values.object.Object.{Object}
 use Rattle.store_maps.specs.Maps.{set_object}
-use Rattle.update_flow.specs.maps.Calls.{Keeps, buckets_of, style_in}
+use Rattle.update_flow.specs.maps.Calls.{buckets_of, style_in}
 use Rattle.update_flow.specs.maps.Held.{HasMaps}
 use Rattle.update_flow.proofs.Findings.{told_err, told_ok}
 use Rattle.update_flow.proofs.Keeping.{allowed_sound, over_ready, sets_done, sets_stopped}
