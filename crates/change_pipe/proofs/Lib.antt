@@ -1,0 +1,3 @@
+mod FileLaws
+mod Moves
+mod ParcelLaws

@@ -1,0 +1,15 @@
+use Rattle.std.proofs.Common.{◌-◌, ◌≡◌, ◌≤◌}
+use Rattle.change_pipe.proofs.FileLaws.{HasRead}
+use Rattle.change_pipe.proofs.putting.put_files.Given as goal
+
+-- the files before this one were read and put, and none was refused
+abbrev pub invariant-loop-file : goal.invariant-loop-file
+invariant-loop-file g l = record {
+  within : l.file ≤ l.end;
+  ours : l.putter.home ≡ l.pipe.home;
+  so_far : HasRead l.limits l.first l.file (λ asked. g.I.Inputs.reads l.fn.inputs asked l.inputs) (g.I.Inputs.view l.fn.inputs)
+      (g.I.Inputs.view l.inputs) l.putter.list;
+}
+
+abbrev pub decreases-loop-file : goal.decreases-loop-file
+decreases-loop-file g l = l.end - l.file

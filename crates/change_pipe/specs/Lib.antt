@@ -1,0 +1,4 @@
+pub mod Ends
+pub mod Files
+pub mod Parcels
+pub mod Rule

@@ -1,0 +1,189 @@
+//! Files are read by one thread while another takes what they hold.
+ghost use Rattle.std.specs.Prelude.{◌≡◌, ◌≤◌, ◌+◌, [], IfNone, IfOk, IfSome};
+ghost use Rattle.std.specs.Bool.{OnFalse};
+ghost use Rattle.change_pipe.specs.declared.pipe.TheConstants.{MAX_AHEAD};
+ghost use Rattle.change_pipe.specs.Ends.{end_view};
+ghost use Rattle.change_pipe.specs.Files.{AreRead, HasAll, ReadsAmong};
+
+use crate::parcel::{Parcel, is_whole, read_parcel};
+use crate::pipe::{Pipe, Putter, Taker, make_pipe};
+use crate::putting::put_files;
+use osm_base::{Limits, OutOfMemory};
+use outside::Inputs;
+use std::alloc::Global;
+use std::sync::Wait;
+use std::thread::{Threads, join_mut};
+
+/// Takes parcels, so many at most, up to the first that is refused.
+fn take_files<R: Wait>(
+    rt: &R,
+    alloc: Global,
+    count: u32,
+    pipe: &Pipe,
+    taker: &mut Taker,
+) -> Result<Vec<Parcel>, OutOfMemory>
+    requires ours { taker.old ≡ end_view pipe.now.home [] }
+    ensures ours { taker.new.home ≡ pipe.now.home }
+    ensures taken { IfOk result (λ taken. taken.items ≡ taker.new.list) }
+    ensures all { IfOk result (λ taken. HasAll count taken.items) }
+{
+    let mut taken = Vec::new(alloc);
+    let mut left = count;
+    while left > 0 {
+        let parcel = pipe.take_when_ready(rt, taker);
+        let whole = is_whole(&parcel);
+        taken.push(parcel)?;
+        if !whole {
+            return Ok(taken);
+        }
+        left -= 1;
+    }
+    Ok(taken)
+}
+
+/// The same, where somebody puts, and then nothing more will be taken. `None`: nobody does.
+fn take_some<R: Wait>(
+    rt: &R,
+    alloc: Global,
+    count: u32,
+    pipe: &Pipe,
+    taker: &mut Taker,
+) -> Result<Option<Vec<Parcel>>, OutOfMemory>
+    requires ours { taker.old ≡ end_view pipe.now.home [] }
+    ensures ours { taker.new.home ≡ pipe.now.home }
+    ensures taken { IfOk result (λ found. IfSome found (λ taken. taken.items ≡ taker.new.list)) }
+    ensures all { IfOk result (λ found. IfSome found (λ taken. HasAll count taken.items)) }
+{
+    if !pipe.has_begun(rt) {
+        return Ok(None);
+    }
+    let taken = take_files(rt, alloc, count, pipe, taker);
+    pipe.stop();
+    match taken {
+        Ok(taken) => Ok(Some(taken)),
+        Err(error) => Err(error),
+    }
+}
+
+/// Puts files, unless nobody waits for them any more. `false`: so it is, and none was read.
+fn put_some<R: Wait, I: Inputs>(
+    rt: &R,
+    alloc: Global,
+    inputs: &mut I,
+    first: u32,
+    count: u32,
+    limits: &Limits,
+    pipe: &Pipe,
+    putter: &mut Putter,
+) -> bool
+    requires ours { putter.old ≡ end_view pipe.now.home [] }
+    requires fits { first + count ≤ 8192 }
+    ensures ours { putter.new.home ≡ pipe.now.home }
+    ensures parcels { AreRead limits.now first (first + count) (I.view inputs.old) (I.view inputs.new) putter.new.list }
+    ensures read { ReadsAmong first (first + count) (λ asked. I.reads inputs.old asked inputs.new) (I.view inputs.old) (I.view inputs.new) }
+    ensures unread { OnFalse result (inputs.new ≡ inputs.old) }
+{
+    if !pipe.begin() {
+        return false;
+    }
+    put_files(rt, alloc, inputs, first, count, limits, pipe, putter);
+    true
+}
+
+/// What so many files from this one on are read as, up to the first that is refused.
+fn read_each<I: Inputs>(
+    alloc: Global,
+    inputs: &mut I,
+    first: u32,
+    count: u32,
+    limits: &Limits,
+) -> Result<Vec<Parcel>, OutOfMemory>
+    requires fits { first + count ≤ 8192 }
+    ensures parcels { IfOk result (λ read. AreRead limits.now first (first + count) (I.view inputs.old) (I.view inputs.new) read.items) }
+    ensures all { IfOk result (λ read. HasAll count read.items) }
+    ensures read { ReadsAmong first (first + count) (λ asked. I.reads inputs.old asked inputs.new) (I.view inputs.old) (I.view inputs.new) }
+{
+    let mut parcels = Vec::new(alloc);
+    let end = first + count;
+    let mut file = first;
+    while file < end {
+        let parcel = read_parcel(alloc, inputs, file, limits);
+        let whole = is_whole(&parcel);
+        parcels.push(parcel)?;
+        if !whole {
+            return Ok(parcels);
+        }
+        file += 1;
+    }
+    Ok(parcels)
+}
+
+/// What another thread takes of so many files from this one on, while they are read. `None`: no thread could be made, and none was read.
+fn read_beside<R: Threads + Wait + Sync, I: Inputs>(
+    rt: &R,
+    alloc: Global,
+    inputs: &mut I,
+    first: u32,
+    count: u32,
+    limits: &Limits,
+    ahead: usize,
+) -> Result<Option<Vec<Parcel>>, OutOfMemory>
+    requires some { 1 ≤ ahead }
+    requires few { ahead ≤ MAX_AHEAD }
+    requires fits { first + count ≤ 8192 }
+    ensures parcels { IfOk result (λ found. IfSome found (λ taken.
+        AreRead limits.now first (first + count) (I.view inputs.old) (I.view inputs.new) taken.items)) }
+    ensures all { IfOk result (λ found. IfSome found (λ taken. HasAll count taken.items)) }
+    ensures read { ReadsAmong first (first + count) (λ asked. I.reads inputs.old asked inputs.new) (I.view inputs.old) (I.view inputs.new) }
+    ensures unread { IfOk result (λ found. IfNone found (inputs.new ≡ inputs.old)) }
+{
+    let (pipe, mut putter, mut taker) = make_pipe(alloc, ahead)?;
+    let line = &pipe;
+    let (read, taken) = join_mut(
+        rt,
+        &mut || -> bool
+            requires { (putter ≡ end_view line.now.home []) × (first + count ≤ 8192) }
+            ensures { (putter.exit.home ≡ line.entry.now.home)
+                × AreRead limits.entry.now first (first + count) (I.view inputs.entry.now) (I.view inputs.exit.now) putter.exit.list
+                × ReadsAmong first (first + count) (λ asked. I.reads inputs.entry.now asked inputs.exit.now)
+                (I.view inputs.entry.now) (I.view inputs.exit.now)
+                × OnFalse result (inputs.exit.now ≡ inputs.entry.now) }
+        { put_some(rt, alloc, inputs, first, count, limits, line, &mut putter) },
+        &mut || -> Result<Option<Vec<Parcel>>, OutOfMemory>
+            requires { taker ≡ end_view line.now.home [] }
+            ensures { (taker.exit.home ≡ line.entry.now.home)
+                × IfOk result (λ found. IfSome found (λ taken. (taken.items ≡ taker.exit.list) × HasAll count taken.items)) }
+        { take_some(rt, alloc, count, line, &mut taker) },
+    );
+    pipe.end(putter, taker);
+    match taken {
+        Ok(Some(taken)) => Ok(Some(taken)),
+        Ok(None) if read => Err(OutOfMemory),
+        Ok(None) => Ok(None),
+        Err(error) => Err(error),
+    }
+}
+
+/// What so many files from this one on are read as, up to the first that is refused, where so many are read ahead.
+pub fn read_ahead<R: Threads + Wait + Sync, I: Inputs>(
+    rt: &R,
+    alloc: Global,
+    inputs: &mut I,
+    first: u32,
+    count: u32,
+    limits: &Limits,
+    ahead: usize,
+) -> Result<Vec<Parcel>, OutOfMemory>
+    requires some { 1 ≤ ahead }
+    requires few { ahead ≤ MAX_AHEAD }
+    requires fits { first + count ≤ 8192 }
+    ensures parcels { IfOk result (λ taken. AreRead limits.now first (first + count) (I.view inputs.old) (I.view inputs.new) taken.items) }
+    ensures all { IfOk result (λ taken. HasAll count taken.items) }
+    ensures read { ReadsAmong first (first + count) (λ asked. I.reads inputs.old asked inputs.new) (I.view inputs.old) (I.view inputs.new) }
+{
+    match read_beside(rt, alloc, inputs, first, count, limits, ahead) {
+        Ok(Some(taken)) => Ok(taken),
+        Ok(None) => read_each(alloc, inputs, first, count, limits),
+        Err(error) => Err(error),
+    }
+}

@@ -1,0 +1,23 @@
+//! Files of changes that are read ahead of the thread that takes what they hold.
+//!
+//! On the path of the data it stands behind `object_fold`, which reads a file, and before who appends
+//! what the files hold. One thread reads them in their order and puts what each was read as, a `Parcel`,
+//! into a `Pipe`; another takes the parcels. Neither has to do with the other's end of the pipe.
+//!
+//! What was taken is always a front of what was put, in order and whole (`Pipe::end`). What is put are
+//! the parcels of the files, in order, up to the first that is refused (`put_files`): each is what the
+//! file's bytes read as. A pipe holds no more parcels than it was made for, and who waits for room or
+//! for a parcel sleeps.
+#![tactic(auto)]
+
+mod joined;
+mod parcel;
+mod pipe;
+mod putting;
+mod rule;
+mod view;
+
+pub use joined::read_ahead;
+pub use parcel::{Parcel, ParcelBody};
+pub use pipe::{MAX_AHEAD, Pipe, Putter, Taker, make_pipe};
+pub use putting::put_files;

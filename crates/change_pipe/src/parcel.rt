@@ -1,0 +1,55 @@
+//! What a file of changes was read as.
+ghost use Rattle.std.specs.Prelude.{◌≡◌, ◌↔◌, IsTrue};
+ghost use Rattle.object_fold.specs.Reading.{ReadsNoOther};
+ghost use Rattle.change_pipe.specs.Parcels.{IsParcelOf, IsWhole};
+
+use object_fold::{Change, FileFault, read_file};
+use osm_base::Limits;
+use outside::Inputs;
+use std::alloc::Global;
+
+/// All the entries of a file, or the fault for which it is refused.
+#[derive(Drop)]
+pub enum ParcelBody {
+    Whole(Change),
+    Refused(FileFault),
+}
+
+/// What a file was read as, by the number of the file.
+#[derive(Drop)]
+pub struct Parcel {
+    pub file: u32,
+    pub body: ParcelBody,
+}
+
+/// Whether its file was accepted.
+pub(crate) fn is_whole(parcel: &Parcel) -> bool
+    ensures whole { IsTrue result ↔ IsWhole parcel.now }
+{
+    match &parcel.body {
+        ParcelBody::Whole(_) => true,
+        ParcelBody::Refused(_) => false,
+    }
+}
+
+/// What a file is read as.
+pub(crate) fn read_parcel<I: Inputs>(
+    alloc: Global,
+    inputs: &mut I,
+    file: u32,
+    limits: &Limits,
+) -> Parcel
+    ensures parcel { IsParcelOf limits.now file (I.view inputs.old) (I.view inputs.new) result }
+    ensures read { ReadsNoOther file (λ asked. I.reads inputs.old asked inputs.new) (I.view inputs.old) (I.view inputs.new) }
+{
+    match read_file(alloc, inputs, file, limits) {
+        Ok(change) => Parcel {
+            file,
+            body: ParcelBody::Whole(change),
+        },
+        Err(fault) => Parcel {
+            file,
+            body: ParcelBody::Refused(fault),
+        },
+    }
+}

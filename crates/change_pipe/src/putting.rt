@@ -1,0 +1,47 @@
+//! Files are read in their order, and what they hold is put into a pipe.
+ghost use Rattle.std.specs.Prelude.{◌≡◌, ◌≤◌, ◌+◌, []};
+ghost use Rattle.std.specs.Bool.{OnTrue};
+ghost use Rattle.change_pipe.specs.Ends.{end_view};
+ghost use Rattle.change_pipe.specs.Files.{AreRead, HasAll, ReadsAmong};
+
+use crate::parcel::{is_whole, read_parcel};
+use crate::pipe::{Pipe, Putter};
+use osm_base::Limits;
+use outside::Inputs;
+use std::alloc::Global;
+use std::sync::Wait;
+
+/// Reads so many files from this one on, in order, and puts a parcel of each into the pipe, up to the first that is refused.
+/// `false`: nothing more will be taken, and the parcel of the file that was read last was not put.
+pub fn put_files<R: Wait, I: Inputs>(
+    rt: &R,
+    alloc: Global,
+    inputs: &mut I,
+    first: u32,
+    count: u32,
+    limits: &Limits,
+    pipe: &Pipe,
+    putter: &mut Putter,
+) -> bool
+    requires ours { putter.old ≡ end_view pipe.now.home [] }
+    requires fits { first + count ≤ 8192 }
+    ensures ours { putter.new.home ≡ pipe.now.home }
+    ensures parcels { AreRead limits.now first (first + count) (I.view inputs.old) (I.view inputs.new) putter.new.list }
+    ensures all { OnTrue result (HasAll count putter.new.list) }
+    ensures read { ReadsAmong first (first + count) (λ asked. I.reads inputs.old asked inputs.new) (I.view inputs.old) (I.view inputs.new) }
+{
+    let end = first + count;
+    let mut file = first;
+    while file < end {
+        let parcel = read_parcel(alloc, inputs, file, limits);
+        let whole = is_whole(&parcel);
+        if !pipe.put_when_room(rt, putter, parcel) {
+            return false;
+        }
+        if !whole {
+            return true;
+        }
+        file += 1;
+    }
+    true
+}
