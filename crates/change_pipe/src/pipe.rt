@@ -206,14 +206,19 @@ impl Pipe {
     /// can be made, who takes would wait for ever.
     pub fn has_begun<R: Wait>(&self, rt: &R) -> bool {
         for _ in 0..LOOKS {
-            if self.claim.load(Ordering::SeqCst) == SOMEBODY {
-                return true;
+            let claim = self.claim.load(Ordering::SeqCst);
+            if claim != NOBODY {
+                return claim == SOMEBODY;
             }
             self.ready.park_timeout(rt, Duration::from_millis(PAUSE));
         }
-        self.claim
+        match self
+            .claim
             .compare_exchange(NOBODY, GIVEN_UP, Ordering::SeqCst, Ordering::SeqCst)
-            .is_err()
+        {
+            Ok(_) => false,
+            Err(claim) => claim == SOMEBODY,
+        }
     }
 
     /// Nothing more will be taken: who waits for room waits no longer, and who puts files ends behind the one that it reads.
