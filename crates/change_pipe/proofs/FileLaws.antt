@@ -106,7 +106,8 @@ module _ {I : Type 0} (view : I → FilesView) (reads : I → List ℕ → I →
   same = so_far.among.others file (inr (omega arith))
 
   is_other : (other : ℕ) → Beside first (file + 1) other → other ≡ file → ⊥
-  is_other other beside same = ⊎_elim (λ low. let least = least in omega (arith, same, low, least)) (λ high. omega (arith, same, high)) beside
+  is_other other beside same =
+      ⊎_elim (λ low. let least = least in omega (arith, same, low, least)) (λ high. omega (arith, same, high)) beside
 
   -- a file more was read, and no other
   pub among_more : ReadsAmong first (file + 1) (λ asked. reads start asked new) (view start) (view new)

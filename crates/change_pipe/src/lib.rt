@@ -8,6 +8,9 @@
 //! the parcels of the files, in order, up to the first that is refused (`put_files`): each is what the
 //! file's bytes read as. A pipe holds no more parcels than it was made for, and who waits for room or
 //! for a parcel sleeps.
+//!
+//! No command calls it yet: `read_ahead`, the joined run in small, is its only user beside the examples,
+//! and stands as the pattern for an append that reads ahead.
 #![tactic(auto)]
 
 mod joined;
