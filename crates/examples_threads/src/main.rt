@@ -1,8 +1,9 @@
-//! Runs the examples of tickets and workers, and prints the name of each up to the first that differs.
+//! Runs the examples of tickets, workers and files that are read ahead, and prints the name of each up to the first that differs.
 //!
 //! The head of `threads.txt` says what its columns are, and where what is wanted comes from.
 #![tactic(auto)]
 
+mod ahead;
 mod beside;
 mod books;
 mod built;
@@ -13,6 +14,7 @@ mod refusal;
 use example_table::{is_told, refuse_row, row_of, sides_of};
 use refusal::Refusal;
 use std::process::ExitCode;
+use std::sync::Wait;
 use std::thread::Threads;
 use std::{fs, io};
 
@@ -27,7 +29,7 @@ fn main(rt: HostRuntime) -> io::Result<ExitCode> {
 }
 
 /// Runs the example of a line, if it has one, and tells of it. True: the next one may run.
-fn passes<R: Threads + Sync + Print + Eprint + AllocGlobal>(
+fn passes<R: Threads + Wait + Sync + Print + Eprint + AllocGlobal>(
     rt: &R,
     line: &str,
 ) -> io::Result<bool> {
@@ -54,7 +56,7 @@ fn refuse<R: Eprint>(rt: &R, line: &str) -> io::Result<bool> {
 }
 
 /// Runs an example, and adds what comes out of it to a text.
-fn run<R: Threads + Sync + AllocGlobal>(
+fn run<R: Threads + Wait + Sync + AllocGlobal>(
     rt: &R,
     kind: &str,
     given: &str,
@@ -69,6 +71,8 @@ fn run<R: Threads + Sync + AllocGlobal>(
         "built" => built::built(rt, alloc, given, out),
         "worked" => built::worked(alloc, given, out),
         "many" => built::many(rt, alloc, given, out),
+        "ahead" => ahead::ahead(rt, alloc, given, out),
+        "pipe" => ahead::pipe(rt, alloc, given, out),
         "beside" => beside::beside(rt, alloc, given, out),
         _ => Err(Refusal::NoRow),
     }
