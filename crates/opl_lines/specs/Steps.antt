@@ -10,6 +10,11 @@ pub record IsFront (piece front : List ℕ) (ends : Bool) : Type 0 where
   pub within_line : IsWithinLine front
   pub parts : piece ≡ front ++ (if ends then NEWLINE ∷ drop (length front + 1) piece else [])
 
+-- the line is the first of the bytes, a newline ends it, and these bytes stand behind that
+pub record IsFirstLine (bytes line behind : List ℕ) : Type 0 where
+  pub within_line : IsWithinLine line
+  pub parts : bytes ≡ line ++ NEWLINE ∷ behind
+
 -- the line that is begun may grow by so many bytes
 pub record Admits (reading : Reading) (more : ℕ) : Type 0 where
   pub no_fault : reading.failed ≡ None

@@ -18,5 +18,5 @@ mod reader;
 mod whole;
 
 pub use fault::LineFault;
-pub use reader::{Cut, Line, LineReader, NEWLINE, Taken, shared_numbers};
+pub use reader::{Cut, Line, LineReader, NEWLINE, Taken, first_line, shared_numbers};
 pub use whole::lines_in;

@@ -1,10 +1,10 @@
 //! A reader of lines, which is given the bytes of a file piece by piece.
-ghost use Rattle.std.specs.Prelude.{◌≡◌, ◌≢◌, ◌↔◌, ◌+◌, ◌<◌, ◌≤◌, ◌++◌, [], ◌∷◌, false, None, Some, Ok, length, if◌then◌else◌, Contains, IsTrue, OnOk, OnErr, IfOk, IfErr, IfNone, IsErrOf};
+ghost use Rattle.std.specs.Prelude.{◌≡◌, ◌≢◌, ◌↔◌, ◌+◌, ◌<◌, ◌≤◌, ◌++◌, [], ◌∷◌, false, None, Some, Ok, length, if◌then◌else◌, Contains, IsTrue, OnOk, OnErr, IfOk, IfErr, IfSome, IfNone, IsErrOf};
 ghost use Rattle.std.specs.Bool.{OnTrue, OnFalse};
 ghost use Rattle.std.specs.Option.{option_copied};
 ghost use Rattle.opl_lines.specs.Lines.{lines_of, IsWithinLine};
 ghost use Rattle.opl_lines.specs.Reading.{begun, start, room, KeepsLimits, PassesFileLines, PassesLineBytes, after_fault, ended};
-ghost use Rattle.opl_lines.specs.Steps.{IsFront, Admits, GrowsTooLong, grown};
+ghost use Rattle.opl_lines.specs.Steps.{IsFront, IsFirstLine, Admits, GrowsTooLong, grown};
 ghost use Rattle.opl_lines.specs.Takes.{ended_line, Takes, Refuses};
 
 use crate::LineFault;
@@ -110,6 +110,20 @@ fn up_to_newline(piece: &[u8]) -> (&[u8], bool)
     }
 }
 
+/// The first line of bytes, without its newline, and the bytes behind that. `None`: no line ends in them.
+#[inline]
+pub fn first_line(bytes: &[u8]) -> Option<(&[u8], &[u8])>
+    ensures line { IfSome result (λ (line, behind). IsFirstLine bytes.now line.now behind.now) }
+    ensures none { IfNone result (IsWithinLine bytes.now) }
+{
+    let (line, ends) = up_to_newline(bytes);
+    if ends {
+        Some((line, &bytes[line.len() + 1..]))
+    } else {
+        None
+    }
+}
+
 /// Adds bytes to a line, or begins it anew with them.
 fn keep(line: &mut Vec<u8>, anew: bool, bytes: &[u8]) -> Result<(), AllocError>
     ensures ok { OnOk result (line.new.items ≡ (if anew then [] else line.old.items) ++ bytes.now) }
@@ -133,6 +147,21 @@ impl LineReader {
             line: Vec::new(alloc),
             whole: true,
             number: 0,
+            line_bytes: limits.line_bytes(),
+            lines: limits.lines(),
+            failed: None,
+        }
+    }
+
+    /// A reader behind so many lines of a file, which others have read.
+    pub fn behind(alloc: Global, limits: &Limits, lines: u64) -> LineReader
+        requires counted { lines ≤ limits.now.lines }
+        ensures start { result ≡ record (start limits.now.line_bytes limits.now.lines) { number = lines } }
+    {
+        LineReader {
+            line: Vec::new(alloc),
+            whole: true,
+            number: lines,
             line_bytes: limits.line_bytes(),
             lines: limits.lines(),
             failed: None,
