@@ -6,6 +6,7 @@ pub mod Listers
 mod ListingSteps
 mod ListingTurns
 mod OfObjects
+mod PartLaws
 mod Pieces
 mod Proper
 mod Relisted

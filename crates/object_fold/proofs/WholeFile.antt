@@ -21,7 +21,7 @@ use Rattle.object_fold.specs.Reading.{ReadsAll, HasEntries}
 
 -- one line more
 
-last_key-more : (before : Option KeyOf) (entries : List Entry) (entry : Option Entry)
+pub last_key-more : (before : Option KeyOf) (entries : List Entry) (entry : Option Entry)
     → last_key before (entries ++ cons_option entry []) ≡ last_of (last_key before entries) entry
 last_key-more before [] None = refl
 last_key-more before [] (Some entry) = refl

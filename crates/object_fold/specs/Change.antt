@@ -25,6 +25,11 @@ abbrev pub Follows : Option KeyOf → KeyOf → Type 0
 Follows None key = Unit {0}
 Follows (Some earlier) key = IsTrue (is_below earlier key)
 
+-- these entries, whose keys rise, come after this key
+abbrev pub FollowsAll : Option KeyOf → List Entry → Type 0
+FollowsAll last [] = Unit {0}
+FollowsAll last (entry ∷ entries) = Follows last entry.key
+
 -- the entries are proper, and their keys rise from this one on
 abbrev pub RiseFrom : Option KeyOf → List Entry → Type 0
 RiseFrom last [] = Unit {0}

@@ -4,6 +4,7 @@ pub mod Keeps
 pub mod Listing
 pub mod Listings
 pub mod Objects
+pub mod Parts
 pub mod Passed
 pub mod Progress
 pub mod Reading

@@ -20,6 +20,7 @@ mod listed;
 mod listing;
 mod listings;
 mod objects;
+mod parts;
 mod passed;
 mod progress;
 mod rising_ids;

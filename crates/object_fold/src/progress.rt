@@ -1,10 +1,11 @@
 //! The entries of a file, while it is read piece by piece.
 ghost use Rattle.std.specs.Prelude.{◌≡◌, ◌<◌, ◌≤◌, ◌+◌, ◌++◌, ℕ, List, [], Ok, Err, None, Some, length, drop, IfOk, IfErr, OnOk};
+ghost use Rattle.opl_lines.specs.Lines.{lines_of};
 ghost use Rattle.opl_lines.specs.Reading.{room};
 ghost use Rattle.object_fold.specs.Entries.{entries_of};
 ghost use Rattle.object_fold.specs.Keeps.{kept, kept_all};
 ghost use Rattle.object_fold.specs.Passed.{spelled, text_fault};
-ghost use Rattle.object_fold.specs.Progress.{IsReady, IsReadyFor, entries_left, passed_line};
+ghost use Rattle.object_fold.specs.Progress.{IsReady, IsReadyFor, entries_from, entries_left, passed_line};
 ghost use Rattle.object_fold.specs.Reading.{TakesNext};
 ghost use Rattle.object_fold.specs.Stops.{StopsAt};
 
@@ -41,7 +42,7 @@ fn limit_fault(limits: &Limits, fault: LineFault) -> FileFault
 }
 
 /// Gives a keeper the entry of the next line, if it has one.
-fn add_line<K: Keeper>(
+pub(crate) fn add_line<K: Keeper>(
     alloc: Global,
     limits: &Limits,
     passed: &mut Passed,
@@ -79,6 +80,20 @@ impl Progress {
         Self {
             reader: LineReader::new(alloc, limits),
             passed: Passed::new(),
+        }
+    }
+
+    /// These lines were read, and nothing behind them.
+    pub fn behind(alloc: Global, limits: &Limits, passed: Passed) -> Self
+        requires lines { passed.lines ≤ limits.now.lines }
+        requires entries { passed.entries ≤ limits.now.entries }
+        ensures ready { IsReady limits.now result }
+        ensures passed { result.passed ≡ passed }
+        ensures left { (bytes : List ℕ) → entries_left limits.now result bytes ≡ entries_from limits.now passed (lines_of bytes) }
+    {
+        Self {
+            reader: LineReader::behind(alloc, limits, passed.lines),
+            passed,
         }
     }
 

@@ -1,0 +1,21 @@
+use Rattle.std.proofs.Common.{◌+◌, ◌∙◌, List, ℕ, [], ◌∷◌, ◌++◌, drop, length, subst, sym, ap, arith}
+use Rattle.std.proofs.lemmas.List.{length-drop}
+use Rattle.object_fold.specs.Parts.{AreShares}
+use Rattle.object_fold.specs.declared.parts.Share.{Share}
+use Rattle.object_fold.proofs.PartLaws.{takes_share, shares_behind}
+use Rattle.object_fold.proofs.parts.Part.append_all.Goals as goal
+
+pub loop-len-preserved : goal.loop-len-preserved
+loop-len-preserved c =
+    let limits = c.args.limits.now in
+    let bytes = c.args.bytes.now in
+    let used = c.loop-len.used in
+    let share = c.in-Some.field-0 in
+    let shares = subst (λ own. AreShares limits (drop used bytes) own) c.in-Some.ensures.items c.loop-len.invariant.shares in
+    record {
+      within = omega (arith, shares.0, length-drop used bytes, c.loop-len.invariant.within);
+      stays = c.if-not-append.ensures.keeps;
+      shares = shares_behind limits bytes used share.len c.pop_front.new.self.items shares.2;
+      lines = takes_share limits c.args.self.now c.loop-len.self c.append.new.self bytes used share.len shares.0 c.loop-len.invariant.lines
+          (c.if-not-append.ensures.lines _ shares.1);
+    }

@@ -1,0 +1,15 @@
+use Rattle.std.proofs.Common.{◌≤◌, length, drop}
+use Rattle.object_fold.specs.Parts.{AreShares, StaysWithin, TakesLines}
+use Rattle.object_fold.proofs.parts.Part.append_all.Given as goal
+
+-- the shares that are left are those of the bytes that are left
+abbrev pub invariant-loop-len : goal.invariant-loop-len
+invariant-loop-len l = record {
+  within : l.used ≤ length l.bytes;
+  stays : StaysWithin l.limits l.self;
+  shares : AreShares l.limits (drop l.used l.bytes) l.shares.items;
+  lines : TakesLines l.limits l.fn.self l.bytes l.self (drop l.used l.bytes);
+}
+
+abbrev pub decreases-loop-len : goal.decreases-loop-len
+decreases-loop-len l = length l.shares.items
