@@ -5,6 +5,7 @@ mod Lines
 pub mod Listers
 mod ListingSteps
 mod ListingTurns
+mod LotLaws
 mod OfObjects
 mod PartLaws
 mod Pieces

@@ -1,7 +1,7 @@
 -- Lines that are read apart from those before them have the same entries behind them, where their keys, and how many they are, allow it.
-use Rattle.std.proofs.Common.{◌≡◌, ◌≢◌, ℕ, suc, ◌+◌, ◌<◌, ◌≤◌, Bool, true, false, nat_lt, nat_le, Option, Some, None, List, [], ◌∷◌, ◌++◌, length, length-append, take, drop, append_assoc, refl, sym, ◌∙◌, ap, subst, arith}
+use Rattle.std.proofs.Common.{◌≡◌, ℕ, suc, zero, ◌+◌, ◌<◌, ◌≤◌, Bool, true, false, nat_lt, nat_le, Option, Some, None, List, [], ◌∷◌, ◌++◌, length, length-append, take, drop, append_assoc, refl, sym, ◌∙◌, ap, subst, arith}
 use Rattle.std.proofs.lemmas.Bool.{le-leb}
-use Rattle.std.proofs.lemmas.List.{append-nil, take-append-drop, drop-drop}
+use Rattle.std.proofs.lemmas.List.{append-nil, drop-drop}
 use Rattle.std.specs.Prelude.{Result, Ok, Err}
 use Rattle.std.specs.List.{cons_option}
 use Rattle.std.specs.Option.{option_len, option_or}
@@ -153,7 +153,7 @@ in_front_two : (one other : List Entry) (left : Result (List Entry) FileFault)
 in_front_two one other (Ok more) = ap Ok (sym (append_assoc one other more))
 in_front_two one other (Err fault) = refl
 
-in_front_none : (left : Result (List Entry) FileFault) → left ≡ in_front_all [] left
+pub in_front_none : (left : Result (List Entry) FileFault) → left ≡ in_front_all [] left
 in_front_none (Ok entries) = refl
 in_front_none (Err fault) = refl
 
@@ -323,19 +323,25 @@ rise_both last (entry ∷ one) other rise more follows = (rise.0, rise.1, rise_b
 
 -- shares behind one another
 
-pub takes_nothing : (limits : LimitNumbers) (part : Part) (bytes : List ℕ) → TakesLines limits part bytes part (drop 0 bytes)
-takes_nothing limits part bytes = λ later. refl
+take_none : {A : Type 0} (used len : ℕ) → ◌≡◌ {A = List A} [] (take len [])
+take_none used zero = refl
+take_none used (suc len) = refl
 
-pub takes_share : (limits : LimitNumbers) (old now new : Part) (bytes : List ℕ) (used len : ℕ) → len ≤ length (drop used bytes)
-    → TakesLines limits old bytes now (drop used bytes) → TakesLines limits now (take len (drop used bytes)) new []
-    → TakesLines limits old bytes new (drop (used + len) bytes)
-takes_share limits old now new bytes used len within so_far more = λ later.
-    let rest = drop used bytes in
-    so_far later
-    ∙ ap (λ own. comes_to limits now (own ++ later)) (sym (take-append-drop len rest))
-    ∙ ap (comes_to limits now) (append_assoc (take len rest) (drop len rest) later)
-    ∙ more (drop len rest ++ later)
-    ∙ ap (λ own. comes_to limits new (own ++ later)) (drop-drop len used bytes)
+take_more : {A : Type 0} (used len : ℕ) (bytes : List A) → take (used + len) bytes ≡ take used bytes ++ take len (drop used bytes)
+take_more zero len bytes = let none : 0 + len ≡ len = omega arith in ap (λ n. take n bytes) none
+take_more (suc used) len [] = let next : suc used + len ≡ suc (used + len) = omega arith in rw next (take_none (used + len) len)
+take_more (suc used) len (byte ∷ bytes) =
+    let next : suc used + len ≡ suc (used + len) = omega arith in
+    rw next (ap (λ own. byte ∷ own) (take_more used len bytes))
+
+pub takes_share : (limits : LimitNumbers) (old now new : Part) (bytes : List ℕ) (used len : ℕ)
+    → TakesLines limits old (take used bytes) now [] → TakesLines limits now (take len (drop used bytes)) new []
+    → TakesLines limits old (take (used + len) bytes) new []
+takes_share limits old now new bytes used len so_far more = λ later.
+    ap (λ own. comes_to limits old (own ++ later)) (take_more used len bytes)
+    ∙ ap (comes_to limits old) (append_assoc (take used bytes) (take len (drop used bytes)) later)
+    ∙ so_far (take len (drop used bytes) ++ later)
+    ∙ more later
 
 pub shares_behind : (limits : LimitNumbers) (bytes : List ℕ) (used len : ℕ) (shares : List Share)
     → AreShares limits (drop len (drop used bytes)) shares → AreShares limits (drop (used + len) bytes) shares

@@ -81,7 +81,7 @@ pub kept_all-err : {K : Type 0} (after : K → Entry → K) (keeper : K) (entrie
 kept_all-err after keeper (Ok entries) fault e = absurd (cc)
 kept_all-err after keeper (Err own) fault e = let same : own ≡ fault = cc in ap Err same
 
-fold-pushed : (front entries : List Entry) → fold pushed front entries ≡ front ++ entries
+pub fold-pushed : (front entries : List Entry) → fold pushed front entries ≡ front ++ entries
 fold-pushed front [] = sym (append-nil front)
 fold-pushed front (entry ∷ entries) = fold-pushed (front ++ entry ∷ []) entries ∙ simp (append_assoc) refl
 

@@ -3,6 +3,7 @@ pub mod Entries
 pub mod Keeps
 pub mod Listing
 pub mod Listings
+pub mod Lots
 pub mod Objects
 pub mod Parts
 pub mod Passed

@@ -1,7 +1,7 @@
 -- Lines of a file that are read apart from those before them, and put behind them then.
 -- Lines that have no fault where nothing stands before them have the same entries behind others, where the first key comes after the
 -- last one there and both numbers keep their limits. So of lines that are read apart no more is ever said than that they have no fault.
-use Rattle.std.specs.Prelude.{◌≡◌, ◌≤◌, ℕ, ◌+◌, List, [], ◌∷◌, ◌++◌, length, take, drop, Option, None, Result, Ok, Err}
+use Rattle.std.specs.Prelude.{◌≡◌, ◌≤◌, ℕ, ◌+◌, List, [], ◌∷◌, ◌++◌, length, take, drop, None, Result, Ok, Err}
 use Rattle.std.specs.Option.{option_or}
 use Rattle.osm_base.specs.declared.bounds.limits.LimitNumbers.{LimitNumbers}
 use Rattle.osm_base.specs.declared.values.object.Entry.{Entry}

@@ -85,7 +85,7 @@ impl Part {
         requires keeps { StaysWithin limits.now self.old }
         requires shares { AreShares limits.now bytes.now shares.items }
         ensures within { result ≤ length bytes.now }
-        ensures lines { TakesLines limits.now self.old bytes.now self.new (drop result bytes.now) }
+        ensures lines { TakesLines limits.now self.old (take result bytes.now) self.new [] }
         ensures keeps { StaysWithin limits.now self.new }
     {
         let mut shares = shares;

@@ -27,7 +27,7 @@ pub(crate) fn piece_buffer(alloc: Global) -> Result<Vec<u8>, OutOfMemory>
 }
 
 /// One read of the file, and all lines that end in it. `false`: the file is at its end.
-fn read_on<I: Inputs, K: Keeper>(
+pub(crate) fn read_on<I: Inputs, K: Keeper>(
     alloc: Global,
     inputs: &mut I,
     file: u32,

@@ -1,5 +1,5 @@
-use Rattle.std.proofs.Common.{List, ℕ, take, length, subst, sym, ap, arith}
-use Rattle.object_fold.proofs.PartLaws.{starts, step, shorter, front_within, ends}
+use Rattle.std.proofs.Common.{arith}
+use Rattle.object_fold.proofs.PartLaws.{step, front_within, ends}
 use Rattle.object_fold.proofs.parts.read_share.Goals as goal
 
 pub loop-line-preserved : goal.loop-line-preserved

@@ -1,7 +1,6 @@
-use Rattle.std.proofs.Common.{◌+◌, ◌∙◌, List, ℕ, [], ◌∷◌, ◌++◌, drop, length, subst, sym, ap, arith}
+use Rattle.std.proofs.Common.{drop, subst, arith}
 use Rattle.std.proofs.lemmas.List.{length-drop}
 use Rattle.object_fold.specs.Parts.{AreShares}
-use Rattle.object_fold.specs.declared.parts.Share.{Share}
 use Rattle.object_fold.proofs.PartLaws.{takes_share, shares_behind}
 use Rattle.object_fold.proofs.parts.Part.append_all.Goals as goal
 
@@ -16,6 +15,6 @@ loop-len-preserved c =
       within = omega (arith, shares.0, length-drop used bytes, c.loop-len.invariant.within);
       stays = c.if-not-append.ensures.keeps;
       shares = shares_behind limits bytes used share.len c.pop_front.new.self.items shares.2;
-      lines = takes_share limits c.args.self.now c.loop-len.self c.append.new.self bytes used share.len shares.0 c.loop-len.invariant.lines
+      lines = takes_share limits c.args.self.now c.loop-len.self c.append.new.self bytes used share.len c.loop-len.invariant.lines
           (c.if-not-append.ensures.lines _ shares.1);
     }

@@ -1,4 +1,4 @@
-use Rattle.std.proofs.Common.{◌≤◌, length, drop}
+use Rattle.std.proofs.Common.{◌≤◌, [], length, drop, take}
 use Rattle.object_fold.specs.Parts.{AreShares, StaysWithin, TakesLines}
 use Rattle.object_fold.proofs.parts.Part.append_all.Given as goal
 
@@ -8,7 +8,7 @@ invariant-loop-len l = record {
   within : l.used ≤ length l.bytes;
   stays : StaysWithin l.limits l.self;
   shares : AreShares l.limits (drop l.used l.bytes) l.shares.items;
-  lines : TakesLines l.limits l.fn.self l.bytes l.self (drop l.used l.bytes);
+  lines : TakesLines l.limits l.fn.self (take l.used l.bytes) l.self [];
 }
 
 abbrev pub decreases-loop-len : goal.decreases-loop-len

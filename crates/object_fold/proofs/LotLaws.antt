@@ -1,0 +1,293 @@
+-- How far a file was read that is read by lots.
+use Rattle.std.proofs.Common.{◌≡◌, ◌≢◌, ℕ, ◌+◌, ◌≤◌, Bool, false, Option, Some, None, Result, Ok, Err, List, [], ◌++◌, length, drop, take}
+use Rattle.std.proofs.Common.{replicate, length-append, append_assoc, refl, sym, ◌∙◌, ap, subst, arith}
+use Rattle.std.proofs.lemmas.List.{replicate-append-replicate, take-append-drop}
+use Rattle.osm_base.specs.declared.bounds.limits.LimitNumbers.{LimitNumbers}
+use Rattle.osm_base.specs.declared.values.object.Entry.{Entry}
+use Rattle.opl_lines.specs.Lines.{lines_of}
+use Rattle.outside.specs.Bytes.{BothKnown}
+use Rattle.outside.specs.Causes.{Rose}
+use Rattle.outside.specs.Inputs.{FilesView}
+use Rattle.object_fold.specs.declared.fault.FileFault.{FileFault}
+use Rattle.object_fold.specs.declared.fault.FileFault.TheVariants as faults
+use Rattle.object_fold.specs.declared.lots.LotReader.{LotReader}
+use Rattle.object_fold.specs.declared.parts.Part.{Part}
+use Rattle.object_fold.specs.declared.progress.Progress.{Progress}
+use Rattle.object_fold.specs.declared.scan.TheConstants.{PIECE}
+use Rattle.object_fold.specs.Entries.{entries_of}
+use Rattle.object_fold.specs.Keeps.{kept_all, pushed}
+use Rattle.object_fold.specs.Lots.{ReadsNoFurtherThan, ReadsBehind, HasLines, HasLots, HasCome, IsAtEnd}
+use Rattle.object_fold.specs.Parts.{none_passed, in_front_all, comes_to, TakesLines}
+use Rattle.object_fold.specs.Progress.{entries_from, entries_left, HasRead, ReadsOn, IsKeptFault}
+use Rattle.object_fold.specs.Reading.{ReadsAtMost, ReadsNoOther, HasEntries, ReadsNoFurther, IsFaultOf, LeavesOpen}
+use Rattle.object_fold.specs.Stops.{Stops}
+use Rattle.object_fold.specs.Whole.{MovesBytes}
+use Rattle.object_fold.proofs.Lines.{entries_from-none}
+use Rattle.object_fold.proofs.Undecided.{LeavesOpen-none}
+use Rattle.object_fold.proofs.WholeFile.{entries_of-start, fold-pushed, kept_all-err, kept_all-pushed}
+use Rattle.object_fold.proofs.PartLaws.{in_front_none}
+use Rattle.opl_lines.proofs.LineLemmas.{lines_of-none}
+
+-- causes
+
+pub Stops-weaker : (found other : FileFault → Type 0) (failed also : Type 0) (fault : FileFault)
+    → ((own : FileFault) → found own → other own) → (failed → also) → Stops found failed fault → Stops other also fault
+Stops-weaker found other failed also (faults.Malformed line why) one two stops = one (faults.Malformed line why) stops
+Stops-weaker found other failed also (faults.Limit which value) one two stops = one (faults.Limit which value) stops
+Stops-weaker found other failed also faults.ReadFault one two stops = two stops
+Stops-weaker found other failed also faults.OutOfMemory one two stops = tt
+
+pub rose_later : (before between now : ℕ) → before ≤ between → Rose between now → Rose before now
+rose_later before between now least rose = omega (arith, least, rose)
+
+pub rose_still : (before between now : ℕ) → between ≤ now → Rose before between → Rose before now
+rose_still before between now least rose = omega (arith, least, rose)
+
+-- which file was read
+
+module _ {I : Type 0} (reads : I → List ℕ → I → Type 0) (view : I → FilesView) (file : ℕ) where
+  pub read_then : ((first second third : I) (before after : List ℕ) → reads first before second → reads second after third
+      → reads first (before ++ after) third)
+      → (old now new : I) → ReadsNoOther file (λ asked. reads old asked now) (view old) (view now)
+      → ReadsNoOther file (λ asked. reads now asked new) (view now) (view new)
+      → ReadsNoOther file (λ asked. reads old asked new) (view old) (view new)
+  read_then law old now new so_far again = record {
+    asked = (
+      so_far.asked.0 + again.asked.0,
+      subst (λ files. reads old files new) (replicate-append-replicate so_far.asked.0 again.asked.0 file)
+          (law old now new (replicate so_far.asked.0 file) (replicate again.asked.0 file) so_far.asked.1 again.asked.1),
+    );
+    alone = record {
+      others = λ other differs. again.alone.others other differs ∙ so_far.alone.others other differs;
+      later = omega (arith, so_far.alone.later, again.alone.later);
+    };
+  }
+
+-- bytes are kept behind others
+
+pub moves_none : (kept : List ℕ) (more : Bool) (left : Option (List ℕ)) → BothKnown left left (λ before after. kept ++ before ≡ kept ++ after)
+moves_none kept more None = tt
+moves_none kept more (Some bytes) = refl
+
+-- the bytes of a file are moved from its front behind those that are kept
+abbrev pub Moves : List ℕ → List ℕ → Option (List ℕ) → Option (List ℕ) → Type 0
+Moves old new left rest = BothKnown left rest (λ before after. old ++ before ≡ new ++ after)
+
+pub moves_more : (old now new : List ℕ) (more : Bool) (start left rest : Option (List ℕ)) → Moves old now start left
+    → MovesBytes now new more left rest → Moves old new start rest
+moves_more old now new more None left rest so_far again = tt
+moves_more old now new more (Some all) None rest so_far again = absurd so_far
+moves_more old now new more (Some all) (Some bytes) None so_far again = again
+moves_more old now new more (Some all) (Some bytes) (Some later) so_far again = so_far ∙ again.0
+
+pub moves_ended : (old now new : List ℕ) (more ends : Bool) (start left rest : Option (List ℕ)) → Moves old now start left
+    → MovesBytes now new more left rest → (ends ≡ false → more ≡ false) → MovesBytes old new ends start rest
+moves_ended old now new more ends None left rest so_far again end = tt
+moves_ended old now new more ends (Some all) None rest so_far again end = absurd so_far
+moves_ended old now new more ends (Some all) (Some bytes) None so_far again end = again
+moves_ended old now new more ends (Some all) (Some bytes) (Some later) so_far again end = (so_far ∙ again.0, λ is. again.1 (end is))
+
+pub moves_all : (old new : List ℕ) (more : Bool) (start left : Option (List ℕ)) → more ≢ false → Moves old new start left
+    → MovesBytes old new more start left
+moves_all old new more None left other so_far = tt
+moves_all old new more (Some all) None other so_far = so_far
+moves_all old new more (Some all) (Some bytes) other so_far = (so_far, λ is. absurd (other is))
+
+pub moves_behind : (old now : List ℕ) (most count : ℕ) (start left rest : Option (List ℕ)) → length now + count ≤ most
+    → Moves old now start left → ReadsAtMost count left rest → ReadsBehind most old start rest
+moves_behind old now most count None left rest few so_far read = tt
+moves_behind old now most count (Some all) None rest few so_far read = absurd so_far
+moves_behind old now most count (Some all) (Some bytes) None few so_far read = read
+moves_behind old now most count (Some all) (Some bytes) (Some later) few so_far read = (
+  now ++ read.0,
+  so_far ∙ ap (λ own. now ++ own) read.1 ∙ sym (append_assoc now read.0 later),
+  omega (arith, few, read.2, length-append now read.0),
+)
+
+-- how far a file was read
+
+module _ (limits : LimitNumbers) where
+  open_front : (done : Part) (front : List ℕ) → ((rest : List ℕ) → entries_of limits (front ++ rest) ≡ comes_to limits done rest)
+      → LeavesOpen limits front
+  open_front done front same fault certain =
+      let none : comes_to limits done [] ≡ Ok (done.change ++ []) =
+      ap (λ lines. in_front_all done.change (entries_from limits done.passed lines)) lines_of-none
+      ∙ ap (in_front_all done.change) (entries_from-none limits done.passed) in
+      let wrong : ◌≡◌ {A = Result (List Entry) FileFault} (Ok (done.change ++ [])) (Err fault) = sym none ∙ sym (same []) ∙ certain [] in
+      absurd (cc)
+
+  pub lots_none : (reader : LotReader) → reader.done ≡ record { passed = none_passed; change = [] } → reader.kept.items ≡ []
+      → (left : Option (List ℕ)) → HasLots limits reader left left
+  lots_none reader none empty None = tt
+  lots_none reader none empty (Some bytes) = record {
+    front = [];
+    parts = ap (λ own. own ++ bytes) (sym empty);
+    same = λ rest. sym (entries_of-start limits none_passed rest refl) ∙ in_front_none (entries_from limits none_passed (lines_of rest))
+        ∙ ap (λ done. comes_to limits done rest) (sym none);
+  }
+
+  pub lots_stop : (reader : LotReader) (most : ℕ) (start left : Option (List ℕ)) → HasLots limits reader start left
+      → length reader.kept.items ≤ most → ReadsNoFurtherThan most limits start left
+  lots_stop reader most None left has few = tt
+  lots_stop reader most (Some all) None has few = has
+  lots_stop reader most (Some all) (Some bytes) has few = record {
+    before = has.front;
+    last = reader.kept.items;
+    parts = has.parts;
+    undecided = open_front reader.done has.front has.same;
+    few = few;
+  }
+
+  pub fill_stop : (reader : LotReader) (most : ℕ) (start left rest : Option (List ℕ)) → HasLots limits reader start left
+      → ReadsBehind most reader.kept.items left rest → ReadsNoFurtherThan most limits start rest
+  fill_stop reader most None left rest has read = tt
+  fill_stop reader most (Some all) None rest has read = absurd has
+  fill_stop reader most (Some all) (Some bytes) None has read = read
+  fill_stop reader most (Some all) (Some bytes) (Some later) has read = record {
+    before = has.front;
+    last = read.0;
+    parts = has.parts ∙ ap (λ own. has.front ++ own) read.1;
+    undecided = open_front reader.done has.front has.same;
+    few = read.2;
+  }
+
+  filled_lines : (old new : LotReader) (more : Bool) (start left rest : Option (List ℕ)) → HasLots limits old start left
+      → MovesBytes old.kept.items new.kept.items more left rest → new.done ≡ old.done → HasLots limits new start rest
+  filled_lines old new more None left rest has moves same = tt
+  filled_lines old new more (Some all) None rest has moves same = absurd has
+  filled_lines old new more (Some all) (Some bytes) None has moves same = moves
+  filled_lines old new more (Some all) (Some bytes) (Some later) has moves same = record {
+    front = has.front;
+    parts = has.parts ∙ ap (λ own. has.front ++ own) moves.0;
+    same = λ more. has.same more ∙ ap (λ done. comes_to limits done more) (sym same);
+  }
+
+  filled_end : (old new : LotReader) (more : Bool) (start left rest : Option (List ℕ)) → HasLots limits old start left
+      → MovesBytes old.kept.items new.kept.items more left rest → more ≡ false → IsAtEnd start rest
+  filled_end old new more None left rest has moves none = tt
+  filled_end old new more (Some all) None rest has moves none = absurd has
+  filled_end old new more (Some all) (Some bytes) None has moves none = moves
+  filled_end old new more (Some all) (Some bytes) (Some later) has moves none = moves.1 none
+
+  pub filled : (old new : LotReader) (more : Bool) (start left rest : Option (List ℕ)) → HasLots limits old start left
+      → MovesBytes old.kept.items new.kept.items more left rest → new.done ≡ old.done → HasCome limits new more start rest
+  filled old new more start left rest has moves same = record {
+    lots = filled_lines old new more start left rest has moves same;
+    ended = filled_end old new more start left rest has moves;
+  }
+
+  taken_lines : (old new : LotReader) (used : ℕ) (start left : Option (List ℕ)) → HasLots limits old start left
+      → TakesLines limits old.done (take used old.kept.items) new.done [] → new.kept.items ≡ drop used old.kept.items
+      → HasLots limits new start left
+  taken_lines old new used None left has takes left_over = tt
+  taken_lines old new used (Some all) None has takes left_over = has
+  taken_lines old new used (Some all) (Some bytes) has takes left_over =
+      let front = take used old.kept.items in
+      record {
+        front = has.front ++ front;
+        parts = has.parts ∙ ap (λ own. has.front ++ (own ++ bytes)) (sym (take-append-drop used old.kept.items))
+            ∙ ap (λ own. has.front ++ own) (append_assoc front (drop used old.kept.items) bytes)
+            ∙ sym (append_assoc has.front front (drop used old.kept.items ++ bytes))
+            ∙ ap (λ own. (has.front ++ front) ++ (own ++ bytes)) (sym left_over);
+        same = λ rest. ap (entries_of limits) (append_assoc has.front front rest) ∙ has.same (front ++ rest) ∙ takes rest;
+      }
+
+  pub taken : (old new : LotReader) (more : Bool) (used : ℕ) (start left : Option (List ℕ)) → HasCome limits old more start left
+      → TakesLines limits old.done (take used old.kept.items) new.done [] → new.kept.items ≡ drop used old.kept.items
+      → HasCome limits new more start left
+  taken old new more used start left has takes left_over =
+      record { lots = taken_lines old new used start left has.lots takes left_over; ended = has.ended }
+
+-- one reader goes on
+
+kept_both : (front : List Entry) (more : Result (List Entry) FileFault) → kept_all pushed [] (in_front_all front more) ≡ kept_all pushed front more
+kept_both front (Ok more) = ap Ok (fold-pushed [] (front ++ more) ∙ sym (fold-pushed front more))
+kept_both front (Err fault) = refl
+
+module _ (limits : LimitNumbers) (reader : LotReader) (first : Progress)
+    (behind : (bytes : List ℕ) → entries_left limits first bytes ≡ entries_from limits reader.done.passed (lines_of bytes)) where
+  begins : (all bytes : List ℕ) (has : HasLines limits reader.done reader.kept.items all bytes) (rest : List ℕ)
+      → kept_all pushed [] (entries_of limits (has.front ++ rest)) ≡ kept_all pushed reader.done.change (entries_left limits first rest)
+  begins all bytes has rest =
+      ap (kept_all pushed []) (has.same rest) ∙ kept_both reader.done.change (entries_from limits reader.done.passed (lines_of rest))
+      ∙ ap (kept_all pushed reader.done.change) (sym (behind rest))
+
+  pub goes_on : (progress : Progress) (change : List Entry) → ((later : List ℕ)
+      → kept_all pushed reader.done.change (entries_left limits first (reader.kept.items ++ later))
+      ≡ kept_all pushed change (entries_left limits progress later))
+      → (start left : Option (List ℕ)) → HasLots limits reader start left → HasRead pushed limits [] progress change start left
+  goes_on progress change takes None left has = tt
+  goes_on progress change takes (Some all) None has = has
+  goes_on progress change takes (Some all) (Some bytes) has = record {
+    front = has.front ++ reader.kept.items;
+    parts = has.parts ∙ sym (append_assoc has.front reader.kept.items bytes);
+    same = λ rest. ap (λ own. kept_all pushed [] (entries_of limits own)) (append_assoc has.front reader.kept.items rest)
+        ∙ begins all bytes has (reader.kept.items ++ rest) ∙ takes rest;
+  }
+
+  pub stops_on : (fault : FileFault) → ((later : List ℕ)
+      → kept_all pushed reader.done.change (entries_left limits first (reader.kept.items ++ later)) ≡ Err fault)
+      → (start left : Option (List ℕ)) → HasLots limits reader start left → IsFaultOf limits start fault
+  stops_on fault stops None left has = tt
+  stops_on fault stops (Some all) None has = absurd has
+  stops_on fault stops (Some all) (Some bytes) has =
+      kept_all-err pushed [] (entries_of limits all) fault
+      (ap (λ own. kept_all pushed [] (entries_of limits own)) has.parts ∙ begins all bytes has (reader.kept.items ++ bytes) ∙ stops bytes)
+
+module _ (limits : LimitNumbers) (progress : Progress) (change : List Entry) where
+  pub ends_well : (entries : List Entry) → kept_all pushed change (entries_left limits progress []) ≡ Ok entries
+      → (start left : Option (List ℕ)) → IsAtEnd start left → HasRead pushed limits [] progress change start left
+      → HasEntries limits entries start left
+  ends_well entries is None left end read = tt
+  ends_well entries is (Some all) None end read = read
+  ends_well entries is (Some all) (Some bytes) end read = (
+    kept_all-pushed (entries_of limits all) entries
+        (ap (λ own. kept_all pushed [] (entries_of limits own)) read.parts ∙ read.same bytes
+        ∙ ap (λ own. kept_all pushed change (entries_left limits progress own)) end ∙ is),
+    end,
+  )
+
+  pub stops_reading : (fault : FileFault) (start left : Option (List ℕ)) → HasRead pushed limits [] progress change start left
+      → IsKeptFault pushed limits progress change left fault → IsFaultOf limits start fault
+  stops_reading fault None left read is = tt
+  stops_reading fault (Some all) None read is = absurd read
+  stops_reading fault (Some all) (Some bytes) read is = kept_all-err pushed [] (entries_of limits all) fault
+      (ap (λ own. kept_all pushed [] (entries_of limits own)) read.parts ∙ read.same bytes ∙ is)
+
+  pub stops_ending : (fault : FileFault) → kept_all pushed change (entries_left limits progress []) ≡ Err fault
+      → (start left : Option (List ℕ)) → IsAtEnd start left → HasRead pushed limits [] progress change start left
+      → IsFaultOf limits start fault
+  stops_ending fault is None left end read = tt
+  stops_ending fault is (Some all) None end read = absurd read
+  stops_ending fault is (Some all) (Some bytes) end read = kept_all-err pushed [] (entries_of limits all) fault
+      (ap (λ own. kept_all pushed [] (entries_of limits own)) read.parts ∙ read.same bytes
+      ∙ ap (λ own. kept_all pushed change (entries_left limits progress own)) end ∙ is)
+
+-- where one more read gives nothing the file is at its end
+pub read_to_end : (limits : LimitNumbers) (old new : Progress) (before now : List Entry) (more : Bool) (start left rest : Option (List ℕ))
+    → HasRead pushed limits [] old before start left → ReadsOn pushed limits old before new now more left rest → more ≡ false
+    → IsAtEnd start rest
+read_to_end limits old new before now more None left rest read on none = tt
+read_to_end limits old new before now more (Some all) None rest read on none = absurd read
+read_to_end limits old new before now more (Some all) (Some bytes) None read on none = on
+read_to_end limits old new before now more (Some all) (Some bytes) (Some later) read on none = on.1 none
+
+-- no further than a read is no further than more than a read
+pub no_further : (limits : LimitNumbers) (most : ℕ) (start rest : Option (List ℕ)) → PIECE ≤ most → ReadsNoFurther limits start rest
+    → ReadsNoFurtherThan most limits start rest
+no_further limits most None rest few stops = tt
+no_further limits most (Some all) None few stops = stops
+no_further limits most (Some all) (Some later) few stops = record {
+  before = stops.before;
+  last = stops.last;
+  parts = stops.parts;
+  undecided = stops.undecided;
+  few = omega (arith, few, stops.one_read);
+}
+
+-- the whole file, from its start
+
+pub at_start : (limits : LimitNumbers) (most : ℕ) (left : Option (List ℕ)) → ReadsNoFurtherThan most limits left left
+at_start limits most None = tt
+at_start limits most (Some bytes) =
+    record { before = []; last = []; parts = refl; undecided = LeavesOpen-none limits; few = omega arith }

@@ -1,0 +1,15 @@
+use Rattle.std.proofs.Common.{◌≡◌, List, ℕ, Option}
+use Rattle.object_fold.specs.Lots.{HasLots, IsAtWork}
+use Rattle.object_fold.specs.Reading.{ReadsNoOther}
+use Rattle.object_fold.proofs.lots.LotReader.take_lots.Given as goal
+
+-- so far was read since the start
+abbrev pub invariant-loop : goal.invariant-loop
+invariant-loop g l = record {
+  work : IsAtWork l.limits l.self;
+  lot : l.self.lot ≡ l.fn.self.lot;
+  lots : (start : Option (List ℕ)) → HasLots l.limits l.fn.self start ((g.I.Inputs.view l.fn.inputs).left l.file)
+      → HasLots l.limits l.self start ((g.I.Inputs.view l.inputs).left l.file);
+  alone : ReadsNoOther l.file (λ asked. g.I.Inputs.reads l.fn.inputs asked l.inputs) (g.I.Inputs.view l.fn.inputs)
+      (g.I.Inputs.view l.inputs);
+}

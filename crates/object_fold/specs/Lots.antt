@@ -1,0 +1,60 @@
+-- A file that is read by lots: the lines of each are read side by side, and put behind those before.
+-- So at each moment the whole file comes to what the lines that were taken come to with all that is behind them (`HasLines`): the bytes
+-- that are kept, of which no line was taken yet, and those that are left in the file.
+use Rattle.std.specs.Prelude.{◌≡◌, ◌≤◌, ◌<◌, ℕ, ◌+◌, List, [], ◌++◌, length, Option, Bool, false}
+use Rattle.osm_base.specs.declared.bounds.limits.LimitNumbers.{LimitNumbers}
+use Rattle.outside.specs.Bytes.{BothKnown}
+use Rattle.object_fold.specs.declared.lots.LotReader.{LotReader}
+use Rattle.object_fold.specs.declared.parts.Part.{Part}
+use Rattle.object_fold.specs.declared.scan.TheConstants.{PIECE}
+use Rattle.object_fold.specs.Entries.{entries_of}
+use Rattle.object_fold.specs.Parts.{comes_to, StaysWithin}
+use Rattle.object_fold.specs.Reading.{LeavesOpen}
+
+-- of these bytes those that come later were not read: so many at most were behind bytes that left each fault open
+pub record StopsWithin (most : ℕ) (limits : LimitNumbers) (bytes later : List ℕ) : Type 0 where
+  pub before : List ℕ
+  pub last : List ℕ
+  pub parts : bytes ≡ before ++ (last ++ later)
+  pub undecided : LeavesOpen limits before
+  pub few : length last ≤ most
+
+-- the file was read no further than so many bytes behind the last that left each fault open
+abbrev pub ReadsNoFurtherThan : ℕ → LimitNumbers → Option (List ℕ) → Option (List ℕ) → Type 0
+ReadsNoFurtherThan most limits left rest = BothKnown left rest (λ bytes later. StopsWithin most limits bytes later)
+
+-- behind bytes that are kept some were read, with those so many at most
+abbrev pub ReadsBehind : ℕ → List ℕ → Option (List ℕ) → Option (List ℕ) → Type 0
+ReadsBehind most kept left rest =
+    BothKnown left rest (λ bytes later. (piece : List ℕ) × (kept ++ bytes ≡ piece ++ later) × (length piece ≤ most))
+
+-- of the bytes of a file these lines were taken, behind them these bytes are kept, and the later ones are not read
+pub record HasLines (limits : LimitNumbers) (done : Part) (kept bytes later : List ℕ) : Type 0 where
+  pub front : List ℕ
+  pub parts : bytes ≡ front ++ (kept ++ later)
+  pub same : (rest : List ℕ) → entries_of limits (front ++ rest) ≡ comes_to limits done rest
+
+-- so far was read since the start of the file
+abbrev pub HasLots : LimitNumbers → LotReader → Option (List ℕ) → Option (List ℕ) → Type 0
+HasLots limits reader left rest = BothKnown left rest (λ bytes later. HasLines limits reader.done reader.kept.items bytes later)
+
+-- the file is at its end
+abbrev pub IsAtEnd : Option (List ℕ) → Option (List ℕ) → Type 0
+IsAtEnd left rest = BothKnown left rest (λ bytes later. later ≡ [])
+
+-- so far was read, and where no more comes the file is at its end
+pub record HasCome (limits : LimitNumbers) (reader : LotReader) (more : Bool) (left rest : Option (List ℕ)) : Type 0 where
+  pub lots : HasLots limits reader left rest
+  pub ended : more ≡ false → IsAtEnd left rest
+
+-- the most bytes that are kept
+abbrev pub most_kept : LotReader → ℕ
+most_kept reader = reader.lot + PIECE
+
+-- there are workers, room for a read, and no more bytes than there may be, and the lines keep the limits
+pub record IsAtWork (limits : LimitNumbers) (reader : LotReader) : Type 0 where
+  pub workers : 0 < reader.workers
+  pub some : 0 < length reader.buffer.items
+  pub room : length reader.buffer.items ≤ PIECE
+  pub few : length reader.kept.items ≤ most_kept reader
+  pub within : StaysWithin limits reader.done

@@ -1,0 +1,261 @@
+//! A file of entries, read by lots of bytes whose lines several workers read side by side.
+ghost use Rattle.std.specs.Prelude.{◌≡◌, ◌<◌, ◌≤◌, ◌+◌, List, ℕ, [], Option, false, true, length, drop, IfOk, IfErr, OnOk, OnErr};
+ghost use Rattle.osm_base.specs.declared.bounds.limits.LimitNumbers.{LimitNumbers};
+ghost use Rattle.outside.specs.Bytes.{IfTold};
+ghost use Rattle.outside.specs.Causes.{Rose};
+ghost use Rattle.object_fold.specs.Entries.{IsAccepted};
+ghost use Rattle.object_fold.specs.Lots.{HasCome, HasLots, IsAtWork, ReadsBehind, ReadsNoFurtherThan, most_kept};
+ghost use Rattle.object_fold.specs.Reading.{HasEntries, IsFaultOf, ReadsAtMost, ReadsNoOther, ReadsOnce};
+ghost use Rattle.object_fold.specs.Stops.{Stops};
+ghost use Rattle.object_fold.specs.Whole.{MovesBytes};
+
+use crate::parts::Part;
+use crate::progress::Progress;
+use crate::scan::{PIECE, read_on};
+use crate::share_out::share_out;
+use crate::{Change, FileFault};
+use opl_lines::first_line;
+use osm_base::{Limits, OutOfMemory};
+use outside::Inputs;
+use std::alloc::Global;
+use std::thread::Threads;
+
+/// How many bytes of a file are read before their lines are shared out.
+pub const LOT: usize = 16_777_216;
+
+/// How far a file was read: the lines that were taken, and the bytes behind them that are kept.
+#[derive(Drop)]
+pub struct LotReader {
+    workers: u32,
+    lot: usize,
+    buffer: Vec<u8>,
+    kept: Vec<u8>,
+    done: Part,
+}
+
+/// One read of the file, whose bytes are kept behind those before. `false`: the file is at its end.
+fn keep_read<I: Inputs>(
+    inputs: &mut I,
+    file: u32,
+    buffer: &mut [u8],
+    kept: &mut Vec<u8>,
+) -> Result<bool, FileFault>
+    requires some { 0 < length buffer.old }
+    ensures bytes { IfOk result (λ more. MovesBytes kept.old.items kept.new.items more ((I.view inputs.old).left file) ((I.view inputs.new).left file)) }
+    ensures few { OnOk result (length kept.new.items ≤ length kept.old.items + length buffer.old) }
+    ensures grows { IfOk result (λ more. more ≡ true → length kept.old.items < length kept.new.items) }
+    ensures left { OnErr result (ReadsAtMost (length buffer.old) ((I.view inputs.old).left file) ((I.view inputs.new).left file)) }
+    ensures stopped { IfErr result (Stops (λ _. ⊥) (Rose (I.view inputs.old).faults (I.view inputs.new).faults)) }
+    ensures read { ReadsOnce file (λ asked. I.reads inputs.old asked inputs.new) (I.view inputs.old) (I.view inputs.new) }
+{
+    let Ok(count) = inputs.next(file, buffer) else {
+        return Err(FileFault::ReadFault);
+    };
+    if count == 0 {
+        return Ok(false);
+    }
+    kept.extend_from_slice(&buffer[..count])?;
+    Ok(true)
+}
+
+/// Keeps no longer so many bytes at the front.
+fn drop_front(alloc: Global, kept: &mut Vec<u8>, count: usize) -> Result<(), OutOfMemory>
+    requires within { count ≤ length kept.old.items }
+    ensures ok { OnOk result (kept.new.items ≡ drop count kept.old.items) }
+{
+    let mut rest = Vec::from_slice(alloc, &kept[count..])?;
+    kept.clear();
+    kept.append(&mut rest)?;
+    Ok(())
+}
+
+impl LotReader {
+    /// Nothing is read yet.
+    fn new(alloc: Global, workers: u32, lot: usize) -> Result<Self, OutOfMemory>
+        requires workers { 0 < workers }
+        requires lot { 0 < lot }
+        ensures work { IfOk result (λ reader. (limits : LimitNumbers) → IsAtWork limits reader) }
+        ensures lot { IfOk result (λ reader. reader.lot ≡ lot) }
+        ensures start { IfOk result (λ reader. (limits : LimitNumbers) (left : Option (List ℕ)) → HasLots limits reader left left) }
+    {
+        Ok(Self {
+            workers,
+            lot,
+            buffer: vec![in alloc; 0u8; lot.min(PIECE)]?,
+            kept: Vec::new(alloc),
+            done: Part::new(alloc),
+        })
+    }
+
+    /// Reads on until a lot is kept. `false`: the file is at its end.
+    fn fill<I: Inputs>(&mut self, inputs: &mut I, file: u32) -> Result<bool, FileFault>
+        requires some { 0 < length self.old.buffer.items }
+        requires room { length self.old.buffer.items ≤ PIECE }
+        requires few { length self.old.kept.items ≤ most_kept self.old }
+        ensures bytes { IfOk result (λ more. MovesBytes self.old.kept.items self.new.kept.items more
+            ((I.view inputs.old).left file) ((I.view inputs.new).left file)) }
+        ensures same { OnOk result (self.new ≡ record self.old { buffer = self.new.buffer; kept = self.new.kept }) }
+        ensures some { OnOk result (0 < length self.new.buffer.items) }
+        ensures room { OnOk result (length self.new.buffer.items ≤ PIECE) }
+        ensures few { OnOk result (length self.new.kept.items ≤ most_kept self.old) }
+        ensures left { OnErr result (ReadsBehind (most_kept self.old) self.old.kept.items
+            ((I.view inputs.old).left file) ((I.view inputs.new).left file)) }
+        ensures stopped { IfErr result (Stops (λ _. ⊥) (Rose (I.view inputs.old).faults (I.view inputs.new).faults)) }
+        ensures read { ReadsNoOther file (λ asked. I.reads inputs.old asked inputs.new) (I.view inputs.old) (I.view inputs.new) }
+    {
+        while self.kept.len() < self.lot {
+            if !keep_read(inputs, file, &mut self.buffer, &mut self.kept)? {
+                return Ok(false);
+            }
+        }
+        Ok(true)
+    }
+
+    /// Reads a lot, and takes the lines that end in it. `false`: the file is at its end.
+    fn take_lot<I: Inputs, R: Threads + Sync>(
+        &mut self,
+        rt: &R,
+        alloc: Global,
+        inputs: &mut I,
+        file: u32,
+        limits: &Limits,
+    ) -> Result<bool, FileFault>
+        requires work { IsAtWork limits.now self.old }
+        ensures work { OnOk result (IsAtWork limits.now self.new) }
+        ensures lot { OnOk result (self.new.lot ≡ self.old.lot) }
+        ensures lots { IfOk result (λ more. (start : Option (List ℕ)) → HasLots limits.now self.old start ((I.view inputs.old).left file)
+            → HasCome limits.now self.new more start ((I.view inputs.new).left file)) }
+        ensures left { OnErr result ((start : Option (List ℕ)) → HasLots limits.now self.old start ((I.view inputs.old).left file)
+            → ReadsNoFurtherThan (most_kept self.old) limits.now start ((I.view inputs.new).left file)) }
+        ensures stopped { IfErr result (Stops (λ _. ⊥) (Rose (I.view inputs.old).faults (I.view inputs.new).faults)) }
+        ensures read { ReadsNoOther file (λ asked. I.reads inputs.old asked inputs.new) (I.view inputs.old) (I.view inputs.new) }
+    {
+        let more = self.fill(inputs, file)?;
+        let least = self.lot / self.workers as usize;
+        let shares = share_out(rt, alloc, limits, &self.kept, self.workers, least);
+        let used = self.done.append_all(limits, &self.kept, shares);
+        drop_front(alloc, &mut self.kept, used)?;
+        Ok(more)
+    }
+
+    /// Takes lots while each line that ends is one that can be taken. `false`: the file is at its end.
+    fn take_lots<I: Inputs, R: Threads + Sync>(
+        &mut self,
+        rt: &R,
+        alloc: Global,
+        inputs: &mut I,
+        file: u32,
+        limits: &Limits,
+    ) -> Result<bool, FileFault>
+        requires work { IsAtWork limits.now self.old }
+        ensures work { OnOk result (IsAtWork limits.now self.new) }
+        ensures lot { OnOk result (self.new.lot ≡ self.old.lot) }
+        ensures lots { IfOk result (λ more. (start : Option (List ℕ)) → HasLots limits.now self.old start ((I.view inputs.old).left file)
+            → HasCome limits.now self.new more start ((I.view inputs.new).left file)) }
+        ensures left { OnErr result ((start : Option (List ℕ)) → HasLots limits.now self.old start ((I.view inputs.old).left file)
+            → ReadsNoFurtherThan (most_kept self.old) limits.now start ((I.view inputs.new).left file)) }
+        ensures stopped { IfErr result (Stops (λ _. ⊥) (Rose (I.view inputs.old).faults (I.view inputs.new).faults)) }
+        ensures read { ReadsNoOther file (λ asked. I.reads inputs.old asked inputs.new) (I.view inputs.old) (I.view inputs.new) }
+    {
+        // Each lot has a line at least, or it is the last one.
+        for _ in 0..limits.lines() {
+            if !self.take_lot(rt, alloc, inputs, file, limits)? {
+                return Ok(false);
+            }
+            if self.kept.len() >= self.lot || first_line(&self.kept).is_some() {
+                return Ok(true);
+            }
+        }
+        Ok(true)
+    }
+
+    /// Reads on by one reader, from the bytes that are kept to the end of the file.
+    fn finish<I: Inputs>(
+        self,
+        alloc: Global,
+        inputs: &mut I,
+        file: u32,
+        limits: &Limits,
+        more: bool,
+    ) -> Result<Change, FileFault>
+        requires work { IsAtWork limits.now self }
+        ensures ok { IfOk result (λ change. (start : Option (List ℕ)) → HasCome limits.now self more start ((I.view inputs.old).left file)
+            → HasEntries limits.now change start ((I.view inputs.new).left file)) }
+        ensures left { OnErr result ((start : Option (List ℕ)) → HasLots limits.now self start ((I.view inputs.old).left file)
+            → ReadsNoFurtherThan (most_kept self) limits.now start ((I.view inputs.new).left file)) }
+        ensures stopped { IfErr result (Stops (λ fault. (start : Option (List ℕ)) → HasCome limits.now self more start ((I.view inputs.old).left file)
+            → IsFaultOf limits.now start fault) (Rose (I.view inputs.old).faults (I.view inputs.new).faults)) }
+        ensures read { ReadsNoOther file (λ asked. I.reads inputs.old asked inputs.new) (I.view inputs.old) (I.view inputs.new) }
+    {
+        let Self {
+            workers: _,
+            lot: _,
+            mut buffer,
+            kept,
+            done,
+        } = self;
+        let Part { passed, mut change } = done;
+        let mut progress = Progress::behind(alloc, limits, passed);
+        progress.take(alloc, limits, &mut change, &kept)?;
+        if !more {
+            progress.finish(alloc, limits, &mut change)?;
+            return Ok(change);
+        }
+        while read_on(
+            alloc,
+            inputs,
+            file,
+            limits,
+            &mut buffer,
+            &mut progress,
+            &mut change,
+        )? {}
+        progress.finish(alloc, limits, &mut change)?;
+        Ok(change)
+    }
+}
+
+/// The entries of a file, read by lots of so many bytes.
+pub fn read_by_lots<I: Inputs, R: Threads + Sync>(
+    rt: &R,
+    alloc: Global,
+    inputs: &mut I,
+    file: u32,
+    limits: &Limits,
+    workers: u32,
+    lot: usize,
+) -> Result<Change, FileFault>
+    requires workers { 0 < workers }
+    requires lot { 0 < lot }
+    ensures ok { IfOk result (λ change. HasEntries limits.now change ((I.view inputs.old).left file) ((I.view inputs.new).left file)) }
+    ensures accepted { IfOk result (λ change. IfTold ((I.view inputs.old).left file) (λ bytes. IsAccepted limits.now bytes change)) }
+    ensures stopped { IfErr result (Stops (IsFaultOf limits.now ((I.view inputs.old).left file))
+        (Rose (I.view inputs.old).faults (I.view inputs.new).faults)) }
+    ensures left { OnErr result (ReadsNoFurtherThan (lot + PIECE) limits.now ((I.view inputs.old).left file) ((I.view inputs.new).left file)) }
+    ensures read { ReadsNoOther file (λ asked. I.reads inputs.old asked inputs.new) (I.view inputs.old) (I.view inputs.new) }
+{
+    let mut reader = LotReader::new(alloc, workers, lot)?;
+    let more = reader.take_lots(rt, alloc, inputs, file, limits)?;
+    let change = reader.finish(alloc, inputs, file, limits, more)?;
+    Ok(change)
+}
+
+/// The entries of a file, read by so many workers. A file that is refused may be read a lot further than `read_file` reads it.
+pub fn read_parallel<I: Inputs, R: Threads + Sync>(
+    rt: &R,
+    alloc: Global,
+    inputs: &mut I,
+    file: u32,
+    limits: &Limits,
+    workers: u32,
+) -> Result<Change, FileFault>
+    requires workers { 0 < workers }
+    ensures ok { IfOk result (λ change. HasEntries limits.now change ((I.view inputs.old).left file) ((I.view inputs.new).left file)) }
+    ensures accepted { IfOk result (λ change. IfTold ((I.view inputs.old).left file) (λ bytes. IsAccepted limits.now bytes change)) }
+    ensures stopped { IfErr result (Stops (IsFaultOf limits.now ((I.view inputs.old).left file))
+        (Rose (I.view inputs.old).faults (I.view inputs.new).faults)) }
+    ensures left { OnErr result (ReadsNoFurtherThan (LOT + PIECE) limits.now ((I.view inputs.old).left file) ((I.view inputs.new).left file)) }
+    ensures read { ReadsNoOther file (λ asked. I.reads inputs.old asked inputs.new) (I.view inputs.old) (I.view inputs.new) }
+{
+    read_by_lots(rt, alloc, inputs, file, limits, workers, LOT)
+}
