@@ -11,7 +11,7 @@ ghost use Rattle.object_fold.specs.Whole.{MovesBytes};
 
 use crate::parts::Part;
 use crate::progress::Progress;
-use crate::scan::{PIECE, read_on};
+use crate::scan::{PIECE, read_file, read_on};
 use crate::share_out::share_out;
 use crate::{Change, FileFault};
 use opl_lines::first_line;
@@ -21,7 +21,7 @@ use std::alloc::Global;
 use std::thread::Threads;
 
 /// How many bytes of a file are read before their lines are shared out.
-pub const LOT: usize = 16_777_216;
+pub const LOT: usize = 4_194_304;
 
 /// How far a file was read: the lines that were taken, and the bytes behind them that are kept.
 #[derive(Drop)]
@@ -257,5 +257,10 @@ pub fn read_parallel<I: Inputs, R: Threads + Sync>(
     ensures left { OnErr result (ReadsNoFurtherThan (LOT + PIECE) limits.now ((I.view inputs.old).left file) ((I.view inputs.new).left file)) }
     ensures read { ReadsNoOther file (λ asked. I.reads inputs.old asked inputs.new) (I.view inputs.old) (I.view inputs.new) }
 {
+    // One reader passes lines on without keeping a lot, and costs less than one worker.
+    if workers == 1 {
+        let change = read_file(alloc, inputs, file, limits)?;
+        return Ok(change);
+    }
     read_by_lots(rt, alloc, inputs, file, limits, workers, LOT)
 }
