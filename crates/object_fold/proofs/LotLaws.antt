@@ -65,7 +65,8 @@ module _ {I : Type 0} (reads : I → List ℕ → I → Type 0) (view : I → Fi
 
 -- bytes are kept behind others
 
-pub moves_none : (kept : List ℕ) (more : Bool) (left : Option (List ℕ)) → BothKnown left left (λ before after. kept ++ before ≡ kept ++ after)
+pub moves_none : (kept : List ℕ) (more : Bool) (left : Option (List ℕ))
+    → BothKnown left left (λ before after. kept ++ before ≡ kept ++ after)
 moves_none kept more None = tt
 moves_none kept more (Some bytes) = refl
 
@@ -200,7 +201,8 @@ module _ (limits : LimitNumbers) where
 
 -- one reader goes on
 
-kept_both : (front : List Entry) (more : Result (List Entry) FileFault) → kept_all pushed [] (in_front_all front more) ≡ kept_all pushed front more
+kept_both : (front : List Entry) (more : Result (List Entry) FileFault)
+    → kept_all pushed [] (in_front_all front more) ≡ kept_all pushed front more
 kept_both front (Ok more) = ap Ok (fold-pushed [] (front ++ more) ∙ sym (fold-pushed front more))
 kept_both front (Err fault) = refl
 

@@ -1,5 +1,6 @@
 -- Lines that are read apart from those before them have the same entries behind them, where their keys, and how many they are, allow it.
-use Rattle.std.proofs.Common.{◌≡◌, ℕ, suc, zero, ◌+◌, ◌<◌, ◌≤◌, Bool, true, false, nat_lt, nat_le, Option, Some, None, List, [], ◌∷◌, ◌++◌, length, length-append, take, drop, append_assoc, refl, sym, ◌∙◌, ap, subst, arith}
+use Rattle.std.proofs.Common.{◌≡◌, ℕ, suc, zero, ◌+◌, ◌<◌, ◌≤◌, Bool, true, false, nat_lt, nat_le, Option, Some, None, List, [], ◌∷◌}
+use Rattle.std.proofs.Common.{◌++◌, length, length-append, take, drop, append_assoc, refl, sym, ◌∙◌, ap, subst, arith}
 use Rattle.std.proofs.lemmas.Bool.{le-leb}
 use Rattle.std.proofs.lemmas.List.{append-nil, drop-drop}
 use Rattle.std.specs.Prelude.{Result, Ok, Err}
@@ -30,14 +31,16 @@ use Rattle.object_fold.proofs.WholeFile.{last_key-more}
 -- one line more, behind others
 
 same_passed : (lines other : ℕ) (entries counted : ℕ) (last own : Option KeyOf) → lines ≡ other → entries ≡ counted → last ≡ own
-    → ◌≡◌ {A = Passed} (record { lines = lines; entries = entries; last = last }) (record { lines = other; entries = counted; last = own })
+    → ◌≡◌ {A = Passed} (record { lines = lines; entries = entries; last = last })
+    (record { lines = other; entries = counted; last = own })
 same_passed lines other entries counted last own p q r = λ i. record { lines = p i; entries = q i; last = r i }
 
 last_behind : (own last : Option KeyOf) (entry : Option Entry) → last_of (option_or own last) entry ≡ option_or (last_of own entry) last
 last_behind own last None = refl
 last_behind own last (Some entry) = refl
 
-passed_behind : (before own : Passed) (entry : Option Entry) → passed_line (behind before own) entry ≡ behind before (passed_line own entry)
+passed_behind : (before own : Passed) (entry : Option Entry)
+    → passed_line (behind before own) entry ≡ behind before (passed_line own entry)
 passed_behind before own entry = same_passed _ _ _ _ _ _ (omega arith) (omega arith) (last_behind own.last before.last entry)
 
 -- a key that comes after the last one is no fault
@@ -63,7 +66,8 @@ or_none : {A : Type 0} (one other : Option A) → option_or one other ≡ None �
 or_none None other none = refl
 or_none (Some found) other none = absurd (cc)
 
-follows_behind : (own last : Option KeyOf) (key : KeyOf) → Follows own key → (own ≡ None → Follows last key) → Follows (option_or own last) key
+follows_behind : (own last : Option KeyOf) (key : KeyOf) → Follows own key → (own ≡ None → Follows last key)
+    → Follows (option_or own last) key
 follows_behind None last key follows first = first refl
 follows_behind (Some earlier) last key follows first = follows
 
@@ -74,31 +78,38 @@ follows_one last None = Unit {0}
 follows_one last (Some entry) = Follows last entry.key
 
 said_behind : (limits : LimitNumbers) (before own : Passed) (said : Result (Option Entry) Why) → said_fault limits own said ≡ None
-    → before.entries + own.entries + length (cons_option (entry_in said) []) ≤ limits.entries → (own.last ≡ None → follows_one before.last (entry_in said))
+    → before.entries + own.entries + length (cons_option (entry_in said) []) ≤ limits.entries → (own.last ≡ None
+    → follows_one before.last (entry_in said))
     → said_fault limits (behind before own) said ≡ None
 said_behind limits before own (Err why) none few first = absurd (cc)
 said_behind limits before own (Ok None) none few first = refl
 said_behind limits before own (Ok (Some entry)) none few first =
     let own_order : order_fault own.lines own.last entry.key ≡ None = or_none _ _ none in
     let follows = follows_behind own.last before.last entry.key (follows_order own.lines own.last entry.key own_order) first in
-    let here : order_fault (before.lines + own.lines) (option_or own.last before.last) entry.key ≡ None = order_follows (before.lines + own.lines) (option_or own.last before.last) entry.key follows in
-    let counted : count_fault limits (before.entries + own.entries) ≡ None = count_few limits (before.entries + own.entries) (omega (arith, few)) in
+    let here : order_fault (before.lines + own.lines) (option_or own.last before.last) entry.key ≡ None = order_follows
+    (before.lines + own.lines) (option_or own.last before.last) entry.key follows in
+    let counted : count_fault limits (before.entries + own.entries) ≡ None = count_few limits (before.entries + own.entries) (omega
+    (arith, few)) in
     rw (here, counted) refl
 
 line_none : (limits : LimitNumbers) (passed : Passed) (line : List ℕ) → line_fault limits passed line ≡ None
     → (nat_le (length line) limits.line_bytes ≡ true) × (text_fault limits passed line ≡ None)
 unfolding line_fault
 line_none limits passed line none =
-    elim (nat_lt passed.lines limits.lines) as (λ (a : Bool). nat_lt passed.lines limits.lines ≡ a → (nat_le (length line) limits.line_bytes ≡ true) × (text_fault limits passed line ≡ None)) [
-      | true ↦ λ counted. elim (nat_le (length line) limits.line_bytes) as (λ (b : Bool). nat_le (length line) limits.line_bytes ≡ b → (nat_le (length line) limits.line_bytes ≡ true) × (text_fault limits passed line ≡ None)) [
-        | true ↦ λ short. (short, rw (counted, short) at none)
-        | false ↦ λ long. absurd (let wrong = rw (counted, long) at none in cc)
-      ] refl
+    elim (nat_lt passed.lines limits.lines) as (λ (a : Bool). nat_lt passed.lines limits.lines ≡ a
+    → (nat_le (length line) limits.line_bytes ≡ true) × (text_fault limits passed line ≡ None)) [
+      | true ↦ λ counted. elim (nat_le (length line) limits.line_bytes) as (λ (b : Bool). nat_le (length line) limits.line_bytes ≡ b
+          → (nat_le (length line) limits.line_bytes ≡ true) × (text_fault limits passed line ≡ None)) [
+            | true ↦ λ short. (short, rw (counted, short) at none)
+            | false ↦ λ long. absurd (let wrong = rw (counted, long) at none in cc)
+          ] refl
       | false ↦ λ many. absurd (let wrong = rw many at none in cc)
     ] refl
 
-line_behind : (limits : LimitNumbers) (before own : Passed) (line : List ℕ) → line_fault limits own line ≡ None → before.lines + own.lines < limits.lines
-    → before.entries + own.entries + length (cons_option (spelled line) []) ≤ limits.entries → (own.last ≡ None → follows_one before.last (spelled line))
+line_behind : (limits : LimitNumbers) (before own : Passed) (line : List ℕ) → line_fault limits own line ≡ None
+    → before.lines + own.lines < limits.lines
+    → before.entries + own.entries + length (cons_option (spelled line) []) ≤ limits.entries → (own.last ≡ None
+    → follows_one before.last (spelled line))
     → line_fault limits (behind before own) line ≡ None
 unfolding line_fault text_fault
 line_behind limits before own line none counted few first =
@@ -114,23 +125,28 @@ record Read (limits : LimitNumbers) (own : Passed) (line : List ℕ) (lines : Li
   rest : entries_from limits (passed_line own (spelled line)) lines ≡ Ok more
   all : cons_option (spelled line) more ≡ entries
 
-unless_parts : (fault : Option FileFault) (entry : Option Entry) (left : Result (List Entry) FileFault) (entries : List Entry) → unless fault (in_front entry left) ≡ Ok entries
+unless_parts : (fault : Option FileFault) (entry : Option Entry) (left : Result (List Entry) FileFault) (entries : List Entry)
+    → unless fault (in_front entry left) ≡ Ok entries
     → (fault ≡ None) × ((more : List Entry) × (left ≡ Ok more) × (cons_option entry more ≡ entries))
 unless_parts (Some fault) entry left entries is = absurd (cc)
 unless_parts None entry (Err fault) entries is = absurd (cc)
 unless_parts None entry (Ok more) entries is = (refl, (more, refl, cc))
 
-read_parts : (limits : LimitNumbers) (own : Passed) (line : List ℕ) (lines : List (List ℕ)) (entries : List Entry) → entries_from limits own (line ∷ lines) ≡ Ok entries → Read limits own line lines entries
+read_parts : (limits : LimitNumbers) (own : Passed) (line : List ℕ) (lines : List (List ℕ)) (entries : List Entry)
+    → entries_from limits own (line ∷ lines) ≡ Ok entries → Read limits own line lines entries
 unfolding entries_from
 read_parts limits own line lines entries is =
-    let parts = unless_parts (line_fault limits own line) (spelled line) (entries_from limits (passed_line own (spelled line)) lines) entries is in
+    let parts = unless_parts (line_fault limits own line) (spelled line) (entries_from limits (passed_line own
+    (spelled line)) lines) entries is in
     record { none = parts.0; more = parts.1.0; rest = parts.1.1; all = parts.1.2 }
 
-first_one : (last : Option KeyOf) (entry : Option Entry) (more : List Entry) → FollowsAll last (cons_option entry more) → follows_one last entry
+first_one : (last : Option KeyOf) (entry : Option Entry) (more : List Entry) → FollowsAll last (cons_option entry more)
+    → follows_one last entry
 first_one last None more follows = tt
 first_one last (Some entry) more follows = follows
 
-next_first : (own last : Option KeyOf) (entry : Option Entry) (more : List Entry) → (own ≡ None → FollowsAll last (cons_option entry more)) → last_of own entry ≡ None → FollowsAll last more
+next_first : (own last : Option KeyOf) (entry : Option Entry) (more : List Entry) → (own ≡ None
+    → FollowsAll last (cons_option entry more)) → last_of own entry ≡ None → FollowsAll last more
 next_first own last None more first none = first none
 next_first own last (Some entry) more first none = absurd (cc)
 
@@ -142,7 +158,8 @@ entries_more : (entries : ℕ) (entry : Option Entry) → entries + option_len e
 entries_more entries None = omega arith
 entries_more entries (Some entry) = omega arith
 
-in_front_both : (entry : Option Entry) (more : List Entry) (left : Result (List Entry) FileFault) → in_front entry (in_front_all more left) ≡ in_front_all (cons_option entry more) left
+in_front_both : (entry : Option Entry) (more : List Entry) (left : Result (List Entry) FileFault)
+    → in_front entry (in_front_all more left) ≡ in_front_all (cons_option entry more) left
 in_front_both None more (Ok entries) = refl
 in_front_both None more (Err fault) = refl
 in_front_both (Some entry) more (Ok entries) = refl
@@ -157,12 +174,16 @@ pub in_front_none : (left : Result (List Entry) FileFault) → left ≡ in_front
 in_front_none (Ok entries) = refl
 in_front_none (Err fault) = refl
 
-pub shift : (limits : LimitNumbers) (before : Passed) (lines : List (List ℕ)) (own : Passed) (entries : List Entry) (rest : List (List ℕ)) → entries_from limits own lines ≡ Ok entries
-    → before.lines + own.lines + length lines ≤ limits.lines → before.entries + own.entries + length entries ≤ limits.entries → (own.last ≡ None → FollowsAll before.last entries)
-    → entries_from limits (behind before own) (lines ++ rest) ≡ in_front_all entries (entries_from limits (behind before (passed_all own lines)) rest)
+pub shift : (limits : LimitNumbers) (before : Passed) (lines : List (List ℕ)) (own : Passed) (entries : List Entry) (rest : List
+    (List ℕ)) → entries_from limits own lines ≡ Ok entries
+    → before.lines + own.lines + length lines ≤ limits.lines → before.entries + own.entries + length entries ≤ limits.entries
+    → (own.last ≡ None → FollowsAll before.last entries)
+    → entries_from limits (behind before own) (lines ++ rest) ≡ in_front_all entries (entries_from limits (behind before
+    (passed_all own lines)) rest)
 shift limits before [] own entries rest is counted few first =
     let none : [] ≡ entries = (let e = sym (entries_from-none limits own) ∙ is in cc) in
-    subst (λ (own_entries : List Entry). entries_from limits (behind before own) rest ≡ in_front_all own_entries (entries_from limits (behind before own) rest)) none (in_front_none (entries_from limits (behind before own) rest))
+    subst (λ (own_entries : List Entry). entries_from limits (behind before own) rest ≡ in_front_all own_entries (entries_from limits
+    (behind before own) rest)) none (in_front_none (entries_from limits (behind before own) rest))
 shift limits before (line ∷ lines) own entries rest is counted few first =
     let parts = read_parts limits own line lines entries is in
     let entry = spelled line in
@@ -170,17 +191,20 @@ shift limits before (line ∷ lines) own entries rest is counted few first =
     let whole : length (cons_option entry parts.more) ≡ length entries = ap length parts.all in
     let here = line_behind limits before own line parts.none (omega (arith, counted)) (omega (arith, few, long, whole))
     (λ none. first_one before.last entry parts.more (subst (FollowsAll before.last) (sym parts.all) (first none))) in
-    let next = shift limits before lines (passed_line own entry) parts.more rest parts.rest (omega (arith, counted)) (omega (arith, few, long, whole, entries_more own.entries entry))
+    let next = shift limits before lines (passed_line own entry) parts.more rest parts.rest (omega (arith, counted)) (omega
+    (arith, few, long, whole, entries_more own.entries entry))
     (next_first own.last before.last entry parts.more (λ none. subst (FollowsAll before.last) (sym parts.all) (first none))) in
     entries_from-next limits (behind before own) line (lines ++ rest) here
     ∙ ap (λ passed. in_front entry (entries_from limits passed (lines ++ rest))) (passed_behind before own entry)
     ∙ ap (in_front entry) next
     ∙ in_front_both entry parts.more (entries_from limits (behind before (passed_all (passed_line own entry) lines)) rest)
-    ∙ ap (λ own_entries. in_front_all own_entries (entries_from limits (behind before (passed_all (passed_line own entry) lines)) rest)) parts.all
+    ∙ ap (λ own_entries. in_front_all own_entries (entries_from limits (behind before (passed_all
+    (passed_line own entry) lines)) rest)) parts.all
 
 -- lines are read apart, one after another
 
-passed_snoc : (passed : Passed) (lines : List (List ℕ)) (line : List ℕ) → passed_all passed (lines ++ line ∷ []) ≡ passed_line (passed_all passed lines) (spelled line)
+passed_snoc : (passed : Passed) (lines : List (List ℕ)) (line : List ℕ)
+    → passed_all passed (lines ++ line ∷ []) ≡ passed_line (passed_all passed lines) (spelled line)
 passed_snoc passed [] line = refl
 passed_snoc passed (one ∷ lines) line = passed_snoc (passed_line passed (spelled one)) lines line
 
@@ -188,7 +212,8 @@ passed_lines : (passed : Passed) (lines : List (List ℕ)) → (passed_all passe
 passed_lines passed [] = omega arith
 passed_lines passed (line ∷ lines) = let more = passed_lines (passed_line passed (spelled line)) lines in omega (arith, more)
 
-in_front_step : (entries : List Entry) (entry : Option Entry) (left : Result (List Entry) FileFault) → in_front_all entries (in_front entry left) ≡ in_front_all (entries ++ cons_option entry []) left
+in_front_step : (entries : List Entry) (entry : Option Entry) (left : Result (List Entry) FileFault)
+    → in_front_all entries (in_front entry left) ≡ in_front_all (entries ++ cons_option entry []) left
 in_front_step entries None (Ok more) = ap (λ own. Ok (own ++ more)) (sym (append-nil entries))
 in_front_step entries None (Err fault) = refl
 in_front_step entries (Some entry) (Ok more) = ap Ok (sym (append_assoc entries (entry ∷ []) more))
@@ -263,13 +288,15 @@ ends limits bytes rest part len read is =
     let lengths = ap length read.parts ∙ length-append read.front rest in
     let count : len ≡ length read.front = omega (arith, is, lengths) in
     subst (λ (own : List ℕ). IsPart limits own part)
-    (sym (take_front read.front rest) ∙ ap (λ bytes. take (length read.front) bytes) (sym read.parts) ∙ ap (λ n. take n bytes) (sym count))
+    (sym (take_front read.front rest) ∙ ap (λ bytes. take (length read.front) bytes) (sym read.parts)
+    ∙ ap (λ n. take n bytes) (sym count))
     read.lines
 
 -- and put behind others
 
 behind_none : (before : Passed) → behind before none_passed ≡ before
-behind_none before = same_passed (before.lines + 0) before.lines (before.entries + 0) before.entries before.last before.last (omega arith) (omega arith) refl
+behind_none before = same_passed (before.lines + 0) before.lines (before.entries + 0) before.entries before.last before.last
+    (omega arith) (omega arith) refl
 
 pub adds : (limits : LimitNumbers) (before own : Part) (bytes : List ℕ) → IsPart limits bytes own
     → before.passed.lines + own.passed.lines ≤ limits.lines → before.passed.entries + length own.change ≤ limits.entries
@@ -281,7 +308,8 @@ adds limits before own bytes part counted few first =
     let count : own.passed.lines ≡ length part.own = sym (ap (λ (passed : Passed). passed.lines) part.passed_are)
     ∙ (let many = passed_lines none_passed part.own in omega (arith, many)) in
     λ later. ap (λ lines. in_front_all before.change (entries_from limits before.passed lines)) (part.whole later)
-    ∙ ap (λ passed. in_front_all before.change (entries_from limits passed (part.own ++ lines_of later))) (sym (behind_none before.passed))
+    ∙ ap (λ passed. in_front_all before.change (entries_from limits passed (part.own ++ lines_of later))) (sym
+    (behind_none before.passed))
     ∙ ap (in_front_all before.change) (shift limits before.passed part.own none_passed own.change (lines_of later) is
     (omega (arith, counted, count)) (omega (arith, few)) (λ _. first))
     ∙ in_front_two before.change own.change

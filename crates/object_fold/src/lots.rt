@@ -41,7 +41,8 @@ fn keep_read<I: Inputs>(
     kept: &mut Vec<u8>,
 ) -> Result<bool, FileFault>
     requires some { 0 < length buffer.old }
-    ensures bytes { IfOk result (λ more. MovesBytes kept.old.items kept.new.items more ((I.view inputs.old).left file) ((I.view inputs.new).left file)) }
+    ensures bytes { IfOk result (λ more. MovesBytes kept.old.items kept.new.items more
+        ((I.view inputs.old).left file) ((I.view inputs.new).left file)) }
     ensures few { OnOk result (length kept.new.items ≤ length kept.old.items + length buffer.old) }
     ensures grows { IfOk result (λ more. more ≡ true → length kept.old.items < length kept.new.items) }
     ensures left { OnErr result (ReadsAtMost (length buffer.old) ((I.view inputs.old).left file) ((I.view inputs.new).left file)) }
@@ -183,8 +184,9 @@ impl LotReader {
             → HasEntries limits.now change start ((I.view inputs.new).left file)) }
         ensures left { OnErr result ((start : Option (List ℕ)) → HasLots limits.now self start ((I.view inputs.old).left file)
             → ReadsNoFurtherThan (most_kept self) limits.now start ((I.view inputs.new).left file)) }
-        ensures stopped { IfErr result (Stops (λ fault. (start : Option (List ℕ)) → HasCome limits.now self more start ((I.view inputs.old).left file)
-            → IsFaultOf limits.now start fault) (Rose (I.view inputs.old).faults (I.view inputs.new).faults)) }
+        ensures stopped { IfErr result (Stops (λ fault. (start : Option (List ℕ))
+            → HasCome limits.now self more start ((I.view inputs.old).left file) → IsFaultOf limits.now start fault)
+            (Rose (I.view inputs.old).faults (I.view inputs.new).faults)) }
         ensures read { ReadsNoOther file (λ asked. I.reads inputs.old asked inputs.new) (I.view inputs.old) (I.view inputs.new) }
     {
         let Self {
@@ -231,7 +233,8 @@ pub fn read_by_lots<I: Inputs, R: Threads + Sync>(
     ensures accepted { IfOk result (λ change. IfTold ((I.view inputs.old).left file) (λ bytes. IsAccepted limits.now bytes change)) }
     ensures stopped { IfErr result (Stops (IsFaultOf limits.now ((I.view inputs.old).left file))
         (Rose (I.view inputs.old).faults (I.view inputs.new).faults)) }
-    ensures left { OnErr result (ReadsNoFurtherThan (lot + PIECE) limits.now ((I.view inputs.old).left file) ((I.view inputs.new).left file)) }
+    ensures left { OnErr result (ReadsNoFurtherThan (lot + PIECE) limits.now
+        ((I.view inputs.old).left file) ((I.view inputs.new).left file)) }
     ensures read { ReadsNoOther file (λ asked. I.reads inputs.old asked inputs.new) (I.view inputs.old) (I.view inputs.new) }
 {
     let mut reader = LotReader::new(alloc, workers, lot)?;
@@ -254,7 +257,8 @@ pub fn read_parallel<I: Inputs, R: Threads + Sync>(
     ensures accepted { IfOk result (λ change. IfTold ((I.view inputs.old).left file) (λ bytes. IsAccepted limits.now bytes change)) }
     ensures stopped { IfErr result (Stops (IsFaultOf limits.now ((I.view inputs.old).left file))
         (Rose (I.view inputs.old).faults (I.view inputs.new).faults)) }
-    ensures left { OnErr result (ReadsNoFurtherThan (LOT + PIECE) limits.now ((I.view inputs.old).left file) ((I.view inputs.new).left file)) }
+    ensures left { OnErr result (ReadsNoFurtherThan (LOT + PIECE) limits.now
+        ((I.view inputs.old).left file) ((I.view inputs.new).left file)) }
     ensures read { ReadsNoOther file (λ asked. I.reads inputs.old asked inputs.new) (I.view inputs.old) (I.view inputs.new) }
 {
     // One reader passes lines on without keeping a lot, and costs less than one worker.

@@ -84,8 +84,9 @@ loop-progress-preserved g c =
       ready = c.in_ok-read_on.ensures.ready;
       some = grind (arith, common_steps);
       room = grind (arith, common_steps);
-      read = λ start has. read_more pushed c.args.limits.now [] c.loop-progress.progress c.loop-progress.change c.read_on.new.progress c.read_on.new.keeper
-          start left rest (c.loop-progress.invariant.read start has) c.in_ok-read_on.ensures.piece;
+      read = λ start has. read_more pushed c.args.limits.now [] c.loop-progress.progress c.loop-progress.change
+          c.read_on.new.progress c.read_on.new.keeper start left rest (c.loop-progress.invariant.read start has)
+          c.in_ok-read_on.ensures.piece;
       alone = read_again g.I.Inputs.reads g.I.Inputs.view c.args.file laws.reads_then c.args.inputs.now c.loop-progress.inputs
           c.read_on.new.inputs c.loop-progress.invariant.alone c.in_ok-read_on.ensures.read;
     }
