@@ -90,14 +90,12 @@ impl LotReader {
 
     /// Reads on until a lot is kept. `false`: the file is at its end.
     fn fill<I: Inputs>(&mut self, inputs: &mut I, file: u32) -> Result<bool, FileFault>
-        requires some { 0 < length self.old.buffer.items }
-        requires room { length self.old.buffer.items ≤ PIECE }
+        requires room { (0 < length self.old.buffer.items) × (length self.old.buffer.items ≤ PIECE) }
         requires few { length self.old.kept.items ≤ most_kept self.old }
         ensures bytes { IfOk result (λ more. MovesBytes self.old.kept.items self.new.kept.items more
             ((I.view inputs.old).left file) ((I.view inputs.new).left file)) }
         ensures same { OnOk result (self.new ≡ record self.old { buffer = self.new.buffer; kept = self.new.kept }) }
-        ensures some { OnOk result (0 < length self.new.buffer.items) }
-        ensures room { OnOk result (length self.new.buffer.items ≤ PIECE) }
+        ensures room { OnOk result ((0 < length self.new.buffer.items) × (length self.new.buffer.items ≤ PIECE)) }
         ensures few { OnOk result (length self.new.kept.items ≤ most_kept self.old) }
         ensures left { OnErr result (ReadsBehind (most_kept self.old) self.old.kept.items
             ((I.view inputs.old).left file) ((I.view inputs.new).left file)) }
