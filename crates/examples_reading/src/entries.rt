@@ -1,14 +1,16 @@
 //! Examples of files that are read whole: their bytes, and their entries.
 use crate::key::{put_key, put_number};
+use crate::lots::is_read_by_lots;
 use example_table::{bytes_of, number_of, row_of};
 use object_fold::{Change, FileFault, WholeFault, read_all, read_file};
 use opl_object::Why;
 use osm_base::{Bytes, Entry, FileList, Ids, LimitKind, LimitNumbers, Limits, OutOfMemory};
 use outside::{Fails, MemInputs};
 use std::alloc::{AllocError, Global};
+use std::thread::Threads;
 
 /// One file, whose word has the number 0, and of which the call with a number fails; none has the number 0.
-fn inputs_of(alloc: Global, file: Vec<u8>, call: u64) -> Result<MemInputs, OutOfMemory> {
+pub fn inputs_of(alloc: Global, file: Vec<u8>, call: u64) -> Result<MemInputs, OutOfMemory> {
     let at = Vec::from_slice(alloc, &[call])?;
     let mut files = FileList::new(alloc);
     files.push(Bytes::from_vec(file))?;
@@ -44,16 +46,22 @@ pub fn whole(alloc: Global, found: &mut Vec<u8>, given: &str) -> Result<bool, Al
 }
 
 /// Adds what `LIMITS FILE` finds: the keys of the entries, or what stops the reading.
-pub fn within(alloc: Global, found: &mut Vec<u8>, given: &str) -> Result<bool, AllocError> {
+pub fn within<R: Threads + Sync>(
+    rt: &R,
+    alloc: Global,
+    found: &mut Vec<u8>,
+    given: &str,
+) -> Result<bool, AllocError> {
     match limited(given) {
-        Some((limits, field)) => put_file(alloc, found, &limits, bytes_of(alloc, field)?, 0),
+        Some((limits, field)) => put_file(rt, alloc, found, &limits, bytes_of(alloc, field)?, 0),
         None => Ok(false),
     }
 }
 
 /// Adds what is found of `bytes CALL FILE` and `entries CALL FILE`, where this call fails, and of `behind COUNT FILE`,
 /// the entries of a file before which so many lines `#` stand.
-pub fn reads(
+pub fn reads<R: Threads + Sync>(
+    rt: &R,
     alloc: Global,
     found: &mut Vec<u8>,
     word: &str,
@@ -65,6 +73,7 @@ pub fn reads(
     match word {
         "bytes" => failing(alloc, found, number, field),
         "entries" => put_file(
+            rt,
             alloc,
             found,
             &Limits::standard(),
@@ -72,6 +81,7 @@ pub fn reads(
             number,
         ),
         "behind" => put_file(
+            rt,
             alloc,
             found,
             &Limits::standard(),
@@ -150,8 +160,10 @@ fn put_bytes(found: &mut Vec<u8>, read: &Result<Bytes, WholeFault>) -> Result<bo
     Ok(true)
 }
 
-/// Adds what reading the entries of a file gives, of which a call may fail. False: there is no file.
-fn put_file(
+/// Adds what reading the entries of a file gives, of which a call may fail. False: there is no file, or read by lots it gives
+/// something else.
+fn put_file<R: Threads + Sync>(
+    rt: &R,
     alloc: Global,
     found: &mut Vec<u8>,
     limits: &Limits,
@@ -160,15 +172,19 @@ fn put_file(
 ) -> Result<bool, AllocError> {
     match file {
         Some(file) => {
-            put_entries(alloc, found, &read_entries(alloc, limits, file, call))?;
-            Ok(true)
+            let bytes = Vec::from_slice(alloc, &file)?;
+            let mut own = Vec::new(alloc);
+            put_entries(alloc, &mut own, &read_entries(alloc, limits, file, call))?;
+            let same = is_read_by_lots(rt, alloc, limits, &bytes, call, &own)?;
+            found.append(&mut own)?;
+            Ok(same)
         }
         None => Ok(false),
     }
 }
 
 /// Adds what reading the entries gave.
-fn put_entries(
+pub fn put_entries(
     alloc: Global,
     found: &mut Vec<u8>,
     read: &Result<Change, FileFault>,

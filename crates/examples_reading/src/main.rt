@@ -2,7 +2,8 @@
 //!
 //! The tables in `data` go the way of the data: values (`degrees.txt`, `keys.txt`, `limits.txt`,
 //! `tags.txt`), files in pieces (`cuts.txt`), all bytes of a file (`whole.txt`),
-//! entries of a file (`entries.txt`), reads that fail and files over several reads (`reads.txt`), objects
+//! entries of a file (`entries.txt`), reads that fail and files over several reads (`reads.txt`), each of which is read again by
+//! lots of 1 to 64 bytes and by one to four workers, objects
 //! after changes (`folds.txt`), the ways that a change makes due (`ways_due.txt`), the objects whose rows
 //! it may change (`pending.txt`), and single lines through both readers (`lines.txt`). The head of each says what its
 //! columns are, and where what is wanted comes from. Then both readers read a million lines that are made, and the program
@@ -21,6 +22,7 @@ mod dice;
 mod entries;
 mod key;
 mod lines;
+mod lots;
 mod made;
 mod million;
 mod pending_sets;
@@ -32,6 +34,7 @@ use example_table::{bytes_of, row_of, sides_of};
 use million::are_made_lines_fine;
 use std::alloc::{AllocError, Global};
 use std::process::ExitCode;
+use std::thread::Threads;
 use std::{fs, io};
 
 /// The tables.
@@ -62,7 +65,7 @@ fn main(rt: HostRuntime) -> io::Result<ExitCode> {
 }
 
 /// Runs the examples of a table up to the first that differs. True: none does.
-fn passes_all<R: Print + Eprint + AllocGlobal>(
+fn passes_all<R: Print + Eprint + AllocGlobal + Threads + Sync>(
     rt: &R,
     name: &str,
     table: &str,
@@ -78,14 +81,14 @@ fn passes_all<R: Print + Eprint + AllocGlobal>(
 }
 
 /// Runs the example of a row of a table, and prints its name or tells what was found.
-fn passes<R: Print + Eprint + AllocGlobal>(
+fn passes<R: Print + Eprint + AllocGlobal + Threads + Sync>(
     rt: &R,
     table: &str,
     word: &str,
     text: &str,
 ) -> io::Result<bool> {
     let mut found = Vec::new(rt.alloc());
-    let same = is_same(rt.alloc(), &mut found, table, word, text)?;
+    let same = is_same(rt, rt.alloc(), &mut found, table, word, text)?;
     if same {
         println!(rt; "{table} {word} {text}")?;
     } else {
@@ -103,7 +106,8 @@ fn tell<R: Eprint>(rt: &R, table: &str, word: &str, text: &str, found: &[u8]) ->
 }
 
 /// Adds what an example finds to `found`, and says whether it is what its row wants.
-fn is_same(
+fn is_same<R: Threads + Sync>(
+    rt: &R,
     alloc: Global,
     found: &mut Vec<u8>,
     table: &str,
@@ -115,7 +119,7 @@ fn is_same(
     };
     let good = match table {
         "folds.txt" => changes::folds(alloc, found, given, wanted)?,
-        _ => put_found(alloc, found, table, word, given)?,
+        _ => put_found(rt, alloc, found, table, word, given)?,
     };
     Ok(good && is_text(alloc, found, wanted)?)
 }
@@ -129,7 +133,8 @@ fn is_text(alloc: Global, bytes: &[u8], field: &str) -> Result<bool, AllocError>
 }
 
 /// Adds what the example of a row finds. False: the row is not in its form.
-fn put_found(
+fn put_found<R: Threads + Sync>(
+    rt: &R,
     alloc: Global,
     found: &mut Vec<u8>,
     table: &str,
@@ -143,8 +148,8 @@ fn put_found(
         "tags.txt" => tags::tags(alloc, found, word, given),
         "cuts.txt" => cuts::cuts(alloc, found, word, given),
         "whole.txt" => entries::whole(alloc, found, given),
-        "entries.txt" => entries::within(alloc, found, given),
-        "reads.txt" => entries::reads(alloc, found, word, given),
+        "entries.txt" => entries::within(rt, alloc, found, given),
+        "reads.txt" => entries::reads(rt, alloc, found, word, given),
         "ways_due.txt" => changes::ways(alloc, found, given),
         "pending.txt" => pending_sets::sets(alloc, found, given),
         "lines.txt" => lines::lines(alloc, found, given),
