@@ -1,5 +1,5 @@
 -- Files that are read one after another, as long as none is refused.
-use Rattle.std.proofs.Common.{◌≡◌, ◌≢◌, ◌≤◌, inl, inr, ⊎_elim, ℕ, zero, suc, ◌+◌, Option, List, [], ◌∷◌, ◌++◌, length}
+use Rattle.std.proofs.Common.{◌≡◌, ◌≢◌, ◌≤◌, ◌⊎◌, inl, inr, ⊎_elim, ℕ, zero, suc, ◌+◌, Option, Some, List, [], ◌∷◌, ◌++◌, length}
 use Rattle.std.proofs.Common.{replicate, length-append, refl, sym, ◌∙◌, subst, arith}
 use Rattle.std.specs.List.{AllByRecursion}
 use Rattle.osm_base.specs.declared.bounds.limits.LimitNumbers.{LimitNumbers}
@@ -22,12 +22,12 @@ pub record HasRead (limits : LimitNumbers) (first file : ℕ) (asks : List ℕ �
 
 -- no file was read
 pub among_none : (first end : ℕ) (asks : List ℕ → Type 0) (files : FilesView) → asks [] → ReadsAmong first end asks files files
-among_none first end asks files none = record { asked = ([], none, tt); others = λ other beside. refl; later = omega arith }
+among_none first end asks files none = record { asked = ([], none, tt); others = λ other beside. refl; ended = λ file end. end; later = omega arith }
 
 pub read_none : (limits : LimitNumbers) (first : ℕ) (asks : List ℕ → Type 0) (files : FilesView) → asks []
     → HasRead limits first first asks files files []
 read_none limits first asks files none = record {
-  read = record { are = tt; few = omega arith; at_end = tt; rose = λ failed. absurd failed };
+  read = record { are = tt; few = omega arith; at_end = tt; rose = λ failed. absurd failed; last = λ refused. absurd (refused tt) };
   among = among_none first first asks files none;
   whole = tt;
   many = omega arith;
@@ -48,6 +48,7 @@ pub among_within : (first file end : ℕ) (asks : List ℕ → Type 0) (old new 
 among_within first file end asks old new within among = record {
   asked = (among.asked.0, among.asked.1, widen first file end within among.asked.0 among.asked.2);
   others = λ other beside. among.others other (beside_less first file end other within beside);
+  ended = among.ended;
   later = among.later;
 }
 
@@ -58,6 +59,7 @@ read_within limits first file end old new parcels within read = record {
   few = let few = read.few in omega (arith, within, few);
   at_end = read.at_end;
   rose = read.rose;
+  last = read.last;
 }
 
 -- all files were read
@@ -91,6 +93,10 @@ all_same : (P : ℕ → Type 0) (file count : ℕ) → P file → AllByRecursion
 all_same P file zero own = tt
 all_same P file (suc count) own = (own, all_same P file count own)
 
+-- a number is another or the same
+same_or : (a b : ℕ) → (a ≡ b) ⊎ (a ≢ b)
+same_or a b = grind arith
+
 module _ {I : Type 0} (view : I → FilesView) (reads : I → List ℕ → I → Type 0)
     (then_reads : (first second third : I) (before after : List ℕ) → reads first before second → reads second after third
     → reads first (before ++ after) third)
@@ -109,6 +115,11 @@ module _ {I : Type 0} (view : I → FilesView) (reads : I → List ℕ → I →
   is_other other beside same =
       ⊎_elim (λ low. let least = least in omega (arith, same, low, least)) (λ high. omega (arith, same, high)) beside
 
+  -- a file that was at its end is there still, that one and each other
+  ended_one : (other : ℕ) → (view old).left other ≡ Some [] → (view new).left other ≡ Some []
+  ended_one other end = ⊎_elim (λ (own : other ≡ file). subst (λ (one : ℕ). (view old).left one ≡ Some [] → (view new).left one ≡ Some [])
+      (sym own) is.ended end) (λ (apart : other ≢ file). alone.alone.others other apart ∙ end) (same_or other file)
+
   -- a file more was read, and no other
   pub among_more : ReadsAmong first (file + 1) (λ asked. reads start asked new) (view start) (view new)
   among_more =
@@ -124,6 +135,7 @@ module _ {I : Type 0} (view : I → FilesView) (reads : I → List ℕ → I →
         others = λ other beside.
             alone.alone.others other (λ same. absurd (is_other other beside same))
             ∙ among.others other (beside_less first file (file + 1) other (omega arith) beside);
+        ended = λ other end. ended_one other (among.ended other end);
         later = let after = alone.alone.later in let before = among.later in omega (arith, before, after);
       }
 
@@ -142,6 +154,7 @@ module _ {I : Type 0} (view : I → FilesView) (reads : I → List ℕ → I →
     few = let few = so_far.read.few in omega (arith, few);
     at_end = kept;
     rose = rose_before;
+    last = λ refused. absurd (refused so_far.whole);
   }
 
   own_body : IsReadAs limits ((view start).left file) parcel.body
@@ -163,6 +176,8 @@ module _ {I : Type 0} (view : I → FilesView) (reads : I → List ℕ → I →
     few = let many = so_far.many in omega (arith, many, length-append parcels (parcel ∷ []));
     at_end = all_snoc _ parcels parcel kept own_end;
     rose = λ failed. ⊎_elim rose_before own_rose (failed_snoc parcels parcel failed);
+    last = λ refused other high. among_more.others other
+        (inr (let many = so_far.many in omega (arith, many, high, length-append parcels (parcel ∷ []))));
   }
 
   -- and was not refused

@@ -1,3 +1,4 @@
+mod Ended
 mod FileLaws
 mod Moves
-mod ParcelLaws
+pub mod ParcelLaws

@@ -1,5 +1,5 @@
 -- Lists of parcels, one more after another, and fronts of them.
-use Rattle.std.proofs.Common.{◌≡◌, ◌⊎◌, inl, inr, ⊎_elim, ℕ, ◌+◌, List, [], ◌∷◌, ◌++◌, length, length-append, refl, sym, subst, arith}
+use Rattle.std.proofs.Common.{◌≡◌, ◌≢◌, ◌≤◌, ◌⊎◌, inl, inr, ⊎_elim, ℕ, ◌+◌, List, [], ◌∷◌, ◌++◌, length, length-append, refl, sym, subst, arith}
 use Rattle.std.specs.List.{AllByRecursion}
 use Rattle.osm_base.specs.declared.bounds.limits.LimitNumbers.{LimitNumbers}
 use Rattle.outside.specs.Inputs.{FilesView}
@@ -36,6 +36,11 @@ pub failed_front : (front rest : List Parcel) → HasFailed front → HasFailed 
 failed_front [] rest failed = absurd failed
 failed_front (one ∷ front) rest failed = ⊎_elim (λ own. inl own) (λ more. inr (failed_front front rest more)) failed
 
+-- where one is the last there is one
+snoc_some : (parcels : List Parcel) (parcel : Parcel) → parcels ++ parcel ∷ [] ≢ []
+snoc_some [] parcel none = absurd (cc)
+snoc_some (one ∷ parcels) parcel none = absurd (cc)
+
 module _ (limits : LimitNumbers) (files : FilesView) (parcel : Parcel) where
   abbrev IsOf : ℕ → Type 0
   IsOf file = (parcel.file ≡ file) × IsReadAs limits (files.left file) parcel.body
@@ -49,6 +54,25 @@ module _ (limits : LimitNumbers) (files : FilesView) (parcel : Parcel) where
   parcels_snoc (one ∷ parcels) file next is are whole own =
       (are.0, are.1, λ _. whole.0, parcels_snoc parcels (file + 1) next (omega (arith, is)) are.3 whole.1 own)
 
+-- the last one is of the next file, and none before it was refused
+pub parcels_last : (limits : LimitNumbers) (files : FilesView) (parcel : Parcel) (parcels : List Parcel) (first file : ℕ)
+    → first + length parcels ≡ file → AreParcels limits files first (parcels ++ parcel ∷ [])
+    → (parcel.file ≡ file) × IsReadAs limits (files.left file) parcel.body × AllByRecursion IsWhole parcels
+parcels_last limits files parcel [] first file is are =
+    let here = subst (λ own. (parcel.file ≡ own) × IsReadAs limits (files.left own) parcel.body) (omega (arith, is)) (are.0, are.1) in
+    (here.0, here.1, tt)
+parcels_last limits files parcel (one ∷ parcels) first file is are =
+    let later = parcels_last limits files parcel parcels (first + 1) file (omega (arith, is)) are.3 in
+    (later.0, later.1, (are.2 (λ none. absurd (snoc_some parcels parcel none)), later.2))
+
+-- none was refused before another one
+pub whole_before : (limits : LimitNumbers) (files : FilesView) (next : Parcel) (rest : List Parcel) (front : List Parcel) (file : ℕ)
+    → AreParcels limits files file (front ++ next ∷ rest) → AllByRecursion IsWhole front
+whole_before limits files next rest [] file are = tt
+whole_before limits files next rest (one ∷ []) file are = (are.2 (λ none. absurd (cc)), tt)
+whole_before limits files next rest (one ∷ other ∷ front) file are =
+    (are.2 (λ none. absurd (cc)), whole_before limits files next rest (other ∷ front) (file + 1) are.3)
+
 -- those in front of others
 pub parcels_front : (limits : LimitNumbers) (files : FilesView) (file : ℕ) (front rest : List Parcel)
     → AreParcels limits files file (front ++ rest) → AreParcels limits files file front
@@ -56,6 +80,16 @@ parcels_front limits files file [] rest are = tt
 parcels_front limits files file (one ∷ []) rest are = (are.0, are.1, λ some. absurd (some refl), tt)
 parcels_front limits files file (one ∷ next ∷ front) rest are =
     (are.0, are.1, λ _. are.2 (λ none. absurd (cc)), parcels_front limits files (file + 1) (next ∷ front) rest are.3)
+
+-- a front with one that was refused is all of them, and behind it no file was touched
+last_front : (limits : LimitNumbers) (first end : ℕ) (old new : FilesView) (front rest : List Parcel)
+    → AreRead limits first end old new (front ++ rest) → ¬ AllByRecursion IsWhole front → (other : ℕ) → first + length front ≤ other
+    → new.left other ≡ old.left other
+last_front limits first end old new front [] read refused other high =
+    let rest : List Parcel = [] in
+    read.last (λ whole. refused (all_front IsWhole front [] whole)) other (omega (arith, high, length-append front rest))
+last_front limits first end old new front (next ∷ rest) read refused other high =
+    absurd (refused (whole_before limits old next rest front first read.are))
 
 -- what was taken, a front of the parcels of files, are parcels of these
 pub read_front : (limits : LimitNumbers) (first end : ℕ) (old new : FilesView) (put got taken rest : List Parcel) → put ≡ got ++ rest
@@ -67,4 +101,5 @@ read_front limits first end old new put got taken rest order is read =
       few = let few = all.few in omega (arith, length-append got rest, few);
       at_end = all_front _ got rest all.at_end;
       rose = λ failed. all.rose (failed_front got rest failed);
+      last = last_front limits first end old new got rest all;
     })

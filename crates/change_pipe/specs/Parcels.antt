@@ -1,5 +1,5 @@
 -- What a parcel says of the file that it is of, and a list of parcels of files that follow each other.
-use Rattle.std.specs.Prelude.{◌≡◌, ◌≢◌, ◌⊎◌, ℕ, ◌+◌, List, [], ◌∷◌, Option, Ok}
+use Rattle.std.specs.Prelude.{◌≡◌, ◌≢◌, ◌⊎◌, ℕ, ◌+◌, List, [], ◌∷◌, Option, Some, Ok}
 use Rattle.osm_base.specs.declared.bounds.limits.LimitNumbers.{LimitNumbers}
 use Rattle.outside.specs.Bytes.{BothKnown, IfTold}
 use Rattle.outside.specs.Causes.{Rose}
@@ -40,11 +40,13 @@ IsReadAs limits left (Refused fault) = Stops (IsFaultOf limits left) (Unit {0}) 
 abbrev pub IsAtEnd : (old new : FilesView) → Parcel → Type 0
 IsAtEnd old new parcel = IsWhole parcel → BothKnown (old.left parcel.file) (new.left parcel.file) (λ bytes later. later ≡ [])
 
--- what a file was read as. It is at its end where it was accepted, and the count of faults rose where a read failed
+-- what a file was read as. It is at its end where it was accepted, and where it was there before; and the count of faults rose where a
+-- read failed
 pub record IsParcelOf (limits : LimitNumbers) (file : ℕ) (old new : FilesView) (parcel : Parcel) : Type 0 where
   pub number : parcel.file ≡ file
   pub body : IsReadAs limits (old.left file) parcel.body
   pub at_end : IsAtEnd old new parcel
+  pub ended : old.left file ≡ Some [] → new.left file ≡ Some []
   pub rose : IsReadFault parcel.body → Rose old.faults new.faults
 
 -- these are parcels of the files from this one on, in their order, and none is behind one that was refused

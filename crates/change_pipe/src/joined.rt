@@ -1,13 +1,13 @@
 //! Files are read by one thread while another takes what they hold.
-ghost use Rattle.std.specs.Prelude.{◌≡◌, ◌≤◌, ◌+◌, [], IfNone, IfOk, IfSome};
+ghost use Rattle.std.specs.Prelude.{◌≡◌, ◌<◌, ◌≤◌, ◌+◌, [], IfNone, IfOk, IfSome};
 ghost use Rattle.std.specs.Bool.{OnFalse};
 ghost use Rattle.change_pipe.specs.declared.pipe.TheConstants.{MAX_AHEAD};
 ghost use Rattle.change_pipe.specs.Ends.{end_view};
 ghost use Rattle.change_pipe.specs.Files.{AreRead, HasAll, ReadsAmong};
 
 use crate::parcel::{Parcel, is_whole, read_parcel};
-use crate::pipe::{Pipe, Putter, Taker, make_pipe};
-use crate::putting::put_files;
+use crate::pipe::{Pipe, Taker, make_pipe};
+use crate::putting::put_some;
 use osm_base::{Limits, OutOfMemory};
 use outside::Inputs;
 use std::alloc::Global;
@@ -65,39 +65,17 @@ fn take_some<R: Wait>(
     }
 }
 
-/// Puts files, unless nobody waits for them any more. `false`: so it is, and none was read.
-fn put_some<R: Wait, I: Inputs>(
+/// What so many files from this one on are read as, up to the first that is refused, each by so many workers.
+fn read_each<R: Threads + Sync, I: Inputs>(
     rt: &R,
     alloc: Global,
     inputs: &mut I,
     first: u32,
     count: u32,
     limits: &Limits,
-    pipe: &Pipe,
-    putter: &mut Putter,
-) -> bool
-    requires ours { putter.old ≡ end_view pipe.now.home [] }
-    requires fits { first + count ≤ 8192 }
-    ensures ours { putter.new.home ≡ pipe.now.home }
-    ensures parcels { AreRead limits.now first (first + count) (I.view inputs.old) (I.view inputs.new) putter.new.list }
-    ensures read { ReadsAmong first (first + count) (λ asked. I.reads inputs.old asked inputs.new) (I.view inputs.old) (I.view inputs.new) }
-    ensures unread { OnFalse result (inputs.new ≡ inputs.old) }
-{
-    if !pipe.begin() {
-        return false;
-    }
-    put_files(rt, alloc, inputs, first, count, limits, pipe, putter);
-    true
-}
-
-/// What so many files from this one on are read as, up to the first that is refused.
-fn read_each<I: Inputs>(
-    alloc: Global,
-    inputs: &mut I,
-    first: u32,
-    count: u32,
-    limits: &Limits,
+    workers: u32,
 ) -> Result<Vec<Parcel>, OutOfMemory>
+    requires workers { 0 < workers }
     requires fits { first + count ≤ 8192 }
     ensures parcels { IfOk result (λ read. AreRead limits.now first (first + count) (I.view inputs.old) (I.view inputs.new) read.items) }
     ensures all { IfOk result (λ read. HasAll count read.items) }
@@ -107,7 +85,7 @@ fn read_each<I: Inputs>(
     let end = first + count;
     let mut file = first;
     while file < end {
-        let parcel = read_parcel(alloc, inputs, file, limits);
+        let parcel = read_parcel(rt, alloc, inputs, file, limits, workers);
         let whole = is_whole(&parcel);
         parcels.push(parcel)?;
         if !whole {
@@ -126,8 +104,10 @@ fn read_beside<R: Threads + Wait + Sync, I: Inputs>(
     first: u32,
     count: u32,
     limits: &Limits,
+    workers: u32,
     ahead: usize,
 ) -> Result<Option<Vec<Parcel>>, OutOfMemory>
+    requires workers { 0 < workers }
     requires some { 1 ≤ ahead }
     requires few { ahead ≤ MAX_AHEAD }
     requires fits { first + count ≤ 8192 }
@@ -142,13 +122,25 @@ fn read_beside<R: Threads + Wait + Sync, I: Inputs>(
     let (read, taken) = join_mut(
         rt,
         &mut || -> bool
-            requires { (putter ≡ end_view line.now.home []) × (first + count ≤ 8192) }
+            requires { (putter ≡ end_view line.now.home []) × (0 < workers) × (first + count ≤ 8192) }
             ensures { (putter.exit.home ≡ line.entry.now.home)
                 × AreRead limits.entry.now first (first + count) (I.view inputs.entry.now) (I.view inputs.exit.now) putter.exit.list
                 × ReadsAmong first (first + count) (λ asked. I.reads inputs.entry.now asked inputs.exit.now)
                 (I.view inputs.entry.now) (I.view inputs.exit.now)
                 × OnFalse result (inputs.exit.now ≡ inputs.entry.now) }
-        { put_some(rt, alloc, inputs, first, count, limits, line, &mut putter) },
+        {
+            put_some(
+                rt,
+                alloc,
+                inputs,
+                first,
+                count,
+                limits,
+                workers,
+                line,
+                &mut putter,
+            )
+        },
         &mut || -> Result<Option<Vec<Parcel>>, OutOfMemory>
             requires { taker ≡ end_view line.now.home [] }
             ensures { (taker.exit.home ≡ line.entry.now.home)
@@ -164,7 +156,8 @@ fn read_beside<R: Threads + Wait + Sync, I: Inputs>(
     }
 }
 
-/// What so many files from this one on are read as, up to the first that is refused, where so many are read ahead.
+/// What so many files from this one on are read as, up to the first that is refused, each by so many workers, where so many files
+/// are read ahead. For callers outside: the program does not use it.
 pub fn read_ahead<R: Threads + Wait + Sync, I: Inputs>(
     rt: &R,
     alloc: Global,
@@ -172,8 +165,10 @@ pub fn read_ahead<R: Threads + Wait + Sync, I: Inputs>(
     first: u32,
     count: u32,
     limits: &Limits,
+    workers: u32,
     ahead: usize,
 ) -> Result<Vec<Parcel>, OutOfMemory>
+    requires workers { 0 < workers }
     requires some { 1 ≤ ahead }
     requires few { ahead ≤ MAX_AHEAD }
     requires fits { first + count ≤ 8192 }
@@ -181,9 +176,9 @@ pub fn read_ahead<R: Threads + Wait + Sync, I: Inputs>(
     ensures all { IfOk result (λ taken. HasAll count taken.items) }
     ensures read { ReadsAmong first (first + count) (λ asked. I.reads inputs.old asked inputs.new) (I.view inputs.old) (I.view inputs.new) }
 {
-    match read_beside(rt, alloc, inputs, first, count, limits, ahead) {
+    match read_beside(rt, alloc, inputs, first, count, limits, workers, ahead) {
         Ok(Some(taken)) => Ok(taken),
-        Ok(None) => read_each(alloc, inputs, first, count, limits),
+        Ok(None) => read_each(rt, alloc, inputs, first, count, limits, workers),
         Err(error) => Err(error),
     }
 }

@@ -6,11 +6,12 @@
 //!
 //! What was taken is always a front of what was put, in order and whole (`Pipe::end`). What is put are
 //! the parcels of the files, in order, up to the first that is refused (`put_files`): each is what the
-//! file's bytes read as. A pipe holds no more parcels than it was made for, and who waits for room or
-//! for a parcel sleeps.
+//! file's bytes read as, by as many workers as the caller says. No file behind a refused one is touched.
+//! A pipe holds no more parcels than it was made for, and who waits for room or for a parcel sleeps.
 //!
 //! No command calls it yet: `read_ahead`, the joined run in small, is its only user beside the examples,
-//! and stands as the pattern for an append that reads ahead.
+//! and stands as the pattern for an append that reads ahead: `put_some` in one closure of a join, and in
+//! the other `has_begun`, `take_when_ready` as often as it wants, and `stop`.
 #![tactic(auto)]
 
 mod joined;
@@ -23,4 +24,4 @@ mod view;
 pub use joined::read_ahead;
 pub use parcel::{Parcel, ParcelBody};
 pub use pipe::{MAX_AHEAD, Pipe, Putter, Taker, make_pipe};
-pub use putting::put_files;
+pub use putting::{put_files, put_some};

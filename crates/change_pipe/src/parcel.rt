@@ -1,12 +1,13 @@
 //! What a file of changes was read as.
-ghost use Rattle.std.specs.Prelude.{◌≡◌, ◌↔◌, IsTrue};
+ghost use Rattle.std.specs.Prelude.{◌≡◌, ◌<◌, ◌↔◌, IsTrue};
 ghost use Rattle.object_fold.specs.Reading.{ReadsNoOther};
 ghost use Rattle.change_pipe.specs.Parcels.{IsParcelOf, IsWhole};
 
-use object_fold::{Change, FileFault, read_file};
+use object_fold::{Change, FileFault, read_parallel};
 use osm_base::Limits;
 use outside::Inputs;
 use std::alloc::Global;
+use std::thread::Threads;
 
 /// All the entries of a file, or the fault for which it is refused.
 #[derive(Drop)]
@@ -32,17 +33,20 @@ pub(crate) fn is_whole(parcel: &Parcel) -> bool
     }
 }
 
-/// What a file is read as.
-pub(crate) fn read_parcel<I: Inputs>(
+/// What a file is read as by so many workers.
+pub(crate) fn read_parcel<R: Threads + Sync, I: Inputs>(
+    rt: &R,
     alloc: Global,
     inputs: &mut I,
     file: u32,
     limits: &Limits,
+    workers: u32,
 ) -> Parcel
+    requires workers { 0 < workers }
     ensures parcel { IsParcelOf limits.now file (I.view inputs.old) (I.view inputs.new) result }
     ensures read { ReadsNoOther file (λ asked. I.reads inputs.old asked inputs.new) (I.view inputs.old) (I.view inputs.new) }
 {
-    match read_file(alloc, inputs, file, limits) {
+    match read_parallel(rt, alloc, inputs, file, limits, workers) {
         Ok(change) => Parcel {
             file,
             body: ParcelBody::Whole(change),

@@ -1,5 +1,5 @@
 //! Examples of files that are read ahead, and of a pipe of which one thread has both ends.
-ghost use Rattle.std.specs.Prelude.{◌≡◌, ◌≤◌, IfSome, OnOk};
+ghost use Rattle.std.specs.Prelude.{◌≡◌, ◌<◌, ◌≤◌, IfSome, OnOk};
 ghost use Rattle.change_pipe.specs.declared.pipe.TheConstants.{MAX_AHEAD};
 
 use crate::refusal::Refusal;
@@ -12,14 +12,15 @@ use std::alloc::Global;
 use std::sync::Wait;
 use std::thread::Threads;
 
-/// A row `AHEAD FAILING FILE..`: what these files are read as, so many of them ahead, where the read of that number fails, or none as 0.
+/// A row `AHEAD WORKERS FAILING FILE..`: what these files are read as, so many of them ahead and each by so many workers, where the
+/// read of that number fails, or none as 0.
 pub fn ahead<R: Threads + Wait + Sync>(
     rt: &R,
     alloc: Global,
     given: &str,
     out: &mut String,
 ) -> Result<(), Refusal> {
-    let Some((ahead, failing, words)) = given_by(given) else {
+    let Some((ahead, workers, failing, words)) = given_by(given) else {
         return Err(Refusal::NoRow);
     };
     let files = files_of(alloc, words)?;
@@ -29,19 +30,34 @@ pub fn ahead<R: Threads + Wait + Sync>(
     let mut inputs = MemInputs::new(FileList::from_vec(files), fails_of(alloc, failing)?);
     let limits = Limits::standard();
     push_parcels(
-        &read_ahead(rt, alloc, &mut inputs, 0, count, &limits, ahead)?,
+        &read_ahead(rt, alloc, &mut inputs, 0, count, &limits, workers, ahead)?,
         out,
     )
 }
 
 /// The numbers of a row, and its files.
-fn given_by(text: &str) -> Option<(usize, u64, &str)>
-    ensures some { IfSome result (λ (ahead, _, _). 1 ≤ ahead) }
-    ensures few { IfSome result (λ (ahead, _, _). ahead ≤ MAX_AHEAD) }
+fn given_by(text: &str) -> Option<(usize, u32, u64, &str)>
+    ensures some { IfSome result (λ (ahead, _, _, _). 1 ≤ ahead) }
+    ensures few { IfSome result (λ (ahead, _, _, _). ahead ≤ MAX_AHEAD) }
+    ensures workers { IfSome result (λ (_, workers, _, _). 0 < workers) }
 {
     let (ahead, rest) = row_of(text)?;
+    let (workers, rest) = row_of(rest)?;
     let (failing, files) = row_of(rest)?;
-    Some((places_of(ahead)?, number_of(failing)?, files))
+    Some((
+        places_of(ahead)?,
+        workers_of(workers)?,
+        number_of(failing)?,
+        files,
+    ))
+}
+
+/// How many workers read a file, if there are some.
+fn workers_of(word: &str) -> Option<u32>
+    ensures some { IfSome result (λ workers. 0 < workers) }
+{
+    let workers = u32::try_from(number_of(word)?).ok()?;
+    if workers > 0 { Some(workers) } else { None }
 }
 
 /// How many parcels a pipe holds, if it may hold as many.
