@@ -2,8 +2,10 @@
 use Rattle.std.proofs.Common.{◌≡◌, ◌≢◌, ℕ, List, Option, Some, length, inl, refl, sym, ◌∙◌, subst, arith}
 use Rattle.outside.specs.Bytes.{IfTold}
 use Rattle.outside.specs.Disk.{DiskView, Stays}
+use Rattle.outside.specs.Inputs.{FilesView}
 use Rattle.run_promise.specs.declared.fault.Fault.{Fault}
 use Rattle.run_promise.specs.declared.fault.Fault.TheVariants as faults
+use Rattle.run_promise.specs.Ahead.{IsReadAhead, MayBeAhead}
 use Rattle.run_promise.specs.CommandOf.{CommandOf, Names, Use, no_store, new_store, old_store, use_of}
 use Rattle.run_promise.specs.Course.{Course}
 use Rattle.run_promise.specs.Courses.{course_of}
@@ -12,7 +14,8 @@ use Rattle.run_promise.specs.Locality.{IsLocalRun}
 use Rattle.run_promise.specs.Progress.{Standing, unused, unknown, Progress, begun}
 use Rattle.run_promise.specs.Reading.{HasItsFiles}
 use Rattle.run_promise.specs.Runs.{AsksOnly, Begins, GoesBy, IsSpared, Runs}
-use Rattle.run_promise.specs.World.{World, remembered}
+use Rattle.run_promise.specs.World.{World, remembered, with_files}
+use Rattle.run_promise.proofs.AheadLaws.{ahead_named, cause_ahead, none_ahead}
 use Rattle.run_promise.proofs.BlameLaws.{Blame}
 use Rattle.run_promise.proofs.TurnLaws.{cause_of, terms_of, told_of}
 
@@ -32,7 +35,40 @@ only_old no_store is = absurd (cc)
 only_old new_store is = absurd (cc)
 only_old old_store is = refl
 
--- a run by the course of its command
+-- a run by the course of its command, over the files as it has seen them
+pub runs_ahead : (command : CommandOf) (asks : List ℕ → Type 0) (fault : Option Fault) (old new : World) (seen : FilesView)
+    → IsReadAhead (MayBeAhead command fault) seen new.files → HasItsFiles command → AsksOnly asks (Names command)
+    → ((start : Progress) → Begins (use_of command) old start → GoesBy (course_of command) start fault old (with_files seen new))
+    → (use_of command ≡ no_store → IsSpared old.disk new.disk)
+    → (use_of command ≢ old_store → IfTold old.disk.content (λ bytes. length bytes ≢ 0 → Stays old.disk new.disk))
+    → (fault ≡ Some faults.NotFormatted → Stays old.disk new.disk)
+    → IsLocalRun command old new fault
+    → Runs command asks old new fault
+runs_ahead command asks fault old new seen ahead its asked course spared looked unformatted local =
+    let run = course (begun (start_of (use_of command)) 0) (begins_so (use_of command) old) in
+    let told = told_of command (remembered old) (start_of (use_of command)) 0 run.0 its (only_old (use_of command)) run.2 in
+    record {
+      seen = seen;
+      ahead = ahead;
+      course = course;
+      cause = λ own own_is.
+          let same : run.0.fault ≡ Some own = run.1 ∙ own_is in
+          cause_of command (remembered old) new own (subst (Blame (terms_of command) (remembered old)) same told.blame)
+          (subst (HasCause (remembered old) new) same
+          (cause_ahead (remembered old) seen new run.0.fault ahead.later run.3.cause));
+      asked = asked;
+      unnamed = λ file not. ahead.others file (λ may. not (ahead_named command fault file may))
+          ∙ run.3.others file (λ read. let own = told.up_to.only file read in
+          not (own.0, omega (arith, own.1, told.up_to.high)))
+          (λ reading. let next = told.reading file reading in
+          not (omega (arith, next.same, told.up_to.low), omega (arith, next.same, next.within)));
+      spared = spared;
+      looked = looked;
+      unformatted = unformatted;
+      local = local;
+    }
+
+-- a run that reads each file in its turn
 pub runs_by : (command : CommandOf) (asks : List ℕ → Type 0) (fault : Option Fault) (old new : World) → HasItsFiles command
     → AsksOnly asks (Names command)
     → ((start : Progress) → Begins (use_of command) old start → GoesBy (course_of command) start fault old new)
@@ -42,24 +78,8 @@ pub runs_by : (command : CommandOf) (asks : List ℕ → Type 0) (fault : Option
     → IsLocalRun command old new fault
     → Runs command asks old new fault
 runs_by command asks fault old new its asked course spared looked unformatted local =
-    let run = course (begun (start_of (use_of command)) 0) (begins_so (use_of command) old) in
-    let told = told_of command (remembered old) (start_of (use_of command)) 0 run.0 its (only_old (use_of command)) run.2 in
-    record {
-      course = course;
-      cause = λ own own_is.
-          let same : run.0.fault ≡ Some own = run.1 ∙ own_is in
-          cause_of command (remembered old) new own (subst (Blame (terms_of command) (remembered old)) same told.blame)
-          (subst (HasCause (remembered old) new) same run.3.cause);
-      asked = asked;
-      unnamed = λ file not. run.3.others file (λ read. let own = told.up_to.only file read in
-          not (own.0, omega (arith, own.1, told.up_to.high)))
-          (λ reading. let next = told.reading file reading in
-          not (omega (arith, next.same, told.up_to.low), omega (arith, next.same, next.within)));
-      spared = spared;
-      looked = looked;
-      unformatted = unformatted;
-      local = local;
-    }
+    runs_ahead command asks fault old new new.files (none_ahead (MayBeAhead command fault) new.files) its asked course spared looked
+    unformatted local
 
 -- a run that begins in one way only
 pub from_unused : (way : Use) (old new : World) (course : Course) (fault : Option Fault) → way ≢ old_store

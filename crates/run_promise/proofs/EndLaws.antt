@@ -197,10 +197,10 @@ module _ (old : Before) (ending : Ending) (well : ending.fault ≡ None) where
           told = subst (λ (end : Ending). IsTileText held.due least end.done.written) (sym is) wrote.1;
         }
 
-  pub appended_well : (store : List ℕ) (files : Files) (workers : ℕ) (kept : Kept)
-      → Comes old (course_of (append_of store files workers)) (begun (keeps kept) kept.least) ending → IsAppended old files kept ending
-  appended_well store files workers kept (inl breaks) = breaks_not _ (begun (keeps kept) kept.least) breaks
-  appended_well store files workers kept (inr (cut, low, high, comes)) =
+  pub appended_well : (store : List ℕ) (files : Files) (ahead workers : ℕ) (kept : Kept)
+      → Comes old (course_of (append_of store files ahead workers)) (begun (keeps kept) kept.least) ending → IsAppended old files kept ending
+  appended_well store files ahead workers kept (inl breaks) = breaks_not _ (begun (keeps kept) kept.least) breaks
+  appended_well store files ahead workers kept (inr (cut, low, high, comes)) =
       appended_by kept cut low high files (state_after (first cut kept.history)) refl comes
 
   pub imported_well : (store : List ℕ) (files : Files) (buckets workers : ℕ) (kept : Kept)

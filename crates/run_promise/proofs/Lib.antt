@@ -1,3 +1,4 @@
+pub mod AheadLaws
 pub mod AsciiTexts
 pub mod BlameLaws
 pub mod CommandRuns

@@ -46,7 +46,7 @@ leaves_old (lines_of key files) old kept ending wants comes = absurd (cc)
 leaves_old (init_of store) old kept ending wants comes = absurd (cc)
 leaves_old (import_of store files buckets workers) old kept ending wants comes =
     opened_left (import_into files buckets) old kept ending (λ held done is. is) comes
-leaves_old (append_of store files workers) old kept ending wants comes =
+leaves_old (append_of store files ahead workers) old kept ending wants comes =
     opened_left (append_to files) old kept ending (λ held done is. is) comes
 leaves_old (export_of store table) old kept ending wants comes = opened_left (export_from table) old kept ending (λ held done is. is) comes
 leaves_old (tiles_of store least clear) old kept ending wants comes =

@@ -9,6 +9,7 @@ use Rattle.tile_cover.specs.Table.{BoundsOf}
 use Rattle.update_flow.specs.State.{Holding, State, formatted, imported, outdated, changed, fresh}
 use Rattle.run_promise.specs.declared.fault.Fault.{Fault}
 use Rattle.run_promise.specs.declared.fault.Fault.TheVariants as faults
+use Rattle.outside.specs.Inputs.{FilesView}
 use Rattle.run_promise.specs.CommandOf.{CommandOf, points_of, lines_of, init_of, import_of, append_of, export_of, tiles_of, query_of}
 use Rattle.run_promise.specs.CommandOf.{serve_of, replay_of, migrate_of, Use, new_store, old_store, use_of}
 use Rattle.run_promise.specs.Comes.{Comes}
@@ -19,7 +20,7 @@ use Rattle.run_promise.specs.Leaves.{IsPast, Leaves, StandsOn}
 use Rattle.run_promise.specs.Progress.{Standing, unused, keeps, Progress, Ending, begun}
 use Rattle.run_promise.specs.Runs.{Begins, GoesBy, Runs}
 use Rattle.run_promise.specs.Safety.{Acknowledges, Extends, IsSafe, IsUnmade, Preserves, lines_in, steps_told}
-use Rattle.run_promise.specs.World.{GrewBy, World, remembered}
+use Rattle.run_promise.specs.World.{GrewBy, World, remembered, with_files}
 use Rattle.run_promise.proofs.CourseKeeps.{Counts, CountsMade, CountsOpen, IsUnmadeAt, Reaches, makes_safe, opens_safe}
 use Rattle.run_promise.proofs.LineCounts.{lines-grew, one_line}
 
@@ -45,9 +46,9 @@ module _ (command : CommandOf) (before : Kept) (ending : Ending) (there : Reache
   took (Some earlier) (Some later) grew = acknowledges earlier later grew
 
   -- what the run makes of the history
-  abbrev extends : (start : Progress) (old new : World) → Comes (remembered old) (course_of command) start ending
-      → Leaves start ending (remembered old) new → Extends command start before old new ending.fault
-  extends start old new comes leaves =
+  abbrev extends : (start : Progress) (old new : World) (seen : FilesView) → Comes (remembered old) (course_of command) start ending
+      → Leaves start ending (remembered old) (with_files seen new) → Extends command start before old new ending.fault
+  extends start old new seen comes leaves =
       let stands : StandsOn ending.fault (keeps there.now) (remembered old) new.disk =
       subst (λ (own : Standing). StandsOn ending.fault own (remembered old) new.disk) there.is leaves.store in
       record {
@@ -68,13 +69,14 @@ module _ (command : CommandOf) (before : Kept) (ending : Ending) (there : Reache
       }
 
 -- what a disk kept, it keeps
-goes_safe : (command : CommandOf) (before : Kept) (fault : Option Fault) (old new : World)
+goes_safe : (command : CommandOf) (before : Kept) (fault : Option Fault) (old new : World) (seen : FilesView)
     → CountsOpen (steps_told command) (course_of command) → IsFit before
-    → GoesBy (course_of command) (begun (keeps before) before.least) fault old new → Preserves command before old new fault
-goes_safe command before fault old new counts fit (ending, same, comes, leaves) =
+    → GoesBy (course_of command) (begun (keeps before) before.least) fault old (with_files seen new)
+    → Preserves command before old new fault
+goes_safe command before fault old new seen counts fit (ending, same, comes, leaves) =
     let there = opens_safe (steps_told command) before (remembered old) (course_of command) ending counts fit comes in
     subst (λ (fault : Option Fault). Preserves command before old new fault) same (record {
-      run = extends command before ending there (begun (keeps before) before.least) old new comes leaves;
+      run = extends command before ending there (begun (keeps before) before.least) old new seen comes leaves;
       moments = λ left out. ⊎_elim (λ (own : IsOneOf before left). inl own)
           (λ (own : IsPast ending.done.cut ending.done.store left).
           inr (subst (λ (store : Standing). IsPast ending.done.cut store left) there.is own)) (leaves.moments.each left out);
@@ -95,9 +97,9 @@ nothing (Some earlier) (Some later) grew = same earlier later grew
         ∙ append-nil (earlier ++ []) ∙ append-nil earlier
 
 -- no store was made
-stays_unmade : (ending : Ending) (start : Progress) (old new : World) → IsUnmadeAt ending → Leaves start ending (remembered old) new
-    → IsUnmade old new ending.fault
-stays_unmade ending start old new there leaves = record {
+stays_unmade : (ending : Ending) (start : Progress) (old new : World) (seen : FilesView) → IsUnmadeAt ending
+    → Leaves start ending (remembered old) (with_files seen new) → IsUnmade old new ending.fault
+stays_unmade ending start old new seen there leaves = record {
   refused = there.some;
   disk = ⊎_elim (λ (failed : ending.fault ≡ Some faults.DiskFault). inl failed)
       (λ (is : ending.done.store ≡ unused). inr
@@ -109,14 +111,15 @@ stays_unmade ending start old new there leaves = record {
 }
 
 -- what a run makes on an empty disk
-goes_made : (command : CommandOf) (fault : Option Fault) (old new : World) → CountsMade (steps_told command) (course_of command)
-    → old.disk.content ≡ Some [] → GoesBy (course_of command) (begun unused 0) fault old new
+goes_made : (command : CommandOf) (fault : Option Fault) (old new : World) (seen : FilesView)
+    → CountsMade (steps_told command) (course_of command) → old.disk.content ≡ Some []
+    → GoesBy (course_of command) (begun unused 0) fault old (with_files seen new)
     → IsUnmade old new fault ⊎ Extends command (begun unused 0) (whole blank) old new fault
-goes_made command fault old new counts is (ending, same, comes, leaves) =
+goes_made command fault old new seen counts is (ending, same, comes, leaves) =
     subst (λ (fault : Option Fault). IsUnmade old new fault ⊎ Extends command (begun unused 0) (whole blank) old new fault) same
-    (⊎_elim (λ (there : IsUnmadeAt ending). inl (stays_unmade ending (begun unused 0) old new there leaves))
+    (⊎_elim (λ (there : IsUnmadeAt ending). inl (stays_unmade ending (begun unused 0) old new seen there leaves))
     (λ (there : Reaches (steps_told command) (whole blank) ending).
-    inr (extends command (whole blank) ending there (begun unused 0) old new comes leaves))
+    inr (extends command (whole blank) ending there (begun unused 0) old new seen comes leaves))
     (makes_safe (steps_told command) (remembered old) [] is (course_of command) [] ending counts comes))
 
 -- change files that are appended, and what comes behind them
@@ -175,7 +178,7 @@ opens_first (import_of store files buckets workers) is = into
     into formatted = let line = one_line 0 in (refl, λ style. (refl, λ entries. (refl, (inr (omega (arith, line)), tt))))
     into (imported held) = refl
     into (outdated held) = refl
-opens_first (append_of store files workers) is = into
+opens_first (append_of store files ahead workers) is = into
   where
     into : (state : State) → Counts (append_to files state) 0 (files.count - 1)
     into formatted = refl
@@ -233,7 +236,7 @@ makes_first (points_of key files) is = absurd (cc)
 makes_first (lines_of key files) is = absurd (cc)
 makes_first (init_of store) is = (inl refl, tt)
 makes_first (import_of store files buckets workers) is = absurd (cc)
-makes_first (append_of store files workers) is = absurd (cc)
+makes_first (append_of store files ahead workers) is = absurd (cc)
 makes_first (export_of store table) is = absurd (cc)
 makes_first (tiles_of store least clear) is = absurd (cc)
 makes_first (query_of store files) is = absurd (cc)
@@ -265,9 +268,9 @@ makes_first (replay_of store files workers) is = λ style bounds.
 pub runs_safe : (command : CommandOf) (asks : List ℕ → Type 0) (old new : World) (fault : Option Fault) → Runs command asks old new fault
     → IsSafe command old new fault
 runs_safe command asks old new fault runs = record {
-  kept = λ is before kept. goes_safe command before fault old new (opens_first command is) kept.fit
+  kept = λ is before kept. goes_safe command before fault old new runs.seen (opens_first command is) kept.fit
       (runs.course (begun (keeps before) before.least)
       (subst (λ (way : Use). Begins way old (begun (keeps before) before.least)) (sym is) (inr (before, kept, refl))));
-  made = λ is empty. goes_made command fault old new (makes_first command is) empty
+  made = λ is empty. goes_made command fault old new runs.seen (makes_first command is) empty
       (runs.course (begun unused 0) (subst (λ (way : Use). Begins way old (begun unused 0)) (sym is) refl));
 }

@@ -127,18 +127,18 @@ import_to store files buckets workers formatted two = (
   ),
 )
 
-append_to_store : (store : List ℕ) (files : Files) (workers : ℕ) (state : State) → 2 ≤ files.count
-    → KeepsTo (terms_of (append_of store files workers)) files.first (Unit {0}) (append_to files state)
-append_to_store store files workers formatted two = has_store
-append_to_store store files workers (outdated held) two = refl
-append_to_store store files workers (imported held) two = (
+append_to_store : (store : List ℕ) (files : Files) (ahead workers : ℕ) (state : State) → 2 ≤ files.count
+    → KeepsTo (terms_of (append_of store files ahead workers)) files.first (Unit {0}) (append_to files state)
+append_to_store store files ahead workers formatted two = has_store
+append_to_store store files ahead workers (outdated held) two = refl
+append_to_store store files ahead workers (imported held) two = (
   refl,
   omega (arith, two),
   (λ e. absurd e),
   (λ bytes fault is. inl (refl, is)),
   (λ bytes found is. inl (refl, (found, is))),
   λ bounds.
-      appends_to (terms_of (append_of store files workers)) (files.first + 1)
+      appends_to (terms_of (append_of store files ahead workers)) (files.first + 1)
       (λ file low high. record {
         faulty = λ bytes fault is. inr (low, is);
         accepts =
@@ -294,7 +294,7 @@ keeps_to (lines_of key files) its =
     (omega arith) refl (λ early. tt) (λ entries. tt)
 keeps_to (init_of store) its = (refl, (refl, makes_store, tt))
 keeps_to (import_of store files buckets workers) its = (refl, has_store, λ state. import_to store files buckets workers state its)
-keeps_to (append_of store files workers) its = (refl, has_store, λ state. append_to_store store files workers state its)
+keeps_to (append_of store files ahead workers) its = (refl, has_store, λ state. append_to_store store files ahead workers state its)
 keeps_to (export_of store table) its = (refl, has_store, λ state. export_to store table state)
 keeps_to (tiles_of store least clear) its = (refl, has_store, λ state. tiles_to store least clear state)
 keeps_to (query_of store files) its = (refl, has_store, λ state. query_to store files state its)

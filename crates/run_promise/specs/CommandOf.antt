@@ -3,7 +3,7 @@ use Rattle.std.specs.Prelude.{◌≡◌, ℕ, ◌+◌, ◌<◌, ◌≤◌, Bool,
 use Rattle.std.specs.Int.{is_power_of_two}
 use Rattle.tile_cover.specs.declared.runs.TheConstants.{MAX_ZOOM}
 use Rattle.run_promise.specs.declared.files.Files.{Files}
-use Rattle.run_promise.specs.declared.ranges.TheConstants.{MAX_BUCKETS, MAX_READERS}
+use Rattle.run_promise.specs.declared.ranges.TheConstants.{MAX_AHEAD, MAX_BUCKETS, MAX_READERS}
 
 -- a command with its words; a file is told by the place of its word among all words, the command word being at 0
 pub data CommandOf : Type 0 where
@@ -11,7 +11,7 @@ pub data CommandOf : Type 0 where
   lines_of : (key : List ℕ) → (files : Files) → CommandOf
   init_of : (store : List ℕ) → CommandOf
   import_of : (store : List ℕ) → (files : Files) → (buckets : ℕ) → (workers : ℕ) → CommandOf
-  append_of : (store : List ℕ) → (files : Files) → (workers : ℕ) → CommandOf
+  append_of : (store : List ℕ) → (files : Files) → (ahead : ℕ) → (workers : ℕ) → CommandOf
   export_of : (store : List ℕ) → (table : List ℕ) → CommandOf
   tiles_of : (store : List ℕ) → (least : ℕ) → (clear : Bool) → CommandOf
   query_of : (store : List ℕ) → (files : Files) → CommandOf
@@ -23,7 +23,7 @@ pub data CommandOf : Type 0 where
 abbrev pub store_of : Option CommandOf → Option (List ℕ)
 store_of (Some (init_of store)) = Some store
 store_of (Some (import_of store files buckets workers)) = Some store
-store_of (Some (append_of store files workers)) = Some store
+store_of (Some (append_of store files ahead workers)) = Some store
 store_of (Some (export_of store table)) = Some store
 store_of (Some (tiles_of store least clear)) = Some store
 store_of (Some (query_of store files)) = Some store
@@ -56,7 +56,7 @@ use_of (points_of key files) = no_store
 use_of (lines_of key files) = no_store
 use_of (init_of store) = new_store
 use_of (import_of store files buckets workers) = old_store
-use_of (append_of store files workers) = old_store
+use_of (append_of store files ahead workers) = old_store
 use_of (export_of store table) = old_store
 use_of (tiles_of store least clear) = old_store
 use_of (query_of store files) = old_store
@@ -69,7 +69,7 @@ abbrev pub files_of : CommandOf → Files
 files_of (points_of key files) = files
 files_of (lines_of key files) = files
 files_of (import_of store files buckets workers) = files
-files_of (append_of store files workers) = files
+files_of (append_of store files ahead workers) = files
 files_of (query_of store files) = files
 files_of (serve_of store files workers readers) = files
 files_of (replay_of store files workers) = files
@@ -102,7 +102,7 @@ FilesFit (points_of key files) = Fit files
 FilesFit (lines_of key files) = Fit files
 FilesFit (init_of store) = Unit {0}
 FilesFit (import_of store files buckets workers) = FitFrom 2 files × (files.count ≡ 2) × AreBuckets buckets
-FilesFit (append_of store files workers) = FitFrom 2 files
+FilesFit (append_of store files ahead workers) = FitFrom 2 files × (ahead ≤ MAX_AHEAD)
 FilesFit (export_of store table) = Unit {0}
 FilesFit (tiles_of store least clear) = least ≤ MAX_ZOOM
 FilesFit (query_of store files) = FitFrom 1 files × (files.count ≡ 1)

@@ -126,5 +126,5 @@ IsLocal own old new = (bytes : List ℕ) (held : Holding) (pages : List (List �
 
 -- a run of a command
 abbrev pub IsLocalRun : CommandOf → World → World → Option Fault → Type 0
-IsLocalRun (append_of store files workers) old new fault = fault ≡ None → IsLocal files old new
+IsLocalRun (append_of store files ahead workers) old new fault = fault ≡ None → IsLocal files old new
 IsLocalRun _ old new fault = Unit {0}

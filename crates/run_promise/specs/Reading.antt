@@ -25,7 +25,7 @@ AcceptsQueries file bytes = (style : StyleOf) × (found : List Query) × IsQueri
 abbrev pub Accepts : CommandOf → (file : ℕ) → List ℕ → Type 0
 Accepts (import_of store files buckets workers) file bytes =
     ((file ≡ files.first) × AcceptsStyle file bytes) ⊎ ((files.first + 1 ≤ file) × AcceptsChange file bytes)
-Accepts (append_of store files workers) file bytes =
+Accepts (append_of store files ahead workers) file bytes =
     ((file ≡ files.first) × AcceptsBounds file bytes) ⊎ ((files.first + 1 ≤ file) × AcceptsChange file bytes)
 Accepts (query_of store files) file bytes = AcceptsQueries file bytes
 Accepts (serve_of store files workers readers) file bytes =
@@ -40,7 +40,7 @@ Accepts _ file bytes = AcceptsChange file bytes
 abbrev pub HasFault : CommandOf → (file : ℕ) → List ℕ → Fault → Type 0
 HasFault (import_of store files buckets workers) file bytes fault =
     ((file ≡ files.first) × IsStyle file bytes (Err fault)) ⊎ ((files.first + 1 ≤ file) × IsChange file bytes (Err fault))
-HasFault (append_of store files workers) file bytes fault =
+HasFault (append_of store files ahead workers) file bytes fault =
     ((file ≡ files.first) × IsBounds file bytes (Err fault)) ⊎ ((files.first + 1 ≤ file) × IsChange file bytes (Err fault))
 HasFault (query_of store files) file bytes fault = (style : StyleOf) × IsQueries style file bytes (Err fault)
 HasFault (serve_of store files workers readers) file bytes fault =
@@ -54,7 +54,7 @@ HasFault _ file bytes fault = IsChange file bytes (Err fault)
 
 -- the command writes nothing before all its files are read
 abbrev pub ReadsFirst : CommandOf → Type 0
-ReadsFirst (append_of store files workers) = ⊥
+ReadsFirst (append_of store files ahead workers) = ⊥
 ReadsFirst (serve_of store files workers readers) = ⊥
 ReadsFirst (replay_of store files workers) = ⊥
 ReadsFirst _ = Unit {0}
@@ -62,7 +62,7 @@ ReadsFirst _ = Unit {0}
 -- it has as many files as its form has
 abbrev pub HasItsFiles : CommandOf → Type 0
 HasItsFiles (import_of store files buckets workers) = files.count ≡ 2
-HasItsFiles (append_of store files workers) = 2 ≤ files.count
+HasItsFiles (append_of store files ahead workers) = 2 ≤ files.count
 HasItsFiles (query_of store files) = files.count ≡ 1
 HasItsFiles (serve_of store files workers readers) = 2 ≤ files.count
 HasItsFiles (replay_of store files workers) = 3 ≤ files.count

@@ -3,8 +3,10 @@ use Rattle.std.specs.Prelude.{◌≡◌, ◌≢◌, ◌⊎◌, ℕ, List, [], le
 use Rattle.std.specs.List.{AllByRecursion}
 use Rattle.outside.specs.Bytes.{IfTold}
 use Rattle.outside.specs.Disk.{DiskView, NoneNew, Stays}
+use Rattle.outside.specs.Inputs.{FilesView}
 use Rattle.run_promise.specs.declared.fault.Fault.{Fault}
 use Rattle.run_promise.specs.declared.fault.Fault.TheVariants.{Usage, NotFormatted}
+use Rattle.run_promise.specs.Ahead.{IsReadAhead, MayBeAhead}
 use Rattle.run_promise.specs.Causes.{Cause}
 use Rattle.run_promise.specs.Comes.{Comes}
 use Rattle.run_promise.specs.CommandOf.{CommandOf, Names, Use, no_store, new_store, old_store, use_of}
@@ -14,7 +16,7 @@ use Rattle.run_promise.specs.Keeps.{Kept, IsKept}
 use Rattle.run_promise.specs.Leaves.{Leaves}
 use Rattle.run_promise.specs.Locality.{IsLocalRun}
 use Rattle.run_promise.specs.Progress.{Standing, unused, unknown, keeps, Progress, Ending, begun}
-use Rattle.run_promise.specs.World.{World, remembered}
+use Rattle.run_promise.specs.World.{World, remembered, with_files}
 
 -- from such a beginning the run went by this course, to an end that the course may have
 abbrev pub GoesBy : Course → (start : Progress) → Option Fault → World → World → Type 0
@@ -49,8 +51,12 @@ AsksOnly asks named = (files : List ℕ) × asks files × AllByRecursion named f
 
 -- a run of a command, in which the inputs were asked for these files
 pub record Runs (command : CommandOf) (asks : List ℕ → Type 0) (old new : World) (fault : Option Fault) : Type 0 where
-  -- it goes by the course of the command
-  pub course : (start : Progress) → Begins (use_of command) old start → GoesBy (course_of command) start fault old new
+  -- the files as it has seen them, of which it may have read some before their turn
+  pub seen : FilesView
+  pub ahead : IsReadAhead (MayBeAhead command fault) seen new.files
+  -- over these it goes by the course of the command
+  pub course : (start : Progress) → Begins (use_of command) old start
+      → GoesBy (course_of command) start fault old (with_files seen new)
   -- each fault has its cause
   pub cause : (own : Fault) → fault ≡ Some own → Cause command (remembered old) new own
   -- files that the command does not name are not asked for and not touched, and neither is the disk where it names no store

@@ -32,7 +32,7 @@ lines_in bytes = length (filter (nat_eq 10) bytes)
 -- how many steps a command tells, if it comes to its end: each in a line of its own, and these lines are the first that it writes
 abbrev pub steps_told : CommandOf → ℕ
 steps_told (import_of store files buckets workers) = 1
-steps_told (append_of store files workers) = files.count - 1
+steps_told (append_of store files ahead workers) = files.count - 1
 steps_told (serve_of store files workers readers) = files.count - 2
 steps_told (replay_of store files workers) = files.count - 2
 steps_told _ = 0

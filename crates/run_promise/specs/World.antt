@@ -14,6 +14,10 @@ pub record World : Type 1 where
 abbrev pub world : FilesView → DiskView → SinkView → World
 world files disk output = record { files = files; disk = disk; output = output }
 
+-- with other files
+abbrev pub with_files : FilesView → World → World
+with_files files own = world files own.disk own.output
+
 -- what is remembered of the outside as a run began: the bytes in each file, on the disk and in the output, where they are
 -- told, the moment, and the counts of faults
 pub record Before : Type 0 where

@@ -41,8 +41,8 @@ pub fn migrations_end_well()
 
 /// An append that ends well has appended each of its change files, one after another, and told each.
 pub fn appends_end_well()
-    ensures appended { (old : Before) (store : List ℕ) (files : Files) (workers : ℕ) (kept : Kept) (ending : Ending)
-        → Comes old (course_of (append_of store files workers)) (begun (keeps kept) kept.least) ending → ending.fault ≡ None
+    ensures appended { (old : Before) (store : List ℕ) (files : Files) (ahead workers : ℕ) (kept : Kept) (ending : Ending)
+        → Comes old (course_of (append_of store files ahead workers)) (begun (keeps kept) kept.least) ending → ending.fault ≡ None
         → IsAppended old files kept ending }
 {}
 

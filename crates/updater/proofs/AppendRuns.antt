@@ -14,7 +14,7 @@ use Rattle.run_promise.specs.Progress.{Progress, Ending}
 use Rattle.run_promise.specs.World.{Before, world}
 use Rattle.updater.proofs.VersionRuns.{goes_back}
 
-appends-step : (bounds : BoundsOf) (held : Holding) (file left count : ℕ) (rest : Holding → Course) → left ≡ suc count
+pub appends-step : (bounds : BoundsOf) (held : Holding) (file left count : ℕ) (rest : Holding → Course) → left ≡ suc count
     → appends bounds held file left rest ≡ appends_one bounds held file (λ next. appends bounds next (file + 1) count rest)
 unfolding appends
 appends-step bounds held file left count rest is = ap (λ n. appends bounds held file n rest) is

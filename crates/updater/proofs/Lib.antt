@@ -14,6 +14,7 @@ pub mod OpenDeeds
 pub mod OpenRuns
 pub mod VersionRuns
 pub mod AppendRuns
+pub mod AheadRuns
 pub mod StoreRuns
 pub mod MakeRuns
 pub mod MigrateRuns

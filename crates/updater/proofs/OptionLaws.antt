@@ -10,7 +10,7 @@ use Rattle.std.proofs.lemmas.List.{drop_more}
 use Rattle.updater.specs.declared.options.Allowed.{Allowed}
 use Rattle.updater.specs.declared.options.Options.{Options}
 use Rattle.updater.specs.declared.options.TheConstants.{BUCKETS, READERS}
-use Rattle.run_promise.specs.declared.ranges.TheConstants.{MAX_BUCKETS, MAX_READERS}
+use Rattle.run_promise.specs.declared.ranges.TheConstants.{MAX_AHEAD, MAX_BUCKETS, MAX_READERS}
 use Rattle.run_promise.specs.CommandOf.{AreBuckets, AreReaders}
 use Rattle.updater.specs.Options.{AreInRange, with_option, with_options}
 
@@ -56,3 +56,10 @@ buckets_among (Some value) buckets h is = subst (λ (own : ℕ). AreBuckets own)
 
 pub buckets_fit : (options : Options) (buckets : ℕ) → AreInRange options → buckets ≡ unwrap_or options.buckets BUCKETS → AreBuckets buckets
 buckets_fit options buckets range is = buckets_among options.buckets buckets range.power is
+
+ahead_among : (value : Option ℕ) (ahead : ℕ) → IfSome value (λ ahead. ahead ≤ MAX_AHEAD) → ahead ≡ unwrap_or value 0 → ahead ≤ MAX_AHEAD
+ahead_among None ahead h is = omega (arith, is)
+ahead_among (Some value) ahead h is = omega (arith, is, h)
+
+pub ahead_fits : (options : Options) (ahead : ℕ) → AreInRange options → ahead ≡ unwrap_or options.ahead 0 → ahead ≤ MAX_AHEAD
+ahead_fits options ahead range is = ahead_among options.ahead ahead range.few_ahead is

@@ -5,12 +5,14 @@ ghost use Rattle.style_read.specs.Reading.{reading};
 ghost use Rattle.updater.specs.FileReads.{ReadsFile};
 ghost use Rattle.run_promise.specs.Files.{IsBounds, IsChange, IsQueries, IsStyle};
 
+use geom_workers::Hands;
 use map_query::{Queries, read_queries};
-use object_fold::{Change, read_all, read_file};
+use object_fold::{Change, read_all, read_parallel};
 use osm_base::{Bytes, LimitKind, Limits, MAX_ENTRIES};
 use outside::Inputs;
 use run_promise::{Fault, MAX_WHOLE};
 use std::alloc::Global;
+use std::thread::Threads;
 use style_read::{Style, read_style};
 use tile_cover::{Bounds, read_bounds};
 
@@ -21,12 +23,18 @@ pub struct StyleFile {
     pub bytes: Bytes,
 }
 
-/// The entries of a file.
-pub fn read_change<I: Inputs>(alloc: Global, inputs: &mut I, file: u32) -> Result<Change, Fault>
+/// The entries of a file, read by all hands.
+pub fn read_change<R: Threads + Sync, I: Inputs, G>(
+    hands: &Hands<'_, R, G>,
+    inputs: &mut I,
+    file: u32,
+) -> Result<Change, Fault>
     ensures reads { ReadsFile (IsChange file) file (λ asked. I.reads inputs.old asked inputs.new) result (I.view inputs.old) (I.view inputs.new) }
     ensures few { IfOk result (λ change. length change ≤ MAX_ENTRIES) }
 {
-    let change = match read_file(alloc, inputs, file, &Limits::standard()) {
+    let limits = Limits::standard();
+    let workers = hands.workers.count();
+    let change = match read_parallel(hands.rt, hands.alloc, inputs, file, &limits, workers) {
         Ok(change) => change,
         Err(fault) => return Err(Fault::in_file(file, fault)),
     };

@@ -11,6 +11,7 @@
 //! the disk back.
 #![tactic(auto)]
 
+mod ahead;
 mod answers;
 mod blocks;
 mod change_files;

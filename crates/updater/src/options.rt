@@ -7,7 +7,7 @@ ghost use Rattle.updater.specs.Options as spec;
 
 use crate::number::number_of;
 use geom_workers::Workers;
-use run_promise::{MAX_BUCKETS, MAX_READERS};
+use run_promise::{MAX_AHEAD, MAX_BUCKETS, MAX_READERS};
 
 /// The workers of a command whose options say nothing of them.
 pub const WORKERS: u32 = 4;
@@ -25,6 +25,7 @@ pub struct Options {
     pub readers: Option<u32>,
     pub buckets: Option<u32>,
     pub clear: bool,
+    pub ahead: Option<u32>,
 }
 
 /// Which options belong to a command.
@@ -34,6 +35,7 @@ pub struct Allowed {
     pub readers: bool,
     pub buckets: bool,
     pub clear: bool,
+    pub ahead: bool,
 }
 
 /// What these words say. `None`: one of them does not belong to the command, stood before, or has no value in range.
@@ -46,6 +48,7 @@ pub fn options_of(allowed: Allowed, words: &[String]) -> Option<Options>
         readers: None,
         buckets: None,
         clear: false,
+        ahead: None,
     };
     for word in words {
         match with_option(allowed, options, word) {
@@ -72,8 +75,11 @@ fn with_option(allowed: Allowed, options: Options, word: &str) -> Option<Options
     if let Some(value) = bytes.strip_prefix(b"buckets=") {
         return with_buckets(allowed, options, value);
     }
-    match bytes.strip_prefix(b"readers=") {
-        Some(value) => with_readers(allowed, options, value),
+    if let Some(value) = bytes.strip_prefix(b"readers=") {
+        return with_readers(allowed, options, value);
+    }
+    match bytes.strip_prefix(b"ahead=") {
+        Some(value) => with_ahead(allowed, options, value),
         None => None,
     }
 }
@@ -151,6 +157,21 @@ fn with_buckets(allowed: Allowed, options: Options, value: &[u8]) -> Option<Opti
     }
     Some(Options {
         buckets: Some(buckets),
+        ..options
+    })
+}
+
+/// The options with this number of files to be read ahead.
+fn with_ahead(allowed: Allowed, options: Options, value: &[u8]) -> Option<Options>
+    ensures option { result ≡ spec.with_ahead allowed options value.now }
+    ensures range { spec.AreInRange options → IfSome result spec.AreInRange }
+{
+    let ahead = number_of(value)?;
+    if !allowed.ahead || options.ahead.is_some() || ahead > MAX_AHEAD {
+        return None;
+    }
+    Some(Options {
+        ahead: Some(ahead),
         ..options
     })
 }

@@ -102,6 +102,7 @@ fn run_command<R: Threads + Wait + Sync, I: Inputs, D: Disk, S: Sink, G: Gate>(
         Command::Append {
             store: _,
             files,
+            ahead,
             workers,
         } => {
             let hands = Hands {
@@ -110,7 +111,7 @@ fn run_command<R: Threads + Wait + Sync, I: Inputs, D: Disk, S: Sink, G: Gate>(
                 workers,
                 gate,
             };
-            append(&hands, files, inputs, disk, out)
+            append(&hands, files, ahead, inputs, disk, out)
         }
         Command::Export { store: _, table } => export(alloc, table, inputs, disk, out),
         Command::Tiles {

@@ -1,9 +1,11 @@
 //! Versions of an open store: a file is imported or appended in one commit, and that is told.
-ghost use Rattle.std.specs.Prelude.{◌≡◌, ◌+◌, ℕ, List, Ok, IfErr, IfOk, OnErr, OnOk};
+ghost use Rattle.std.specs.Prelude.{◌≡◌, ◌≤◌, ◌+◌, ℕ, List, Ok, IfErr, IfOk, OnErr, OnOk, length};
 ghost use Rattle.std.specs.Io.KnownBytes.{Appends};
 ghost use Rattle.std.specs.Result.{result_err};
 ghost use Rattle.outside.specs.Bytes.{AppendsPrefix};
+ghost use Rattle.osm_base.specs.declared.bounds.limits.TheConstants.{MAX_ENTRIES};
 ghost use Rattle.outside.specs.Causes.{HasCause};
+ghost use Rattle.outside.specs.Inputs.{FilesView};
 ghost use Rattle.page_journal.specs.Crash.{IsAtRest};
 ghost use Rattle.style_read.specs.Reading.{reading};
 ghost use Rattle.update_flow.specs.Handle.{IsOpen, changes_of, view_of};
@@ -15,15 +17,18 @@ ghost use Rattle.updater.specs.Heads.{IsHead, Leads};
 ghost use Rattle.updater.specs.Versions.{AppendsHere};
 ghost use Rattle.run_promise.specs.Locality.{AppendsThere};
 ghost use Rattle.run_promise.specs.Progress.{Progress};
-ghost use Rattle.updater.specs.FileReads.{Among};
+ghost use Rattle.run_promise.specs.Files.{IsChange};
+ghost use Rattle.updater.specs.Ahead.{TakesChanges, TakesOrStops};
+ghost use Rattle.updater.specs.FileReads.{Among, IsRead};
 ghost use Rattle.updater.specs.Serving.{LeadsBy};
-ghost use Rattle.updater.specs.Works.{Works, WorksOn};
+ghost use Rattle.updater.specs.Works.{KeepsOpen, Works, WorksOn};
 ghost use Rattle.run_promise.specs.World.{Before};
 
 use crate::change_files::ChangeFiles;
 use crate::file_reads::{StyleFile, read_change};
 use crate::telling::tell;
 use geom_workers::Hands;
+use object_fold::Change;
 use osm_base::Delta;
 use outside::{Disk, Gate, GatePlace, Inputs, Sink};
 use run_promise::Fault;
@@ -66,7 +71,7 @@ pub fn import_file<R: Threads + Sync, I: Inputs, D: Disk, S: Sink, G: Gate>(
     ensures works { WorksOn (λ asked. I.reads inputs.old asked inputs.new) file (result_err result) store.old store.new }
 {
     let StyleFile { style, bytes } = style;
-    let change = match read_change(hands.alloc, inputs, file) {
+    let change = match read_change(hands, inputs, file) {
         Ok(change) => change,
         Err(fault) => return Err(fault),
     };
@@ -76,7 +81,38 @@ pub fn import_file<R: Threads + Sync, I: Inputs, D: Disk, S: Sink, G: Gate>(
     tell_version(out, 0)
 }
 
-/// Appends a change file to a store that was imported, and tells so. Answers how the tables differ from then on.
+/// Appends the entries of a change file to a store that was imported, and tells so. Answers how the tables differ from then on.
+pub fn commit_change<R: Threads + Sync, D: Disk, S: Sink, G: Gate>(
+    hands: &Hands<'_, R, G>,
+    bounds: &Bounds,
+    file: u32,
+    change: Change,
+    store: &mut Updater<'_, D>,
+    out: &mut S,
+) -> Result<Delta, Fault>
+    requires few { length change ≤ MAX_ENTRIES }
+    ensures leads { (files read : FilesView) (old : Before) (start done : Progress) (held : Holding) → IsRead (IsChange file) file change files read
+        → IsHead start done (imported held) file old files (handle_of store.old) (S.view out.old)
+        → LeadsBy bounds.now file result start done held old read (handle_of store.new) (S.view out.new) }
+    ensures local { OnOk result ((files read : FilesView) (held : Holding) (pages : List (List ℕ)) → IsRead (IsChange file) file change files read
+        → IsOpen (imported held) (handle_of store.old) → IsAtRest pages (view_of (handle_of store.old))
+        → AppendsHere bounds.now held pages file files read (handle_of store.old) (handle_of store.new)) }
+    ensures version { IfOk result (λ delta. delta.version ≡ changes_of (handle_of store.old) + 1) }
+    ensures changes { OnOk result (changes_of (handle_of store.new) ≡ changes_of (handle_of store.old) + 1) }
+    ensures keeps { KeepsOpen (result_err result) store.old store.new }
+    ensures takes { TakesChanges (handle_of store.old) → TakesOrStops (result_err result) (handle_of store.new) }
+{
+    let delta = match store.append_one(hands, bounds, change) {
+        Ok(delta) => delta,
+        Err(fault) => return Err(Fault::in_flow(fault)),
+    };
+    match tell_version(out, delta.version) {
+        Ok(()) => Ok(delta),
+        Err(fault) => Err(fault),
+    }
+}
+
+/// Reads a change file, and does so with its entries.
 pub fn commit_file<R: Threads + Sync, I: Inputs, D: Disk, S: Sink, G: Gate>(
     hands: &Hands<'_, R, G>,
     bounds: &Bounds,
@@ -93,18 +129,11 @@ pub fn commit_file<R: Threads + Sync, I: Inputs, D: Disk, S: Sink, G: Gate>(
     ensures changes { OnOk result (changes_of (handle_of store.new) ≡ changes_of (handle_of store.old) + 1) }
     ensures works { WorksOn (λ asked. I.reads inputs.old asked inputs.new) file (result_err result) store.old store.new }
 {
-    let change = match read_change(hands.alloc, inputs, file) {
+    let change = match read_change(hands, inputs, file) {
         Ok(change) => change,
         Err(fault) => return Err(fault),
     };
-    let delta = match store.append_one(hands, bounds, change) {
-        Ok(delta) => delta,
-        Err(fault) => return Err(Fault::in_flow(fault)),
-    };
-    match tell_version(out, delta.version) {
-        Ok(()) => Ok(delta),
-        Err(fault) => Err(fault),
-    }
+    commit_change(hands, bounds, file, change, store, out)
 }
 
 /// Appends a change file to a store that was imported, and tells so.

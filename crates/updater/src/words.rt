@@ -40,10 +40,11 @@ pub enum Command<'a> {
         buckets: u64,
         workers: Workers,
     },
-    /// Changes of a store, one after another: BOUNDS and the change files.
+    /// Changes of a store, one after another: BOUNDS and the change files, of which so many are read ahead.
     Append {
         store: &'a str,
         files: Files,
+        ahead: u32,
         workers: Workers,
     },
     /// The rows of a table of a store.

@@ -29,7 +29,7 @@ usage: yilgartzu points KEY INPUT [CHANGE..]
        yilgartzu lines KEY INPUT [CHANGE..]
        yilgartzu init STORE
        yilgartzu import [workers=N] [buckets=N] STORE STYLE INPUT
-       yilgartzu append [workers=N] STORE BOUNDS CHANGE..
+       yilgartzu append [ahead=N] [workers=N] STORE BOUNDS CHANGE..
        yilgartzu export STORE TABLE
        yilgartzu tiles [clear=yes] STORE MINZOOM
        yilgartzu query STORE QUERIES
@@ -49,7 +49,8 @@ tables, and BOUNDS has the latitudes that bound the rows of tiles of a zoom.
   import       read INPUT into a store that was only made, under the tables of
                STYLE, and write `version 0`
   append       apply the change files in order, each whole or not at all, and
-               write `version N` for each
+               write `version N` for each; with ahead=N the next N files are
+               read meanwhile
   export       write the rows of a table
   tiles        write the tiles that changes have made due, from MINZOOM to zoom
                16, as zoom/column/row; with clear=yes none is due afterwards
@@ -64,9 +65,9 @@ tables, and BOUNDS has the latitudes that bound the rows of tiles of a zoom.
   --help       this text
   --version    the version
 
-workers is 1 to 64 (4 where it is not given), readers 1 to 64 (2), buckets a
-power of two up to 65536 (1024). Options stand before all other words, and a word
--- ends them. Status 0: done; 2: wrong words; 3: a line is wrong; 4: STYLE is; 5:
+workers is 1 to 64 (4 where it is not given), readers 1 to 64 (2), ahead 0 to 8
+(0), buckets a power of two up to 65536 (1024). Options stand before all other
+words, and a word -- ends them. Status 0: done; 2: wrong words; 3: a line is wrong; 4: STYLE is; 5:
 BOUNDS is; 6: STORE is no store, is damaged, or is not in the state for this; 7: a
 file could not be read; 8: the output failed; 9: the disk of STORE failed; 10: a
 limit; 11: out of memory; 12: no such table, or a line of QUERIES is wrong.

@@ -1,4 +1,4 @@
--- `append STORE BOUNDS CHANGE+`, with `workers=`.
+-- `append STORE BOUNDS CHANGE+`, with `workers=` and `ahead=`.
 use Rattle.std.specs.Prelude.{ℕ, true, false, Option, Some, List}
 use Rattle.std.specs.Option.{option_and_then, unwrap_or}
 use Rattle.run_promise.specs.CommandOf.{CommandOf, append_of}
@@ -9,10 +9,10 @@ use Rattle.updater.specs.declared.options.Allowed.{Allowed}
 
 -- the options that belong to it
 abbrev pub allowed : Allowed
-allowed = record { workers = true; readers = false; buckets = false; clear = false }
+allowed = record { workers = true; readers = false; buckets = false; clear = false; ahead = true }
 
 -- the form of its words
 abbrev pub form : (options words : List (List ℕ)) → (place : ℕ) → Option CommandOf
 form options words place = option_and_then
-    (λ own. option_and_then (λ (store, files). Some (append_of store files (unwrap_or own.workers WORKERS)))
+    (λ own. option_and_then (λ (store, files). Some (append_of store files (unwrap_or own.ahead 0) (unwrap_or own.workers WORKERS)))
     (stored_files 2 words place)) (options_read allowed options)

@@ -1,9 +1,12 @@
-//! `append STORE BOUNDS CHANGE+`: change files, one after another.
-ghost use Rattle.std.specs.Prelude.{List, ℕ, OnOk};
+//! `append STORE BOUNDS CHANGE+`: change files, one after another, of which some are read ahead.
+ghost use Rattle.std.specs.Prelude.{◌≤◌, List, ℕ, OnOk};
+ghost use Rattle.run_promise.specs.Ahead.{IsReadAhead, MayBeRead};
 ghost use Rattle.run_promise.specs.CommandOf.{FitFrom};
+ghost use Rattle.run_promise.specs.declared.ranges.TheConstants.{MAX_AHEAD};
 ghost use Rattle.updater.specs.Command.{IsReadAs};
 ghost use Rattle.updater.specs.commands.Append as append;
 ghost use Rattle.std.specs.Result.{result_err};
+ghost use Rattle.outside.specs.Inputs.{FilesView};
 ghost use Rattle.page_journal.specs.Crash.{IsAtRest};
 ghost use Rattle.update_flow.specs.State.{Holding, State, imported};
 ghost use Rattle.update_flow.specs.Handle.{IsOpen, view_of};
@@ -17,16 +20,17 @@ ghost use Rattle.run_promise.specs.Courses.{append_to};
 ghost use Rattle.updater.specs.FileReads.{Among};
 ghost use Rattle.updater.specs.Works.{Does, Works};
 
+use crate::ahead::append_ahead;
 use crate::change_files::ChangeFiles;
 use crate::file_reads::read_bounds_file;
 use crate::forms::{Words, stored_files};
 use crate::options::{Allowed, options_of, usual_workers};
-use crate::versions::append_files;
 use crate::words::Command;
 use geom_workers::Hands;
 use osm_base::Limits;
 use outside::{Disk, Gate, Inputs, Sink};
 use run_promise::{Fault, Files};
+use std::sync::Wait;
 use std::thread::Threads;
 use update_flow::{Updater, open};
 
@@ -36,6 +40,7 @@ const ALLOWED: Allowed = Allowed {
     readers: false,
     buckets: false,
     clear: false,
+    ahead: true,
 };
 
 /// The form of its words.
@@ -47,21 +52,25 @@ pub fn form(words: Words<'_>) -> Option<Command<'_>>
     Some(Command::Append {
         store,
         files,
+        ahead: own.ahead.unwrap_or(0),
         workers: own.workers.unwrap_or(usual_workers()),
     })
 }
 
-/// Opens the store, and appends the change files to it under BOUNDS.
-pub fn append<R: Threads + Sync, I: Inputs, D: Disk, S: Sink, G: Gate>(
+/// Opens the store, and appends the change files to it under BOUNDS, of which so many are read ahead. It goes by its course over the
+/// files as it has seen them.
+pub fn append<R: Threads + Wait + Sync, I: Inputs, D: Disk, S: Sink, G: Gate>(
     hands: &Hands<'_, R, G>,
     files: Files,
+    ahead: u32,
     inputs: &mut I,
     disk: &mut D,
     out: &mut S,
 ) -> Result<(), Fault>
-    requires fits { FitFrom 2 files }
-    ensures does { Does (opens (append_to files)) (λ asked. I.reads inputs.old asked inputs.new) (Among files.first files.count)
-        (world (I.view inputs.old) (D.view disk.old) (S.view out.old)) (world (I.view inputs.new) (D.view disk.new) (S.view out.new)) (result_err result) }
+    requires fits { FitFrom 2 files × (ahead ≤ MAX_AHEAD) }
+    ensures does { (seen : FilesView) × IsReadAhead (MayBeRead files ahead (result_err result)) seen (I.view inputs.new)
+        × Does (opens (append_to files)) (λ asked. I.reads inputs.old asked inputs.new) (Among files.first files.count)
+        (world (I.view inputs.old) (D.view disk.old) (S.view out.old)) (world seen (D.view disk.new) (S.view out.new)) (result_err result) }
     ensures local { OnOk result (IsLocal files
         (world (I.view inputs.old) (D.view disk.old) (S.view out.old))
         (world (I.view inputs.new) (D.view disk.new) (S.view out.new))) }
@@ -72,22 +81,24 @@ pub fn append<R: Threads + Sync, I: Inputs, D: Disk, S: Sink, G: Gate>(
         Err(fault) => return Err(Fault::in_flow(fault)),
     };
     let mut store = Updater::over(hands.alloc, disk, opened, &limits);
-    let done = append_store(hands, files, inputs, &mut store, out);
+    let done = append_store(hands, files, ahead, inputs, &mut store, out);
     let _disk = store.close();
     done
 }
 
 /// The same on an open store.
-fn append_store<R: Threads + Sync, I: Inputs, D: Disk, S: Sink, G: Gate>(
+fn append_store<R: Threads + Wait + Sync, I: Inputs, D: Disk, S: Sink, G: Gate>(
     hands: &Hands<'_, R, G>,
     files: Files,
+    ahead: u32,
     inputs: &mut I,
     store: &mut Updater<'_, D>,
     out: &mut S,
 ) -> Result<(), Fault>
-    requires fits { FitFrom 2 files }
-    ensures goes_on { (old : Before) (start done : Progress) (state : State) → IsHead start done state files.first old (I.view inputs.old) (handle_of store.old) (S.view out.old)
-        → GoesOn (append_to files state) start done (result_err result) old (world (I.view inputs.new) (view_of (handle_of store.new)) (S.view out.new)) }
+    requires fits { FitFrom 2 files × (ahead ≤ MAX_AHEAD) }
+    ensures goes_on { (seen : FilesView) × IsReadAhead (MayBeRead files ahead (result_err result)) seen (I.view inputs.new)
+        × ((old : Before) (start done : Progress) (state : State) → IsHead start done state files.first old (I.view inputs.old) (handle_of store.old) (S.view out.old)
+        → GoesOn (append_to files state) start done (result_err result) old (world seen (view_of (handle_of store.new)) (S.view out.new))) }
     ensures local { OnOk result ((held : Holding) (pages : List (List ℕ)) → IsOpen (imported held) (handle_of store.old) → IsAtRest pages (view_of (handle_of store.old))
         → AppendsAll files held pages (I.view inputs.old) (view_of (handle_of store.old)).reads (view_of (handle_of store.new)).reads) }
     ensures works { Works (λ asked. I.reads inputs.old asked inputs.new) (Among files.first files.count) (result_err result) store.old store.new }
@@ -106,5 +117,5 @@ fn append_store<R: Threads + Sync, I: Inputs, D: Disk, S: Sink, G: Gate>(
         first: files.first + 1,
         count: files.count - 1,
     };
-    append_files(hands, &bounds, changes, inputs, store, out)
+    append_ahead(hands, &bounds, changes, ahead, inputs, store, out)
 }

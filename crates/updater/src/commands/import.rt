@@ -33,6 +33,7 @@ const ALLOWED: Allowed = Allowed {
     readers: false,
     buckets: true,
     clear: false,
+    ahead: false,
 };
 
 /// The form of its words.

@@ -45,6 +45,7 @@ const ALLOWED: Allowed = Allowed {
     readers: false,
     buckets: false,
     clear: false,
+    ahead: false,
 };
 
 /// The buckets of each map of the store that is made.

@@ -40,6 +40,7 @@ const ALLOWED: Allowed = Allowed {
     readers: true,
     buckets: false,
     clear: false,
+    ahead: false,
 };
 
 /// The form of its words.

@@ -31,6 +31,7 @@ const ALLOWED: Allowed = Allowed {
     readers: false,
     buckets: false,
     clear: true,
+    ahead: false,
 };
 
 /// The form of its words.

@@ -3,6 +3,6 @@ use Rattle.run_promise.proofs.laws.appends_end_well.Goals as goal
 
 pub returns : goal.returns
 returns c = record {
-  appended = λ old store files workers kept ending comes well.
-      appended_well old ending well store files workers kept comes;
+  appended = λ old store files ahead workers kept ending comes well.
+      appended_well old ending well store files ahead workers kept comes;
 }

@@ -10,13 +10,13 @@ use Rattle.updater.proofs.file_reads.read_change.Goals as goal
 pub returns-then-entries-gt-MAX_ENTRIES-clause-reads : goal.returns-then-entries-gt-MAX_ENTRIES-clause-reads
 returns-then-entries-gt-MAX_ENTRIES-clause-reads g c =
     let old = g.I.Inputs.view c.args.inputs.now in
-    let new = g.I.Inputs.view c.read_file.new.inputs in
+    let new = g.I.Inputs.view c.read_parallel.new.inputs in
     record {
       ok = tt;
       err = too_many c.args.file c.in-Ok.change old new
           (subst (λ (limits : LimitNumbers). IfTold (old.left c.args.file) (λ (bytes : List ℕ). IsAccepted limits bytes c.in-Ok.change))
-          c.standard.ensures.numbers c.in-Ok.ensures.accepted)
+          c.standard-limits.ensures.numbers c.in-Ok.ensures.accepted)
           (subst (λ (entries : List Entry). MAX_ENTRIES < length entries) c.entries.ensures.entries c.if-entries-gt-MAX_ENTRIES.true)
-          c.read_file.ensures.read.alone;
-      asked = c.read_file.ensures.read.asked;
+          c.read_parallel.ensures.read.alone;
+      asked = c.read_parallel.ensures.read.asked;
     }

@@ -10,7 +10,7 @@ use Rattle.run_promise.specs.Runs.{Runs}
 use Rattle.run_promise.specs.Safety.{IsSafe}
 use Rattle.run_promise.specs.World.{world}
 use Rattle.updater.proofs.Asked.{asked_none}
-use Rattle.run_promise.proofs.CommandRuns.{from_unused, runs_by, spared_same, stays_same}
+use Rattle.run_promise.proofs.CommandRuns.{from_unused, runs_ahead, runs_by, spared_same, stays_same}
 use Rattle.updater.proofs.LocalLaws.{where_done}
 use Rattle.run_promise.proofs.SafeLaws.{runs_safe}
 use Rattle.updater.proofs.running.run_command.Goals as goal
@@ -101,16 +101,16 @@ returns-in-Append g c =
     let new = world (g.I.Inputs.view c.append.new.inputs) (g.D.Disk.view c.append.new.disk) (g.S.Sink.view c.append.new.out) in
     let fault = result_err c.append.result in
     let fits = subst (λ (own : Command). FilesFit (seen own)) c.in-Append.is c.requires.fits in
-    let own = runs_by (append_of c.in-Append.store.now c.in-Append.files c.in-Append.workers)
-    (λ (asked : List ℕ). g.I.Inputs.reads c.args.inputs.now asked c.append.new.inputs) fault old new fits.least c.append.ensures.does.asked
-    c.append.ensures.does.goes (λ none. absurd (cc)) (λ not. absurd (not refl)) c.append.ensures.does.unformatted
+    let command = append_of c.in-Append.store.now c.in-Append.files c.in-Append.ahead c.in-Append.workers in
+    let does = c.append.ensures.does in
+    let own = runs_ahead command (λ (asked : List ℕ). g.I.Inputs.reads c.args.inputs.now asked c.append.new.inputs) fault old new
+    does.0 does.1 fits.0.least does.2.asked does.2.goes (λ none. absurd (cc)) (λ not. absurd (not refl)) does.2.unformatted
     (where_done c.append.result (IsLocal c.in-Append.files old new) c.append.ensures.local) in
     record {
       runs = subst (λ (own : Command). Runs (seen own)
           (λ (asked : List ℕ). g.I.Inputs.reads c.args.inputs.now asked c.append.new.inputs) old new fault) (sym c.in-Append.is) own;
       safe = subst (λ (own : Command). IsSafe (seen own) old new fault) (sym c.in-Append.is)
-          (runs_safe (append_of c.in-Append.store.now c.in-Append.files c.in-Append.workers)
-          (λ (asked : List ℕ). g.I.Inputs.reads c.args.inputs.now asked c.append.new.inputs) old new fault own);
+          (runs_safe command (λ (asked : List ℕ). g.I.Inputs.reads c.args.inputs.now asked c.append.new.inputs) old new fault own);
     }
 
 pub returns-in-Export : goal.returns-in-Export

@@ -1,14 +1,8 @@
-use Rattle.std.proofs.Common.{◌+◌, ◌∙◌, ap, refl, Err}
-use Rattle.update_flow.specs.Handle.{view_of}
-use Rattle.update_flow.specs.State.{Append, Holding, imported, changed}
+use Rattle.std.proofs.Common.{◌+◌, refl}
+use Rattle.update_flow.specs.State.{Append, changed, imported}
 use Rattle.update_flow.specs.Updater.{handle_of}
 use Rattle.run_promise.specs.Courses.{version_line}
-use Rattle.updater.specs.Serving.{IsNext}
-use Rattle.updater.proofs.LocalLaws.{reads_one}
-use Rattle.updater.proofs.ServeRuns.{next_by}
-use Rattle.updater.proofs.StoreRuns.{held_certain}
-use Rattle.updater.proofs.StoreDeeds.{shows_here, refused_so}
-use Rattle.updater.proofs.VersionRuns.{file_unread, step_refused, version_done, version_told}
+use Rattle.updater.proofs.VersionRuns.{file_unread}
 use Rattle.updater.proofs.versions.commit_file.Goals as goal
 
 pub returns-in-Err-clause-leads : goal.returns-in-Err-clause-leads
@@ -19,67 +13,7 @@ returns-in-Err-clause-leads g c = λ old start done held head.
     (λ entries. refl) (λ entries. tt)
     c.in-Err.fault c.in-Err.ensures.reads.err
 
-pub returns-in-Err-append_one-clause-leads : goal.returns-in-Err-append_one-clause-leads
-returns-in-Err-append_one-clause-leads g c = rw c.in_flow.ensures.fault (λ old start done held head.
-    step_refused start done (imported held) c.args.file old (g.I.Inputs.view c.args.inputs.now) (g.I.Inputs.view c.read_change.new.inputs)
-    (handle_of c.args.store.now) (g.S.Sink.view c.args.out.now) head
-    (λ entries. Append c.args.bounds.now entries) (version_line (held.changes + 1)) (λ entries. changed c.args.bounds.now entries held)
-    (λ entries. refl) (λ entries. tt)
-    c.in-Ok.change c.in-Ok.ensures.reads.ok (handle_of c.append_one.new.self) c.in-Err-append_one.fault c.in-Err-append_one.ensures.takes
-    refl tt (refused_so c.in-Err-append_one.ensures.stays))
-
-pub returns-in-Ok-tell_version-clause-leads : goal.returns-in-Ok-tell_version-clause-leads
-returns-in-Ok-tell_version-clause-leads g c = λ old start done held head.
-    let shown = shows_here done.store done.cut (imported held) (handle_of c.args.store.now) head.here in
-    version_done start done (imported held) c.args.file old (g.I.Inputs.view c.args.inputs.now) (g.I.Inputs.view c.read_change.new.inputs)
-    (handle_of c.args.store.now) (g.S.Sink.view c.args.out.now) head
-    (λ entries. Append c.args.bounds.now entries) (version_line (held.changes + 1)) (λ entries. changed c.args.bounds.now entries held)
-    (λ entries. refl) (λ entries. tt)
-    c.in-Ok.change c.in-Ok.ensures.reads.ok (handle_of c.append_one.new.self) c.in-Ok-append_one.ensures.takes
-    (λ shows. record {
-      changes_are = c.in-Ok-append_one.ensures.changes ∙ ap (λ n. n + 1) shows.changes_are;
-      imported_is =
-          c.in-Ok-append_one.ensures.style.0;
-      old_is = c.in-Ok-append_one.ensures.style.1;
-      style_is =
-          c.in-Ok-append_one.ensures.style.2 ∙ shows.style_is;
-    })
-    c.in-Ok-append_one.ensures.stays.whole c.append_one.ensures.stays.over.same_limits c.in-Ok-append_one.ensures.stays.cause
-    (λ (next : Holding). IsNext held next c.in-Ok-append_one.delta)
-    (version_line c.in-Ok-append_one.delta.version) (g.S.Sink.view c.tell_version.new.out)
-    (ap version_line (c.in-Ok-append_one.ensures.version ∙ ap (λ n. n + 1) shown.changes_are))
-    c.in-Ok-tell_version.ensures.ok c.in-Ok-tell_version.ensures.cause.later
-    (λ certain. next_by held c.args.bounds.now c.in-Ok.change c.in-Ok-append_one.delta
-    (c.in-Ok-append_one.ensures.delta held (held_certain done held (handle_of c.args.store.now) head.here certain)))
-
-pub returns-in-Err-tell_version-clause-leads : goal.returns-in-Err-tell_version-clause-leads
-returns-in-Err-tell_version-clause-leads g c = λ old start done held head.
-    let shown = shows_here done.store done.cut (imported held) (handle_of c.args.store.now) head.here in
-    version_told start done (imported held) c.args.file old (g.I.Inputs.view c.args.inputs.now) (g.I.Inputs.view c.read_change.new.inputs)
-    (handle_of c.args.store.now) (g.S.Sink.view c.args.out.now) head
-    (λ entries. Append c.args.bounds.now entries) (version_line (held.changes + 1)) (λ entries. changed c.args.bounds.now entries held)
-    (λ entries. refl) (λ entries. tt)
-    c.in-Ok.change c.in-Ok.ensures.reads.ok (handle_of c.append_one.new.self) c.in-Ok-append_one.ensures.takes
-    (λ shows. record {
-      changes_are = c.in-Ok-append_one.ensures.changes ∙ ap (λ n. n + 1) shows.changes_are;
-      imported_is =
-          c.in-Ok-append_one.ensures.style.0;
-      old_is = c.in-Ok-append_one.ensures.style.1;
-      style_is =
-          c.in-Ok-append_one.ensures.style.2 ∙ shows.style_is;
-    })
-    c.in-Ok-append_one.ensures.stays.whole c.append_one.ensures.stays.over.same_limits c.in-Ok-append_one.ensures.stays.cause
-    (version_line c.in-Ok-append_one.delta.version) (g.S.Sink.view c.tell_version.new.out) (Err c.in-Err-tell_version.fault)
-    (ap version_line (c.in-Ok-append_one.ensures.version ∙ ap (λ n. n + 1) shown.changes_are))
-    tt c.in-Err-tell_version.ensures.err c.in-Err-tell_version.ensures.alone c.in-Err-tell_version.ensures.cause
-
-pub returns-in-Ok-tell_version-clause-local : goal.returns-in-Ok-tell_version-clause-local
-returns-in-Ok-tell_version-clause-local g c = λ held pages is rests. record {
-  change = c.in-Ok.change;
-  accepted = c.in-Ok.ensures.reads.ok.accepted;
-  others = c.in-Ok.ensures.reads.ok.alone.others;
-  opened = (c.in-Ok-append_one.ensures.takes (imported held) is).done refl;
-  needed = λ next last. ((c.in-Ok-append_one.ensures.takes (imported held) is).grown tt refl pages next rests last).0;
-  reads = reads_one held c.in-Ok.change pages (view_of (handle_of c.args.store.now)) (view_of (handle_of c.append_one.new.self))
-      (c.in-Ok-append_one.ensures.reads held is) rests;
-}
+pub returns-clause-leads : goal.returns-clause-leads
+returns-clause-leads g c = λ old start done held head.
+    c.commit_change.ensures.leads (g.I.Inputs.view c.args.inputs.now) (g.I.Inputs.view c.read_change.new.inputs) old start done held
+    c.in-Ok.ensures.reads.ok head
