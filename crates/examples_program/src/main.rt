@@ -4,9 +4,11 @@
 //! calls, and with what is wanted: the status, the line of the fault, the path of the store, all bytes that
 //! are printed, and those that the disk holds then. `stores.txt` has runs one after another over one store, whose
 //! files may hold the texts of `texts.txt`. Each run is done by `run` of `updater` over files, a disk and an output
-//! in memory, and the name is printed, up to the first that differs.
+//! in memory, and the name is printed, up to the first that differs. An append that says nothing of how many files are read ahead is
+//! run three times more, with none, one and eight: all that is wanted of it and the bytes of the disk are to be the same.
 #![tactic(auto)]
 
+mod ahead;
 mod example;
 mod gate;
 mod rows;
@@ -14,6 +16,7 @@ mod running;
 mod texts;
 mod turn;
 mod wanted;
+mod watched;
 mod words;
 
 use example::Example;

@@ -1,9 +1,11 @@
 //! The run of an example, over files, a disk and an output in memory.
 
+use crate::ahead::{OPTIONS, may_read_ahead, with_option};
 use crate::example::Example;
 use crate::gate::InTurn;
 use crate::turn::{Plan, Put, Turn};
 use crate::wanted::{Piece, Wanted};
+use crate::watched::WatchedFiles;
 use osm_base::{Bytes, FileList, Ids};
 use outside::{Fails, MemDisk, MemInputs, MemSink};
 use run_promise::{Outcome, fault_line};
@@ -31,56 +33,106 @@ pub fn difference<R: Threads + Wait + Sync>(
 ) -> Result<Option<String>, AllocError> {
     let Example { held, turns } = example;
     let mut disk = held;
-    for turn in turns {
-        let ended = ended_of(rt, alloc, turn, disk)?;
+    for turn in &turns {
+        let ended = ended_of(rt, alloc, turn, &disk)?;
         if ended.other.is_some() {
             return Ok(ended.other);
+        }
+        let other = difference_ahead(rt, alloc, turn, &disk, &ended.disk)?;
+        if other.is_some() {
+            return Ok(other);
         }
         disk = ended.disk;
     }
     Ok(None)
 }
 
+/// What is other where an append is done again with each option that says how many files are read ahead, if anything: over the bytes
+/// that the disk held before, it is to leave those that the append without one has left. A run with such an option is not done again.
+fn difference_ahead<R: Threads + Wait + Sync>(
+    rt: &R,
+    alloc: Global,
+    turn: &Turn,
+    held: &[u8],
+    left: &[u8],
+) -> Result<Option<String>, AllocError> {
+    if !may_read_ahead(&turn.words) {
+        return Ok(None);
+    }
+    for option in OPTIONS {
+        let again = with_option(alloc, turn, option)?;
+        let ended = ended_of(rt, alloc, &again, held)?;
+        let other = other_end(alloc, option, &ended, left)?;
+        if other.is_some() {
+            return Ok(other);
+        }
+    }
+    Ok(None)
+}
+
+/// What is other where a run with an option ended so, if anything: it is to leave these bytes.
+fn other_end(
+    alloc: Global,
+    option: &str,
+    ended: &Ended,
+    left: &[u8],
+) -> Result<Option<String>, AllocError> {
+    match &ended.other {
+        Some(text) => told_with(alloc, option, text.as_str()),
+        None if ended.disk.as_slice() != left => told_with(alloc, option, "the disk is another"),
+        None => Ok(None),
+    }
+}
+
+/// A text behind the option that a run had.
+fn told_with(alloc: Global, option: &str, text: &str) -> Result<Option<String>, AllocError> {
+    Ok(Some(format!(in alloc; "with {option} {text}")?))
+}
+
 /// How a run ends over a disk that holds these bytes. All that is owned here is let go at one exit.
 fn ended_of<R: Threads + Wait + Sync>(
     rt: &R,
     alloc: Global,
-    turn: Turn,
-    held: Vec<u8>,
+    turn: &Turn,
+    held: &[u8],
 ) -> Result<Ended, AllocError> {
-    let Turn {
-        words,
-        files,
-        cut,
-        puts,
-        times,
-        held_changes,
-        held_turns,
-        inputs,
-        disk,
-        output,
-        wanted,
-    } = turn;
-    let inputs_fail = fails_of(alloc, inputs)?;
-    let disk_fails = fails_of(alloc, disk)?;
-    let output_fails = fails_of(alloc, output)?;
-    let held = changed(held, cut, &puts);
-    let mut inputs = MemInputs::new(files_of(alloc, files)?, inputs_fail);
+    let inputs_fail = fails_of(alloc, turn.inputs)?;
+    let disk_fails = fails_of(alloc, turn.disk)?;
+    let output_fails = fails_of(alloc, turn.output)?;
+    let held = changed(Vec::from_slice(alloc, held)?, turn.cut, &turn.puts);
+    let gate = InTurn::new(turn.holds);
+    let files = MemInputs::new(files_of(alloc, &turn.files)?, inputs_fail);
+    let mut inputs = WatchedFiles::new(files, &gate);
     let mut disk = disk_of(alloc, held, disk_fails);
     let mut out = MemSink::new(alloc, output_fails);
-    let gate = InTurn::new(held_changes, held_turns);
     let outcome = outcome_of(
         rt,
         alloc,
-        times,
-        &words,
+        turn.times,
+        &turn.words,
         &mut inputs,
         &mut disk,
         &mut out,
         &gate,
     );
-    let other = compared(alloc, &words, &outcome, out.taken(), disk.bytes(), &wanted);
+    let other = if gate.has_missed() {
+        told_missed(alloc, turn.holds.file)
+    } else {
+        compared(
+            alloc,
+            &turn.words,
+            &outcome,
+            out.taken(),
+            disk.bytes(),
+            &turn.wanted,
+        )
+    };
     kept_end(alloc, disk.bytes(), other)
+}
+
+/// That a file is not asked for while the first change is held.
+fn told_missed(alloc: Global, file: u64) -> Result<Option<String>, AllocError> {
+    Ok(Some(format!(in alloc; "file {file} is not asked for while the first change is held")?))
 }
 
 /// The end of a run, with a copy of these bytes.
@@ -123,7 +175,7 @@ fn outcome_of<R: Threads + Wait + Sync>(
     alloc: Global,
     times: u64,
     words: &[String],
-    inputs: &mut MemInputs,
+    inputs: &mut WatchedFiles<'_>,
     disk: &mut MemDisk,
     out: &mut MemSink,
     gate: &InTurn,
@@ -183,10 +235,10 @@ fn stands(disk: &[u8], piece: &Piece) -> bool {
 }
 
 /// The files, by the numbers of their words.
-fn files_of(alloc: Global, files: Vec<Vec<u8>>) -> Result<FileList, AllocError> {
+fn files_of(alloc: Global, files: &[Vec<u8>]) -> Result<FileList, AllocError> {
     let mut list = Vec::new(alloc);
     for file in files {
-        list.push(Bytes::from_vec(file))?;
+        list.push(Bytes::from_vec(Vec::from_slice(alloc, file)?))?;
     }
     Ok(FileList::from_vec(list))
 }

@@ -1,5 +1,6 @@
 //! One run, with what is wanted of it.
 
+use crate::gate::Holds;
 use crate::rows::{push_bytes, push_words, set_number};
 use crate::texts::Texts;
 use crate::wanted::Wanted;
@@ -10,8 +11,7 @@ use std::alloc::{AllocError, Global};
 const MAX_FILES: usize = 5_000;
 
 /// A run: its words, the files by the numbers of their words, to how many bytes the disk is cut before and which bytes are put on
-/// it, how often it is done one after another, how many of its changes are held and for how many turns, and which calls of the files,
-/// of the disk and of the output fail.
+/// it, how often it is done one after another, what its gate holds, and which calls of the files, of the disk and of the output fail.
 #[derive(Drop)]
 pub struct Turn {
     pub words: Vec<String>,
@@ -19,8 +19,7 @@ pub struct Turn {
     pub cut: Option<u64>,
     pub puts: Vec<Put>,
     pub times: u64,
-    pub held_changes: u64,
-    pub held_turns: u64,
+    pub holds: Holds,
     pub inputs: Plan,
     pub disk: Plan,
     pub output: Plan,
@@ -65,8 +64,7 @@ impl Turn {
             cut: None,
             puts: Vec::new(alloc),
             times: 1,
-            held_changes: 0,
-            held_turns: 0,
+            holds: Holds::NOTHING,
             inputs: Plan::NEVER,
             disk: Plan::NEVER,
             output: Plan::NEVER,
@@ -91,7 +89,7 @@ impl Turn {
             },
             "put" => self.push_put(alloc, text),
             "cut" | "times" => Ok(self.set_count(word, text)),
-            "in-turn" => Ok(self.set_held(text)),
+            "in-turn" | "ahead-held" => Ok(self.set_holds(word, text)),
             "inputs-fail-from" => Ok(set_number(&mut self.inputs.from, text)),
             "inputs-fail-at" => Ok(set_number(&mut self.inputs.at, text)),
             "disk-fails-from" => Ok(set_number(&mut self.disk.from, text)),
@@ -102,15 +100,17 @@ impl Turn {
         }
     }
 
-    /// How many changes are held, and for how many turns.
-    fn set_held(&mut self, text: &str) -> bool {
-        match row_of(text) {
-            Some((changes, turns)) => {
-                set_number(&mut self.held_changes, changes)
-                    && set_number(&mut self.held_turns, turns)
-            }
-            None => false,
-        }
+    /// How many changes are held, or until the file of which word is asked for, and for how many turns.
+    fn set_holds(&mut self, word: &str, text: &str) -> bool {
+        let Some((held, turns)) = row_of(text) else {
+            return false;
+        };
+        let known = if word == "in-turn" {
+            set_number(&mut self.holds.changes, held)
+        } else {
+            set_number(&mut self.holds.file, held)
+        };
+        known && set_number(&mut self.holds.turns, turns)
     }
 
     /// How many bytes of the disk are left, or how often the run is done.
