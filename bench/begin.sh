@@ -4,7 +4,8 @@
 #   work        a folder of the run alone, which is removed at its end
 #   figures     `figure` for a program of awk, as bench/figures.py has it for Python
 #   measure     runs a text of Python, given on standard input, with that module and these words
-#   built       the path of the program, which the launcher proves and builds first where it is not there
+#   built       the path of the program: the one that PROGRAM names, else the launcher's, which it proves and builds first
+#               where it is not there
 #   packages    installs the Debian packages with these names where root runs it and they are missing; else tells which, and ends
 #   server      starts a PostgreSQL server of the run alone in $work/cluster, which is stopped at its end
 # Words that are not numbers from 1, or more than the benchmark's usage line has, print that line and end in 2.
@@ -66,5 +67,9 @@ server() {
 }
 
 built() {
+  if [ -n "${PROGRAM-}" ]; then
+    echo "$PROGRAM"
+    return
+  fi
   YILGARTZU_BUILD=1 "$top/yilgartzu" --version >"$work/version" && echo "$top/crates/updater_main/out/updater_main"
 }
