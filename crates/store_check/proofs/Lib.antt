@@ -1,0 +1,10 @@
+mod Exist
+mod Known
+mod Loads
+mod Meaning
+mod Objects
+mod Right
+mod SameRows
+mod Sound
+mod Standing
+mod Survey
