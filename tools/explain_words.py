@@ -12,7 +12,7 @@ FORMS = {
     "lines": "KEY INPUT [CHANGE..]",
     "init": "STORE",
     "import": "[workers=N] [buckets=N] STORE STYLE INPUT",
-    "append": "[workers=N] STORE BOUNDS CHANGE..",
+    "append": "[ahead=N] [workers=N] STORE BOUNDS CHANGE..",
     "export": "STORE TABLE",
     "tiles": "[clear=yes] STORE MINZOOM",
     "query": "STORE QUERIES",
@@ -156,12 +156,14 @@ def option_fault(call):
             return f"{key} is a number from 1 to 64, not {shown(value, 40)}"
         if key == "buckets" and not (1 <= number <= 65_536 and number & (number - 1) == 0):
             return f"buckets is a power of two up to 65536, not {shown(value, 40)}"
+        if key == "ahead" and not (re.fullmatch(r"[0-9]{1,6}", value) and number <= 8):
+            return f"ahead is a number from 0 to 8, not {shown(value, 40)}"
     return None
 
 
 def count_fault(call):
     """What is wrong with the number of the words behind the options, and with those that are no files; None where nothing is."""
-    late = next((it for it in call.given if re.match("(workers|readers|buckets|clear)=", it)), None)
+    late = next((it for it in call.given if re.match("(workers|readers|buckets|ahead|clear)=", it)), None)
     dashed = next((it for it in call.given if re.match("--?[a-z]+", it) and not os.path.exists(it)), None)
     most = len(call.words) if call.repeats else len(call.roles)
     if late:
