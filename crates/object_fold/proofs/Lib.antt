@@ -12,6 +12,7 @@ mod Pieces
 mod Proper
 mod Relisted
 mod Rising
+mod ShareLaws
 pub mod SortedIds
 mod Undecided
 mod WholeFile

@@ -59,6 +59,10 @@ comes_to limits part bytes = in_front_all part.change (entries_from limits part.
 abbrev pub TakesLines : LimitNumbers → Part → List ℕ → Part → List ℕ → Type 0
 TakesLines limits old bytes new rest = (later : List ℕ) → comes_to limits old (bytes ++ later) ≡ comes_to limits new (rest ++ later)
 
+-- the share is whole lines at the front of this piece
+abbrev pub IsShareOf : LimitNumbers → List ℕ → Share → Type 0
+IsShareOf limits piece share = (share.len ≤ length piece) × IsPart limits (take share.len piece) share.part
+
 -- the shares are whole lines of these bytes, each where the one before it ends
 abbrev pub AreShares : LimitNumbers → List ℕ → List Share → Type 0
 AreShares limits bytes [] = Unit {0}

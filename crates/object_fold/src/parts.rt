@@ -13,7 +13,6 @@ use crate::progress::add_line;
 use opl_lines::first_line;
 use osm_base::{Entry, Key, Limits};
 use std::alloc::Global;
-use std::collections::VecDeque;
 
 /// What lines were read as: what stands before a line behind them, and their entries.
 #[derive(Drop)]
@@ -81,16 +80,15 @@ impl Part {
     }
 
     /// Puts shares of these bytes behind these lines, up to the first that may not stand there, and answers how many bytes were taken.
-    pub fn append_all(&mut self, limits: &Limits, bytes: &[u8], shares: VecDeque<Share>) -> usize
+    pub fn append_all(&mut self, limits: &Limits, bytes: &[u8], shares: Vec<Share>) -> usize
         requires keeps { StaysWithin limits.now self.old }
         requires shares { AreShares limits.now bytes.now shares.items }
         ensures within { result ≤ length bytes.now }
         ensures lines { TakesLines limits.now self.old (take result bytes.now) self.new [] }
         ensures keeps { StaysWithin limits.now self.new }
     {
-        let mut shares = shares;
         let mut used = 0;
-        while let Some(Share { len, part }) = shares.pop_front() {
+        for Share { len, part } in shares {
             if !self.append(limits, part) {
                 break;
             }

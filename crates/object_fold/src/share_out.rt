@@ -1,18 +1,18 @@
 //! Bytes shared out among workers, each of whom reads the lines of its share.
-ghost use Rattle.std.specs.Prelude.{◌<◌, ◌≤◌, List, ℕ, length, take, drop};
-ghost use Rattle.std.specs.Thread.{IsSync};
+ghost use Rattle.std.specs.Prelude.{◌≡◌, ◌<◌, ◌≤◌, ◌++◌, IfOk, length, flat_map};
+ghost use Rattle.std.specs.List.{AllZip};
 ghost use Rattle.osm_base.specs.declared.bounds.limits.LimitNumbers.{LimitNumbers};
-ghost use Rattle.object_fold.specs.Parts.{AreShares, IsPart};
+ghost use Rattle.object_fold.specs.Parts.{AreShares, IsPart, IsShareOf};
 
 use crate::parts::{Share, read_share};
 use opl_lines::first_line;
 use osm_base::Limits;
-use std::alloc::Global;
-use std::collections::VecDeque;
-use std::thread::{Threads, join};
+use rayon::prelude::*;
+use std::alloc::{AllocError, Global};
+use std::thread::Threads;
 
-/// Where a share ends that has so many bytes at least: behind a newline, or where the bytes end.
-fn share_end(bytes: &[u8], least: usize) -> usize
+/// Where a piece ends that has so many bytes at least: behind a newline, or where the bytes end.
+fn piece_end(bytes: &[u8], least: usize) -> usize
     ensures within { result ≤ length bytes.now }
 {
     if least >= bytes.len() {
@@ -24,19 +24,66 @@ fn share_end(bytes: &[u8], least: usize) -> usize
     }
 }
 
-/// A share before others; alone, where there is no memory for one more.
-fn in_front(alloc: Global, share: Share, others: VecDeque<Share>) -> VecDeque<Share>
-    ensures shares { (limits : LimitNumbers) (bytes : List ℕ) → share.len ≤ length bytes → IsPart limits (take share.len bytes) share.part
-        → AreShares limits (drop share.len bytes) others.items → AreShares limits bytes result.items }
+/// These bytes in pieces, no more than one for each worker, that have so many bytes at least, but for the last one.
+fn pieces_of(
+    alloc: Global,
+    bytes: &[u8],
+    workers: u32,
+    least: usize,
+) -> Result<Vec<&[u8]>, AllocError>
+    requires workers { 0 < workers }
+    ensures whole { IfOk result (λ pieces. flat_map (λ piece. piece.now) pieces.items ≡ bytes.now) }
+    ensures few { IfOk result (λ pieces. length pieces.items ≤ workers) }
 {
-    let mut shares = others;
-    match shares.push_front(share) {
-        Ok(()) => shares,
-        Err(_) => VecDeque::new(alloc),
+    let mut pieces = Vec::new(alloc);
+    let mut rest = bytes;
+    for _ in 1..workers {
+        let (piece, behind) = rest.split_at(piece_end(rest, least));
+        if behind.is_empty() {
+            break;
+        }
+        pieces.push(piece)?;
+        rest = behind;
     }
+    pieces.push(rest)?;
+    Ok(pieces)
 }
 
-// Each new thread is one worker, made by this one: threads that make threads at once are put on one processor.
+// A piece is so long that it is worth a thread of its own. One piece alone is read by this thread.
+/// The share that each of these pieces begins with, read side by side.
+fn read_pieces<R: Threads + Sync>(
+    rt: &R,
+    alloc: Global,
+    limits: &Limits,
+    pieces: &[&[u8]],
+) -> Result<Vec<Share>, AllocError>
+    ensures read { IfOk result (λ shares. AllZip (λ piece share. IsShareOf limits.now piece.now share) pieces.now shares.items) }
+{
+    let read = |piece: &&[u8]| -> Share
+        ensures { IsShareOf limits.entry.now piece.now.now result }
+    { read_share(alloc, limits, *piece) };
+    pieces
+        .par_iter()
+        .with_min_len(1)
+        .map(read)
+        .collect(rt, alloc)
+}
+
+/// Leaves out the shares behind the first that does not end where its piece ends.
+fn leave_out(pieces: &[&[u8]], shares: &mut Vec<Share>)
+    ensures shares { (limits : LimitNumbers) → AllZip (λ piece share. IsShareOf limits piece.now share) pieces.now shares.old.items
+        → AreShares limits (flat_map (λ piece. piece.now) pieces.now) shares.new.items }
+{
+    let mut whole = 0;
+    while whole < pieces.len() && whole < shares.len() {
+        if shares[whole].len < pieces[whole].len() {
+            break;
+        }
+        whole += 1;
+    }
+    shares.truncate(whole + 1);
+}
+
 /// Reads the lines of these bytes by so many workers, each of whom has so many bytes at least. Where a share could not be read to its
 /// end, those behind it are left out.
 pub fn share_out<R: Threads + Sync>(
@@ -46,32 +93,16 @@ pub fn share_out<R: Threads + Sync>(
     bytes: &[u8],
     workers: u32,
     least: usize,
-) -> VecDeque<Share>
+) -> Vec<Share>
     requires workers { 0 < workers }
     ensures shares { AreShares limits.now bytes.now result.items }
 {
-    let end = share_end(bytes, least);
-    if workers == 1 || end == bytes.len() {
-        return in_front(
-            alloc,
-            read_share(alloc, limits, bytes),
-            VecDeque::new(alloc),
-        );
-    }
-    let (first, rest) = bytes.split_at(end);
-    let fewer = workers - 1;
-    let (share, others) = join(
-        rt,
-        || -> Share
-            ensures { (result.len ≤ length first.entry.now) × IsPart limits.entry.now (take result.len first.entry.now) result.part }
-        { read_share(alloc, limits, first) },
-        || -> VecDeque<Share>
-            requires { IsSync R.row × (0 < fewer) }
-            ensures { AreShares limits.entry.now rest.entry.now result.items }
-        { share_out(rt, alloc, limits, rest, fewer, least) },
-    );
-    if share.len < end {
-        return in_front(alloc, share, VecDeque::new(alloc));
-    }
-    in_front(alloc, share, others)
+    let Ok(pieces) = pieces_of(alloc, bytes, workers, least) else {
+        return Vec::new(alloc);
+    };
+    let Ok(mut shares) = read_pieces(rt, alloc, limits, &pieces) else {
+        return Vec::new(alloc);
+    };
+    leave_out(&pieces, &mut shares);
+    shares
 }

@@ -10,11 +10,11 @@ loop-len-preserved c =
     let bytes = c.args.bytes.now in
     let used = c.loop-len.used in
     let share = c.in-Some.field-0 in
-    let shares = subst (λ own. AreShares limits (drop used bytes) own) c.in-Some.ensures.items c.loop-len.invariant.shares in
+    let shares = subst (λ own. AreShares limits (drop used bytes) own) c.in-Some.ensures.steps.0 c.loop-len.invariant.shares in
     record {
       within = omega (arith, shares.0, length-drop used bytes, c.loop-len.invariant.within);
       stays = c.if-not-append.ensures.keeps;
-      shares = shares_behind limits bytes used share.len c.pop_front.new.self.items shares.2;
+      shares = shares_behind limits bytes used share.len c.next.new.self.rest.items shares.2;
       lines = takes_share limits c.args.self.now c.loop-len.self c.append.new.self bytes used share.len c.loop-len.invariant.lines
           (c.if-not-append.ensures.lines _ shares.1);
     }

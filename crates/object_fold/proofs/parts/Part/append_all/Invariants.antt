@@ -7,9 +7,6 @@ abbrev pub invariant-loop-len : goal.invariant-loop-len
 invariant-loop-len l = record {
   within : l.used ≤ length l.bytes;
   stays : StaysWithin l.limits l.self;
-  shares : AreShares l.limits (drop l.used l.bytes) l.shares.items;
+  shares : AreShares l.limits (drop l.used l.bytes) l.len-iterator.rest.items;
   lines : TakesLines l.limits l.fn.self (take l.used l.bytes) l.self [];
 }
-
-abbrev pub decreases-loop-len : goal.decreases-loop-len
-decreases-loop-len l = length l.shares.items
