@@ -1,8 +1,8 @@
 //! Bytes shared out among workers, each of whom reads the lines of its share.
-ghost use Rattle.std.specs.Prelude.{◌≡◌, ◌<◌, ◌≤◌, ◌++◌, IfOk, length, flat_map};
+ghost use Rattle.std.specs.Prelude.{◌≡◌, ◌<◌, ◌≤◌, IfOk, length, flat_map};
 ghost use Rattle.std.specs.List.{AllZip};
 ghost use Rattle.osm_base.specs.declared.bounds.limits.LimitNumbers.{LimitNumbers};
-ghost use Rattle.object_fold.specs.Parts.{AreShares, IsPart, IsShareOf};
+ghost use Rattle.object_fold.specs.Parts.{AreShares, IsShareOf};
 
 use crate::parts::{Share, read_share};
 use opl_lines::first_line;

@@ -1,4 +1,4 @@
-use Rattle.std.proofs.Common.{◌≡◌, ◌∙◌, ap, sym, subst, List, ℕ, Bor}
+use Rattle.std.proofs.Common.{◌∙◌, ap, sym, subst, List, ℕ, Bor}
 use Rattle.std.specs.List.{AllZip}
 use Rattle.object_fold.specs.Parts.{AreShares, IsShareOf}
 use Rattle.object_fold.proofs.ShareLaws.{bytes_of}
