@@ -2,17 +2,22 @@
 use Rattle.std.specs.Prelude.{◌≡◌, ◌⊎◌, ℕ, ◌+◌, false, List, length, Result, Ok, Err, IsErrOf, OnOk}
 use Rattle.outside.specs.Bytes.{IfTold, IsTold}
 use Rattle.outside.specs.Disk.{Crashes, DiskView, Goes, Stays, Tells, Within}
+use Rattle.outside.specs.declared.disk.Disk.{Ghosts}
 use Rattle.page_journal.specs.Answers.{HasDiskCause, HomeRefused, JournalRefused, answers_disk_fault}
 use Rattle.page_journal.specs.Crash.{IsAtRest}
 use Rattle.page_journal.specs.Home.{HasOpenJournal, Home, IsFormatted}
 use Rattle.page_journal.specs.declared.fault.StoreFault.{StoreFault}
 use Rattle.page_journal.specs.declared.fault.StoreFault.TheVariants.{NotFormatted, BadStore, DiskFault, OutOfMemory}
 use Rattle.chain_store.specs.Answers.{ReadsKept}
+use Rattle.chain_store.specs.Chains.{kept_of}
 use Rattle.chain_store.specs.Directories.{root_in}
 use Rattle.chain_store.specs.Kept.{page_total}
 use Rattle.chain_store.specs.Store.{Keeps}
 use Rattle.chain_store.specs.declared.root.Root.{Root}
 use Rattle.bucket_store.specs.Image.{HasImage, HoldsImage, Image, IsSoundAnswer}
+use Rattle.bucket_store.specs.Calls.{IsBegun}
+use Rattle.bucket_store.specs.Transaction.{IsOpenStore, chains_of}
+use Rattle.bucket_store.specs.declared.buckets.Buckets.{Buckets}
 use Rattle.bucket_store.specs.declared.resting.Resting.{Resting}
 
 -- what was read of a store is so on this disk, which is at rest
@@ -22,9 +27,21 @@ pub record Fits (opened : Resting) (view : DiskView) : Type 0 where
   pub many : length pages + 1 ≡ opened.pages
   pub keeps : Keeps pages opened.kept
 
+-- it is so with these home pages
+pub record FitsPages (pages : List (List ℕ)) (opened : Resting) (view : DiskView) : Type 0 where
+  pub rests : IsAtRest pages view
+  pub many : length pages + 1 ≡ opened.pages
+  pub keeps : Keeps pages opened.kept
+
 -- the fields that were read
 abbrev pub opened_root : Resting → Root
 opened_root opened = root_in opened.kept.front.items
+
+-- the buckets of a store of which this was read on this disk, with a transaction begun
+pub record IsOver {D : Type 0} {g : Ghosts D} (opened : Resting) (view : DiskView) (buckets : Buckets D g) : Type 0 where
+  pub open_store : (fits : Fits opened view) → IsOpenStore fits.pages buckets
+  pub kept : kept_of (chains_of buckets) ≡ opened.kept
+  pub begun : IsBegun buckets
 
 -- how many pages the directories have together
 abbrev pub directory_pages : Resting → ℕ

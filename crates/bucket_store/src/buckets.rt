@@ -39,7 +39,7 @@ pub struct Buckets<'d, D: Disk> {
 impl<'d, D: Disk> Buckets<'d, D> {
     ghost use Rattle.bucket_store.specs.Calls.{IsBegun};
     ghost use Rattle.bucket_store.specs.Image.{Has, HoldsImage, Image, OnlyLooks, RestsAt};
-    ghost use Rattle.bucket_store.specs.Opening.{Fits};
+    ghost use Rattle.bucket_store.specs.Opening.{Fits, FitsPages, IsOver};
     ghost use Rattle.bucket_store.specs.Transaction.{IsOpenStore, bucket_at, cached_of, chains_of, has_refused};
     ghost use Rattle.value_bytes.specs.StoreMap.{number_of};
 
@@ -68,6 +68,7 @@ impl<'d, D: Disk> Buckets<'d, D> {
         ensures whole { is_broken (journal_of (chains_of result)) ≡ false }
         ensures going { has_refused result ≡ false }
         ensures read { read_of (chains_of result) ≡ finite.empty }
+        ensures over { IsOver opened (D.view disk.entry.now) result }
         ensures rests { (image : Image) → Fits opened (D.view disk.entry.now) → HoldsImage image (D.view disk.entry.now) → RestsAt image result }
         ensures has { (image : Image) → Fits opened (D.view disk.entry.now) → HoldsImage image (D.view disk.entry.now) → Has image image result }
     {
@@ -82,6 +83,8 @@ impl<'d, D: Disk> Buckets<'d, D> {
         ensures disk { result.now ≡ disk_under (journal_of (chains_of self.entry)) }
         ensures whole { is_some kept.new ≡ not (is_broken (journal_of (chains_of self.entry))) }
         ensures fits { IfSome kept.new (λ opened. (image : Image) → RestsAt image self.entry → Fits opened (disk_of (chains_of self.entry))) }
+        ensures pages { IfSome kept.new (λ opened. (pages : List (List ℕ)) → IsOpenStore pages self.entry
+            → FitsPages pages opened (disk_of (chains_of self.entry))) }
     {
         let broken = self.is_broken();
         let (journal, own) = self.close().into_parts();

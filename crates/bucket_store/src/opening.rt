@@ -7,8 +7,9 @@ ghost use Rattle.page_journal.specs.Home.{Home};
 ghost use Rattle.page_journal.specs.Pages.{gate};
 ghost use Rattle.page_journal.specs.declared.layout.TheConstants.{OPEN};
 ghost use Rattle.chain_store.specs.Answers.{IsReadAnswer, ReadsKept};
+ghost use Rattle.chain_store.specs.Directories.{IsCount};
 ghost use Rattle.chain_store.specs.Kept.{AreAllBehindRoot, page_total};
-ghost use Rattle.bucket_store.specs.Opening.{FindsImage, Fits, LeavesDisk, directory_pages, IsOpeningAnswer, OpensStore};
+ghost use Rattle.bucket_store.specs.Opening.{FindsImage, Fits, LeavesDisk, directory_pages, IsOpeningAnswer, OpensStore, opened_root};
 
 use crate::resting::Resting;
 use chain_store::{Kept, read_kept};
@@ -23,6 +24,7 @@ pub fn open<D: Disk>(alloc: Global, disk: &mut D, limits: &Limits) -> Result<Res
     ensures fits { IfOk result (λ opened. (bytes : List ℕ) → Tells (D.view disk.old) bytes → Fits opened (D.view disk.new)) }
     ensures answers { (bytes : List ℕ) → Tells (D.view disk.old) bytes → OpensStore bytes result }
     ensures alone { IsOpeningAnswer result }
+    ensures count { IfOk result (λ opened. (bytes : List ℕ) → Tells (D.view disk.old) bytes → IsCount (opened_root opened).buckets) }
 
     // Its home pages are those of the bytes as they were, once a journal that was left open is finished.
     ensures home { OnOk result ((bytes : List ℕ) → Tells (D.view disk.old) bytes

@@ -1,6 +1,7 @@
 -- The journal is finished, and then what is kept is read.
-use Rattle.std.proofs.Common.{◌+◌, ◌*◌, ℕ, length, refl, ◌∙◌, arith}
+use Rattle.std.proofs.Common.{◌+◌, ◌*◌, ℕ, List, length, refl, sym, subst, ◌∙◌, arith}
 use Rattle.page_journal.proofs.ReadCounts.{reads_more, reads_then}
+use Rattle.chain_store.specs.Directories.{IsCount, root_in}
 use Rattle.chain_store.specs.Kept.{page_total}
 use Rattle.bucket_store.proofs.Reopened.{goes_meant, holds_found, image_state, kept_formatted, rests_stays, sound_kept, sound_open}
 use Rattle.bucket_store.specs.Opening.{MeansOne}
@@ -40,6 +41,12 @@ returns-in-Ok-kept_on-clause-fits g c bytes told =
       many = done.2;
       keeps = (c.in-Ok-kept_on.ensures.answers done.0 done.3 done.2).1;
     }
+
+pub returns-in-Ok-kept_on-clause-count : goal.returns-in-Ok-kept_on-clause-count
+returns-in-Ok-kept_on-clause-count g c bytes told =
+    let done = c.in-Ok.ensures.done bytes told in
+    let read = c.in-Ok-kept_on.ensures.answers done.0 done.3 done.2 in
+    subst (λ (front : List ℕ). IsCount (root_in front).buckets) (sym read.1.front) read.0
 
 pub returns-in-Ok-kept_on-clause-image : goal.returns-in-Ok-kept_on-clause-image
 returns-in-Ok-kept_on-clause-image g c =

@@ -2,7 +2,9 @@
 use Rattle.std.proofs.Common.{sym, ap, subst, ◌∙◌}
 use Rattle.page_journal.specs.Crash.{IsAtRest}
 use Rattle.page_journal.specs.Journal.{disk_of, home_count, is_broken}
-use Rattle.chain_store.specs.Chains.{journal_of, kept_of, root_of, written_of}
+use Rattle.chain_store.specs.Chains.{journal_of, kept_of, read_of, root_of, written_of}
+use Rattle.chain_store.specs.Directories.{root_in}
+use Rattle.chain_store.specs.declared.kept.Kept.{Kept}
 use Rattle.bucket_store.proofs.Holding.{has_anew}
 use Rattle.bucket_store.proofs.Reopened.{found_state, rests_on, root_found}
 use Rattle.bucket_store.proofs.buckets.Buckets.on.Goals as goal
@@ -29,3 +31,22 @@ returns-clause-has g c image fits holds =
     (ap (λ k. is_broken (journal_of k)) chains ∙ ap (λ j. is_broken j) c.over.ensures.journal ∙ c.over-journal.ensures.whole)
     (ap (λ k. root_of k) chains ∙ c.over.ensures.root ∙ root_found image view c.args.opened fits holds)
     (ap (λ k. written_of k) chains ∙ c.over.ensures.written) c.over-2.ensures.none
+
+pub returns-clause-over : goal.returns-clause-over
+returns-clause-over g c =
+    let chains = c.over-2.ensures.chains in
+    let kept = ap (λ k. kept_of k) chains ∙ c.over.ensures.kept in
+    record {
+      open_store = λ fits. c.over-2.ensures.open fits.pages (c.over.ensures.open fits.pages (
+        subst (λ d. IsAtRest fits.pages (g.D.Disk.view d)) (sym c.over-journal.ensures.disk) fits.rests,
+        fits.many
+            ∙ sym c.over-journal.ensures.pages,
+      ) fits.keeps);
+      kept = kept;
+      begun = record {
+        none = c.over-2.ensures.none;
+        read = ap (λ k. read_of k) chains ∙ c.over.ensures.read;
+        written = ap (λ k. written_of k) chains ∙ c.over.ensures.written;
+        root = ap (λ k. root_of k) chains ∙ c.over.ensures.root ∙ ap (λ (own : Kept). root_in own.front.items) (sym kept);
+      };
+    }
