@@ -26,6 +26,6 @@ pub use filling::fill;
 pub use ids::{ids_bytes, read_ids};
 pub use indexed::Indexed;
 pub use lists::listers;
-pub use mentions::Mention;
+pub use mentions::{Mention, add_listed, sort_mentions};
 pub use relisting::relist;
 pub use visit::Visit;

@@ -60,6 +60,16 @@ pub fn listed_in(
 ) -> Result<Vec<u64>, OutOfMemory>
     ensures ids { IfOk result (λ ids. ids.items ≡ listed_by (ids_in map) object.now) }
 {
+    match object {
+        Some(object) => ids_in(alloc, map, object),
+        None => Ok(Vec::new(alloc)),
+    }
+}
+
+/// The ids that an object lists in a map of the index, in the order in which they stand there.
+pub fn ids_in(alloc: Global, map: StoreMap, object: &Object) -> Result<Vec<u64>, OutOfMemory>
+    ensures ids { IfOk result (λ ids. ids.items ≡ ids_in map object.now) }
+{
     match map {
         StoreMap::WaysOfBlocks => blocks(alloc, object),
         StoreMap::RelationsOfNodes => listed(alloc, object, Kind::Node),
@@ -68,26 +78,27 @@ pub fn listed_in(
     }
 }
 
-/// The ids that an object lists, in the order in which they stand there.
-fn listed(alloc: Global, object: &Option<Object>, kind: Kind) -> Result<Vec<u64>, OutOfMemory>
-    ensures ids { IfOk result (λ ids. ids.items ≡ listed_by (listed kind) object.now) }
+/// The ids of one kind that an object lists, in the order in which they stand there.
+fn listed(alloc: Global, object: &Object, kind: Kind) -> Result<Vec<u64>, OutOfMemory>
+    ensures ids { IfOk result (λ ids. ids.items ≡ listed kind object.now) }
 {
     match object {
-        Some(Object::Way { nodes, .. }) if kind == Kind::Node => {
+        Object::Way { nodes, .. } if kind == Kind::Node => {
             Ok(Vec::from_slice(alloc, nodes.as_slice())?)
         }
-        Some(Object::Relation { members, .. }) => member_ids(alloc, members.as_slice(), kind),
+        Object::Relation { members, .. } => member_ids(alloc, members.as_slice(), kind),
         _ => Ok(Vec::new(alloc)),
     }
 }
 
 /// The blocks of the nodes that an object lists, in their order.
-fn blocks(alloc: Global, object: &Option<Object>) -> Result<Vec<u64>, OutOfMemory>
-    ensures blocks { IfOk result (λ blocks. blocks.items ≡ listed_by blocks_in object.now) }
+fn blocks(alloc: Global, object: &Object) -> Result<Vec<u64>, OutOfMemory>
+    ensures blocks { IfOk result (λ blocks. blocks.items ≡ blocks_in object.now) }
 {
     let nodes = listed(alloc, object, Kind::Node)?;
     blocks_of(alloc, nodes.as_slice())
 }
+
 /// The blocks of these nodes.
 fn blocks_of(alloc: Global, nodes: &[u64]) -> Result<Vec<u64>, OutOfMemory>
     ensures blocks { IfOk result (λ blocks. blocks.items ≡ map block_of nodes.now) }

@@ -4,10 +4,10 @@ ghost use Rattle.std.specs.List.Sorted.{IsNonDecreasingBy, IsPermutation};
 ghost use Rattle.osm_base.specs.values.Ids.{has};
 ghost use Rattle.osm_base.specs.values.Key.{IsId};
 ghost use Rattle.back_index.specs.Filling.{ByIds, id_of, is_told, mentions_tell};
-ghost use Rattle.back_index.specs.Listed.{entry_ids, lister_in, map_told};
+ghost use Rattle.back_index.specs.Listed.{entry_ids, ids_in, lister_in, map_told};
 
-use crate::listed_ids::listed_in;
-use osm_base::{Entry, Kind, OutOfMemory};
+use crate::listed_ids::{ids_in, listed_in};
+use osm_base::{Entry, Kind, Object, OutOfMemory};
 use std::alloc::Global;
 use value_bytes::StoreMap;
 
@@ -27,7 +27,7 @@ pub fn told(alloc: Global, map: StoreMap, entries: &[Entry]) -> Result<Vec<Menti
     ensures order { IfOk result (λ mentions. IsNonDecreasingBy id_of mentions.items) }
 {
     let mut mentions = all_told(alloc, map, entries)?;
-    sort(&mut mentions);
+    sort_mentions(&mut mentions);
     Ok(mentions)
 }
 
@@ -65,6 +65,23 @@ fn lister_in(map: StoreMap) -> Kind
     }
 }
 
+/// Adds what an object lists in a map of the index, as told of this id. For a map of lists, an object of the kind of those that list
+/// something there.
+pub fn add_listed(
+    alloc: Global,
+    map: StoreMap,
+    own: u64,
+    object: &Object,
+    mentions: &mut Vec<Mention>,
+) -> Result<(), OutOfMemory>
+    ensures told { OnOk result ((id by : ℕ) → mentions_tell mentions.new.items id by
+        ≡ (mentions_tell mentions.old.items id by || (has (ids_in map object.now) id && nat_eq own by))) }
+    ensures ids { OnOk result (IsId own → ByIds (mentions_tell mentions.old.items) → ByIds (mentions_tell mentions.new.items)) }
+{
+    let ids = ids_in(alloc, map, object)?;
+    add_all(mentions, ids.as_slice(), own)
+}
+
 /// Adds that these ids are listed by this one.
 fn add_all(mentions: &mut Vec<Mention>, ids: &[u64], own: u64) -> Result<(), OutOfMemory>
     ensures told { OnOk result ((id by : ℕ) → mentions_tell mentions.new.items id by
@@ -99,7 +116,7 @@ fn ends_with(mentions: &[Mention], mention: Mention) -> bool
 }
 
 /// Puts what is told in the order of the ids that are listed.
-fn sort(mentions: &mut Vec<Mention>)
+pub fn sort_mentions(mentions: &mut Vec<Mention>)
     ensures permutation { IsPermutation mentions.old.items mentions.new.items }
     ensures rising { IsNonDecreasingBy id_of mentions.new.items }
 {

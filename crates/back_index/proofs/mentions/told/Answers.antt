@@ -6,11 +6,11 @@ use Rattle.back_index.proofs.mentions.told.Goals as goal
 
 pub returns-clause-told : goal.returns-clause-told
 returns-clause-told c id by =
-    told_permuted c.in_ok-mentions.mentions.items c.sort.new.mentions.items c.sort.ensures.permutation id by
+    told_permuted c.in_ok-mentions.mentions.items c.sort_mentions.new.mentions.items c.sort_mentions.ensures.permutation id by
     ∙ c.in_ok-mentions.ensures.told id by
 
 pub returns-clause-ids : goal.returns-clause-ids
 returns-clause-ids c =
-    by_ids_as (mentions_tell c.in_ok-mentions.mentions.items) (mentions_tell c.sort.new.mentions.items)
-    (λ id by. told_permuted c.in_ok-mentions.mentions.items c.sort.new.mentions.items c.sort.ensures.permutation id by)
+    by_ids_as (mentions_tell c.in_ok-mentions.mentions.items) (mentions_tell c.sort_mentions.new.mentions.items)
+    (λ id by. told_permuted c.in_ok-mentions.mentions.items c.sort_mentions.new.mentions.items c.sort_mentions.ensures.permutation id by)
     c.in_ok-mentions.ensures.ids
