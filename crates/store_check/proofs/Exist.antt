@@ -6,6 +6,7 @@ use Rattle.std.specs.Ordering.{eq_by_cmp, is_eq, is_lt, nat_cmp}
 use Rattle.std.specs.declared.cmp.Ordering.{Ordering}
 use Rattle.std.specs.declared.cmp.Ordering.TheVariants.{Less, Equal, Greater}
 use Rattle.std.specs.FinMap as finite
+use Rattle.std.specs.List.{AllByRecursion}
 use Rattle.std.specs.FinMap.{find, is_sorted, nat_cmp-IsAntisymmetric}
 use Rattle.std.specs.FinMap.Entries.{below_all}
 use Rattle.bucket_records.specs.Records.{BucketMap}
@@ -54,6 +55,17 @@ found_on key bytes one rest below found =
           absurd (cc)
       | false ↦ λ other. found
     ] refl
+
+-- what holds of all that is found among entries holds of each of them
+pub all_found : (P : ℕ × List ℕ → Type 0) (es : List (ℕ × List ℕ)) → T (is_sorted nat_cmp es)
+    → ((key : ℕ) (bytes : List ℕ) → find nat_cmp key es ≡ Some bytes → P (key, bytes)) → AllByRecursion P es
+all_found P [] sorted each = tt
+all_found P (one ∷ es) sorted each =
+    let below = front (below_all nat_cmp one.0 es) (is_sorted nat_cmp es) sorted in (
+      each one.0 one.1 (ap (λ b. cond b (Some one.1) (find nat_cmp one.0 es)) (self one.0)),
+      all_found P es (back (below_all nat_cmp one.0 es) (is_sorted nat_cmp es) sorted)
+          (λ key bytes found. each key bytes (found_on key bytes one es below found)),
+    )
 
 module _ {V : Type 0} (Q : ℕ → List ℕ → V → Type 0) where
   -- the bytes of a key, if there are any, are those of the value, if there is one

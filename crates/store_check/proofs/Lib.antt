@@ -1,10 +1,33 @@
-mod Exist
-mod Known
-mod Loads
-mod Meaning
-mod Objects
-mod Right
-mod SameRows
-mod Sound
-mod Standing
-mod Survey
+pub mod AllLaws
+pub mod BucketSteps
+pub mod Exist
+pub mod Finding
+pub mod FoundLaws
+pub mod HeldLaws
+pub mod HeldLists
+pub mod HeldRows
+pub mod JudgedMaps
+pub mod LeastLaws
+pub mod LeastOfTwo
+pub mod ListRuns
+pub mod ListsLaws
+pub mod Loads
+pub mod MarkLaws
+pub mod Meaning
+pub mod ObjectSets
+pub mod ReadingLaws
+pub mod Right
+pub mod RowFound
+pub mod RowKeys
+pub mod RowRight
+pub mod SameRows
+pub mod SearchLaws
+pub mod Sight
+pub mod Sound
+pub mod Steps
+pub mod Surveyed
+pub mod SweepLaws
+pub mod Taking
+pub mod ToldLists
+pub mod Trees
+pub mod Unsound

@@ -20,26 +20,26 @@ use Rattle.chain_store.proofs.FirstLaws.{first_in-bucket, first_in-root}
 use Rattle.chain_store.proofs.NumberLaws.{number-beyond}
 use Rattle.chain_store.proofs.Unique.{bytes_one}
 use Rattle.page_journal.specs.Pages.{number}
-use Rattle.store_check.specs.BadPage.{AreLoaded, AreOwned, AreUnused, IsLoaded, buckets_told, chains_in}
-use Rattle.store_check.proofs.Survey.{below, holds, image, level_or_apart, not_below, spells, strings, surveyed}
+use Rattle.store_check.specs.BadPage.{AreChains, AreLoaded, AreOwned, IsLoaded, buckets_told, chains_in}
+use Rattle.store_check.proofs.Surveyed.{below, holds, image, level_or_apart, not_below, spells, strings, surveyed}
 
 -- what holds of each in a list
 
-each_in : (P : ℕ → Type 0) (start count k : ℕ) → k < count → AllByRecursion P (range_with_len start count) → P (start + k)
+pub each_in : (P : ℕ → Type 0) (start count k : ℕ) → k < count → AllByRecursion P (range_with_len start count) → P (start + k)
 each_in P start zero k low all = absurd (omega (arith, low))
 each_in P start (suc count) zero low all = let level : start ≡ start + 0 = omega arith in subst P level all.0
 each_in P start (suc count) (suc k) low all =
     let level : start + 1 + k ≡ start + suc k = omega arith in
     subst P level (each_in P (start + 1) count k (omega (arith, low)) all.1)
 
-each_below : (P : ℕ → Type 0) (count k : ℕ) → k < count → AllByRecursion P (range_with_len 0 count) → P k
+pub each_below : (P : ℕ → Type 0) (count k : ℕ) → k < count → AllByRecursion P (range_with_len 0 count) → P k
 each_below P count k low all = let level : 0 + k ≡ k = omega arith in subst P level (each_in P 0 count k low all)
 
-each_mapped : (P : ℕ → Type 0) (turn : ℕ → ℕ) (xs : List ℕ) → AllByRecursion P (map turn xs) → AllByRecursion (λ x. P (turn x)) xs
+pub each_mapped : (P : ℕ → Type 0) (turn : ℕ → ℕ) (xs : List ℕ) → AllByRecursion P (map turn xs) → AllByRecursion (λ x. P (turn x)) xs
 each_mapped P turn [] all = tt
 each_mapped P turn (x ∷ xs) all = (all.0, each_mapped P turn xs all.1)
 
-front_all : (P : ℕ → Type 0) (xs ys : List ℕ) → AllByRecursion P (xs ++ ys) → AllByRecursion P xs
+pub front_all : (P : ℕ → Type 0) (xs ys : List ℕ) → AllByRecursion P (xs ++ ys) → AllByRecursion P xs
 front_all P [] ys all = tt
 front_all P (x ∷ xs) ys all = (all.0, front_all P xs ys all.1)
 
@@ -47,20 +47,20 @@ pub back_all : (P : ℕ → Type 0) (xs ys : List ℕ) → AllByRecursion P (xs 
 back_all P [] ys all = all
 back_all P (x ∷ xs) ys all = back_all P xs ys all.1
 
-each_flat : (P : ℕ → Type 0) (turn : ℕ → List ℕ) (xs : List ℕ) → AllByRecursion P (flat_map turn xs)
+pub each_flat : (P : ℕ → Type 0) (turn : ℕ → List ℕ) (xs : List ℕ) → AllByRecursion P (flat_map turn xs)
     → AllByRecursion (λ x. AllByRecursion P (turn x)) xs
 each_flat P turn [] all = tt
 each_flat P turn (x ∷ xs) all =
     (front_all P (turn x) (flat_map turn xs) all, each_flat P turn xs (back_all P (turn x) (flat_map turn xs) all))
 
-not_under : (n k : ℕ) → nat_lt n k ≡ false → k ≤ n
+pub not_under : (n k : ℕ) → nat_lt n k ≡ false → k ≤ n
 not_under n k is = grind (arith, nat_tests)
 
 pub count_few : (buckets : ℕ) → IsCount buckets → buckets ≤ 65536
 count_few buckets count = ⊎_elim (λ none. omega (arith, none)) (λ some. some.1) count
 
 module _ (pages : List (List ℕ)) (kept : Kept) (keeps : Keeps pages kept) (count : IsCount (buckets_told pages))
-    (long : AreLong kept.directories.items (buckets_told pages)) (all : AreLoaded pages kept) (unused : AreUnused kept) where
+    (long : AreLong kept.directories.items (buckets_told pages)) (all : AreLoaded pages kept) (others : AreChains pages kept) where
   abbrev page : ℕ → List ℕ
   page = page_in pages
 
@@ -126,7 +126,7 @@ module _ (pages : List (List ℕ)) (kept : Kept) (keeps : Keeps pages kept) (cou
       (λ level. subst Held (sym level) (held_loaded 1 all.0))
       (λ apart. ⊎_elim
       (λ level. subst Held (sym level) (held_loaded 2 all.1.0))
-      (λ other. held_none n (unused n low apart other))
+      (λ other. let own = others n (low, apart, other) in (own.0, to_first n own.0 own.1))
       (level_or_apart n 2))
       (level_or_apart n 1)
 

@@ -40,7 +40,7 @@ all_flat : (P : ℕ → Type 0) (turn : ℕ → List ℕ) (xs : List ℕ) → Al
 all_flat P turn [] all = tt
 all_flat P turn (x ∷ xs) all = each_append P (turn x) (flat_map turn xs) all.0 (all_flat P turn xs all.1)
 
-bucket_same : {one other bucket place : ℕ} {text bytes : List ℕ} {records : List (ℕ × List ℕ)} → one ≡ other → bucket ≡ place
+pub bucket_same : {one other bucket place : ℕ} {text bytes : List ℕ} {records : List (ℕ × List ℕ)} → one ≡ other → bucket ≡ place
     → text ≡ bytes → IsBucket one bucket text records → IsBucket other place bytes records
 bucket_same {one} {other} {bucket} {place} {text} {bytes} {records} count at same is =
     subst (λ (own : ℕ). IsBucket own place bytes records) count

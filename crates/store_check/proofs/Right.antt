@@ -1,6 +1,6 @@
 -- Where each value of each map is right, the maps are those of a sound store.
 use Rattle.std.proofs.Common.{◌≡◌, ◌≢◌, ℕ, ◌+◌, ◌*◌, ◌/◌, ◌%◌, Bool, true, false, List, [], ◌∷◌, Option, Some, None, refl, sym, subst}
-use Rattle.std.proofs.Common.{◌∙◌, arith}
+use Rattle.std.proofs.Common.{◌∙◌, ◌<◌, arith}
 use Rattle.std.specs.Prelude.{IfSome, IsSome}
 use Rattle.std.specs.FinMap as finite
 use Rattle.std.specs.Option.{option_map, unwrap_or}
@@ -38,10 +38,10 @@ use Rattle.back_index.specs.Filling.{AreKept}
 use Rattle.back_index.specs.Ids.{ids_bytes, AreListed}
 use Rattle.back_index.specs.Relisting.{kept_list}
 use Rattle.store_check.specs.Maps.{HasSoundMapsOf}
-use Rattle.store_check.specs.Values.{AreRight, AreRightRows, HasRightBytes, IsKnownRecord, IsSpelledAt, NodeMap, ObjectMap}
+use Rattle.store_check.specs.Values.{AreRight, AreRightRows, HasRightBytes, IsKnownRecord, IsRight, IsSpelledAt, NodeMap, ObjectMap}
 use Rattle.store_check.specs.Values.{ReadsObjects, bare, objects_of}
 use Rattle.store_check.proofs.Exist.{Pair, values_exist}
-use Rattle.store_check.proofs.Objects.{get_node, get_way, get_relation}
+use Rattle.store_check.proofs.ObjectSets.{get_node, get_way, get_relation}
 
 -- nodes
 
@@ -329,6 +329,22 @@ bare_there : (found : Option NodeRecord) → IsSome (option_map bare found) → 
 bare_there None there = there
 bare_there (Some own) there = refl
 
+-- where the values of maps 0 to 2 are right their keys are ids
+module _ (style : StyleOf) (image : Image) (nodes : NodeMap) (ways relations : ObjectMap) (read : ReadsObjects image nodes ways relations)
+    (right : (map : StoreMap) → number_of map < 3 → (key : ℕ) → IsRight style image nodes (objects_of nodes ways relations) map key) where
+  id_at : (kind : Kind) (id : ℕ) → IsSome (finite.get (objects_of nodes ways relations) (record { kind = kind; id = id })) → IsId id
+  id_at kinds.Node id there = id_one record_bytes IsRecord (IsKnownRecord style) id (finite.get (image.maps 0) id) (finite.get nodes id)
+      (read.nodes_read id) (right stored.Nodes (omega arith) id)
+      (bare_there (finite.get nodes id) (subst IsSome (get_node nodes ways relations id) there))
+  id_at kinds.Way id there = id_one object_bytes (IsStored kinds.Way) (IsStored kinds.Way) id (finite.get (image.maps 1) id)
+      (finite.get ways id) (read.ways_read id) (right stored.Ways (omega arith) id) (subst IsSome (get_way nodes ways relations id) there)
+  id_at kinds.Relation id there = id_one object_bytes (IsStored kinds.Relation) (IsStored kinds.Relation) id (finite.get (image.maps 2) id)
+      (finite.get relations id) (read.relations_read id) (right stored.Relations (omega arith) id)
+      (subst IsSome (get_relation nodes ways relations id) there)
+
+  pub objects_have_ids : HasIds (objects_of nodes ways relations)
+  objects_have_ids key there = id_at key.kind key.id there
+
 module _ (style : StyleOf) (image : Image) (nodes : NodeMap) (ways relations : ObjectMap) (read : ReadsObjects image nodes ways relations)
     (right : AreRight style image nodes (objects_of nodes ways relations)) where
   pub right_is_sound : HasSoundMapsOf style (objects_of nodes ways relations) image
@@ -339,15 +355,5 @@ module _ (style : StyleOf) (image : Image) (nodes : NodeMap) (ways relations : O
       (λ id. held_one record_bytes IsRecord (finite.get (image.maps 0) id) (finite.get nodes id) (read.nodes_read id))
       (λ id. known_one style id (finite.get (image.maps 0) id) (finite.get nodes id) (read.nodes_read id) (right stored.Nodes id)) right
 
-  id_at : (kind : Kind) (id : ℕ) → IsSome (finite.get (objects_of nodes ways relations) (record { kind = kind; id = id })) → IsId id
-  id_at kinds.Node id there = id_one record_bytes IsRecord (IsKnownRecord style) id (finite.get (image.maps 0) id) (finite.get nodes id)
-      (read.nodes_read id) (right stored.Nodes id)
-      (bare_there (finite.get nodes id) (subst IsSome (get_node nodes ways relations id) there))
-  id_at kinds.Way id there = id_one object_bytes (IsStored kinds.Way) (IsStored kinds.Way) id (finite.get (image.maps 1) id)
-      (finite.get ways id) (read.ways_read id) (right stored.Ways id) (subst IsSome (get_way nodes ways relations id) there)
-  id_at kinds.Relation id there = id_one object_bytes (IsStored kinds.Relation) (IsStored kinds.Relation) id (finite.get (image.maps 2) id)
-      (finite.get relations id) (read.relations_read id) (right stored.Relations id)
-      (subst IsSome (get_relation nodes ways relations id) there)
-
   pub right_has_ids : HasIds (objects_of nodes ways relations)
-  right_has_ids key there = id_at key.kind key.id there
+  right_has_ids = objects_have_ids style image nodes ways relations read (λ map low key. right map key)

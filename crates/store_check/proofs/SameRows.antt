@@ -60,7 +60,7 @@ one_way P each member ways all =
       | false ↦ λ differs. all
     ] refl
 
-all_ways : (P : KeyOf → Type 0) → ((id : ℕ) → P (way_key id)) → (members : List Member) (ways : List KeyOf) → AllByRecursion P ways
+pub all_ways : (P : KeyOf → Type 0) → ((id : ℕ) → P (way_key id)) → (members : List Member) (ways : List KeyOf) → AllByRecursion P ways
     → AllByRecursion P (fold with_way ways members)
 all_ways P each [] ways all = all
 all_ways P each (member ∷ members) ways all = all_ways P each members (with_way ways member) (one_way P each member ways all)

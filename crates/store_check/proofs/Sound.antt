@@ -139,7 +139,7 @@ module _ (style : StyleOf) (image : Image) (objects : ObjectSet) (sound : HasSou
   relation_id : (id : ℕ) → IsSome (finite.get maps.relations id) → IsId id
   relation_id id there = ids (relation_key id) (subst IsSome (sound.on.objects.relations id) there)
 
-  all_right : AreRight style image maps.nodes objects
+  pub all_right : AreRight style image maps.nodes objects
   all_right stored.Nodes key = node_right style key (finite.get (image.maps 0) key) (finite.get maps.nodes key)
       (finite.get objects (node_key key))
       (sound.kept.nodes key) (sound.on.objects.nodes key) (ids (node_key key))

@@ -68,9 +68,13 @@ pub record IsLeftOver (pages : List (List ℕ)) (kept : Kept) (at : ℕ) : Type 
   pub none : ¬ IsOwned pages kept at
   pub lowest : (p : ℕ) → 2 ≤ p → p < at → IsOwned pages kept p
 
--- the chains that are to be empty are
-abbrev pub AreUnused : Kept → Type 0
-AreUnused kept = (n : ℕ) → n < 8 → n ≢ 1 → n ≢ 2 → kept_first kept n ≡ 0
+-- the text with this number is to be empty
+abbrev pub IsUnused : ℕ → Type 0
+IsUnused n = (n < 8) × (n ≢ 1) × (n ≢ 2)
+
+-- the chains that are to be empty are chains, whatever they hold
+abbrev pub AreChains : List (List ℕ) → Kept → Type 0
+AreChains pages kept = (n : ℕ) → IsUnused n → (bytes : List ℕ) × HasBytes pages n (kept_first kept n) bytes
 
 -- a survey of all chains of a store may give this answer
 abbrev pub Surveys : List (List ℕ) → Kept → Result (Unit {0}) StoreFault → Type 0

@@ -1,5 +1,15 @@
 pub mod BadPage
+pub mod Held
+pub mod Judged
+pub mod Judging
+pub mod Kept
+pub mod Least
+pub mod Lists
 pub mod Maps
 pub mod Marks
-pub mod Sound
+pub mod Objects
+pub mod Reading
+pub mod Surveying
+pub mod Sweep
 pub mod Values
+pub mod Wrong

@@ -15,7 +15,7 @@ use Rattle.middle_nodes.specs.Old.{unknown}
 use Rattle.row_map.specs.Condition.{reaches_nodes}
 use Rattle.store_maps.specs.Maps.{Maps, rows_at}
 use Rattle.store_maps.specs.Stands.{StandsOn}
-use Rattle.update_flow.specs.maps.Kept.{HoldsMaps}
+use Rattle.store_check.specs.Kept.{HoldsMaps}
 use Rattle.store_check.specs.Values.{AreRightRows, objects_of}
 
 -- the maps are spelled, and stand for the objects that they have: who lists what is what these list, and the rows of each key are right

@@ -10,25 +10,10 @@ ghost use Rattle.chain_store.specs.Kept.{AreLong};
 ghost use Rattle.chain_store.specs.State.{IsState};
 ghost use Rattle.chain_store.specs.Store.{Keeps};
 ghost use Rattle.chain_store.specs.declared.kept.Kept.{Kept};
-ghost use Rattle.bucket_store.specs.Image.{HasImage, Image, Spells};
-ghost use Rattle.update_flow.specs.Stands.{StandsFor};
-ghost use Rattle.update_flow.specs.State.{Holding, formatted, imported};
-ghost use Rattle.store_check.specs.BadPage.{AreLoaded, AreOwned, AreUnused, Surveys, buckets_told};
-ghost use Rattle.store_check.specs.Maps.{HasSoundMapsOf, KnowsTags};
-ghost use Rattle.store_check.specs.Sound.{IsSound, IsSoundImport};
+ghost use Rattle.bucket_store.specs.Image.{Image, Spells};
+ghost use Rattle.store_check.specs.BadPage.{AreChains, AreLoaded, AreOwned, Surveys, buckets_told};
+ghost use Rattle.store_check.specs.Maps.{HasSoundMapsOf};
 ghost use Rattle.store_check.specs.Values.{AreRight, NodeMap, ObjectMap, ReadsObjects, objects_of};
-
-/// A sound store that was imported, and of whose nodes all tags are known, stands for what it holds.
-pub fn sound_stands()
-    ensures stands { (bytes : List ℕ) (image : Image) (held : Holding) → HasImage image bytes → IsSoundImport held image → KnowsTags image
-        → StandsFor bytes (imported held) }
-{}
-
-/// What stands for a store that was only made, or for an imported one, is sound.
-pub fn standing_is_sound()
-    ensures made { (bytes : List ℕ) → StandsFor bytes formatted → IsSound bytes }
-    ensures filled { (bytes : List ℕ) (held : Holding) → StandsFor bytes (imported held) → IsSound bytes }
-{}
 
 /// Where maps 0 to 2 read as objects, and each value of each map is right by these, the maps are those of a sound store.
 pub fn right_is_sound()
@@ -47,10 +32,11 @@ pub fn sound_is_right()
         → AreRight style image nodes (objects_of nodes ways relations) }
 {}
 
-/// A store means something where each of its chains is loaded, those that are to be empty are, and each page is in one of them or free.
+/// A store means something where each of its chains is loaded, those that are to be empty are chains, and each page is in one of them or
+/// free.
 pub fn surveyed_means()
     ensures means { (pages : List (List ℕ)) (kept : Kept) → Keeps pages kept → IsCount (buckets_told pages)
-        → AreLong kept.directories.items (buckets_told pages) → AreLoaded pages kept → AreUnused kept → AreOwned pages kept
+        → AreLong kept.directories.items (buckets_told pages) → AreLoaded pages kept → AreChains pages kept → AreOwned pages kept
         → (own : Image) × (strings : ℕ → List ℕ) × IsState own.root strings pages × Spells own strings }
 {}
 

@@ -1,23 +1,36 @@
-//! What it means that a store is sound, as laws.
+//! Whether an open store is sound: what that means of its chains and of its values, and what finds out.
 //!
-//! A store is sound where its bytes are those of a store that was only made, or of an imported one: each page is in one chain or
-//! free, all of it is spelled, the lists are those of its ways and relations, and the rows those that an import of its objects makes
-//! (`specs/Sound.antt`, `specs/Maps.antt`). Of a node whose tags nobody knows, in a store that was migrated, it is known only that
-//! its rows stand in tables of nodes, at its place. `specs/Values.antt` says which value of which map is right, and
-//! `specs/BadPage.antt` which page is blamed where a chain is not.
+//! It stands beside the steps of a change, over the buckets of a store: `specs/Kept.antt` has what the eight maps hold. `survey` reads
+//! all chains once and finds the first that is refused, or the lowest page that is in none and not free (`specs/BadPage.antt`).
+//! `first_wrong` looks at each value of each map then (`specs/Values.antt`): maps 0 to 2 are read as objects, of which what rows need
+//! is held; lists are compared with what the ways and relations list, and rows with those that an import of the objects makes. Of a
+//! node whose tags nobody knows, in a store that was migrated, it is known only that its rows stand in tables of nodes, at its place.
 //!
-//! `standing_is_sound` and `sound_stands` tie the word to what a store stands for, `right_is_sound` and `sound_is_right` to each
-//! value of the maps, and `surveyed_means` and `meaning_is_surveyed` to
-//! the pages of each chain.
-//!
-//! `PageMarks` has a mark for each home page, and finds the lowest one that has none.
+//! `right_is_sound` and `sound_is_right` tie the values to the maps of a sound store (`specs/Maps.antt`), and `surveyed_means` and
+//! `meaning_is_surveyed` the pages to what a store means. `PageMarks` has a mark for each home page.
 #![tactic(auto)]
 
+mod at_node;
+mod held;
+mod judging;
+mod judging_maps;
 mod laws;
+mod least;
+mod list_judge;
+mod lists;
+mod objects;
 mod page_marks;
+mod reading;
+mod row_judge;
+mod row_records;
+mod rows;
+mod searching;
+mod surveying;
+mod told_lists;
+mod wrong;
 
-pub use laws::{
-    meaning_is_surveyed, right_is_sound, sound_is_right, sound_stands, standing_is_sound,
-    surveyed_means,
-};
+pub use laws::{meaning_is_surveyed, right_is_sound, sound_is_right, surveyed_means};
 pub use page_marks::PageMarks;
+pub use searching::first_wrong;
+pub use surveying::survey;
+pub use wrong::Wrong;

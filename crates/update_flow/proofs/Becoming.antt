@@ -11,7 +11,7 @@ use Rattle.bucket_store.proofs.Images.{maps_with_root, maps_with_text, root_with
 use Rattle.bucket_store.proofs.Images.{texts_with_root}
 use Rattle.store_maps.specs.Maps.{Maps}
 use Rattle.store_maps.specs.Stands.{Stands}
-use Rattle.update_flow.specs.maps.Kept.{HoldsMaps}
+use Rattle.store_check.specs.Kept.{HoldsMaps}
 use Rattle.update_flow.proofs.MapsKept.{kept_same}
 use Rattle.update_flow.specs.Due.{Tiles, no_tiles}
 use Rattle.update_flow.specs.Stands.{IsImported}

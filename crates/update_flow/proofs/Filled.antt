@@ -21,7 +21,7 @@ use Rattle.back_index.specs.Filling.{Fills, HasNoIndex}
 use Rattle.back_index.specs.Visits.{Refuses}
 use Rattle.back_index.proofs.Filled.{told_held, void_held}
 use Rattle.update_flow.specs.maps.Held.{Beside, HasMaps}
-use Rattle.update_flow.specs.maps.Kept.{HoldsMaps}
+use Rattle.store_check.specs.Kept.{HoldsMaps}
 use Rattle.update_flow.proofs.Settings.{sound_none}
 
 pub fill_sound : (result : Result (Unit {0}) StoreFault) → IfErr result (Refuses (λ at. ⊥)) → IsSoundAnswer result

@@ -16,7 +16,7 @@ use Rattle.page_journal.specs.declared.fault.StoreFault.TheVariants as store
 use Rattle.bucket_store.specs.Image.{Image, with_text}
 use Rattle.bucket_store.proofs.Images.{maps_with_root, maps_with_text, root_with_root, texts_beside, texts_here, texts_with_root}
 use Rattle.update_flow.specs.maps.Calls.{IsAllowed}
-use Rattle.update_flow.specs.maps.Kept.{HoldsMaps}
+use Rattle.store_check.specs.Kept.{HoldsMaps}
 use Rattle.update_flow.proofs.MapsKept.{kept_same}
 use Rattle.store_maps.specs.Maps.{Maps}
 use Rattle.store_maps.specs.Stands.{Stands}

@@ -26,3 +26,5 @@ pub mod MapsKept
 pub mod Migrations
 pub mod Settings
 pub mod Within
+pub mod SoundKnown
+pub mod SoundStanding

@@ -18,7 +18,7 @@ use Rattle.value_bytes.specs.Objects.{object_bytes, IsStored}
 use Rattle.row_store.specs.Rows.{rows_bytes, AreRows}
 use Rattle.back_index.specs.Ids.{ids_bytes, AreListed}
 use Rattle.store_maps.specs.Maps.{Maps, empty_maps, set}
-use Rattle.update_flow.specs.maps.Kept.{HoldsMaps}
+use Rattle.store_check.specs.Kept.{HoldsMaps}
 
 -- the value, if there is one, is such a value
 abbrev pub IfIs : {V : Type 0} → (V → Type 0) → Option V → Type 0

@@ -54,7 +54,7 @@ use Rattle.back_index.proofs.Reading.{refuses_more, refuses_result}
 use Rattle.back_index.proofs.Turning.{only_none, only_then, sets_put}
 use Rattle.store_maps.specs.Maps.{Maps}
 use Rattle.update_flow.specs.maps.Held.{Beside, HasOldMaps}
-use Rattle.update_flow.specs.maps.Kept.{HoldsMaps, HoldsOldMaps}
+use Rattle.store_check.specs.Kept.{HoldsMaps, HoldsOldMaps}
 use Rattle.update_flow.specs.maps.Migrating.{Any, AreThere, HasOldUnread, IsIn, IsRenewed, LooksOnce, Renews, RenewsOnce}
 use Rattle.update_flow.proofs.Settings.{sound_none}
 

@@ -3,7 +3,7 @@ use Rattle.std.proofs.Common.{◌≡◌, ◌<◌, ℕ, ap, ◌∙◌, arith}
 use Rattle.chain_store.specs.declared.root.Root.{Root}
 use Rattle.bucket_store.specs.Image.{Image}
 use Rattle.bucket_store.proofs.Images.{maps_with_root, root_with_root, texts_with_root}
-use Rattle.update_flow.specs.maps.Kept.{HoldsMaps}
+use Rattle.store_check.specs.Kept.{HoldsMaps}
 use Rattle.update_flow.proofs.MapsKept.{kept_same}
 use Rattle.update_flow.specs.Settling.{migrated, migrated_root}
 use Rattle.update_flow.specs.Stands.{IsImported, IsOld}

@@ -43,7 +43,7 @@ use Rattle.osm_base.specs.values.Key.{KeyOf, IsId}
 use Rattle.store_maps.specs.Step.{AreTold, relisted_to}
 use Rattle.update_flow.specs.maps.Held.{Beside, HasMaps}
 use Rattle.update_flow.specs.maps.Laws.{index_held}
-use Rattle.update_flow.specs.maps.Kept.{HoldsMaps}
+use Rattle.store_check.specs.Kept.{HoldsMaps}
 use Rattle.update_flow.proofs.MapsKept.{IfIs, node_kept, way_kept, relation_kept, node_rows_kept, other_rows_kept}
 
 -- what follows of two facts of an answer

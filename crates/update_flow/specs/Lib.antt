@@ -22,3 +22,4 @@ pub mod OpeningReads
 pub mod Reads
 pub mod ChangeReads
 pub mod maps
+pub mod Sound

@@ -13,7 +13,7 @@ use Rattle.object_fold.specs.Listings.{HasIds}
 use Rattle.row_map.specs.Condition.{reaches_nodes}
 use Rattle.store_maps.specs.Maps.{Maps}
 use Rattle.store_maps.specs.Stands.{Stands}
-use Rattle.update_flow.specs.maps.Kept.{HoldsMaps, HoldsOldMaps}
+use Rattle.store_check.specs.Kept.{HoldsMaps, HoldsOldMaps}
 use Rattle.update_flow.specs.Due.{Tiles}
 use Rattle.update_flow.specs.State.{Holding, State, formatted, imported, outdated}
 use Rattle.update_flow.specs.declared.fault.TheConstants.{LAST_CHANGE}

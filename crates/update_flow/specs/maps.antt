@@ -1,4 +1,3 @@
-pub mod Kept
 pub mod Held
 pub mod Touched
 pub mod Migrating

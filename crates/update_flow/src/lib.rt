@@ -13,6 +13,7 @@ mod fields;
 mod finishing;
 mod ids;
 mod importing;
+mod laws;
 mod maps;
 mod migrating;
 mod opened;
@@ -28,6 +29,7 @@ pub use fields::{
     BLANK, BLANK_FORMAT, DUE_TEXT, IMPORTED, IMPORTED_FORMAT, OLD_FORMAT, STYLE_TEXT, is_blank,
     is_imported, is_old, shared_numbers,
 };
+pub use laws::{sound_stands, standing_is_sound};
 pub use opened::Opened;
 pub use opening::open;
 pub use style_text::load_style;

@@ -6,7 +6,7 @@ use Rattle.chain_store.specs.declared.root.Root.{Root}
 use Rattle.bucket_store.specs.Image.{Has, Image}
 use Rattle.bucket_store.specs.declared.buckets.Buckets.{Buckets}
 use Rattle.store_maps.specs.Maps.{Maps}
-use Rattle.update_flow.specs.maps.Kept.{HoldsMaps, HoldsOldMaps}
+use Rattle.store_check.specs.Kept.{HoldsMaps, HoldsOldMaps}
 
 -- what is beside the maps: the store at rest, and the fields and the texts that the transaction has
 pub record Beside : Type 0 where

@@ -29,7 +29,7 @@ use Rattle.store_maps.specs.Maps.{Maps}
 use Rattle.store_maps.specs.Named.{WaysAreThere, index_on}
 use Rattle.update_flow.specs.maps.Calls.{AreAsked, IsAllowed, IsLater, Keeps, WasRefused, buckets_of, faults_of, is_over, stop_of, style_in}
 use Rattle.update_flow.specs.maps.Held.{Beside, HasMaps}
-use Rattle.update_flow.specs.maps.Kept.{HoldsMaps}
+use Rattle.store_check.specs.Kept.{HoldsMaps}
 use Rattle.update_flow.specs.declared.maps.kept.StoreTxn.{StoreTxn}
 
 -- a call that was refused for the disk or for want of memory alone

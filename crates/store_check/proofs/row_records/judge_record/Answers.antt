@@ -1,0 +1,30 @@
+-- One key more was judged.
+use Rattle.std.proofs.Common.{ℕ, Option, Some, false, sym, subst}
+use Rattle.store_check.specs.Judged.{IsAsked, IsFound, IsOne, Sees, row_number, rows_map}
+use Rattle.store_check.specs.Least.{with_key}
+use Rattle.store_check.specs.Values.{objects_of}
+use Rattle.store_check.specs.Wrong.{IsRightIn}
+use Rattle.store_check.proofs.Sight.{sees_right, sees_wrong}
+use Rattle.store_check.proofs.row_records.judge_record.Goals as goal
+
+pub returns-in-Ok-Some-clause-sees : goal.returns-in-Ok-Some-clause-sees
+returns-in-Ok-Some-clause-sees g c rest had nodes ways relations tells there =
+    let Is = IsRightIn c.args.style.now rest nodes ways relations (rows_map c.args.source) in
+    let Asked = IsAsked (objects_of nodes ways relations) in
+    let source = c.args.source in
+    let number = c.args.number in
+    let old = c.args.wrong.now in
+    let found : IsFound Is (Asked source number) (row_number source number) (Some c.in-Ok-Some.key) =
+    subst (λ (own : Option ℕ). IsFound Is (Asked source number) (row_number source number) own) c.in-Ok-Some.field-0-is
+    (c.in-Ok-Some.ensures.found rest had nodes ways relations tells there) in
+    subst (λ (new : Option ℕ). Sees Is Asked (IsOne source number) old new) (sym c.see.ensures.seen)
+    (subst (λ (key : ℕ). Sees Is Asked (IsOne source number) old (with_key old key false)) (sym found.0)
+    (sees_wrong Is Asked source number old found.1))
+
+pub returns-in-Ok-None-clause-sees : goal.returns-in-Ok-None-clause-sees
+returns-in-Ok-None-clause-sees g c rest had nodes ways relations tells there =
+    sees_right (IsRightIn c.args.style.now rest nodes ways relations (rows_map c.args.source)) (IsAsked (objects_of nodes ways relations))
+    c.args.source c.args.number c.args.wrong.now
+    (subst (λ (own : Option ℕ). IsFound (IsRightIn c.args.style.now rest nodes ways relations (rows_map c.args.source))
+    (IsAsked (objects_of nodes ways relations) c.args.source c.args.number) (row_number c.args.source c.args.number) own)
+    c.in-Ok-None.field-0-is (c.in-Ok-None.ensures.found rest had nodes ways relations tells there))

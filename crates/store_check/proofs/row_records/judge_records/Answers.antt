@@ -1,0 +1,60 @@
+-- A record more was judged.
+use Rattle.std.proofs.Common.{◌≡◌, ◌+◌, ◌∙◌, inl, inr, ℕ, List, Some, take, sym, subst, arith}
+use Rattle.std.specs.FinMap as finite
+use Rattle.value_bytes.specs.StoreMap.{number_of}
+use Rattle.bucket_store.proofs.Holding.{looks_then}
+use Rattle.row_store.proofs.LoadLaws.{among_all, among_more}
+use Rattle.row_store.proofs.LookLaws.{read_then, still_whole}
+use Rattle.store_check.specs.Judged.{IsAmong, IsAsked, IsOne, rows_map}
+use Rattle.store_check.specs.Values.{objects_of}
+use Rattle.store_check.specs.Wrong.{IsRightIn}
+use Rattle.store_check.proofs.AllLaws.{all_at}
+use Rattle.store_check.proofs.Sight.{sees_fewer, sees_then}
+use Rattle.store_check.proofs.SweepLaws.{ready_then}
+use Rattle.store_check.proofs.row_records.judge_records.Goals as goal
+
+pub loop-number-preserved : goal.loop-number-preserved
+loop-number-preserved g c =
+    let before = c.loop-number.invariant in
+    let done = c.in_default.ensures in
+    let old = c.args.buckets.now in
+    let mid = c.loop-number.buckets in
+    let new = c.judge_record.new.buckets in
+    let source = c.args.source in
+    let records = c.args.records.now in
+    let place = c.loop-number.number-index in
+    let one = c.loop-number-item.result in
+    record {
+      ready = ready_then mid new before.ready done.looks.refused done.looks.stays;
+      still = still_whole mid new c.in_default.field-0 done.looks ∙ before.still;
+      same = looks_then old mid new before.same done.looks.same;
+      stays = read_then old mid new before.stays done.looks.stays;
+      has = λ rest had. done.has rest (before.has rest had);
+      sees = λ rest had nodes ways relations tells each.
+          let here = all_at (λ (own : ℕ × List ℕ). finite.get (rest.maps (number_of source)) own.0 ≡ Some own.1) records place one each
+          c.loop-number-test.true c.loop-number-item.is in
+          let told = subst (λ (bytes : List ℕ). finite.get (rest.maps (number_of source)) one.0 ≡ Some bytes) (sym c.as_slice.ensures.items)
+          here in
+          sees_then (IsRightIn c.args.style.now rest nodes ways relations (rows_map source)) (IsAsked (objects_of nodes ways relations))
+          (IsAmong source (take place records)) (IsOne source one.0) (IsAmong source (take (place + 1) records))
+          c.args.wrong.now c.loop-number.wrong c.judge_record.new.wrong (before.sees rest had nodes ways relations tells each)
+          (done.sees rest (before.has rest had) nodes ways relations tells told)
+          (λ own number part.
+          elim (among_more records place one number c.loop-number-test.true c.loop-number-item.is part.1) [
+            | inl among ↦ inl (part.0, among)
+            | inr is ↦ inr (part.0, is)
+          ]);
+    }
+
+pub returns-clause-sees : goal.returns-clause-sees
+returns-clause-sees g c rest had nodes ways relations tells each =
+    let source = c.args.source in
+    let records = c.args.records.now in
+    let place = c.loop-number.number-index in
+    sees_fewer (IsRightIn c.args.style.now rest nodes ways relations (rows_map source)) (IsAsked (objects_of nodes ways relations))
+    (IsAmong source records) (IsAmong source (take place records)) c.args.wrong.now c.loop-number.wrong
+    (λ own number part. (part.0, among_all records place number (omega (arith, c.loop-number-test.false)) part.1))
+    (c.loop-number.invariant.sees rest had nodes ways relations tells each)
+
+pub returns-in-Err-clause-sound : goal.returns-in-Err-clause-sound
+returns-in-Err-clause-sound g c rest had = c.in-Err.ensures.sound rest (c.loop-number.invariant.has rest had)

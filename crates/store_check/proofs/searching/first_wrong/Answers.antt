@@ -1,0 +1,46 @@
+-- The objects are held, or a value of theirs is the first that is not right.
+use Rattle.std.proofs.Common.{◌≡◌, None, subst}
+use Rattle.std.specs.Prelude.{IfSome}
+use Rattle.std.proofs.lemmas.Result.{IfOk-weaker}
+use Rattle.bucket_store.specs.Image.{Has, Image}
+use Rattle.store_check.specs.Objects.{FindsObjects, HoldsObjects}
+use Rattle.store_check.specs.Wrong.{AllRight, IsFirstWrong}
+use Rattle.store_check.specs.declared.objects.Found.{Found}
+use Rattle.store_check.specs.declared.objects.Found.TheVariants as finds
+use Rattle.store_check.specs.declared.wrong.Wrong.{Wrong}
+use Rattle.store_check.proofs.SearchLaws.{some_weaker}
+use Rattle.store_check.proofs.searching.first_wrong.Goals as goal
+
+pub returns-in-Ok-Wrong-clause-wrong : goal.returns-in-Ok-Wrong-clause-wrong
+returns-in-Ok-Wrong-clause-wrong g c rest has =
+    let is : c.in-Ok-Wrong.field-0 ≡ finds.Wrong c.in-Ok-Wrong.wrong = cc (c.in-Ok-Wrong.field-0-is, c.in-Ok-Wrong.wrong-is) in
+    subst (λ (found : Found). FindsObjects c.args.style.now rest found) is (c.in-Ok-Wrong.ensures.found rest has)
+
+pub returns-clause-right : goal.returns-clause-right
+returns-clause-right g c =
+    let is : c.in-Ok-Objects.field-0 ≡ finds.Objects c.in-Ok-Objects.held = cc (c.in-Ok-Objects.field-0-is, c.in-Ok-Objects.held-is) in
+    IfOk-weaker c.wrong_behind.result
+    (λ found. found ≡ None → (rest : Image) → Has rest rest c.read_objects.new.buckets → HoldsObjects c.args.style.now rest c.in-Ok-Objects.held
+    → AllRight c.args.style.now rest)
+    (λ found. found ≡ None → (rest : Image) → Has rest rest c.args.buckets.now → AllRight c.args.style.now rest)
+    (λ found own none rest has. own none rest (c.in-Ok-Objects.ensures.has rest has)
+    (subst (λ (found : Found). FindsObjects c.args.style.now rest found) is (c.in-Ok-Objects.ensures.found rest has)))
+    c.wrong_behind.ensures.right
+
+pub returns-clause-wrong : goal.returns-clause-wrong
+returns-clause-wrong g c =
+    let is : c.in-Ok-Objects.field-0 ≡ finds.Objects c.in-Ok-Objects.held = cc (c.in-Ok-Objects.field-0-is, c.in-Ok-Objects.held-is) in
+    IfOk-weaker c.wrong_behind.result
+    (λ found. IfSome found (λ own. (rest : Image) → Has rest rest c.read_objects.new.buckets
+    → HoldsObjects c.args.style.now rest c.in-Ok-Objects.held → IsFirstWrong c.args.style.now rest own.map own.key))
+    (λ found. IfSome found (λ own. (rest : Image) → Has rest rest c.args.buckets.now → IsFirstWrong c.args.style.now rest own.map own.key))
+    (λ found own. some_weaker
+    (λ (wrong : Wrong). (rest : Image) → Has rest rest c.read_objects.new.buckets
+    → HoldsObjects c.args.style.now rest c.in-Ok-Objects.held → IsFirstWrong c.args.style.now rest wrong.map wrong.key)
+    (λ (wrong : Wrong). (rest : Image) → Has rest rest c.args.buckets.now → IsFirstWrong c.args.style.now rest wrong.map wrong.key)
+    (λ wrong first rest has. first rest (c.in-Ok-Objects.ensures.has rest has)
+    (subst (λ (found : Found). FindsObjects c.args.style.now rest found) is (c.in-Ok-Objects.ensures.found rest has))) found own)
+    c.wrong_behind.ensures.wrong
+
+pub returns-clause-sound : goal.returns-clause-sound
+returns-clause-sound g c rest has = c.wrong_behind.ensures.sound rest (c.in-Ok-Objects.ensures.has rest has)

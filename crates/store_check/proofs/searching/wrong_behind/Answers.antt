@@ -1,0 +1,58 @@
+-- A map more is right, or has the first value that is not.
+use Rattle.std.proofs.Common.{◌≡◌, Option, arith, refl, sym, subst, ◌∙◌, ⊎_elim}
+use Rattle.bucket_store.proofs.Holding.{looks_then}
+use Rattle.row_store.proofs.LookLaws.{read_then, still_whole}
+use Rattle.value_bytes.specs.StoreMap.{number_of}
+use Rattle.value_bytes.specs.declared.store_map.StoreMap.{StoreMap}
+use Rattle.value_bytes.proofs.MapNumbers.{number_of-below}
+use Rattle.store_check.specs.Wrong.{IsRightIn, IsWrongIn}
+use Rattle.store_check.specs.declared.wrong.Wrong.{Wrong}
+use Rattle.store_check.proofs.SearchLaws.{all_right, first_found, held_ids, lower_or_not, same_map}
+use Rattle.store_check.proofs.searching.wrong_behind.Goals as goal
+
+pub loop-map-preserved : goal.loop-map-preserved
+loop-map-preserved g c =
+    let before = c.loop-map.invariant in
+    let done = c.in-Ok-None.ensures in
+    let old = c.args.buckets.now in
+    let mid = c.loop-map.buckets in
+    let new = c.wrong_in.new.buckets in
+    let here : number_of c.in-Some.map ≡ c.loop-map.number = c.in-Some.ensures.map in
+    record {
+      some = omega (arith, before.some);
+      few = let below = number_of-below c.in-Some.map in omega (arith, here, below);
+      going = done.looks.refused;
+      still = still_whole mid new c.in-Ok-None.field-0 done.looks ∙ before.still;
+      same = looks_then old mid new before.same done.looks.same;
+      stays = read_then old mid new before.stays done.looks.stays;
+      has = λ rest had. done.has rest (before.has rest had);
+      right = λ rest had nodes ways relations read ids held map behind low key.
+          ⊎_elim (λ less. before.right rest had nodes ways relations read ids held map behind less key)
+          (λ most.
+          let level : number_of map ≡ number_of c.in-Some.map = omega (arith, low, most, here) in
+          subst (λ (own : StoreMap). IsRightIn c.args.style.now rest nodes ways relations own key) (sym (same_map map c.in-Some.map level))
+          (subst (λ (found : Option Wrong). IsWrongIn (IsRightIn c.args.style.now rest nodes ways relations) c.in-Some.map found)
+          c.in-Ok-None.field-0-is (done.least rest (before.has rest had) nodes ways relations read ids held) key))
+          (lower_or_not (number_of map) c.loop-map.number);
+    }
+
+pub returns-clause-right : goal.returns-clause-right
+returns-clause-right g c is rest had own =
+    all_right c.args.style.now rest c.args.held.now own (λ map behind key.
+    c.loop-map.invariant.right rest had own.nodes own.ways own.relations own.read (held_ids c.args.style.now rest c.args.held.now own) own.held
+    map behind (let below = number_of-below map in let most = c.in_default.ensures.none.0 refl in omega (arith, below, most)) key)
+
+pub returns-in-Ok-Some-clause-wrong : goal.returns-in-Ok-Some-clause-wrong
+returns-in-Ok-Some-clause-wrong g c rest had own =
+    let ids = held_ids c.args.style.now rest c.args.held.now own in
+    let here : number_of c.in-Some.map ≡ c.loop-map.number = c.in-Some.ensures.map in
+    first_found c.args.style.now rest c.args.held.now own c.in-Some.map
+    (λ other behind low key.
+    c.loop-map.invariant.right rest had own.nodes own.ways own.relations own.read ids own.held other behind (omega (arith, low, here)) key)
+    c.in-Ok-Some.wrong
+    (subst (λ (found : Option Wrong). IsWrongIn (IsRightIn c.args.style.now rest own.nodes own.ways own.relations) c.in-Some.map found)
+    c.in-Ok-Some.field-0-is
+    (c.in-Ok-Some.ensures.least rest (c.loop-map.invariant.has rest had) own.nodes own.ways own.relations own.read ids own.held))
+
+pub returns-in-Err-clause-sound : goal.returns-in-Err-clause-sound
+returns-in-Err-clause-sound g c rest had = c.in-Err.ensures.sound rest (c.loop-map.invariant.has rest had)

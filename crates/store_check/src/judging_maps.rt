@@ -1,0 +1,131 @@
+//! Maps 0 to 2 are judged, a bucket at a time.
+ghost use Rattle.std.specs.Prelude.{◌≡◌, ◌⊎◌, ◌%◌, Bool, ℕ, true, IfOk, OnOk};
+ghost use Rattle.bucket_store.specs.Image.{Has, Image, IsSoundAnswer};
+ghost use Rattle.bucket_store.specs.Transaction.{IsReady};
+ghost use Rattle.row_store.specs.Loading.{Looks};
+ghost use Rattle.store_check.specs.Judging.{IsRightOf, Judges, Takes, map_for};
+ghost use Rattle.store_check.specs.Reading.{IsUnwritten};
+ghost use Rattle.store_check.specs.Wrong.{IsLeastOf, IsWrongIn};
+
+use crate::Wrong;
+use crate::held::Held;
+use crate::judging::judge_all;
+use crate::least::Least;
+use crate::reading::read_bucket;
+use bucket_store::Buckets;
+use osm_base::Kind;
+use outside::Disk;
+use page_journal::StoreFault;
+use std::alloc::Global;
+use value_bytes::StoreMap;
+
+/// Holds what is right in maps 0 to 2, up to the first map that has a wrong value: its least key is answered.
+pub(crate) fn judge_maps<D: Disk>(
+    alloc: Global,
+    buckets: &mut Buckets<'_, D>,
+    asked: bool,
+    held: &mut Held,
+) -> Result<Option<Wrong>, StoreFault>
+    requires ready { IsReady buckets.old }
+    requires unwritten { IsUnwritten buckets.old }
+    ensures judges { IfOk result (λ found. (rest : Image) → Has rest rest buckets.old → Judges asked rest held.old held.new found) }
+    ensures has { OnOk result ((rest : Image) → Has rest rest buckets.old → Has rest rest buckets.new) }
+    ensures sound { (rest : Image) → Has rest rest buckets.old → IsSoundAnswer result }
+    ensures looks { Looks buckets.old buckets.new result }
+{
+    match judge_map(alloc, buckets, asked, Kind::Node, held) {
+        Ok(None) => (),
+        Ok(Some(wrong)) => return Ok(Some(wrong)),
+        Err(fault) => return Err(fault),
+    }
+    match judge_map(alloc, buckets, asked, Kind::Way, held) {
+        Ok(None) => (),
+        Ok(Some(wrong)) => return Ok(Some(wrong)),
+        Err(fault) => return Err(fault),
+    }
+    match judge_map(alloc, buckets, asked, Kind::Relation, held) {
+        Ok(found) => Ok(found),
+        Err(fault) => Err(fault),
+    }
+}
+
+// Holds what is right in the map of a kind, and answers where the least key of what is not stands.
+fn judge_map<D: Disk>(
+    alloc: Global,
+    buckets: &mut Buckets<'_, D>,
+    asked: bool,
+    kind: Kind,
+    held: &mut Held,
+) -> Result<Option<Wrong>, StoreFault>
+    requires ready { IsReady buckets.old }
+    requires unwritten { IsUnwritten buckets.old }
+    ensures takes { OnOk result ((rest : Image) → Has rest rest buckets.old → Takes asked rest kind (λ key. Unit {0}) held.old held.new) }
+    ensures least { IfOk result (λ found. (rest : Image) → Has rest rest buckets.old
+        → IsWrongIn (λ map key. IsRightOf asked rest kind key) (map_for kind) found) }
+    ensures unwritten { IsUnwritten buckets.new }
+    ensures has { OnOk result ((rest : Image) → Has rest rest buckets.old → Has rest rest buckets.new) }
+    ensures sound { (rest : Image) → Has rest rest buckets.old → IsSoundAnswer result }
+    ensures looks { Looks buckets.old buckets.new result }
+{
+    let mut least = Least::new();
+    let count = buckets.root().buckets;
+    let mut bucket = 0;
+    while bucket < count {
+        if let Err(fault) = judge_bucket(alloc, buckets, asked, kind, bucket, held, &mut least) {
+            return Err(fault);
+        }
+        bucket += 1;
+    }
+    match least.key() {
+        None => Ok(None),
+        Some(key) => Ok(Some(Wrong {
+            map: map_for(kind),
+            key,
+        })),
+    }
+}
+
+// Holds what is right in a bucket of the map of a kind, and sees the keys of what is not.
+fn judge_bucket<D: Disk>(
+    alloc: Global,
+    buckets: &mut Buckets<'_, D>,
+    asked: bool,
+    kind: Kind,
+    bucket: u64,
+    held: &mut Held,
+    least: &mut Least,
+) -> Result<(), StoreFault>
+    requires ready { IsReady buckets.old }
+    requires unwritten { IsUnwritten buckets.old }
+    ensures takes { OnOk result ((rest : Image) → Has rest rest buckets.old
+        → Takes asked rest kind (λ key. key % rest.root.buckets ≡ bucket % rest.root.buckets) held.old held.new) }
+    ensures least { OnOk result ((rest : Image) → Has rest rest buckets.old → (was_seen : ℕ → Bool)
+        → IsLeastOf (λ key. was_seen key ≡ true) (IsRightOf asked rest kind) least.old
+        → IsLeastOf (λ key. (was_seen key ≡ true) ⊎ (key % rest.root.buckets ≡ bucket % rest.root.buckets)) (IsRightOf asked rest kind) least.new) }
+    ensures has { OnOk result ((rest : Image) → Has rest rest buckets.old → Has rest rest buckets.new) }
+    ensures sound { (rest : Image) → Has rest rest buckets.old → IsSoundAnswer result }
+    ensures looks { Looks buckets.old buckets.new result }
+{
+    let records = match read_bucket(buckets, map_for(kind), bucket) {
+        Ok(records) => records,
+        Err(fault) => return Err(fault),
+    };
+    match judge_all(alloc, asked, kind, records.as_slice(), held, least) {
+        Ok(()) => Ok(()),
+        Err(_) => {
+            buckets.refuse();
+            Err(StoreFault::OutOfMemory)
+        }
+    }
+}
+
+// The map of the objects of a kind.
+fn map_for(kind: Kind) -> StoreMap
+    ensures { result ≡ map_for kind }
+{
+    match kind {
+        Kind::Node => StoreMap::Nodes,
+        Kind::Way => StoreMap::Ways,
+        Kind::Relation => StoreMap::Relations,
+    }
+}

@@ -1,0 +1,182 @@
+//! The lists of a store, maps 3 to 5, are compared with what its ways and relations list.
+//!
+//! Each list that is kept is judged by those that are told to list its id, and each id that somebody is told to list has to have one.
+ghost use Rattle.std.specs.Prelude.{◌≡◌, ◌≤◌, ◌%◌, ℕ, IfOk, IsSome, OnOk, is_some};
+ghost use Rattle.std.specs.FinMap as finite;
+ghost use Rattle.std.specs.List.Sorted.{IsNonDecreasingBy};
+ghost use Rattle.style_read.specs.Style.{StyleOf};
+ghost use Rattle.value_bytes.specs.StoreMap.{number_of};
+ghost use Rattle.bucket_store.specs.Image.{Has, Image, IsSoundAnswer};
+ghost use Rattle.bucket_store.specs.Transaction.{IsReady};
+ghost use Rattle.row_store.specs.Loading.{Looks};
+ghost use Rattle.back_index.specs.Filling.{IsKeptAt, id_of, mentions_tell};
+ghost use Rattle.store_check.specs.Held.{IsHeldOf};
+ghost use Rattle.store_check.specs.Least.{lesser_of};
+ghost use Rattle.store_check.specs.Lists.{IsLacking};
+ghost use Rattle.store_check.specs.Values.{NodeMap, ObjectMap, ReadsObjects};
+ghost use Rattle.store_check.specs.Wrong.{IsLeast, IsLeastOf, IsRightIn};
+
+use crate::held::Held;
+use crate::least::Least;
+use crate::list_judge::wrong_among;
+use crate::told_lists::told_by_held;
+use back_index::Mention;
+use bucket_store::{Buckets, refuse_value};
+use outside::Disk;
+use page_journal::StoreFault;
+use std::alloc::Global;
+use value_bytes::{StoreMap, ValueFault};
+
+/// The least id of a map of lists whose list is not that of the ways or relations that are held.
+pub fn first_wrong_list<D: Disk>(
+    alloc: Global,
+    buckets: &mut Buckets<'_, D>,
+    map: StoreMap,
+    held: &Held,
+) -> Result<Option<u64>, StoreFault>
+    requires ready { IsReady buckets.old }
+    requires lists { (3 ≤ number_of map) × (number_of map ≤ 5) }
+    ensures least { IfOk result (λ found. (rest : Image) → Has rest rest buckets.old
+        → (style : StyleOf) (nodes : NodeMap) (ways relations : ObjectMap) → ReadsObjects rest nodes ways relations
+        → IsHeldOf nodes ways relations held.now → IsLeast (IsRightIn style rest nodes ways relations map) found) }
+    ensures has { OnOk result ((rest : Image) → Has rest rest buckets.old → Has rest rest buckets.new) }
+    ensures sound { (rest : Image) → Has rest rest buckets.old → IsSoundAnswer result }
+    ensures looks { Looks buckets.old buckets.new result }
+{
+    match told_by_held(alloc, map, held) {
+        Ok(mentions) => wrong_list(alloc, buckets, map, mentions.as_slice()),
+        Err(_) => Err(refuse_value(buckets, map, 0, ValueFault::OutOfMemory)),
+    }
+}
+
+/// The least id of a map of lists whose list is not the one that is told.
+fn wrong_list<D: Disk>(
+    alloc: Global,
+    buckets: &mut Buckets<'_, D>,
+    map: StoreMap,
+    mentions: &[Mention],
+) -> Result<Option<u64>, StoreFault>
+    requires ready { IsReady buckets.old }
+    requires order { IsNonDecreasingBy id_of mentions.now }
+    ensures least { IfOk result (λ found. (rest : Image) → Has rest rest buckets.old
+        → IsLeast (IsKeptAt (mentions_tell mentions.now) (rest.maps (number_of map))) found) }
+    ensures has { OnOk result ((rest : Image) → Has rest rest buckets.old → Has rest rest buckets.new) }
+    ensures sound { (rest : Image) → Has rest rest buckets.old → IsSoundAnswer result }
+    ensures looks { Looks buckets.old buckets.new result }
+{
+    let kept = match wrong_kept(alloc, buckets, map, mentions) {
+        Ok(kept) => kept,
+        Err(fault) => return Err(fault),
+    };
+    match lacking(buckets, map, mentions) {
+        Ok(other) => Ok(lesser_of(kept, other)),
+        Err(fault) => Err(fault),
+    }
+}
+
+/// The least id of the lists that a map keeps whose list is not the one that is told.
+fn wrong_kept<D: Disk>(
+    alloc: Global,
+    buckets: &mut Buckets<'_, D>,
+    map: StoreMap,
+    mentions: &[Mention],
+) -> Result<Option<u64>, StoreFault>
+    requires ready { IsReady buckets.old }
+    requires order { IsNonDecreasingBy id_of mentions.now }
+    ensures least { IfOk result (λ found. (rest : Image) → Has rest rest buckets.old
+        → IsLeastOf (λ n. IsSome (finite.get (rest.maps (number_of map)) n)) (IsKeptAt (mentions_tell mentions.now) (rest.maps (number_of map))) found) }
+    ensures has { OnOk result ((rest : Image) → Has rest rest buckets.old → Has rest rest buckets.new) }
+    ensures sound { (rest : Image) → Has rest rest buckets.old → IsSoundAnswer result }
+    ensures looks { Looks buckets.old buckets.new result }
+{
+    let count = buckets.root().buckets;
+    let mut found = None;
+    let mut bucket = 0;
+    while bucket < count {
+        match wrong_in_bucket(alloc, buckets, map, bucket, mentions) {
+            Ok(own) => found = lesser_of(found, own),
+            Err(fault) => return Err(fault),
+        }
+        bucket += 1;
+    }
+    Ok(found)
+}
+
+/// The same of a bucket.
+fn wrong_in_bucket<D: Disk>(
+    alloc: Global,
+    buckets: &mut Buckets<'_, D>,
+    map: StoreMap,
+    bucket: u64,
+    mentions: &[Mention],
+) -> Result<Option<u64>, StoreFault>
+    requires ready { IsReady buckets.old }
+    requires order { IsNonDecreasingBy id_of mentions.now }
+    ensures least { IfOk result (λ found. (rest : Image) → Has rest rest buckets.old
+        → IsLeastOf (λ n. IsSome (finite.get (rest.maps (number_of map)) n) × (n % rest.root.buckets ≡ bucket % rest.root.buckets))
+        (IsKeptAt (mentions_tell mentions.now) (rest.maps (number_of map))) found) }
+    ensures has { OnOk result ((rest : Image) → Has rest rest buckets.old → Has rest rest buckets.new) }
+    ensures sound { (rest : Image) → Has rest rest buckets.old → IsSoundAnswer result }
+    ensures looks { Looks buckets.old buckets.new result }
+{
+    let records = match buckets.records(map, bucket) {
+        Ok(records) => records,
+        Err(fault) => return Err(fault),
+    };
+    match wrong_among(alloc, mentions, records.as_slice()) {
+        Ok(found) => Ok(found),
+        Err(_) => Err(refuse_value(buckets, map, bucket, ValueFault::OutOfMemory)),
+    }
+}
+
+/// The least id that somebody is told to list, and of which a map keeps no list.
+fn lacking<D: Disk>(
+    buckets: &mut Buckets<'_, D>,
+    map: StoreMap,
+    mentions: &[Mention],
+) -> Result<Option<u64>, StoreFault>
+    requires ready { IsReady buckets.old }
+    ensures least { IfOk result (λ found. (rest : Image) → Has rest rest buckets.old
+        → IsLeast (λ id. ¬ IsLacking (mentions_tell mentions.now) (rest.maps (number_of map)) id) found) }
+    ensures has { OnOk result ((rest : Image) → Has rest rest buckets.old → Has rest rest buckets.new) }
+    ensures sound { (rest : Image) → Has rest rest buckets.old → IsSoundAnswer result }
+    ensures looks { Looks buckets.old buckets.new result }
+{
+    let mut least = Least::new();
+    for mention in mentions {
+        match is_kept(buckets, map, mention.id) {
+            Ok(is_kept) => least.see(mention.id, is_kept),
+            Err(fault) => return Err(fault),
+        }
+    }
+    Ok(least.key())
+}
+
+/// Whether a map keeps a list of an id.
+fn is_kept<D: Disk>(
+    buckets: &mut Buckets<'_, D>,
+    map: StoreMap,
+    id: u64,
+) -> Result<bool, StoreFault>
+    requires ready { IsReady buckets.old }
+    ensures kept { IfOk result (λ kept. (rest : Image) → Has rest rest buckets.old → kept ≡ is_some (finite.get (rest.maps (number_of map)) id)) }
+    ensures has { OnOk result ((rest : Image) → Has rest rest buckets.old → Has rest rest buckets.new) }
+    ensures sound { (rest : Image) → Has rest rest buckets.old → IsSoundAnswer result }
+    ensures looks { Looks buckets.old buckets.new result }
+{
+    if let Err(fault) = buckets.bring(map, id) {
+        return Err(fault);
+    }
+    Ok(buckets.value(map, id).is_some())
+}
+
+/// The lesser of two ids, where both are told, or the one that is.
+fn lesser_of(one: Option<u64>, other: Option<u64>) -> Option<u64>
+    ensures lesser { result ≡ lesser_of one other }
+{
+    match (one, other) {
+        (None, _) => other,
+        (_, None) => one,
+        (Some(id), Some(own)) => Some(if own < id { own } else { id }),
+    }
+}

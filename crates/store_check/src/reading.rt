@@ -1,0 +1,37 @@
+//! A store is read a bucket at a time.
+ghost use Rattle.std.specs.Prelude.{◌≡◌, ◌%◌, IfOk, OnOk};
+ghost use Rattle.std.specs.FinMap as finite;
+ghost use Rattle.bucket_store.specs.Image.{Has, Image, IsBucketOf, IsSoundAnswer};
+ghost use Rattle.bucket_store.specs.Transaction.{IsReady, cached_of};
+ghost use Rattle.row_store.specs.Loading.{Looks};
+ghost use Rattle.value_bytes.specs.StoreMap.{number_of};
+ghost use Rattle.store_check.specs.Reading.{IsUnwritten};
+
+use bucket_store::Buckets;
+use osm_base::Bytes;
+use outside::Disk;
+use page_journal::StoreFault;
+use value_bytes::StoreMap;
+
+/// The records of a bucket of a map, by rising key. The transaction has no bucket in memory then.
+pub(crate) fn read_bucket<D: Disk>(
+    buckets: &mut Buckets<'_, D>,
+    map: StoreMap,
+    bucket: u64,
+) -> Result<Vec<(u64, Bytes)>, StoreFault>
+    requires ready { IsReady buckets.old }
+    requires unwritten { IsUnwritten buckets.old }
+    ensures found { IfOk result (λ records. (rest : Image) → Has rest rest buckets.old
+        → IsBucketOf rest (number_of map) (bucket % rest.root.buckets) records.items) }
+    ensures none { OnOk result (cached_of buckets.new ≡ finite.empty) }
+    ensures has { OnOk result ((rest : Image) → Has rest rest buckets.old → Has rest rest buckets.new) }
+    ensures sound { (rest : Image) → Has rest rest buckets.old → IsSoundAnswer result }
+    ensures looks { Looks buckets.old buckets.new result }
+{
+    let records = match buckets.records(map, bucket) {
+        Ok(records) => records,
+        Err(fault) => return Err(fault),
+    };
+    buckets.begin();
+    Ok(records)
+}

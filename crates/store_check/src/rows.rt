@@ -1,0 +1,247 @@
+//! The rows of a store, maps 6 and 7, are compared with those of an import of its objects.
+ghost use Rattle.std.specs.Prelude.{◌≡◌, ◌≤◌, IfOk, OnOk};
+ghost use Rattle.object_fold.specs.Listings.{HasIds};
+ghost use Rattle.value_bytes.specs.StoreMap.{number_of};
+ghost use Rattle.value_bytes.specs.declared.store_map.StoreMap.TheVariants as stored;
+ghost use Rattle.bucket_store.specs.Image.{Has, Image, IsSoundAnswer};
+ghost use Rattle.bucket_store.specs.Transaction.{IsReady};
+ghost use Rattle.row_store.specs.Loading.{Looks};
+ghost use Rattle.store_check.specs.Held.{IsHeldOf};
+ghost use Rattle.store_check.specs.Judged.{GoesWith, IsOfBoth, IsOfBucket, IsOfBuckets, SeesRows, Tells, rows_map};
+ghost use Rattle.store_check.specs.Reading.{IsUnwritten};
+ghost use Rattle.store_check.specs.Sweep.{IsUnchanged};
+ghost use Rattle.store_check.specs.Values.{NodeMap, ObjectMap, ReadsObjects, objects_of};
+ghost use Rattle.store_check.specs.Wrong.{IsLeast, IsRightIn};
+
+use crate::held::Held;
+use crate::least::Least;
+use crate::row_records::judge_records;
+use bucket_store::Buckets;
+use outside::Disk;
+use page_journal::StoreFault;
+use std::alloc::Global;
+use style_read::Style;
+use value_bytes::StoreMap;
+
+/// The least key of a map of rows whose rows are not those that an import of the objects makes. A bucket of objects and its buckets of
+/// rows are in memory at a time.
+pub fn first_wrong_rows<D: Disk>(
+    alloc: Global,
+    buckets: &mut Buckets<'_, D>,
+    style: &Style,
+    map: StoreMap,
+    held: &Held,
+) -> Result<Option<u64>, StoreFault>
+    requires ready { IsReady buckets.old }
+    requires unwritten { IsUnwritten buckets.old }
+    requires rows { 6 ≤ number_of map }
+    ensures least { IfOk result (λ found. (rest : Image) → Has rest rest buckets.old
+        → (nodes : NodeMap) (ways relations : ObjectMap) → ReadsObjects rest nodes ways relations → HasIds (objects_of nodes ways relations)
+        → IsHeldOf nodes ways relations held.now → IsLeast (IsRightIn style.now rest nodes ways relations map) found) }
+    ensures has { OnOk result ((rest : Image) → Has rest rest buckets.old → Has rest rest buckets.new) }
+    ensures sound { (rest : Image) → Has rest rest buckets.old → IsSoundAnswer result }
+    ensures looks { Looks buckets.old buckets.new result }
+{
+    let count = buckets.root().buckets;
+    let mut wrong = Least::new();
+    let mut bucket = 0;
+    while bucket < count {
+        if let Err(fault) = judge_buckets(alloc, buckets, style, held, map, bucket, &mut wrong) {
+            return Err(fault);
+        }
+        bucket += 1;
+    }
+    Ok(wrong.key())
+}
+
+/// Judges the rows of a bucket of each map that goes with a map of rows.
+fn judge_buckets<D: Disk>(
+    alloc: Global,
+    buckets: &mut Buckets<'_, D>,
+    style: &Style,
+    held: &Held,
+    map: StoreMap,
+    bucket: u64,
+    wrong: &mut Least,
+) -> Result<(), StoreFault>
+    requires unchanged { IsUnchanged buckets.old }
+    requires rows { 6 ≤ number_of map }
+    ensures sees { OnOk result ((rest : Image) → Has rest rest buckets.old → (nodes : NodeMap) (ways relations : ObjectMap)
+        → Tells held.now rest nodes ways relations
+        → SeesRows style.now rest nodes ways relations map (IsOfBuckets map rest bucket) wrong.old wrong.new) }
+    ensures has { OnOk result ((rest : Image) → Has rest rest buckets.old → Has rest rest buckets.new) }
+    ensures sound { (rest : Image) → Has rest rest buckets.old → IsSoundAnswer result }
+    ensures looks { Looks buckets.old buckets.new result }
+{
+    match map {
+        StoreMap::NodeRows => judge_nodes(alloc, buckets, style, held, bucket, wrong),
+        _ => judge_others(alloc, buckets, style, held, bucket, wrong),
+    }
+}
+
+/// Judges the rows of a bucket of nodes.
+fn judge_nodes<D: Disk>(
+    alloc: Global,
+    buckets: &mut Buckets<'_, D>,
+    style: &Style,
+    held: &Held,
+    bucket: u64,
+    wrong: &mut Least,
+) -> Result<(), StoreFault>
+    requires unchanged { IsUnchanged buckets.old }
+    ensures sees { OnOk result ((rest : Image) → Has rest rest buckets.old → (nodes : NodeMap) (ways relations : ObjectMap)
+        → Tells held.now rest nodes ways relations
+        → SeesRows style.now rest nodes ways relations stored.NodeRows (IsOfBuckets stored.NodeRows rest bucket) wrong.old wrong.new) }
+    ensures has { OnOk result ((rest : Image) → Has rest rest buckets.old → Has rest rest buckets.new) }
+    ensures sound { (rest : Image) → Has rest rest buckets.old → IsSoundAnswer result }
+    ensures looks { Looks buckets.old buckets.new result }
+{
+    if let Err(fault) = judge_bucket(alloc, buckets, style, held, StoreMap::Nodes, bucket, wrong) {
+        return Err(fault);
+    }
+    match judge_apart(
+        alloc,
+        buckets,
+        style,
+        held,
+        StoreMap::NodeRows,
+        bucket,
+        wrong,
+    ) {
+        Ok(()) => Ok(()),
+        Err(fault) => Err(fault),
+    }
+}
+
+/// Judges the rows of a bucket of ways and one of relations, and those of a bucket of rows that have no object.
+fn judge_others<D: Disk>(
+    alloc: Global,
+    buckets: &mut Buckets<'_, D>,
+    style: &Style,
+    held: &Held,
+    bucket: u64,
+    wrong: &mut Least,
+) -> Result<(), StoreFault>
+    requires unchanged { IsUnchanged buckets.old }
+    ensures sees { OnOk result ((rest : Image) → Has rest rest buckets.old → (nodes : NodeMap) (ways relations : ObjectMap)
+        → Tells held.now rest nodes ways relations
+        → SeesRows style.now rest nodes ways relations stored.OtherRows (IsOfBuckets stored.OtherRows rest bucket) wrong.old wrong.new) }
+    ensures has { OnOk result ((rest : Image) → Has rest rest buckets.old → Has rest rest buckets.new) }
+    ensures sound { (rest : Image) → Has rest rest buckets.old → IsSoundAnswer result }
+    ensures looks { Looks buckets.old buckets.new result }
+{
+    if let Err(fault) = judge_objects(alloc, buckets, style, held, bucket, wrong) {
+        return Err(fault);
+    }
+    match judge_apart(
+        alloc,
+        buckets,
+        style,
+        held,
+        StoreMap::OtherRows,
+        bucket,
+        wrong,
+    ) {
+        Ok(()) => Ok(()),
+        Err(fault) => Err(fault),
+    }
+}
+
+/// Judges the rows of a bucket of ways and one of relations.
+fn judge_objects<D: Disk>(
+    alloc: Global,
+    buckets: &mut Buckets<'_, D>,
+    style: &Style,
+    held: &Held,
+    bucket: u64,
+    wrong: &mut Least,
+) -> Result<(), StoreFault>
+    requires unchanged { IsUnchanged buckets.old }
+    ensures sees { OnOk result ((rest : Image) → Has rest rest buckets.old → (nodes : NodeMap) (ways relations : ObjectMap)
+        → Tells held.now rest nodes ways relations
+        → SeesRows style.now rest nodes ways relations stored.OtherRows (IsOfBoth rest bucket) wrong.old wrong.new) }
+    ensures has { OnOk result ((rest : Image) → Has rest rest buckets.old → Has rest rest buckets.new) }
+    ensures sound { (rest : Image) → Has rest rest buckets.old → IsSoundAnswer result }
+    ensures looks { Looks buckets.old buckets.new result }
+{
+    if let Err(fault) = judge_apart(alloc, buckets, style, held, StoreMap::Ways, bucket, wrong) {
+        return Err(fault);
+    }
+    match judge_apart(
+        alloc,
+        buckets,
+        style,
+        held,
+        StoreMap::Relations,
+        bucket,
+        wrong,
+    ) {
+        Ok(()) => Ok(()),
+        Err(fault) => Err(fault),
+    }
+}
+
+/// Judges the rows of a bucket of a map of objects, or those of a bucket of rows that have no object. What was read is forgotten then.
+fn judge_apart<D: Disk>(
+    alloc: Global,
+    buckets: &mut Buckets<'_, D>,
+    style: &Style,
+    held: &Held,
+    source: StoreMap,
+    bucket: u64,
+    wrong: &mut Least,
+) -> Result<(), StoreFault>
+    requires unchanged { IsUnchanged buckets.old }
+    requires goes { GoesWith (rows_map source) source }
+    ensures sees { OnOk result ((rest : Image) → Has rest rest buckets.old → (nodes : NodeMap) (ways relations : ObjectMap)
+        → Tells held.now rest nodes ways relations
+        → SeesRows style.now rest nodes ways relations (rows_map source) (IsOfBucket source rest bucket) wrong.old wrong.new) }
+    ensures has { OnOk result ((rest : Image) → Has rest rest buckets.old → Has rest rest buckets.new) }
+    ensures sound { (rest : Image) → Has rest rest buckets.old → IsSoundAnswer result }
+    ensures looks { Looks buckets.old buckets.new result }
+{
+    match judge_bucket(alloc, buckets, style, held, source, bucket, wrong) {
+        Ok(()) => {
+            buckets.begin();
+            Ok(())
+        }
+        Err(fault) => Err(fault),
+    }
+}
+
+/// Judges the rows of a bucket of a map of objects, or those of a bucket of rows that have no object.
+fn judge_bucket<D: Disk>(
+    alloc: Global,
+    buckets: &mut Buckets<'_, D>,
+    style: &Style,
+    held: &Held,
+    source: StoreMap,
+    bucket: u64,
+    wrong: &mut Least,
+) -> Result<(), StoreFault>
+    requires ready { IsReady buckets.old }
+    requires goes { GoesWith (rows_map source) source }
+    ensures sees { OnOk result ((rest : Image) → Has rest rest buckets.old → (nodes : NodeMap) (ways relations : ObjectMap)
+        → Tells held.now rest nodes ways relations
+        → SeesRows style.now rest nodes ways relations (rows_map source) (IsOfBucket source rest bucket) wrong.old wrong.new) }
+    ensures has { OnOk result ((rest : Image) → Has rest rest buckets.old → Has rest rest buckets.new) }
+    ensures sound { (rest : Image) → Has rest rest buckets.old → IsSoundAnswer result }
+    ensures looks { Looks buckets.old buckets.new result }
+{
+    let records = match buckets.records(source, bucket) {
+        Ok(records) => records,
+        Err(fault) => return Err(fault),
+    };
+    match judge_records(
+        alloc,
+        buckets,
+        style,
+        held,
+        source,
+        records.as_slice(),
+        wrong,
+    ) {
+        Ok(()) => Ok(()),
+        Err(fault) => Err(fault),
+    }
+}

@@ -1,0 +1,113 @@
+//! The first value of a store that is not right.
+ghost use Rattle.std.specs.Prelude.{◌≡◌, ◌≤◌, None, IfOk, IfSome, OnOk};
+ghost use Rattle.object_fold.specs.Listings.{HasIds};
+ghost use Rattle.bucket_store.specs.Image.{Has, Image, IsSoundAnswer};
+ghost use Rattle.bucket_store.specs.Transaction.{IsReady};
+ghost use Rattle.row_store.specs.Loading.{Looks};
+ghost use Rattle.value_bytes.specs.StoreMap.{number_of};
+ghost use Rattle.store_check.specs.Held.{IsHeldOf};
+ghost use Rattle.store_check.specs.Objects.{HoldsObjects};
+ghost use Rattle.store_check.specs.Reading.{IsUnwritten};
+ghost use Rattle.store_check.specs.Values.{NodeMap, ObjectMap, ReadsObjects, objects_of};
+ghost use Rattle.store_check.specs.Wrong.{AllRight, IsFirstWrong, IsRightIn, IsWrongIn, wrong_at};
+
+use crate::Wrong;
+use crate::held::Held;
+use crate::lists::first_wrong_list;
+use crate::objects::{Found, read_objects};
+use crate::rows::first_wrong_rows;
+use bucket_store::Buckets;
+use outside::Disk;
+use page_journal::StoreFault;
+use std::alloc::Global;
+use style_read::Style;
+use value_bytes::StoreMap;
+
+/// The value of a map under a key that is not right, if there is one.
+fn wrong_at(map: StoreMap, found: Option<u64>) -> Option<Wrong>
+    ensures { result ≡ wrong_at map found }
+{
+    match found {
+        Some(key) => Some(Wrong { map, key }),
+        None => None,
+    }
+}
+
+/// The least key of a map of lists or of rows whose value is not right.
+fn wrong_in<D: Disk>(
+    alloc: Global,
+    buckets: &mut Buckets<'_, D>,
+    style: &Style,
+    map: StoreMap,
+    held: &Held,
+) -> Result<Option<Wrong>, StoreFault>
+    requires ready { IsReady buckets.old }
+    requires unwritten { IsUnwritten buckets.old }
+    requires behind { 3 ≤ number_of map }
+    ensures least { IfOk result (λ found. (rest : Image) → Has rest rest buckets.old
+        → (nodes : NodeMap) (ways relations : ObjectMap) → ReadsObjects rest nodes ways relations → HasIds (objects_of nodes ways relations)
+        → IsHeldOf nodes ways relations held.now → IsWrongIn (IsRightIn style.now rest nodes ways relations) map found) }
+    ensures has { OnOk result ((rest : Image) → Has rest rest buckets.old → Has rest rest buckets.new) }
+    ensures sound { (rest : Image) → Has rest rest buckets.old → IsSoundAnswer result }
+    ensures looks { Looks buckets.old buckets.new result }
+{
+    let least = if map.number() < 6 {
+        first_wrong_list(alloc, buckets, map, held)
+    } else {
+        first_wrong_rows(alloc, buckets, style, map, held)
+    };
+    match least {
+        Ok(found) => Ok(wrong_at(map, found)),
+        Err(fault) => Err(fault),
+    }
+}
+
+/// The first value of maps 3 to 7 that is not right.
+fn wrong_behind<D: Disk>(
+    alloc: Global,
+    buckets: &mut Buckets<'_, D>,
+    style: &Style,
+    held: &Held,
+) -> Result<Option<Wrong>, StoreFault>
+    requires ready { IsReady buckets.old }
+    requires unwritten { IsUnwritten buckets.old }
+    ensures right { IfOk result (λ found. found ≡ None → (rest : Image) → Has rest rest buckets.old → HoldsObjects style.now rest held.now → AllRight style.now rest) }
+    ensures wrong { IfOk result (λ found. IfSome found (λ own. (rest : Image) → Has rest rest buckets.old → HoldsObjects style.now rest held.now
+        → IsFirstWrong style.now rest own.map own.key)) }
+    ensures has { OnOk result ((rest : Image) → Has rest rest buckets.old → Has rest rest buckets.new) }
+    ensures sound { (rest : Image) → Has rest rest buckets.old → IsSoundAnswer result }
+    ensures looks { Looks buckets.old buckets.new result }
+{
+    let mut number = 3;
+    while let Some(map) = StoreMap::with_number(number) {
+        match wrong_in(alloc, buckets, style, map, held) {
+            Ok(None) => number += 1,
+            Ok(Some(wrong)) => return Ok(Some(wrong)),
+            Err(fault) => return Err(fault),
+        }
+    }
+    Ok(None)
+}
+
+/// The first value that is not right in a store whose chains and records are read: of the least map, and there of the least key.
+/// `None`: all are right. One bucket is in memory at a time, but for those of the lists.
+pub fn first_wrong<D: Disk>(
+    alloc: Global,
+    buckets: &mut Buckets<'_, D>,
+    style: &Style,
+) -> Result<Option<Wrong>, StoreFault>
+    requires ready { IsReady buckets.old }
+    requires unwritten { IsUnwritten buckets.old }
+    ensures right { IfOk result (λ found. found ≡ None → (rest : Image) → Has rest rest buckets.old → AllRight style.now rest) }
+    ensures wrong { IfOk result (λ found. IfSome found (λ own. (rest : Image) → Has rest rest buckets.old → IsFirstWrong style.now rest own.map own.key)) }
+    ensures has { OnOk result ((rest : Image) → Has rest rest buckets.old → Has rest rest buckets.new) }
+    ensures sound { (rest : Image) → Has rest rest buckets.old → IsSoundAnswer result }
+    ensures looks { Looks buckets.old buckets.new result }
+{
+    let held = match read_objects(alloc, buckets, style) {
+        Ok(Found::Objects(held)) => held,
+        Ok(Found::Wrong(wrong)) => return Ok(Some(wrong)),
+        Err(fault) => return Err(fault),
+    };
+    wrong_behind(alloc, buckets, style, &held)
+}
