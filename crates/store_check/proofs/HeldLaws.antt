@@ -10,25 +10,25 @@ use Rattle.osm_base.specs.map.Objects.{ObjectSet}
 use Rattle.osm_base.specs.values.Key.{KeyOf, relation_key}
 use Rattle.osm_base.specs.values.Place.{PlaceOf}
 use Rattle.store_check.specs.Held.{HeldOf, held_known, with_place, with_relation, with_way}
+use Rattle.store_check.specs.Places.{PlaceMap}
 use Rattle.store_check.specs.Values.{ObjectMap}
 use Rattle.store_check.proofs.Trees.{got_id, put_id}
 
--- these trees as what is held
-abbrev pub held_in : BTreeMap ℕ PlaceOf → (ways relations : BTreeMap ℕ Object) → ObjectSet → HeldOf
+-- these places and trees as what is held
+abbrev pub held_in : PlaceMap → (ways relations : BTreeMap ℕ Object) → ObjectSet → HeldOf
 held_in places ways relations members = record {
-  places = finite.from_entries places.entries;
+  places = places;
   ways = finite.from_entries ways.entries;
   relations = finite.from_entries relations.entries;
   members = members;
 }
 
-module _ (places : BTreeMap ℕ PlaceOf) (ways relations : BTreeMap ℕ Object) (members : ObjectSet) (own : HeldOf)
+module _ (places : PlaceMap) (ways relations : BTreeMap ℕ Object) (members : ObjectSet) (own : HeldOf)
     (are : held_in places ways relations members ≡ own) (id : ℕ) where
-  pub place_put : (new : BTreeMap ℕ PlaceOf) (place : PlaceOf) → Updates nat_cmp places new id (Some place)
+  pub place_put : (new : PlaceMap) (place : PlaceOf) → new ≡ finite.insert places id place
       → held_in new ways relations members ≡ with_place own id place
-  place_put new place updates =
-      ap (λ (put : finite.FinMap nat_cmp PlaceOf). record (held_in places ways relations members) { places = put })
-      (put_id places new id place updates)
+  place_put new place is =
+      ap (λ (put : PlaceMap). record (held_in places ways relations members) { places = put }) is
       ∙ ap (λ (held : HeldOf). with_place held id place) are
 
   pub way_put : (new : BTreeMap ℕ Object) (way : Object) → Updates nat_cmp ways new id (Some way)
@@ -45,7 +45,7 @@ module _ (places : BTreeMap ℕ PlaceOf) (ways relations : BTreeMap ℕ Object) 
       ∙ ap (λ (held : HeldOf). with_relation held id relation) are
 
 -- the way of a key
-pub way_found : (places : BTreeMap ℕ PlaceOf) (ways relations : BTreeMap ℕ Object) (members : ObjectSet) (own : HeldOf)
+pub way_found : (places : PlaceMap) (ways relations : BTreeMap ℕ Object) (members : ObjectSet) (own : HeldOf)
     → held_in places ways relations members ≡ own → (key : KeyOf) {id : ℕ} {found : Option Object} → found ≡ get_by (nat_cmp id) ways
     → id ≡ key.id → key.kind ≡ kinds.Way → found ≡ (held_known own).object key
 way_found places ways relations members own are key {id} {found} is at way =

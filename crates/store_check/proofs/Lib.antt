@@ -15,6 +15,8 @@ pub mod Loads
 pub mod MarkLaws
 pub mod Meaning
 pub mod ObjectSets
+pub mod PlaceFinds
+pub mod PlaceLists
 pub mod ReadingLaws
 pub mod Right
 pub mod RowFound

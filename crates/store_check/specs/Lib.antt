@@ -8,6 +8,7 @@ pub mod Lists
 pub mod Maps
 pub mod Marks
 pub mod Objects
+pub mod Places
 pub mod Reading
 pub mod Surveying
 pub mod Sweep

@@ -3,6 +3,7 @@ ghost use Rattle.std.specs.Prelude.{◌≡◌, OnOk};
 ghost use Rattle.osm_base.specs.values.Key.{IsId};
 ghost use Rattle.store_check.specs.Held.{held_known, nothing_held, with_place, with_relation, with_way};
 
+use crate::places::Places;
 use object_fold::Objects;
 use osm_base::{Entry, Key, Kind, Lookup, Object, OutOfMemory, Place, TryCopy};
 use std::alloc::Global;
@@ -13,7 +14,7 @@ use std::marker::Model;
 #[derive(Drop)]
 pub struct Held {
     alloc: Global,
-    pub(crate) places: BTreeMap<u64, Place>,
+    pub(crate) places: Places,
     pub(crate) ways: BTreeMap<u64, Object>,
     pub(crate) relations: BTreeMap<u64, Object>,
     pub(crate) members: Objects,
@@ -28,7 +29,7 @@ impl Model for Held {
     ghost coded = { held_coded };
 
     ghost view = { λ own. record {
-      places = finite.from_entries own.places.entries;
+      places = own.places;
       ways = finite.from_entries own.ways.entries;
       relations = finite.from_entries own.relations.entries;
       members = own.members;
@@ -36,13 +37,13 @@ impl Model for Held {
 }
 
 impl Held {
-    /// No object.
-    pub(crate) fn new(alloc: Global) -> Self
+    /// No object. The nodes are to come from so many buckets.
+    pub(crate) fn new(alloc: Global, buckets: u64) -> Self
         ensures nothing { result ≡ nothing_held }
     {
         Self {
             alloc,
-            places: BTreeMap::new(alloc),
+            places: Places::new(alloc, buckets),
             ways: BTreeMap::new(alloc),
             relations: BTreeMap::new(alloc),
             members: Objects::new(alloc),
@@ -53,7 +54,7 @@ impl Held {
     pub(crate) fn put_place(&mut self, id: u64, place: Place) -> Result<(), OutOfMemory>
         ensures ok { OnOk result (self.new ≡ with_place self.old id place) }
     {
-        self.places.insert(id, place)?;
+        self.places.put(id, place)?;
         Ok(())
     }
 
@@ -84,7 +85,7 @@ impl Lookup for Held {
     ghost known = { held_known };
 
     fn place_of(&self, id: u64) -> Option<Place> {
-        self.places.get(&id).copied()
+        self.places.get(id)
     }
 
     fn object_of(&self, key: Key) -> Option<&Object> {

@@ -1,7 +1,8 @@
 //! Whether an open store is sound: what that means of its chains and of its values, and what finds out.
 //!
 //! It stands beside the steps of a change, over the buckets of a store: `specs/Kept.antt` has what the eight maps hold. `survey` reads
-//! all chains once and finds the first that is refused, or the lowest page that is in none and not free (`specs/BadPage.antt`).
+//! texts 1 and 2, the buckets and the free pages once and finds the first that is refused, or the lowest page that is in no chain and
+//! not free (`specs/BadPage.antt`); whether the other texts are empty is asked where a whole store is judged.
 //! `first_wrong` looks at each value of each map then (`specs/Values.antt`): maps 0 to 2 are read as objects, of which what rows need
 //! is held; lists are compared with what the ways and relations list, and rows with those that an import of the objects makes. Of a
 //! node whose tags nobody knows, in a store that was migrated, it is known only that its rows stand in tables of nodes, at its place.
@@ -18,8 +19,10 @@ mod laws;
 mod least;
 mod list_judge;
 mod lists;
+mod node_list;
 mod objects;
 mod page_marks;
+mod places;
 mod reading;
 mod row_judge;
 mod row_records;

@@ -38,7 +38,7 @@ pub fn read_objects<D: Disk>(
     ensures sound { (rest : Image) → Has rest rest buckets.old → IsSoundAnswer result }
     ensures looks { Looks buckets.old buckets.new result }
 {
-    let mut held = Held::new(alloc);
+    let mut held = Held::new(alloc, buckets.root().buckets);
     match judge_maps(alloc, buckets, reaches_nodes(style), &mut held) {
         Ok(None) => Ok(Found::Objects(held)),
         Ok(Some(wrong)) => Ok(Found::Wrong(wrong)),

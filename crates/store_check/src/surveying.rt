@@ -22,8 +22,9 @@ use page_journal::StoreFault;
 use std::alloc::Global;
 use value_bytes::StoreMap;
 
-/// Reads each text, each bucket and the free pages once, a bucket at a time. `BadStore` comes with the page of the first of them that
-/// is refused or, where none is, with the lowest page that is in no chain and not free.
+/// Reads the texts of the style and of the due tiles, each bucket and the free pages once, a bucket at a time. `BadStore` comes with
+/// the page of the first of them that is refused or, where none is, with the lowest page that is in no chain and not free. The other
+/// texts and the directories only count as chains here: one that is refused has no pages.
 pub fn survey<D: Disk>(alloc: Global, buckets: &mut Buckets<'_, D>) -> Result<(), StoreFault>
     requires begun { IsBegun buckets.old }
     requires going { has_refused buckets.old ≡ false }
