@@ -1,0 +1,14 @@
+use Rattle.std.proofs.Common.{◌∙◌, arith}
+use Rattle.demo_map.specs.Demo.{squares}
+use Rattle.demo_map.specs.declared.parts.Part.TheVariants as parts
+use Rattle.demo_map.proofs.PartLists.{few_in_all, moved_by}
+use Rattle.demo_map.proofs.map.first_change_of.Goals as goal
+
+pub returns-clause-entries : goal.returns-clause-entries
+returns-clause-entries c =
+    c.in_ok-keep_part.ensures.ok ∙ rw c.new-change.ensures.empty (moved_by c.args.count (squares c.args.count))
+
+pub returns-clause-few : goal.returns-clause-few
+returns-clause-few c =
+    let few = few_in_all parts.Moved c.args.count c.args.count in
+    rw (c.in_ok-keep_part.ensures.ok, c.new-change.ensures.empty) (omega (arith, few, c.requires.few))

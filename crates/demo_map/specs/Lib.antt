@@ -1,0 +1,4 @@
+pub mod Demo
+pub mod Parts
+pub mod Style
+pub mod Written
