@@ -28,3 +28,5 @@ pub mod Settings
 pub mod Within
 pub mod SoundKnown
 pub mod SoundStanding
+pub mod Judgements
+pub mod Checks

@@ -30,11 +30,11 @@ use Rattle.update_flow.specs.Faults.{of_store}
 use Rattle.update_flow.specs.Opening.{Found, HoldsState}
 use Rattle.update_flow.specs.Refusals.{IsNoDiskFault, IsOpenFault, MayFind, OrBreaks}
 use Rattle.update_flow.specs.Roots.{AreFieldsOf, IsOfKind, is_blank, is_imported, is_old}
-use Rattle.update_flow.specs.Stands.{IsBlank, IsImported, IsOld, Means, StandsFor}
+use Rattle.update_flow.specs.Stands.{HasMapsOf, IsBlank, IsImported, IsOfFormat, IsOld, Means, StandsFor}
 use Rattle.update_flow.specs.State.{Holding, State, changes_in, formatted, imported, outdated, style_in, was_imported, was_old}
 use Rattle.update_flow.specs.Within.{IsSound}
 use Rattle.update_flow.specs.declared.fault.TheConstants.{LAST_CHANGE}
-use Rattle.update_flow.specs.declared.fields.TheConstants.{STYLE_TEXT}
+use Rattle.update_flow.specs.declared.fields.TheConstants.{IMPORTED_FORMAT, STYLE_TEXT}
 use Rattle.update_flow.specs.declared.opened.Opened.{Opened as Judged}
 
 -- the two ways of saying that a disk holds a state
@@ -95,11 +95,15 @@ two_not b c one two = cc
 pub blank_root : (image : Image) → IsBlank image → is_blank image.root ≡ true
 blank_root image blank = ap (λ (r : Root). is_blank r) blank.root
 
-pub imported_root : (held : Holding) (image : Image) → IsImported held image → is_imported image.root ≡ true
-imported_root held image is =
+pub format_root : (MapsOf : Holding → Image → Type 0) (held : Holding) (image : Image) → IsOfFormat IMPORTED_FORMAT MapsOf held image
+    → is_imported image.root ≡ true
+format_root MapsOf held image is =
     ap (λ (r : Root). is_imported r) is.root
     ∙ two_not (held.buckets == 0) (nat_le held.changes LAST_CHANGE) (some_count held.buckets is.some)
     (low_count held.changes LAST_CHANGE is.counted)
+
+pub imported_root : (held : Holding) (image : Image) → IsImported held image → is_imported image.root ≡ true
+imported_root held image is = format_root HasMapsOf held image is
 
 pub old_root : (held : Holding) (image : Image) → IsOld held image → is_old image.root ≡ true
 old_root held image is =

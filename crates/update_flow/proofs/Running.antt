@@ -1,5 +1,6 @@
 -- Calls of the buckets, as calls within a transaction.
-use Rattle.std.proofs.Common.{◌≡◌, ◌||◌, ℕ, Bool, true, false, Some, None, Err, refl, ◌∙◌}
+use Rattle.std.proofs.Common.{◌≡◌, ◌≤◌, ◌||◌, ℕ, Bool, true, false, Option, Some, None, Err, refl, ◌∙◌, arith}
+use Rattle.outside.specs.Causes.{Rose}
 use Rattle.outside.specs.declared.disk.Disk.{Ghosts}
 use Rattle.page_journal.specs.Answers.{HasDiskCause, answers_disk_fault}
 use Rattle.page_journal.specs.Journal.{is_broken}
@@ -10,7 +11,8 @@ use Rattle.chain_store.specs.Chains.{journal_of}
 use Rattle.bucket_store.specs.Image.{OnlyLooks}
 use Rattle.bucket_store.specs.Transaction.{chains_of}
 use Rattle.bucket_store.specs.declared.buckets.Buckets.{Buckets}
-use Rattle.bucket_store.proofs.Holding.{looks_same}
+use Rattle.bucket_store.proofs.Holding.{looks_same, looks_then}
+use Rattle.update_flow.specs.declared.fault.FlowFault.{FlowFault}
 use Rattle.update_flow.specs.declared.fault.FlowFault.TheVariants as flow
 use Rattle.update_flow.specs.Faults.{of_store}
 use Rattle.update_flow.specs.Within.{Runs, faults_in, is_whole_store}
@@ -57,3 +59,16 @@ runs_idle buckets whole = record { looks = looks_same buckets; alone = tt; whole
 pub runs_unfit : {D : Type 0} {g : Ghosts D} (buckets : Buckets D g) (page : ℕ) → is_whole_store buckets
     → Runs buckets buckets (Some (flow.Store (store.BadStore page)))
 runs_unfit buckets page whole = record { looks = looks_same buckets; alone = tt; whole = λ no. whole; failed = λ is. absurd (cc (is)) }
+
+-- a call behind one that was answered
+rose_later : (before mid now : ℕ) → before ≤ mid → Rose mid now → Rose before now
+rose_later before mid now later rose = omega (arith, later, rose)
+
+pub runs_then : {D : Type 0} {g : Ghosts D} (old mid new : Buckets D g) (fault : Option FlowFault) → Runs old mid None → Runs mid new fault
+    → Runs old new fault
+runs_then old mid new fault first second = record {
+  looks = looks_then old mid new first.looks second.looks;
+  alone = second.alone;
+  whole = second.whole;
+  failed = λ is. rose_later (faults_in old) (faults_in mid) (faults_in new) first.looks.later (second.failed is);
+}

@@ -23,3 +23,5 @@ pub mod Reads
 pub mod ChangeReads
 pub mod maps
 pub mod Sound
+pub mod BadPage
+pub mod Judged

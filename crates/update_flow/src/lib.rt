@@ -2,10 +2,12 @@
 //!
 //! On the path of the data it is where the disk is met: above it commands speak of states alone, and below it stand the buckets of a
 //! store. `State`, `Step` and `History` of the specs say what an import, a change and a clearing make of a store, `StandsFor` which
-//! bytes are a store of a state, and `FlowFault` why a step is refused.
+//! bytes are a store of a state, and `FlowFault` why a step is refused. `check` opens a store and reads all of it: whether it is sound,
+//! exactly both ways, with the page that is blamed.
 #![tactic(auto)]
 
 mod appending;
+mod checking;
 mod clearing;
 mod due_text;
 mod fault;
@@ -13,6 +15,7 @@ mod fields;
 mod finishing;
 mod ids;
 mod importing;
+mod judging;
 mod laws;
 mod maps;
 mod migrating;
@@ -24,6 +27,7 @@ mod settling;
 mod style_text;
 mod updater;
 
+pub use checking::check;
 pub use fault::{FlowFault, LAST_CHANGE, store_fault};
 pub use fields::{
     BLANK, BLANK_FORMAT, DUE_TEXT, IMPORTED, IMPORTED_FORMAT, OLD_FORMAT, STYLE_TEXT, is_blank,

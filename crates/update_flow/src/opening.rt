@@ -1,18 +1,23 @@
 //! A store is opened on a disk that stays with its owner.
-ghost use Rattle.std.specs.Prelude.{◌≡◌, ◌≢◌, ◌≤◌, List, ℕ, true, is_some, IfOk, OnOk};
+ghost use Rattle.std.specs.Prelude.{◌≡◌, ◌≢◌, ◌≤◌, List, ℕ, true, is_some, IfOk, IsErrOf, OnOk};
 ghost use Rattle.std.specs.Result.{result_err};
 ghost use Rattle.outside.specs.Bytes.{IsTold};
 ghost use Rattle.outside.specs.Disk.{Tells};
 ghost use Rattle.page_journal.specs.Pages.{gate};
 ghost use Rattle.page_journal.specs.declared.layout.TheConstants.{OPEN};
-ghost use Rattle.bucket_store.specs.Opening.{Fits, opened_root};
+ghost use Rattle.page_journal.specs.declared.fault.StoreFault.TheVariants.{BadStore};
+ghost use Rattle.bucket_store.specs.Opening.{Fits, FitsPages, opened_root};
 ghost use Rattle.update_flow.specs.AtRest.{IsAt, IsAtEither, Opens, OpensAs};
+ghost use Rattle.update_flow.specs.BadPage.{IsBadPage, IsBadStyle, IsBadWithin, root_told};
+ghost use Rattle.update_flow.specs.Judged.{AreSound, IsReadOf};
+ghost use Rattle.update_flow.specs.Sound.{IsSound as IsSoundStore};
 ghost use Rattle.update_flow.specs.State.{State, style_in, was_imported, was_old};
 ghost use Rattle.update_flow.specs.Stands.{StandsFor};
 ghost use Rattle.update_flow.specs.Opening.{Finds, Found, HoldsState, OpensAny};
 ghost use Rattle.update_flow.specs.OpeningReads.{ReadsToOpen};
-ghost use Rattle.update_flow.specs.Roots.{AreFieldsOf};
+ghost use Rattle.update_flow.specs.Roots.{AreFieldsOf, is_old};
 ghost use Rattle.update_flow.specs.Within.{IsSound};
+ghost use Rattle.update_flow.specs.declared.fault.FlowFault.TheVariants.{Store};
 ghost use Rattle.update_flow.specs.declared.fault.TheConstants.{LAST_CHANGE};
 
 use crate::fault::store_fault;
@@ -40,6 +45,11 @@ pub fn open<D: Disk>(alloc: Global, disk: &mut D, limits: &Limits) -> Result<Ope
     // It reads what it needs, each page once.
     ensures once { OnOk result ((bytes : List ℕ) (state : State) → Tells (D.view disk.old) bytes → StandsFor bytes state → gate bytes ≢ OPEN
         → ReadsToOpen bytes (D.view disk.old) (D.view disk.new)) }
+
+    // Whatever it was read of: it is so there, or refused at the page that is blamed first.
+    ensures fits { IfOk result (λ opened. (bytes : List ℕ) → Tells (D.view disk.old) bytes → IsReadOf bytes opened (D.view disk.new)) }
+    ensures bad { (page : ℕ) → IsErrOf result (Store (BadStore page)) → (bytes : List ℕ) → Tells (D.view disk.old) bytes
+        → (¬ IsSoundStore bytes) × IsBadPage bytes page }
 {
     match bucket_store::open(alloc, disk, limits) {
         Ok(found) => judged(alloc, disk, limits, found),
@@ -60,6 +70,9 @@ fn judged<D: Disk>(
     ensures fields { IfOk result (λ opened. AreFieldsOf opened.style opened.outdated opened.changes (opened_root found)) }
     ensures sound { Fits found (D.view disk.old) → (state : State) → HoldsState state (D.view disk.old) → IsSound (result_err result) }
     ensures finds { Finds found (D.view disk.old) (D.view disk.new) result }
+    ensures fits { IfOk result (λ opened. (fits : Fits found (D.view disk.old)) → FitsPages fits.pages opened.store (D.view disk.new)) }
+    ensures bad { (at : ℕ) → IsErrOf result (Store (BadStore at)) → (fits : Fits found (D.view disk.old))
+        → (¬ AreSound fits.pages) × IsBadWithin fits.pages found.kept at }
 {
     let root = found.root();
     if is_blank(root) {
@@ -98,6 +111,9 @@ fn with_style<D: Disk>(
     ensures sound { Fits found (D.view disk.old) → (state : State) → HoldsState state (D.view disk.old) → was_imported state ≡ true
         → was_old state ≡ outdated → IsSound (result_err result) }
     ensures finds { Finds found (D.view disk.old) (D.view disk.new) result }
+    ensures fits { IfOk result (λ opened. (fits : Fits found (D.view disk.old)) → FitsPages fits.pages opened.store (D.view disk.new)) }
+    ensures bad { (at : ℕ) → IsErrOf result (Store (BadStore at)) → (fits : Fits found (D.view disk.old))
+        → (outdated ≡ true → is_old (root_told fits.pages) ≡ true) → IsBadStyle fits.pages found.kept at }
 {
     let mut buckets = Buckets::on(alloc, disk, limits, found);
     let read = load_style(alloc, &mut buckets);

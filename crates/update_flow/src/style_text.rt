@@ -1,14 +1,18 @@
 //! The style of a store: its bytes are one of the store's texts.
-ghost use Rattle.std.specs.Prelude.{◌≡◌, Ok, IfErr, IfOk, OnOk};
+ghost use Rattle.std.specs.Prelude.{◌≡◌, List, ℕ, Ok, IfErr, IfOk, IsErrOf, OnOk};
+ghost use Rattle.std.specs.FinMap as finite;
 ghost use Rattle.std.specs.Result.{result_err};
+ghost use Rattle.page_journal.specs.declared.fault.StoreFault.TheVariants.{BadStore};
 ghost use Rattle.style_read.specs.Reading.{reading};
 ghost use Rattle.style_read.specs.Style.{StyleOf};
 ghost use Rattle.bucket_store.specs.Image.{Has, Image};
-ghost use Rattle.chain_store.specs.Chains.{disk_of};
-ghost use Rattle.bucket_store.specs.Transaction.{chains_of};
+ghost use Rattle.chain_store.specs.Chains.{disk_of, kept_of, written_of};
+ghost use Rattle.bucket_store.specs.Transaction.{IsOpenStore, chains_of};
+ghost use Rattle.update_flow.specs.Judged.{HasReadText, IsStyleless, LoadsStyle};
 ghost use Rattle.update_flow.specs.OpeningReads.{ReadsStyle};
 ghost use Rattle.update_flow.specs.Refusals.{MayFind};
 ghost use Rattle.update_flow.specs.Within.{IsGoing, IsSound, Runs, StoresText};
+ghost use Rattle.update_flow.specs.declared.fault.FlowFault.TheVariants.{Store};
 ghost use Rattle.update_flow.specs.declared.fields.TheConstants.{STYLE_TEXT};
 
 use crate::fault::store_fault;
@@ -29,6 +33,12 @@ pub fn load_style<D: Disk>(alloc: Global, buckets: &mut Buckets<'_, D>) -> Resul
     ensures reads { OnOk result ((rest now : Image) → Has rest now buckets.old
         → ReadsStyle (disk_of (chains_of buckets.old)) (disk_of (chains_of buckets.new))) }
     ensures runs { Runs buckets.old buckets.new (result_err result) }
+
+    // Which page is blamed where it is refused, of any store.
+    ensures answers { (pages : List (List ℕ)) → IsOpenStore pages buckets.old → written_of (chains_of buckets.old) ≡ finite.empty
+        → LoadsStyle pages (kept_of (chains_of buckets.old)) result }
+    ensures unread { (at : ℕ) → IsErrOf result (Store (BadStore at)) → (image : Image) → Has image image buckets.old → IsStyleless image at }
+    ensures looks { OnOk result (HasReadText buckets.old buckets.new) }
 {
     let bytes = match buckets.load(STYLE_TEXT) {
         Ok(bytes) => bytes,

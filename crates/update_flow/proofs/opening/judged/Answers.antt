@@ -1,8 +1,11 @@
 -- The fields say which state it is.
-use Rattle.std.proofs.Common.{true, false, ap, rules, sym, ◌∙◌}
+use Rattle.std.proofs.Common.{◌≡◌, ◌⊎◌, inl, inr, ℕ, List, true, false, ap, rules, sym, ◌∙◌}
 use Rattle.std.specs.Result.{result_err}
 use Rattle.chain_store.specs.declared.root.Root.{Root}
-use Rattle.update_flow.specs.Roots.{is_blank}
+use Rattle.chain_store.specs.Directories.{root_in}
+use Rattle.update_flow.specs.BadPage.{AreOfNoStore, BadFields, BadStyle, root_told}
+use Rattle.update_flow.specs.Roots.{is_blank, is_imported, is_old}
+use Rattle.update_flow.proofs.Judgements.{fields_unsound, style_unsound}
 use Rattle.update_flow.proofs.OpeningReads.{style_unread}
 use Rattle.update_flow.proofs.Openings.{fields_of, found_of, is_one, sound_of}
 use Rattle.update_flow.proofs.opening.judged.Goals as goal
@@ -63,3 +66,33 @@ pub returns-clause-sound : goal.returns-clause-sound
 returns-clause-sound g c = λ fits state holds.
     is_one state (g.D.Disk.view c.args.disk.now) c.args.found c.root-root.result c.root-root.ensures (sym c.if-is_blank.ensures)
     (sym c.if-is_old.ensures) (sym c.if-is_imported.ensures) fits holds
+
+-- which page is blamed
+pub returns-then-is_blank-clause-fits : goal.returns-then-is_blank-clause-fits
+returns-then-is_blank-clause-fits g c = λ fits. record { rests = fits.rests; many = fits.many; keeps = fits.keeps }
+
+pub returns-then-is_old-clause-bad : goal.returns-then-is_old-clause-bad
+returns-then-is_old-clause-bad g c = λ at is fits.
+    let same : c.root-root.result ≡ root_told fits.pages = c.root-root.ensures ∙ ap (λ (l : List ℕ). root_in l) fits.keeps.front in
+    let old : is_old (root_told fits.pages) ≡ true = ap (λ (r : Root). is_old r) (sym same) ∙ sym c.if-is_old.ensures in
+    let kind : (is_imported (root_told fits.pages) ≡ true) ⊎ (is_old (root_told fits.pages) ≡ true) = inr old in
+    let bad = c.with_style.ensures.bad at is fits (λ _. old) in
+    (style_unsound fits.pages c.args.found.kept fits.keeps at kind bad, BadStyle kind bad)
+
+pub returns-then-is_imported-clause-bad : goal.returns-then-is_imported-clause-bad
+returns-then-is_imported-clause-bad g c = λ at is fits.
+    let same : c.root-root.result ≡ root_told fits.pages = c.root-root.ensures ∙ ap (λ (l : List ℕ). root_in l) fits.keeps.front in
+    let begun : is_imported (root_told fits.pages) ≡ true = ap (λ (r : Root). is_imported r) (sym same) ∙ sym c.if-is_imported.ensures in
+    let kind : (is_imported (root_told fits.pages) ≡ true) ⊎ (is_old (root_told fits.pages) ≡ true) = inl begun in
+    let bad = c.with_style-then-is_imported.ensures.bad at is fits (λ dated. absurd (cc (dated))) in
+    (style_unsound fits.pages c.args.found.kept fits.keeps at kind bad, BadStyle kind bad)
+
+pub returns-clause-bad : goal.returns-clause-bad
+returns-clause-bad g c = λ at is fits.
+    let same : c.root-root.result ≡ root_told fits.pages = c.root-root.ensures ∙ ap (λ (l : List ℕ). root_in l) fits.keeps.front in
+    let none : AreOfNoStore (root_told fits.pages) = record {
+      made = ap (λ (r : Root). is_blank r) (sym same) ∙ sym c.if-is_blank.ensures;
+      begun = ap (λ (r : Root). is_imported r) (sym same) ∙ sym c.if-is_imported.ensures;
+      old = ap (λ (r : Root). is_old r) (sym same) ∙ sym c.if-is_old.ensures;
+    } in
+    (fields_unsound fits.pages none, BadFields none (cc (is)))

@@ -11,7 +11,12 @@ use Rattle.page_journal.specs.Pages.{gate}
 use Rattle.page_journal.specs.declared.layout.TheConstants.{OPEN}
 use Rattle.bucket_store.specs.Image.{IsSoundAnswer}
 use Rattle.chain_store.specs.declared.root.Root.{Root}
-use Rattle.bucket_store.specs.Opening.{Fits, opened_root}
+use Rattle.bucket_store.specs.Opening.{Fits, FitsPages, OpensStore, opened_root}
+use Rattle.page_journal.specs.declared.fault.StoreFault.{StoreFault}
+use Rattle.update_flow.specs.BadPage.{BadInside}
+use Rattle.update_flow.specs.Judged.{IsReadOf}
+use Rattle.update_flow.proofs.Checks.{both_ok, opening_bad, read_of, same_home}
+use Rattle.update_flow.proofs.Judgements.{fault_at, home_of_sound, refused_at}
 use Rattle.bucket_store.specs.declared.resting.Resting.{Resting}
 use Rattle.update_flow.specs.AtRest.{IsAt, IsOfEither}
 use Rattle.update_flow.specs.Opening.{Found, HoldsState, RootTells}
@@ -196,3 +201,37 @@ returns-in-Ok-clause-once g c =
     (c.open.ensures.leaves.looked bytes told (λ (opened : HasOpenJournal bytes). shut opened.is_open)) fits
     (c.in-Ok.ensures.reads bytes told shut) (reads state fits holds))
     c.judged.ensures.finds.once
+
+-- what was read is so there, or refused at the page that is blamed first
+pub returns-in-Ok-clause-fits : goal.returns-in-Ok-clause-fits
+returns-in-Ok-clause-fits g c =
+    let old = g.D.Disk.view c.args.disk.now in
+    let mid = g.D.Disk.view c.open.new.disk in
+    let new = g.D.Disk.view c.judged.new.disk in
+    both_ok c.judged.result (λ opened. (fits : Fits c.in-Ok.found mid) → FitsPages fits.pages opened.store new)
+    (λ opened. AreFieldsOf opened.style opened.outdated opened.changes (opened_root c.in-Ok.found))
+    (λ opened. (bytes : List ℕ) → Tells old bytes → IsReadOf bytes opened new)
+    (λ opened fits fields bytes told.
+    let before = c.in-Ok.ensures.fits bytes told in
+    let home = c.in-Ok.ensures.home bytes told in
+    read_of bytes c.in-Ok.found opened mid new before (fits before) home.0 home.1 home.2 (c.in-Ok.ensures.count bytes told) fields)
+    c.judged.ensures.fits c.judged.ensures.fields
+
+pub returns-in-Ok-clause-bad : goal.returns-in-Ok-clause-bad
+returns-in-Ok-clause-bad g c = λ page is bytes told.
+    let mid = g.D.Disk.view c.open.new.disk in
+    let before = c.in-Ok.ensures.fits bytes told in
+    let home = c.in-Ok.ensures.home bytes told in
+    let here = same_home bytes home.0 before.pages mid home.1 home.2 before.rests in
+    let bad = c.judged.ensures.bad page is before in (
+      (λ sound. bad.0 (home_of_sound bytes before.pages here sound)),
+      BadInside before.pages c.in-Ok.found.kept here before.keeps bad.1,
+    )
+
+pub returns-in-Err-clause-bad : goal.returns-in-Err-clause-bad
+returns-in-Err-clause-bad g c = λ page is bytes told.
+    let same = refused_at c.in-Err.fault page (sym c.store_fault.ensures ∙ fault_at Opened c.store_fault.result page is) in (
+      (λ sound. subst (λ (f : StoreFault). IsSoundAnswer {T = Resting} (Err f)) same
+          (c.in-Err.ensures.image.sound bytes told sound.image sound.has)),
+      opening_bad bytes page (subst (λ (f : StoreFault). OpensStore {T = Resting} bytes (Err f)) same (c.in-Err.ensures.answers bytes told)),
+    )
