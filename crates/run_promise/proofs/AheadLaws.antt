@@ -6,7 +6,7 @@ use Rattle.run_promise.specs.declared.fault.Fault.{Fault}
 use Rattle.run_promise.specs.declared.fault.Fault.TheVariants as faults
 use Rattle.run_promise.specs.Ahead.{IsReadAhead, MayBeAhead}
 use Rattle.run_promise.specs.CommandOf.{CommandOf, Names, points_of, lines_of, init_of, import_of, append_of, export_of, tiles_of, query_of}
-use Rattle.run_promise.specs.CommandOf.{serve_of, replay_of, migrate_of}
+use Rattle.run_promise.specs.CommandOf.{serve_of, replay_of, migrate_of, check_of, demo_of}
 use Rattle.run_promise.specs.Leaves.{HasCause}
 use Rattle.run_promise.specs.World.{Before, World, with_files}
 
@@ -36,6 +36,8 @@ ahead_named (query_of store files) fault file may = absurd may
 ahead_named (serve_of store files workers readers) fault file may = absurd may
 ahead_named (replay_of store files workers) fault file may = absurd may
 ahead_named (migrate_of store) fault file may = absurd may
+ahead_named (check_of store) fault file may = absurd may
+ahead_named (demo_of count store workers) fault file may = absurd may
 
 rose_later : (before seen now : ℕ) → seen ≤ now → Rose before seen → Rose before now
 rose_later before seen now later rose = omega (arith, later, rose)

@@ -6,6 +6,7 @@ use Rattle.outside.specs.Inputs.{FilesView}
 use Rattle.run_promise.specs.declared.fault.Fault.{Fault}
 use Rattle.run_promise.specs.declared.fault.Fault.TheVariants as faults
 use Rattle.run_promise.specs.Ahead.{IsReadAhead, MayBeAhead}
+use Rattle.run_promise.specs.Checking.{IsCheckedRun}
 use Rattle.run_promise.specs.CommandOf.{CommandOf, Names, Use, no_store, new_store, old_store, use_of}
 use Rattle.run_promise.specs.Course.{Course}
 use Rattle.run_promise.specs.Courses.{course_of}
@@ -43,8 +44,9 @@ pub runs_ahead : (command : CommandOf) (asks : List ℕ → Type 0) (fault : Opt
     → (use_of command ≢ old_store → IfTold old.disk.content (λ bytes. length bytes ≢ 0 → Stays old.disk new.disk))
     → (fault ≡ Some faults.NotFormatted → Stays old.disk new.disk)
     → IsLocalRun command old new fault
+    → IsCheckedRun command old fault
     → Runs command asks old new fault
-runs_ahead command asks fault old new seen ahead its asked course spared looked unformatted local =
+runs_ahead command asks fault old new seen ahead its asked course spared looked unformatted local checked =
     let run = course (begun (start_of (use_of command)) 0) (begins_so (use_of command) old) in
     let told = told_of command (remembered old) (start_of (use_of command)) 0 run.0 its (only_old (use_of command)) run.2 in
     record {
@@ -66,6 +68,7 @@ runs_ahead command asks fault old new seen ahead its asked course spared looked 
       looked = looked;
       unformatted = unformatted;
       local = local;
+      checked = checked;
     }
 
 -- a run that reads each file in its turn
@@ -76,10 +79,11 @@ pub runs_by : (command : CommandOf) (asks : List ℕ → Type 0) (fault : Option
     → (use_of command ≢ old_store → IfTold old.disk.content (λ bytes. length bytes ≢ 0 → Stays old.disk new.disk))
     → (fault ≡ Some faults.NotFormatted → Stays old.disk new.disk)
     → IsLocalRun command old new fault
+    → IsCheckedRun command old fault
     → Runs command asks old new fault
-runs_by command asks fault old new its asked course spared looked unformatted local =
+runs_by command asks fault old new its asked course spared looked unformatted local checked =
     runs_ahead command asks fault old new new.files (none_ahead (MayBeAhead command fault) new.files) its asked course spared looked
-    unformatted local
+    unformatted local checked
 
 -- a run that begins in one way only
 pub from_unused : (way : Use) (old new : World) (course : Course) (fault : Option Fault) → way ≢ old_store

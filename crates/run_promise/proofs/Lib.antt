@@ -1,6 +1,7 @@
 pub mod AheadLaws
 pub mod AsciiTexts
 pub mod BlameLaws
+pub mod CheckLaws
 pub mod CommandRuns
 pub mod CourseKeeps
 pub mod CourseLaws

@@ -7,9 +7,9 @@ use Rattle.run_promise.specs.declared.fault.Fault.TheVariants as faults
 use Rattle.run_promise.specs.Causes.{WantsNewFormat}
 use Rattle.run_promise.specs.Comes.{Comes}
 use Rattle.run_promise.specs.CommandOf.{CommandOf, points_of, lines_of, init_of, import_of, append_of, export_of, tiles_of, query_of}
-use Rattle.run_promise.specs.CommandOf.{serve_of, replay_of, migrate_of}
+use Rattle.run_promise.specs.CommandOf.{serve_of, replay_of, migrate_of, check_of, demo_of}
 use Rattle.run_promise.specs.Course.{Course, opens, tells, ends}
-use Rattle.run_promise.specs.Courses.{append_to, course_of, export_from, format_line, import_into, migrates, query_from, serve_to}
+use Rattle.run_promise.specs.Courses.{append_to, checks, course_of, export_from, format_line, import_into, migrates, query_from, serve_to}
 use Rattle.run_promise.specs.Courses.{tiles_of_store}
 use Rattle.run_promise.specs.Faults.{flow_fault}
 use Rattle.run_promise.specs.Keeps.{Kept, first, whole, with_steps}
@@ -56,6 +56,8 @@ leaves_old (serve_of store files workers readers) old kept ending wants comes =
     opened_left (serve_to files readers) old kept ending (λ held done is. is) comes
 leaves_old (replay_of store files workers) old kept ending wants comes = absurd (cc)
 leaves_old (migrate_of store) old kept ending wants comes = absurd wants
+leaves_old (check_of store) old kept ending wants comes = opened_left checks old kept ending (λ held done is. is) comes
+leaves_old (demo_of count store workers) old kept ending wants comes = absurd (cc)
 
 -- a run that ended well ended otherwise than so
 module _ (kept : Kept) (ending : Ending) (well : ending.fault ≡ None) where

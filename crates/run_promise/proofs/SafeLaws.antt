@@ -6,15 +6,19 @@ use Rattle.outside.specs.Bytes.{BothKnown}
 use Rattle.style_read.specs.Style.{table_of}
 use Rattle.map_query.specs.declared.query.Query.{Query}
 use Rattle.tile_cover.specs.Table.{BoundsOf}
+use Rattle.demo_map.specs.Demo.{demo_first, demo_input, demo_second}
+use Rattle.demo_map.specs.Style.{DEMO_STYLE, demo_bounds, demo_style}
 use Rattle.update_flow.specs.State.{Holding, State, formatted, imported, outdated, changed, fresh}
 use Rattle.run_promise.specs.declared.fault.Fault.{Fault}
 use Rattle.run_promise.specs.declared.fault.Fault.TheVariants as faults
 use Rattle.outside.specs.Inputs.{FilesView}
 use Rattle.run_promise.specs.CommandOf.{CommandOf, points_of, lines_of, init_of, import_of, append_of, export_of, tiles_of, query_of}
-use Rattle.run_promise.specs.CommandOf.{serve_of, replay_of, migrate_of, Use, new_store, old_store, use_of}
+use Rattle.run_promise.specs.CommandOf.{serve_of, replay_of, migrate_of, check_of, demo_of, Use, new_store, old_store, use_of}
 use Rattle.run_promise.specs.Comes.{Comes}
-use Rattle.run_promise.specs.Courses.{Onward, telling, append_to, appends, clears, course_of, export_from, exports, finished, import_into}
-use Rattle.run_promise.specs.Courses.{migrates, onward, query_from, serve_to, serves, tiles_of_store, version_line}
+use Rattle.run_promise.specs.Course.{Course, tells}
+use Rattle.run_promise.specs.Courses.{Onward, growing, telling, summing, append_to, appends, clears, course_of, export_from, exports}
+use Rattle.run_promise.specs.Courses.{finished, import_into}
+use Rattle.run_promise.specs.Courses.{checks, migrates, onward, query_from, serve_to, serves, tiles_of_store, version_line}
 use Rattle.run_promise.specs.Keeps.{Kept, IsFit, IsOneOf, blank, whole}
 use Rattle.run_promise.specs.Leaves.{IsPast, Leaves, StandsOn}
 use Rattle.run_promise.specs.Progress.{Standing, unused, keeps, Progress, Ending, begun}
@@ -229,6 +233,20 @@ opens_first (migrate_of store) is = into
     into formatted = refl
     into (imported held) = (inl refl, tt)
     into (outdated held) = (refl, (inl refl, tt))
+opens_first (check_of store) is = into
+  where
+    into : (state : State) → Counts (checks state) 0 0
+    into formatted = (refl, (inl refl, tt))
+    into (imported held) = (refl, (inl refl, tt))
+    into (outdated held) = refl
+opens_first (demo_of count store workers) is = absurd (cc)
+
+-- a step is told in its line, and so much is left
+told_count : (changes left : ℕ) (rest : Course) → Counts rest 0 left → Counts (tells (version_line changes) rest) 1 left
+told_count changes left rest behind =
+    let line = one_line changes in
+    let told : 0 ≡ 1 - lines_in (version_line changes) = omega (arith, line) in
+    (inr (omega (arith, line)), subst (λ (untold : ℕ). Counts rest untold left) told behind)
 
 -- and the others make it
 makes_first : (command : CommandOf) → use_of command ≡ new_store → CountsMade (steps_told command) (course_of command)
@@ -242,6 +260,23 @@ makes_first (tiles_of store least clear) is = absurd (cc)
 makes_first (query_of store files) is = absurd (cc)
 makes_first (serve_of store files workers readers) is = absurd (cc)
 makes_first (migrate_of store) is = absurd (cc)
+makes_first (check_of store) is = absurd (cc)
+makes_first (demo_of count store workers) is =
+    let first = fresh demo_style DEMO_STYLE 1024 (demo_input count) in
+    let second = changed demo_bounds (demo_first count) first in
+    let third = changed demo_bounds (demo_second count) second in (
+      refl,
+      (
+        refl,
+        told_count 0 2 (onward (growing demo_bounds (demo_first count) (growing demo_bounds (demo_second count) summing)) first) (
+          refl,
+          told_count (first.changes + 1) 1 (onward (growing demo_bounds (demo_second count) summing) second) (
+            refl,
+            told_count (second.changes + 1) 0 (onward summing third) (refl, (refl, refl, tt)),
+          ),
+        ),
+      ),
+    )
 makes_first (replay_of store files workers) is = λ style bounds.
     let line = one_line 0 in
     let told : 0 ≡ 1 - lines_in (version_line 0) = omega (arith, line) in

@@ -9,13 +9,13 @@ use Rattle.run_promise.specs.declared.files.Files.{Files}
 use Rattle.run_promise.specs.Causes.{Cause, HasStore, MakesStore, OpensStore, WantsNewFormat}
 use Rattle.run_promise.specs.Comes.{Comes}
 use Rattle.run_promise.specs.CommandOf.{CommandOf, points_of, lines_of, init_of, import_of, append_of, export_of, tiles_of, query_of}
-use Rattle.run_promise.specs.CommandOf.{serve_of, replay_of, migrate_of, files_of, Use, no_store, new_store, old_store, use_of}
+use Rattle.run_promise.specs.CommandOf.{serve_of, replay_of, migrate_of, check_of, demo_of, files_of, Use, no_store, new_store, old_store, use_of}
 use Rattle.style_read.specs.Style.{table_of}
 use Rattle.map_query.specs.declared.query.Query.{Query}
 use Rattle.tile_cover.specs.Table.{BoundsOf}
 use Rattle.update_flow.specs.State.{Holding, State, formatted, imported, outdated, changed, fresh}
 use Rattle.run_promise.specs.Course.{Course}
-use Rattle.run_promise.specs.Courses.{append_to, appends, course_of, export_from, exports, finished, import_into, migrates, onward}
+use Rattle.run_promise.specs.Courses.{append_to, appends, checks, course_of, export_from, exports, finished, import_into, migrates, onward}
 use Rattle.run_promise.specs.Courses.{query_from, replay_course, serve_to, serves, telling, tiles_of_store}
 use Rattle.run_promise.specs.Files.{IsChange}
 use Rattle.run_promise.specs.InTurn.{FaultNames, IsInTurn}
@@ -218,6 +218,11 @@ migrate_to store formatted = has_store
 migrate_to store (imported held) = tt
 migrate_to store (outdated held) = (has_store, tt)
 
+check_to : (store : List ℕ) (state : State) → KeepsTo (terms_of (check_of store)) 0 (Unit {0}) (checks state)
+check_to store formatted = (has_store, tt)
+check_to store (imported held) = (has_store, tt)
+check_to store (outdated held) = refl
+
 -- a command that makes its store
 makes_new : new_store ≢ no_store
 makes_new = λ e. absurd (cc)
@@ -301,6 +306,9 @@ keeps_to (query_of store files) its = (refl, has_store, λ state. query_to store
 keeps_to (serve_of store files workers readers) its = (refl, has_store, λ state. serve_to_store store files workers readers state its)
 keeps_to (replay_of store files workers) its = replay_to store files workers its
 keeps_to (migrate_of store) its = (refl, has_store, λ state. migrate_to store state)
+keeps_to (check_of store) its = (refl, has_store, λ state. check_to store state)
+keeps_to (demo_of count store workers) its =
+    (refl, (refl, makes_new, (makes_new, (makes_new, (makes_new, (makes_new, (makes_new, tt)))))))
 
 -- before anything is done
 none_done : (command : CommandOf) (old : Before) (store : Standing) (cut : ℕ) → (store ≡ unknown → OpensStore command)

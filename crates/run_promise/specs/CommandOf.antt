@@ -2,6 +2,7 @@
 use Rattle.std.specs.Prelude.{◌≡◌, ℕ, ◌+◌, ◌<◌, ◌≤◌, Bool, true, false, Option, Some, None, List}
 use Rattle.std.specs.Int.{is_power_of_two}
 use Rattle.tile_cover.specs.declared.runs.TheConstants.{MAX_ZOOM}
+use Rattle.demo_map.specs.declared.parts.TheConstants.{MAX_SQUARES}
 use Rattle.run_promise.specs.declared.files.Files.{Files}
 use Rattle.run_promise.specs.declared.ranges.TheConstants.{MAX_AHEAD, MAX_BUCKETS, MAX_READERS}
 
@@ -18,6 +19,8 @@ pub data CommandOf : Type 0 where
   serve_of : (store : List ℕ) → (files : Files) → (workers : ℕ) → (readers : ℕ) → CommandOf
   replay_of : (store : List ℕ) → (files : Files) → (workers : ℕ) → CommandOf
   migrate_of : (store : List ℕ) → CommandOf
+  check_of : (store : List ℕ) → CommandOf
+  demo_of : (count : ℕ) → (store : List ℕ) → (workers : ℕ) → CommandOf
 
 -- the path of the store that words ask for
 abbrev pub store_of : Option CommandOf → Option (List ℕ)
@@ -30,12 +33,15 @@ store_of (Some (query_of store files)) = Some store
 store_of (Some (serve_of store files workers readers)) = Some store
 store_of (Some (replay_of store files workers)) = Some store
 store_of (Some (migrate_of store)) = Some store
+store_of (Some (check_of store)) = Some store
+store_of (Some (demo_of count store workers)) = Some store
 store_of _ = None
 
 -- whether it makes its store
 abbrev pub makes_store : Option CommandOf → Bool
 makes_store (Some (init_of store)) = true
 makes_store (Some (replay_of store files workers)) = true
+makes_store (Some (demo_of count store workers)) = true
 makes_store _ = false
 
 -- whether it only looks at its store
@@ -43,6 +49,7 @@ abbrev pub only_looks : Option CommandOf → Bool
 only_looks (Some (export_of store table)) = true
 only_looks (Some (query_of store files)) = true
 only_looks (Some (tiles_of store least false)) = true
+only_looks (Some (check_of store)) = true
 only_looks _ = false
 
 -- how a command takes its disk: it has none, it makes a store on it, or the store is there
@@ -63,6 +70,8 @@ use_of (query_of store files) = old_store
 use_of (serve_of store files workers readers) = old_store
 use_of (replay_of store files workers) = new_store
 use_of (migrate_of store) = old_store
+use_of (check_of store) = old_store
+use_of (demo_of count store workers) = new_store
 
 -- the files that a command names, by the places of their words
 abbrev pub files_of : CommandOf → Files
@@ -92,6 +101,11 @@ pub record AreBuckets (buckets : ℕ) : Type 0 where
   pub power : is_power_of_two buckets ≡ true
   pub limit : buckets ≤ MAX_BUCKETS
 
+-- there is a square at least, and not too many
+pub record AreSquares (count : ℕ) : Type 0 where
+  pub one : 1 ≤ count
+  pub limit : count ≤ MAX_SQUARES
+
 -- files of which there are so many at least
 pub record FitFrom (count : ℕ) (files : Files) : Type 0 where
   pub fit : Fit files
@@ -109,3 +123,5 @@ FilesFit (query_of store files) = FitFrom 1 files × (files.count ≡ 1)
 FilesFit (serve_of store files workers readers) = FitFrom 2 files × AreReaders readers
 FilesFit (replay_of store files workers) = FitFrom 3 files
 FilesFit (migrate_of store) = Unit {0}
+FilesFit (check_of store) = Unit {0}
+FilesFit (demo_of count store workers) = AreSquares count

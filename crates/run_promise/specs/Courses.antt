@@ -1,16 +1,20 @@
 -- The commands: what each does, in order.
 use Rattle.std.specs.Prelude.{◌≡◌, ℕ, zero, suc, ◌+◌, ◌-◌, Bool, true, false, List, [], ◌∷◌, ◌++◌, Option, Some, None, codes}
-use Rattle.std.specs.Prelude.{encode_utf8_all, flat_map, length, slice_get}
+use Rattle.std.specs.Prelude.{encode_utf8_all, flat_map, length, slice_get, sum_by}
 use Rattle.std.specs.Fmt.{decimal}
 use Rattle.std.specs.List.{range_with_len}
 use Rattle.std.specs.Option.{option_map_or}
 use Rattle.osm_base.specs.declared.values.object.Entry.{Entry}
 use Rattle.osm_base.specs.map.Spots.{TableMap}
+use Rattle.demo_map.specs.Demo.{demo_first, demo_input, demo_second}
+use Rattle.demo_map.specs.Style.{DEMO_STYLE, demo_bounds, demo_style}
 use Rattle.due_tiles.specs.TileText.{tile_text}
 use Rattle.row_map.specs.Row.{tables}
+use Rattle.row_text.specs.Numbered.{rows_of}
 use Rattle.row_text.specs.Table.{table_text}
 use Rattle.style_read.specs.Style.{StyleOf, table_of}
-use Rattle.tile_cover.specs.Runs.{has}
+use Rattle.style_read.specs.declared.style.TableDef.{TableDef}
+use Rattle.tile_cover.specs.Runs.{IsTileSet, has}
 use Rattle.tile_cover.specs.Table.{BoundsOf}
 use Rattle.tile_cover.specs.declared.runs.Run.{Run}
 use Rattle.update_flow.specs.Due.{Tiles}
@@ -18,7 +22,7 @@ use Rattle.update_flow.specs.State.{Holding, State, formatted, imported, outdate
 use Rattle.run_promise.specs.declared.fault.Fault.TheVariants.{AlreadyImported, NotImported, OldFormat, UnknownTable}
 use Rattle.run_promise.specs.declared.files.Files.{Files}
 use Rattle.run_promise.specs.CommandOf.{CommandOf, points_of, lines_of, init_of, import_of, append_of, export_of, tiles_of, query_of}
-use Rattle.run_promise.specs.CommandOf.{serve_of, replay_of, migrate_of}
+use Rattle.run_promise.specs.CommandOf.{serve_of, replay_of, migrate_of, check_of, demo_of}
 use Rattle.run_promise.specs.Course.{Course, ends, refuses, reads, wants_empty, formats, opens, looks, commits, tells, writes, writes_text}
 use Rattle.run_promise.specs.Answers.{answers_text}
 use Rattle.run_promise.specs.Blocks.{AreBlocks}
@@ -56,19 +60,27 @@ if_blank rest (outdated held) = refuses AlreadyImported
 abbrev pub version_line : ℕ → List ℕ
 version_line changes = codes "version " ++ decimal changes ++ codes "\n"
 
--- a file is imported under a style, in one commit, and that is told
-abbrev pub imports : (style : StyleOf × List ℕ) → (buckets : ℕ) → (file : ℕ) → (Holding → Course) → Course
-imports style buckets file rest = reads file (IsChange file) (λ entries.
+-- entries are imported under a style, in one commit, and that is told
+abbrev pub imports_these : (style : StyleOf × List ℕ) → (buckets : ℕ) → List Entry → (Holding → Course) → Course
+imports_these style buckets entries rest =
     commits (Import style.0 style.1 buckets entries)
     (tells (version_line 0)
-    (rest (fresh style.0 style.1 buckets entries))))
+    (rest (fresh style.0 style.1 buckets entries)))
 
--- a change file is read whole, appended in one commit, and told
-abbrev pub appends_one : BoundsOf → Holding → (file : ℕ) → (Holding → Course) → Course
-appends_one bounds held file rest = reads file (IsChange file) (λ change.
+-- those of a file, which is read whole
+abbrev pub imports : (style : StyleOf × List ℕ) → (buckets : ℕ) → (file : ℕ) → (Holding → Course) → Course
+imports style buckets file rest = reads file (IsChange file) (λ entries. imports_these style buckets entries rest)
+
+-- a change is appended in one commit, and told
+abbrev pub appends_these : BoundsOf → Holding → List Entry → (Holding → Course) → Course
+appends_these bounds held change rest =
     commits (Append bounds change)
     (tells (version_line (held.changes + 1))
-    (rest (changed bounds change held))))
+    (rest (changed bounds change held)))
+
+-- that of a file, which is read whole
+abbrev pub appends_one : BoundsOf → Holding → (file : ℕ) → (Holding → Course) → Course
+appends_one bounds held file rest = reads file (IsChange file) (λ change. appends_these bounds held change rest)
 
 -- so many change files from this one on, one after another
 unfoldable pub appends : BoundsOf → Holding → (file count : ℕ) → (Holding → Course) → Course
@@ -101,17 +113,45 @@ IsWholeText least held text =
     (tiles : List ℕ) × IsTileText held.due least tiles
     × (text ≡ tables_text held.style (tables held.style held.objects) ++ codes "tiles\n" ++ tiles)
 
--- what comes when a version of the store was told: nothing, change files, the whole text, or change files while readers are answered
+-- the line that tells how many rows a table has, behind its name
+abbrev pub count_line : List TableDef → TableMap → (table : ℕ) → List ℕ
+count_line definitions all table =
+    option_map_or (λ definition. encode_utf8_all definition.name ++ codes " " ++ decimal (length (rows_of all table)) ++ codes "\n")
+    (slice_get definitions table) []
+
+-- these of all tables, in the order of the style
+abbrev pub counts_text : StyleOf → TableMap → List ℕ
+counts_text style all = flat_map (count_line style.tables all) (range_with_len 0 (length style.tables))
+
+-- how many tiles a run has, and runs have
+abbrev pub columns_of : Run → ℕ
+columns_of run = run.last + 1 - run.first
+
+abbrev pub tiles_in : List Run → ℕ
+tiles_in runs = sum_by columns_of runs
+
+-- how much a store holds: the rows of each table, and the tiles that are due
+abbrev pub IsSummary : Holding → List ℕ → Type 0
+IsSummary held text =
+    (runs : List Run) × IsTileSet runs × ((zoom x y : ℕ) → has runs zoom x y ≡ held.due zoom x y)
+    × (text ≡ counts_text held.style (tables held.style held.objects) ++ codes "tiles " ++ decimal (tiles_in runs) ++ codes "\n")
+
+-- what comes when a version of the store was told: nothing, change files, changes that are there already, the whole text or how much it
+-- is, or change files while readers are answered
 pub data Onward : Type 0 where
   finished : Onward
   appending : (bounds : BoundsOf) → (file count : ℕ) → Onward → Onward
+  growing : (bounds : BoundsOf) → (change : List Entry) → Onward → Onward
   telling : (least : ℕ) → Onward
+  summing : Onward
   serving : (bounds : BoundsOf) → (queries : List Query) → (readers : ℕ) → (shown : List Holding) → (file count : ℕ) → Onward
 
 abbrev pub onward : Onward → Holding → Course
 onward finished held = ends
 onward (appending bounds file count last) held = appends bounds held file count (onward last)
+onward (growing bounds change last) held = appends_these bounds held change (onward last)
 onward (telling least) held = looks (writes (IsWholeText least held) ends)
+onward summing held = looks (writes (IsSummary held) ends)
 onward (serving bounds queries readers shown file count) held = serves bounds queries readers shown held file count
 
 -- the text of a table, where there is one of the name
@@ -161,6 +201,15 @@ migrates formatted = refuses NotImported
 migrates (imported held) = tells format_line ends
 migrates (outdated held) = commits Migrate (tells format_line ends)
 
+-- All of a store is looked at, whether something was imported or not, and that it is sound is told. One of the old format is not judged.
+abbrev pub sound_line : List ℕ
+sound_line = codes "sound\n"
+
+abbrev pub checks : State → Course
+checks formatted = looks (tells sound_line ends)
+checks (imported held) = looks (tells sound_line ends)
+checks (outdated held) = refuses OldFormat
+
 -- a file is imported, so many behind it are appended, and all that the store holds then is told
 abbrev pub fills : (style : StyleOf × List ℕ) → BoundsOf → (file changes : ℕ) → Course
 fills style bounds file changes = imports style 1024 file (onward (appending bounds (file + 1) changes (telling bounds.zoom)))
@@ -175,6 +224,14 @@ replay_course files =
     (looks
     (fills style bounds (files.first + 2) (files.count - 3))))))
 
+-- an empty store is made and filled with the map of so many squares and its two changes, and how much it holds then is told
+abbrev pub fills_demo : (count : ℕ) → Course
+fills_demo count = imports_these (demo_style, DEMO_STYLE) 1024 (demo_input count)
+    (onward (growing demo_bounds (demo_first count) (growing demo_bounds (demo_second count) summing)))
+
+abbrev pub demo_course : (count : ℕ) → Course
+demo_course count = wants_empty (formats (looks (fills_demo count)))
+
 abbrev pub course_of : CommandOf → Course
 course_of (points_of key files) = gathers files.first files.count [] (λ entries. writes_text (points_text_of key entries) ends)
 course_of (lines_of key files) = gathers files.first files.count [] (λ entries. writes_text (lines_text_of key entries) ends)
@@ -187,3 +244,5 @@ course_of (query_of store files) = opens (query_from files)
 course_of (serve_of store files workers readers) = opens (serve_to files readers)
 course_of (replay_of store files workers) = replay_course files
 course_of (migrate_of store) = opens migrates
+course_of (check_of store) = opens checks
+course_of (demo_of count store workers) = demo_course count

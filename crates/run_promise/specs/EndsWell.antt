@@ -1,4 +1,4 @@
--- What an import, an append and a clearing that end well have made of the history that the disk kept, and what they have told.
+-- What an import, an append, a clearing and a check that end well have made of the history that the disk kept, and what they have told.
 use Rattle.std.specs.Prelude.{◌≡◌, ◌≤◌, ℕ, zero, suc, ◌+◌, ◌-◌, List, [], ◌∷◌, ◌++◌, length, map, Ok}
 use Rattle.osm_base.specs.declared.values.object.Entry.{Entry}
 use Rattle.outside.specs.Bytes.{IfTold}
@@ -6,7 +6,7 @@ use Rattle.style_read.specs.Style.{StyleOf}
 use Rattle.tile_cover.specs.Table.{BoundsOf}
 use Rattle.update_flow.specs.History.{state_after}
 use Rattle.update_flow.specs.State.{Holding, formatted, imported, Import, Append, Clear}
-use Rattle.run_promise.specs.Courses.{IsTileText, version_line}
+use Rattle.run_promise.specs.Courses.{IsTileText, sound_line, version_line}
 use Rattle.run_promise.specs.Files.{IsBounds, IsChange, IsStyle}
 use Rattle.run_promise.specs.Keeps.{Kept, first, whole, with_steps}
 use Rattle.run_promise.specs.Progress.{Ending, IsIn, keeps}
@@ -65,3 +65,10 @@ pub record IsCleared (least : ℕ) (before : Kept) (ending : Ending) : Type 0 wh
   pub held_is : state_after (first cut before.history) ≡ imported held
   pub kept : ending.done.store ≡ keeps (whole (with_steps (Clear ∷ []) (first cut before.history)))
   pub told : IsTileText held.due least ending.done.written
+
+-- no step is behind those that stood, and that the store is sound was told
+pub record IsFoundSound (before : Kept) (ending : Ending) : Type 0 where
+  pub cut : ℕ
+  pub stood : StoodAt before cut
+  pub kept : ending.done.store ≡ keeps (whole (first cut before.history))
+  pub told : ending.done.written ≡ sound_line

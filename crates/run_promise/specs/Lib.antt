@@ -2,6 +2,7 @@ pub mod Ahead
 pub mod Answers
 pub mod Blocks
 pub mod Causes
+pub mod Checking
 pub mod Comes
 pub mod CommandOf
 pub mod Course

@@ -4,7 +4,7 @@ use Rattle.outside.specs.Bytes.{BothKnown, IsTold}
 use Rattle.run_promise.specs.declared.fault.Fault.{Fault}
 use Rattle.run_promise.specs.declared.fault.Fault.TheVariants.{WriteFault, DiskFault}
 use Rattle.update_flow.specs.State.{Step}
-use Rattle.run_promise.specs.CommandOf.{CommandOf, import_of, append_of, serve_of, replay_of, new_store, old_store, use_of}
+use Rattle.run_promise.specs.CommandOf.{CommandOf, import_of, append_of, serve_of, replay_of, demo_of, new_store, old_store, use_of}
 use Rattle.run_promise.specs.Comes.{Comes}
 use Rattle.run_promise.specs.Courses.{course_of}
 use Rattle.run_promise.specs.Keeps.{Is, IsFit, IsKept, IsOneOf, Keeps, Kept, blank, first, whole, with_steps}
@@ -35,6 +35,7 @@ steps_told (import_of store files buckets workers) = 1
 steps_told (append_of store files ahead workers) = files.count - 1
 steps_told (serve_of store files workers readers) = files.count - 2
 steps_told (replay_of store files workers) = files.count - 2
+steps_told (demo_of count store workers) = 3
 steps_told _ = 0
 
 -- the output took so many lines of the run, of which so many tell steps at most: each step whose line was taken whole is kept. After a

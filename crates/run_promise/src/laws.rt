@@ -1,10 +1,10 @@
 //! What holds of the runs of every command, by their courses.
-ghost use Rattle.std.specs.Prelude.{◌≡◌, List, None, true, ℕ};
+ghost use Rattle.std.specs.Prelude.{◌≡◌, ◌≢◌, List, None, Some, true, ℕ};
 ghost use Rattle.run_promise.specs.Causes.{WantsNewFormat};
 ghost use Rattle.run_promise.specs.Comes.{Comes, IsDue, IsOutside};
-ghost use Rattle.run_promise.specs.CommandOf.{CommandOf, append_of, import_of, migrate_of, tiles_of, use_of};
+ghost use Rattle.run_promise.specs.CommandOf.{CommandOf, append_of, check_of, import_of, migrate_of, tiles_of, use_of};
 ghost use Rattle.run_promise.specs.Courses.{course_of};
-ghost use Rattle.run_promise.specs.EndsWell.{IsAppended, IsCleared, IsFirstImport};
+ghost use Rattle.run_promise.specs.EndsWell.{IsAppended, IsCleared, IsFirstImport, IsFoundSound};
 ghost use Rattle.run_promise.specs.InTurn.{FaultNames, IsInTurn};
 ghost use Rattle.run_promise.specs.Keeps.{Kept};
 ghost use Rattle.run_promise.specs.Migrating.{IsMigrated, LeavesOld};
@@ -12,6 +12,7 @@ ghost use Rattle.run_promise.specs.Progress.{Ending, Progress, begun, keeps};
 ghost use Rattle.run_promise.specs.Reading.{HasItsFiles};
 ghost use Rattle.run_promise.specs.Runs.{MayBegin};
 ghost use Rattle.run_promise.specs.World.{Before};
+ghost use Rattle.run_promise.specs.declared.fault.Fault.TheVariants.{BadStore};
 ghost use Rattle.run_promise.specs.declared.files.Files.{Files};
 
 /// A run whose fault blames nothing outside, nor the want of memory, came to the end that is due.
@@ -58,4 +59,12 @@ pub fn clearings_end_well()
     ensures cleared { (old : Before) (store : List ℕ) (least : ℕ) (kept : Kept) (ending : Ending)
         → Comes old (course_of (tiles_of store least true)) (begun (keeps kept) kept.least) ending → ending.fault ≡ None
         → IsCleared least kept ending }
+{}
+
+/// A check of a store that keeps a history tells no page. Where it ends well, the store keeps what stood, and the line was told.
+pub fn checks_end_well()
+    ensures no_page { (old : Before) (store : List ℕ) (kept : Kept) (ending : Ending)
+        → Comes old (course_of (check_of store)) (begun (keeps kept) kept.least) ending → (page : ℕ) → ending.fault ≢ Some (BadStore page) }
+    ensures found { (old : Before) (store : List ℕ) (kept : Kept) (ending : Ending)
+        → Comes old (course_of (check_of store)) (begun (keeps kept) kept.least) ending → ending.fault ≡ None → IsFoundSound kept ending }
 {}
