@@ -18,7 +18,10 @@ pub mod AheadRuns
 pub mod StoreRuns
 pub mod MakeRuns
 pub mod MigrateRuns
+pub mod CheckRuns
 pub mod FillRuns
+pub mod DemoRuns
+pub mod TileCounts
 pub mod TableTexts
 pub mod OptionLaws
 pub mod TableLaws

@@ -25,7 +25,7 @@ use Rattle.updater.proofs.StoreRuns.{true_not}
 use Rattle.updater.proofs.VersionRuns.{goes_back}
 
 -- a line is told, and nothing comes behind it
-tells_last : (start done : Progress) (state : State) (next : ℕ) (old : Before) (files : FilesView) (updater : Handle) (output : SinkView)
+pub tells_last : (start done : Progress) (state : State) (next : ℕ) (old : Before) (files : FilesView) (updater : Handle) (output : SinkView)
     → IsHead start done state next old files updater output
     → (line text : List ℕ) (new : SinkView) (result : Result (Unit {0}) Fault) → text ≡ line
     → OnOk result (Appends output.taken new.taken text) → OnErr result (AppendsPrefix output.taken new.taken text)

@@ -10,6 +10,8 @@ use Rattle.std.specs.Option.{option_map}
 use Rattle.std.specs.Str.{bytes_eq}
 use Rattle.std.specs.String.{string_bytes}
 use Rattle.updater.specs.commands.Append as append
+use Rattle.updater.specs.commands.Check as check
+use Rattle.updater.specs.commands.Demo as demo
 use Rattle.updater.specs.commands.Export as export
 use Rattle.updater.specs.commands.Import as import
 use Rattle.updater.specs.commands.Init as init
@@ -22,11 +24,11 @@ use Rattle.updater.specs.commands.Serve as serve
 use Rattle.updater.specs.commands.Tiles as tiles
 use Rattle.updater.specs.declared.words.Command.{Command}
 use Rattle.updater.specs.declared.words.Command.TheVariants.{Points, Lines, Init, Import, Append, Export, Tiles, Query, Serve, Replay}
-use Rattle.updater.specs.declared.words.Command.TheVariants.{Migrate}
+use Rattle.updater.specs.declared.words.Command.TheVariants.{Migrate, Check, Demo}
 use Rattle.updater.specs.declared.words.TheConstants.{MAX_WORDS}
 use Rattle.updater.specs.declared.forms.Words.{Words}
 use Rattle.run_promise.specs.CommandOf.{CommandOf, points_of, lines_of, init_of, import_of, append_of, export_of, tiles_of, query_of}
-use Rattle.run_promise.specs.CommandOf.{FilesFit, serve_of, replay_of, migrate_of}
+use Rattle.run_promise.specs.CommandOf.{FilesFit, serve_of, replay_of, migrate_of, check_of, demo_of}
 
 -- a command of the program, as contracts see it
 abbrev pub seen : Command → CommandOf
@@ -41,6 +43,8 @@ seen (Query store files) = query_of store.now files
 seen (Serve store files workers readers) = serve_of store.now files workers readers
 seen (Replay store files workers) = replay_of store.now files workers
 seen (Migrate store) = migrate_of store.now
+seen (Check store) = check_of store.now
+seen (Demo count store workers) = demo_of count store.now workers
 
 -- words are read as a form says, and the files of a command that they ask for are as they have to be
 pub record IsReadAs (form : (options words : List (List ℕ)) → (place : ℕ) → Option CommandOf) (words : Words)
@@ -86,7 +90,9 @@ named name options form place =
     if bytes_eq name (codes "query") then query.form options form place else
     if bytes_eq name (codes "serve") then serve.form options form place else
     if bytes_eq name (codes "replay") then replay.form options form place else
-    if bytes_eq name (codes "migrate") then migrate.form options form place else None
+    if bytes_eq name (codes "migrate") then migrate.form options form place else
+    if bytes_eq name (codes "check") then check.form options form place else
+    if bytes_eq name (codes "demo") then demo.form options form place else None
 
 -- what all words ask for, where they ask for something
 unfoldable pub command : List (List ℕ) → Option CommandOf

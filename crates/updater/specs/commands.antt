@@ -1,4 +1,6 @@
 pub mod Append
+pub mod Check
+pub mod Demo
 pub mod Export
 pub mod Import
 pub mod Init

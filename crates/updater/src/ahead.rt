@@ -81,7 +81,7 @@ fn append_parcel<R: Threads + Sync, D: Disk, S: Sink, G: Gate>(
         Ok(change) => change,
         Err(fault) => return Err(fault),
     };
-    let _delta = match commit_change(hands, bounds, file, change, store, out) {
+    let _delta = match commit_change(hands, bounds, change, store, out) {
         Ok(delta) => delta,
         Err(fault) => return Err(fault),
     };

@@ -1,5 +1,7 @@
 //! The commands, each in a room of its own.
 pub mod append;
+pub mod check;
+pub mod demo;
 pub mod export;
 pub mod import;
 pub mod init;

@@ -1,9 +1,10 @@
 //! The program as a library: it reads the words of the command line, does what they say and ends with a status.
 //!
 //! `run` does all of it over the traits of `outside`. Its contract is the promise of `run_promise`, in four clauses for all
-//! commands: the status is that of the fault; words that are no command touch nothing; a command goes by its course, and
-//! an append reads no more of its store than its changes touch; and whatever the answer, a store keeps the history that it
-//! had, and behind it the steps of the run, each at least whose line was taken whole.
+//! commands: the status is that of the fault; words that are no command touch nothing; a command goes by its course, an
+//! append reads no more of its store than its changes touch, and a check tells `sound` of a store that is; and whatever the
+//! answer, a store keeps the history that it had, and behind it the steps of the run, each at least whose line was taken
+//! whole.
 //!
 //! Below `run`, `command_of` says what the words mean, and each command is a module of `commands`.
 //! Those without a store, `points` and `lines`, give the entries of their files to `tag_rows`. The
@@ -18,11 +19,13 @@ mod change_files;
 mod commands;
 mod file_reads;
 mod forms;
+mod making;
 mod number;
 mod options;
 mod running;
 mod serving;
 mod shared;
+mod summary;
 mod telling;
 mod versions;
 mod whole_text;

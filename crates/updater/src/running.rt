@@ -10,6 +10,8 @@ ghost use Rattle.run_promise.specs.Safety.{IsSafe};
 ghost use Rattle.run_promise.specs.World.{world};
 
 use crate::commands::append::append;
+use crate::commands::check::check;
+use crate::commands::demo::demo;
 use crate::commands::export::export;
 use crate::commands::import::import;
 use crate::commands::init::init;
@@ -148,5 +150,19 @@ fn run_command<R: Threads + Wait + Sync, I: Inputs, D: Disk, S: Sink, G: Gate>(
             replay(&hands, files, inputs, disk, out)
         }
         Command::Migrate { store: _ } => migrate(alloc, inputs, disk, out),
+        Command::Check { store: _ } => check(alloc, inputs, disk, out),
+        Command::Demo {
+            count,
+            store: _,
+            workers,
+        } => {
+            let hands = Hands {
+                rt,
+                alloc,
+                workers,
+                gate,
+            };
+            demo(&hands, count, inputs, disk, out)
+        }
     }
 }

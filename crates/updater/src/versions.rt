@@ -12,7 +12,7 @@ ghost use Rattle.update_flow.specs.Handle.{IsOpen, changes_of, view_of};
 ghost use Rattle.update_flow.specs.State.{Holding, formatted, imported};
 ghost use Rattle.update_flow.specs.Updater.{handle_of};
 ghost use Rattle.run_promise.specs.CommandOf.{AreBuckets};
-ghost use Rattle.run_promise.specs.Courses.{appends, appends_one, imports, onward, version_line};
+ghost use Rattle.run_promise.specs.Courses.{appends, appends_one, appends_these, imports, imports_these, onward, version_line};
 ghost use Rattle.updater.specs.Heads.{IsHead, Leads};
 ghost use Rattle.updater.specs.Versions.{AppendsHere};
 ghost use Rattle.run_promise.specs.Locality.{AppendsThere};
@@ -53,7 +53,32 @@ pub fn tell_version<S: Sink>(out: &mut S, changes: u64) -> Result<(), Fault>
     tell(out, b"\n")
 }
 
-/// Imports a file into a store that was only made, under a style, and tells so.
+/// Imports entries into a store that was only made, under a style, and tells so.
+pub fn import_change<R: Threads + Sync, D: Disk, S: Sink, G: Gate>(
+    hands: &Hands<'_, R, G>,
+    style: StyleFile,
+    buckets: u64,
+    change: Change,
+    store: &mut Updater<'_, D>,
+    out: &mut S,
+) -> Result<(), Fault>
+    requires style { reading style.bytes ≡ Ok style.style }
+    requires buckets { AreBuckets buckets }
+    requires few { length change ≤ MAX_ENTRIES }
+    ensures leads { (next : ℕ) (files : FilesView) (old : Before) (start done : Progress)
+        → IsHead start done formatted next old files (handle_of store.old) (S.view out.old)
+        → Leads (λ last. imports_these (style.style, style.bytes) buckets change (onward last)) (result_err result) start done next old
+        files (handle_of store.new) (S.view out.new) }
+    ensures keeps { KeepsOpen (result_err result) store.old store.new }
+{
+    let StyleFile { style, bytes } = style;
+    if let Err(fault) = store.import(hands, bytes.as_slice(), style, change, buckets) {
+        return Err(Fault::in_flow(fault));
+    }
+    tell_version(out, 0)
+}
+
+/// Reads a file, and does so with its entries.
 pub fn import_file<R: Threads + Sync, I: Inputs, D: Disk, S: Sink, G: Gate>(
     hands: &Hands<'_, R, G>,
     style: StyleFile,
@@ -70,31 +95,32 @@ pub fn import_file<R: Threads + Sync, I: Inputs, D: Disk, S: Sink, G: Gate>(
         (I.view inputs.new) (handle_of store.new) (S.view out.new) }
     ensures works { WorksOn (λ asked. I.reads inputs.old asked inputs.new) file (result_err result) store.old store.new }
 {
-    let StyleFile { style, bytes } = style;
     let change = match read_change(hands, inputs, file) {
         Ok(change) => change,
         Err(fault) => return Err(fault),
     };
-    if let Err(fault) = store.import(hands, bytes.as_slice(), style, change, buckets) {
-        return Err(Fault::in_flow(fault));
-    }
-    tell_version(out, 0)
+    import_change(hands, style, buckets, change, store, out)
 }
 
-/// Appends the entries of a change file to a store that was imported, and tells so. Answers how the tables differ from then on.
+/// Appends the entries of a change to a store that was imported, and tells so. Answers how the tables differ from then on.
 pub fn commit_change<R: Threads + Sync, D: Disk, S: Sink, G: Gate>(
     hands: &Hands<'_, R, G>,
     bounds: &Bounds,
-    file: u32,
     change: Change,
     store: &mut Updater<'_, D>,
     out: &mut S,
 ) -> Result<Delta, Fault>
     requires few { length change ≤ MAX_ENTRIES }
-    ensures leads { (files read : FilesView) (old : Before) (start done : Progress) (held : Holding) → IsRead (IsChange file) file change files read
+    ensures grows { (next : ℕ) (files : FilesView) (old : Before) (start done : Progress) (held : Holding)
+        → IsHead start done (imported held) next old files (handle_of store.old) (S.view out.old)
+        → Leads (λ last. appends_these bounds.now held change (onward last)) (result_err result) start done next old
+        files (handle_of store.new) (S.view out.new) }
+
+    // Where a file was read as this change.
+    ensures leads { (file : ℕ) (files read : FilesView) (old : Before) (start done : Progress) (held : Holding) → IsRead (IsChange file) file change files read
         → IsHead start done (imported held) file old files (handle_of store.old) (S.view out.old)
         → LeadsBy bounds.now file result start done held old read (handle_of store.new) (S.view out.new) }
-    ensures local { OnOk result ((files read : FilesView) (held : Holding) (pages : List (List ℕ)) → IsRead (IsChange file) file change files read
+    ensures local { OnOk result ((file : ℕ) (files read : FilesView) (held : Holding) (pages : List (List ℕ)) → IsRead (IsChange file) file change files read
         → IsOpen (imported held) (handle_of store.old) → IsAtRest pages (view_of (handle_of store.old))
         → AppendsHere bounds.now held pages file files read (handle_of store.old) (handle_of store.new)) }
     ensures version { IfOk result (λ delta. delta.version ≡ changes_of (handle_of store.old) + 1) }
@@ -133,7 +159,7 @@ pub fn commit_file<R: Threads + Sync, I: Inputs, D: Disk, S: Sink, G: Gate>(
         Ok(change) => change,
         Err(fault) => return Err(fault),
     };
-    commit_change(hands, bounds, file, change, store, out)
+    commit_change(hands, bounds, change, store, out)
 }
 
 /// Appends a change file to a store that was imported, and tells so.

@@ -77,7 +77,7 @@ fn push_named(out: &mut Vec<u8>, name: &Text, text: &Text) -> Result<(), OutOfMe
 }
 
 /// Appends the bytes of a text.
-fn push_text(out: &mut Vec<u8>, text: &Text) -> Result<(), OutOfMemory>
+pub fn push_text(out: &mut Vec<u8>, text: &Text) -> Result<(), OutOfMemory>
     ensures bytes { OnOk result (out.new.items ≡ out.old.items ++ encode_utf8_all text.now) }
 {
     out.extend_from_slice(text.as_str().as_bytes())?;

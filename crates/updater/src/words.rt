@@ -7,7 +7,7 @@ ghost use Rattle.run_promise.specs.CommandOf as promise;
 ghost use Rattle.updater.specs.Command as spec;
 
 use crate::commands::{
-    append, export, import, init, lines, migrate, points, query, replay, serve, tiles,
+    append, check, demo, export, import, init, lines, migrate, points, query, replay, serve, tiles,
 };
 use crate::forms::Words;
 use geom_workers::Workers;
@@ -80,6 +80,16 @@ pub enum Command<'a> {
     Migrate {
         store: &'a str,
     },
+    /// All of a store, looked at: whether it is sound.
+    Check {
+        store: &'a str,
+    },
+    /// A store made and filled with a map of so many squares out of nothing, and how much it holds.
+    Demo {
+        count: u32,
+        store: &'a str,
+        workers: Workers,
+    },
 }
 
 /// The path of the store that the words of a command name.
@@ -96,7 +106,9 @@ pub fn store_of(words: &[String]) -> Option<&str>
             | Command::Query { store, .. }
             | Command::Serve { store, .. }
             | Command::Replay { store, .. }
-            | Command::Migrate { store },
+            | Command::Migrate { store }
+            | Command::Check { store }
+            | Command::Demo { store, .. },
         ) => Some(store),
         Some(Command::Points { .. } | Command::Lines { .. }) | None => None,
     }
@@ -108,7 +120,7 @@ pub fn makes_store(words: &[String]) -> bool
 {
     matches!(
         command_of(words),
-        Some(Command::Init { .. } | Command::Replay { .. })
+        Some(Command::Init { .. } | Command::Replay { .. } | Command::Demo { .. })
     )
 }
 
@@ -118,7 +130,12 @@ pub fn only_looks(words: &[String]) -> bool
 {
     matches!(
         command_of(words),
-        Some(Command::Export { .. } | Command::Query { .. } | Command::Tiles { clear: false, .. })
+        Some(
+            Command::Export { .. }
+                | Command::Query { .. }
+                | Command::Tiles { clear: false, .. }
+                | Command::Check { .. }
+        )
     )
 }
 
@@ -164,6 +181,8 @@ fn named<'a>(name: &str, words: Words<'a>) -> Option<Command<'a>>
         "serve" => serve::form(words),
         "replay" => replay::form(words),
         "migrate" => migrate::form(words),
+        "check" => check::form(words),
+        "demo" => demo::form(words),
         _ => None,
     }
 }

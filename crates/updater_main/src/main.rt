@@ -36,6 +36,8 @@ usage: yilgartzu points KEY INPUT [CHANGE..]
        yilgartzu serve [workers=N] [readers=N] STORE BOUNDS QUERIES [CHANGE..]
        yilgartzu replay [workers=N] STORE STYLE BOUNDS INPUT [CHANGE..]
        yilgartzu migrate STORE
+       yilgartzu check STORE
+       yilgartzu demo [workers=N] N STORE
 
 INPUT and the change files are OPL files, STYLE is a TOML file that defines
 tables, and BOUNDS has the latitudes that bound the rows of tiles of a zoom.
@@ -62,6 +64,11 @@ tables, and BOUNDS has the latitudes that bound the rows of tiles of a zoom.
                behind a line `table NAME`, and behind `tiles` the tiles that are
                due at the zoom of BOUNDS
   migrate      write a store of the old format in this one, and write `format 2`
+  check        read all of a store, and write `sound` where each of its pages,
+               values, lists and rows is right; else a page that tells where not
+  demo         make STORE, import a map of N squares, each with a cafe and a
+               building, made of nothing, and apply two changes; write how much
+               STORE holds then. N is 1 to 100000
   --help       this text
   --version    the version
 
@@ -78,6 +85,9 @@ const VERSION: &str = "yilgartzu 0.2.0 (rattle-kit-13f logic dac8208d650f15bf)\n
 
 /// The variable that says whether the program tells how far it is: `1`, where standard error is a terminal.
 const TELLS: &str = "YILGARTZU_PROGRESS";
+
+/// The line of want of memory, for which there may be no memory either.
+const OUT_OF_MEMORY: &str = "out of memory";
 
 /// The variable that names a file for the line of a fault, from which the launcher explains it.
 const LEFT_IN: &str = "YILGARTZU_FAULT";
@@ -241,13 +251,20 @@ fn told(written: Result<(), Failed>) -> Outcome
     Outcome::of(written.err().map(|_| Fault::WriteFault))
 }
 
-/// Prints the line of a fault to standard error, and leaves it in the file that a variable names. Where there is no memory
-/// for it, nothing is printed.
+/// Prints the line of a fault to standard error, and leaves it in the file that a variable names. The one that tells of want of
+/// memory takes none; where there is none for another, nothing is printed.
 fn tell(rt: &(impl Eprint + AllocGlobal + Env + Files), fault: &Fault) {
-    if let Ok(line) = fault_line(rt.alloc(), fault) {
-        let _ = rt.eprintln(line.as_str());
-        if let Ok(path) = env::var(rt, LEFT_IN) {
-            let _ = fs::write(rt, path.as_str(), line.as_str());
+    match fault_line(rt.alloc(), fault) {
+        Ok(line) => {
+            let _ = rt.eprintln(line.as_str());
+            if let Ok(path) = env::var(rt, LEFT_IN) {
+                let _ = fs::write(rt, path.as_str(), line.as_str());
+            }
+        }
+        Err(_) => {
+            if let Fault::OutOfMemory = fault {
+                let _ = rt.eprintln(OUT_OF_MEMORY);
+            }
         }
     }
 }

@@ -1,5 +1,5 @@
 //! `replay STORE STYLE BOUNDS INPUT CHANGE*`: a store made, imported and changed, and all that it holds.
-ghost use Rattle.std.specs.Prelude.{◌≡◌, ◌≢◌, ◌≤◌, ◌+◌, List, ℕ, Ok, Some, length, IfErr, OnOk};
+ghost use Rattle.std.specs.Prelude.{◌≡◌, ◌≢◌, ◌≤◌, ◌+◌, List, ℕ, Ok, Some, length};
 ghost use Rattle.std.specs.Result.{result_err};
 ghost use Rattle.outside.specs.Bytes.{IfTold};
 ghost use Rattle.outside.specs.Disk.{Stays};
@@ -13,7 +13,7 @@ ghost use Rattle.updater.specs.Command.{IsReadAs};
 ghost use Rattle.run_promise.specs.Course.{formats, looks};
 ghost use Rattle.run_promise.specs.Courses.{fills, if_blank, onward, replay_course, telling};
 ghost use Rattle.updater.specs.Heads.{GoesOn, IsHead, IsSoFar};
-ghost use Rattle.run_promise.specs.Making.{IsNotEmpty, reading_alone};
+ghost use Rattle.run_promise.specs.Making.{reading_alone};
 ghost use Rattle.run_promise.specs.Progress.{Progress, begun, unused};
 ghost use Rattle.updater.specs.FileReads.{Among};
 ghost use Rattle.run_promise.specs.Runs.{AsksOnly, GoesBy};
@@ -24,6 +24,7 @@ ghost use Rattle.updater.specs.commands.Replay as replay;
 use crate::change_files::ChangeFiles;
 use crate::file_reads::{StyleFile, read_bounds_file, read_style_file};
 use crate::forms::{Words, stored_files};
+use crate::making::{MADE_BUCKETS, wants_empty};
 use crate::options::{Allowed, options_of, usual_workers};
 use crate::telling::tell;
 use crate::versions::{append_files, import_file};
@@ -47,9 +48,6 @@ const ALLOWED: Allowed = Allowed {
     clear: false,
     ahead: false,
 };
-
-/// The buckets of each map of the store that is made.
-const MADE_BUCKETS: u64 = 1_024;
 
 /// The form of its words.
 pub fn form(words: Words<'_>) -> Option<Command<'_>>
@@ -102,21 +100,6 @@ pub fn replay<R: Threads + Sync, I: Inputs, D: Disk, S: Sink, G: Gate>(
         disk,
         out,
     )
-}
-
-/// Looks whether a disk is empty.
-#[tactic(auto, using(crate::proofs::MakeRuns::disk_looks))]
-fn wants_empty<D: Disk>(disk: &mut D) -> Result<(), Fault>
-    ensures empty { OnOk result (IfTold (D.view disk.old).content (λ bytes. length bytes ≡ 0)) }
-    ensures err { IfErr result (IsNotEmpty (D.view disk.old) (D.view disk.new)) }
-    ensures stays { Stays (D.view disk.old) (D.view disk.new) }
-    ensures later { (D.view disk.old).faults ≤ (D.view disk.new).faults }
-{
-    match disk.len() {
-        Ok(0) => Ok(()),
-        Ok(_) => Err(Fault::NotEmpty),
-        Err(_) => Err(Fault::DiskFault),
-    }
 }
 
 /// Makes a store on an empty disk, and fills it.

@@ -16,10 +16,10 @@ pub returns-in-Err-commit_change-clause-leads : goal.returns-in-Err-commit_chang
 returns-in-Err-commit_change-clause-leads g c = λ files read old start done held become head.
     leads_without c.args.bounds.now c.args.file (Err c.in-Err-commit_change.fault) start done held old read
     (handle_of c.commit_change.new.store) (g.S.Sink.view c.commit_change.new.out)
-    (c.in-Err-commit_change.ensures.leads files read old start done held (c.in-Ok.ensures.ok files read become) head)
+    (c.in-Err-commit_change.ensures.leads c.args.file files read old start done held (c.in-Ok.ensures.ok files read become) head)
 
 pub returns-clause-leads : goal.returns-clause-leads
 returns-clause-leads g c = λ files read old start done held become head.
     leads_without c.args.bounds.now c.args.file (Ok c.in-Ok-commit_change.delta) start done held old read
     (handle_of c.commit_change.new.store) (g.S.Sink.view c.commit_change.new.out)
-    (c.in-Ok-commit_change.ensures.leads files read old start done held (c.in-Ok.ensures.ok files read become) head)
+    (c.in-Ok-commit_change.ensures.leads c.args.file files read old start done held (c.in-Ok.ensures.ok files read become) head)

@@ -15,5 +15,5 @@ returns-in-Err-clause-leads g c = λ old start done held head.
 
 pub returns-clause-leads : goal.returns-clause-leads
 returns-clause-leads g c = λ old start done held head.
-    c.commit_change.ensures.leads (g.I.Inputs.view c.args.inputs.now) (g.I.Inputs.view c.read_change.new.inputs) old start done held
+    c.commit_change.ensures.leads c.args.file (g.I.Inputs.view c.args.inputs.now) (g.I.Inputs.view c.read_change.new.inputs) old start done held
     c.in-Ok.ensures.reads.ok head

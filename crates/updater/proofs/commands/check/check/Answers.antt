@@ -1,0 +1,64 @@
+use Rattle.std.proofs.Common.{◌∙◌, Err, ap, sym, false, ◌≡◌}
+use Rattle.std.specs.Result.{result_err}
+use Rattle.run_promise.specs.Courses.{checks}
+use Rattle.run_promise.specs.declared.fault.Fault.TheVariants as faults
+use Rattle.update_flow.specs.Handle.{is_old}
+use Rattle.update_flow.specs.Updater.{handle_of}
+use Rattle.updater.specs.Works.{NoFile}
+use Rattle.updater.proofs.Asked.{asked_none}
+use Rattle.updater.proofs.CheckRuns.{bad_says, ends_so}
+use Rattle.updater.proofs.LocalLaws.{where_done}
+use Rattle.updater.proofs.NoStoreFaults.{opening_says}
+use Rattle.updater.proofs.OpenRuns.{found_here, goes_over, unopened}
+use Rattle.updater.proofs.commands.check.check.Goals as goal
+
+pub returns-in-Err : goal.returns-in-Err
+returns-in-Err g c =
+    let laws = g.met.D.Disk in
+    let asks = g.met.I.Inputs g.world.𝓛 g.world.𝓜 g.world.𝓡 ((λ s x. x), (λ x. x), (λ x. x), λ x. x) in
+    rw c.in_flow.ensures.fault (record {
+      does = record {
+        goes = λ start begins.
+            unopened (g.I.Inputs.view c.args.inputs.now) (g.D.Disk.view c.args.disk.now) (g.S.Sink.view c.args.out.now)
+            (laws.only_now c.args.disk.now) start begins
+            c.in-Err.fault (g.D.Disk.view c.check.new.disk) checks c.in-Err.ensures.opens c.in-Err.ensures.any.told
+            c.in-Err.ensures.any.alone
+            (λ is. c.in-Err.ensures.any.no_store (ap Err is))
+            (λ page is. c.in-Err.ensures.any.bad page (ap Err is)) c.in-Err.ensures.any.cause;
+        asked = asked_none g.I.Inputs.reads NoFile c.args.inputs.now (asks.reads_none c.args.inputs.now);
+        unformatted = λ is. c.in-Err.ensures.any.untouched (ap Err (opening_says c.in-Err.fault is));
+      };
+      checked = record {
+        sound = λ is. absurd (cc);
+        bad = λ page is. c.in-Err.ensures.bad page (ap Err (bad_says c.in-Err.fault page is));
+      };
+    })
+
+pub returns : goal.returns
+returns g c =
+    let laws = g.met.D.Disk in
+    let asks = g.met.I.Inputs g.world.𝓛 g.world.𝓜 g.world.𝓡 ((λ s x. x), (λ x. x), (λ x. x), λ x. x) in
+    record {
+      does = record {
+        goes = λ start begins.
+            goes_over (g.I.Inputs.view c.args.inputs.now) (g.D.Disk.view c.args.disk.now) (g.S.Sink.view c.args.out.now)
+            (laws.only_now c.args.disk.now) start begins
+            c.check.new.disk c.over-store.result 0 c.over-store.ensures.disk c.in-Ok.ensures.opens
+            (λ told state at. c.over-store.ensures.open state at (c.in-Ok.ensures.found told state at))
+            (c.over-store.ensures.tells.limits_are ∙ c.standard-limits.ensures.numbers) c.over-store.ensures.tells.whole
+            (λ is. (c.over-store.ensures.tells.begun is, c.over-store.ensures.tells.unbegun is)) c.in-Ok.ensures.any.cause
+            (found_here c.in-Ok.opened c.over-store.result
+            (g.D.Disk.view c.args.disk.now).content c.over-store.ensures.tells.style c.over-store.ensures.tells.outdated
+            c.over-store.ensures.tells.changes c.in-Ok.ensures.any.formed c.in-Ok.ensures.any.fields) c.in-Ok.ensures.any.same
+            checks (result_err c.tell_sound-done.result) c.over-store.result c.disk-1.given.0
+            (c.disk-1.given.1 (sym c.over-store.ensures.same_disk ∙ sym c.close-disk.ensures.same_disk) ∙ c.close-disk.ensures.disk)
+            (g.I.Inputs.view c.args.inputs.now) (g.S.Sink.view c.tell_sound-done.new.out) c.tell_sound-done.ensures.goes_on;
+        asked = asked_none g.I.Inputs.reads NoFile c.args.inputs.now (asks.reads_none c.args.inputs.now);
+        unformatted = λ is. absurd (ends_so c.tell_sound-done.result faults.NotFormatted c.tell_sound-done.ensures.alone is);
+      };
+      checked = record {
+        sound = λ is. c.in-Ok.ensures.sound (sym c.over-store.ensures.tells.outdated
+            ∙ where_done c.tell_sound-done.result (is_old (handle_of c.over-store.result) ≡ false) c.tell_sound-done.ensures.judged is);
+        bad = λ page is. absurd (ends_so c.tell_sound-done.result (faults.BadStore page) c.tell_sound-done.ensures.alone is);
+      };
+    }

@@ -1,0 +1,105 @@
+use Rattle.std.proofs.Common.{◌++◌, ◌∙◌, ap, refl}
+use Rattle.std.specs.Fmt.{decimal}
+use Rattle.std.specs.Prelude.{codes}
+use Rattle.osm_base.specs.map.Spots.{TableMap}
+use Rattle.style_read.specs.Style.{StyleOf}
+use Rattle.update_flow.specs.Updater.{handle_of}
+use Rattle.run_promise.specs.Course.{ends, writes}
+use Rattle.run_promise.specs.Courses.{IsSummary, counts_text, tiles_in}
+use Rattle.updater.proofs.InitRuns.{never_untold}
+use Rattle.updater.proofs.NoStoreFaults.{call_never}
+use Rattle.updater.proofs.FillRuns.{has_style}
+use Rattle.updater.proofs.StoreRuns.{held_certain, look_done, look_ends, look_refused, look_short, same_style}
+use Rattle.updater.proofs.StoreDeeds.{refused_so}
+use Rattle.updater.proofs.commands.demo.tell_summary.Goals as goal
+
+pub returns-in-Err-clause-goes_on : goal.returns-in-Err-clause-goes_on
+returns-in-Err-clause-goes_on g c = rw c.in_flow.ensures.fault (λ old files start done held next head.
+    look_refused start done held next old files (handle_of c.args.store.now) (handle_of c.load_tables.new.self)
+    (g.S.Sink.view c.args.out.now) head c.in-Err.fault
+    c.in-Err.ensures.looks (refused_so c.in-Err.ensures.stays) (writes (IsSummary held) ends))
+
+pub returns-in-Err-due-clause-goes_on : goal.returns-in-Err-due-clause-goes_on
+returns-in-Err-due-clause-goes_on g c = rw c.in_flow-in-Err-due.ensures.fault (λ old files start done held next head.
+    let output = g.S.Sink.view c.args.out.now in
+    let sure = look_done start done held next old files (handle_of c.args.store.now)
+    (handle_of c.load_tables.new.self) output head c.in-Ok.ensures.looks
+    (c.in-Ok.ensures.stays.still tt) c.in-Ok.ensures.stays.whole c.load_tables.ensures.stays.over.same_limits
+    c.in-Ok.ensures.stays.cause in
+    look_refused start done held next old files (handle_of c.load_tables.new.self) (handle_of c.due.new.self) output sure c.in-Err-due.fault
+    c.in-Err-due.ensures.looks (refused_so c.in-Err-due.ensures.stays)
+    (writes (IsSummary held) ends))
+
+pub returns-in-Err-due-clause-keeps : goal.returns-in-Err-due-clause-keeps
+returns-in-Err-due-clause-keeps g c =
+    rw c.in_flow-in-Err-due.ensures.fault (record {
+      stays = record {
+        same_disk = c.due.ensures.stays.over.same_disk ∙ c.load_tables.ensures.stays.over.same_disk;
+        same_limits = c.due.ensures.stays.over.same_limits ∙ c.load_tables.ensures.stays.over.same_limits;
+      };
+      formatted = call_never c.in-Err-due.fault c.in-Err-due.ensures.stays.alone;
+    })
+
+pub returns-in-None-clause-goes_on : goal.returns-in-None-clause-goes_on
+returns-in-None-clause-goes_on g c = λ old files start done held next head.
+    let output = g.S.Sink.view c.args.out.now in
+    let first = look_done start done held next old files (handle_of c.args.store.now)
+    (handle_of c.load_tables.new.self) output head c.in-Ok.ensures.looks
+    (c.in-Ok.ensures.stays.still tt) c.in-Ok.ensures.stays.whole c.load_tables.ensures.stays.over.same_limits
+    c.in-Ok.ensures.stays.cause in
+    let sure = look_done start done held next old files (handle_of c.load_tables.new.self)
+    (handle_of c.due.new.self) output first c.in-Ok-due.ensures.looks
+    (c.in-Ok-due.ensures.stays.still tt) c.in-Ok-due.ensures.stays.whole c.due.ensures.stays.over.same_limits
+    c.in-Ok-due.ensures.stays.cause in
+    has_style start done held next old files (handle_of c.due.new.self) output _ sure c.in-None.ensures.style
+
+pub returns-in-Ok-text-clause-goes_on : goal.returns-in-Ok-text-clause-goes_on
+returns-in-Ok-text-clause-goes_on g c = λ old files start done held next head.
+    let output = g.S.Sink.view c.args.out.now in
+    let text = c.deref.result.now in
+    let new = g.S.Sink.view c.tell.new.out in
+    let first = look_done start done held next old files (handle_of c.args.store.now)
+    (handle_of c.load_tables.new.self) output head c.in-Ok.ensures.looks
+    (c.in-Ok.ensures.stays.still tt) c.in-Ok.ensures.stays.whole c.load_tables.ensures.stays.over.same_limits
+    c.in-Ok.ensures.stays.cause in
+    let sure = look_done start done held next old files (handle_of c.load_tables.new.self)
+    (handle_of c.due.new.self) output first c.in-Ok-due.ensures.looks
+    (c.in-Ok-due.ensures.stays.still tt) c.in-Ok-due.ensures.stays.whole c.due.ensures.stays.over.same_limits
+    c.in-Ok-due.ensures.stays.cause in
+    look_ends start done held next old files (handle_of c.load_tables.new.self) (handle_of c.due.new.self) output first
+    (IsSummary held) sure text new c.tell.result
+    (λ read certain. (
+      c.in-Ok-due.due,
+      c.in-Ok-text.ensures.set,
+      c.in-Ok-due.ensures.due held (held_certain done held (handle_of c.load_tables.new.self) first.here certain),
+      c.deref.ensures.value ∙ c.in-Ok-text.ensures.text
+          ∙ ap (λ (style : StyleOf). counts_text style c.in-Ok.tables ++ codes "tiles " ++ decimal (tiles_in c.in-Ok-due.due) ++ codes "\n")
+          (same_style start done held next old files (handle_of c.due.new.self) output sure c.in-Some.style.now c.in-Some.ensures.style)
+          ∙ ap (λ (found : TableMap). counts_text held.style found ++ codes "tiles " ++ decimal (tiles_in c.in-Ok-due.due) ++ codes "\n")
+          (c.in-Ok.ensures.tables held (held_certain done held (handle_of c.args.store.now) head.here certain)),
+    ))
+    c.tell.ensures.ok c.tell.ensures.err c.tell.ensures.alone c.tell.ensures.cause
+
+pub returns-in-Ok-text-clause-keeps : goal.returns-in-Ok-text-clause-keeps
+returns-in-Ok-text-clause-keeps g c =
+    record {
+      stays = record {
+        same_disk = c.due.ensures.stays.over.same_disk ∙ c.load_tables.ensures.stays.over.same_disk;
+        same_limits = c.due.ensures.stays.over.same_limits ∙ c.load_tables.ensures.stays.over.same_limits;
+      };
+      formatted = λ is. never_untold c.tell.result _ c.tell.ensures.alone is;
+    }
+
+pub returns-clause-goes_on : goal.returns-clause-goes_on
+returns-clause-goes_on g c = λ old files start done held next head.
+    let output = g.S.Sink.view c.args.out.now in
+    let first = look_done start done held next old files (handle_of c.args.store.now)
+    (handle_of c.load_tables.new.self) output head c.in-Ok.ensures.looks
+    (c.in-Ok.ensures.stays.still tt) c.in-Ok.ensures.stays.whole c.load_tables.ensures.stays.over.same_limits
+    c.in-Ok.ensures.stays.cause in
+    let sure = look_done start done held next old files (handle_of c.load_tables.new.self)
+    (handle_of c.due.new.self) output first c.in-Ok-due.ensures.looks
+    (c.in-Ok-due.ensures.stays.still tt) c.in-Ok-due.ensures.stays.whole c.due.ensures.stays.over.same_limits
+    c.in-Ok-due.ensures.stays.cause in
+    look_short start done held next old files (handle_of c.load_tables.new.self) (handle_of c.due.new.self) output first
+    (IsSummary held) ends sure
