@@ -109,6 +109,8 @@ def bad_store(call, page):
     if store is None:
         return []
     root, what = root_of(store), f"page {page} does not hold what a store has there"
+    if page == "0":
+        what = "a commit of it that was cut off is not whole, or a value is missing"
     try:
         there = os.stat(store).st_size // PAGE
         if root and root[0] > there:
@@ -172,7 +174,7 @@ def rights(path):
 def write_fault(call):
     if call.command == "tiles" and "clear=yes" in call.options:
         kept = "; nothing was cleared"
-    elif call.command in ("import", "append", "serve", "replay", "migrate", "init"):
+    elif call.command in ("import", "append", "serve", "replay", "demo", "migrate", "init"):
         kept = "; the last step may be in the store without its line"
     else:
         kept = ""
@@ -243,7 +245,7 @@ def folder_fault(call, path):
         return f"{name(path)} is a link to a file that is not there"
     if not os.path.isdir(folder):
         return f"{name(path)}: there is no folder {name(folder)}"
-    if call.command not in ("init", "replay"):
+    if call.command not in ("init", "replay", "demo"):
         made = f"this makes it a store: yilgartzu init {quoted(path)}"
         other = "a new store is made by yilgartzu init, and filled by yilgartzu import"
         return f"{name(path)}: no such file{away(path)}; {order_hint(call) or (made if call.command == 'import' else other)}"
@@ -295,5 +297,5 @@ def disk_fault(call):
     except (OSError, ValueError) as fault:
         shut = f": a folder on its path is shut to user {user()}" if isinstance(fault, PermissionError) else ""
         return [f"{name(path)}: {told_error(fault) if isinstance(fault, OSError) else fault}{shut}"]
-    hint = order_hint(call) if kind_of(path) != "store" and call.command not in ("init", "replay") else None
+    hint = order_hint(call) if kind_of(path) != "store" and call.command not in ("init", "replay", "demo") else None
     return [store_fault(call, path, found) + (f"; {hint}" if hint else "")]

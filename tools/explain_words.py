@@ -19,6 +19,8 @@ FORMS = {
     "serve": "[workers=N] [readers=N] STORE BOUNDS QUERIES [CHANGE..]",
     "replay": "[workers=N] STORE STYLE BOUNDS INPUT [CHANGE..]",
     "migrate": "STORE",
+    "check": "STORE",
+    "demo": "[workers=N] N STORE",
 }
 MOST_WORDS = 4_096
 
@@ -65,7 +67,7 @@ class Call:
         return next(iter(self.paths("STORE")), None)
 
     def only_looks(self):
-        return self.command in ("export", "query") or (self.command == "tiles" and "clear=yes" not in self.options)
+        return self.command in ("export", "query", "check") or (self.command == "tiles" and "clear=yes" not in self.options)
 
 
 # --- The order of words
@@ -88,12 +90,12 @@ MADE_BY = {
 
 def fits(call, role, word, kind):
     """Whether a word may stand for this."""
-    if role == "MINZOOM":
+    if role in ("MINZOOM", "N"):
         return re.fullmatch(r"\d{1,6}", word) is not None
     if role in ("TABLE", "KEY"):
         return kind is None
     if role == "STORE":
-        return kind == "store" or (kind in (None, "empty") and call.command in ("init", "replay"))
+        return kind == "store" or (kind in (None, "empty") and call.command in ("init", "replay", "demo"))
     return kind in FITS[role] or kind == "pipe"
 
 
@@ -176,6 +178,8 @@ def count_fault(call):
         return f"{call.command} takes {most} {'word' if most == 1 else 'words'}, and {len(call.given)} are given"
     if "MINZOOM" in call.roles and not (re.fullmatch(r"[0-9]{1,6}", call.given[1]) and int(call.given[1]) <= 16):
         return f"MINZOOM is a number from 0 to 16, not {shown(call.given[1], 40)}"
+    if "N" in call.roles and not (re.fullmatch(r"[1-9][0-9]{0,5}", call.given[0]) and int(call.given[0]) <= 100_000):
+        return f"N is a number from 1 to 100000 that begins with no zero, not {shown(call.given[0], 40)}"
     if "KEY" in call.roles and not 1 <= len(call.given[0].encode("utf-8", "surrogateescape")) <= 255:
         return "KEY has 1 to 255 bytes"
     return None
