@@ -70,8 +70,11 @@ begin_mark() {
 keep_mark() {
   [ -n "$list" ] || return 0
   case $found in '' | *[!0-9.\ ]*) rm -f "$list" && return ;; esac
-  printf '%s\n' "$taken ${list##*/}" "$found" >"$list.mark" && touch -d "@$began" "$list.mark" &&
-    chmod a+r "$list" "$list.mark" && mv -f "$list.mark" "$folder/mark"
+  # A start at the same moment may have kept its own mark, and taken this list away: then that one counts.
+  {
+    printf '%s\n' "$taken ${list##*/}" "$found" >"$list.mark" && touch -d "@$began" "$list.mark" &&
+      chmod a+r "$list" "$list.mark" && mv -f "$list.mark" "$folder/mark"
+  } 2>/dev/null || { rm -f "$list" "$list.mark" && return; }
   for old in "$folder"/of.*; do
     if [ "$old" != "$list" ]; then rm -f "$old"; fi
   done
