@@ -18,7 +18,7 @@ use Rattle.update_flow.specs.Turning.{EndsIn, EndsOn, IsKept, LooksIn, LooksOn, 
 use Rattle.update_flow.specs.Within.{is_whole_store}
 use Rattle.update_flow.specs.declared.fault.FlowFault.{FlowFault}
 
-no_fault : (fault : Option FlowFault) → fault ≡ None → IsNoDiskFault fault
+pub no_fault : (fault : Option FlowFault) → fault ≡ None → IsNoDiskFault fault
 no_fault fault is = subst (λ (f : Option FlowFault). IsNoDiskFault f) (sym is) tt
 
 -- what is so of an answer, if there is one
@@ -32,7 +32,7 @@ IsBackOf buckets kept = (is_some kept ≡ not (is_broken (journal_of (chains_of 
     × IfSome kept (λ opened. (image : Image) → RestsAt image buckets → Fits opened (view_in buckets))
 
 module _ {D : Type 0} {g : Ghosts D} where
-  whole_kept : (buckets : Buckets D g) (kept : Option Resting) → IsBackOf buckets kept → is_whole_store buckets → is_some kept ≡ true
+  pub whole_kept : (buckets : Buckets D g) (kept : Option Resting) → IsBackOf buckets kept → is_whole_store buckets → is_some kept ≡ true
   whole_kept buckets kept back whole = back.0 ∙ ap not whole
 
   kept_back : (state : State) (buckets : Buckets D g) (kept : Option Resting) → IsBackOf buckets kept → is_whole_store buckets

@@ -1,12 +1,12 @@
 -- What was opened and judged is what was opened.
 use Rattle.std.proofs.Common.{◌≡◌, ◌⊎◌, inl, inr, ℕ, Bool, true, false, List, Option, Some, None, Result, Ok, Err, refl, sym, ap, subst, ◌∙◌}
-use Rattle.std.proofs.Common.{◌≤◌, ⊎_elim, arith}
+use Rattle.std.proofs.Common.{◌≤◌, arith}
 use Rattle.std.specs.Prelude.{IfErr, IfOk, IsErrOf, OnOk}
 use Rattle.std.specs.Result.{result_err}
 use Rattle.outside.specs.Bytes.{IfTold, IsTold}
 use Rattle.outside.specs.Causes.{Rose}
 use Rattle.std.proofs.lemmas.Option.{same_Some}
-use Rattle.outside.specs.Disk.{DiskView, Goes, Stays, Tells}
+use Rattle.outside.specs.Disk.{DiskView, Stays}
 use Rattle.page_journal.specs.Crash.{IsAtRest}
 use Rattle.page_journal.specs.Answers.{HomeRefused, JournalRefused}
 use Rattle.page_journal.specs.Home.{Home}
@@ -17,7 +17,6 @@ use Rattle.page_journal.proofs.Uniqueness.{one_home}
 use Rattle.chain_store.specs.Store.{Keeps}
 use Rattle.bucket_store.specs.Image.{HoldsImage, Image}
 use Rattle.chain_store.specs.Directories.{IsCount, root_in}
-use Rattle.chain_store.specs.Links.{page_in}
 use Rattle.chain_store.specs.declared.kept.Kept.{Kept}
 use Rattle.chain_store.specs.declared.root.Root.{Root}
 use Rattle.bucket_store.specs.Opening.{Fits, FitsPages, opened_root}

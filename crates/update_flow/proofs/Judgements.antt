@@ -1,6 +1,6 @@
 -- Why a store is sound, or is not.
 use Rattle.std.proofs.Common.{◌≡◌, ◌≢◌, ◌⊎◌, inl, inr, ℕ, ◌==◌, ◌&&◌, ◌<◌, not, Bool, true, false, List, [], ◌∷◌, length, Option, Some, None}
-use Rattle.std.proofs.Common.{◌≤◌, ◌+◌, ◌||◌, Result, Ok, Err}
+use Rattle.std.proofs.Common.{◌≤◌, ◌+◌, ◌||◌, Ok, Err}
 use Rattle.std.proofs.Common.{refl, sym, ap, subst, ◌∙◌, arith, ⊎_elim, nat_le}
 use Rattle.std.proofs.lemmas.Bool.Decides.{nat_tests}
 use Rattle.std.specs.Prelude.{IsErrOf}
@@ -38,13 +38,13 @@ use Rattle.store_check.proofs.Loads.{surveyed_means}
 use Rattle.store_check.proofs.Meaning.{never_refused}
 use Rattle.store_check.proofs.Surveyed.{level_or_apart}
 use Rattle.store_check.proofs.Unsound.{all_right_sound, wrong_unsound}
-use Rattle.update_flow.specs.BadPage.{AreOfNoStore, BadChain, BadFields, BadMeaning, BadRest, BadStyle, BadValue, FullText, HasRightValues}
+use Rattle.update_flow.specs.BadPage.{AreOfNoStore, BadChain, BadMeaning, BadRest, BadStyle, BadValue, FullText}
 use Rattle.update_flow.specs.BadPage.{IsBadStyle, IsBadWithin, IsImageOf, IsUnread, LeftOver, MadeWithChanges, MadeWithText, NoChain, NoDue}
 use Rattle.update_flow.specs.BadPage.{NoStyle, NoText, Reaches, Unread, root_told}
 use Rattle.update_flow.specs.Due.{Tiles}
 use Rattle.update_flow.specs.Faults.{of_store}
 use Rattle.update_flow.specs.Judged.{AreEmptyBelow, AreSound, IsEmptyText, IsOfToday, IsSoundImage, IsStyleless, IsWrongAt, Judges, JudgesImage}
-use Rattle.update_flow.specs.Judged.{HasOnlyRead, IsEmptyAt, LoadsStyle, TellsToday, fault_unless, rooted}
+use Rattle.update_flow.specs.Judged.{HasOnlyRead, IsEmptyAt, LoadsStyle, fault_unless, rooted}
 use Rattle.update_flow.specs.Roots.{is_blank, is_imported, is_of, is_old}
 use Rattle.update_flow.specs.Sound.{HasSoundMaps, IsSound, IsSoundImport}
 use Rattle.update_flow.specs.Stands.{AreDue}

@@ -26,6 +26,8 @@ pub mod MapsKept
 pub mod Migrations
 pub mod Settings
 pub mod Within
+pub mod SoundCarried
+pub mod SoundChanged
 pub mod SoundKnown
 pub mod SoundStanding
 pub mod Judgements

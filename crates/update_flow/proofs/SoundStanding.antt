@@ -49,7 +49,7 @@ place_kept reaches (Some own) (Some (Node place tags)) holds = sym holds.0
 place_kept reaches (Some own) (Some (Way nodes tags)) holds = absurd holds
 place_kept reaches (Some own) (Some (Relation members tags)) holds = absurd holds
 
-none_kept : (reaches : Bool) (object : Option Object) → HoldsNode reaches None object → object ≡ None
+pub none_kept : (reaches : Bool) (object : Option Object) → HoldsNode reaches None object → object ≡ None
 none_kept reaches None holds = refl
 none_kept reaches (Some object) holds = absurd holds
 
@@ -58,7 +58,7 @@ tags_kept : (reaches : Bool) (kept : Option TagMap) (known tags : TagMap) → ke
 tags_kept reaches None known tags is holds = absurd (cc)
 tags_kept reaches (Some kept) known tags is holds = sym holds
 
-known_kept : (reaches : Bool) (own : NodeRecord) (known : TagMap) (object : Option Object) → own.tags ≡ Some known
+pub known_kept : (reaches : Bool) (own : NodeRecord) (known : TagMap) (object : Option Object) → own.tags ≡ Some known
     → HoldsNode reaches (Some own) object → object ≡ Some (bare own)
 known_kept reaches own known None is holds = absurd holds
 known_kept reaches own known (Some (Way nodes tags)) is holds = absurd holds
@@ -192,24 +192,26 @@ blank_sound image blank = record {
   texts = blank.texts;
 }
 
-import_sound : (image : Image) (held : Holding) → IsImported held image → (own : Holding) × IsSoundImport own image
+-- an imported one holds the objects of its maps: of a node whose tags nobody knows the one without tags
+abbrev pub own_of : (held : Holding) (image : Image) → IsImported held image → Holding
+own_of held image is = record held { objects = objects_of is.maps.maps.nodes is.maps.maps.ways is.maps.maps.relations }
+
+pub import_sound : (image : Image) (held : Holding) (is : IsImported held image) → IsSoundImport (own_of held image is) image
 import_sound image held is =
-    let maps = is.maps in (
-      record held { objects = objects_of maps.maps.nodes maps.maps.ways maps.maps.relations },
-      record {
-        root = is.root;
-        counted = is.counted;
-        some = is.some;
-        power = is.power;
-        few = is.few;
-        style_text = is.style_text;
-        style = is.style;
-        due = is.due;
-        others = is.others;
-        ids = ids_own held.style image held.objects maps.maps maps.kept maps.stand is.ids;
-        maps = sound_maps held.style image held.objects maps.maps maps.kept maps.stand;
-      },
-    )
+    let maps = is.maps in
+    record {
+      root = is.root;
+      counted = is.counted;
+      some = is.some;
+      power = is.power;
+      few = is.few;
+      style_text = is.style_text;
+      style = is.style;
+      due = is.due;
+      others = is.others;
+      ids = ids_own held.style image held.objects maps.maps maps.kept maps.stand is.ids;
+      maps = sound_maps held.style image held.objects maps.maps maps.kept maps.stand;
+    }
 
 -- whatever stands for a store that was made, or for an imported one
 pub blank_is_sound : (bytes : List ℕ) → StandsFor bytes formatted → IsSound bytes
@@ -218,4 +220,4 @@ blank_is_sound bytes stands = record { image = stands.0; has = stands.2; is = in
 
 pub import_is_sound : (bytes : List ℕ) (held : Holding) → StandsFor bytes (imported held) → IsSound bytes
 unfolding StandsFor
-import_is_sound bytes held stands = record { image = stands.0; has = stands.2; is = inr (import_sound stands.0 held stands.1) }
+import_is_sound bytes held stands = record { image = stands.0; has = stands.2; is = inr (own_of held stands.0 stands.1, import_sound stands.0 held stands.1) }

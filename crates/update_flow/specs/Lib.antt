@@ -23,5 +23,6 @@ pub mod Reads
 pub mod ChangeReads
 pub mod maps
 pub mod Sound
+pub mod SoundTurns
 pub mod BadPage
 pub mod Judged

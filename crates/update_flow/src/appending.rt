@@ -14,6 +14,8 @@ ghost use Rattle.update_step.specs.Touch.{MayTouch};
 ghost use Rattle.update_flow.specs.maps.Calls.{buckets_of, stop_of, style_in};
 ghost use Rattle.update_flow.specs.Changes.{AreChanges};
 ghost use Rattle.update_flow.specs.Reads.{MayLoad, ReadsOnce};
+ghost use Rattle.update_flow.specs.Sound.{IsSoundImport};
+ghost use Rattle.update_flow.specs.SoundTurns.{TurnsSound};
 ghost use Rattle.update_flow.specs.Stands.{IsImported};
 ghost use Rattle.update_flow.specs.State.{Append, Holding, imported};
 ghost use Rattle.update_flow.specs.Turning.{EndsIn, TurnsIn, limit_in};
@@ -56,6 +58,13 @@ pub(crate) fn append<D: Disk, R: Threads + Sync, G: Gate>(
         → TurnsIn limits.now (imported held) (Append bounds.now change.now) (result_err result) (buckets_of maps.old) (buckets_of maps.new) }
     ensures changes { IfOk result (λ changes. (held : Holding) (rest : Image) → Has rest rest (buckets_of maps.old) → IsImported held rest
         → held.style ≡ style.now → AreChanges (tables held.style held.objects) (tables held.style (folded_all held.objects change.now)) changes) }
+
+    // Over a sound store it is refused for the disk, memory and limits alone, and leaves a sound one.
+    ensures sound { (held : Holding) (rest : Image) → limit_in (buckets_of maps.old) ≡ limits.now.pages → Has rest rest (buckets_of maps.old)
+        → IsSoundImport held rest → held.style ≡ style.now → held.changes + 1 ≡ number
+        → TurnsSound limits.now held bounds.now change.now (result_err result) (buckets_of maps.old) (buckets_of maps.new) }
+
+    // Whatever the store holds.
     ensures ends { EndsIn (Some (Append bounds.now change.now)) (result_err result) (buckets_of maps.old) (buckets_of maps.new) }
 
     // It reads the due tiles, what the change touches, and the free list, each page once.

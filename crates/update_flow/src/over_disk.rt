@@ -13,6 +13,7 @@ ghost use Rattle.update_flow.specs.ChangeReads.{ReadsTouched};
 ghost use Rattle.update_flow.specs.Asked.{MayImport};
 ghost use Rattle.update_flow.specs.Changes.{AreChanges};
 ghost use Rattle.update_flow.specs.Opening.{HoldsState};
+ghost use Rattle.update_flow.specs.SoundTurns.{HoldsSound, TurnsSoundOn};
 ghost use Rattle.update_flow.specs.State.{Append, Clear, Holding, Import, Migrate, formatted, imported, outdated};
 ghost use Rattle.update_flow.specs.Turning.{EndsOn, LooksOn, TurnsOn};
 ghost use Rattle.update_flow.specs.Within.{wanted_of};
@@ -161,6 +162,9 @@ pub(crate) fn append_on<D: Disk, R: Threads + Sync, G: Gate>(
     ensures reads { OnOk result ((held : Holding) → Fits store (D.view disk.old) → HoldsState (imported held) (D.view disk.old) → held.style ≡ style.now
         → (may : May) → MayTouch style.now held.objects change.now may → (pages : List (List ℕ)) → IsAtRest pages (D.view disk.old)
         → ReadsTouched may held.buckets pages (D.view disk.old) (D.view disk.new)) }
+    ensures sound { (held : Holding) → Fits store (D.view disk.old) → HoldsSound held (D.view disk.old) → held.style ≡ style.now
+        → held.changes + 1 ≡ number
+        → TurnsSoundOn limits.now held bounds.now change.now (result_err result) (D.view disk.old) (D.view disk.new) kept.new }
     ensures ends { EndsOn (Some (Append bounds.now change.now)) (result_err result) (D.view disk.old) (D.view disk.new) kept.new }
 {
     let buckets = Buckets::on(hands.alloc, disk, limits, store);

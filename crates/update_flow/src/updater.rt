@@ -11,6 +11,7 @@ mod appending;
 mod importing;
 mod looking;
 mod migrating;
+mod standing;
 mod turning;
 
 use crate::Opened;

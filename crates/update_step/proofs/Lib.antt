@@ -17,6 +17,7 @@ pub mod PendingKeys
 pub mod RowsStill
 pub mod Touching
 pub mod Trees
+pub mod Unknown
 pub mod WantedEntries
 pub mod Whole
 pub mod WithoutRows

@@ -213,7 +213,7 @@ module _ (style : StyleOf) (maps : Maps) (objects : ObjectSet) (change : List En
   all-both [] other first second = second
   all-both (own ∷ one) other first second = (first.0, all-both one other first.1 second)
 
-  all-known : (set : PendingOf) → IsPendingOf style objects change set → AllByRecursion Knows (keys_of set)
+  pub all-known : (set : PendingOf) → IsPendingOf style objects change set → AllByRecursion Knows (keys_of set)
   all-known set pending =
       all-both (map node_key set.nodes) (map way_key set.ways ++ map relation_key set.relations)
       (all-nodes set pending set.nodes (λ id there. there))

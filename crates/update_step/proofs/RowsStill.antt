@@ -57,7 +57,7 @@ rows-still old new maps keys has own same =
       | false ↦ has.at own.kind own.id ∙ ap unless_empty same
     ]
 
-kept_unless : (rows : List TableRow) → kept_rows (unless_empty rows) ≡ rows
+pub kept_unless : (rows : List TableRow) → kept_rows (unless_empty rows) ≡ rows
 kept_unless [] = refl
 kept_unless (first ∷ rest) = refl
 

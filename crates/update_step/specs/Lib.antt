@@ -11,3 +11,4 @@ pub mod Rounds
 pub mod Suffices
 pub mod Touch
 pub mod Turned
+pub mod Unknown

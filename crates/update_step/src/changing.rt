@@ -1,14 +1,16 @@
 //! A change of a map, whole.
 ghost use Rattle.std.specs.Prelude.{◌≡◌, ◌≤◌, false};
 ghost use Rattle.osm_base.specs.map.Objects.{ObjectSet};
+ghost use Rattle.row_map.specs.Condition.{reaches_nodes};
 ghost use Rattle.dep_closure.specs.PendingSet.{AreTooMany, IsPendingOf};
 ghost use Rattle.tile_cover.specs.Runs.{has};
 ghost use Rattle.store_maps.specs.Asked.{May};
 ghost use Rattle.store_maps.specs.Maps.{Maps};
-ghost use Rattle.store_maps.specs.Stands.{Stands};
+ghost use Rattle.store_maps.specs.Stands.{Stands, StandsOn};
 ghost use Rattle.update_step.specs.Changing.{Changes};
 ghost use Rattle.update_step.specs.Looks.{Goes};
 ghost use Rattle.update_step.specs.Touch.{MayTouch};
+ghost use Rattle.update_step.specs.Unknown.{KeepsKnown, StandsKnown};
 
 use crate::StepFault;
 use crate::entries::{apply_change, old_relations};
@@ -44,9 +46,13 @@ pub fn change_maps<S: MapStore, R: Threads + Sync, G: Gate>(
     ensures within { (under : S.Under) (maps : Maps) (objects : ObjectSet) → S.holds store.old under maps → Stands style.now maps objects
         → (may : May) → MayTouch style.now objects change.now may → S.within may store.old → S.within may store.new }
 
+    // Where nobody knows the tags of some nodes they stand for the objects but for the rows of these, then too.
+    ensures known { (under : S.Under) (maps : Maps) (objects : ObjectSet) → S.holds store.old under maps → StandsKnown style.now maps objects
+        → KeepsKnown (S.holds store.new under) S.allowed style.now limits.now.pending maps objects change.now result }
+
     // Whatever it answers, below the maps it has only looked.
-    ensures goes { Goes S.MapStore.own S.Back (λ value. (under : S.Under) (maps : Maps) (objects : ObjectSet) → S.holds store.old under maps → Stands style.now maps objects
-        → AreTooMany limits.now.pending (λ set. IsPendingOf style.now objects change.now set) value) store.old store.new result }
+    ensures goes { Goes S.MapStore.own S.Back (λ value. (under : S.Under) (maps : Maps) (objects : ObjectSet) → S.holds store.old under maps
+        → StandsOn (reaches_nodes style.now) maps objects → AreTooMany limits.now.pending (λ set. IsPendingOf style.now objects change.now set) value) store.old store.new result }
 {
     let alloc = hands.alloc;
     let _entries = change.entries();

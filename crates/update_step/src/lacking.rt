@@ -11,6 +11,7 @@ ghost use Rattle.store_maps.specs.Stands.{StandsOn};
 ghost use Rattle.update_step.specs.Lacking.{AreLacking};
 ghost use Rattle.update_step.specs.Looks.{Looks};
 ghost use Rattle.update_step.specs.Touch.{MayEntries};
+ghost use Rattle.update_step.specs.Unknown.{AreUnplaced, IsUnplaced};
 
 use crate::StepFault;
 use object_fold::Change;
@@ -37,6 +38,7 @@ fn lacks_rows<S: MapStore>(
     requires spent { S.spent store.old ≡ false }
     ensures none { IfOk result (λ lacks. (under : S.Under) (maps : Maps) (objects : ObjectSet) → S.holds store.old under maps → StandsOn (reaches_nodes style.now) maps objects
         → lacks ≡ true → rows_in style.now objects key ≡ []) }
+    ensures unplaced { IfOk result (λ lacks. (under : S.Under) (maps : Maps) → S.holds store.old under maps → lacks ≡ true → IsUnplaced maps key) }
     ensures within { (may : May) → MayObject may key → S.within may store.old → S.within may store.new }
     ensures looks { Looks S.MapStore.own S.Back store.old store.new result }
 {
@@ -58,6 +60,7 @@ pub(crate) fn keys_lacking<S: MapStore>(
     requires spent { S.spent store.old ≡ false }
     ensures lacking { IfOk result (λ keys. (under : S.Under) (maps : Maps) (objects : ObjectSet) → S.holds store.old under maps → StandsOn (reaches_nodes style.now) maps objects
         → AreLacking (rows_in style.now objects) keys.items) }
+    ensures unplaced { IfOk result (λ keys. (under : S.Under) (maps : Maps) → S.holds store.old under maps → AreUnplaced maps keys.items) }
     ensures within { (may : May) → MayEntries may change.now → S.within may store.old → S.within may store.new }
     ensures looks { Looks S.MapStore.own S.Back store.old store.new result }
 {

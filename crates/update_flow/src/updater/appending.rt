@@ -8,6 +8,7 @@ ghost use Rattle.update_step.specs.Touch.{MayTouch};
 ghost use Rattle.update_flow.specs.ChangeReads.{ReadsTouched};
 ghost use Rattle.update_flow.specs.Changes.{IsDeltaOf};
 ghost use Rattle.update_flow.specs.Handle.{IsOpen, Takes, changes_of, is_imported, is_old, style_of, view_of};
+ghost use Rattle.update_flow.specs.SoundTurns.{IsOpenSound, TakesSound};
 ghost use Rattle.update_flow.specs.State.{Append, Holding, State, imported};
 
 use super::Updater;
@@ -36,6 +37,11 @@ impl<D: Disk> Updater<'_, D> {
             → Takes state (Append bounds.now change) (result_err result) (handle_of self.old) (handle_of self.new) }
         ensures delta { IfOk result (λ delta. (held : Holding) → IsOpen (imported held) (handle_of self.old)
             → IsDeltaOf held.style held.objects (folded_all held.objects change) (held.changes + 1) delta) }
+
+        // A sound store refuses it for the disk, memory and limits alone, also where nobody knows the tags of some nodes, and is sound
+        // after it.
+        ensures sound { (held : Holding) → IsOpenSound held (handle_of self.old)
+            → TakesSound held bounds.now change (result_err result) (handle_of self.old) (handle_of self.new) }
 
         // It reads no more of the disk than what the change touches, each page once.
         ensures reads { OnOk result ((held : Holding) → IsOpen (imported held) (handle_of self.old) → (may : May)

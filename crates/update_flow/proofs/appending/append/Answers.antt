@@ -5,7 +5,7 @@ use Rattle.dep_closure.specs.PendingSet.{AreTooMany, IsPendingOf}
 use Rattle.row_map.specs.Row.{tables}
 use Rattle.style_read.specs.Style.{StyleOf}
 use Rattle.osm_base.specs.declared.values.object.Entry.{Entry}
-use Rattle.tile_cover.specs.Runs.{IsTileSet, has}
+use Rattle.tile_cover.specs.Runs.{IsTileSet}
 use Rattle.tile_cover.specs.declared.runs.Run.{Run}
 use Rattle.update_flow.specs.Ids.{AreIdEntries}
 use Rattle.bucket_store.proofs.Holding.{looks_then, rests_under}
@@ -17,6 +17,7 @@ use Rattle.update_flow.specs.maps.Calls.{buckets_of, stop_of, style_in}
 use Rattle.update_flow.specs.maps.Held.{Beside}
 use Rattle.update_flow.specs.maps.Laws.{later_same, over_going, over_none, over_whole}
 use Rattle.update_flow.specs.Changes.{AreChanges}
+use Rattle.update_flow.specs.SoundTurns.{TurnsSound}
 use Rattle.update_flow.specs.State.{Append, imported}
 use Rattle.update_flow.specs.Turning.{EndsIn, TurnsIn}
 use Rattle.update_flow.specs.declared.fault.FlowFault.{FlowFault}
@@ -25,6 +26,7 @@ use Rattle.update_flow.proofs.Changed.{not_zero, step_answers}
 use Rattle.update_flow.proofs.Steps.{none_spent, step_ends}
 use Rattle.update_flow.proofs.Needs.{sound_fits, step_fits}
 use Rattle.update_flow.proofs.Turning.{ends_then, runs_ended, sound_answers, turns_refused}
+use Rattle.update_flow.proofs.SoundChanged.{has_sound, sound_refused, sound_turns, stands_known}
 use Rattle.update_flow.proofs.ReadLaws.{change_reads, none_loaded}
 use Rattle.update_flow.proofs.appending.append.Goals as goal
 
@@ -74,7 +76,7 @@ returns-in-Err-change_maps-clause-turns g c held rest same was is style next =
     (λ value many. (
       (λ last. absurd (omega (arith, last, next, c.requires.counted))),
       subst (λ (s : StyleOf). AreTooMany limits.pending (λ set. IsPendingOf s held.objects change set) value) (sym style)
-          (many under is.maps.maps held.objects keeps stand),
+          (many under is.maps.maps held.objects keeps stand.on),
     )) in
     subst (λ (f : FlowFault). TurnsIn limits (imported held) (Append c.args.bounds.now change) (Some f) old (buckets_of last))
     (sym c.step_fault.ensures)
@@ -95,6 +97,77 @@ returns-in-Err-change_maps-clause-ends g c =
     (step_ends mid (buckets_of last) later.looks _ _ _ c.in-Err-change_maps.why c.in-Err-change_maps.ensures.goes.ends
     (λ fault refused. (refused _ (later_same _)).1) (λ fresh. over_whole last fresh) (Some (Append c.args.bounds.now c.args.change.now))
     (λ value many. tt)))
+
+-- A sound store.
+
+-- the due tiles are not read
+pub returns-in-Err-clause-sound : goal.returns-in-Err-clause-sound
+returns-in-Err-clause-sound g c held rest same was is style next =
+    sound_refused held rest is c.args.limits.now c.args.bounds.now c.args.change.now c.in-Err.fault (buckets_of c.args.maps.now)
+    c.load_due.new.buckets (rests_under rest rest (buckets_of c.args.maps.now) was) c.in-Err.ensures.runs.looks
+    (sound_answers c.args.limits.now c.in-Err.fault _ (c.in-Err.ensures.spelled rest rest held.due was is.due))
+
+-- the change is refused
+pub returns-in-Err-change_maps-clause-sound : goal.returns-in-Err-change_maps-clause-sound
+returns-in-Err-change_maps-clause-sound g c held rest same was is style next =
+    let old = buckets_of c.args.maps.now in
+    let mid = c.load_due.new.buckets in
+    let last = c.change_maps.new.store in
+    let change = c.args.change.now in
+    let limits = c.args.limits.now in
+    let later = c.change_maps.ensures.goes.looked _ (later_same _) in
+    let under : Beside = beside rest in
+    let keeps = has_sound held rest is c.args.style.now style (style_in c.args.maps.now) mid c.requires.style
+    (c.in-Ok.ensures.has rest rest was) in
+    let stand = stands_known held rest is c.args.style.now style in
+    let answers = step_answers limits held c.args.bounds.now change _ _ _ c.in-Err-change_maps.why c.in-Err-change_maps.ensures.goes.ends
+    (c.in-Err-change_maps.ensures.known under is.maps.maps held.objects keeps stand).allowed
+    (λ value many. (
+      (λ last. absurd (omega (arith, last, next, c.requires.counted))),
+      subst (λ (s : StyleOf). AreTooMany limits.pending (λ set. IsPendingOf s held.objects change set) value) (sym style)
+          (many under is.maps.maps held.objects keeps stand.on),
+    )) in
+    subst (λ (f : FlowFault). TurnsSound limits held c.args.bounds.now change (Some f) old (buckets_of last))
+    (sym c.step_fault.ensures)
+    (sound_refused held rest is limits c.args.bounds.now change _ old (buckets_of last) (rests_under rest rest old was)
+    (looks_then old mid (buckets_of last) c.in-Ok.ensures.runs.looks later.looks) answers)
+
+-- all is committed, or nothing
+pub returns-in-Ok-settle-clause-sound : goal.returns-in-Ok-settle-clause-sound
+returns-in-Ok-settle-clause-sound g c held rest same was is style next =
+    let old = buckets_of c.args.maps.now in
+    let mid = c.load_due.new.buckets in
+    let last = c.change_maps.new.store in
+    let later = c.change_maps.ensures.goes.looked _ (later_same _) in
+    let under : Beside = beside rest in
+    let keeps = has_sound held rest is c.args.style.now style (style_in c.args.maps.now) mid c.requires.style
+    (c.in-Ok.ensures.has rest rest was) in
+    let stand = stands_known held rest is c.args.style.now style in
+    sound_turns held rest is c.args.style.now style c.args.limits.now c.args.bounds.now c.args.change.now c.args.number old mid
+    (buckets_of last) c.settle.new.buckets c.in-Ok.ensures.runs.looks later.looks c.change_maps.new.due _ c.in-Ok-settle.ensures.commits
+    (style_in last) _ (later.same_style ∙ c.requires.style) was same next c.requires.counted
+    (subst (λ (l : List Run). IsTileSet l) c.as_slice-runs.ensures.runs c.as_slice-runs.ensures.tiles)
+    (subst (λ (l : List Entry). AreIdEntries l) c.entries.ensures.entries c.known_ids.ensures)
+    (c.in-Ok-change_maps.ensures.known under is.maps.maps held.objects keeps stand)
+
+pub returns-clause-sound : goal.returns-clause-sound
+returns-clause-sound g c held rest same was is style next =
+    let old = buckets_of c.args.maps.now in
+    let mid = c.load_due.new.buckets in
+    let last = c.change_maps.new.store in
+    let later = c.change_maps.ensures.goes.looked _ (later_same _) in
+    let under : Beside = beside rest in
+    let keeps = has_sound held rest is c.args.style.now style (style_in c.args.maps.now) mid c.requires.style
+    (c.in-Ok.ensures.has rest rest was) in
+    let stand = stands_known held rest is c.args.style.now style in
+    sound_turns held rest is c.args.style.now style c.args.limits.now c.args.bounds.now c.args.change.now c.args.number old mid
+    (buckets_of last) c.settle.new.buckets c.in-Ok.ensures.runs.looks later.looks c.change_maps.new.due _ c.in-Err-settle.ensures.commits
+    (style_in last) _ (later.same_style ∙ c.requires.style) was same next c.requires.counted
+    (subst (λ (l : List Run). IsTileSet l) c.as_slice-runs.ensures.runs c.as_slice-runs.ensures.tiles)
+    (subst (λ (l : List Entry). AreIdEntries l) c.entries.ensures.entries c.known_ids.ensures)
+    (c.in-Ok-change_maps.ensures.known under is.maps.maps held.objects keeps stand)
+
+-- A store that stands for a state.
 
 -- all is committed, or nothing
 pub returns-in-Ok-settle-clause-changes : goal.returns-in-Ok-settle-clause-changes

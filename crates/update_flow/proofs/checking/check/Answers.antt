@@ -1,12 +1,8 @@
 -- A store that was opened is judged whole.
-use Rattle.std.proofs.Common.{◌≡◌, ◌⊎◌, inl, inr, ℕ, false, List, Option, Ok, refl, sym, ⊎_elim}
-use Rattle.std.specs.Prelude.{IfOk}
+use Rattle.std.proofs.Common.{◌≡◌, ◌⊎◌, inl, inr, false, refl, ⊎_elim}
 use Rattle.std.specs.Result.{result_err}
-use Rattle.outside.specs.Bytes.{IsTold}
 use Rattle.outside.specs.Disk.{Tells}
-use Rattle.update_flow.specs.AtRest.{IsAt}
-use Rattle.update_flow.specs.Judged.{Judges}
-use Rattle.update_flow.specs.Opening.{Found, HoldsState}
+use Rattle.update_flow.specs.Opening.{HoldsState}
 use Rattle.update_flow.specs.declared.opened.Opened.{Opened}
 use Rattle.update_flow.proofs.Checks.{alone_of, any_still, bad_told, found_told, sound_told, whole_sound}
 use Rattle.update_flow.proofs.Openings.{at_state, bad_none, opens_as, opens_either, state_here}

@@ -1,5 +1,5 @@
 -- What the buckets say is said of the disk under them.
-use Rattle.std.proofs.Common.{◌≡◌, ℕ, List, Option, Some, None, rules, sym, subst}
+use Rattle.std.proofs.Common.{Option, Some, None, rules, sym, subst}
 use Rattle.std.specs.Prelude.{IfSome}
 use Rattle.chain_store.specs.Chains.{disk_of}
 use Rattle.chain_store.specs.declared.kept.Kept.{Kept}

@@ -17,6 +17,11 @@ returns-in-Err-clause-sound g c = λ rest now held has is.
     subst (λ (f : FlowFault). IsSound (Some f)) (sym c.store_fault.ensures)
     (sound_store (List ℕ) c.in-Err.fault (c.in-Err.ensures.text.sound rest now has))
 
+pub returns-in-Err-clause-spelled : goal.returns-in-Err-clause-spelled
+returns-in-Err-clause-spelled g c = λ rest now due has is.
+    subst (λ (f : FlowFault). IsSound (Some f)) (sym c.store_fault.ensures)
+    (sound_store (List ℕ) c.in-Err.fault (c.in-Err.ensures.text.sound rest now has))
+
 pub returns-in-Err-clause-runs : goal.returns-in-Err-clause-runs
 returns-in-Err-clause-runs g c =
     subst (λ (f : FlowFault). Runs c.args.buckets.now c.load.new.self (Some f)) (sym c.store_fault.ensures)
@@ -37,6 +42,11 @@ pub returns-in-Err-NotSpelled-clause-sound : goal.returns-in-Err-NotSpelled-clau
 returns-in-Err-NotSpelled-clause-sound g c = λ rest now held was is.
     absurd ((rw c.in-Err-NotSpelled.field-0-is at c.in-Err-NotSpelled.ensures.refused) is.due.runs is.due.is
     (c.as_slice.ensures.items ∙ c.in-Ok.ensures.text.found rest now was ∙ is.due.bytes_are))
+
+pub returns-in-Err-NotSpelled-clause-spelled : goal.returns-in-Err-NotSpelled-clause-spelled
+returns-in-Err-NotSpelled-clause-spelled g c = λ rest now due was is.
+    absurd ((rw c.in-Err-NotSpelled.field-0-is at c.in-Err-NotSpelled.ensures.refused) is.runs is.is
+    (c.as_slice.ensures.items ∙ c.in-Ok.ensures.text.found rest now was ∙ is.bytes_are))
 
 pub returns-in-Err-NotSpelled-clause-runs : goal.returns-in-Err-NotSpelled-clause-runs
 returns-in-Err-NotSpelled-clause-runs g c =

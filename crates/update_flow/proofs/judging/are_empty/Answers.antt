@@ -1,5 +1,5 @@
 -- One text behind another.
-use Rattle.std.proofs.Common.{◌≡◌, ◌+◌, ◌∙◌, Bool, None, sym, subst, arith}
+use Rattle.std.proofs.Common.{◌+◌, ◌∙◌, Bool, None, sym, subst, arith}
 use Rattle.chain_store.specs.Chains.{kept_of}
 use Rattle.chain_store.specs.Store.{IsRefused, kept_first}
 use Rattle.chain_store.specs.declared.kept.Kept.{Kept}

@@ -1,5 +1,5 @@
 -- A text is loaded.
-use Rattle.std.proofs.Common.{◌≡◌, ◌∙◌, ℕ, List, Err, Bool, subst, sym}
+use Rattle.std.proofs.Common.{◌∙◌, ℕ, List, Err, Bool, subst, sym}
 use Rattle.chain_store.specs.Chains.{Loads, first_of, written_of}
 use Rattle.page_journal.specs.declared.fault.StoreFault.{StoreFault}
 use Rattle.std.specs.FinMap as finite

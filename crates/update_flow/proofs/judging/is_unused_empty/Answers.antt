@@ -1,5 +1,5 @@
 -- A text that is to be empty is looked at.
-use Rattle.std.proofs.Common.{◌≡◌, ◌∙◌, Bool, sym}
+use Rattle.std.proofs.Common.{◌∙◌, Bool, sym}
 use Rattle.update_flow.proofs.Judgements.{empty_at, fault_at, only_read, rooted_at, unused_is, used_not}
 use Rattle.update_flow.proofs.judging.is_unused_empty.Goals as goal
 

@@ -1,5 +1,5 @@
 -- A store is surveyed, and what it means is judged.
-use Rattle.std.proofs.Common.{◌≡◌, ◌∙◌, ℕ, List, Some, sym, ap, subst}
+use Rattle.std.proofs.Common.{◌≡◌, Some, sym, subst}
 use Rattle.std.specs.Result.{result_err}
 use Rattle.chain_store.specs.Chains.{kept_of}
 use Rattle.chain_store.specs.declared.kept.Kept.{Kept}

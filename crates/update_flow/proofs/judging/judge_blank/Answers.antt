@@ -1,5 +1,5 @@
 -- All texts of a store that was only made are empty, and its changes can be counted.
-use Rattle.std.proofs.Common.{◌≡◌, ◌&&◌, ◌∙◌, nat_le, ℕ, Bool, Option, sym, ap, subst, arith}
+use Rattle.std.proofs.Common.{◌≡◌, ◌&&◌, ◌∙◌, nat_le, Bool, Option, sym, ap, subst, arith}
 use Rattle.chain_store.specs.Chains.{kept_of}
 use Rattle.chain_store.specs.declared.root.Root.{Root}
 use Rattle.bucket_store.specs.Transaction.{chains_of}

@@ -1,5 +1,5 @@
 -- The text spells one set of tiles, or none.
-use Rattle.std.proofs.Common.{◌≡◌, ◌∙◌, ℕ, List, Some, Err, refl, sym, subst}
+use Rattle.std.proofs.Common.{◌∙◌, ℕ, List, Some, Err, refl, sym, subst}
 use Rattle.tile_cover.specs.Runs.{has}
 use Rattle.update_flow.specs.Within.{IsSound}
 use Rattle.update_flow.specs.declared.fault.FlowFault.{FlowFault}

@@ -1,12 +1,11 @@
 -- The style, the values, the due tiles and the other texts of an imported store are judged in this order.
-use Rattle.std.proofs.Common.{◌≡◌, Option, sym, subst}
+use Rattle.std.proofs.Common.{Option, sym, subst}
 use Rattle.chain_store.specs.Chains.{kept_of}
 use Rattle.chain_store.specs.declared.kept.Kept.{Kept}
-use Rattle.bucket_store.specs.Image.{Has, Image}
 use Rattle.bucket_store.specs.Transaction.{chains_of}
 use Rattle.style_read.specs.declared.style.Style.{Style}
 use Rattle.store_check.proofs.ReadingLaws.{unwritten_later}
-use Rattle.update_flow.specs.Judged.{IsWrongAt, JudgesImage, fault_unless}
+use Rattle.update_flow.specs.Judged.{IsWrongAt, JudgesImage}
 use Rattle.update_flow.specs.declared.fault.FlowFault.{FlowFault}
 use Rattle.update_flow.proofs.Judgements.{dueless_judged, ended_judged, refusal_judges, styleless_judged, wrong_judged}
 use Rattle.update_flow.proofs.judging.judge_import.Goals as goal

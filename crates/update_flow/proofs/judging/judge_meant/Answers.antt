@@ -1,5 +1,5 @@
 -- An imported store has buckets, and one that was only made has none.
-use Rattle.std.proofs.Common.{◌≡◌, ◌∙◌, ◌≤◌, ℕ, refl, sym, ap, subst}
+use Rattle.std.proofs.Common.{◌∙◌, ◌≤◌, ℕ, refl, sym, ap, subst}
 use Rattle.chain_store.specs.declared.root.Root.{Root}
 use Rattle.update_flow.proofs.Judgements.{with_buckets, without_buckets}
 use Rattle.update_flow.proofs.judging.judge_meant.Goals as goal

@@ -1,8 +1,8 @@
 -- The pages mean something, and each thing that they mean is judged.
-use Rattle.std.proofs.Common.{◌≡◌, ◌⊎◌, ◌∙◌, Bool, None, true, sym, ap, subst}
+use Rattle.std.proofs.Common.{◌≡◌, ◌⊎◌, ◌∙◌, Bool, None, true, ap, subst}
 use Rattle.std.specs.Result.{result_err}
 use Rattle.page_journal.specs.Journal.{is_broken}
-use Rattle.chain_store.specs.Chains.{journal_of, kept_of}
+use Rattle.chain_store.specs.Chains.{kept_of}
 use Rattle.chain_store.specs.declared.kept.Kept.{Kept}
 use Rattle.chain_store.specs.declared.root.Root.{Root}
 use Rattle.bucket_store.specs.Transaction.{chains_of}

@@ -1,5 +1,5 @@
 -- A store that means something refuses no call that reads it.
-use Rattle.std.proofs.Common.{◌≡◌, ◌∙◌, ℕ, Option, Some, Err, sym, ap, subst}
+use Rattle.std.proofs.Common.{◌≡◌, ◌∙◌, Option, Some, Err, sym, ap, subst}
 use Rattle.std.specs.Prelude.{IfSome}
 use Rattle.chain_store.specs.Chains.{kept_of, root_of}
 use Rattle.chain_store.specs.Store.{kept_first}

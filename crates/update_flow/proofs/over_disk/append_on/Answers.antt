@@ -11,6 +11,7 @@ use Rattle.update_flow.specs.State.{Append, imported}
 use Rattle.update_flow.specs.Turning.{limit_in}
 use Rattle.update_flow.proofs.ChangeReads.{touched_on}
 use Rattle.update_flow.proofs.Carrying.{IsBackOf, ends_on, ok_then, turns_on}
+use Rattle.update_flow.proofs.SoundCarried.{sound_on}
 use Rattle.update_flow.proofs.over_disk.append_on.Goals as goal
 
 pub returns-clause-turns : goal.returns-clause-turns
@@ -26,6 +27,23 @@ returns-clause-turns g c =
     (c.append-told.ensures.turns held holds.image (ap (λ b. limit_in b) c.over-maps.ensures.buckets ∙ c.on-buckets.ensures.limit)
     (subst (λ b. Has holds.image holds.image b) (sym c.over-maps.ensures.buckets) (c.on-buckets.ensures.has holds.image fits holds.holds))
     holds.means same next)
+    c.args.disk.now c.disk-1.given.0 (ap (λ b. disk_under (journal_of (chains_of b))) c.over-maps.ensures.buckets
+    ∙ c.on-buckets.ensures.disk) last
+
+-- a sound store
+pub returns-clause-sound : goal.returns-clause-sound
+returns-clause-sound g c =
+    let old = buckets_of c.over-maps.result in
+    let new = buckets_of c.append-told.new.maps in
+    let last : disk_under (journal_of (chains_of new)) ≡ c.disk-1.given.0 =
+    search (rules, c.close.ensures, c.over-maps.ensures.buckets, c.append-told.ensures.ends.same_disk) in
+    λ held fits holds same next.
+    sound_on (result_err c.append-told.result) old new c.hand_back-disk.new.kept
+    (subst (λ b. IsBackOf b c.hand_back-disk.new.kept) c.close.ensures (c.hand_back-disk.ensures.whole, c.hand_back-disk.ensures.fits))
+    c.append-told.ensures.ends c.args.limits.now held c.args.bounds.now c.args.change.now
+    (c.append-told.ensures.sound held holds.image (ap (λ b. limit_in b) c.over-maps.ensures.buckets ∙ c.on-buckets.ensures.limit)
+    (subst (λ b. Has holds.image holds.image b) (sym c.over-maps.ensures.buckets) (c.on-buckets.ensures.has holds.image fits holds.holds))
+    holds.is same next)
     c.args.disk.now c.disk-1.given.0 (ap (λ b. disk_under (journal_of (chains_of b))) c.over-maps.ensures.buckets
     ∙ c.on-buckets.ensures.disk) last
 

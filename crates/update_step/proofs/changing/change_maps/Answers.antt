@@ -15,19 +15,21 @@ use Rattle.geom_workers.specs.Keys.{keys_of}
 use Rattle.tile_cover.specs.Runs.{has}
 use Rattle.store_maps.specs.Append.{appended}
 use Rattle.store_maps.specs.Delta.{IsDelta}
-use Rattle.store_maps.specs.Maps.{Maps}
+use Rattle.store_maps.specs.Maps.{Maps, all_kept}
 use Rattle.store_maps.specs.Step.{change_on}
 use Rattle.store_maps.proofs.DeltaLaws.{delta-applied}
 use Rattle.store_maps.proofs.ObjectMaps.{entries_stand}
 use Rattle.store_maps.proofs.Standing.{appended_stands}
 use Rattle.update_step.specs.Lacking.{AreLacking}
 use Rattle.update_step.specs.Turned.{HadRows}
+use Rattle.update_step.specs.Unknown.{AreUnplaced}
 use Rattle.update_step.proofs.ByTables.{rows_in-by-table}
 use Rattle.update_step.proofs.Endings.{ends-then, if_err-then, if_ok-then, on_ok-then}
 use Rattle.update_step.proofs.EntryLists.{change_proper}
 use Rattle.update_step.proofs.PendingKeys.{keys-size, old-forms, outside-rows, pending-rows, same-size}
 use Rattle.update_step.proofs.RowsStill.{entries-keep}
 use Rattle.update_step.proofs.Touching.{may-entries, may-needs, may-rows, may-turn}
+use Rattle.update_step.proofs.Unknown.{had-rows, is-left, stands-known}
 use Rattle.update_step.proofs.Whole.{delta-is, due-is}
 use Rattle.update_step.proofs.changing.change_maps.Goals as goal
 
@@ -98,6 +100,56 @@ returns-in-Ok-clause-changes g c under maps objects held stands =
       allowed = c.rebuild.ensures.allowed under changed (rows_in style objects) read had;
     }
 
+-- nodes whose tags nobody knows keep their rows, and all else is built anew
+pub returns-in-Ok-clause-known : goal.returns-in-Ok-clause-known
+returns-in-Ok-clause-known g c under maps objects held stands =
+    let style = c.args.style.now in
+    let change = c.args.change.now in
+    let set = c.in-Ok.set in
+    let proper = change_proper change c.entries-entries.ensures.rise in
+    let after : ObjectSet = folded_all objects change in
+    let changed : Maps = change_on maps change in
+    let on = entries_stand (reaches_nodes style) change maps objects stands.on proper in
+    let first = c.in_ok-lacking.ensures.looks.holds under maps held in
+    let forms = old_are style maps objects change c.in_ok-old.old stands.on (c.in_ok-old.ensures.old under maps first) in
+    let still = c.in_ok-old.ensures.looks.holds under maps first in
+    let applied : g.S.MapStore.holds c.apply_change.new.store under (change_on maps c.args.change.now) = search (rules, still) in
+    let both = c.in-Ok.ensures.pending objects forms under changed applied on in
+    let read = c.in-Ok.ensures.holds under changed applied in
+    let had : HadRows (length style.tables) c.as_slice-lacking.result.now changed (all_kept maps) =
+    had-rows style maps objects stands change c.as_slice-lacking.result.now
+    (subst (AreLacking (rows_in style objects)) (sym c.as_slice-lacking.ensures.value)
+    (c.in_ok-lacking.ensures.lacking under maps objects held stands.on))
+    (subst (AreUnplaced maps) (sym c.as_slice-lacking.ensures.value) (c.in_ok-lacking.ensures.unplaced under maps held)) in
+    let built = pending-rows style maps objects change on set both.0 in
+    let done = c.rebuild.ensures.replaces under changed (all_kept maps) (rows_in style after) read had built in
+    record {
+      stands = on_ok-then c.rebuild.result done.holds (λ holds. (
+        appended maps change (rows_in style after) (keys_of set),
+        holds,
+        stands-known style maps objects change set stands proper both.0 both.1,
+        is-left style maps objects change set stands proper both.0 both.1,
+      ));
+      few = on_ok-then c.rebuild.result done.holds (λ _ own pending.
+          subst (λ (count : ℕ). count ≤ c.args.limits.now.pending)
+          (same-size style objects change set own both.0 pending) c.in-Ok.ensures.few);
+      allowed = c.rebuild.ensures.allowed under changed (all_kept maps) read had;
+    }
+
+pub returns-clause-known : goal.returns-clause-known
+returns-clause-known g c under maps objects held stands =
+    let style = c.args.style.now in
+    let change = c.args.change.now in
+    let on = entries_stand (reaches_nodes style) change maps objects stands.on (change_proper change c.entries-entries.ensures.rise) in
+    let still = c.in_ok-old.ensures.looks.holds under maps (c.in_ok-lacking.ensures.looks.holds under maps held) in
+    let applied : g.S.MapStore.holds c.apply_change.new.store under (change_on maps c.args.change.now) = search (rules, still) in
+    record {
+      stands = tt;
+      few = tt;
+      allowed = c.in-Err.ensures.allowed under (change_on maps change) applied
+          (ways_are_there (reaches_nodes style) (change_on maps change) (folded_all objects change) on);
+    }
+
 pub returns-in-Ok-clause-goes : goal.returns-in-Ok-clause-goes
 returns-in-Ok-clause-goes g c =
     record {
@@ -141,12 +193,12 @@ returns-clause-goes g c =
           (λ refusal bears first looked. bears first (c.apply_change.ensures.sets.looked first (c.old_relations.ensures.looks.looked first
           (c.keys_lacking.ensures.looks.looked first looked))))
           (λ unspent. unspent)
-          (λ value many under maps objects held stands.
+          (λ value many under maps objects held before.
           let style = c.args.style.now in
           let change = c.args.change.now in
           let read = c.in_ok-lacking.ensures.looks.holds under maps held in
-          let forms = old_are style maps objects change c.in_ok-old.old stands.on (c.in_ok-old.ensures.old under maps read) in
-          let on = entries_stand (reaches_nodes style) change maps objects stands.on
+          let forms = old_are style maps objects change c.in_ok-old.old before (c.in_ok-old.ensures.old under maps read) in
+          let on = entries_stand (reaches_nodes style) change maps objects before
           (change_proper change c.entries-entries.ensures.rise) in
           let still = c.in_ok-old.ensures.looks.holds under maps read in
           let applied : g.S.MapStore.holds c.apply_change.new.store under (change_on maps c.args.change.now) = search (rules, still) in

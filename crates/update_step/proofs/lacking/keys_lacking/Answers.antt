@@ -6,6 +6,7 @@ use Rattle.row_map.specs.Rows.{rows_in}
 use Rattle.store_maps.specs.Asked.{May, MayObject}
 use Rattle.update_step.specs.Lacking.{AreLacking}
 use Rattle.update_step.specs.Touch.{MayEntries}
+use Rattle.update_step.specs.Unknown.{AreUnplaced, IsUnplaced}
 use Rattle.update_step.proofs.KeyedLists.{all_at}
 use Rattle.update_step.proofs.Parts.{all-append}
 use Rattle.update_step.proofs.lacking.keys_lacking.Goals as goal
@@ -35,6 +36,15 @@ loop-entry-preserved g c =
                       w.if-lacks.true,
                   tt,
                 ));
+            unplaced = λ under maps held.
+                let pushed : c.if-lacks.keys.items ≡ c.loop-entry.keys.items ++ c.entry-item.result.key ∷ [] =
+                first_of (search rules, grind (arith, common_steps)) in
+                subst (AreUnplaced maps) (sym pushed)
+                (all-append (IsUnplaced maps) c.loop-entry.keys.items (c.entry-item.result.key ∷ [])
+                (c.loop-entry.invariant.unplaced under maps held) (
+                  c.in_ok-lacks.ensures.unplaced under maps (c.loop-entry.invariant.looks.holds under maps held) w.if-lacks.true,
+                  tt,
+                ));
             within = within;
             looks = search rules;
           }
@@ -44,6 +54,9 @@ loop-entry-preserved g c =
                 let same : c.if-lacks.keys.items ≡ c.loop-entry.keys.items = first_of (search rules, grind (arith, common_steps)) in
                 subst (AreLacking (rows_in c.args.style.now objects)) (sym same)
                 (c.loop-entry.invariant.lacking under maps objects held on);
+            unplaced = λ under maps held.
+                let same : c.if-lacks.keys.items ≡ c.loop-entry.keys.items = first_of (search rules, grind (arith, common_steps)) in
+                subst (AreUnplaced maps) (sym same) (c.loop-entry.invariant.unplaced under maps held);
             within = within;
             looks = search rules;
           }
