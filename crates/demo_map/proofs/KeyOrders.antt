@@ -76,7 +76,7 @@ rises Moved count square taken = nodes_rise (4 * square + 3) (4 * (square + 1) +
 rises Gone count square taken = nodes_rise (4 * square + 1) (4 * (square + 1) + 1) (omega arith)
 
 -- each entry is of its key's kind
-an_id : (id : ℕ) → 1 ≤ id → id ≤ 1000000 → IsId id
+pub an_id : (id : ℕ) → 1 ≤ id → id ≤ 1000000 → IsId id
 an_id id least few = record { least = least; greatest = omega (arith, few) }
 
 pub proper : (part : Part) (count square : ℕ) → square < 100000 → IsProper (entry_of part count square)

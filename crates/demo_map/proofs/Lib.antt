@@ -1,8 +1,11 @@
 mod BoundsText
+mod DemoKeys
+mod DemoLines
 mod KeyOrders
 mod Manual
 mod PartLists
 mod RouteTags
+mod ShortLines
 mod StyleText
 mod WrittenFile
 mod WrittenLine

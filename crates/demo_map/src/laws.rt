@@ -1,14 +1,12 @@
 //! What always holds of the style's text, of the most squares, and of a file that is written.
-ghost use Rattle.std.specs.Prelude.{◌≡◌, ◌≤◌, List, Ok, flat_map, length};
+ghost use Rattle.std.specs.Prelude.{◌≡◌, ◌≤◌, ℕ, List, Ok, length};
 ghost use Rattle.std.specs.List.{AllByRecursion};
-ghost use Rattle.osm_base.specs.bounds.Limits.{standard};
 ghost use Rattle.osm_base.specs.declared.values.object.Entry.{Entry};
-ghost use Rattle.opl_object.specs.Written.{entry_text};
 ghost use Rattle.object_fold.specs.Change.{IsChange};
-ghost use Rattle.object_fold.specs.Entries.{entries_of};
 ghost use Rattle.style_read.specs.Reading.{reading};
+ghost use Rattle.demo_map.specs.Demo.{demo_first, demo_input, demo_second};
 ghost use Rattle.demo_map.specs.Style.{DEMO_STYLE, demo_style};
-ghost use Rattle.demo_map.specs.Written.{FitsLine};
+ghost use Rattle.demo_map.specs.Written.{AreReadAgain, FitsLine};
 
 use crate::parts::MAX_SQUARES;
 use osm_base::MAX_ENTRIES;
@@ -26,5 +24,12 @@ pub fn shared_numbers()
 /// A file of entries that rise, as `write_entry` of `opl_object` writes them, is read as these.
 pub fn written_is_read()
     ensures law { (entries : List Entry) → AllByRecursion FitsLine entries → IsChange entries → length entries ≤ MAX_ENTRIES
-        → entries_of standard (flat_map entry_text entries) ≡ Ok entries }
+        → AreReadAgain entries }
+{}
+
+/// Files of the entries of a map and of its two changes, as `write_entry` of `opl_object` writes them, are read as these.
+pub fn demo_is_read()
+    ensures input { (count : ℕ) → count ≤ MAX_SQUARES → AreReadAgain (demo_input count) }
+    ensures first { (count : ℕ) → count ≤ MAX_SQUARES → AreReadAgain (demo_first count) }
+    ensures second { (count : ℕ) → count ≤ MAX_SQUARES → AreReadAgain (demo_second count) }
 {}

@@ -5,8 +5,8 @@
 //! the style and the boundary table that the map is imported with. `specs/Demo.antt` says which entries these
 //! are, and `specs/Style.antt` which style; each call gives just that, or memory ran out.
 //!
-//! `written_is_read` is the law that stands beside it: entries that `write_entry` of `opl_object` has written
-//! into a file are read from it as the same.
+//! `written_is_read` is a law that stands beside it: entries that `write_entry` of `opl_object` has written into
+//! a file are read from it as the same. `demo_is_read` says it of the entries that are made here.
 #![tactic(auto)]
 
 mod entries;
@@ -15,7 +15,7 @@ mod map;
 mod parts;
 mod style;
 
-pub use laws::{shared_numbers, style_is_read, written_is_read};
+pub use laws::{demo_is_read, shared_numbers, style_is_read, written_is_read};
 pub use map::{first_change_of, input_of, second_change_of};
 pub use parts::MAX_SQUARES;
 pub use style::{DemoStyle, demo_bounds, demo_style};
