@@ -28,6 +28,11 @@ pub some_weaker : {T : Type 0} (P Q : T → Type 0) → ((value : T) → P value
 some_weaker {T} P Q step None own = tt
 some_weaker {T} P Q step (Some value) own = step value own
 
+pub some_in_each : {T : Type 0} (P : Image → Type 0) (Q : Image → T → Type 0) (found : Option T)
+    → ((rest : Image) → P rest → IfSome found (Q rest)) → IfSome found (λ own. (rest : Image) → P rest → Q rest own)
+some_in_each {T} P Q None own = tt
+some_in_each {T} P Q (Some value) own = own
+
 pub wrong_found : (Is : StoreMap → ℕ → Type 0) (map : StoreMap) (found : Option ℕ) (wrong : Option Wrong) → wrong ≡ wrong_at map found
     → IsLeast (Is map) found → IsWrongIn Is map wrong
 wrong_found Is map None wrong is least = subst (IsWrongIn Is map) (sym is) (λ key. least key tt)

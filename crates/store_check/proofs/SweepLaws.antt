@@ -25,7 +25,7 @@ use Rattle.row_store.specs.Loading.{Among, Looks}
 use Rattle.row_store.proofs.LoadLaws.{all_among, bucket_split}
 use Rattle.row_store.proofs.LookLaws.{read_then}
 use Rattle.store_check.specs.Judged.{IsBefore, IsOfBoth, IsOfBucket, IsOfBuckets}
-use Rattle.store_check.specs.Sweep.{IsUnchanged}
+use Rattle.store_check.specs.Reading.{IsUnchanged}
 use Rattle.store_check.proofs.Exist.{all_found}
 use Rattle.store_check.proofs.ReadingLaws.{unwritten_later}
 

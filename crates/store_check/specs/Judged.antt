@@ -121,6 +121,11 @@ abbrev pub SeesRows : StyleOf → Image → NodeMap → ObjectMap → ObjectMap 
 SeesRows style image nodes ways relations map Part old new =
     Sees (IsRightIn style image nodes ways relations map) (IsAsked (objects_of nodes ways relations)) Part old new
 
+-- so it is whatever objects maps 0 to 2 read as of which this is held
+abbrev pub SeesHeld : StyleOf → HeldOf → Image → StoreMap → (StoreMap → ℕ → Type 0) → (old new : Option ℕ) → Type 0
+SeesHeld style own image map Part old new = (nodes : NodeMap) (ways relations : ObjectMap) → Tells own image nodes ways relations
+    → SeesRows style image nodes ways relations map Part old new
+
 -- one key of a map; those of records; those of a bucket; those of a bucket of ways and one of relations; those of a bucket of each map
 -- that goes with a map of rows; and those of all buckets below one
 abbrev pub IsOne : StoreMap → ℕ → StoreMap → ℕ → Type 0

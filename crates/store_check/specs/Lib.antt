@@ -11,6 +11,5 @@ pub mod Objects
 pub mod Places
 pub mod Reading
 pub mod Surveying
-pub mod Sweep
 pub mod Values
 pub mod Wrong

@@ -1,5 +1,5 @@
 -- What the steps of a survey find: which chains are accepted, and which pages have a mark.
-use Rattle.std.specs.Prelude.{◌≡◌, ◌⊎◌, ◌+◌, ◌<◌, ℕ, Bool, true, List, ◌∷◌, ◌++◌, length, Result, Ok, Err, OnOk}
+use Rattle.std.specs.Prelude.{◌≡◌, ◌⊎◌, ◌+◌, ◌<◌, ℕ, Bool, false, true, List, ◌∷◌, ◌++◌, length, Result, Ok, Err, OnOk}
 use Rattle.std.specs.List.{AllByRecursion}
 use Rattle.outside.specs.declared.disk.Disk.{Ghosts}
 use Rattle.page_journal.specs.declared.fault.StoreFault.{StoreFault}
@@ -11,7 +11,7 @@ use Rattle.chain_store.specs.State.{IsIn}
 use Rattle.chain_store.specs.Store.{kept_first}
 use Rattle.chain_store.specs.declared.kept.Kept.{Kept}
 use Rattle.bucket_store.specs.Calls.{IsBegun}
-use Rattle.bucket_store.specs.Transaction.{IsOpenStore, chains_of}
+use Rattle.bucket_store.specs.Transaction.{IsOpenStore, chains_of, has_refused}
 use Rattle.bucket_store.specs.declared.buckets.Buckets.{Buckets}
 use Rattle.row_store.specs.Loading.{Looks}
 use Rattle.store_check.specs.BadPage.{IsLoaded, IsOwned, IsRefusedAt}
@@ -51,6 +51,11 @@ abbrev pub ReadsAll : (ℕ → Type 0) → (ℕ → ℕ → Type 0) → List (Li
 ReadsAll Is IsNot pages kept chains old new (Ok done) = AllByRecursion Is chains × MarksChains pages kept chains old new
 ReadsAll Is IsNot pages kept chains old new (Err (BadStore at)) = IsFirstOf Is IsNot chains at
 ReadsAll Is IsNot pages kept chains old new (Err _) = Unit {0}
+
+-- the transaction is just begun, and has refused no call
+pub record IsFresh {D : Type 0} {g : Ghosts D} (buckets : Buckets D g) : Type 0 where
+  pub begun : IsBegun buckets
+  pub going : has_refused buckets ≡ false
 
 -- what a step does that reads these chains and marks their pages: it ends with a transaction just begun
 pub record Reads {D : Type 0} {g : Ghosts D} (Is : Accepts) (IsNot : Refuses) (chains : List ℕ) (old new : Buckets D g)

@@ -1,10 +1,8 @@
 //! Maps 0 to 2 are judged, a bucket at a time.
 ghost use Rattle.std.specs.Prelude.{◌≡◌, ◌⊎◌, ◌%◌, Bool, ℕ, true, IfOk, OnOk};
-ghost use Rattle.bucket_store.specs.Image.{Has, Image, IsSoundAnswer};
-ghost use Rattle.bucket_store.specs.Transaction.{IsReady};
-ghost use Rattle.row_store.specs.Loading.{Looks};
+ghost use Rattle.bucket_store.specs.Image.{Has, Image};
 ghost use Rattle.store_check.specs.Judging.{IsRightOf, Judges, Takes, map_for};
-ghost use Rattle.store_check.specs.Reading.{IsUnwritten};
+ghost use Rattle.store_check.specs.Reading.{Finds, IsUnchanged, IsUnwritten};
 ghost use Rattle.store_check.specs.Wrong.{IsLeastOf, IsWrongIn};
 
 use crate::Wrong;
@@ -26,12 +24,9 @@ pub(crate) fn judge_maps<D: Disk>(
     asked: bool,
     held: &mut Held,
 ) -> Result<Option<Wrong>, StoreFault>
-    requires ready { IsReady buckets.old }
-    requires unwritten { IsUnwritten buckets.old }
-    ensures judges { IfOk result (λ found. (rest : Image) → Has rest rest buckets.old → Judges asked rest held.old held.new found) }
-    ensures has { OnOk result ((rest : Image) → Has rest rest buckets.old → Has rest rest buckets.new) }
-    ensures sound { (rest : Image) → Has rest rest buckets.old → IsSoundAnswer result }
-    ensures looks { Looks buckets.old buckets.new result }
+    requires unchanged { IsUnchanged buckets.old }
+    ensures judges { Finds buckets.old buckets.new result (λ rest found.
+        Judges asked rest held.old held.new found) }
 {
     match judge_map(alloc, buckets, asked, Kind::Node, held) {
         Ok(None) => (),
@@ -57,15 +52,11 @@ fn judge_map<D: Disk>(
     kind: Kind,
     held: &mut Held,
 ) -> Result<Option<Wrong>, StoreFault>
-    requires ready { IsReady buckets.old }
-    requires unwritten { IsUnwritten buckets.old }
+    requires unchanged { IsUnchanged buckets.old }
     ensures takes { OnOk result ((rest : Image) → Has rest rest buckets.old → Takes asked rest kind (λ key. Unit {0}) held.old held.new) }
-    ensures least { IfOk result (λ found. (rest : Image) → Has rest rest buckets.old
-        → IsWrongIn (λ map key. IsRightOf asked rest kind key) (map_for kind) found) }
+    ensures least { Finds buckets.old buckets.new result (λ rest found.
+        IsWrongIn (λ map key. IsRightOf asked rest kind key) (map_for kind) found) }
     ensures unwritten { IsUnwritten buckets.new }
-    ensures has { OnOk result ((rest : Image) → Has rest rest buckets.old → Has rest rest buckets.new) }
-    ensures sound { (rest : Image) → Has rest rest buckets.old → IsSoundAnswer result }
-    ensures looks { Looks buckets.old buckets.new result }
 {
     let mut least = Least::new();
     let count = buckets.root().buckets;
@@ -95,16 +86,12 @@ fn judge_bucket<D: Disk>(
     held: &mut Held,
     least: &mut Least,
 ) -> Result<(), StoreFault>
-    requires ready { IsReady buckets.old }
-    requires unwritten { IsUnwritten buckets.old }
+    requires unchanged { IsUnchanged buckets.old }
     ensures takes { OnOk result ((rest : Image) → Has rest rest buckets.old
         → Takes asked rest kind (λ key. key % rest.root.buckets ≡ bucket % rest.root.buckets) held.old held.new) }
-    ensures least { OnOk result ((rest : Image) → Has rest rest buckets.old → (was_seen : ℕ → Bool)
+    ensures least { Finds buckets.old buckets.new result (λ rest done. (was_seen : ℕ → Bool)
         → IsLeastOf (λ key. was_seen key ≡ true) (IsRightOf asked rest kind) least.old
         → IsLeastOf (λ key. (was_seen key ≡ true) ⊎ (key % rest.root.buckets ≡ bucket % rest.root.buckets)) (IsRightOf asked rest kind) least.new) }
-    ensures has { OnOk result ((rest : Image) → Has rest rest buckets.old → Has rest rest buckets.new) }
-    ensures sound { (rest : Image) → Has rest rest buckets.old → IsSoundAnswer result }
-    ensures looks { Looks buckets.old buckets.new result }
 {
     let records = match read_bucket(buckets, map_for(kind), bucket) {
         Ok(records) => records,

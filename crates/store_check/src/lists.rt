@@ -6,13 +6,12 @@ ghost use Rattle.std.specs.FinMap as finite;
 ghost use Rattle.std.specs.List.Sorted.{IsNonDecreasingBy};
 ghost use Rattle.style_read.specs.Style.{StyleOf};
 ghost use Rattle.value_bytes.specs.StoreMap.{number_of};
-ghost use Rattle.bucket_store.specs.Image.{Has, Image, IsSoundAnswer};
 ghost use Rattle.bucket_store.specs.Transaction.{IsReady};
-ghost use Rattle.row_store.specs.Loading.{Looks};
 ghost use Rattle.back_index.specs.Filling.{IsKeptAt, id_of, mentions_tell};
 ghost use Rattle.store_check.specs.Held.{IsHeldOf};
 ghost use Rattle.store_check.specs.Least.{lesser_of};
 ghost use Rattle.store_check.specs.Lists.{IsLacking};
+ghost use Rattle.store_check.specs.Reading.{Finds};
 ghost use Rattle.store_check.specs.Values.{NodeMap, ObjectMap, ReadsObjects};
 ghost use Rattle.store_check.specs.Wrong.{IsLeast, IsLeastOf, IsRightIn};
 
@@ -36,12 +35,9 @@ pub fn first_wrong_list<D: Disk>(
 ) -> Result<Option<u64>, StoreFault>
     requires ready { IsReady buckets.old }
     requires lists { (3 ≤ number_of map) × (number_of map ≤ 5) }
-    ensures least { IfOk result (λ found. (rest : Image) → Has rest rest buckets.old
-        → (style : StyleOf) (nodes : NodeMap) (ways relations : ObjectMap) → ReadsObjects rest nodes ways relations
+    ensures least { Finds buckets.old buckets.new result (λ rest found.
+        (style : StyleOf) (nodes : NodeMap) (ways relations : ObjectMap) → ReadsObjects rest nodes ways relations
         → IsHeldOf nodes ways relations held.now → IsLeast (IsRightIn style rest nodes ways relations map) found) }
-    ensures has { OnOk result ((rest : Image) → Has rest rest buckets.old → Has rest rest buckets.new) }
-    ensures sound { (rest : Image) → Has rest rest buckets.old → IsSoundAnswer result }
-    ensures looks { Looks buckets.old buckets.new result }
 {
     match told_by_held(alloc, map, held) {
         Ok(mentions) => wrong_list(alloc, buckets, map, mentions.as_slice()),
@@ -58,11 +54,8 @@ fn wrong_list<D: Disk>(
 ) -> Result<Option<u64>, StoreFault>
     requires ready { IsReady buckets.old }
     requires order { IsNonDecreasingBy id_of mentions.now }
-    ensures least { IfOk result (λ found. (rest : Image) → Has rest rest buckets.old
-        → IsLeast (IsKeptAt (mentions_tell mentions.now) (rest.maps (number_of map))) found) }
-    ensures has { OnOk result ((rest : Image) → Has rest rest buckets.old → Has rest rest buckets.new) }
-    ensures sound { (rest : Image) → Has rest rest buckets.old → IsSoundAnswer result }
-    ensures looks { Looks buckets.old buckets.new result }
+    ensures least { Finds buckets.old buckets.new result (λ rest found.
+        IsLeast (IsKeptAt (mentions_tell mentions.now) (rest.maps (number_of map))) found) }
 {
     let kept = match wrong_kept(alloc, buckets, map, mentions) {
         Ok(kept) => kept,
@@ -83,11 +76,9 @@ fn wrong_kept<D: Disk>(
 ) -> Result<Option<u64>, StoreFault>
     requires ready { IsReady buckets.old }
     requires order { IsNonDecreasingBy id_of mentions.now }
-    ensures least { IfOk result (λ found. (rest : Image) → Has rest rest buckets.old
-        → IsLeastOf (λ n. IsSome (finite.get (rest.maps (number_of map)) n)) (IsKeptAt (mentions_tell mentions.now) (rest.maps (number_of map))) found) }
-    ensures has { OnOk result ((rest : Image) → Has rest rest buckets.old → Has rest rest buckets.new) }
-    ensures sound { (rest : Image) → Has rest rest buckets.old → IsSoundAnswer result }
-    ensures looks { Looks buckets.old buckets.new result }
+    ensures least { Finds buckets.old buckets.new result (λ rest found.
+        IsLeastOf (λ n. IsSome (finite.get (rest.maps (number_of map)) n))
+        (IsKeptAt (mentions_tell mentions.now) (rest.maps (number_of map))) found) }
 {
     let count = buckets.root().buckets;
     let mut found = None;
@@ -112,12 +103,9 @@ fn wrong_in_bucket<D: Disk>(
 ) -> Result<Option<u64>, StoreFault>
     requires ready { IsReady buckets.old }
     requires order { IsNonDecreasingBy id_of mentions.now }
-    ensures least { IfOk result (λ found. (rest : Image) → Has rest rest buckets.old
-        → IsLeastOf (λ n. IsSome (finite.get (rest.maps (number_of map)) n) × (n % rest.root.buckets ≡ bucket % rest.root.buckets))
+    ensures least { Finds buckets.old buckets.new result (λ rest found.
+        IsLeastOf (λ n. IsSome (finite.get (rest.maps (number_of map)) n) × (n % rest.root.buckets ≡ bucket % rest.root.buckets))
         (IsKeptAt (mentions_tell mentions.now) (rest.maps (number_of map))) found) }
-    ensures has { OnOk result ((rest : Image) → Has rest rest buckets.old → Has rest rest buckets.new) }
-    ensures sound { (rest : Image) → Has rest rest buckets.old → IsSoundAnswer result }
-    ensures looks { Looks buckets.old buckets.new result }
 {
     let records = match buckets.records(map, bucket) {
         Ok(records) => records,
@@ -136,11 +124,8 @@ fn lacking<D: Disk>(
     mentions: &[Mention],
 ) -> Result<Option<u64>, StoreFault>
     requires ready { IsReady buckets.old }
-    ensures least { IfOk result (λ found. (rest : Image) → Has rest rest buckets.old
-        → IsLeast (λ id. ¬ IsLacking (mentions_tell mentions.now) (rest.maps (number_of map)) id) found) }
-    ensures has { OnOk result ((rest : Image) → Has rest rest buckets.old → Has rest rest buckets.new) }
-    ensures sound { (rest : Image) → Has rest rest buckets.old → IsSoundAnswer result }
-    ensures looks { Looks buckets.old buckets.new result }
+    ensures least { Finds buckets.old buckets.new result (λ rest found.
+        IsLeast (λ id. ¬ IsLacking (mentions_tell mentions.now) (rest.maps (number_of map)) id) found) }
 {
     let mut least = Least::new();
     for mention in mentions {
@@ -159,10 +144,8 @@ fn is_kept<D: Disk>(
     id: u64,
 ) -> Result<bool, StoreFault>
     requires ready { IsReady buckets.old }
-    ensures kept { IfOk result (λ kept. (rest : Image) → Has rest rest buckets.old → kept ≡ is_some (finite.get (rest.maps (number_of map)) id)) }
-    ensures has { OnOk result ((rest : Image) → Has rest rest buckets.old → Has rest rest buckets.new) }
-    ensures sound { (rest : Image) → Has rest rest buckets.old → IsSoundAnswer result }
-    ensures looks { Looks buckets.old buckets.new result }
+    ensures kept { Finds buckets.old buckets.new result (λ rest kept.
+        kept ≡ is_some (finite.get (rest.maps (number_of map)) id)) }
 {
     if let Err(fault) = buckets.bring(map, id) {
         return Err(fault);

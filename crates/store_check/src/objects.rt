@@ -1,10 +1,6 @@
 //! The objects of a store are read, and each value of maps 0 to 2 is judged.
-ghost use Rattle.std.specs.Prelude.{IfOk, OnOk};
-ghost use Rattle.bucket_store.specs.Image.{Has, Image, IsSoundAnswer};
-ghost use Rattle.bucket_store.specs.Transaction.{IsReady};
-ghost use Rattle.row_store.specs.Loading.{Looks};
 ghost use Rattle.store_check.specs.Objects.{FindsObjects};
-ghost use Rattle.store_check.specs.Reading.{IsUnwritten};
+ghost use Rattle.store_check.specs.Reading.{Finds, IsUnchanged};
 
 use crate::Wrong;
 use crate::held::Held;
@@ -31,12 +27,9 @@ pub fn read_objects<D: Disk>(
     buckets: &mut Buckets<'_, D>,
     style: &Style,
 ) -> Result<Found, StoreFault>
-    requires ready { IsReady buckets.old }
-    requires unwritten { IsUnwritten buckets.old }
-    ensures found { IfOk result (λ found. (rest : Image) → Has rest rest buckets.old → FindsObjects style.now rest found) }
-    ensures has { OnOk result ((rest : Image) → Has rest rest buckets.old → Has rest rest buckets.new) }
-    ensures sound { (rest : Image) → Has rest rest buckets.old → IsSoundAnswer result }
-    ensures looks { Looks buckets.old buckets.new result }
+    requires unchanged { IsUnchanged buckets.old }
+    ensures found { Finds buckets.old buckets.new result (λ rest found.
+        FindsObjects style.now rest found) }
 {
     let mut held = Held::new(alloc, buckets.root().buckets);
     match judge_maps(alloc, buckets, reaches_nodes(style), &mut held) {

@@ -1,11 +1,10 @@
 //! A store is read a bucket at a time.
 ghost use Rattle.std.specs.Prelude.{◌≡◌, ◌%◌, IfOk, OnOk};
 ghost use Rattle.std.specs.FinMap as finite;
-ghost use Rattle.bucket_store.specs.Image.{Has, Image, IsBucketOf, IsSoundAnswer};
-ghost use Rattle.bucket_store.specs.Transaction.{IsReady, cached_of};
-ghost use Rattle.row_store.specs.Loading.{Looks};
+ghost use Rattle.bucket_store.specs.Image.{IsBucketOf};
+ghost use Rattle.bucket_store.specs.Transaction.{cached_of};
 ghost use Rattle.value_bytes.specs.StoreMap.{number_of};
-ghost use Rattle.store_check.specs.Reading.{IsUnwritten};
+ghost use Rattle.store_check.specs.Reading.{Finds, IsUnchanged};
 
 use bucket_store::Buckets;
 use osm_base::Bytes;
@@ -19,14 +18,10 @@ pub(crate) fn read_bucket<D: Disk>(
     map: StoreMap,
     bucket: u64,
 ) -> Result<Vec<(u64, Bytes)>, StoreFault>
-    requires ready { IsReady buckets.old }
-    requires unwritten { IsUnwritten buckets.old }
-    ensures found { IfOk result (λ records. (rest : Image) → Has rest rest buckets.old
-        → IsBucketOf rest (number_of map) (bucket % rest.root.buckets) records.items) }
+    requires unchanged { IsUnchanged buckets.old }
+    ensures found { Finds buckets.old buckets.new result (λ rest records.
+        IsBucketOf rest (number_of map) (bucket % rest.root.buckets) records.items) }
     ensures none { OnOk result (cached_of buckets.new ≡ finite.empty) }
-    ensures has { OnOk result ((rest : Image) → Has rest rest buckets.old → Has rest rest buckets.new) }
-    ensures sound { (rest : Image) → Has rest rest buckets.old → IsSoundAnswer result }
-    ensures looks { Looks buckets.old buckets.new result }
 {
     let records = match buckets.records(map, bucket) {
         Ok(records) => records,

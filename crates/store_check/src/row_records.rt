@@ -5,12 +5,12 @@ ghost use Rattle.std.specs.List.{AllByRecursion};
 ghost use Rattle.style_read.specs.Style.{StyleOf};
 ghost use Rattle.value_bytes.specs.StoreMap.{number_of};
 ghost use Rattle.value_bytes.specs.declared.store_map.StoreMap.TheVariants as stored;
-ghost use Rattle.bucket_store.specs.Image.{Has, Image, IsSoundAnswer};
+ghost use Rattle.bucket_store.specs.Image.{Has, Image};
 ghost use Rattle.bucket_store.specs.Transaction.{IsReady};
-ghost use Rattle.row_store.specs.Loading.{Looks};
 ghost use Rattle.store_maps.specs.Asked.{object_map, row_key, row_map};
 ghost use Rattle.store_check.specs.Held.{HeldOf};
 ghost use Rattle.store_check.specs.Judged.{GoesWith, IsAmong, IsAsked, IsFound, IsOne, SeesRows, is_node_rows, kind_kept, Tells, other_at, row_number, rows_map};
+ghost use Rattle.store_check.specs.Reading.{Finds};
 ghost use Rattle.store_check.specs.Values.{NodeMap, ObjectMap, objects_of};
 ghost use Rattle.store_check.specs.Wrong.{IsRightIn};
 
@@ -37,13 +37,11 @@ pub(crate) fn judge_records<D: Disk>(
 ) -> Result<(), StoreFault>
     requires ready { IsReady buckets.old }
     requires goes { GoesWith (rows_map source) source }
-    ensures sees { OnOk result ((rest : Image) → Has rest rest buckets.old → (nodes : NodeMap) (ways relations : ObjectMap)
+    ensures sees { Finds buckets.old buckets.new result (λ rest done.
+        (nodes : NodeMap) (ways relations : ObjectMap)
         → Tells held.now rest nodes ways relations
         → AllByRecursion (λ one. finite.get (rest.maps (number_of source)) one.0 ≡ Some one.1) records.now
         → SeesRows style.now rest nodes ways relations (rows_map source) (IsAmong source records.now) wrong.old wrong.new) }
-    ensures has { OnOk result ((rest : Image) → Has rest rest buckets.old → Has rest rest buckets.new) }
-    ensures sound { (rest : Image) → Has rest rest buckets.old → IsSoundAnswer result }
-    ensures looks { Looks buckets.old buckets.new result }
 {
     for (number, bytes) in records {
         if let Err(fault) = judge_record(
@@ -75,12 +73,10 @@ fn judge_record<D: Disk>(
 ) -> Result<(), StoreFault>
     requires ready { IsReady buckets.old }
     requires goes { GoesWith (rows_map source) source }
-    ensures sees { OnOk result ((rest : Image) → Has rest rest buckets.old → (nodes : NodeMap) (ways relations : ObjectMap)
+    ensures sees { Finds buckets.old buckets.new result (λ rest done.
+        (nodes : NodeMap) (ways relations : ObjectMap)
         → Tells held.now rest nodes ways relations → finite.get (rest.maps (number_of source)) number ≡ Some bytes.now
         → SeesRows style.now rest nodes ways relations (rows_map source) (IsOne source number) wrong.old wrong.new) }
-    ensures has { OnOk result ((rest : Image) → Has rest rest buckets.old → Has rest rest buckets.new) }
-    ensures sound { (rest : Image) → Has rest rest buckets.old → IsSoundAnswer result }
-    ensures looks { Looks buckets.old buckets.new result }
 {
     match wrong_key(alloc, buckets, style, held, source, number, bytes) {
         Ok(Some(key)) => {
@@ -104,13 +100,11 @@ fn wrong_key<D: Disk>(
 ) -> Result<Option<u64>, StoreFault>
     requires ready { IsReady buckets.old }
     requires goes { GoesWith (rows_map source) source }
-    ensures found { IfOk result (λ found. (rest : Image) → Has rest rest buckets.old → (nodes : NodeMap) (ways relations : ObjectMap)
+    ensures found { Finds buckets.old buckets.new result (λ rest found.
+        (nodes : NodeMap) (ways relations : ObjectMap)
         → Tells held.now rest nodes ways relations → finite.get (rest.maps (number_of source)) number ≡ Some bytes.now
         → IsFound (IsRightIn style.now rest nodes ways relations (rows_map source)) (IsAsked (objects_of nodes ways relations) source number)
         (row_number source number) found) }
-    ensures has { OnOk result ((rest : Image) → Has rest rest buckets.old → Has rest rest buckets.new) }
-    ensures sound { (rest : Image) → Has rest rest buckets.old → IsSoundAnswer result }
-    ensures looks { Looks buckets.old buckets.new result }
 {
     match kind_of(source) {
         Some(kind) => match wrong_of_object(alloc, buckets, style, held, kind, number, bytes) {
@@ -135,12 +129,10 @@ fn wrong_of_object<D: Disk>(
     bytes: &[u8],
 ) -> Result<Option<u64>, StoreFault>
     requires ready { IsReady buckets.old }
-    ensures found { IfOk result (λ found. (rest : Image) → Has rest rest buckets.old → (nodes : NodeMap) (ways relations : ObjectMap)
+    ensures found { Finds buckets.old buckets.new result (λ rest found.
+        (nodes : NodeMap) (ways relations : ObjectMap)
         → Tells held.now rest nodes ways relations → finite.get (rest.maps (number_of (object_map kind))) id ≡ Some bytes.now
         → IsFound (IsRightIn style.now rest nodes ways relations (row_map kind)) (Unit {0}) (row_key kind id) found) }
-    ensures has { OnOk result ((rest : Image) → Has rest rest buckets.old → Has rest rest buckets.new) }
-    ensures sound { (rest : Image) → Has rest rest buckets.old → IsSoundAnswer result }
-    ensures looks { Looks buckets.old buckets.new result }
 {
     if id < 1 {
         return Ok(None);
@@ -164,12 +156,10 @@ fn wrong_of_key<D: Disk>(
     bytes: &[u8],
 ) -> Result<Option<u64>, StoreFault>
     requires ready { IsReady buckets.old }
-    ensures found { IfOk result (λ found. (rest : Image) → Has rest rest buckets.old → (nodes : NodeMap) (ways relations : ObjectMap)
+    ensures found { Finds buckets.old buckets.new result (λ rest found.
+        (nodes : NodeMap) (ways relations : ObjectMap)
         → Tells held.now rest nodes ways relations → finite.get (rest.maps (number_of (object_map key.kind))) key.id ≡ Some bytes.now
         → IsFound (IsRightIn style.now rest nodes ways relations (row_map key.kind)) (Unit {0}) (row_key key.kind key.id) found) }
-    ensures has { OnOk result ((rest : Image) → Has rest rest buckets.old → Has rest rest buckets.new) }
-    ensures sound { (rest : Image) → Has rest rest buckets.old → IsSoundAnswer result }
-    ensures looks { Looks buckets.old buckets.new result }
 {
     let number = row_key(key);
     let kept = match buckets.get(row_map(key.kind), number) {
@@ -220,14 +210,12 @@ fn wrong_of_rows<D: Disk>(
         → finite.get (rest.maps (number_of stored.NodeRows)) number ≡ Some bytes
         → IsFound (IsRightIn style rest nodes ways relations stored.NodeRows) (IsAsked (objects_of nodes ways relations) stored.NodeRows number)
         number found) }
-    ensures others { is_node_rows map ≡ false → IfOk result (λ found. (rest : Image) → Has rest rest buckets.old → (style : StyleOf)
+    ensures others { Finds buckets.old buckets.new result (λ rest found.
+        is_node_rows map ≡ false → (style : StyleOf)
         (nodes : NodeMap) (ways relations : ObjectMap) → Tells held.now rest nodes ways relations → (bytes : List ℕ)
         → finite.get (rest.maps (number_of stored.OtherRows)) number ≡ Some bytes
         → IsFound (IsRightIn style rest nodes ways relations stored.OtherRows) (IsAsked (objects_of nodes ways relations) stored.OtherRows number)
         number found) }
-    ensures has { OnOk result ((rest : Image) → Has rest rest buckets.old → Has rest rest buckets.new) }
-    ensures sound { (rest : Image) → Has rest rest buckets.old → IsSoundAnswer result }
-    ensures looks { Looks buckets.old buckets.new result }
 {
     if !is_node_rows(map) {
         return Ok(wrong_of_none(held, number));
@@ -244,13 +232,11 @@ fn wrong_of_no_node<D: Disk>(
     id: u64,
 ) -> Result<Option<u64>, StoreFault>
     requires ready { IsReady buckets.old }
-    ensures found { IfOk result (λ found. (rest : Image) → Has rest rest buckets.old → (style : StyleOf) (own : HeldOf) (nodes : NodeMap)
+    ensures found { Finds buckets.old buckets.new result (λ rest found.
+        (style : StyleOf) (own : HeldOf) (nodes : NodeMap)
         (ways relations : ObjectMap) → Tells own rest nodes ways relations → (bytes : List ℕ)
         → finite.get (rest.maps (number_of stored.NodeRows)) id ≡ Some bytes
         → IsFound (IsRightIn style rest nodes ways relations stored.NodeRows) (IsAsked (objects_of nodes ways relations) stored.NodeRows id) id found) }
-    ensures has { OnOk result ((rest : Image) → Has rest rest buckets.old → Has rest rest buckets.new) }
-    ensures sound { (rest : Image) → Has rest rest buckets.old → IsSoundAnswer result }
-    ensures looks { Looks buckets.old buckets.new result }
 {
     match buckets.get(StoreMap::Nodes, id) {
         Ok(Some(_)) => Ok(None),

@@ -1,15 +1,12 @@
 //! The rows of a store, maps 6 and 7, are compared with those of an import of its objects.
-ghost use Rattle.std.specs.Prelude.{◌≡◌, ◌≤◌, IfOk, OnOk};
+ghost use Rattle.std.specs.Prelude.{◌≤◌};
 ghost use Rattle.object_fold.specs.Listings.{HasIds};
 ghost use Rattle.value_bytes.specs.StoreMap.{number_of};
 ghost use Rattle.value_bytes.specs.declared.store_map.StoreMap.TheVariants as stored;
-ghost use Rattle.bucket_store.specs.Image.{Has, Image, IsSoundAnswer};
 ghost use Rattle.bucket_store.specs.Transaction.{IsReady};
-ghost use Rattle.row_store.specs.Loading.{Looks};
 ghost use Rattle.store_check.specs.Held.{IsHeldOf};
-ghost use Rattle.store_check.specs.Judged.{GoesWith, IsOfBoth, IsOfBucket, IsOfBuckets, SeesRows, Tells, rows_map};
-ghost use Rattle.store_check.specs.Reading.{IsUnwritten};
-ghost use Rattle.store_check.specs.Sweep.{IsUnchanged};
+ghost use Rattle.store_check.specs.Judged.{GoesWith, IsOfBoth, IsOfBucket, IsOfBuckets, SeesHeld, rows_map};
+ghost use Rattle.store_check.specs.Reading.{Finds, IsUnchanged};
 ghost use Rattle.store_check.specs.Values.{NodeMap, ObjectMap, ReadsObjects, objects_of};
 ghost use Rattle.store_check.specs.Wrong.{IsLeast, IsRightIn};
 
@@ -32,15 +29,11 @@ pub fn first_wrong_rows<D: Disk>(
     map: StoreMap,
     held: &Held,
 ) -> Result<Option<u64>, StoreFault>
-    requires ready { IsReady buckets.old }
-    requires unwritten { IsUnwritten buckets.old }
+    requires unchanged { IsUnchanged buckets.old }
     requires rows { 6 ≤ number_of map }
-    ensures least { IfOk result (λ found. (rest : Image) → Has rest rest buckets.old
-        → (nodes : NodeMap) (ways relations : ObjectMap) → ReadsObjects rest nodes ways relations → HasIds (objects_of nodes ways relations)
+    ensures least { Finds buckets.old buckets.new result (λ rest found.
+        (nodes : NodeMap) (ways relations : ObjectMap) → ReadsObjects rest nodes ways relations → HasIds (objects_of nodes ways relations)
         → IsHeldOf nodes ways relations held.now → IsLeast (IsRightIn style.now rest nodes ways relations map) found) }
-    ensures has { OnOk result ((rest : Image) → Has rest rest buckets.old → Has rest rest buckets.new) }
-    ensures sound { (rest : Image) → Has rest rest buckets.old → IsSoundAnswer result }
-    ensures looks { Looks buckets.old buckets.new result }
 {
     let count = buckets.root().buckets;
     let mut wrong = Least::new();
@@ -66,12 +59,8 @@ fn judge_buckets<D: Disk>(
 ) -> Result<(), StoreFault>
     requires unchanged { IsUnchanged buckets.old }
     requires rows { 6 ≤ number_of map }
-    ensures sees { OnOk result ((rest : Image) → Has rest rest buckets.old → (nodes : NodeMap) (ways relations : ObjectMap)
-        → Tells held.now rest nodes ways relations
-        → SeesRows style.now rest nodes ways relations map (IsOfBuckets map rest bucket) wrong.old wrong.new) }
-    ensures has { OnOk result ((rest : Image) → Has rest rest buckets.old → Has rest rest buckets.new) }
-    ensures sound { (rest : Image) → Has rest rest buckets.old → IsSoundAnswer result }
-    ensures looks { Looks buckets.old buckets.new result }
+    ensures sees { Finds buckets.old buckets.new result (λ rest done.
+        SeesHeld style.now held.now rest map (IsOfBuckets map rest bucket) wrong.old wrong.new) }
 {
     match map {
         StoreMap::NodeRows => judge_nodes(alloc, buckets, style, held, bucket, wrong),
@@ -89,12 +78,8 @@ fn judge_nodes<D: Disk>(
     wrong: &mut Least,
 ) -> Result<(), StoreFault>
     requires unchanged { IsUnchanged buckets.old }
-    ensures sees { OnOk result ((rest : Image) → Has rest rest buckets.old → (nodes : NodeMap) (ways relations : ObjectMap)
-        → Tells held.now rest nodes ways relations
-        → SeesRows style.now rest nodes ways relations stored.NodeRows (IsOfBuckets stored.NodeRows rest bucket) wrong.old wrong.new) }
-    ensures has { OnOk result ((rest : Image) → Has rest rest buckets.old → Has rest rest buckets.new) }
-    ensures sound { (rest : Image) → Has rest rest buckets.old → IsSoundAnswer result }
-    ensures looks { Looks buckets.old buckets.new result }
+    ensures sees { Finds buckets.old buckets.new result (λ rest done.
+        SeesHeld style.now held.now rest stored.NodeRows (IsOfBuckets stored.NodeRows rest bucket) wrong.old wrong.new) }
 {
     if let Err(fault) = judge_bucket(alloc, buckets, style, held, StoreMap::Nodes, bucket, wrong) {
         return Err(fault);
@@ -123,12 +108,8 @@ fn judge_others<D: Disk>(
     wrong: &mut Least,
 ) -> Result<(), StoreFault>
     requires unchanged { IsUnchanged buckets.old }
-    ensures sees { OnOk result ((rest : Image) → Has rest rest buckets.old → (nodes : NodeMap) (ways relations : ObjectMap)
-        → Tells held.now rest nodes ways relations
-        → SeesRows style.now rest nodes ways relations stored.OtherRows (IsOfBuckets stored.OtherRows rest bucket) wrong.old wrong.new) }
-    ensures has { OnOk result ((rest : Image) → Has rest rest buckets.old → Has rest rest buckets.new) }
-    ensures sound { (rest : Image) → Has rest rest buckets.old → IsSoundAnswer result }
-    ensures looks { Looks buckets.old buckets.new result }
+    ensures sees { Finds buckets.old buckets.new result (λ rest done.
+        SeesHeld style.now held.now rest stored.OtherRows (IsOfBuckets stored.OtherRows rest bucket) wrong.old wrong.new) }
 {
     if let Err(fault) = judge_objects(alloc, buckets, style, held, bucket, wrong) {
         return Err(fault);
@@ -157,12 +138,8 @@ fn judge_objects<D: Disk>(
     wrong: &mut Least,
 ) -> Result<(), StoreFault>
     requires unchanged { IsUnchanged buckets.old }
-    ensures sees { OnOk result ((rest : Image) → Has rest rest buckets.old → (nodes : NodeMap) (ways relations : ObjectMap)
-        → Tells held.now rest nodes ways relations
-        → SeesRows style.now rest nodes ways relations stored.OtherRows (IsOfBoth rest bucket) wrong.old wrong.new) }
-    ensures has { OnOk result ((rest : Image) → Has rest rest buckets.old → Has rest rest buckets.new) }
-    ensures sound { (rest : Image) → Has rest rest buckets.old → IsSoundAnswer result }
-    ensures looks { Looks buckets.old buckets.new result }
+    ensures sees { Finds buckets.old buckets.new result (λ rest done.
+        SeesHeld style.now held.now rest stored.OtherRows (IsOfBoth rest bucket) wrong.old wrong.new) }
 {
     if let Err(fault) = judge_apart(alloc, buckets, style, held, StoreMap::Ways, bucket, wrong) {
         return Err(fault);
@@ -193,12 +170,8 @@ fn judge_apart<D: Disk>(
 ) -> Result<(), StoreFault>
     requires unchanged { IsUnchanged buckets.old }
     requires goes { GoesWith (rows_map source) source }
-    ensures sees { OnOk result ((rest : Image) → Has rest rest buckets.old → (nodes : NodeMap) (ways relations : ObjectMap)
-        → Tells held.now rest nodes ways relations
-        → SeesRows style.now rest nodes ways relations (rows_map source) (IsOfBucket source rest bucket) wrong.old wrong.new) }
-    ensures has { OnOk result ((rest : Image) → Has rest rest buckets.old → Has rest rest buckets.new) }
-    ensures sound { (rest : Image) → Has rest rest buckets.old → IsSoundAnswer result }
-    ensures looks { Looks buckets.old buckets.new result }
+    ensures sees { Finds buckets.old buckets.new result (λ rest done.
+        SeesHeld style.now held.now rest (rows_map source) (IsOfBucket source rest bucket) wrong.old wrong.new) }
 {
     match judge_bucket(alloc, buckets, style, held, source, bucket, wrong) {
         Ok(()) => {
@@ -221,12 +194,8 @@ fn judge_bucket<D: Disk>(
 ) -> Result<(), StoreFault>
     requires ready { IsReady buckets.old }
     requires goes { GoesWith (rows_map source) source }
-    ensures sees { OnOk result ((rest : Image) → Has rest rest buckets.old → (nodes : NodeMap) (ways relations : ObjectMap)
-        → Tells held.now rest nodes ways relations
-        → SeesRows style.now rest nodes ways relations (rows_map source) (IsOfBucket source rest bucket) wrong.old wrong.new) }
-    ensures has { OnOk result ((rest : Image) → Has rest rest buckets.old → Has rest rest buckets.new) }
-    ensures sound { (rest : Image) → Has rest rest buckets.old → IsSoundAnswer result }
-    ensures looks { Looks buckets.old buckets.new result }
+    ensures sees { Finds buckets.old buckets.new result (λ rest done.
+        SeesHeld style.now held.now rest (rows_map source) (IsOfBucket source rest bucket) wrong.old wrong.new) }
 {
     let records = match buckets.records(source, bucket) {
         Ok(records) => records,

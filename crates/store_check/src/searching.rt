@@ -7,7 +7,7 @@ ghost use Rattle.row_store.specs.Loading.{Looks};
 ghost use Rattle.value_bytes.specs.StoreMap.{number_of};
 ghost use Rattle.store_check.specs.Held.{IsHeldOf};
 ghost use Rattle.store_check.specs.Objects.{HoldsObjects};
-ghost use Rattle.store_check.specs.Reading.{IsUnwritten};
+ghost use Rattle.store_check.specs.Reading.{Finds, IsUnchanged, IsUnwritten};
 ghost use Rattle.store_check.specs.Values.{NodeMap, ObjectMap, ReadsObjects, objects_of};
 ghost use Rattle.store_check.specs.Wrong.{AllRight, IsFirstWrong, IsRightIn, IsWrongIn, wrong_at};
 
@@ -41,15 +41,11 @@ fn wrong_in<D: Disk>(
     map: StoreMap,
     held: &Held,
 ) -> Result<Option<Wrong>, StoreFault>
-    requires ready { IsReady buckets.old }
-    requires unwritten { IsUnwritten buckets.old }
+    requires unchanged { IsUnchanged buckets.old }
     requires behind { 3 ≤ number_of map }
-    ensures least { IfOk result (λ found. (rest : Image) → Has rest rest buckets.old
-        → (nodes : NodeMap) (ways relations : ObjectMap) → ReadsObjects rest nodes ways relations → HasIds (objects_of nodes ways relations)
+    ensures least { Finds buckets.old buckets.new result (λ rest found.
+        (nodes : NodeMap) (ways relations : ObjectMap) → ReadsObjects rest nodes ways relations → HasIds (objects_of nodes ways relations)
         → IsHeldOf nodes ways relations held.now → IsWrongIn (IsRightIn style.now rest nodes ways relations) map found) }
-    ensures has { OnOk result ((rest : Image) → Has rest rest buckets.old → Has rest rest buckets.new) }
-    ensures sound { (rest : Image) → Has rest rest buckets.old → IsSoundAnswer result }
-    ensures looks { Looks buckets.old buckets.new result }
 {
     let least = if map.number() < 6 {
         first_wrong_list(alloc, buckets, map, held)
@@ -69,14 +65,10 @@ fn wrong_behind<D: Disk>(
     style: &Style,
     held: &Held,
 ) -> Result<Option<Wrong>, StoreFault>
-    requires ready { IsReady buckets.old }
-    requires unwritten { IsUnwritten buckets.old }
+    requires unchanged { IsUnchanged buckets.old }
     ensures right { IfOk result (λ found. found ≡ None → (rest : Image) → Has rest rest buckets.old → HoldsObjects style.now rest held.now → AllRight style.now rest) }
-    ensures wrong { IfOk result (λ found. IfSome found (λ own. (rest : Image) → Has rest rest buckets.old → HoldsObjects style.now rest held.now
-        → IsFirstWrong style.now rest own.map own.key)) }
-    ensures has { OnOk result ((rest : Image) → Has rest rest buckets.old → Has rest rest buckets.new) }
-    ensures sound { (rest : Image) → Has rest rest buckets.old → IsSoundAnswer result }
-    ensures looks { Looks buckets.old buckets.new result }
+    ensures wrong { Finds buckets.old buckets.new result (λ rest found.
+        IfSome found (λ own. HoldsObjects style.now rest held.now → IsFirstWrong style.now rest own.map own.key)) }
 {
     let mut number = 3;
     while let Some(map) = StoreMap::with_number(number) {

@@ -12,7 +12,7 @@ ghost use Rattle.bucket_store.specs.Transaction.{IsOpenStore, chains_of, has_ref
 ghost use Rattle.row_store.specs.Loading.{Looks};
 ghost use Rattle.store_check.specs.BadPage.{Surveys, chains_in, loads};
 ghost use Rattle.store_check.specs.Marks.{is_marked};
-ghost use Rattle.store_check.specs.Surveying.{TellsPages, LoadsChains, MarksOthers};
+ghost use Rattle.store_check.specs.Surveying.{IsFresh, LoadsChains, MarksOthers, TellsPages};
 
 use crate::PageMarks;
 use bucket_store::Buckets;
@@ -48,8 +48,7 @@ fn survey_all<D: Disk>(
     buckets: &mut Buckets<'_, D>,
     marks: &mut PageMarks,
 ) -> Result<(), StoreFault>
-    requires begun { IsBegun buckets.old }
-    requires going { has_refused buckets.old ≡ false }
+    requires fresh { IsFresh buckets.old }
     requires many { length marks.old ≡ home_count (journal_of (chains_of buckets.old)) }
     requires none { (page : ℕ) → page < length marks.old → is_marked marks.old page ≡ false }
     ensures answers { (pages : List (List ℕ)) → IsOpenStore pages buckets.old → Surveys pages (kept_of (chains_of buckets.old)) result }
@@ -79,8 +78,7 @@ fn load_all<D: Disk>(
     marks: &mut PageMarks,
     count: u64,
 ) -> Result<(), StoreFault>
-    requires begun { IsBegun buckets.old }
-    requires going { has_refused buckets.old ≡ false }
+    requires fresh { IsFresh buckets.old }
     requires count { count ≡ bucket_count (chains_of buckets.old) }
     ensures loads { LoadsChains (loads count) buckets.old buckets.new marks.old marks.new result }
 {
@@ -105,8 +103,7 @@ fn load_maps<D: Disk>(
     marks: &mut PageMarks,
     count: u64,
 ) -> Result<(), StoreFault>
-    requires begun { IsBegun buckets.old }
-    requires going { has_refused buckets.old ≡ false }
+    requires fresh { IsFresh buckets.old }
     requires count { count ≡ bucket_count (chains_of buckets.old) }
     ensures loads { LoadsChains (flat_map (chains_in count) (range_with_len 0 8)) buckets.old buckets.new marks.old marks.new result }
 {
@@ -127,8 +124,7 @@ fn load_map<D: Disk>(
     count: u64,
     number: u64,
 ) -> Result<(), StoreFault>
-    requires begun { IsBegun buckets.old }
-    requires going { has_refused buckets.old ≡ false }
+    requires fresh { IsFresh buckets.old }
     requires count { count ≡ bucket_count (chains_of buckets.old) }
     requires map { number < 8 }
     ensures loads { LoadsChains (chains_in count number) buckets.old buckets.new marks.old marks.new result }
@@ -152,8 +148,7 @@ fn load_buckets<D: Disk>(
     count: u64,
     map: StoreMap,
 ) -> Result<(), StoreFault>
-    requires begun { IsBegun buckets.old }
-    requires going { has_refused buckets.old ≡ false }
+    requires fresh { IsFresh buckets.old }
     requires count { count ≡ bucket_count (chains_of buckets.old) }
     ensures loads { LoadsChains (chains_in count (number_of map)) buckets.old buckets.new marks.old marks.new result }
 {
@@ -174,8 +169,7 @@ fn load_bucket<D: Disk>(
     map: StoreMap,
     bucket: u64,
 ) -> Result<(), StoreFault>
-    requires begun { IsBegun buckets.old }
-    requires going { has_refused buckets.old ≡ false }
+    requires fresh { IsFresh buckets.old }
     requires bucket { bucket < bucket_count (chains_of buckets.old) }
     ensures loads { LoadsChains (bucket_chain (number_of map) bucket ∷ []) buckets.old buckets.new marks.old marks.new result }
 {
@@ -195,8 +189,7 @@ fn bucket_pages<D: Disk>(
     map: StoreMap,
     bucket: u64,
 ) -> Result<Ids, StoreFault>
-    requires begun { IsBegun buckets.old }
-    requires going { has_refused buckets.old ≡ false }
+    requires fresh { IsFresh buckets.old }
     requires bucket { bucket < bucket_count (chains_of buckets.old) }
     ensures lists { TellsPages (bucket_chain (number_of map) bucket) buckets.old buckets.new result }
 {
@@ -225,8 +218,7 @@ fn load_text<D: Disk>(
     marks: &mut PageMarks,
     n: u32,
 ) -> Result<(), StoreFault>
-    requires begun { IsBegun buckets.old }
-    requires going { has_refused buckets.old ≡ false }
+    requires fresh { IsFresh buckets.old }
     requires text { n < 8 }
     ensures loads { LoadsChains (n ∷ []) buckets.old buckets.new marks.old marks.new result }
 {
@@ -242,8 +234,7 @@ fn load_text<D: Disk>(
 
 // The free pages are read.
 fn load_free<D: Disk>(buckets: &mut Buckets<'_, D>, marks: &mut PageMarks) -> Result<(), StoreFault>
-    requires begun { IsBegun buckets.old }
-    requires going { has_refused buckets.old ≡ false }
+    requires fresh { IsFresh buckets.old }
     ensures loads { LoadsChains (FREE ∷ []) buckets.old buckets.new marks.old marks.new result }
 {
     match buckets.free_pages() {
@@ -261,8 +252,7 @@ fn mark_others<D: Disk>(
     buckets: &mut Buckets<'_, D>,
     marks: &mut PageMarks,
 ) -> Result<(), StoreFault>
-    requires begun { IsBegun buckets.old }
-    requires going { has_refused buckets.old ≡ false }
+    requires fresh { IsFresh buckets.old }
     ensures marks { MarksOthers (0 ∷ range_with_len 3 13) buckets.old buckets.new marks.old marks.new result }
 {
     if let Err(fault) = mark_other(buckets, marks, 0) {
@@ -279,8 +269,7 @@ fn mark_range<D: Disk>(
     buckets: &mut Buckets<'_, D>,
     marks: &mut PageMarks,
 ) -> Result<(), StoreFault>
-    requires begun { IsBegun buckets.old }
-    requires going { has_refused buckets.old ≡ false }
+    requires fresh { IsFresh buckets.old }
     ensures marks { MarksOthers (range_with_len 3 13) buckets.old buckets.new marks.old marks.new result }
 {
     let mut n = 3;
@@ -299,8 +288,7 @@ fn mark_other<D: Disk>(
     marks: &mut PageMarks,
     n: u32,
 ) -> Result<(), StoreFault>
-    requires begun { IsBegun buckets.old }
-    requires going { has_refused buckets.old ≡ false }
+    requires fresh { IsFresh buckets.old }
     requires other { n < 16 }
     ensures marks { MarksOthers (n ∷ []) buckets.old buckets.new marks.old marks.new result }
 {

@@ -3,14 +3,13 @@ use Rattle.std.proofs.Common.{◌≡◌, ◌%◌, ℕ, List, true, sym, subst}
 use Rattle.value_bytes.specs.StoreMap.{number_of}
 use Rattle.value_bytes.specs.declared.store_map.StoreMap.{StoreMap}
 use Rattle.bucket_store.specs.Image.{IsBucketOf}
-use Rattle.row_store.proofs.LookLaws.{sound_err}
 use Rattle.store_check.specs.Judging.{map_for}
 use Rattle.store_check.proofs.JudgedMaps.{bucket_seen, bucket_taken, records_in}
+use Rattle.store_check.proofs.FindsLaws.{finds_err, finds_ok}
 use Rattle.store_check.proofs.judging_maps.judge_bucket.Goals as goal
 
-pub returns-in-Err-clause-sound : goal.returns-in-Err-clause-sound
-returns-in-Err-clause-sound g c rest has =
-    sound_err (Unit {0}) c.read_bucket.result c.in-Err.fault c.in-Err.is (c.read_bucket.ensures.sound rest has)
+pub returns-in-Err-clause-least : goal.returns-in-Err-clause-least
+returns-in-Err-clause-least g c = finds_err c.in-Err.ensures.found
 
 pub returns-in-Ok-judge_all-clause-takes : goal.returns-in-Ok-judge_all-clause-takes
 returns-in-Ok-judge_all-clause-takes g c rest has =
@@ -18,16 +17,16 @@ returns-in-Ok-judge_all-clause-takes g c rest has =
     let bucket = c.args.bucket % rest.root.buckets in
     let are = subst (λ (l : List (ℕ × List ℕ)). IsBucketOf rest (number_of (map_for kind)) bucket l) (sym (cc (c.as_slice.ensures.value)))
     (subst (λ (map : StoreMap). IsBucketOf rest (number_of map) bucket c.in-Ok.records.items) c.map_for.ensures
-    (c.in-Ok.ensures.found rest has)) in
+    (c.in-Ok.ensures.found.so rest has)) in
     bucket_taken c.args.asked rest kind bucket c.as_slice.result.now are c.args.held.now c.judge_all.new.held
     (c.in-Ok-judge_all.ensures.takes rest (records_in rest (number_of (map_for kind)) bucket c.as_slice.result.now are))
 
 pub returns-in-Ok-judge_all-clause-least : goal.returns-in-Ok-judge_all-clause-least
-returns-in-Ok-judge_all-clause-least g c rest has was_seen before =
+returns-in-Ok-judge_all-clause-least g c = finds_ok c.in-Ok.ensures.found (λ rest has found was_seen before.
     let kind = c.args.kind in
     let bucket = c.args.bucket % rest.root.buckets in
     let are = subst (λ (l : List (ℕ × List ℕ)). IsBucketOf rest (number_of (map_for kind)) bucket l) (sym (cc (c.as_slice.ensures.value)))
     (subst (λ (map : StoreMap). IsBucketOf rest (number_of map) bucket c.in-Ok.records.items) c.map_for.ensures
-    (c.in-Ok.ensures.found rest has)) in
+    found) in
     bucket_seen c.args.asked rest kind bucket c.as_slice.result.now are (λ key. was_seen key ≡ true) c.judge_all.new.least
-    (c.in-Ok-judge_all.ensures.least rest (records_in rest (number_of (map_for kind)) bucket c.as_slice.result.now are) was_seen before)
+    (c.in-Ok-judge_all.ensures.least rest (records_in rest (number_of (map_for kind)) bucket c.as_slice.result.now are) was_seen before))

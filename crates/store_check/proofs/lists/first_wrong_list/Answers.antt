@@ -5,13 +5,20 @@ use Rattle.back_index.specs.declared.mentions.Mention.{Mention}
 use Rattle.store_check.proofs.HeldLists.{if_ok, right_lists}
 use Rattle.store_check.proofs.lists.first_wrong_list.Goals as goal
 
-pub returns-in-Ok-clause-least : goal.returns-in-Ok-clause-least
-returns-in-Ok-clause-least g c =
+pub returns-in-Ok : goal.returns-in-Ok
+returns-in-Ok g c =
     let told : List Mention = c.as_slice.result.now in
     let same : told ≡ c.in-Ok.mentions.items = cc (c.as_slice.ensures.value) in
-    if_ok _ _ c.wrong_list.result
-    (λ found least rest has style nodes ways relations read held.
-    right_lists style rest nodes ways relations c.args.held.now held (mentions_tell told) c.args.map found c.requires.lists
-    (λ id by. ap (λ (l : List Mention). mentions_tell l id by) same ∙ c.in-Ok.ensures.told id by)
-    (least rest has))
-    c.wrong_list.ensures.least
+    record {
+      least = record {
+        has = c.wrong_list.ensures.least.has;
+        sound = c.wrong_list.ensures.least.sound;
+        looks = c.wrong_list.ensures.least.looks;
+        so = if_ok _ _ c.wrong_list.result
+            (λ found least rest has style nodes ways relations read held.
+            right_lists style rest nodes ways relations c.args.held.now held (mentions_tell told) c.args.map found c.requires.lists
+            (λ id by. ap (λ (l : List Mention). mentions_tell l id by) same ∙ c.in-Ok.ensures.told id by)
+            (least rest has))
+            c.wrong_list.ensures.least.so;
+      };
+    }

@@ -1,26 +1,27 @@
 -- One more id that is named has a list or not.
-use Rattle.std.proofs.Common.{◌≡◌, ◌⊎◌, ◌+◌, ◌∙◌, ℕ, Bool, List, Option, Err, true, take, get_or, refl, sym, subst}
+use Rattle.std.proofs.Common.{◌≡◌, ◌⊎◌, ◌+◌, ◌∙◌, ℕ, List, Option, true, take, get_or, sym, subst}
 use Rattle.std.proofs.lemmas.List.{get_or_default, take_all}
 use Rattle.bucket_store.proofs.Holding.{looks_then}
 use Rattle.value_bytes.specs.StoreMap.{number_of}
-use Rattle.row_store.proofs.LookLaws.{read_then, sound_err, still_whole}
+use Rattle.row_store.proofs.LookLaws.{read_then, still_whole}
 use Rattle.back_index.specs.Filling.{mentions_tell}
 use Rattle.back_index.specs.declared.mentions.Mention.{Mention}
 use Rattle.store_check.specs.Lists.{IsLacking}
 use Rattle.store_check.specs.Wrong.{IsLeast, IsLeastOf}
 use Rattle.store_check.proofs.LeastLaws.{least_fewer, least_more}
 use Rattle.store_check.proofs.ListsLaws.{all_named, is_named, lacks_it, named_more, not_lacking, told_here}
+use Rattle.store_check.proofs.FindsLaws.{found_all, then_refuses}
 use Rattle.store_check.proofs.lists.lacking.Goals as goal
 
-pub returns-in-Err-clause-sound : goal.returns-in-Err-clause-sound
-returns-in-Err-clause-sound g c rest has =
-    sound_err {T = Bool} (Option ℕ) (Err c.in-Err.fault) c.in-Err.fault refl
-    (c.in-Err.ensures.sound rest (c.loop-mention.invariant.has rest has))
+pub returns-in-Err : goal.returns-in-Err
+returns-in-Err g c =
+    let read = c.loop-mention.invariant in
+    record { least = then_refuses read.still read.same read.stays read.has c.in-Err.ensures.kept }
 
 pub loop-mention-preserved : goal.loop-mention-preserved
 loop-mention-preserved g c =
     let before = c.loop-mention.invariant in
-    let done = c.in-Ok.ensures in
+    let done = c.in-Ok.ensures.kept in
     let old = c.args.buckets.now in
     let mid = c.loop-mention.buckets in
     let new = c.is_kept.new.buckets in
@@ -38,7 +39,7 @@ loop-mention-preserved g c =
       least = λ rest had.
           let kept = rest.maps (number_of c.args.map) in
           let Is = λ (id : ℕ). ¬ IsLacking (mentions_tell mentions) kept id in
-          let found = done.kept rest (before.has rest had) in
+          let found = done.so rest (before.has rest had) in
           let more = least_more Is (λ id. is_named (take at mentions) id ≡ true) c.loop-mention.least own.id c.in-Ok.is_kept
           (before.least rest had)
           (λ yes. not_lacking (mentions_tell mentions) kept own.id (sym found ∙ yes))
@@ -50,14 +51,18 @@ loop-mention-preserved g c =
           (λ id named. named_more mentions at id own c.loop-mention-test.true is named) more);
     }
 
-pub returns-clause-least : goal.returns-clause-least
-returns-clause-least g c rest has =
-    let mentions : List Mention = c.args.mentions.now in
-    let kept = rest.maps (number_of c.args.map) in
-    let Is = λ (id : ℕ). ¬ IsLacking (mentions_tell mentions) kept id in
-    let all : take c.loop-mention.mention-index mentions ≡ mentions =
-    take_all c.loop-mention.mention-index mentions c.loop-mention-test.false in
-    subst (λ (l : Option ℕ). IsLeast Is l) (sym c.key.ensures.key)
-    (all_named mentions kept c.loop-mention.least
-    (subst (λ (l : List Mention). IsLeastOf (λ id. is_named l id ≡ true) Is c.loop-mention.least) all
-    (c.loop-mention.invariant.least rest has)))
+pub returns : goal.returns
+returns g c =
+    let read = c.loop-mention.invariant in
+    record {
+      least = found_all c.args.buckets.now c.loop-mention.buckets _ read.going read.still read.same read.stays read.has (λ rest has.
+          let mentions : List Mention = c.args.mentions.now in
+          let kept = rest.maps (number_of c.args.map) in
+          let Is = λ (id : ℕ). ¬ IsLacking (mentions_tell mentions) kept id in
+          let all : take c.loop-mention.mention-index mentions ≡ mentions =
+          take_all c.loop-mention.mention-index mentions c.loop-mention-test.false in
+          subst (λ (l : Option ℕ). IsLeast Is l) (sym c.key.ensures.key)
+          (all_named mentions kept c.loop-mention.least
+          (subst (λ (l : List Mention). IsLeastOf (λ id. is_named l id ≡ true) Is c.loop-mention.least) all
+          (c.loop-mention.invariant.least rest has))));
+    }

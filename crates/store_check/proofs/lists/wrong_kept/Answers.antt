@@ -13,15 +13,18 @@ use Rattle.back_index.specs.Filling.{IsKeptAt, mentions_tell}
 use Rattle.store_check.specs.Wrong.{IsLeastOf}
 use Rattle.store_check.proofs.LeastLaws.{least_fewer}
 use Rattle.store_check.proofs.LeastOfTwo.{least_both}
+use Rattle.store_check.proofs.FindsLaws.{found_all, then_refuses}
 use Rattle.store_check.proofs.lists.wrong_kept.Goals as goal
 
-pub returns-in-Err-clause-sound : goal.returns-in-Err-clause-sound
-returns-in-Err-clause-sound g c rest has = c.in-Err.ensures.sound rest (c.loop-bucket.invariant.has rest has)
+pub returns-in-Err : goal.returns-in-Err
+returns-in-Err g c =
+    let read = c.loop-bucket.invariant in
+    record { least = then_refuses read.still read.same read.stays read.has c.in-Err.ensures.least }
 
 pub loop-bucket-preserved : goal.loop-bucket-preserved
 loop-bucket-preserved g c =
     let before = c.loop-bucket.invariant in
-    let done = c.in-Ok.ensures in
+    let done = c.in-Ok.ensures.least in
     let old = c.args.buckets.now in
     let mid = c.loop-bucket.buckets in
     let new = c.wrong_in_bucket.new.buckets in
@@ -44,17 +47,21 @@ loop-bucket-preserved g c =
           (λ n part. elim (bucket_split n bucket rest.root.buckets (omega (arith, c.loop-bucket-test.true, count)) part.1) [
             | inl less ↦ inl (part.0, less)
             | inr same ↦ inr (part.0, same)
-          ]) c.loop-bucket.found c.in-Ok.own (before.least rest had) (done.least rest (before.has rest had)));
+          ]) c.loop-bucket.found c.in-Ok.own (before.least rest had) (done.so rest (before.has rest had)));
     }
 
-pub returns-clause-least : goal.returns-clause-least
-returns-clause-least g c rest has =
-    let count : c.root-count.result.buckets ≡ rest.root.buckets = ap (λ (r : Root). r.buckets) (c.root-count.ensures ∙ has.root) in
-    let own : bucket_count (chains_of c.args.buckets.now) ≡ rest.root.buckets = ap (λ (r : Root). r.buckets) has.root in
-    let kept = rest.maps (number_of c.args.map) in
-    least_fewer (IsKeptAt (mentions_tell c.args.mentions.now) kept) (λ n. IsSome (finite.get kept n))
-    (λ n. IsSome (finite.get kept n) × (n % rest.root.buckets < c.loop-bucket.bucket)) c.loop-bucket.found
-    (λ n some.
-    let low : n % rest.root.buckets < rest.root.buckets = mod-lt n (omega (arith, c.requires.ready.some, own)) in
-    (some, omega (arith, low, c.loop-bucket-test.false, count)))
-    (c.loop-bucket.invariant.least rest has)
+pub returns : goal.returns
+returns g c =
+    let read = c.loop-bucket.invariant in
+    record {
+      least = found_all c.args.buckets.now c.loop-bucket.buckets _ read.going read.still read.same read.stays read.has (λ rest has.
+          let count : c.root-count.result.buckets ≡ rest.root.buckets = ap (λ (r : Root). r.buckets) (c.root-count.ensures ∙ has.root) in
+          let own : bucket_count (chains_of c.args.buckets.now) ≡ rest.root.buckets = ap (λ (r : Root). r.buckets) has.root in
+          let kept = rest.maps (number_of c.args.map) in
+          least_fewer (IsKeptAt (mentions_tell c.args.mentions.now) kept) (λ n. IsSome (finite.get kept n))
+          (λ n. IsSome (finite.get kept n) × (n % rest.root.buckets < c.loop-bucket.bucket)) c.loop-bucket.found
+          (λ n some.
+          let low : n % rest.root.buckets < rest.root.buckets = mod-lt n (omega (arith, c.requires.ready.some, own)) in
+          (some, omega (arith, low, c.loop-bucket-test.false, count)))
+          (c.loop-bucket.invariant.least rest has));
+    }

@@ -11,12 +11,13 @@ use Rattle.store_check.specs.Wrong.{IsRightIn}
 use Rattle.store_check.proofs.AllLaws.{all_at}
 use Rattle.store_check.proofs.Sight.{sees_fewer, sees_then}
 use Rattle.store_check.proofs.SweepLaws.{ready_then}
+use Rattle.store_check.proofs.FindsLaws.{found_all, then_refuses}
 use Rattle.store_check.proofs.row_records.judge_records.Goals as goal
 
 pub loop-number-preserved : goal.loop-number-preserved
 loop-number-preserved g c =
     let before = c.loop-number.invariant in
-    let done = c.in_default.ensures in
+    let done = c.in_default.ensures.sees in
     let old = c.args.buckets.now in
     let mid = c.loop-number.buckets in
     let new = c.judge_record.new.buckets in
@@ -38,7 +39,7 @@ loop-number-preserved g c =
           sees_then (IsRightIn c.args.style.now rest nodes ways relations (rows_map source)) (IsAsked (objects_of nodes ways relations))
           (IsAmong source (take place records)) (IsOne source one.0) (IsAmong source (take (place + 1) records))
           c.args.wrong.now c.loop-number.wrong c.judge_record.new.wrong (before.sees rest had nodes ways relations tells each)
-          (done.sees rest (before.has rest had) nodes ways relations tells told)
+          (done.so rest (before.has rest had) nodes ways relations tells told)
           (λ own number part.
           elim (among_more records place one number c.loop-number-test.true c.loop-number-item.is part.1) [
             | inl among ↦ inl (part.0, among)
@@ -46,15 +47,22 @@ loop-number-preserved g c =
           ]);
     }
 
-pub returns-clause-sees : goal.returns-clause-sees
-returns-clause-sees g c rest had nodes ways relations tells each =
-    let source = c.args.source in
-    let records = c.args.records.now in
-    let place = c.loop-number.number-index in
-    sees_fewer (IsRightIn c.args.style.now rest nodes ways relations (rows_map source)) (IsAsked (objects_of nodes ways relations))
-    (IsAmong source records) (IsAmong source (take place records)) c.args.wrong.now c.loop-number.wrong
-    (λ own number part. (part.0, among_all records place number (omega (arith, c.loop-number-test.false)) part.1))
-    (c.loop-number.invariant.sees rest had nodes ways relations tells each)
+pub returns : goal.returns
+returns g c =
+    let looked = c.loop-number.invariant in
+    record {
+      sees = found_all c.args.buckets.now c.loop-number.buckets _ looked.ready.going looked.still looked.same looked.stays looked.has
+          (λ rest had nodes ways relations tells each.
+          let source = c.args.source in
+          let records = c.args.records.now in
+          let place = c.loop-number.number-index in
+          sees_fewer (IsRightIn c.args.style.now rest nodes ways relations (rows_map source)) (IsAsked (objects_of nodes ways relations))
+          (IsAmong source records) (IsAmong source (take place records)) c.args.wrong.now c.loop-number.wrong
+          (λ own number part. (part.0, among_all records place number (omega (arith, c.loop-number-test.false)) part.1))
+          (c.loop-number.invariant.sees rest had nodes ways relations tells each));
+    }
 
-pub returns-in-Err-clause-sound : goal.returns-in-Err-clause-sound
-returns-in-Err-clause-sound g c rest had = c.in-Err.ensures.sound rest (c.loop-number.invariant.has rest had)
+pub returns-in-Err : goal.returns-in-Err
+returns-in-Err g c =
+    let looked = c.loop-number.invariant in
+    record { sees = then_refuses looked.still looked.same looked.stays looked.has c.in-Err.ensures.sees }

@@ -1,4 +1,4 @@
-use Rattle.std.proofs.Common.{◌≡◌, ℕ, Option, true, ap, ◌∙◌}
+use Rattle.std.proofs.Common.{◌≡◌, ℕ, Option, true, rules, ap, ◌∙◌}
 use Rattle.osm_base.specs.values.Key.{KeyOf}
 use Rattle.store_maps.specs.Asked.{row_key, row_map}
 use Rattle.std.specs.FinMap as finite
@@ -6,24 +6,44 @@ use Rattle.value_bytes.specs.StoreMap.{number_of}
 use Rattle.row_store.proofs.LookLaws.{sound_err}
 use Rattle.store_check.proofs.row_records.wrong_of_key.Goals as goal
 
-pub returns-in-Err-clause-sound : goal.returns-in-Err-clause-sound
-returns-in-Err-clause-sound g c rest had =
-    sound_err (Option ℕ) c.get.result c.in-Err.fault c.in-Err.is (c.get.ensures.bytes.sound rest rest had)
+pub returns-in-Err : goal.returns-in-Err
+returns-in-Err g c = record {
+  found = record {
+    so = tt;
+    has = tt;
+    sound = λ rest had. sound_err (Option ℕ) c.get.result c.in-Err.fault c.in-Err.is (c.get.ensures.bytes.sound rest rest had);
+    looks = search rules;
+  };
+}
 
-pub returns-in-Ok-true-clause-found : goal.returns-in-Ok-true-clause-found
-returns-in-Ok-true-clause-found g c rest had nodes ways relations tells there asked =
-    (c.in-Ok-true.ensures.right rest nodes ways relations tells there
-    (c.in-Ok.ensures.bytes.found rest rest had
-    ∙ (λ i. finite.get (rest.maps (number_of (c.row_map.ensures.map i))) (c.row_key-number.ensures.key i))
-    ∙ ap (λ (own : KeyOf). finite.get (rest.maps (number_of (row_map own.kind))) (row_key c.args.key.kind c.args.key.id)) c.key.view_is)).0 c.in-Ok-true.field-0-test
+pub returns-in-Ok-true : goal.returns-in-Ok-true
+returns-in-Ok-true g c = record {
+  found = record {
+    has = search rules;
+    sound = λ rest had. tt;
+    looks = search rules;
+    so = λ rest had nodes ways relations tells there asked.
+        (c.in-Ok-true.ensures.right rest nodes ways relations tells there
+        (c.in-Ok.ensures.bytes.found rest rest had
+        ∙ (λ i. finite.get (rest.maps (number_of (c.row_map.ensures.map i))) (c.row_key-number.ensures.key i))
+        ∙ ap (λ (own : KeyOf). finite.get (rest.maps (number_of (row_map own.kind))) (row_key c.args.key.kind c.args.key.id)) c.key.view_is)).0 c.in-Ok-true.field-0-test;
+  };
+}
 
-pub returns-in-Ok-false-clause-found : goal.returns-in-Ok-false-clause-found
-returns-in-Ok-false-clause-found g c rest had nodes ways relations tells there = (
-  c.row_key-number.ensures.key,
-  λ is.
-      let so : c.in-Ok-false.field-0 ≡ true = (c.in-Ok-false.ensures.right rest nodes ways relations tells there
-      (c.in-Ok.ensures.bytes.found rest rest had
-      ∙ (λ i. finite.get (rest.maps (number_of (c.row_map.ensures.map i))) (c.row_key-number.ensures.key i))
-      ∙ ap (λ (own : KeyOf). finite.get (rest.maps (number_of (row_map own.kind))) (row_key c.args.key.kind c.args.key.id)) c.key.view_is)).1 is in
-      cc (so, c.in-Ok-false.field-0-test),
-)
+pub returns-in-Ok-false : goal.returns-in-Ok-false
+returns-in-Ok-false g c = record {
+  found = record {
+    has = search rules;
+    sound = λ rest had. tt;
+    looks = search rules;
+    so = λ rest had nodes ways relations tells there. (
+      c.row_key-number.ensures.key,
+      λ is.
+          let so : c.in-Ok-false.field-0 ≡ true = (c.in-Ok-false.ensures.right rest nodes ways relations tells there
+          (c.in-Ok.ensures.bytes.found rest rest had
+          ∙ (λ i. finite.get (rest.maps (number_of (c.row_map.ensures.map i))) (c.row_key-number.ensures.key i))
+          ∙ ap (λ (own : KeyOf). finite.get (rest.maps (number_of (row_map own.kind))) (row_key c.args.key.kind c.args.key.id)) c.key.view_is)).1 is in
+          cc (so, c.in-Ok-false.field-0-test),
+    );
+  };
+}

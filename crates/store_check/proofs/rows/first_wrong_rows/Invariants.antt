@@ -4,7 +4,7 @@ use Rattle.chain_store.specs.Chains.{OnlyRead, journal_of}
 use Rattle.bucket_store.specs.Image.{Has, Image, OnlyLooks}
 use Rattle.bucket_store.specs.Transaction.{chains_of}
 use Rattle.store_check.specs.Judged.{IsBefore, SeesRows, Tells}
-use Rattle.store_check.specs.Sweep.{IsUnchanged}
+use Rattle.store_check.specs.Reading.{IsUnchanged}
 use Rattle.store_check.specs.Values.{NodeMap, ObjectMap}
 use Rattle.store_check.proofs.rows.first_wrong_rows.Given as goal
 

@@ -5,23 +5,28 @@ use Rattle.store_check.specs.Values.{objects_of}
 use Rattle.store_check.specs.Wrong.{IsRightIn}
 use Rattle.store_check.proofs.Sight.{sees_then}
 use Rattle.store_check.proofs.SweepLaws.{node_split, unchanged_then}
+use Rattle.store_check.proofs.FindsLaws.{both_find, finds_err, second_refuses}
 use Rattle.store_check.proofs.rows.judge_nodes.Goals as goal
 
 pub judge_apart-requires : goal.judge_apart-requires
 judge_apart-requires g c = record {
-  unchanged = unchanged_then c.args.buckets.now c.judge_bucket.new.buckets c.requires.unchanged c.in_default.ensures.looks.refused
-      c.in_default.ensures.looks.stays;
+  unchanged = unchanged_then c.args.buckets.now c.judge_bucket.new.buckets c.requires.unchanged c.in_default.ensures.sees.looks.refused
+      c.in_default.ensures.sees.looks.stays;
   goes = tt;
 }
 
-pub returns-in-Ok-clause-sees : goal.returns-in-Ok-clause-sees
-returns-in-Ok-clause-sees g c rest had nodes ways relations tells =
-    sees_then (IsRightIn c.args.style.now rest nodes ways relations stored.NodeRows) (IsAsked (objects_of nodes ways relations))
-    (IsOfBucket stored.Nodes rest c.args.bucket) (IsOfBucket stored.NodeRows rest c.args.bucket) (IsOfBuckets stored.NodeRows rest c.args.bucket)
-    c.args.wrong.now c.judge_bucket.new.wrong c.judge_apart.new.wrong
-    (c.in_default.ensures.sees rest had nodes ways relations tells)
-    (c.in-Ok.ensures.sees rest (c.in_default.ensures.has rest had) nodes ways relations tells)
-    (node_split rest c.args.bucket)
+pub returns-in-Ok : goal.returns-in-Ok
+returns-in-Ok g c = record {
+  sees = both_find c.in_default.ensures.sees c.in-Ok.ensures.sees (λ rest had one other nodes ways relations tells.
+      sees_then (IsRightIn c.args.style.now rest nodes ways relations stored.NodeRows) (IsAsked (objects_of nodes ways relations))
+      (IsOfBucket stored.Nodes rest c.args.bucket) (IsOfBucket stored.NodeRows rest c.args.bucket) (IsOfBuckets stored.NodeRows rest c.args.bucket)
+      c.args.wrong.now c.judge_bucket.new.wrong c.judge_apart.new.wrong
+      (one nodes ways relations tells) (other nodes ways relations tells)
+      (node_split rest c.args.bucket));
+}
 
-pub returns-in-Err-judge_apart-clause-sound : goal.returns-in-Err-judge_apart-clause-sound
-returns-in-Err-judge_apart-clause-sound g c rest had = c.in-Err-judge_apart.ensures.sound rest (c.in_default.ensures.has rest had)
+pub returns-in-Err : goal.returns-in-Err
+returns-in-Err g c = record { sees = finds_err c.in-Err.ensures.sees }
+
+pub returns-in-Err-judge_apart : goal.returns-in-Err-judge_apart
+returns-in-Err-judge_apart g c = record { sees = second_refuses c.in_default.ensures.sees c.in-Err-judge_apart.ensures.sees }

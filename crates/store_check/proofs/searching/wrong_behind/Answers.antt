@@ -1,5 +1,5 @@
 -- A map more is right, or has the first value that is not.
-use Rattle.std.proofs.Common.{◌≡◌, Option, arith, refl, sym, subst, ◌∙◌, ⊎_elim}
+use Rattle.std.proofs.Common.{◌≡◌, Option, None, arith, refl, sym, subst, ◌∙◌, ⊎_elim}
 use Rattle.bucket_store.proofs.Holding.{looks_then}
 use Rattle.row_store.proofs.LookLaws.{read_then, still_whole}
 use Rattle.value_bytes.specs.StoreMap.{number_of}
@@ -8,12 +8,13 @@ use Rattle.value_bytes.proofs.MapNumbers.{number_of-below}
 use Rattle.store_check.specs.Wrong.{IsRightIn, IsWrongIn}
 use Rattle.store_check.specs.declared.wrong.Wrong.{Wrong}
 use Rattle.store_check.proofs.SearchLaws.{all_right, first_found, held_ids, lower_or_not, same_map}
+use Rattle.store_check.proofs.FindsLaws.{found_all, then_finds, then_refuses}
 use Rattle.store_check.proofs.searching.wrong_behind.Goals as goal
 
 pub loop-map-preserved : goal.loop-map-preserved
 loop-map-preserved g c =
     let before = c.loop-map.invariant in
-    let done = c.in-Ok-None.ensures in
+    let done = c.in-Ok-None.ensures.least in
     let old = c.args.buckets.now in
     let mid = c.loop-map.buckets in
     let new = c.wrong_in.new.buckets in
@@ -32,7 +33,7 @@ loop-map-preserved g c =
           let level : number_of map ≡ number_of c.in-Some.map = omega (arith, low, most, here) in
           subst (λ (own : StoreMap). IsRightIn c.args.style.now rest nodes ways relations own key) (sym (same_map map c.in-Some.map level))
           (subst (λ (found : Option Wrong). IsWrongIn (IsRightIn c.args.style.now rest nodes ways relations) c.in-Some.map found)
-          c.in-Ok-None.field-0-is (done.least rest (before.has rest had) nodes ways relations read ids held) key))
+          c.in-Ok-None.field-0-is (done.so rest (before.has rest had) nodes ways relations read ids held) key))
           (lower_or_not (number_of map) c.loop-map.number);
     }
 
@@ -42,8 +43,15 @@ returns-clause-right g c is rest had own =
     c.loop-map.invariant.right rest had own.nodes own.ways own.relations own.read (held_ids c.args.style.now rest c.args.held.now own) own.held
     map behind (let below = number_of-below map in let most = c.in_default.ensures.none.0 refl in omega (arith, below, most)) key)
 
+pub returns-clause-wrong : goal.returns-clause-wrong
+returns-clause-wrong g c =
+    let read = c.loop-map.invariant in
+    found_all c.args.buckets.now c.loop-map.buckets None read.going read.still read.same read.stays read.has (λ rest had. tt)
+
 pub returns-in-Ok-Some-clause-wrong : goal.returns-in-Ok-Some-clause-wrong
-returns-in-Ok-Some-clause-wrong g c rest had own =
+returns-in-Ok-Some-clause-wrong g c =
+    let read = c.loop-map.invariant in
+    then_finds read.still read.same read.stays read.has c.in-Ok-Some.ensures.least (λ rest had least own.
     let ids = held_ids c.args.style.now rest c.args.held.now own in
     let here : number_of c.in-Some.map ≡ c.loop-map.number = c.in-Some.ensures.map in
     first_found c.args.style.now rest c.args.held.now own c.in-Some.map
@@ -52,7 +60,9 @@ returns-in-Ok-Some-clause-wrong g c rest had own =
     c.in-Ok-Some.wrong
     (subst (λ (found : Option Wrong). IsWrongIn (IsRightIn c.args.style.now rest own.nodes own.ways own.relations) c.in-Some.map found)
     c.in-Ok-Some.field-0-is
-    (c.in-Ok-Some.ensures.least rest (c.loop-map.invariant.has rest had) own.nodes own.ways own.relations own.read ids own.held))
+    (least own.nodes own.ways own.relations own.read ids own.held)))
 
-pub returns-in-Err-clause-sound : goal.returns-in-Err-clause-sound
-returns-in-Err-clause-sound g c rest had = c.in-Err.ensures.sound rest (c.loop-map.invariant.has rest had)
+pub returns-in-Err-clause-wrong : goal.returns-in-Err-clause-wrong
+returns-in-Err-clause-wrong g c =
+    let read = c.loop-map.invariant in
+    then_refuses read.still read.same read.stays read.has c.in-Err.ensures.least

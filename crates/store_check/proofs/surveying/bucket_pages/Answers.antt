@@ -7,7 +7,7 @@ use Rattle.store_check.proofs.surveying.bucket_pages.Goals as goal
 
 pub returns-in-Err : goal.returns-in-Err
 returns-in-Err g c = record {
-  lists = unbrought c.args.map c.args.bucket c.args.buckets.now c.requires.begun c.requires.bucket c.bring.new.self c.in-Err.fault
+  lists = unbrought c.args.map c.args.bucket c.args.buckets.now c.requires.fresh.begun c.requires.bucket c.bring.new.self c.in-Err.fault
       c.in-Err.ensures.brings c.in-Err.ensures.touches;
 }
 
@@ -16,7 +16,7 @@ returns-in-Ok g c =
     let mid = c.bring.new.self in
     let new = c.pages_of.new.self in
     record {
-      lists = is_told c.args.map c.args.bucket c.args.buckets.now c.requires.begun c.requires.bucket mid new c.in_default.field-0
+      lists = is_told c.args.map c.args.bucket c.args.buckets.now c.requires.fresh.begun c.requires.bucket mid new c.in_default.field-0
           c.in_default.ensures.brings c.in_default.ensures.touches c.in-Ok.pages
           (subst (λ (n : ℕ). ListsChainOf n mid new (Ok c.in-Ok.pages)) c.chain_of-n.ensures c.in-Ok.ensures.lists)
           (subst (λ (n : ℕ). TouchesChain {T = List ℕ} n mid new (Ok c.in-Ok.pages)) c.chain_of-n.ensures c.in-Ok.ensures.touches);
@@ -28,7 +28,7 @@ returns-in-Err-pages_of g c =
     let new = c.pages_of.new.self in
     let fault = c.in-Err-pages_of.fault in
     record {
-      lists = is_untold c.args.map c.args.bucket c.args.buckets.now c.requires.begun c.requires.bucket mid new c.in_default.field-0
+      lists = is_untold c.args.map c.args.bucket c.args.buckets.now c.requires.fresh.begun c.requires.bucket mid new c.in_default.field-0
           c.in_default.ensures.brings c.in_default.ensures.touches fault
           (subst (λ (n : ℕ). ListsChainOf n mid new (Err fault)) c.chain_of-n.ensures c.in-Err-pages_of.ensures.lists)
           (subst (λ (n : ℕ). TouchesChain {T = List ℕ} n mid new (Err fault)) c.chain_of-n.ensures c.in-Err-pages_of.ensures.touches);

@@ -13,7 +13,7 @@ returns-in-Ok g c = record {
   loads = loads_one (bucket_chain (number_of c.args.map) c.args.bucket) c.in-Ok.pages c.args.buckets.now c.bucket_pages.new.buckets
       c.begin.new.self c.args.marks.now c.mark.new.self
       (bucket_owner c.args.map c.args.bucket (bucket_count (chains_of c.args.buckets.now)) c.requires.bucket (chains_of c.args.buckets.now).few)
-      c.requires.begun c.in-Ok.ensures.lists
+      c.requires.fresh.begun c.in-Ok.ensures.lists
       (record {
         begun = c.begin.ensures.begun;
         opens = c.begin.ensures.open;

@@ -10,7 +10,7 @@ returns-in-Ok g c = record {
   loads = loads_one FREE c.in-Ok.pages c.args.buckets.now c.free_pages.new.self
       c.begin.new.self c.args.marks.now c.mark.new.self
       (inl refl)
-      c.requires.begun
+      c.requires.fresh.begun
       (free_lists c.args.buckets.now c.free_pages.new.self (Ok c.in-Ok.pages) c.in-Ok.ensures.lists c.in-Ok.ensures.touches)
       (record {
         begun = c.begin.ensures.begun;

@@ -9,7 +9,7 @@ returns-in-Ok g c = record {
   loads = loads_one c.args.n c.in-Ok.pages c.args.buckets.now c.pages_of.new.self
       c.begin.new.self c.args.marks.now c.mark.new.self
       (inr (omega (arith, c.requires.text)))
-      c.requires.begun
+      c.requires.fresh.begun
       (text_lists c.args.n c.args.buckets.now c.pages_of.new.self (Ok c.in-Ok.pages) c.requires.text c.in-Ok.ensures.lists c.in-Ok.ensures.touches)
       (record {
         begun = c.begin.ensures.begun;

@@ -16,7 +16,7 @@ returns-in-Ok g c =
     let done = c.in-Ok.ensures in
     record {
       marks = marks_other c.args.n c.in-Ok.pages old mid c.begin.new.self c.args.marks.now c.mark.new.self
-          (inr (omega (arith, c.requires.other))) c.requires.begun (λ pages was. done.lists.answers pages was) done.touches.opens
+          (inr (omega (arith, c.requires.other))) c.requires.fresh.begun (λ pages was. done.lists.answers pages was) done.touches.opens
           (looks_of (MayReadChain c.args.n old mid) old mid (Ok c.in-Ok.pages) done.touches)
           (record {
             begun = c.begin.ensures.begun;
@@ -37,7 +37,7 @@ returns-in-Err-BadStore g c =
     let done = c.in-Err-BadStore.ensures in
     let bad = c.in-Err-BadStore.field-0-is in
     record {
-      marks = marks_nothing c.args.n at old mid c.begin-in-Err-BadStore.new.self c.args.marks.now c.requires.begun
+      marks = marks_nothing c.args.n at old mid c.begin-in-Err-BadStore.new.self c.args.marks.now c.requires.fresh.begun
           (λ pages was. low_refused pages old c.args.n at c.requires.other
           (subst (λ (f : StoreFault). ListsChain pages old c.args.n (Err f)) bad (done.lists.answers pages was)))
           done.touches.opens

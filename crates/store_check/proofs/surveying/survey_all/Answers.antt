@@ -16,7 +16,7 @@ returns-in-Err-clause-answers g c pages was =
     let old = c.args.buckets.now in
     let count = c.root-count.result.buckets in
     let is : count ≡ bucket_count (chains_of old) = ap (λ (r : Root). r.buckets) c.root-count.ensures in
-    load_refused pages (kept_of (chains_of old)) was.open_chains.keeps count (counted old count c.requires.begun is) c.args.marks.now
+    load_refused pages (kept_of (chains_of old)) was.open_chains.keeps count (counted old count c.requires.fresh.begun is) c.args.marks.now
     c.load_all.new.marks c.in-Err.fault (c.in-Err.ensures.loads.answers pages was)
 
 pub returns-in-Err-clause-looks : goal.returns-in-Err-clause-looks
@@ -41,7 +41,7 @@ returns-in-Some-clause-answers g c pages was =
     let old = c.args.buckets.now in
     let count = c.root-count.result.buckets in
     let is : count ≡ bucket_count (chains_of old) = ap (λ (r : Root). r.buckets) c.root-count.ensures in
-    found_left old c.load_all.new.buckets c.mark_others.new.buckets count c.requires.begun is c.args.marks.now c.load_all.new.marks
+    found_left old c.load_all.new.buckets c.mark_others.new.buckets count c.requires.fresh.begun is c.args.marks.now c.load_all.new.marks
     c.mark_others.new.marks c.requires.many c.requires.none c.in_default.field-0 c.in_default-mark_others.field-0
     c.in_default.ensures.loads c.in_default-mark_others.ensures.marks c.in-Some.page c.in-Some.ensures.left pages was
 
@@ -64,7 +64,7 @@ returns-in-None-clause-answers g c pages was =
     let old = c.args.buckets.now in
     let count = c.root-count.result.buckets in
     let is : count ≡ bucket_count (chains_of old) = ap (λ (r : Root). r.buckets) c.root-count.ensures in
-    found_all old c.load_all.new.buckets c.mark_others.new.buckets count c.requires.begun is c.args.marks.now c.load_all.new.marks
+    found_all old c.load_all.new.buckets c.mark_others.new.buckets count c.requires.fresh.begun is c.args.marks.now c.load_all.new.marks
     c.mark_others.new.marks c.requires.many c.requires.none c.in_default.field-0 c.in_default-mark_others.field-0
     c.in_default.ensures.loads c.in_default-mark_others.ensures.marks c.in-None.ensures.left pages was
 
