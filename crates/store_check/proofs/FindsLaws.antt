@@ -1,5 +1,5 @@
 -- Calls that find something in a store, one after another.
-use Rattle.std.proofs.Common.{◌≡◌, ◌||◌, Bool, true, false, Result, Ok, Err, refl, sym, ap, ◌∙◌}
+use Rattle.std.proofs.Common.{◌≡◌, ◌||◌, Bool, true, false, Ok, Err, refl, sym, ap, ◌∙◌}
 use Rattle.outside.specs.declared.disk.Disk.{Ghosts}
 use Rattle.page_journal.specs.Journal.{is_broken}
 use Rattle.page_journal.specs.declared.fault.StoreFault.{StoreFault}

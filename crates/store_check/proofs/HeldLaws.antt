@@ -31,6 +31,9 @@ module _ (places : PlaceMap) (ways relations : BTreeMap ℕ Object) (members : O
       ap (λ (put : PlaceMap). record (held_in places ways relations members) { places = put }) is
       ∙ ap (λ (held : HeldOf). with_place held id place) are
 
+  pub place_same : (new : PlaceMap) → new ≡ places → held_in new ways relations members ≡ own
+  place_same new is = ap (λ (put : PlaceMap). record (held_in places ways relations members) { places = put }) is ∙ are
+
   pub way_put : (new : BTreeMap ℕ Object) (way : Object) → Updates nat_cmp ways new id (Some way)
       → held_in places new relations members ≡ with_way own id way
   way_put new way updates =

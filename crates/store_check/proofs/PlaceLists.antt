@@ -1,6 +1,6 @@
 -- What is found in lists by the remainders of ids, and what a place more makes of them.
 use Rattle.std.proofs.Common.{◌≡◌, ◌≢◌, ◌<◌, ◌≤◌, ◌+◌, ◌%◌, ℕ, zero, suc, Bool, true, false, cond, List, [], ◌∷◌, ◌++◌, length, get_or, set}
-use Rattle.std.proofs.Common.{Option, Some, None, refl, sym, ap, ◌∙◌, arith}
+use Rattle.std.proofs.Common.{Option, Some, None, Result, Ok, Err, OnErr, refl, sym, ap, ◌∙◌, arith}
 use Rattle.std.specs.Cmp.{nat_cmp_total}
 use Rattle.std.specs.FinMap as finite
 use Rattle.std.specs.FinMap.{nat_cmp-IsAntisymmetric}
@@ -122,6 +122,23 @@ pub own_same : (count : ℕ) (lists : List PlaceMap) (at : ℕ) (list new : Plac
     → new ≡ get_or lists at list → AreOwn count 0 (set lists at new)
 own_same count lists at list new own within same = own_set count 0 lists at new own (λ id apart.
     ap (λ (own : PlaceMap). finite.get own id) same ∙ own_at count 0 lists at list own within id apart)
+
+-- a fact is one of a refusal too
+pub on_err : {T E P : Type 0} (result : Result T E) → P → OnErr result P
+on_err (Ok value) is = tt
+on_err (Err fault) is = is
+
+set_same : (lists : List PlaceMap) (at : ℕ) (list new : PlaceMap) → at < length lists → new ≡ get_or lists at list
+    → set lists at new ≡ lists
+set_same [] at list new within same = absurd (omega (arith, within))
+set_same (first ∷ lists) zero list new within same = ap (λ (own : PlaceMap). own ∷ lists) same
+set_same (first ∷ lists) (suc at) list new within same =
+    ap (λ (own : List PlaceMap). first ∷ own) (set_same lists at list new (omega (arith, within)) same)
+
+-- a list that stays
+pub joined_same : (lists : List PlaceMap) (at : ℕ) (list new : PlaceMap) → at < length lists → new ≡ get_or lists at list
+    → joined (set lists at new) ≡ joined lists
+joined_same lists at list new within same = ap joined (set_same lists at list new within same)
 
 found_more : (lists : List PlaceMap) (list : PlaceMap) (id : ℕ) → list ≡ finite.empty → found (lists ++ list ∷ []) id ≡ found lists id
 found_more [] list id none =

@@ -1,5 +1,5 @@
 //! The objects of a store as they are kept in memory while its lists and its rows are judged.
-ghost use Rattle.std.specs.Prelude.{◌≡◌, OnOk};
+ghost use Rattle.std.specs.Prelude.{◌≡◌, OnErr, OnOk};
 ghost use Rattle.osm_base.specs.values.Key.{IsId};
 ghost use Rattle.store_check.specs.Held.{held_known, nothing_held, with_place, with_relation, with_way};
 
@@ -53,6 +53,7 @@ impl Held {
     /// Keeps the place of a node.
     pub(crate) fn put_place(&mut self, id: u64, place: Place) -> Result<(), OutOfMemory>
         ensures ok { OnOk result (self.new ≡ with_place self.old id place) }
+        ensures err { OnErr result (self.new ≡ self.old) }
     {
         self.places.put(id, place)?;
         Ok(())

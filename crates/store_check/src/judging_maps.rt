@@ -1,5 +1,5 @@
 //! Maps 0 to 2 are judged, a bucket at a time.
-ghost use Rattle.std.specs.Prelude.{◌≡◌, ◌⊎◌, ◌%◌, Bool, ℕ, true, IfOk, OnOk};
+ghost use Rattle.std.specs.Prelude.{◌≡◌, ◌⊎◌, ◌%◌, Bool, ℕ, true, OnOk};
 ghost use Rattle.bucket_store.specs.Image.{Has, Image};
 ghost use Rattle.store_check.specs.Judging.{IsRightOf, Judges, Takes, map_for};
 ghost use Rattle.store_check.specs.Reading.{Finds, IsUnchanged, IsUnwritten};

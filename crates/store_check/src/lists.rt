@@ -1,7 +1,7 @@
 //! The lists of a store, maps 3 to 5, are compared with what its ways and relations list.
 //!
 //! Each list that is kept is judged by those that are told to list its id, and each id that somebody is told to list has to have one.
-ghost use Rattle.std.specs.Prelude.{◌≡◌, ◌≤◌, ◌%◌, ℕ, IfOk, IsSome, OnOk, is_some};
+ghost use Rattle.std.specs.Prelude.{◌≡◌, ◌≤◌, ◌%◌, IsSome, is_some};
 ghost use Rattle.std.specs.FinMap as finite;
 ghost use Rattle.std.specs.List.Sorted.{IsNonDecreasingBy};
 ghost use Rattle.style_read.specs.Style.{StyleOf};

@@ -1,5 +1,5 @@
 //! The places of nodes, in a list for each bucket.
-ghost use Rattle.std.specs.Prelude.{◌≡◌, ◌≤◌, ◌<◌, ℕ, OnOk, length};
+ghost use Rattle.std.specs.Prelude.{◌≡◌, ◌≤◌, ◌<◌, ℕ, OnErr, OnOk, length};
 ghost use Rattle.std.specs.FinMap as finite;
 ghost use Rattle.store_check.specs.Places.{AreOwn, joined};
 
@@ -59,6 +59,7 @@ impl Places {
     /// Gives a node this place.
     pub(crate) fn put(&mut self, id: u64, place: Place) -> Result<(), OutOfMemory>
         ensures ok { OnOk result (self.new ≡ finite.insert self.old id place) }
+        ensures err { OnErr result (self.new ≡ self.old) }
     {
         let at = (id % self.count) as usize;
         reach(self.alloc, &mut self.lists, at)?;

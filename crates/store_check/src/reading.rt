@@ -1,5 +1,5 @@
 //! A store is read a bucket at a time.
-ghost use Rattle.std.specs.Prelude.{◌≡◌, ◌%◌, IfOk, OnOk};
+ghost use Rattle.std.specs.Prelude.{◌≡◌, ◌%◌, OnOk};
 ghost use Rattle.std.specs.FinMap as finite;
 ghost use Rattle.bucket_store.specs.Image.{IsBucketOf};
 ghost use Rattle.bucket_store.specs.Transaction.{cached_of};
