@@ -6,7 +6,8 @@ use Rattle.outside.specs.Inputs.{FilesView}
 use Rattle.run_promise.specs.declared.fault.Fault.{Fault}
 use Rattle.run_promise.specs.declared.fault.Fault.TheVariants as faults
 use Rattle.run_promise.specs.Ahead.{IsReadAhead, MayBeAhead}
-use Rattle.run_promise.specs.Checking.{IsCheckedRun}
+use Rattle.run_promise.specs.Causes.{Cause}
+use Rattle.run_promise.specs.Checking.{IsCheckedRun, IsTrusted}
 use Rattle.run_promise.specs.CommandOf.{CommandOf, Names, Use, no_store, new_store, old_store, use_of}
 use Rattle.run_promise.specs.Course.{Course}
 use Rattle.run_promise.specs.Courses.{course_of}
@@ -45,19 +46,21 @@ pub runs_ahead : (command : CommandOf) (asks : List ℕ → Type 0) (fault : Opt
     → (fault ≡ Some faults.NotFormatted → Stays old.disk new.disk)
     → IsLocalRun command old new fault
     → IsCheckedRun command old fault
+    → (use_of command ≡ old_store → IsTrusted old.disk.content fault)
     → Runs command asks old new fault
-runs_ahead command asks fault old new seen ahead its asked course spared looked unformatted local checked =
+runs_ahead command asks fault old new seen ahead its asked course spared looked unformatted local checked trusted =
     let run = course (begun (start_of (use_of command)) 0) (begins_so (use_of command) old) in
     let told = told_of command (remembered old) (start_of (use_of command)) 0 run.0 its (only_old (use_of command)) run.2 in
+    let cause : (own : Fault) → fault ≡ Some own → Cause command (remembered old) new own = λ own own_is.
+    let same : run.0.fault ≡ Some own = run.1 ∙ own_is in
+    cause_of command (remembered old) new own (subst (Blame (terms_of command) (remembered old)) same told.blame)
+    (subst (HasCause (remembered old) new) same
+    (cause_ahead (remembered old) seen new run.0.fault ahead.later run.3.cause)) in
     record {
       seen = seen;
       ahead = ahead;
       course = course;
-      cause = λ own own_is.
-          let same : run.0.fault ≡ Some own = run.1 ∙ own_is in
-          cause_of command (remembered old) new own (subst (Blame (terms_of command) (remembered old)) same told.blame)
-          (subst (HasCause (remembered old) new) same
-          (cause_ahead (remembered old) seen new run.0.fault ahead.later run.3.cause));
+      cause = cause;
       asked = asked;
       unnamed = λ file not. ahead.others file (λ may. not (ahead_named command fault file may))
           ∙ run.3.others file (λ read. let own = told.up_to.only file read in
@@ -69,6 +72,8 @@ runs_ahead command asks fault old new seen ahead its asked course spared looked 
       unformatted = unformatted;
       local = local;
       checked = checked;
+      -- of a store that was made on a disk that tells its bytes no damaged page is told
+      trusted = λ page is bytes held. trusted ((cause (faults.BadStore page) is).1 bytes held) page is bytes held;
     }
 
 -- a run that reads each file in its turn
@@ -80,10 +85,11 @@ pub runs_by : (command : CommandOf) (asks : List ℕ → Type 0) (fault : Option
     → (fault ≡ Some faults.NotFormatted → Stays old.disk new.disk)
     → IsLocalRun command old new fault
     → IsCheckedRun command old fault
+    → (use_of command ≡ old_store → IsTrusted old.disk.content fault)
     → Runs command asks old new fault
-runs_by command asks fault old new its asked course spared looked unformatted local checked =
+runs_by command asks fault old new its asked course spared looked unformatted local checked trusted =
     runs_ahead command asks fault old new new.files (none_ahead (MayBeAhead command fault) new.files) its asked course spared looked
-    unformatted local checked
+    unformatted local checked trusted
 
 -- a run that begins in one way only
 pub from_unused : (way : Use) (old new : World) (course : Course) (fault : Option Fault) → way ≢ old_store

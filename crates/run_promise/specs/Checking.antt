@@ -1,4 +1,4 @@
--- What a check tells of the bytes of a store.
+-- What a check tells of the bytes of a store, and what no command tells of those that a check finds sound.
 use Rattle.std.specs.Prelude.{◌≡◌, ℕ, List, Option, Some, None}
 use Rattle.outside.specs.Bytes.{IfTold}
 use Rattle.update_flow.specs.BadPage.{IsBadPage}
@@ -17,3 +17,7 @@ pub record IsChecked (content : Option (List ℕ)) (fault : Option Fault) : Type
 abbrev pub IsCheckedRun : CommandOf → World → Option Fault → Type 0
 IsCheckedRun (check_of store) old fault = IsChecked old.disk.content fault
 IsCheckedRun _ old fault = Unit {0}
+
+-- over the bytes of a sound store no damaged page is told, whatever is known of their history
+abbrev pub IsTrusted : Option (List ℕ) → Option Fault → Type 0
+IsTrusted content fault = (page : ℕ) → fault ≡ Some (BadStore page) → IfTold content (λ bytes. ¬ IsSound bytes)

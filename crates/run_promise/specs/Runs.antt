@@ -8,7 +8,7 @@ use Rattle.run_promise.specs.declared.fault.Fault.{Fault}
 use Rattle.run_promise.specs.declared.fault.Fault.TheVariants.{Usage, NotFormatted}
 use Rattle.run_promise.specs.Ahead.{IsReadAhead, MayBeAhead}
 use Rattle.run_promise.specs.Causes.{Cause}
-use Rattle.run_promise.specs.Checking.{IsCheckedRun}
+use Rattle.run_promise.specs.Checking.{IsCheckedRun, IsTrusted}
 use Rattle.run_promise.specs.Comes.{Comes}
 use Rattle.run_promise.specs.CommandOf.{CommandOf, Names, Use, no_store, new_store, old_store, use_of}
 use Rattle.run_promise.specs.Course.{Course}
@@ -71,6 +71,8 @@ pub record Runs (command : CommandOf) (asks : List ℕ → Type 0) (old new : Wo
   pub local : IsLocalRun command old new fault
   -- a check tells that a store is sound where it is, and else a page that shows that it is not
   pub checked : IsCheckedRun command old fault
+  -- a store that a check would find sound is never told to be damaged
+  pub trusted : IsTrusted old.disk.content fault
 
 -- words that are no command touch nothing
 pub record IsWrongUse (asks : List ℕ → Type 0) (old new : World) (fault : Option Fault) : Type 0 where

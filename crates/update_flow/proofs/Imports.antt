@@ -27,7 +27,7 @@ use Rattle.update_flow.specs.Faults.{of_store}
 use Rattle.update_flow.specs.Refusals.{MayAnswer}
 use Rattle.update_flow.specs.Ids.{AreIdEntries}
 use Rattle.update_flow.specs.Settling.{begun, fresh_root}
-use Rattle.update_flow.specs.Stands.{IsBlank, IsImported}
+use Rattle.update_flow.specs.Stands.{IsImported}
 use Rattle.update_flow.specs.State.{State, Step, Import, formatted, fresh, imported, outdated}
 use Rattle.update_flow.specs.Handle.{Handle, IsOpen, Shows, Takes, TellsAs, is_imported, is_old, is_whole, limits_of, view_of}
 use Rattle.update_flow.specs.Turning.{TurnsOn}
@@ -59,12 +59,13 @@ no_runs : IsTileSet []
 no_runs = record { each = tt; apart = tt }
 
 -- the store once its maps are filled, and it has a style
-pub begun_becomes : (style : StyleOf) (bytes : List ℕ) (buckets : ℕ) (entries : List Entry) (rest now : Image) (maps : Maps) → IsBlank rest
+pub begun_becomes : (style : StyleOf) (bytes : List ℕ) (buckets : ℕ) (entries : List Entry) (rest now : Image) (maps : Maps)
+    → ((n : ℕ) → n < 8 → rest.texts n ≡ [])
     → reading bytes ≡ Ok style → IsTrue (is_power_of_two buckets) → buckets ≤ 65536 → now.root.buckets ≡ buckets
     → ((n : ℕ) → n < 8 → now.texts n ≡ rest.texts n) → HoldsMaps style.tables now.maps maps
     → Stands style maps (folded_all finite.empty entries)
     → AreIdEntries entries → IsImported (fresh style bytes buckets entries) (begun bytes now)
-begun_becomes style bytes buckets entries rest now maps blank reads power few count texts kept stand ids =
+begun_becomes style bytes buckets entries rest now maps empty reads power few count texts kept stand ids =
     let root = fresh_root now.root.buckets in
     let text = with_text STYLE_TEXT bytes now in
     record {
@@ -80,11 +81,11 @@ begun_becomes style bytes buckets entries rest now maps blank reads power few co
         is = no_runs;
         bytes_are =
             texts_with_root root text DUE_TEXT ∙ texts_beside STYLE_TEXT bytes now DUE_TEXT (omega arith) ∙ texts DUE_TEXT (omega arith)
-            ∙ blank.texts DUE_TEXT (omega arith);
+            ∙ empty DUE_TEXT (omega arith);
         tiles = λ zoom x y. refl;
       };
       others = λ n below not_style not_due.
-          texts_with_root root text n ∙ texts_beside STYLE_TEXT bytes now n not_style ∙ texts n below ∙ blank.texts n below;
+          texts_with_root root text n ∙ texts_beside STYLE_TEXT bytes now n not_style ∙ texts n below ∙ empty n below;
       ids = ids_folded entries finite.empty ids_none ids;
       maps = record {
         maps = maps;

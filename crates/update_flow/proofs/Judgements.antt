@@ -97,11 +97,11 @@ state_one : (format : ℕ) (root : Root) → is_of format root ≡ true → (roo
 state_one format root is = left_of (root.state == 1) _ (right_of (root.format == format) _ is)
 
 -- the fields of a store that was only made are not those of an imported one, and those of an old one are neither
-made_apart : (format : ℕ) (root : Root) → is_blank root ≡ true → is_of format root ≡ true → ⊥
+pub made_apart : (format : ℕ) (root : Root) → is_blank root ≡ true → is_of format root ≡ true → ⊥
 made_apart format root made is =
     none_two root.state (left_of (root.state == 0) (root.buckets == 0) (right_of (root.format == 1) _ made)) (state_one format root is)
 
-old_apart : (root : Root) → is_imported root ≡ true → is_old root ≡ true → ⊥
+pub old_apart : (root : Root) → is_imported root ≡ true → is_old root ≡ true → ⊥
 old_apart root is old = one_two root.format (left_of (root.format == 1) _ old) (left_of (root.format == 2) _ is)
 
 -- a sound store is one of today

@@ -27,6 +27,8 @@ pub mod Migrations
 pub mod Settings
 pub mod Within
 pub mod SoundCarried
+pub mod SoundSteps
+pub mod SoundOpened
 pub mod SoundChanged
 pub mod SoundKnown
 pub mod SoundStanding

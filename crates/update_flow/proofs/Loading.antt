@@ -2,7 +2,8 @@
 use Rattle.std.proofs.Common.{◌≡◌, ◌≢◌, ◌⊎◌, inl, inr, ◌+◌, ◌*◌, ◌/◌, ◌%◌, ℕ, Bool, true, false, List, [], ◌∷◌, Option, Some, None, refl}
 use Rattle.std.proofs.Common.{sym, ap, subst, ◌∙◌, arith, nat_eq}
 use Rattle.std.specs.Prelude.{if◌then◌else◌}
-use Rattle.std.specs.Option.{IsSome}
+use Rattle.std.specs.List.{AllByRecursion}
+use Rattle.std.specs.Option.{IsSome, option_map}
 use Rattle.std.specs.FinMap as map
 use Rattle.std.specs.Ordering.{nat_cmp}
 use Rattle.std.proofs.lemmas.Bool.Decides.{nat_tests}
@@ -15,7 +16,7 @@ use Rattle.osm_base.specs.declared.values.row.TableRow.{TableRow}
 use Rattle.osm_base.specs.map.Listers.{known_of}
 use Rattle.osm_base.specs.map.Objects.{ObjectSet}
 use Rattle.osm_base.specs.map.Spots.{SpotOf, TableMap}
-use Rattle.osm_base.specs.values.Key.{IsId, KeyOf}
+use Rattle.osm_base.specs.values.Key.{IsId, KeyOf, node_key, relation_key, way_key}
 use Rattle.style_read.specs.declared.style.TableDef.{TableDef}
 use Rattle.style_read.specs.Style.{StyleOf}
 use Rattle.row_map.specs.Row.{tables}
@@ -30,6 +31,11 @@ use Rattle.store_maps.specs.Delta.{kept_row, row_in}
 use Rattle.store_maps.specs.Maps.{Maps, kept_rows, rows_at, unless_empty}
 use Rattle.store_maps.specs.Stands.{HoldsRows}
 use Rattle.store_maps.proofs.KeptRows.{kept_row-tables}
+use Rattle.value_bytes.specs.declared.nodes.NodeRecord.{NodeRecord}
+use Rattle.bucket_store.specs.Image.{Image}
+use Rattle.store_check.specs.Maps.{HasSoundMapsOf}
+use Rattle.store_check.specs.Values.{IfUnknown, IsPlaced, NodeMap, ObjectMap, bare, objects_of}
+use Rattle.store_check.proofs.ObjectSets.{get_node}
 use Rattle.update_flow.specs.Within.{wanted_of}
 use Rattle.update_flow.proofs.OneTable.{wanted_get}
 
@@ -65,15 +71,45 @@ some_of : {X : Type 0} (found : Option X) → (found ≡ None → ⊥) → IsSom
 some_of None not = absurd (not refl)
 some_of (Some x) not = refl
 
-rows_id : (style : StyleOf) (maps : Maps) (objects : ObjectSet) → HoldsRows maps (rows_in style objects) → HasIds objects
+id_of : (style : StyleOf) (objects : ObjectSet) → HasIds objects → (key : KeyOf) (found : Option (List TableRow)) (own : List TableRow)
+    → found ≡ unless_empty (rows_in style objects key) → found ≡ Some own → IsId key.id
+id_of style objects ids key found own right is =
+    ids key (some_of (map.get objects key) (λ none.
+    absurd (let empty : found ≡ None = right ∙ ap (λ (rows : List TableRow). unless_empty rows) (rows_in-none style objects key none) in
+    cc (is, empty))))
+
+pub rows_id : (style : StyleOf) (maps : Maps) (objects : ObjectSet) → HoldsRows maps (rows_in style objects) → HasIds objects
     → (kind : Kind) (id : ℕ)
     (own : List TableRow) → rows_at maps kind id ≡ Some own → IsId id
 rows_id style maps objects holds ids kind id own is =
-    let key : KeyOf = record { kind = kind; id = id } in
-    ids key (some_of (map.get objects key) (λ none.
-    absurd (let empty : rows_at maps kind id ≡ None =
-    holds.at kind id ∙ ap (λ (rows : List TableRow). unless_empty rows) (rows_in-none style objects key none) in
-    cc (is, empty))))
+    id_of style objects ids (record { kind = kind; id = id }) (rows_at maps kind id) own (holds.at kind id) is
+
+-- so has each in a sound store: a node whose tags nobody knows is one of its objects
+some_bare : (found : Option NodeRecord) → IsSome found → IsSome (option_map bare found)
+some_bare None there = absurd (cc)
+some_bare (Some own) there = refl
+
+known_node : (nodes : NodeMap) (ways relations : ObjectMap) (id : ℕ) → IsSome (map.get nodes id)
+    → IsSome (map.get (objects_of nodes ways relations) (node_key id))
+known_node nodes ways relations id there = subst IsSome (sym (get_node nodes ways relations id)) (some_bare (map.get nodes id) there)
+
+module _ (style : StyleOf) (objects : ObjectSet) (image : Image) (sound : HasSoundMapsOf style objects image) (ids : HasIds objects) where
+  own_node : (id : ℕ) → IsSome (map.get sound.maps.nodes id) → IsSome (map.get objects (node_key id))
+  own_node id there = subst (λ (all : ObjectSet). IsSome (map.get all (node_key id))) (sym sound.own)
+      (known_node sound.maps.nodes sound.maps.ways sound.maps.relations id there)
+
+  at_node : (id : ℕ) (own : List TableRow) (found : Option NodeRecord) → map.get sound.maps.nodes id ≡ found
+      → IfUnknown found (λ place. AllByRecursion (IsPlaced style.tables place) (kept_rows (rows_at sound.maps kinds.Node id)))
+      (rows_at sound.maps kinds.Node id ≡ unless_empty (rows_in style objects (node_key id)))
+      → rows_at sound.maps kinds.Node id ≡ Some own → IsId id
+  at_node id own None there right is = id_of style objects ids (node_key id) (rows_at sound.maps kinds.Node id) own right is
+  at_node id own (Some node) there right is = ids (node_key id) (own_node id (subst IsSome (sym there) refl))
+
+  pub sound_id : (kind : Kind) (id : ℕ) (own : List TableRow) → rows_at sound.maps kind id ≡ Some own → IsId id
+  sound_id kinds.Node id own is = at_node id own (map.get sound.maps.nodes id) refl (sound.rows kinds.Node id) is
+  sound_id kinds.Way id own is = id_of style objects ids (way_key id) (rows_at sound.maps kinds.Way id) own (sound.rows kinds.Way id) is
+  sound_id kinds.Relation id own is =
+      id_of style objects ids (relation_key id) (rows_at sound.maps kinds.Relation id) own (sound.rows kinds.Relation id) is
 
 -- bytes under the number of a key tell its rows
 told_at : (definitions : List TableDef) (wanted : Option ℕ) (maps : Maps) (which number : ℕ) (kind : Kind) (id : ℕ) (own : List TableRow)
@@ -112,16 +148,18 @@ cased false = inr refl
 abbrev other_key : Bool → ℕ → KeyOf
 other_key even half = if even then record { kind = kinds.Way; id = half } else record { kind = kinds.Relation; id = half }
 
-module _ (style : StyleOf) (wanted : Option ℕ) (kept : ℕ → BucketMap) (maps : Maps) (objects : ObjectSet)
-    (holds : HoldsRows maps (rows_in style objects))
-    (ids : HasIds objects) where
+-- each key that has rows has an id
+abbrev pub HasRowIds : Maps → Type 0
+HasRowIds maps = (kind : Kind) (id : ℕ) (own : List TableRow) → rows_at maps kind id ≡ Some own → IsId id
+
+module _ (style : StyleOf) (wanted : Option ℕ) (kept : ℕ → BucketMap) (maps : Maps) (good : HasRowIds maps) where
   pub nodes_told : HoldsMap rows_bytes (AreRows style.tables) (kept 6) maps.node_rows
       → AreTold style.tables wanted 6 (wanted_row wanted maps) (kept 6)
   nodes_told held number bytes is =
       let found = decoded rows_bytes (AreRows style.tables) (map.get (kept 6) number) (map.get maps.node_rows number) bytes is
       (held number) in
       told_at style.tables wanted maps 6 number kinds.Node number found.0 bytes refl found.1
-      (rows_id style maps objects holds ids kinds.Node number found.0 found.1) found.2 found.3
+      (good kinds.Node number found.0 found.1) found.2 found.3
 
   pub others_told : HoldsMap rows_bytes (AreRows style.tables) (kept 7) maps.other_rows
       → AreTold style.tables wanted 7 (wanted_row wanted maps) (kept 7)
@@ -134,13 +172,13 @@ module _ (style : StyleOf) (wanted : Option ℕ) (kept : ℕ → BucketMap) (map
             ap (λ (n : ℕ). map.get maps.other_rows n) (even_half number (even_tells number even)) ∙ found.1 in
             told_at style.tables wanted maps 7 number kinds.Way (number / 2) found.0 bytes
             (ap (λ (b : Bool). other_key b (number / 2)) even) rows
-            (rows_id style maps objects holds ids kinds.Way (number / 2) found.0 rows) found.2 found.3
+            (good kinds.Way (number / 2) found.0 rows) found.2 found.3
         | inr odd ↦
             let rows : rows_at maps kinds.Relation (number / 2) ≡ Some found.0 =
             ap (λ (n : ℕ). map.get maps.other_rows n) (odd_half number (odd_tells number odd)) ∙ found.1 in
             told_at style.tables wanted maps 7 number kinds.Relation (number / 2) found.0 bytes
             (ap (λ (b : Bool). other_key b (number / 2)) odd) rows
-            (rows_id style maps objects holds ids kinds.Relation (number / 2) found.0 rows) found.2 found.3
+            (good kinds.Relation (number / 2) found.0 rows) found.2 found.3
       ]
 
 doubled : (id : ℕ) → (2 * id) % 2 ≡ 0

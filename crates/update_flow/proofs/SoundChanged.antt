@@ -1,5 +1,5 @@
 -- A change of a sound store leaves a sound one, also where nobody knows the tags of some of its nodes.
-use Rattle.std.proofs.Common.{◌≡◌, ◌<◌, ◌≤◌, ◌+◌, ◌⊎◌, inl, inr, ℕ, List, [], ◌∷◌, Option, Some, None, Ok}
+use Rattle.std.proofs.Common.{◌≡◌, ◌<◌, ◌≤◌, ◌+◌, ℕ, List, [], ◌∷◌, Option, Some, None, Ok}
 use Rattle.std.proofs.Common.{refl, sym, ap, subst, ◌∙◌, arith}
 use mathlib.Core.Bool.{true≢false}
 use Rattle.std.specs.Prelude.{IfSome, is_some}
@@ -31,12 +31,10 @@ use Rattle.due_tiles.specs.Spelling.{set_bytes}
 use Rattle.value_bytes.specs.Maps.{Decodes}
 use Rattle.value_bytes.specs.declared.nodes.NodeRecord.{NodeRecord}
 use Rattle.chain_store.specs.declared.root.Root.{Root}
-use Rattle.bucket_store.specs.Image.{Has, HasImage, Image, OnlyLooks, RestsAt, with_text}
+use Rattle.bucket_store.specs.Image.{Has, Image, OnlyLooks, with_text}
 use Rattle.bucket_store.specs.declared.buckets.Buckets.{Buckets}
-use Rattle.bucket_store.proofs.Holding.{looks_then, rests_later, rests_under}
+use Rattle.bucket_store.proofs.Holding.{looks_then, rests_under}
 use Rattle.bucket_store.proofs.Images.{maps_with_root, maps_with_text, root_with_root, texts_beside, texts_here, texts_with_root}
-use Rattle.bucket_store.proofs.Reopened.{moments_looked}
-use Rattle.page_journal.proofs.Moments.{goes_then, goes_weaker}
 use Rattle.row_store.specs.Rows.{AreRows, IsTableRow, rows_bytes}
 use Rattle.store_maps.specs.Maps.{Maps, kept_rows, rows_at, unless_empty}
 use Rattle.store_maps.specs.Named.{place_in}
@@ -49,12 +47,12 @@ use Rattle.store_check.proofs.ObjectSets.{get_node, get_relation, get_way}
 use Rattle.update_step.specs.Unknown.{IsLeft, IsUnknown, KeepsKnown, StandsKnown, record_at}
 use Rattle.page_journal.specs.declared.fault.StoreFault.{StoreFault}
 use Rattle.update_flow.specs.Ids.{AreIdEntries}
-use Rattle.update_flow.specs.Refusals.{MayAnswer, Refuses}
+use Rattle.update_flow.specs.Refusals.{Refuses}
 use Rattle.update_flow.specs.Settling.{counted_to, settled}
-use Rattle.update_flow.specs.Sound.{IsSound, IsSoundImport}
+use Rattle.update_flow.specs.Sound.{IsSoundImport}
 use Rattle.update_flow.specs.SoundTurns.{TurnsSound, changed_with}
 use Rattle.update_flow.specs.State.{Append, Holding, imported}
-use Rattle.update_flow.specs.Turning.{CommitsTo, CommitsWith, limit_in, view_in}
+use Rattle.update_flow.specs.Turning.{CommitsWith, limit_in}
 use Rattle.update_flow.specs.declared.fault.FlowFault.{FlowFault}
 use Rattle.update_flow.specs.declared.fault.TheConstants.{LAST_CHANGE}
 use Rattle.update_flow.specs.declared.fields.TheConstants.{DUE_TEXT, STYLE_TEXT}
@@ -64,7 +62,7 @@ use Rattle.update_flow.proofs.Appended.{beside}
 use Rattle.update_flow.proofs.Keyed.{ids_folded}
 use Rattle.update_flow.proofs.MapsKept.{kept_same}
 use Rattle.update_flow.proofs.SoundStanding.{known_kept, none_kept}
-use Rattle.update_flow.proofs.Turning.{answered}
+use Rattle.update_flow.proofs.SoundSteps.{sound_committed}
 
 -- Rows that are spelled may be kept.
 
@@ -240,9 +238,6 @@ module _ (held : Holding) (rest now : Image) (is : IsSoundImport held rest) (roo
     };
   }
 
-image_sound : (held : Holding) (image : Image) (left : List ℕ) → IsSoundImport held image → HasImage image left → IsSound left
-image_sound held image left is has = record { image = image; has = has; is = inr (held, is) }
-
 -- the maps of a sound store stand so for its objects
 pub stands_known : (held : Holding) (rest : Image) (is : IsSoundImport held rest) (style : StyleOf) → held.style ≡ style
     → StandsKnown style is.maps.maps held.objects
@@ -257,18 +252,6 @@ module _ {D : Type 0} {g : Ghosts D} (held : Holding) (rest : Image) (is : IsSou
       subst (λ (s : StyleOf). HasMaps s.tables (beside rest) is.maps.maps mid) (sym (same ∙ sym alike))
       (record { now = rest; has = has; root = refl; texts = λ n below. refl; kept = is.maps.kept })
 
-  -- a change that is refused before its commit was never begun
-  pub sound_refused : (limits : LimitNumbers) (bounds : BoundsOf) (change : List Entry) (fault : FlowFault) (old new : Buckets D g)
-      → RestsAt rest old → OnlyLooks old new → MayAnswer limits (imported held) (Append bounds change) (Some fault)
-      → TurnsSound limits held bounds change (Some fault) old new
-  sound_refused limits bounds change fault old new rests looks may = record {
-    answer = may;
-    done = λ is. absurd (cc (is));
-    refused = λ not no. record { image = rest; at_rest = rests_later rest old new looks rests; is = is };
-    moments = goes_weaker (λ left. HasImage rest left) IsSound (view_in old).crashes (view_in new).crashes
-        (moments_looked rest old new rests looks) (λ left has. image_sound held rest left is has);
-  }
-
   module _ (style : StyleOf) (alike : held.style ≡ style) (limits : LimitNumbers) (bounds : BoundsOf) (change : List Entry) (number : ℕ)
       (old mid last new : Buckets D g) (looked : OnlyLooks old mid) (later : OnlyLooks mid last) (due : List Run)
       (fault : Option FlowFault) (commits : CommitsWith (settled number due) fault last new) where
@@ -277,7 +260,7 @@ module _ {D : Type 0} {g : Ghosts D} (held : Holding) (rest : Image) (is : IsSou
         → held.changes + 1 ≡ number → number ≤ LAST_CHANGE → IsTileSet due → AreIdEntries change
         → KeepsKnown {E = StoreFault} (λ (maps : Maps). HasMaps style_now.tables (beside rest) maps last) IsAllowed style limits.pending
         is.maps.maps held.objects change (Ok told)
-        → TurnsSound limits held bounds change fault old new
+        → TurnsSound limits (imported held) (Append bounds change) fault old new
     sound_turns style_now told styled had same next counted set ids done =
         let after = done.stands.0 in
         let objects : ObjectSet = folded_all held.objects change in
@@ -292,29 +275,10 @@ module _ {D : Type 0} {g : Ghosts D} (held : Holding) (rest : Image) (is : IsSou
         (settled_sound held rest kept.now is kept.root kept.texts objects sound (ids_folded change held.objects is.ids ids) due set number
         counted) in
         let looks = looks_then old mid last looked later in
-        let rests = rests_under rest rest old had in
-        let commit : CommitsTo limits rest (settled number due kept.now) fault last new =
-        commits.commits limits rest kept.now (looks.looked.limit ∙ same) kept.has in
         let may : Refuses limits (imported held) (Append bounds change) None = (
           (λ last. absurd (omega (arith, last, next, counted))),
           (λ set pending. done.few set (subst (λ (s : StyleOf). IsPendingOf s held.objects change set) alike pending)),
         ) in
-        record {
-          answer = answered limits fault (fault ≡ None) (Refuses limits (imported held) (Append bounds change) fault)
-              (λ none. subst (λ (f : Option FlowFault). Refuses limits (imported held) (Append bounds change) f) (sym none) may)
-              commit.answer;
-          done = λ none. (has due, record { image = settled number due kept.now; at_rest = commit.done none; is = becomes });
-          refused = λ not no. record {
-            image = rest;
-            at_rest = rests_later rest old new (looks_then old last new looks (commit.refused not no)) rests;
-            is = is;
-          };
-          moments = goes_then IsSound (view_in old).crashes (view_in last).crashes (view_in new).crashes
-              (goes_weaker (λ left. HasImage rest left) IsSound (view_in old).crashes (view_in last).crashes
-              (moments_looked rest old last rests looks) (λ left has. image_sound held rest left is has))
-              (goes_weaker (λ left. HasImage rest left ⊎ HasImage (settled number due kept.now) left) IsSound (view_in last).crashes
-              (view_in new).crashes commit.moments (λ left either. elim either [
-                | inl one ↦ image_sound held rest left is one
-                | inr other ↦ image_sound (changed_with (has due) change held) (settled number due kept.now) left becomes other
-              ]));
-        }
+        sound_committed limits (imported held) (Append bounds change) rest is fault (settled number due kept.now)
+        (imported (changed_with (has due) change held)) old last new (rests_under rest rest old had) looks becomes (has due, refl) may
+        (commits.commits limits rest kept.now (looks.looked.limit ∙ same) kept.has)

@@ -62,7 +62,7 @@ pub(crate) fn append<D: Disk, R: Threads + Sync, G: Gate>(
     // Over a sound store it is refused for the disk, memory and limits alone, and leaves a sound one.
     ensures sound { (held : Holding) (rest : Image) → limit_in (buckets_of maps.old) ≡ limits.now.pages → Has rest rest (buckets_of maps.old)
         → IsSoundImport held rest → held.style ≡ style.now → held.changes + 1 ≡ number
-        → TurnsSound limits.now held bounds.now change.now (result_err result) (buckets_of maps.old) (buckets_of maps.new) }
+        → TurnsSound limits.now (imported held) (Append bounds.now change.now) (result_err result) (buckets_of maps.old) (buckets_of maps.new) }
 
     // Whatever the store holds.
     ensures ends { EndsIn (Some (Append bounds.now change.now)) (result_err result) (buckets_of maps.old) (buckets_of maps.new) }

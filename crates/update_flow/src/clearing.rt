@@ -3,6 +3,8 @@ ghost use Rattle.std.specs.Prelude.{◌≡◌, Some};
 ghost use Rattle.std.specs.Result.{result_err};
 ghost use Rattle.osm_base.specs.declared.bounds.limits.LimitNumbers.{LimitNumbers};
 ghost use Rattle.bucket_store.specs.Image.{Has, Image};
+ghost use Rattle.update_flow.specs.Sound.{IsSoundImport};
+ghost use Rattle.update_flow.specs.SoundTurns.{TurnsSound};
 ghost use Rattle.update_flow.specs.Stands.{IsImported};
 ghost use Rattle.update_flow.specs.State.{Clear, Holding, imported};
 ghost use Rattle.update_flow.specs.Turning.{EndsIn, TurnsIn, limit_in};
@@ -21,6 +23,8 @@ pub(crate) fn clear<D: Disk>(alloc: Global, buckets: &mut Buckets<'_, D>) -> Res
     requires ready { IsGoing buckets.old }
     ensures turns { (limits : LimitNumbers) (held : Holding) (rest : Image) → limit_in buckets.old ≡ limits.pages → Has rest rest buckets.old
         → IsImported held rest → TurnsIn limits (imported held) Clear (result_err result) buckets.old buckets.new }
+    ensures sound { (limits : LimitNumbers) (held : Holding) (rest : Image) → limit_in buckets.old ≡ limits.pages → Has rest rest buckets.old
+        → IsSoundImport held rest → TurnsSound limits (imported held) Clear (result_err result) buckets.old buckets.new }
     ensures ends { EndsIn (Some Clear) (result_err result) buckets.old buckets.new }
 {
     let none = TileRuns::new(alloc);

@@ -6,11 +6,13 @@ ghost use Rattle.outside.specs.Disk.{Tells};
 ghost use Rattle.page_journal.specs.Pages.{gate};
 ghost use Rattle.page_journal.specs.declared.layout.TheConstants.{OPEN};
 ghost use Rattle.page_journal.specs.declared.fault.StoreFault.TheVariants.{BadStore};
+ghost use Rattle.bucket_store.specs.Image.{HoldsImage, Image};
 ghost use Rattle.bucket_store.specs.Opening.{Fits, FitsPages, opened_root};
 ghost use Rattle.update_flow.specs.AtRest.{IsAt, IsAtEither, Opens, OpensAs};
 ghost use Rattle.update_flow.specs.BadPage.{IsBadPage, IsBadStyle, IsBadWithin, root_told};
 ghost use Rattle.update_flow.specs.Judged.{AreSound, IsReadOf};
 ghost use Rattle.update_flow.specs.Sound.{IsSound as IsSoundStore};
+ghost use Rattle.update_flow.specs.SoundTurns.{OpensSound, TellsStyle};
 ghost use Rattle.update_flow.specs.State.{State, style_in, was_imported, was_old};
 ghost use Rattle.update_flow.specs.Stands.{StandsFor};
 ghost use Rattle.update_flow.specs.Opening.{Finds, Found, HoldsState, OpensAny};
@@ -42,6 +44,9 @@ pub fn open<D: Disk>(alloc: Global, disk: &mut D, limits: &Limits) -> Result<Ope
         → Found state (D.view disk.new) opened) }
     ensures any { OpensAny (D.view disk.old) (D.view disk.new) result }
 
+    // A sound store is found so, and refused for the disk and memory alone.
+    ensures sound { (bytes : List ℕ) → Tells (D.view disk.old) bytes → IsSoundStore bytes → OpensSound (D.view disk.new) result }
+
     // It reads what it needs, each page once.
     ensures once { OnOk result ((bytes : List ℕ) (state : State) → Tells (D.view disk.old) bytes → StandsFor bytes state → gate bytes ≢ OPEN
         → ReadsToOpen bytes (D.view disk.old) (D.view disk.new)) }
@@ -68,6 +73,7 @@ fn judged<D: Disk>(
     ensures found { IfOk result (λ opened. Fits found (D.view disk.old) → (state : State) → HoldsState state (D.view disk.old)
         → Found state (D.view disk.new) opened) }
     ensures fields { IfOk result (λ opened. AreFieldsOf opened.style opened.outdated opened.changes (opened_root found)) }
+    ensures style { IfOk result (λ opened. (image : Image) → Fits found (D.view disk.old) → HoldsImage image (D.view disk.old) → TellsStyle opened.style image) }
     ensures sound { Fits found (D.view disk.old) → (state : State) → HoldsState state (D.view disk.old) → IsSound (result_err result) }
     ensures finds { Finds found (D.view disk.old) (D.view disk.new) result }
     ensures fits { IfOk result (λ opened. (fits : Fits found (D.view disk.old)) → FitsPages fits.pages opened.store (D.view disk.new)) }
@@ -106,6 +112,7 @@ fn with_style<D: Disk>(
     ensures changes { IfOk result (λ opened. opened.changes ≡ changes) }
     ensures outdated { IfOk result (λ opened. opened.outdated ≡ outdated) }
     ensures styled { IfOk result (λ opened. is_some opened.style ≡ true) }
+    ensures style { IfOk result (λ opened. (image : Image) → Fits found (D.view disk.old) → HoldsImage image (D.view disk.old) → TellsStyle opened.style image) }
     ensures found { IfOk result (λ opened. Fits found (D.view disk.old) → (state : State) → HoldsState state (D.view disk.old)
         → was_imported state ≡ true → (opened.style ≡ style_in state) × Fits opened.store (D.view disk.new)) }
     ensures sound { Fits found (D.view disk.old) → (state : State) → HoldsState state (D.view disk.old) → was_imported state ≡ true

@@ -13,7 +13,7 @@ ghost use Rattle.update_flow.specs.ChangeReads.{ReadsTouched};
 ghost use Rattle.update_flow.specs.Asked.{MayImport};
 ghost use Rattle.update_flow.specs.Changes.{AreChanges};
 ghost use Rattle.update_flow.specs.Opening.{HoldsState};
-ghost use Rattle.update_flow.specs.SoundTurns.{HoldsSound, TurnsSoundOn};
+ghost use Rattle.update_flow.specs.SoundTurns.{HoldsSound, LooksSoundOn, TurnsSoundOn};
 ghost use Rattle.update_flow.specs.State.{Append, Clear, Holding, Import, Migrate, formatted, imported, outdated};
 ghost use Rattle.update_flow.specs.Turning.{EndsOn, LooksOn, TurnsOn};
 ghost use Rattle.update_flow.specs.Within.{wanted_of};
@@ -47,6 +47,8 @@ pub(crate) fn clear_on<D: Disk>(
 ) -> Result<(), FlowFault>
     ensures turns { (held : Holding) → Fits store (D.view disk.old) → HoldsState (imported held) (D.view disk.old)
         → TurnsOn limits.now (imported held) Clear (result_err result) (D.view disk.old) (D.view disk.new) kept.new }
+    ensures sound { (held : Holding) → Fits store (D.view disk.old) → HoldsSound (imported held) (D.view disk.old)
+        → TurnsSoundOn limits.now (imported held) Clear (result_err result) (D.view disk.old) (D.view disk.new) kept.new }
     ensures ends { EndsOn (Some Clear) (result_err result) (D.view disk.old) (D.view disk.new) kept.new }
 {
     let mut buckets = Buckets::on(alloc, disk, limits, store);
@@ -85,6 +87,8 @@ pub(crate) fn due_on<D: Disk>(
         → LooksOn (imported held) (result_err result) (D.view disk.old) (D.view disk.new) kept.new }
     ensures due { IfOk result (λ found. (held : Holding) → Fits store (D.view disk.old) → HoldsState (imported held) (D.view disk.old)
         → (zoom x y : ℕ) → has found zoom x y ≡ held.due zoom x y) }
+    ensures sound { (held : Holding) → Fits store (D.view disk.old) → HoldsSound (imported held) (D.view disk.old)
+        → LooksSoundOn (imported held) (result_err result) (D.view disk.new) kept.new }
     ensures stays { Stays (D.view disk.old) (D.view disk.new) }
     ensures ends { EndsOn None (result_err result) (D.view disk.old) (D.view disk.new) kept.new }
 {
@@ -108,6 +112,8 @@ pub(crate) fn rows_on<D: Disk>(
         → LooksOn (imported held) (result_err result) (D.view disk.old) (D.view disk.new) kept.new }
     ensures tables { IfOk result (λ found. (held : Holding) → Fits store (D.view disk.old) → HoldsState (imported held) (D.view disk.old)
         → held.style ≡ style.now → found ≡ wanted_of wanted (tables held.style held.objects)) }
+    ensures sound { (held : Holding) → Fits store (D.view disk.old) → HoldsSound (imported held) (D.view disk.old) → held.style ≡ style.now
+        → LooksSoundOn (imported held) (result_err result) (D.view disk.new) kept.new }
     ensures stays { Stays (D.view disk.old) (D.view disk.new) }
     ensures ends { EndsOn None (result_err result) (D.view disk.old) (D.view disk.new) kept.new }
 {
@@ -132,6 +138,8 @@ pub(crate) fn import_on<D: Disk, R: Threads + Sync, G: Gate>(
     requires asked { MayImport style_bytes.now style.now buckets change }
     ensures turns { Fits store (D.view disk.old) → HoldsState formatted (D.view disk.old)
         → TurnsOn limits.now formatted (Import style.now style_bytes.now buckets change) (result_err result) (D.view disk.old) (D.view disk.new) kept.new }
+    ensures sound { Fits store (D.view disk.old) → HoldsSound formatted (D.view disk.old)
+        → TurnsSoundOn limits.now formatted (Import style.now style_bytes.now buckets change) (result_err result) (D.view disk.old) (D.view disk.new) kept.new }
     ensures ends { EndsOn (Some (Import style.now style_bytes.now buckets change)) (result_err result) (D.view disk.old) (D.view disk.new) kept.new }
 {
     let opened = Buckets::on(hands.alloc, disk, limits, store);
@@ -162,9 +170,9 @@ pub(crate) fn append_on<D: Disk, R: Threads + Sync, G: Gate>(
     ensures reads { OnOk result ((held : Holding) → Fits store (D.view disk.old) → HoldsState (imported held) (D.view disk.old) → held.style ≡ style.now
         → (may : May) → MayTouch style.now held.objects change.now may → (pages : List (List ℕ)) → IsAtRest pages (D.view disk.old)
         → ReadsTouched may held.buckets pages (D.view disk.old) (D.view disk.new)) }
-    ensures sound { (held : Holding) → Fits store (D.view disk.old) → HoldsSound held (D.view disk.old) → held.style ≡ style.now
+    ensures sound { (held : Holding) → Fits store (D.view disk.old) → HoldsSound (imported held) (D.view disk.old) → held.style ≡ style.now
         → held.changes + 1 ≡ number
-        → TurnsSoundOn limits.now held bounds.now change.now (result_err result) (D.view disk.old) (D.view disk.new) kept.new }
+        → TurnsSoundOn limits.now (imported held) (Append bounds.now change.now) (result_err result) (D.view disk.old) (D.view disk.new) kept.new }
     ensures ends { EndsOn (Some (Append bounds.now change.now)) (result_err result) (D.view disk.old) (D.view disk.new) kept.new }
 {
     let buckets = Buckets::on(hands.alloc, disk, limits, store);

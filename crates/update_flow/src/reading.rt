@@ -3,6 +3,7 @@ ghost use Rattle.std.specs.Prelude.{◌≡◌, IfOk};
 ghost use Rattle.std.specs.Result.{result_err};
 ghost use Rattle.row_map.specs.Row.{tables};
 ghost use Rattle.bucket_store.specs.Image.{Has, Image};
+ghost use Rattle.update_flow.specs.Sound.{IsSoundImport};
 ghost use Rattle.update_flow.specs.Stands.{IsImported};
 ghost use Rattle.update_flow.specs.State.{Holding};
 ghost use Rattle.update_flow.specs.Within.{IsGoing, IsSound, Runs, wanted_of};
@@ -28,6 +29,8 @@ pub(crate) fn load_rows<D: Disk>(
     ensures tables { IfOk result (λ found. (rest now : Image) (held : Holding) → Has rest now buckets.old → IsImported held now → held.style ≡ style.now
         → found ≡ wanted_of wanted (tables held.style held.objects)) }
     ensures sound { (rest now : Image) (held : Holding) → Has rest now buckets.old → IsImported held now → held.style ≡ style.now
+        → IsSound (result_err result) }
+    ensures trusted { (rest now : Image) (held : Holding) → Has rest now buckets.old → IsSoundImport held now → held.style ≡ style.now
         → IsSound (result_err result) }
     ensures runs { Runs buckets.old buckets.new (result_err result) }
 {

@@ -36,11 +36,13 @@ pub struct Updater<'d, D: Disk> {
 }
 
 impl<'d, D: Disk> Updater<'d, D> {
+    ghost use Rattle.update_flow.specs.SoundTurns.{FindsSound, IsSoundlyOpen};
     ghost use Rattle.update_flow.specs.Updater.{TellsFound, disk_of, handle_of, loan_of};
 
     /// The store of a disk that was opened.
     pub fn over(alloc: Global, disk: &'d mut D, opened: Opened, limits: &Limits) -> Self
         ensures open { (state : State) → IsAt state (D.view disk.entry.now) → Found state (D.view disk.entry.now) opened → IsOpen state (handle_of result) }
+        ensures sound { FindsSound (D.view disk.entry.now) opened → IsSoundlyOpen (handle_of result) }
         ensures same_disk { loan_of result ≡ disk.entry.ghost_name }
         ensures disk { disk_of result ≡ disk.entry.now }
         ensures tells { TellsFound limits.now opened (handle_of result) }

@@ -27,6 +27,7 @@ use Rattle.tile_cover.specs.Table.{BoundsOf}
 use Rattle.page_journal.specs.Crash.{IsAtRest}
 use Rattle.page_journal.specs.declared.fault.StoreFault.TheVariants as stores
 use Rattle.update_flow.specs.Handle.{Handle, IsOpen, is_imported, is_old, view_of}
+use Rattle.update_flow.specs.SoundTurns.{IsSoundlyOpen}
 use Rattle.update_flow.specs.State.{Append, Holding, changed, imported}
 use Rattle.update_flow.specs.Updater.{handle_of}
 use Rattle.update_flow.specs.declared.updater.Updater.{Updater}
@@ -46,10 +47,12 @@ use Rattle.updater.specs.Ahead.{AppendsAhead, AppendsLocally, AppendsTaken, AreT
 use Rattle.updater.specs.FileReads.{Among}
 use Rattle.updater.specs.Heads.{GoesOn, IsHead, IsVersion, Leads}
 use Rattle.updater.specs.Versions.{AppendsHere, AppendsSoFar}
+use Rattle.updater.specs.Works.{KeepsSound}
 use Rattle.updater.proofs.AppendRuns.{appends-step, ends_in_version, first_version, last_version, next_version}
 use Rattle.updater.proofs.FileLaws.{change_read, change_unread}
 use Rattle.updater.proofs.HeadLaws.{stops_in_file}
 use Rattle.updater.proofs.LocalLaws.{appends_begin, appends_end, appends_next}
+use Rattle.updater.proofs.SoundRuns.{ends_well}
 use Rattle.updater.proofs.StoreDeeds.{IsRefusedSo}
 
 -- something was imported into a store, in the format of today
@@ -285,7 +288,8 @@ module _ (bounds : BoundsOf) (first count file left less : ℕ) (more : left ≡
     still = faults_whole own now parcel.body whole;
     is = more_seen;
     turn = λ old start done held head.
-        next_version bounds held first count start done old file left less more so.seen store told (so.turn old start done held head) next after
+        next_version bounds held first count start done old file left less more so.seen store told
+        (so.turn old start done held head) next after
         then (λ old start done held head. leads so.seen next old start done held becomes head);
     local = λ held pages is rests.
         appends_next bounds held pages first file own so.seen next before store after (so.local held pages is rests)
@@ -302,7 +306,8 @@ module _ (bounds : BoundsOf) (first count file left less : ℕ) (more : left ≡
     next,
     more_seen,
     λ old start done held head.
-        ends_in_version bounds held first count start done old file left less more so.seen store told (so.turn old start done held head) next
+        ends_in_version bounds held first count start done old file left less more so.seen store told
+        (so.turn old start done held head) next
         after then fault (first + count) (λ old start done held head. leads so.seen next old start done held becomes head),
   )
 
@@ -360,12 +365,13 @@ module _ (bounds : BoundsOf) (first count file left less : ℕ) (more : left ≡
       → ((files read : FilesView) (old : Before) (start done : Progress) (held : Holding) → HasBecome file parcel.body files read
       → IsHead start done (imported held) file old files store told
       → Leads (λ last. appends_one bounds held file (onward last)) (Some fault) start done (file + 1) old read after then)
-      → AppendsTaken bounds first count (Some fault) list before after output then
-  taken_ends fault own leads = record {
+      → KeepsSound (Some fault) before after → AppendsTaken bounds first count (Some fault) list before after output then
+  taken_ends fault own leads sound = record {
     leads = λ before_all now taken.
         subst (λ (at : ℕ). SeesAhead bounds first count at (Some fault) before_all now before after output then) (sym length_is)
         (so_far_ends bounds first count file left less more before_all now before store after output told then parcels parcel many
         (all before_all now taken) (earlier before_all now taken) fault leads);
+    sound = sound;
     local = λ none. absurd (cc);
     ends = subst (EndsBy (Some fault) count) (sym is) (ends_last fault count parcels parcel own);
   }
@@ -375,11 +381,12 @@ pub taken_all : (bounds : BoundsOf) (first count file left : ℕ) → left ≡ 0
     (output told : SinkView) (parcels : List Parcel) → first + length parcels ≡ file
     → ((own now : FilesView) → AreTaken first count own now parcels
     → AheadSoFar bounds first count file left own now before store output told)
-    → AppendsTaken bounds first count None parcels before store output told
-taken_all bounds first count file left none end before store output told parcels many so = record {
+    → (IsSoundlyOpen before → IsSoundlyOpen store) → AppendsTaken bounds first count None parcels before store output told
+taken_all bounds first count file left none end before store output told parcels many so sound = record {
   leads = λ own now taken.
       subst (λ (at : ℕ). SeesAhead bounds first count at None own now before store output told) (sym many)
       (so_far_all bounds first count file left none end own now before store output told (so own now taken));
+  sound = λ opened. ends_well store (sound opened);
   local = λ is own now taken held pages opened rests.
       appends_end bounds held pages first count file own (so own now taken).seen before store end
       ((so own now taken).local held pages opened rests);
@@ -389,11 +396,13 @@ taken_all bounds first count file left none end before store output told parcels
 -- memory may run out before a file is read
 short_appends : (bounds : BoundsOf) (held : Holding) (first count less : ℕ) → count ≡ suc less → (start done : Progress) (old : Before)
     (files : FilesView) (store : Handle) (output : SinkView) → IsHead start done (imported held) first old files store output
-    → Leads (λ last. appends bounds held first count (onward last)) (Some faults.OutOfMemory) start done (first + count) old files store output
+    → Leads (λ last. appends bounds held first count (onward last)) (Some faults.OutOfMemory) start done
+    (first + count) old files store output
 short_appends bounds held first count less is start done old files store output head last =
     subst (λ (own : Course). GoesOn own start done (Some faults.OutOfMemory) old (world files (view_of store) output))
     (sym (appends-step bounds held first count less (onward last) is))
-    (stops_in_file start done (imported held) first old files store output head (IsChange first) first (omega arith) files faults.OutOfMemory
+    (stops_in_file start done (imported held) first old files store output head (IsChange first) first
+    (omega arith) files faults.OutOfMemory
     (record { why = tt; alone = record { others = λ other apart. refl; later = omega arith } })
     (λ change. commits (Append bounds change)
     (tells (version_line (held.changes + 1)) (appends bounds (changed bounds change held) (first + 1) less (onward last)))))
@@ -411,7 +420,8 @@ module _ (bounds : BoundsOf) (first count ahead : ℕ) (some : 1 ≤ ahead) (own
   -- no pipe could be made, or nobody took: files may be read, and none was appended
   pub short_ahead : {D S : Type 0} {g : Ghosts D} (view : S → SinkView) (less : ℕ) → count ≡ suc less → (asks : List ℕ → Type 0)
       (store after : Updater D g) (output told : S) → ReadsAmong first (first + count) asks own now → after ≡ store → told ≡ output
-      → AppendsAhead bounds first count ahead (Some faults.OutOfMemory) own now (handle_of store) (handle_of after) (view output) (view told)
+      → AppendsAhead bounds first count ahead (Some faults.OutOfMemory) own now (handle_of store) (handle_of after) (view output)
+      (view told)
   short_ahead {D} {S} {g} view less is asks store after output told among same_store same_output =
       subst (λ (last : Updater D g).
       AppendsAhead bounds first count ahead (Some faults.OutOfMemory) own now (handle_of store) (handle_of last) (view output) (view told))
@@ -430,11 +440,14 @@ module _ (bounds : BoundsOf) (first count ahead : ℕ) (some : 1 ≤ ahead) (own
           ended = among.ended;
           later = among.later;
         };
-        leads = λ old start done held head. short_appends bounds held first count less is start done old own (handle_of store) (view output) head;
+        sound = λ opened. record { never = λ page is. absurd (cc (is)); stays = λ none. absurd (cc (none)) };
+        leads = λ old start done held head. short_appends bounds held first count less is start done old own (handle_of store)
+            (view output) head;
       }))
 
   -- what was taken is a front of what was read
-  pub appends_front : (limits : LimitNumbers) → limits ≡ standard → (fault : Option Fault) (asks : List ℕ → Type 0) (put got rest : List Parcel)
+  pub appends_front : (limits : LimitNumbers) → limits ≡ standard → (fault : Option Fault) (asks : List ℕ → Type 0)
+      (put got rest : List Parcel)
       → put ≡ got ++ rest → AreRead limits first (first + count) own now put → ReadsAmong first (first + count) asks own now
       → (before after : Handle) (output told : SinkView) → AppendsTaken bounds first count fault got before after output told
       → AppendsAhead bounds first count ahead fault own now before after output told
@@ -449,6 +462,7 @@ module _ (bounds : BoundsOf) (first count ahead : ℕ) (some : 1 ≤ ahead) (own
         record {
           seen = led.0;
           read = ahead_so first count asks own now led.0 got taken.read among led.1 ahead fault appends.ends some;
+          sound = appends.sound;
           leads = led.2;
         },
         λ none. appends.local none own now taken,
@@ -466,15 +480,19 @@ pub each_in_turn : {I D S : Type 0} {g : Ghosts D} (files : I → FilesView) (vi
     → ((old : Before) (start done : Progress) (held : Holding)
     → IsHead start done (imported held) first old (files again) (handle_of same) (view told)
     → Leads (λ last. appends bounds held first count (onward last)) fault start done (first + count) old last after then)
+    → KeepsSound fault (handle_of same) after
     → AppendsAhead bounds first count ahead fault (files inputs) last (handle_of store) after (view output) then
 each_in_turn {I} {D} {S} {g} files view bounds first count ahead fault inputs again last store same after output told then is_inputs is_store
-    is_output leads = record {
+    is_output leads sound = record {
       seen = last;
       read = none_ahead _ last;
+      sound = subst (λ (own : Updater D g). KeepsSound fault (handle_of own) after) is_store sound;
       leads = λ old start done held head. leads old start done held
           (subst (λ (own : I). IsHead start done (imported held) first old (files own) (handle_of same) (view told)) (sym is_inputs)
-          (subst (λ (own : Updater D g). IsHead start done (imported held) first old (files inputs) (handle_of own) (view told)) (sym is_store)
-          (subst (λ (own : S). IsHead start done (imported held) first old (files inputs) (handle_of store) (view own)) (sym is_output) head)));
+          (subst (λ (own : Updater D g). IsHead start done (imported held) first old (files inputs) (handle_of own) (view told))
+          (sym is_store)
+          (subst (λ (own : S). IsHead start done (imported held) first old (files inputs) (handle_of store) (view own))
+          (sym is_output) head)));
     }
 
 -- what was taken, by what is known of it behind the join
@@ -486,6 +504,7 @@ pub taken_so : {D : Type 0} {g : Ghosts D} (bounds : BoundsOf) (first count : �
 taken_so {D} {g} bounds first count found fault is list own before after now output told then taken same_list same_after same_told =
     subst (λ (list : List Parcel). AppendsTaken bounds first count fault list before (handle_of now) output then) (sym same_list)
     (subst (λ (store : Updater D g). AppendsTaken bounds first count fault list before (handle_of store) output then) (sym same_after)
-    (subst (λ (output_now : SinkView). AppendsTaken bounds first count fault list before (handle_of after) output output_now) (sym same_told)
+    (subst (λ (output_now : SinkView). AppendsTaken bounds first count fault list before (handle_of after) output output_now)
+    (sym same_told)
     (subst (λ (told_found : Option (Option Fault)).
     IfSome told_found (λ fault. AppendsTaken bounds first count fault list before (handle_of after) output told)) is taken)))

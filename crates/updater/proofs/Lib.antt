@@ -19,6 +19,7 @@ pub mod StoreRuns
 pub mod MakeRuns
 pub mod MigrateRuns
 pub mod CheckRuns
+pub mod SoundRuns
 pub mod FillRuns
 pub mod DemoRuns
 pub mod TileCounts

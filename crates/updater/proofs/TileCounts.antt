@@ -1,9 +1,9 @@
 -- How many tiles the runs of a set have.
-use Rattle.std.proofs.Common.{◌≡◌, ◌+◌, ◌-◌, ◌^◌, ◌≤◌, ◌<◌, ℕ, zero, suc, List, [], ◌∷◌, length, get_or, take, arith}
+use Rattle.std.proofs.Common.{◌+◌, ◌^◌, ◌≤◌, ◌<◌, ℕ, zero, suc, List, [], ◌∷◌, length, get_or, take, arith}
 use Rattle.std.specs.List.{AllByRecursion}
 use Rattle.std.proofs.lemmas.List.Sums.{sum_by-cons, sum_by-take-le}
 use Rattle.std.proofs.Math.Nat.{pow-le-pow_right}
-use Rattle.tile_cover.specs.Runs.{AreApart, Follows, IsRun, IsTileSet, end_of, start_of}
+use Rattle.tile_cover.specs.Runs.{AreApart, IsRun, IsTileSet, end_of, start_of}
 use Rattle.tile_cover.specs.declared.runs.Run.{Run}
 use Rattle.run_promise.specs.Courses.{columns_of, tiles_in}
 

@@ -40,8 +40,8 @@ impl<D: Disk> Updater<'_, D> {
 
         // A sound store refuses it for the disk, memory and limits alone, also where nobody knows the tags of some nodes, and is sound
         // after it.
-        ensures sound { (held : Holding) → IsOpenSound held (handle_of self.old)
-            → TakesSound held bounds.now change (result_err result) (handle_of self.old) (handle_of self.new) }
+        ensures sound { (state : State) → IsOpenSound state (handle_of self.old)
+            → TakesSound state (Append bounds.now change) (result_err result) (handle_of self.old) (handle_of self.new) }
 
         // It reads no more of the disk than what the change touches, each page once.
         ensures reads { OnOk result ((held : Holding) → IsOpen (imported held) (handle_of self.old) → (may : May)

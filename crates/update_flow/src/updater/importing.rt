@@ -4,6 +4,7 @@ ghost use Rattle.std.specs.Int.{is_power_of_two};
 ghost use Rattle.std.specs.Result.{result_err};
 ghost use Rattle.style_read.specs.Reading.{reading};
 ghost use Rattle.update_flow.specs.Handle.{IsOpen, Takes, changes_of, is_imported, is_old, style_of};
+ghost use Rattle.update_flow.specs.SoundTurns.{IsOpenSound, TakesSound};
 ghost use Rattle.update_flow.specs.State.{Import, State};
 
 use super::Updater;
@@ -35,6 +36,8 @@ impl<D: Disk> Updater<'_, D> {
         requires few { length change ≤ 16777216 }
         ensures takes { (state : State) → IsOpen state (handle_of self.old)
             → Takes state (Import style style_bytes.now buckets change) (result_err result) (handle_of self.old) (handle_of self.new) }
+        ensures sound { (state : State) → IsOpenSound state (handle_of self.old)
+            → TakesSound state (Import style style_bytes.now buckets change) (result_err result) (handle_of self.old) (handle_of self.new) }
 
         // Whatever the disk holds.
         ensures imported { OnOk result ((is_imported (handle_of self.new) ≡ true) × (is_old (handle_of self.new) ≡ false)

@@ -5,6 +5,7 @@ ghost use Rattle.row_map.specs.Row.{tables};
 ghost use Rattle.tile_cover.specs.Runs.{has};
 ghost use Rattle.update_flow.specs.Changes.{only_table};
 ghost use Rattle.update_flow.specs.Handle.{IsOpen, Looks};
+ghost use Rattle.update_flow.specs.SoundTurns.{IsOpenSound, LooksSound};
 ghost use Rattle.update_flow.specs.State.{Holding, State, imported};
 
 use super::Updater;
@@ -22,6 +23,7 @@ impl<D: Disk> Updater<'_, D> {
     pub fn load_tables(&mut self) -> Result<Tables, FlowFault>
         ensures looks { (state : State) → IsOpen state (handle_of self.old) → Looks state (result_err result) (handle_of self.old) (handle_of self.new) }
         ensures tables { IfOk result (λ found. (held : Holding) → IsOpen (imported held) (handle_of self.old) → found ≡ tables held.style held.objects) }
+        ensures sound { (state : State) → IsOpenSound state (handle_of self.old) → LooksSound state (result_err result) (handle_of self.new) }
 
         // Whatever the disk holds.
         ensures stays { StaysOpen None self.old self.new result }
@@ -50,6 +52,7 @@ impl<D: Disk> Updater<'_, D> {
     pub fn load_table(&mut self, table: u32) -> Result<Tables, FlowFault>
         ensures looks { (state : State) → IsOpen state (handle_of self.old) → Looks state (result_err result) (handle_of self.old) (handle_of self.new) }
         ensures table { IfOk result (λ found. (held : Holding) → IsOpen (imported held) (handle_of self.old) → found ≡ only_table table (tables held.style held.objects)) }
+        ensures sound { (state : State) → IsOpenSound state (handle_of self.old) → LooksSound state (result_err result) (handle_of self.new) }
 
         // Whatever the disk holds.
         ensures stays { StaysOpen None self.old self.new result }
@@ -79,6 +82,7 @@ impl<D: Disk> Updater<'_, D> {
         ensures looks { (state : State) → IsOpen state (handle_of self.old) → Looks state (result_err result) (handle_of self.old) (handle_of self.new) }
         ensures due { IfOk result (λ found. (held : Holding) → IsOpen (imported held) (handle_of self.old)
             → (zoom x y : ℕ) → has found zoom x y ≡ held.due zoom x y) }
+        ensures sound { (state : State) → IsOpenSound state (handle_of self.old) → LooksSound state (result_err result) (handle_of self.new) }
 
         // Whatever the disk holds.
         ensures stays { StaysOpen None self.old self.new result }

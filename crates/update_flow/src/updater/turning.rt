@@ -2,6 +2,7 @@
 ghost use Rattle.std.specs.Prelude.{Some};
 ghost use Rattle.std.specs.Result.{result_err};
 ghost use Rattle.update_flow.specs.Handle.{IsOpen, Takes};
+ghost use Rattle.update_flow.specs.SoundTurns.{IsOpenSound, TakesSound};
 ghost use Rattle.update_flow.specs.State.{Clear, State};
 
 use super::Updater;
@@ -16,6 +17,8 @@ impl<D: Disk> Updater<'_, D> {
     /// No tile is due any more, by one commit.
     pub fn clear_due(&mut self) -> Result<(), FlowFault>
         ensures takes { (state : State) → IsOpen state (handle_of self.old) → Takes state Clear (result_err result) (handle_of self.old) (handle_of self.new) }
+        ensures sound { (state : State) → IsOpenSound state (handle_of self.old)
+            → TakesSound state Clear (result_err result) (handle_of self.old) (handle_of self.new) }
 
         // Whatever the disk holds.
         ensures stays { StaysOpen (Some Clear) self.old self.new result }

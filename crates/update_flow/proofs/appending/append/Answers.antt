@@ -26,7 +26,8 @@ use Rattle.update_flow.proofs.Changed.{not_zero, step_answers}
 use Rattle.update_flow.proofs.Steps.{none_spent, step_ends}
 use Rattle.update_flow.proofs.Needs.{sound_fits, step_fits}
 use Rattle.update_flow.proofs.Turning.{ends_then, runs_ended, sound_answers, turns_refused}
-use Rattle.update_flow.proofs.SoundChanged.{has_sound, sound_refused, sound_turns, stands_known}
+use Rattle.update_flow.proofs.SoundChanged.{has_sound, sound_turns, stands_known}
+use Rattle.update_flow.proofs.SoundSteps.{sound_refused}
 use Rattle.update_flow.proofs.ReadLaws.{change_reads, none_loaded}
 use Rattle.update_flow.proofs.appending.append.Goals as goal
 
@@ -103,8 +104,8 @@ returns-in-Err-change_maps-clause-ends g c =
 -- the due tiles are not read
 pub returns-in-Err-clause-sound : goal.returns-in-Err-clause-sound
 returns-in-Err-clause-sound g c held rest same was is style next =
-    sound_refused held rest is c.args.limits.now c.args.bounds.now c.args.change.now c.in-Err.fault (buckets_of c.args.maps.now)
-    c.load_due.new.buckets (rests_under rest rest (buckets_of c.args.maps.now) was) c.in-Err.ensures.runs.looks
+    sound_refused c.args.limits.now (imported held) (Append c.args.bounds.now c.args.change.now) rest is c.in-Err.fault
+    (buckets_of c.args.maps.now) c.load_due.new.buckets (rests_under rest rest (buckets_of c.args.maps.now) was) c.in-Err.ensures.runs.looks
     (sound_answers c.args.limits.now c.in-Err.fault _ (c.in-Err.ensures.spelled rest rest held.due was is.due))
 
 -- the change is refused
@@ -127,9 +128,9 @@ returns-in-Err-change_maps-clause-sound g c held rest same was is style next =
       subst (λ (s : StyleOf). AreTooMany limits.pending (λ set. IsPendingOf s held.objects change set) value) (sym style)
           (many under is.maps.maps held.objects keeps stand.on),
     )) in
-    subst (λ (f : FlowFault). TurnsSound limits held c.args.bounds.now change (Some f) old (buckets_of last))
+    subst (λ (f : FlowFault). TurnsSound limits (imported held) (Append c.args.bounds.now change) (Some f) old (buckets_of last))
     (sym c.step_fault.ensures)
-    (sound_refused held rest is limits c.args.bounds.now change _ old (buckets_of last) (rests_under rest rest old was)
+    (sound_refused limits (imported held) (Append c.args.bounds.now change) rest is _ old (buckets_of last) (rests_under rest rest old was)
     (looks_then old mid (buckets_of last) c.in-Ok.ensures.runs.looks later.looks) answers)
 
 -- all is committed, or nothing

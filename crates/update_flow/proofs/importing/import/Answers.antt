@@ -14,12 +14,16 @@ use Rattle.update_flow.specs.maps.Calls.{buckets_of, style_in}
 use Rattle.update_flow.specs.maps.Held.{Beside, HasMaps}
 use Rattle.update_flow.specs.maps.Laws.{later_same, over_going, over_none, over_whole}
 use Rattle.update_flow.proofs.MapsKept.{empty_kept}
-use Rattle.update_flow.specs.State.{Import, formatted}
+use Rattle.update_flow.specs.Settling.{begun}
+use Rattle.update_flow.specs.SoundTurns.{TurnsSound}
+use Rattle.update_flow.specs.State.{Import, formatted, fresh, imported}
 use Rattle.update_flow.specs.Turning.{EndsIn, TurnsIn}
 use Rattle.update_flow.specs.declared.fault.FlowFault.{FlowFault}
 use Rattle.update_flow.proofs.Steps.{none_spent, step_ends}
 use Rattle.update_flow.proofs.Imports.{begun_becomes, power_counts, step_begins}
 use Rattle.update_flow.proofs.Needs.{step_fits}
+use Rattle.update_flow.proofs.SoundStanding.{import_sound, own_of}
+use Rattle.update_flow.proofs.SoundSteps.{blank_count, sound_committed, sound_refused}
 use Rattle.update_flow.proofs.Turning.{ends_then, turns_committed, turns_refused}
 use Rattle.update_flow.proofs.importing.import.Goals as goal
 
@@ -69,7 +73,7 @@ returns-in-Ok-clause-turns g c limits rest same has blank =
     let after = made.0 in
     let kept : HasMaps c.args.style.now.tables under after (buckets_of last) =
     subst (λ (s : StyleOf). HasMaps s.tables under after (buckets_of last)) (later.same_style ∙ c.requires.style) made.1 in
-    let becomes = begun_becomes c.args.style.now c.args.style_bytes.now count c.args.change rest kept.now after blank c.requires.asked.reads
+    let becomes = begun_becomes c.args.style.now c.args.style_bytes.now count c.args.change rest kept.now after blank.texts c.requires.asked.reads
     c.requires.asked.power
     c.requires.asked.few_buckets (ap (λ (r : Root). r.buckets) kept.root) kept.texts kept.kept made.2
     (subst (λ (l : List Entry). AreIdEntries l) c.entries.ensures.entries c.known_ids.ensures) in
@@ -124,3 +128,70 @@ returns-in-Err-clause-ends g c =
     (ends_then _ old mid (buckets_of last) c.set_buckets.ensures.fields.same
     (step_ends mid (buckets_of last) later.looks _ _ _ c.in-Err.why c.in-Err.ensures.goes.ends
     (λ fault refused. (refused _ (later_same _)).1) (λ fresh. over_whole last fresh) (Some step) (λ value none. absurd none)))
+
+-- a sound store into which nothing was imported
+
+pub returns-then-root-ne0-clause-sound : goal.returns-then-root-ne0-clause-sound
+returns-then-root-ne0-clause-sound g c limits rest same has blank =
+    absurd (c.if-root-ne0.true (ap (λ (r : Root). r.buckets) (c.root.ensures ∙ has.root) ∙ blank_count rest.root blank.root))
+
+pub returns-in-Ok-clause-sound : goal.returns-in-Ok-clause-sound
+returns-in-Ok-clause-sound g c limits rest same has blank =
+    let old = buckets_of c.args.maps.now in
+    let mid = c.set_buckets.new.self in
+    let last = c.import_maps.new.store in
+    let count = c.args.buckets in
+    let step = Import c.args.style.now c.args.style_bytes.now count c.args.change in
+    let held = fresh c.args.style.now c.args.style_bytes.now count c.args.change in
+    let later = c.import_maps.ensures.goes.looked _ (later_same _) in
+    let numbered = with_root (with_buckets count rest.root) rest in
+    let none : rest.root.buckets ≡ 0 = blank_count rest.root blank.root in
+    let under : Beside = record { rest = rest; root = with_buckets count rest.root; texts = rest.texts } in
+    let keeps : HasMaps (style_in c.args.maps.now).tables under empty_maps mid =
+    record {
+      now = numbered;
+      has = c.set_buckets.ensures.has rest rest has;
+      root = root_with_root (with_buckets count rest.root) rest;
+      texts = λ n below. texts_with_root (with_buckets count rest.root) rest n;
+      kept = empty_kept (style_in c.args.maps.now).tables numbered.maps
+          (λ m below. maps_with_root (with_buckets count rest.root) rest m ∙ has.none none m below);
+    } in
+    let made = c.in-Ok.ensures.stands under keeps in
+    let after = made.0 in
+    let kept : HasMaps c.args.style.now.tables under after (buckets_of last) =
+    subst (λ (s : StyleOf). HasMaps s.tables under after (buckets_of last)) (later.same_style ∙ c.requires.style) made.1 in
+    let becomes = begun_becomes c.args.style.now c.args.style_bytes.now count c.args.change rest kept.now after blank.texts
+    c.requires.asked.reads c.requires.asked.power
+    c.requires.asked.few_buckets (ap (λ (r : Root). r.buckets) kept.root) kept.texts kept.kept made.2
+    (subst (λ (l : List Entry). AreIdEntries l) c.entries.ensures.entries c.known_ids.ensures) in
+    let now = begun c.args.style_bytes.now kept.now in
+    let own = own_of held now becomes in
+    let looks = looks_then old mid (buckets_of last) c.set_buckets.ensures.fields.same later.looks in
+    sound_committed limits formatted step rest blank _ now (imported own) old (buckets_of last) c.begin.new.buckets
+    (rests_under rest rest old has) looks (import_sound now held becomes) (own.objects, refl) refl
+    (c.begin.ensures.commits.commits limits rest kept.now (looks.looked.limit ∙ same) kept.has)
+
+pub returns-in-Err-clause-sound : goal.returns-in-Err-clause-sound
+returns-in-Err-clause-sound g c limits rest same has blank =
+    let old = buckets_of c.args.maps.now in
+    let mid = c.set_buckets.new.self in
+    let last = c.import_maps.new.store in
+    let count = c.args.buckets in
+    let step = Import c.args.style.now c.args.style_bytes.now count c.args.change in
+    let later = c.import_maps.ensures.goes.looked _ (later_same _) in
+    let numbered = with_root (with_buckets count rest.root) rest in
+    let none : rest.root.buckets ≡ 0 = blank_count rest.root blank.root in
+    let under : Beside = record { rest = rest; root = with_buckets count rest.root; texts = rest.texts } in
+    let keeps : HasMaps (style_in c.args.maps.now).tables under empty_maps mid =
+    record {
+      now = numbered;
+      has = c.set_buckets.ensures.has rest rest has;
+      root = root_with_root (with_buckets count rest.root) rest;
+      texts = λ n below. texts_with_root (with_buckets count rest.root) rest n;
+      kept = empty_kept (style_in c.args.maps.now).tables numbered.maps
+          (λ m below. maps_with_root (with_buckets count rest.root) rest m ∙ has.none none m below);
+    } in
+    subst (λ (f : FlowFault). TurnsSound limits formatted step (Some f) old (buckets_of last)) (sym c.step_fault.ensures)
+    (sound_refused limits formatted step rest blank _ old (buckets_of last) (rests_under rest rest old has)
+    (looks_then old mid (buckets_of last) c.set_buckets.ensures.fields.same later.looks)
+    (step_begins limits step _ _ c.in-Err.why c.in-Err.ensures.goes.ends (c.in-Err.ensures.allowed under keeps)))

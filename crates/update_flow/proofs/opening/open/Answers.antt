@@ -32,6 +32,7 @@ use Rattle.update_flow.specs.OpeningReads.{ReadsStyle, ReadsToOpen}
 use Rattle.update_flow.proofs.OpeningReads.{opens_then}
 use Rattle.update_flow.proofs.Openings.{bad_formed, bad_none, each_meant, goes_either, opens_as, opens_either, quiet_fault, root_told}
 use Rattle.update_flow.proofs.Openings.{sound_answer, sound_store, state_before}
+use Rattle.update_flow.proofs.SoundOpened.{judged_sound}
 use Rattle.update_flow.proofs.opening.open.Goals as goal
 
 -- what holds anyway holds of an answer
@@ -235,3 +236,23 @@ returns-in-Err-clause-bad g c = λ page is bytes told.
           (c.in-Err.ensures.image.sound bytes told sound.image sound.has)),
       opening_bad bytes page (subst (λ (f : StoreFault). OpensStore {T = Resting} bytes (Err f)) same (c.in-Err.ensures.answers bytes told)),
     )
+
+-- a sound store
+pub returns-in-Ok-clause-sound : goal.returns-in-Ok-clause-sound
+returns-in-Ok-clause-sound g c = λ bytes told sound.
+    let mid = g.D.Disk.view c.open.new.disk in
+    let new = g.D.Disk.view c.judged.new.disk in
+    let before = c.in-Ok.ensures.fits bytes told in
+    let home = c.in-Ok.ensures.home bytes told in
+    let here = same_home bytes home.0 before.pages mid home.1 home.2 before.rests in
+    judged_sound sound.image mid new c.in-Ok.found before (c.in-Ok.ensures.image.found bytes told sound.image sound.has)
+    c.judged.ensures.finds.stays sound.is c.judged.result c.judged.ensures.finds.alone
+    (λ page is. (c.judged.ensures.bad page is before).0 (home_of_sound bytes before.pages here sound))
+    c.judged.ensures.fits c.judged.ensures.fields c.judged.ensures.style
+
+pub returns-in-Err-clause-sound : goal.returns-in-Err-clause-sound
+returns-in-Err-clause-sound g c = λ bytes told sound. record {
+  answer = sound_answer (Some c.store_fault.result) (subst (λ (f : FlowFault). IsSound (Some f)) (sym c.store_fault.ensures)
+      (sound_store Resting c.in-Err.fault (c.in-Err.ensures.image.sound bytes told sound.image sound.has)));
+  found = tt;
+}

@@ -84,3 +84,6 @@ returns-then-reaches_nodes-clause-bad g c = λ at is fits old.
     let writes = c.in-Ok.ensures.answers fits.pages (over.open_store fits) over.begun.written in
     Reaches c.in-Ok.style (subst (λ (k : Kept). WritesStyle fits.pages k c.in-Ok.style) over.kept writes) (old (cc (c.if-outdated.true)))
     (cc (c.if-reaches_nodes.true, c.reaches_nodes.ensures.reaches)) (cc (is))
+
+pub returns-clause-style : goal.returns-clause-style
+returns-clause-style g c = λ image fits holds. c.in-Ok.ensures.style image image (c.on-buckets.ensures.has image fits holds)

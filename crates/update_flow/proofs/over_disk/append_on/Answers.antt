@@ -40,7 +40,7 @@ returns-clause-sound g c =
     λ held fits holds same next.
     sound_on (result_err c.append-told.result) old new c.hand_back-disk.new.kept
     (subst (λ b. IsBackOf b c.hand_back-disk.new.kept) c.close.ensures (c.hand_back-disk.ensures.whole, c.hand_back-disk.ensures.fits))
-    c.append-told.ensures.ends c.args.limits.now held c.args.bounds.now c.args.change.now
+    c.append-told.ensures.ends c.args.limits.now (imported held) (Append c.args.bounds.now c.args.change.now)
     (c.append-told.ensures.sound held holds.image (ap (λ b. limit_in b) c.over-maps.ensures.buckets ∙ c.on-buckets.ensures.limit)
     (subst (λ b. Has holds.image holds.image b) (sym c.over-maps.ensures.buckets) (c.on-buckets.ensures.has holds.image fits holds.holds))
     holds.is same next)

@@ -6,6 +6,7 @@ use Rattle.chain_store.specs.Chains.{journal_of}
 use Rattle.bucket_store.specs.Transaction.{chains_of}
 use Rattle.update_flow.specs.State.{Clear, imported}
 use Rattle.update_flow.proofs.Carrying.{ends_on, turns_on}
+use Rattle.update_flow.proofs.SoundCarried.{sound_on}
 use Rattle.update_flow.proofs.over_disk.clear_on.Goals as goal
 
 pub returns-clause-turns : goal.returns-clause-turns
@@ -24,3 +25,13 @@ returns-clause-ends g c =
       ends_on (result_err c.clear-cleared.result) c.on-buckets.result c.clear-cleared.new.buckets c.hand_back-disk.new.kept
           (c.hand_back-disk.ensures.whole, c.hand_back-disk.ensures.fits) c.clear-cleared.ensures.ends,
     )
+
+-- a sound store
+pub returns-clause-sound : goal.returns-clause-sound
+returns-clause-sound g c =
+    let last : disk_under (journal_of (chains_of c.clear-cleared.new.buckets)) ≡ c.disk-1.given.0 = search rules in
+    λ held fits holds.
+    sound_on (result_err c.clear-cleared.result) c.on-buckets.result c.clear-cleared.new.buckets c.hand_back-disk.new.kept
+    (c.hand_back-disk.ensures.whole, c.hand_back-disk.ensures.fits) c.clear-cleared.ensures.ends c.args.limits.now (imported held) Clear
+    (c.clear-cleared.ensures.sound c.args.limits.now held holds.image c.on-buckets.ensures.limit
+    (c.on-buckets.ensures.has holds.image fits holds.holds) holds.is) c.args.disk.now c.disk-1.given.0 c.on-buckets.ensures.disk last

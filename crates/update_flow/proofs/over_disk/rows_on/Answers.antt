@@ -9,6 +9,7 @@ use Rattle.update_flow.specs.State.{imported}
 use Rattle.update_flow.proofs.Carrying.{ends_on, looks_on, ok_then}
 use Rattle.update_flow.proofs.Looking.{looked_stays}
 use Rattle.update_flow.proofs.Openings.{sound_answer}
+use Rattle.update_flow.proofs.SoundCarried.{looked_on}
 use Rattle.update_flow.proofs.Turning.{looks_at, runs_ended}
 use Rattle.update_flow.proofs.over_disk.rows_on.Goals as goal
 
@@ -49,3 +50,17 @@ returns-clause-stays g c =
     let last : disk_under (journal_of (chains_of c.load_rows-rows.new.buckets)) ≡ c.disk-1.given.0 = search rules in
     looked_stays c.on-buckets.result c.load_rows-rows.new.buckets c.args.disk.now c.disk-1.given.0 c.on-buckets.ensures.disk
     (sym last) c.load_rows-rows.ensures.runs.looks
+
+-- a sound store
+pub returns-clause-sound : goal.returns-clause-sound
+returns-clause-sound g c =
+    let last : disk_under (journal_of (chains_of c.load_rows-rows.new.buckets)) ≡ c.disk-1.given.0 = search rules in
+    λ held fits holds same.
+    let fault = result_err c.load_rows-rows.result in
+    let old = c.on-buckets.result in
+    let new = c.load_rows-rows.new.buckets in
+    let has = c.on-buckets.ensures.has holds.image fits holds.holds in
+    looked_on fault old new c.hand_back-disk.new.kept (c.hand_back-disk.ensures.whole, c.hand_back-disk.ensures.fits)
+    (runs_ended {call = None} fault old new c.load_rows-rows.ensures.runs)
+    (imported held) holds.image (rests_under holds.image holds.image old has) holds.is c.load_rows-rows.ensures.runs.looks
+    (sound_answer fault (c.load_rows-rows.ensures.trusted holds.image holds.image held has holds.is same)) c.disk-1.given.0 last

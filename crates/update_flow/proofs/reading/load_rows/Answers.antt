@@ -10,7 +10,7 @@ use Rattle.update_flow.specs.Stands.{IsImported}
 use Rattle.update_flow.specs.State.{Holding}
 use Rattle.update_flow.specs.Within.{IsSound, Runs}
 use Rattle.update_flow.specs.declared.fault.FlowFault.{FlowFault}
-use Rattle.update_flow.proofs.Loading.{all_loaded, nodes_told, others_told, wanted_row}
+use Rattle.update_flow.proofs.Loading.{all_loaded, nodes_told, others_told, rows_id, sound_id, wanted_row}
 use Rattle.update_flow.proofs.Openings.{sound_store}
 use Rattle.chain_store.specs.declared.root.Root.{Root}
 use Rattle.update_flow.proofs.Running.{runs_done, runs_refused, runs_unfit}
@@ -20,13 +20,15 @@ told_nodes : (style : StyleOf) (wanted : Option ℕ) (image : Image) (held : Hol
     → AreTold style.tables wanted 6 (wanted_row wanted is.maps.maps) (image.maps 6)
 told_nodes style wanted image held is same =
     subst (λ (s : StyleOf). AreTold s.tables wanted 6 (wanted_row wanted is.maps.maps) (image.maps 6)) same
-    (nodes_told held.style wanted image.maps is.maps.maps held.objects is.maps.stand.rows is.ids is.maps.kept.node_rows)
+    (nodes_told held.style wanted image.maps is.maps.maps
+    (rows_id held.style is.maps.maps held.objects is.maps.stand.rows is.ids) is.maps.kept.node_rows)
 
 told_others : (style : StyleOf) (wanted : Option ℕ) (image : Image) (held : Holding) → (is : IsImported held image) → held.style ≡ style
     → AreTold style.tables wanted 7 (wanted_row wanted is.maps.maps) (image.maps 7)
 told_others style wanted image held is same =
     subst (λ (s : StyleOf). AreTold s.tables wanted 7 (wanted_row wanted is.maps.maps) (image.maps 7)) same
-    (others_told held.style wanted image.maps is.maps.maps held.objects is.maps.stand.rows is.ids is.maps.kept.other_rows)
+    (others_told held.style wanted image.maps is.maps.maps
+    (rows_id held.style is.maps.maps held.objects is.maps.stand.rows is.ids) is.maps.kept.other_rows)
 
 filled : (which : ℕ) (rows : RowsBySpot) (image : Image) (old new : TableMap) → old ≡ map.empty
     → Fills which rows (λ n. IsSome (map.get (image.maps which) n)) old new
@@ -68,3 +70,21 @@ returns-then-root-eq0-clause-sound g c = λ rest now held has is same.
 
 pub returns-then-root-eq0-clause-runs : goal.returns-then-root-eq0-clause-runs
 returns-then-root-eq0-clause-runs g c = runs_unfit c.args.buckets.now 1 c.requires.ready.whole
+
+-- a sound store
+pub returns-in-Err-clause-trusted : goal.returns-in-Err-clause-trusted
+returns-in-Err-clause-trusted g c = λ rest now held has is same.
+    let style = c.args.style.now in
+    let wanted = c.args.wanted in
+    let maps = is.maps.maps in
+    let good = sound_id held.style held.objects now is.maps is.ids in
+    let nodes = subst (λ (s : StyleOf). AreTold s.tables wanted 6 (wanted_row wanted maps) (now.maps 6)) same
+    (nodes_told held.style wanted now.maps maps good is.maps.kept.node_rows) in
+    let others = subst (λ (s : StyleOf). AreTold s.tables wanted 7 (wanted_row wanted maps) (now.maps 7)) same
+    (others_told held.style wanted now.maps maps good is.maps.kept.other_rows) in
+    subst (λ (f : FlowFault). IsSound (Some f)) (sym c.store_fault.ensures)
+    (sound_store (Unit {0}) c.in-Err.fault (c.in-Err.ensures.sound rest now (wanted_row wanted maps) has nodes others))
+
+pub returns-then-root-eq0-clause-trusted : goal.returns-then-root-eq0-clause-trusted
+returns-then-root-eq0-clause-trusted g c = λ rest now held has is same.
+    absurd (omega (arith, is.some, ap (λ (r : Root). r.buckets) (c.root.ensures ∙ has.root ∙ is.root), c.if-root-eq0.true))

@@ -23,3 +23,12 @@ returns-clause-leads g c = λ files read old start done held become head.
     leads_without c.args.bounds.now c.args.file (Ok c.in-Ok-commit_change.delta) start done held old read
     (handle_of c.commit_change.new.store) (g.S.Sink.view c.commit_change.new.out)
     (c.in-Ok-commit_change.ensures.leads c.args.file files read old start done held (c.in-Ok.ensures.ok files read become) head)
+
+pub returns-in-Err-clause-sound : goal.returns-in-Err-clause-sound
+returns-in-Err-clause-sound g c = λ opened. record { never = c.in-Err.ensures.sound; stays = λ none. absurd (cc (none)) }
+
+pub returns-in-Err-commit_change-clause-sound : goal.returns-in-Err-commit_change-clause-sound
+returns-in-Err-commit_change-clause-sound g c = c.in-Err-commit_change.ensures.sound
+
+pub returns-clause-sound : goal.returns-clause-sound
+returns-clause-sound g c = c.in-Ok-commit_change.ensures.sound

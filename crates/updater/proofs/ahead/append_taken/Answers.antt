@@ -13,6 +13,7 @@ loop-file-init g c =
       ours = ap (λ (end : EndView). end.home) c.requires.ours;
       many = omega (arith, none);
       stays = record { same_disk = refl; same_limits = refl };
+      sound = λ opened. opened;
       takes = c.requires.takes;
       so_far = λ own now taken. so_far_none c.args.bounds.now c.args.first c.args.count
           (c.args.first + c.args.count - c.args.first) (omega arith) own now (handle_of c.args.store.now)
@@ -32,6 +33,7 @@ returns-in-Err-clause-taken g c =
     c.loop-file.invariant.so_far c.take_when_ready-parcel.new.taker.list
     (ap (λ (end : EndView). end.list) c.take_when_ready-parcel.ensures.taken) c.in-Err.fault
     (c.in-Err.ensures.takes c.loop-file.invariant.takes) c.in-Err.ensures.leads
+    (λ opened. c.in-Err.ensures.sound (c.loop-file.invariant.sound opened))
 
 pub loop-file-preserved : goal.loop-file-preserved
 loop-file-preserved g c =
@@ -47,6 +49,7 @@ loop-file-preserved g c =
         same_disk = c.append_parcel.ensures.keeps.stays.same_disk ∙ c.loop-file.invariant.stays.same_disk;
         same_limits = c.append_parcel.ensures.keeps.stays.same_limits ∙ c.loop-file.invariant.stays.same_limits;
       };
+      sound = λ opened. (c.in-Ok.ensures.sound (c.loop-file.invariant.sound opened)).stays refl;
       takes = c.in-Ok.ensures.takes c.loop-file.invariant.takes c.in-Ok.ensures.whole;
       so_far = taken_more c.args.bounds.now c.args.first c.args.count c.loop-file.file
           (c.args.first + c.args.count - c.loop-file.file) (c.args.first + c.args.count - (c.loop-file.file + 1))
@@ -64,4 +67,4 @@ returns-clause-taken g c =
     (c.args.first + c.args.count - c.loop-file.file) (omega (arith, c.loop-file-test.false))
     (omega (arith, c.loop-file-test.false, c.loop-file.invariant.within)) (handle_of c.args.store.now) (handle_of c.loop-file.store)
     (g.S.Sink.view c.args.out.now) (g.S.Sink.view c.loop-file.out) c.loop-file.taker.list c.loop-file.invariant.many
-    c.loop-file.invariant.so_far
+    c.loop-file.invariant.so_far c.loop-file.invariant.sound

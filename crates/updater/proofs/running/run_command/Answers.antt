@@ -26,7 +26,7 @@ returns-in-Points g c =
     (λ (asked : List ℕ). g.I.Inputs.reads c.args.inputs.now asked c.points.new.inputs) fault old new tt c.points.ensures.asked
     (from_unused no_store old new (course_of (points_of c.in-Points.key.now c.in-Points.files)) fault
     (λ e. absurd (cc)) c.points.ensures.course) (λ _. spared_same disk) (λ _ bytes told some. stays_same disk)
-    (λ _. stays_same disk) tt tt in
+    (λ _. stays_same disk) tt tt (λ is. absurd (cc (is))) in
     record {
       runs = subst (λ (own : Command). Runs (seen own)
           (λ (asked : List ℕ). g.I.Inputs.reads c.args.inputs.now asked c.points.new.inputs) old new fault) (sym c.in-Points.is) own;
@@ -46,7 +46,7 @@ returns-in-Lines g c =
     (λ (asked : List ℕ). g.I.Inputs.reads c.args.inputs.now asked c.lines.new.inputs) fault old new tt c.lines.ensures.asked
     (from_unused no_store old new (course_of (lines_of c.in-Lines.key.now c.in-Lines.files)) fault
     (λ e. absurd (cc)) c.lines.ensures.course) (λ _. spared_same disk) (λ _ bytes told some. stays_same disk)
-    (λ _. stays_same disk) tt tt in
+    (λ _. stays_same disk) tt tt (λ is. absurd (cc (is))) in
     record {
       runs = subst (λ (own : Command). Runs (seen own)
           (λ (asked : List ℕ). g.I.Inputs.reads c.args.inputs.now asked c.lines.new.inputs) old new fault) (sym c.in-Lines.is) own;
@@ -67,7 +67,7 @@ returns-in-Init g c =
     (λ (asked : List ℕ). g.I.Inputs.reads c.args.inputs.now asked c.args.inputs.now) fault old new tt
     (asked_none g.I.Inputs.reads (Names (init_of c.in-Init.store.now)) c.args.inputs.now (laws.reads_none c.args.inputs.now))
     (from_unused new_store old new init_course fault (λ e. absurd (cc)) c.init.ensures.course) (λ none. absurd (cc))
-    (λ _. c.init.ensures.looked) c.init.ensures.no_store tt tt in
+    (λ _. c.init.ensures.looked) c.init.ensures.no_store tt tt (λ is. absurd (cc (is))) in
     record {
       runs = subst (λ (own : Command). Runs (seen own)
           (λ (asked : List ℕ). g.I.Inputs.reads c.args.inputs.now asked c.args.inputs.now) old new fault) (sym c.in-Init.is) own;
@@ -85,7 +85,8 @@ returns-in-Import g c =
     let fits = subst (λ (own : Command). FilesFit (seen own)) c.in-Import.is c.requires.fits in
     let own = runs_by (import_of c.in-Import.store.now c.in-Import.files c.in-Import.buckets c.in-Import.workers)
     (λ (asked : List ℕ). g.I.Inputs.reads c.args.inputs.now asked c.import.new.inputs) fault old new fits.1 c.import.ensures.does.asked
-    c.import.ensures.does.goes (λ none. absurd (cc)) (λ not. absurd (not refl)) c.import.ensures.does.unformatted tt tt in
+    c.import.ensures.does.goes (λ none. absurd (cc)) (λ not. absurd (not refl)) c.import.ensures.does.unformatted tt tt
+    (λ _. c.import.ensures.does.trusted) in
     record {
       runs = subst (λ (own : Command). Runs (seen own)
           (λ (asked : List ℕ). g.I.Inputs.reads c.args.inputs.now asked c.import.new.inputs) old new fault) (sym c.in-Import.is) own;
@@ -105,7 +106,7 @@ returns-in-Append g c =
     let does = c.append.ensures.does in
     let own = runs_ahead command (λ (asked : List ℕ). g.I.Inputs.reads c.args.inputs.now asked c.append.new.inputs) fault old new
     does.0 does.1 fits.0.least does.2.asked does.2.goes (λ none. absurd (cc)) (λ not. absurd (not refl)) does.2.unformatted
-    (where_done c.append.result (IsLocal c.in-Append.files old new) c.append.ensures.local) tt in
+    (where_done c.append.result (IsLocal c.in-Append.files old new) c.append.ensures.local) tt (λ _. does.2.trusted) in
     record {
       runs = subst (λ (own : Command). Runs (seen own)
           (λ (asked : List ℕ). g.I.Inputs.reads c.args.inputs.now asked c.append.new.inputs) old new fault) (sym c.in-Append.is) own;
@@ -125,7 +126,7 @@ returns-in-Export g c =
     (λ (asked : List ℕ). g.I.Inputs.reads c.args.inputs.now asked c.args.inputs.now) fault old new tt
     (asked_none g.I.Inputs.reads (Names (export_of c.in-Export.store.now c.in-Export.table.now)) c.args.inputs.now
     (laws.reads_none c.args.inputs.now)) c.export.ensures.does.goes (λ none. absurd (cc))
-    (λ not. absurd (not refl)) c.export.ensures.does.unformatted tt tt in
+    (λ not. absurd (not refl)) c.export.ensures.does.unformatted tt tt (λ _. c.export.ensures.does.trusted) in
     record {
       runs = subst (λ (own : Command). Runs (seen own)
           (λ (asked : List ℕ). g.I.Inputs.reads c.args.inputs.now asked c.args.inputs.now) old new fault) (sym c.in-Export.is) own;
@@ -146,7 +147,7 @@ returns-in-Tiles g c =
     (λ (asked : List ℕ). g.I.Inputs.reads c.args.inputs.now asked c.args.inputs.now) fault old new tt
     (asked_none g.I.Inputs.reads (Names (tiles_of c.in-Tiles.store.now c.in-Tiles.least c.in-Tiles.clear)) c.args.inputs.now
     (laws.reads_none c.args.inputs.now)) c.tiles.ensures.does.goes (λ none. absurd (cc))
-    (λ not. absurd (not refl)) c.tiles.ensures.does.unformatted tt tt in
+    (λ not. absurd (not refl)) c.tiles.ensures.does.unformatted tt tt (λ _. c.tiles.ensures.does.trusted) in
     record {
       runs = subst (λ (own : Command). Runs (seen own)
           (λ (asked : List ℕ). g.I.Inputs.reads c.args.inputs.now asked c.args.inputs.now) old new fault) (sym c.in-Tiles.is) own;
@@ -165,7 +166,7 @@ returns-in-Replay g c =
     let own = runs_by command (λ (asked : List ℕ). g.I.Inputs.reads c.args.inputs.now asked c.replay.new.inputs) fault old new fits.least
     c.replay.ensures.asked (from_unused new_store old new (replay_course c.in-Replay.files) fault
     (λ e. absurd (cc)) c.replay.ensures.course) (λ none. absurd (cc)) (λ _. c.replay.ensures.looked)
-    (λ is. absurd (c.replay.ensures.formatted is)) tt tt in
+    (λ is. absurd (c.replay.ensures.formatted is)) tt tt (λ is. absurd (cc (is))) in
     record {
       runs = subst (λ (own : Command). Runs (seen own)
           (λ (asked : List ℕ). g.I.Inputs.reads c.args.inputs.now asked c.replay.new.inputs) old new fault) (sym c.in-Replay.is) own;
@@ -182,7 +183,7 @@ returns-in-Query g c =
     let command = query_of c.in-Query.store.now c.in-Query.files in
     let own = runs_by command (λ (asked : List ℕ). g.I.Inputs.reads c.args.inputs.now asked c.query.new.inputs) fault old new fits.1
     c.query.ensures.does.asked c.query.ensures.does.goes (λ none. absurd (cc)) (λ not. absurd (not refl))
-    c.query.ensures.does.unformatted tt tt in
+    c.query.ensures.does.unformatted tt tt (λ _. c.query.ensures.does.trusted) in
     record {
       runs = subst (λ (own : Command). Runs (seen own)
           (λ (asked : List ℕ). g.I.Inputs.reads c.args.inputs.now asked c.query.new.inputs) old new fault) (sym c.in-Query.is) own;
@@ -199,7 +200,7 @@ returns-in-Serve g c =
     let command = serve_of c.in-Serve.store.now c.in-Serve.files c.in-Serve.workers c.in-Serve.readers in
     let own = runs_by command (λ (asked : List ℕ). g.I.Inputs.reads c.args.inputs.now asked c.serve.new.inputs) fault old new fits.0.least
     c.serve.ensures.does.asked c.serve.ensures.does.goes (λ none. absurd (cc)) (λ not. absurd (not refl))
-    c.serve.ensures.does.unformatted tt tt in
+    c.serve.ensures.does.unformatted tt tt (λ _. c.serve.ensures.does.trusted) in
     record {
       runs = subst (λ (own : Command). Runs (seen own)
           (λ (asked : List ℕ). g.I.Inputs.reads c.args.inputs.now asked c.serve.new.inputs) old new fault) (sym c.in-Serve.is) own;
@@ -218,7 +219,8 @@ returns-in-Migrate g c =
     let own = runs_by (migrate_of c.in-Migrate.store.now)
     (λ (asked : List ℕ). g.I.Inputs.reads c.args.inputs.now asked c.args.inputs.now) fault old new tt
     (asked_none g.I.Inputs.reads (Names (migrate_of c.in-Migrate.store.now)) c.args.inputs.now (laws.reads_none c.args.inputs.now))
-    c.migrate.ensures.does.goes (λ none. absurd (cc)) (λ not. absurd (not refl)) c.migrate.ensures.does.unformatted tt tt in
+    c.migrate.ensures.does.goes (λ none. absurd (cc)) (λ not. absurd (not refl)) c.migrate.ensures.does.unformatted tt tt
+    (λ _. c.migrate.ensures.does.trusted) in
     record {
       runs = subst (λ (own : Command). Runs (seen own)
           (λ (asked : List ℕ). g.I.Inputs.reads c.args.inputs.now asked c.args.inputs.now) old new fault) (sym c.in-Migrate.is) own;
@@ -239,7 +241,7 @@ returns-in-Check g c =
     (λ (asked : List ℕ). g.I.Inputs.reads c.args.inputs.now asked c.args.inputs.now) fault old new tt
     (asked_none g.I.Inputs.reads (Names (check_of c.in-Check.store.now)) c.args.inputs.now (laws.reads_none c.args.inputs.now))
     c.check.ensures.does.goes (λ none. absurd (cc)) (λ not. absurd (not refl)) c.check.ensures.does.unformatted tt
-    c.check.ensures.checked in
+    c.check.ensures.checked (λ _. c.check.ensures.does.trusted) in
     record {
       runs = subst (λ (own : Command). Runs (seen own)
           (λ (asked : List ℕ). g.I.Inputs.reads c.args.inputs.now asked c.args.inputs.now) old new fault) (sym c.in-Check.is) own;
@@ -263,7 +265,7 @@ returns-in-Demo g c =
     let own = runs_by command (λ (asked : List ℕ). g.I.Inputs.reads c.args.inputs.now asked c.args.inputs.now) fault old new tt
     (asked_none g.I.Inputs.reads (Names command) c.args.inputs.now (laws.reads_none c.args.inputs.now))
     (from_unused new_store old new (demo_course c.in-Demo.count) fault (λ e. absurd (cc)) c.demo.ensures.course) (λ none. absurd (cc))
-    (λ _. c.demo.ensures.looked) (λ is. absurd (c.demo.ensures.formatted is)) tt tt in
+    (λ _. c.demo.ensures.looked) (λ is. absurd (c.demo.ensures.formatted is)) tt tt (λ is. absurd (cc (is))) in
     record {
       runs = subst (λ (own : Command). Runs (seen own)
           (λ (asked : List ℕ). g.I.Inputs.reads c.args.inputs.now asked c.args.inputs.now) old new fault) (sym c.in-Demo.is) own;

@@ -32,3 +32,9 @@ returns-clause-front g c = record {
     tables_are = c.in-Ok-show_delta.ensures.tables;
   };
 }
+
+pub returns-in-Err-clause-sound : goal.returns-in-Err-clause-sound
+returns-in-Err-clause-sound g c = c.in-Err.ensures.sound
+
+pub returns-clause-sound : goal.returns-clause-sound
+returns-clause-sound g c = c.in-Ok.ensures.sound

@@ -3,6 +3,7 @@ use Rattle.update_flow.specs.Updater.{handle_of}
 use Rattle.updater.specs.FileReads.{Among}
 use Rattle.updater.proofs.Asked.{asked_more, asked_none}
 use Rattle.updater.proofs.ServeRuns.{ends_in_serving, first_serving, last_serving, next_serving}
+use Rattle.updater.proofs.SoundRuns.{ends_well}
 use Rattle.updater.proofs.serving.publish_files.Goals as goal
 
 pub loop-file-init : goal.loop-file-init
@@ -14,6 +15,7 @@ loop-file-init g c =
       asked = asked_none g.I.Inputs.reads (Among c.args.files.first c.args.files.count) c.args.inputs.now
           (laws.reads_none c.args.inputs.now);
       stays = record { same_disk = refl; same_limits = refl };
+      sound = λ opened. opened;
       begin = refl;
       shown = c.requires.shown;
       turn = λ old start done held asked readers head.
@@ -36,6 +38,7 @@ returns-in-Err-clause-serves g c = record {
       (c.loop-file.invariant.turn old start done held asked readers head)
       (g.I.Inputs.view c.publish_file.new.inputs) (handle_of c.publish_file.new.store)
       (g.S.Sink.view c.publish_file.new.out) c.in-Err.fault c.in-Err.ensures.publishes;
+  sound = λ opened. c.in-Err.ensures.sound (c.loop-file.invariant.sound opened);
 }
 
 pub returns-in-Err-clause-works : goal.returns-in-Err-clause-works
@@ -69,6 +72,7 @@ loop-file-preserved g c =
         same_disk = c.publish_file.ensures.works.keeps.stays.same_disk ∙ c.loop-file.invariant.stays.same_disk;
         same_limits = c.publish_file.ensures.works.keeps.stays.same_limits ∙ c.loop-file.invariant.stays.same_limits;
       };
+      sound = λ opened. (c.in-Ok.ensures.sound (c.loop-file.invariant.sound opened)).stays refl;
       begin = c.publish_file.ensures.front.begin ∙ c.loop-file.invariant.begin;
       shown = c.in-Ok.ensures.front.shown;
       turn = λ old start done held asked readers head.
@@ -91,6 +95,7 @@ returns-clause-serves g c = record {
       (omega (arith, c.loop-file-test.false)) (omega (arith, c.loop-file-test.false, c.loop-file.invariant.within))
       (g.I.Inputs.view c.loop-file.inputs) (handle_of c.loop-file.store) (g.S.Sink.view c.loop-file.out) c.loop-file.publisher.front
       (c.loop-file.invariant.turn old start done held asked readers head);
+  sound = λ opened. ends_well (handle_of c.loop-file.store) (c.loop-file.invariant.sound opened);
 }
 
 pub returns-clause-works : goal.returns-clause-works

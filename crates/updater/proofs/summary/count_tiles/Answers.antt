@@ -1,4 +1,4 @@
-use Rattle.std.proofs.Common.{◌+◌, arith}
+use Rattle.std.proofs.Common.{arith}
 use Rattle.std.proofs.lemmas.List.Sums.{sum_by_more}
 use Rattle.tile_cover.specs.Runs.{IsRun}
 use Rattle.tile_cover.specs.declared.runs.Run.{Run}

@@ -1,6 +1,6 @@
-use Rattle.std.proofs.Common.{List, ℕ, Option, [], ◌++◌, ◌∙◌, length, ap, refl, sym}
+use Rattle.std.proofs.Common.{ℕ, Option, [], ◌++◌, ◌∙◌, length, ap, refl, sym}
 use Rattle.std.specs.Fmt.{decimal}
-use Rattle.std.specs.Prelude.{codes, encode_utf8_all, slice_get}
+use Rattle.std.specs.Prelude.{codes, encode_utf8_all}
 use Rattle.std.specs.Option.{option_map_or}
 use Rattle.std.proofs.lemmas.Option.{slice_get_read}
 use Rattle.row_text.specs.Numbered.{rows_of}

@@ -4,6 +4,7 @@ use Rattle.updater.specs.FileReads.{Among}
 use Rattle.updater.proofs.AppendRuns.{first_version, next_version, ends_in_version, last_version}
 use Rattle.updater.proofs.LocalLaws.{appends_begin, appends_end, appends_next}
 use Rattle.updater.proofs.Asked.{asked_more, asked_none}
+use Rattle.updater.proofs.SoundRuns.{ends_well}
 use Rattle.updater.proofs.versions.append_files.Goals as goal
 
 pub loop-file-init : goal.loop-file-init
@@ -15,6 +16,7 @@ loop-file-init g c =
       asked = asked_none g.I.Inputs.reads (Among c.args.files.first c.args.files.count) c.args.inputs.now
           (laws.reads_none c.args.inputs.now);
       stays = record { same_disk = refl; same_limits = refl };
+      sound = λ opened. opened;
       turn = λ old start done held head. first_version c.args.bounds.now held c.args.files.first c.args.files.count start done old
           (c.args.files.first + c.args.files.count - c.args.files.first) (omega arith)
           (g.I.Inputs.view c.args.inputs.now) (handle_of c.args.store.now) (g.S.Sink.view c.args.out.now) head;
@@ -65,6 +67,7 @@ loop-file-preserved g c =
         same_disk = c.append_file.ensures.works.keeps.stays.same_disk ∙ c.loop-file.invariant.stays.same_disk;
         same_limits = c.append_file.ensures.works.keeps.stays.same_limits ∙ c.loop-file.invariant.stays.same_limits;
       };
+      sound = λ opened. (c.in-Ok.ensures.sound (c.loop-file.invariant.sound opened)).stays refl;
       turn = λ old start done held head.
           next_version c.args.bounds.now held c.args.files.first c.args.files.count start done old c.loop-file.file
           (c.args.files.first + c.args.files.count - c.loop-file.file) (c.args.files.first + c.args.files.count - (c.loop-file.file + 1))
@@ -99,3 +102,9 @@ returns-clause-local g c = λ held pages is rests.
     appends_end c.args.bounds.now held pages c.args.files.first c.args.files.count c.loop-file.file (g.I.Inputs.view c.args.inputs.now)
     (g.I.Inputs.view c.loop-file.inputs) (handle_of c.args.store.now) (handle_of c.loop-file.store)
     (omega (arith, c.loop-file-test.false, c.loop-file.invariant.within)) (c.loop-file.invariant.local held pages is rests)
+
+pub returns-in-Err-clause-sound : goal.returns-in-Err-clause-sound
+returns-in-Err-clause-sound g c = λ opened. c.in-Err.ensures.sound (c.loop-file.invariant.sound opened)
+
+pub returns-clause-sound : goal.returns-clause-sound
+returns-clause-sound g c = λ opened. ends_well (handle_of c.loop-file.store) (c.loop-file.invariant.sound opened)

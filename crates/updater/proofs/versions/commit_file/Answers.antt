@@ -3,6 +3,7 @@ use Rattle.update_flow.specs.State.{Append, changed, imported}
 use Rattle.update_flow.specs.Updater.{handle_of}
 use Rattle.run_promise.specs.Courses.{version_line}
 use Rattle.updater.proofs.VersionRuns.{file_unread}
+use Rattle.updater.proofs.SoundRuns.{unread_ends}
 use Rattle.updater.proofs.versions.commit_file.Goals as goal
 
 pub returns-in-Err-clause-leads : goal.returns-in-Err-clause-leads
@@ -15,5 +16,13 @@ returns-in-Err-clause-leads g c = λ old start done held head.
 
 pub returns-clause-leads : goal.returns-clause-leads
 returns-clause-leads g c = λ old start done held head.
-    c.commit_change.ensures.leads c.args.file (g.I.Inputs.view c.args.inputs.now) (g.I.Inputs.view c.read_change.new.inputs) old start done held
+    c.commit_change.ensures.leads c.args.file (g.I.Inputs.view c.args.inputs.now)
+    (g.I.Inputs.view c.read_change.new.inputs) old start done held
     c.in-Ok.ensures.reads.ok head
+
+pub returns-in-Err-clause-sound : goal.returns-in-Err-clause-sound
+returns-in-Err-clause-sound g c = λ opened.
+    unread_ends _ _ c.in-Err.fault _ _ (handle_of c.args.store.now) c.in-Err.ensures.reads.err
+
+pub returns-clause-sound : goal.returns-clause-sound
+returns-clause-sound g c = c.commit_change.ensures.sound

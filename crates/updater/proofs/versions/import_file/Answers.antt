@@ -5,6 +5,7 @@ use Rattle.update_flow.specs.Updater.{handle_of}
 use Rattle.run_promise.specs.Courses.{version_line}
 use Rattle.run_promise.specs.Progress.{past}
 use Rattle.updater.proofs.VersionRuns.{file_read, file_unread}
+use Rattle.updater.proofs.SoundRuns.{unread_ends}
 use Rattle.updater.proofs.versions.import_file.Goals as goal
 
 pub returns-in-Err-clause-leads : goal.returns-in-Err-clause-leads
@@ -25,3 +26,10 @@ returns-clause-leads g c = λ old start done head.
     c.in-Ok.change c.in-Ok.ensures.reads.ok (result_err c.import_change.result) (handle_of c.import_change.new.store)
     (g.S.Sink.view c.import_change.new.out)
     (λ head. c.import_change.ensures.leads (c.args.file + 1) read old start (past c.args.file done) head)
+
+pub returns-in-Err-clause-sound : goal.returns-in-Err-clause-sound
+returns-in-Err-clause-sound g c = λ opened.
+    unread_ends _ _ c.in-Err.fault _ _ (handle_of c.args.store.now) c.in-Err.ensures.reads.err
+
+pub returns-clause-sound : goal.returns-clause-sound
+returns-clause-sound g c = c.import_change.ensures.sound

@@ -8,6 +8,7 @@ use Rattle.update_flow.specs.Updater.{handle_of}
 use Rattle.update_flow.proofs.Carrying.{ok_then}
 use Rattle.update_flow.proofs.Handles.{kept_fits, look_taken}
 use Rattle.update_flow.proofs.Openings.{state_here}
+use Rattle.update_flow.proofs.SoundCarried.{look_sound}
 use Rattle.update_flow.proofs.updater.Updater.load_table.Goals as goal
 
 pub returns-clause-looks : goal.returns-clause-looks
@@ -27,3 +28,13 @@ returns-clause-table g c =
     told held (kept_fits c.args.self.now.store c.in-Some-take.store _ (sym c.take.ensures.value ∙ c.in-Some-take.is) opened.fits)
     (state_here _ _ opened.at_rest) (same_Some held.style c.in-Some.style (sym opened.shows.style_is ∙ c.in-Some.is)))
     c.rows_on.ensures.tables
+
+-- a sound store
+pub returns-clause-sound : goal.returns-clause-sound
+returns-clause-sound g c =
+    look_sound (handle_of c.args.self.now) _ c.rows_on.new.kept refl (λ fits. fits) (result_err c.rows_on.result)
+    (record { changes_same = refl; imported_same = refl; old_same = refl; style_same = refl })
+    (ap (λ (o : Option StyleOf). is_some o) c.in-Some.is)
+    (λ held opened. c.rows_on.ensures.sound held (kept_fits c.args.self.now.store c.in-Some-take.store _
+    (sym c.take.ensures.value ∙ c.in-Some-take.is) opened.fits)
+    opened.holds (same_Some held.style c.in-Some.style (sym opened.shows.style_is ∙ c.in-Some.is)))

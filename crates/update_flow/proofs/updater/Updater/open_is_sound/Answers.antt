@@ -5,5 +5,5 @@ use Rattle.update_flow.proofs.updater.Updater.open_is_sound.Goals as goal
 pub returns : goal.returns
 returns g c = record {
   standing = λ held opened. standing_open held (handle_of c.args.self.now) opened;
-  told = λ held bytes opened tells. sound_told held (handle_of c.args.self.now) bytes opened tells;
+  told = λ state bytes opened tells. sound_told state (handle_of c.args.self.now) bytes opened tells;
 }

@@ -17,3 +17,19 @@ returns-clause-open g c = λ state at found. record {
   };
   fits = (c.args.opened.store, refl, found.fits);
 }
+
+pub returns-clause-sound : goal.returns-clause-sound
+returns-clause-sound g c finds = (
+  finds.state,
+  record {
+    holds = finds.holds;
+    whole = refl;
+    shows = record {
+      changes_are = finds.found.changes_are;
+      imported_is = ap (λ (s : Option StyleOf). is_some s) finds.found.style_is ∙ style_tells finds.state;
+      old_is = finds.found.old_is;
+      style_is = finds.found.style_is;
+    };
+    fits = (c.args.opened.store, refl, finds.found.fits);
+  },
+)

@@ -14,6 +14,7 @@ use Rattle.updater.proofs.Asked.{asked_among, asked_more, asked_none, asked_then
 use Rattle.updater.proofs.LocalLaws.{appends_all, on_ok_so}
 use Rattle.updater.proofs.AheadRuns.{takes_changes}
 use Rattle.updater.proofs.StoreRuns.{first_read, first_unread, if_there, leads_ends, not_yet, outdated_there}
+use Rattle.updater.proofs.SoundRuns.{unread_ends}
 use Rattle.updater.proofs.commands.append.append_store.Goals as goal
 
 pub returns-then-old-clause-goes_on : goal.returns-then-old-clause-goes_on
@@ -98,7 +99,8 @@ returns-clause-goes_on g c =
           (λ bounds. appends bounds held (first + 1) count (onward finished)) (imported held) head
           read c.in-Ok.bounds c.in-Ok.ensures.reads.ok (result_err c.append_ahead.result)
           (world last (view_of (handle_of c.append_ahead.new.store)) told)
-          (λ head. leads_ends (λ further. appends c.in-Ok.bounds held (first + 1) count (onward further)) (result_err c.append_ahead.result) start
+          (λ head. leads_ends (λ further. appends c.in-Ok.bounds held (first + 1) count (onward further))
+          (result_err c.append_ahead.result) start
           (past first done) (first + 1 + count) old last (handle_of c.append_ahead.new.store) told
           (own.leads old start (past first done) held head))),
     )
@@ -132,5 +134,13 @@ returns-clause-local g c = on_ok_so c.append_ahead.result _ _ (λ there held pag
     (view_of (handle_of c.append_ahead.new.store)).reads c.in-Ok.ensures.reads.ok (there held pages is rests)) c.append_ahead.ensures.local
 
 pub append_ahead-requires-clause-takes : goal.append_ahead-requires-clause-takes
-append_ahead-requires-clause-takes g c = λ lifetimes fit. takes_changes (handle_of c.args.store.now) (sym c.imported.ensures.is ∙ c.if-not-imported.false)
+append_ahead-requires-clause-takes g c = λ lifetimes fit. takes_changes (handle_of c.args.store.now)
+    (sym c.imported.ensures.is ∙ c.if-not-imported.false)
     (sym c.old.ensures.is ∙ c.if-old.false)
+
+pub returns-in-Err-clause-sound : goal.returns-in-Err-clause-sound
+returns-in-Err-clause-sound g c = λ opened.
+    unread_ends _ _ c.in-Err.fault _ _ (handle_of c.args.store.now) c.in-Err.ensures.reads.err
+
+pub returns-clause-sound : goal.returns-clause-sound
+returns-clause-sound g c = c.append_ahead.ensures.ahead.sound

@@ -10,6 +10,7 @@ use Rattle.updater.proofs.CheckRuns.{bad_says, ends_so}
 use Rattle.updater.proofs.LocalLaws.{where_done}
 use Rattle.updater.proofs.NoStoreFaults.{opening_says}
 use Rattle.updater.proofs.OpenRuns.{found_here, goes_over, unopened}
+use Rattle.updater.proofs.SoundRuns.{unopened_trusted}
 use Rattle.updater.proofs.commands.check.check.Goals as goal
 
 pub returns-in-Err : goal.returns-in-Err
@@ -27,6 +28,8 @@ returns-in-Err g c =
             (λ page is. c.in-Err.ensures.any.bad page (ap Err is)) c.in-Err.ensures.any.cause;
         asked = asked_none g.I.Inputs.reads NoFile c.args.inputs.now (asks.reads_none c.args.inputs.now);
         unformatted = λ is. c.in-Err.ensures.any.untouched (ap Err (opening_says c.in-Err.fault is));
+        trusted = unopened_trusted (g.D.Disk.view c.args.disk.now).content c.in-Err.fault
+            (λ page is bytes told. (c.in-Err.ensures.bad page (ap Err is) bytes told).0);
       };
       checked = record {
         sound = λ is. absurd (cc);
@@ -55,6 +58,7 @@ returns g c =
             (g.I.Inputs.view c.args.inputs.now) (g.S.Sink.view c.tell_sound-done.new.out) c.tell_sound-done.ensures.goes_on;
         asked = asked_none g.I.Inputs.reads NoFile c.args.inputs.now (asks.reads_none c.args.inputs.now);
         unformatted = λ is. absurd (ends_so c.tell_sound-done.result faults.NotFormatted c.tell_sound-done.ensures.alone is);
+        trusted = λ page is. absurd (ends_so c.tell_sound-done.result (faults.BadStore page) c.tell_sound-done.ensures.alone is);
       };
       checked = record {
         sound = λ is. c.in-Ok.ensures.sound (sym c.over-store.ensures.tells.outdated

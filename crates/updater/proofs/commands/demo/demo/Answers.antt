@@ -1,4 +1,3 @@
-use Rattle.std.proofs.Common.{[], refl}
 use Rattle.std.specs.Result.{result_err}
 use Rattle.run_promise.specs.Course.{formats, looks}
 use Rattle.run_promise.specs.Courses.{fills_demo}

@@ -5,6 +5,8 @@ use Rattle.updater.specs.FileReads.{Among}
 use Rattle.updater.proofs.Asked.{asked_none}
 use Rattle.updater.proofs.NoStoreFaults.{opening_says}
 use Rattle.updater.proofs.OpenRuns.{found_here, goes_over, unopened}
+use Rattle.updater.proofs.SoundRuns.{opened_trusted, unopened_trusted}
+use Rattle.update_flow.specs.Updater.{handle_of}
 use Rattle.updater.proofs.commands.import.import.Goals as goal
 
 pub returns-in-Err : goal.returns-in-Err
@@ -23,6 +25,8 @@ returns-in-Err g c =
         asked = asked_none g.I.Inputs.reads (Among c.args.files.first c.args.files.count) c.args.inputs.now
             (asks.reads_none c.args.inputs.now);
         unformatted = λ is. c.in-Err.ensures.any.untouched (ap Err (opening_says c.in-Err.fault is));
+        trusted = unopened_trusted (g.D.Disk.view c.args.disk.now).content c.in-Err.fault
+            (λ page is bytes told. (c.in-Err.ensures.bad page (ap Err is) bytes told).0);
       };
     })
 
@@ -47,5 +51,9 @@ returns g c =
             (g.S.Sink.view c.import_store-done.new.out) c.import_store-done.ensures.goes_on;
         asked = c.import_store-done.ensures.works.asked;
         unformatted = λ is. absurd (c.import_store-done.ensures.works.keeps.formatted is);
+        trusted = opened_trusted (g.D.Disk.view c.args.disk.now).content (result_err c.import_store-done.result)
+            (handle_of c.over-store.result) (handle_of c.import_store-done.new.store)
+            (λ bytes told sound. c.over-store.ensures.sound (c.in-Ok.ensures.sound bytes told sound).found)
+            c.import_store-done.ensures.sound;
       };
     }

@@ -12,6 +12,7 @@ use Rattle.run_promise.specs.World.{world}
 use Rattle.updater.proofs.NoStoreFaults.{unread_never}
 use Rattle.updater.proofs.Asked.{asked_more, asked_none}
 use Rattle.updater.proofs.StoreRuns.{already, first_read, first_unread, if_new, leads_ends, outdated_new}
+use Rattle.updater.proofs.SoundRuns.{unread_ends}
 use Rattle.updater.proofs.commands.import.import_store.Goals as goal
 
 pub returns-then-old-clause-goes_on : goal.returns-then-old-clause-goes_on
@@ -99,3 +100,10 @@ returns-clause-works g c =
           c.read_style_file.ensures.reads.asked (omega arith, omega (arith, two)))
           c.import_file.ensures.works.asked (omega arith, omega (arith, two));
     }
+
+pub returns-in-Err-clause-sound : goal.returns-in-Err-clause-sound
+returns-in-Err-clause-sound g c = λ opened.
+    unread_ends _ _ c.in-Err.fault _ _ (handle_of c.args.store.now) c.in-Err.ensures.reads.err
+
+pub returns-clause-sound : goal.returns-clause-sound
+returns-clause-sound g c = c.import_file.ensures.sound

@@ -2,6 +2,7 @@ use Rattle.std.proofs.Common.{◌∙◌, Err, ap, sym}
 use Rattle.update_flow.specs.Updater.{handle_of}
 use Rattle.updater.proofs.MigrateRuns.{has_format, migrate_done, migrate_refused, none_there}
 use Rattle.updater.proofs.StoreDeeds.{refused_so}
+use Rattle.updater.proofs.SoundRuns.{never_old, told_ends}
 use Rattle.updater.proofs.commands.migrate.migrate_store.Goals as goal
 
 pub returns-then-not-imported-clause-goes_on : goal.returns-then-not-imported-clause-goes_on
@@ -37,3 +38,15 @@ returns-in-Err-clause-goes_on g c = rw c.in_flow.ensures.fault (λ old start don
     (sym c.old.ensures.is ∙ c.if-not-old.false)
     (handle_of c.migrate.new.self) c.in-Err.fault c.in-Err.ensures.takes (refused_so c.in-Err.ensures.stays)
     (λ is. c.in-Err.ensures.never (ap Err is)))
+
+pub returns-then-not-old-clause-sound : goal.returns-then-not-old-clause-sound
+returns-then-not-old-clause-sound g c = λ opened.
+    told_ends c.tell.result (handle_of c.args.store.now) c.tell.ensures.alone opened
+
+pub returns-in-Ok-clause-sound : goal.returns-in-Ok-clause-sound
+returns-in-Ok-clause-sound g c = λ opened.
+    absurd (never_old (handle_of c.args.store.now) opened (sym c.old.ensures.is ∙ c.if-not-old.false))
+
+pub returns-in-Err-clause-sound : goal.returns-in-Err-clause-sound
+returns-in-Err-clause-sound g c = λ opened.
+    absurd (never_old (handle_of c.args.store.now) opened (sym c.old.ensures.is ∙ c.if-not-old.false))

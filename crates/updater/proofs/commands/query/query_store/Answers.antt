@@ -20,6 +20,7 @@ use Rattle.updater.proofs.Asked.{asked_more, asked_none}
 use Rattle.updater.proofs.StoreRuns.{first_read, first_unread, held_certain, if_there, look_done, look_ends, look_refused, look_short}
 use Rattle.updater.proofs.StoreRuns.{not_yet, outdated_there, same_style}
 use Rattle.updater.proofs.StoreDeeds.{shows_here, refused_so}
+use Rattle.updater.proofs.SoundRuns.{look_goes, look_stops, told_ends, unread_ends}
 use Rattle.updater.proofs.commands.query.query_store.Goals as goal
 
 pub returns-then-old-clause-goes_on : goal.returns-then-old-clause-goes_on
@@ -211,3 +212,17 @@ returns-clause-works g c =
           (asked_none g.I.Inputs.reads (Among files.first files.count) c.args.inputs.now (laws.reads_none c.args.inputs.now))
           c.read_queries_file-read.ensures.reads.asked (omega arith, omega (arith, one));
     }
+
+pub returns-in-Err-clause-sound : goal.returns-in-Err-clause-sound
+returns-in-Err-clause-sound g c = λ opened.
+    unread_ends _ _ c.in-Err.fault _ _ (handle_of c.args.store.now) c.in-Err.ensures.reads.err
+
+pub returns-in-Err-load_tables-clause-sound : goal.returns-in-Err-load_tables-clause-sound
+returns-in-Err-load_tables-clause-sound g c = rw c.in_flow.ensures.fault (λ opened.
+    look_stops c.in-Err-load_tables.fault (handle_of c.args.store.now) opened (handle_of c.load_tables.new.self)
+    (handle_of c.load_tables.new.self) c.in-Err-load_tables.ensures.sound)
+
+pub returns-in-Ok-text-clause-sound : goal.returns-in-Ok-text-clause-sound
+returns-in-Ok-text-clause-sound g c = λ opened.
+    told_ends c.tell.result (handle_of c.load_tables.new.self) c.tell.ensures.alone
+    (look_goes (handle_of c.args.store.now) (handle_of c.load_tables.new.self) c.in-Ok-load_tables.ensures.sound opened)

@@ -52,3 +52,6 @@ returns-in-Ok-publish_first-clause-goes_on g c = λ old start done held head loa
     (c.serve_shown-done.ensures.goes_on old start done held head same
     (λ (certain : IsCertain done.store). shown_first c.in-Ok.style front held none changes same
     (ap (λ (own : FrontOf). own.first) is ∙ loaded certain)))
+
+pub returns-in-Ok-publish_first-clause-sound : goal.returns-in-Ok-publish_first-clause-sound
+returns-in-Ok-publish_first-clause-sound g c = c.serve_shown-done.ensures.sound

@@ -18,6 +18,7 @@ use Rattle.updater.proofs.StoreRuns.{first_read, first_unread, held_certain, if_
 use Rattle.updater.proofs.StoreRuns.{same_style}
 use Rattle.updater.proofs.VersionRuns.{goes_back}
 use Rattle.updater.proofs.StoreDeeds.{refused_so}
+use Rattle.updater.proofs.SoundRuns.{look_goes, look_stops, unread_ends}
 use Rattle.updater.proofs.commands.serve.serve_store.Goals as goal
 
 pub returns-then-old-clause-goes_on : goal.returns-then-old-clause-goes_on
@@ -242,3 +243,21 @@ overflow_add-changes g c =
 
 pub overflow_sub-changes : goal.overflow_sub-changes
 overflow_sub-changes g c = let two = c.requires.fits.0.least in omega (arith, two)
+
+pub returns-in-Err-clause-sound : goal.returns-in-Err-clause-sound
+returns-in-Err-clause-sound g c = λ opened.
+    unread_ends _ _ c.in-Err.fault _ _ (handle_of c.args.store.now) c.in-Err.ensures.reads.err
+
+pub returns-in-Err-read-clause-sound : goal.returns-in-Err-read-clause-sound
+returns-in-Err-read-clause-sound g c = λ opened.
+    unread_ends _ _ c.in-Err-read.fault _ _ (handle_of c.args.store.now) c.in-Err-read.ensures.reads.err
+
+pub returns-in-Err-load_tables-clause-sound : goal.returns-in-Err-load_tables-clause-sound
+returns-in-Err-load_tables-clause-sound g c = rw c.in_flow.ensures.fault (λ opened.
+    look_stops c.in-Err-load_tables.fault (handle_of c.args.store.now) opened (handle_of c.load_tables.new.self)
+    (handle_of c.load_tables.new.self) c.in-Err-load_tables.ensures.sound)
+
+pub returns-clause-sound : goal.returns-clause-sound
+returns-clause-sound g c = λ opened.
+    c.serve_loaded.ensures.sound
+    (look_goes (handle_of c.args.store.now) (handle_of c.load_tables.new.self) c.in-Ok-load_tables.ensures.sound opened)

@@ -1,4 +1,4 @@
-use Rattle.std.proofs.Common.{true, false, None, ◌∙◌, sym}
+use Rattle.std.proofs.Common.{true, false, None, ◌∙◌, sym, Err}
 use Rattle.update_flow.specs.Handle.{view_of}
 use Rattle.update_flow.specs.Updater.{handle_of}
 use Rattle.run_promise.specs.Courses.{IsTileText, clears}
@@ -9,6 +9,8 @@ use Rattle.updater.proofs.HeadLaws.{ends_here}
 use Rattle.updater.proofs.StoreRuns.{clear_done, clear_refused, held_certain, if_there, look_done, look_refused, look_short, look_told}
 use Rattle.updater.proofs.StoreRuns.{look_untold, not_yet, outdated_there}
 use Rattle.updater.proofs.StoreDeeds.{refused_so}
+use Rattle.updater.proofs.SoundRuns.{ends_well, look_goes, look_stops, step_goes, step_stops, told_ends}
+use Rattle.update_flow.specs.State.{Clear}
 use Rattle.updater.proofs.commands.tiles.tiles_in.Goals as goal
 
 pub returns-then-old-clause-goes_on : goal.returns-then-old-clause-goes_on
@@ -136,3 +138,29 @@ returns-clause-goes_on g c = rw c.in_flow-in-Err-clear_due.ensures.fault (rw c.i
     c.in_default.ensures.ok c.tell.ensures.cause.later _ (world files (view_of (handle_of c.clear_due.new.self)) new)
     (λ head. clear_refused start (plus text done) held 0 old files (handle_of c.due.new.self) (handle_of c.clear_due.new.self) new head
     c.in-Err-clear_due.fault c.in-Err-clear_due.ensures.takes (refused_so c.in-Err-clear_due.ensures.stays)))))
+
+pub returns-in-Err-clause-sound : goal.returns-in-Err-clause-sound
+returns-in-Err-clause-sound g c = rw c.in_flow.ensures.fault (λ opened.
+    look_stops c.in-Err.fault (handle_of c.args.store.now) opened (handle_of c.due.new.self)
+    (handle_of c.due.new.self) c.in-Err.ensures.sound)
+
+pub returns-in-Err-tell-clause-sound : goal.returns-in-Err-tell-clause-sound
+returns-in-Err-tell-clause-sound g c = λ opened.
+    told_ends (Err c.in-Err-tell.fault) (handle_of c.due.new.self) c.in-Err-tell.ensures.alone
+    (look_goes (handle_of c.args.store.now) (handle_of c.due.new.self) c.in-Ok.ensures.sound opened)
+
+pub returns-then-not-clear-clause-sound : goal.returns-then-not-clear-clause-sound
+returns-then-not-clear-clause-sound g c = λ opened.
+    ends_well (handle_of c.due.new.self) (look_goes (handle_of c.args.store.now) (handle_of c.due.new.self) c.in-Ok.ensures.sound opened)
+
+pub returns-in-Ok-clear_due-clause-sound : goal.returns-in-Ok-clear_due-clause-sound
+returns-in-Ok-clear_due-clause-sound g c = λ opened.
+    ends_well (handle_of c.clear_due.new.self)
+    (step_goes Clear (handle_of c.due.new.self) (handle_of c.clear_due.new.self) c.in-Ok-clear_due.ensures.sound
+    (look_goes (handle_of c.args.store.now) (handle_of c.due.new.self) c.in-Ok.ensures.sound opened))
+
+pub returns-clause-sound : goal.returns-clause-sound
+returns-clause-sound g c = rw c.in_flow-in-Err-clear_due.ensures.fault (λ opened.
+    step_stops c.in-Err-clear_due.fault (handle_of c.due.new.self)
+    (look_goes (handle_of c.args.store.now) (handle_of c.due.new.self) c.in-Ok.ensures.sound opened)
+    (handle_of c.clear_due.new.self) Clear (handle_of c.clear_due.new.self) c.in-Err-clear_due.ensures.sound)
