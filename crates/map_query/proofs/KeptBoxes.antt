@@ -10,7 +10,7 @@ use Rattle.osm_base.proofs.SpotOrder.{spot_cmp-IsAntisymmetric, spot_cmp_total}
 use Rattle.grid_index.specs.Grid.{BoxMap, with_box}
 use Rattle.map_query.specs.RowBoxes.{IsBoxed, box_in, boxes_from}
 
-get_with_row : (tables : TableMap) (spot : SpotOf) (row : Option Row) (other : SpotOf)
+pub get_with_row : (tables : TableMap) (spot : SpotOf) (row : Option Row) (other : SpotOf)
     → finite.get (with_row tables spot row) other ≡ cond (eq_by_cmp spot_cmp other spot) row (finite.get tables other)
 get_with_row tables spot None other = finite.get-remove spot_cmp_total tables spot other
 get_with_row tables spot (Some row) other = finite.get-insert spot_cmp_total tables spot row other

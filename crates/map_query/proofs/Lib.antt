@@ -1,6 +1,7 @@
 pub mod Cutting
 pub mod Joined
 pub mod KeptBoxes
+pub mod KeptCounts
 pub mod NearRows
 pub mod Tables
 pub mod Walk

@@ -47,7 +47,7 @@ module _ {K X : Type 0} (R : K → K → Ordering) (total : IsTotalOrder R) (sam
   abbrev kept : List (K × X) → List (K × X)
   kept pairs = filter (λ pair. test pair.1) pairs
 
-  none_tied : (pairs : List (K × X)) (key : K) → AllByRecursion (λ other. eq_by_cmp R key other ≡ false) (map (λ pair. pair.0) pairs)
+  pub none_tied : (pairs : List (K × X)) (key : K) → AllByRecursion (λ other. eq_by_cmp R key other ≡ false) (map (λ pair. pair.0) pairs)
       → find R key pairs ≡ None
   none_tied [] key h = refl
   none_tied (pair ∷ pairs) key h = ap (λ b. cond b (Some pair.1) (find R key pairs)) h.0 ∙ none_tied pairs key h.1
@@ -99,22 +99,22 @@ module _ {K X : Type 0} (R : K → K → Ordering) (total : IsTotalOrder R) (sam
 
 -- ---- the rows of a table, and those at keys
 
-abbrev at : ℕ → KeyOf → SpotOf
+abbrev pub at : ℕ → KeyOf → SpotOf
 at table key = record { table = table; key = key }
 
-same_number : (n other : ℕ) → (n == other) ≡ true → n ≡ other
+pub same_number : (n other : ℕ) → (n == other) ≡ true → n ≡ other
 same_number n other e = grind (arith, nat_tests)
 
 own_number : (n : ℕ) → (n == n) ≡ true
 own_number n = grind (arith, nat_tests)
 
 -- in one table spots are ordered as their keys are
-in_table : (table own : ℕ) (key other : KeyOf) → own ≡ table → spot_cmp (at table key) (at own other) ≡ key_cmp key other
+pub in_table : (table own : ℕ) (key other : KeyOf) → own ≡ table → spot_cmp (at table key) (at own other) ≡ key_cmp key other
 in_table table own key other same =
     let tied : nat_cmp table own ≡ Equal = ap (nat_cmp table) same ∙ tied_itself nat_cmp_total table in
     ap (λ o. ordering_then o (key_cmp key other)) tied
 
-apart_tables : (table own : ℕ) (o : Ordering) → (own == table) ≡ false → is_eq (ordering_then (nat_cmp table own) o) ≡ false
+pub apart_tables : (table own : ℕ) (o : Ordering) → (own == table) ≡ false → is_eq (ordering_then (nat_cmp table own) o) ≡ false
 apart_tables table own o apart =
     elim (nat_cmp table own) as (λ n. nat_cmp table own ≡ n → is_eq (ordering_then n o) ≡ false) [
       | Less ↦ λ e. refl
@@ -144,7 +144,7 @@ find_among table key (entry ∷ rows) = go (find_among table key rows) (entry.0.
     go rest false e = rest ∙ ap (λ b. cond b (Some entry.1) (find spot_cmp (at table key) rows))
         (sym (apart_tables table entry.0.table (key_cmp key own) e))
 
-find_of : (tables : TableMap) (table : ℕ) (key : KeyOf) → find key_cmp key (rows_of tables table) ≡ finite.get tables (at table key)
+pub find_of : (tables : TableMap) (table : ℕ) (key : KeyOf) → find key_cmp key (rows_of tables table) ≡ finite.get tables (at table key)
 find_of tables table key = find_among table key (finite.entries tables) ∙ sym (finite.get-entries tables (at table key))
 
 abbrev IsOf : ℕ → List (SpotOf × GeoBox) → Type 0

@@ -1,5 +1,6 @@
 pub mod Answer
 pub mod Box
+pub mod Counted
 pub mod Fault
 pub mod Line
 pub mod Ordered

@@ -2,7 +2,9 @@
 ghost use Rattle.std.specs.Prelude.{◌≡◌, filter, map, IfOk, IfSome};
 ghost use Rattle.std.specs.List.{All};
 ghost use Rattle.map_query.specs.Answer.{answer, is_in, numbered};
-ghost use Rattle.map_query.specs.Ordered.{IsTable, seen};
+ghost use Rattle.map_query.specs.Ordered.{AreRows, IsTable, seen};
+ghost use Rattle.osm_base.specs.map.Spots.{TableMap};
+ghost use Rattle.style_read.specs.Style.{StyleOf};
 
 use crate::answering::{Found, answer, push};
 use crate::boxed::BoxedRow;
@@ -25,15 +27,32 @@ pub fn answer_in_order(
     requires ordered { All (IsTable style.now tables.now) all.now }
     ensures found { IfOk result (λ found. found ≡ answer style.now tables.now query.now) }
 {
-    if let Query::Box { table, asked } = *query {
-        for own in all {
-            if own.table == table {
-                let rows = rows_met(alloc, style, table, asked, &own.rows)?;
+    match *query {
+        Query::Count { table } => {
+            if let Some(rows) = rows_of(all, table) {
+                return Ok(Found::Count(rows.len() as u64));
+            }
+        }
+        Query::Box { table, asked } => {
+            if let Some(ordered) = rows_of(all, table) {
+                let rows = rows_met(alloc, style, table, asked, ordered)?;
                 return Ok(Found::Rows(rows));
             }
         }
+        Query::One { .. } => {}
     }
     answer(alloc, style, tables, query)
+}
+
+/// The rows of a table, if they stand there.
+fn rows_of<'a, 't>(all: &'a [TableRows<'t>], table: u32) -> Option<&'a [BoxedRow<'t>]>
+    ensures rows { (style : StyleOf) (tables : TableMap) → All (IsTable style tables) all.now → IfSome result (AreRows style tables table) }
+{
+    let own = all.get(table as usize)?;
+    if own.table != table {
+        return None;
+    }
+    Some(&own.rows)
 }
 
 /// Those of the rows of a table whose boxes have a place in common with the asked one.

@@ -7,12 +7,14 @@
 //!
 //! Two more ways lead to the same answers, for who asks the same tables many times. `boxed_tables` puts the rows of all tables
 //! in order once, each with its box, and `answer_in_order` tests the boxes one behind the other. `boxes_of` keeps the boxes of
-//! all rows in a grid, which `box_in` tells how to change with a row, and `answer_by_boxes` looks at no far row.
+//! all rows in a grid, which `box_in` tells how to change with a row, and `answer_by_boxes` looks at no far row. Neither counts a
+//! row for a count: `CountedTables` keeps how many each table has.
 #![tactic(auto)]
 
 mod answering;
 mod boxed;
 mod boxes;
+mod counted;
 mod fault;
 mod in_order;
 mod line;
@@ -26,6 +28,7 @@ mod words;
 pub use answering::{Found, answer};
 pub use boxed::BoxedRow;
 pub use boxes::box_of_geometry;
+pub use counted::CountedTables;
 pub use fault::{QueryFault, QueryWhy};
 pub use in_order::answer_in_order;
 pub use near::answer_by_boxes;

@@ -9,6 +9,7 @@ ghost use Rattle.map_query.specs.Answer.{answer, found_in, numbered, only};
 ghost use Rattle.map_query.specs.RowBoxes.{IsBoxed, rows_at};
 
 use crate::answering::{Found, answer, push};
+use crate::counted::CountedTables;
 use crate::query::Query;
 use grid_index::Grid;
 use osm_base::{GeoBox, Items, Key, OutOfMemory, Row, RowList, Spot, Tables};
@@ -16,11 +17,11 @@ use row_text::{KeyedRow, put_in_order, row_number};
 use std::alloc::Global;
 use style_read::Style;
 
-/// The answer to a query over these tables, for which no box of a row is made anew and no far one is looked at.
+/// The answer to a query over these tables, for which no row is counted, no box of a row is made anew and no far one is looked at.
 pub fn answer_by_boxes(
     alloc: Global,
     style: &Style,
-    tables: &Tables,
+    tables: &CountedTables,
     boxes: &Grid,
     query: &Query,
 ) -> Result<Found, OutOfMemory>
@@ -28,10 +29,16 @@ pub fn answer_by_boxes(
     ensures found { IfOk result (λ found. found ≡ answer style.now tables.now query.now) }
 {
     match *query {
+        Query::Count { table } => Ok(Found::Count(tables.count(table))),
         Query::Box { table, asked } => Ok(Found::Rows(rows_near(
-            alloc, style, tables, boxes, table, asked,
+            alloc,
+            style,
+            tables.tables(),
+            boxes,
+            table,
+            asked,
         )?)),
-        _ => answer(alloc, style, tables, query),
+        Query::One { .. } => answer(alloc, style, tables.tables(), query),
     }
 }
 

@@ -12,7 +12,7 @@ use crate::reader::{Handle, MapReader};
 use crate::rule::{Notes, Opens};
 use crate::shown::Shown;
 use left_right::writer::Writer;
-use map_query::boxes_of;
+use map_query::{CountedTables, boxes_of};
 use osm_base::{OutOfMemory, Tables, TryCopy};
 use std::alloc::Global;
 use std::marker::Model;
@@ -62,7 +62,7 @@ pub fn versions<R: Wait>(
     ensures readers { IfOk result (λ (publisher, made). (length made ≡ readers) × All (IsNewReader style publisher.front) made) }
 {
     let (head, front) = open_history(&first, version);
-    let board = open_board(rt, alloc, first, version, &front, readers)?;
+    let board = open_board(rt, alloc, &style, first, version, &front, readers)?;
     let (board, made) = make_readers(alloc, board, &style, &front, readers);
     match made {
         Ok(readers) => Ok((Publisher::over(board, head, front), MapReaders { readers })),
@@ -77,6 +77,7 @@ pub fn versions<R: Wait>(
 fn open_board<R: Wait>(
     rt: &R,
     alloc: Global,
+    style: &Style,
     first: Tables,
     version: u64,
     front: &Front,
@@ -91,7 +92,7 @@ fn open_board<R: Wait>(
     ensures shown { IfOk result (λ board. board.desk.shown.value.front ≡ front.now) }
     ensures pending { IfOk result (λ board. drop board.behind board.log.items ≡ []) }
 {
-    let (shown, spare) = copies(alloc, first, version, front)?;
+    let (shown, spare) = copies(alloc, style, first, version, front)?;
     let board = match Writer::new(alloc, shown, spare, readers as usize) {
         Ok(board) => board,
         Err(_) => return Err(OutOfMemory),
@@ -104,9 +105,10 @@ fn open_board<R: Wait>(
     Ok(board)
 }
 
-/// The first version, twice.
+/// The first version, twice, with how many rows each table of the style has.
 fn copies(
     alloc: Global,
+    style: &Style,
     first: Tables,
     version: u64,
     front: &Front,
@@ -122,14 +124,14 @@ fn copies(
     let shown = Shown {
         alloc,
         boxes: boxes_of(alloc, &first)?,
-        tables: first,
+        tables: CountedTables::new(alloc, style, first)?,
         version,
         front: front.again(),
     };
     let spare = Shown {
         alloc,
         boxes: boxes_of(alloc, &again)?,
-        tables: again,
+        tables: CountedTables::new(alloc, style, again)?,
         version,
         front: front.again(),
     };

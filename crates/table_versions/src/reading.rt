@@ -4,7 +4,6 @@ use crate::looking::Reads;
 use crate::reader::{MapReader, enter};
 use map_query::{Query, answer_by_boxes};
 use osm_base::OutOfMemory;
-use row_text::count_rows;
 use std::alloc::Global;
 
 impl Reads for MapReader {
@@ -37,7 +36,7 @@ impl Reads for MapReader {
         };
         let shown = inside.get();
         let version = shown.version;
-        let rows = count_rows(&shown.tables, table) as u64;
+        let rows = shown.tables.count(table);
         self.handle = Some(inside.leave());
         self.seen = front;
         Some(Counted { version, rows })

@@ -1,14 +1,15 @@
 //! What readers are shown, and the steps from one version of it to the next.
 use crate::front::Front;
 use grid_index::Grid;
-use osm_base::{GeoBox, Key, RowChange, Tables};
+use map_query::CountedTables;
+use osm_base::{GeoBox, Key, RowChange};
 use std::alloc::Global;
 
-/// A version of the tables, with the boxes of its rows and the history that made it.
+/// A version of the tables, with the numbers and the boxes of its rows and the history that made it.
 #[derive(Drop)]
 pub struct Shown {
     pub alloc: Global,
-    pub tables: Tables,
+    pub tables: CountedTables,
     pub boxes: Grid,
     pub version: u64,
     pub front: Front,

@@ -1,0 +1,34 @@
+use Rattle.std.proofs.Common.{◌≡◌, ◌∙◌, length, map, sym, ap}
+use Rattle.std.proofs.lemmas.List.{length-map}
+use Rattle.std.specs.Prelude.{filter}
+use Rattle.row_text.specs.Numbered.{rows_by_number, rows_of}
+use Rattle.row_text.specs.Table.{has_areas}
+use Rattle.map_query.specs.Answer.{answer, is_in, numbered}
+use Rattle.map_query.specs.Ordered.{seen}
+use Rattle.map_query.specs.declared.answering.Found.TheVariants as finds
+use Rattle.map_query.proofs.KeptCounts.{length-rows_by_number}
+use Rattle.map_query.proofs.in_order.answer_in_order.Goals as goal
+
+pub returns-in-Some : goal.returns-in-Some
+returns-in-Some c =
+    let style = c.args.style.now in
+    let tables = c.args.tables.now in
+    let table = c.in-Count.table in
+    let rows : map seen c.in-Some.rows.now ≡ rows_by_number (has_areas style table) tables table =
+    c.in-Some.ensures.rows style tables c.requires.ordered in
+    let count : length c.in-Some.rows.now ≡ length (rows_of tables table) =
+    sym (length-map c.in-Some.rows.now seen) ∙ (ap length rows ∙ length-rows_by_number (has_areas style table) tables table) in
+    record { found = ap finds.Count count ∙ ap (answer style tables) (sym c.in-Count.is) }
+
+pub returns-in-Some-rows_of : goal.returns-in-Some-rows_of
+returns-in-Some-rows_of c =
+    let style = c.args.style.now in
+    let tables = c.args.tables.now in
+    let table = c.in-Box.table in
+    let rows : map seen c.in-Some-rows_of.ordered.now ≡ rows_by_number (has_areas style table) tables table =
+    c.in-Some-rows_of.ensures.rows style tables c.requires.ordered in
+    record {
+      found = ap finds.Rows (c.in_ok-rows-in-Box.ensures.rows
+          ∙ ap (λ rows. numbered style table (filter (λ own. is_in c.in-Box.asked own.1) rows)) rows)
+          ∙ ap (answer style tables) (sym c.in-Box.is);
+    }
