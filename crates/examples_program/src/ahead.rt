@@ -1,7 +1,6 @@
 //! Appends once more, with the option that says how many files are read ahead.
 
-use crate::turn::{Put, Turn};
-use crate::wanted::Wanted;
+use crate::turn::Turn;
 use example_table::number_of;
 use std::alloc::{AllocError, Global};
 
@@ -25,18 +24,11 @@ fn says_ahead(word: &str) -> bool {
 
 /// A run with an option behind its first word. The number of each file is one higher, and what the disk holds then does not count.
 pub fn with_option(alloc: Global, turn: &Turn, option: &str) -> Result<Turn, AllocError> {
-    Ok(Turn {
-        words: words_with(alloc, &turn.words, option)?,
-        files: files_behind(alloc, &turn.files)?,
-        cut: turn.cut,
-        puts: puts_of(alloc, &turn.puts)?,
-        times: turn.times,
-        holds: turn.holds,
-        inputs: turn.inputs,
-        disk: turn.disk,
-        output: turn.output,
-        wanted: wanted_of(alloc, &turn.wanted)?,
-    })
+    let mut again = turn.copied(alloc)?;
+    again.words = words_with(alloc, &turn.words, option)?;
+    again.files.insert(0, Vec::new(alloc))?;
+    again.wanted.fault = fault_behind(alloc, turn.wanted.fault.as_str())?;
+    Ok(again)
 }
 
 /// The words with an option behind the first.
@@ -50,41 +42,6 @@ fn words_with(alloc: Global, words: &[String], option: &str) -> Result<Vec<Strin
         }
     }
     Ok(all)
-}
-
-/// The files, with an empty one before them.
-fn files_behind(alloc: Global, files: &[Vec<u8>]) -> Result<Vec<Vec<u8>>, AllocError> {
-    let mut all = Vec::new(alloc);
-    all.push(Vec::new(alloc))?;
-    for file in files {
-        all.push(Vec::from_slice(alloc, file)?)?;
-    }
-    Ok(all)
-}
-
-/// The same bytes at their places.
-fn puts_of(alloc: Global, puts: &[Put]) -> Result<Vec<Put>, AllocError> {
-    let mut all = Vec::new(alloc);
-    for put in puts {
-        all.push(Put {
-            at: put.at,
-            bytes: Vec::from_slice(alloc, &put.bytes)?,
-        })?;
-    }
-    Ok(all)
-}
-
-/// The same with the number of a file one higher, whatever the disk holds then.
-fn wanted_of(alloc: Global, wanted: &Wanted) -> Result<Wanted, AllocError> {
-    Ok(Wanted {
-        status: wanted.status,
-        fault: fault_behind(alloc, wanted.fault.as_str())?,
-        store: String::from_str(alloc, wanted.store.as_str())?,
-        printed: Vec::from_slice(alloc, &wanted.printed)?,
-        any_disk: true,
-        disk_bytes: 0,
-        pieces: Vec::new(alloc),
-    })
 }
 
 /// The line of a fault, with the number of a file one higher where it tells one.

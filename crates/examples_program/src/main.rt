@@ -5,7 +5,8 @@
 //! are printed, and those that the disk holds then. `stores.txt` has runs one after another over one store, whose
 //! files may hold the texts of `texts.txt`. Each run is done by `run` of `updater` over files, a disk and an output
 //! in memory, and the name is printed, up to the first that differs. An append that says nothing of how many files are read ahead is
-//! run three times more, with none, one and eight: all that is wanted of it and the bytes of the disk are to be the same.
+//! run three times more, with none, one and eight: all that is wanted of it and the bytes of the disk are to be the same. A run may
+//! also be spoiled again and again, by each of its calls or by each page of its disk: see `src/sweep.rt`.
 #![tactic(auto)]
 
 mod ahead;
@@ -13,6 +14,8 @@ mod example;
 mod gate;
 mod rows;
 mod running;
+mod sweep;
+mod sweeping;
 mod texts;
 mod turn;
 mod wanted;

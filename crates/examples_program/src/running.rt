@@ -3,11 +3,12 @@
 use crate::ahead::{OPTIONS, may_read_ahead, with_option};
 use crate::example::Example;
 use crate::gate::InTurn;
+use crate::sweeping::difference_spoiled;
 use crate::turn::{Plan, Put, Turn};
 use crate::wanted::{Piece, Wanted};
 use crate::watched::WatchedFiles;
 use osm_base::{Bytes, FileList, Ids};
-use outside::{Fails, MemDisk, MemInputs, MemSink};
+use outside::{CrashPick, Fails, MemDisk, MemInputs, MemSink};
 use run_promise::{Outcome, fault_line};
 use std::alloc::{AllocError, Global};
 use std::str;
@@ -18,11 +19,17 @@ use updater::{run, store_of};
 /// The most bytes that the disk of an example holds at first.
 const MAX_HELD: usize = 1 << 20;
 
-/// What the disk holds when a run has ended, and what is other than it is wanted, if anything.
+/// What a crash in the last call makes of the ranges that are not synced.
+const PICKS: [CrashPick; 2] = [CrashPick::Old, CrashPick::New];
+
+/// What the disk holds when a run has ended, what a crash in its last call leaves, where that was asked, what is other than it is wanted, if
+/// anything, and whether it was to be refused for what was spoiled.
 #[derive(Drop)]
-struct Ended {
-    disk: Vec<u8>,
-    other: Option<String>,
+pub struct Ended {
+    pub disk: Vec<u8>,
+    pub left: Vec<Vec<u8>>,
+    pub other: Option<String>,
+    pub refused: bool,
 }
 
 /// What is other than the example says, if anything.
@@ -39,6 +46,10 @@ pub fn difference<R: Threads + Wait + Sync>(
             return Ok(ended.other);
         }
         let other = difference_ahead(rt, alloc, turn, &disk, &ended.disk)?;
+        if other.is_some() {
+            return Ok(other);
+        }
+        let other = difference_spoiled(rt, alloc, turn, &disk)?;
         if other.is_some() {
             return Ok(other);
         }
@@ -90,7 +101,7 @@ fn told_with(alloc: Global, option: &str, text: &str) -> Result<Option<String>, 
 }
 
 /// How a run ends over a disk that holds these bytes. All that is owned here is let go at one exit.
-fn ended_of<R: Threads + Wait + Sync>(
+pub fn ended_of<R: Threads + Wait + Sync>(
     rt: &R,
     alloc: Global,
     turn: &Turn,
@@ -127,7 +138,38 @@ fn ended_of<R: Threads + Wait + Sync>(
             &turn.wanted,
         )
     };
-    kept_end(alloc, disk.bytes(), other)
+    let left = left_behind(alloc, &disk, turn.crashes);
+    kept_end(alloc, disk.bytes(), left, other)
+}
+
+/// What a crash in the last call of a disk leaves, by each pick, where it was asked and there were more calls than so many.
+fn left_behind(
+    alloc: Global,
+    disk: &MemDisk,
+    calls: Option<u64>,
+) -> Result<Vec<Vec<u8>>, AllocError> {
+    let mut left = Vec::new(alloc);
+    match calls {
+        Some(first) if first < disk.calls() => {
+            for pick in PICKS {
+                left.push(crashed(alloc, disk, pick)?)?;
+            }
+        }
+        _ => {}
+    }
+    Ok(left)
+}
+
+/// What a crash in the last call of a disk leaves.
+fn crashed(alloc: Global, disk: &MemDisk, pick: CrashPick) -> Result<Vec<u8>, AllocError> {
+    let last = disk.calls();
+    if last == 0 {
+        return Ok(Vec::new(alloc));
+    }
+    match disk.after_crash(alloc, last, pick) {
+        Ok(left) => Vec::from_slice(alloc, left.bytes()),
+        Err(_) => Err(AllocError),
+    }
 }
 
 /// That a file is not asked for while the first change is held.
@@ -139,11 +181,14 @@ fn told_missed(alloc: Global, file: u64) -> Result<Option<String>, AllocError> {
 fn kept_end(
     alloc: Global,
     disk: &[u8],
+    left: Result<Vec<Vec<u8>>, AllocError>,
     other: Result<Option<String>, AllocError>,
 ) -> Result<Ended, AllocError> {
     Ok(Ended {
         disk: Vec::from_slice(alloc, disk)?,
+        left: left?,
         other: other?,
+        refused: false,
     })
 }
 
@@ -196,7 +241,7 @@ fn compared(
     wanted: &Wanted,
 ) -> Result<Option<String>, AllocError> {
     let fault = text_of(alloc, outcome)?;
-    if fault != wanted.fault {
+    if !wanted.is_fault(fault.as_str()) {
         return Ok(Some(format!(in alloc; "the fault is {fault}")?));
     }
     if outcome.status as u64 != wanted.status {
@@ -206,7 +251,7 @@ fn compared(
     if store != wanted.store.as_str() {
         return Ok(Some(format!(in alloc; "the store is {store}")?));
     }
-    if printed != wanted.printed.as_slice() {
+    if !wanted.is_printed(printed) {
         return Ok(Some(match str::from_utf8(printed) {
             Ok(text) => format!(in alloc; "it prints {text:?}")?,
             Err(_) => format!(in alloc; "it prints {printed:?}")?,

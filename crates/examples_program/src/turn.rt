@@ -2,6 +2,7 @@
 
 use crate::gate::Holds;
 use crate::rows::{push_bytes, push_words, set_number};
+use crate::sweep::Sweep;
 use crate::texts::Texts;
 use crate::wanted::Wanted;
 use example_table::{bytes_of, number_of, row_of};
@@ -11,7 +12,8 @@ use std::alloc::{AllocError, Global};
 const MAX_FILES: usize = 5_000;
 
 /// A run: its words, the files by the numbers of their words, to how many bytes the disk is cut before and which bytes are put on
-/// it, how often it is done one after another, what its gate holds, and which calls of the files, of the disk and of the output fail.
+/// it, how often it is done one after another, what its gate holds, and which calls of the files, of the disk and of the output fail. It is
+/// also done spoiled by each sweep, where so many calls format the disk; `crashes`: what a crash leaves is asked behind so many calls.
 #[derive(Drop)]
 pub struct Turn {
     pub words: Vec<String>,
@@ -23,6 +25,9 @@ pub struct Turn {
     pub inputs: Plan,
     pub disk: Plan,
     pub output: Plan,
+    pub sweeps: Vec<Sweep>,
+    pub formats: u64,
+    pub crashes: Option<u64>,
     pub wanted: Wanted,
 }
 
@@ -68,7 +73,42 @@ impl Turn {
             inputs: Plan::NEVER,
             disk: Plan::NEVER,
             output: Plan::NEVER,
+            sweeps: Vec::new(alloc),
+            formats: 0,
+            crashes: None,
             wanted,
+        }
+    }
+
+    /// The same run without sweeps, whatever the disk holds then.
+    pub fn copied(&self, alloc: Global) -> Result<Self, AllocError> {
+        let mut turn = Self::wanting(alloc, self.wanted.copied(alloc)?);
+        turn.cut = self.cut;
+        turn.times = self.times;
+        turn.holds = self.holds;
+        turn.inputs = self.inputs;
+        turn.disk = self.disk;
+        turn.output = self.output;
+        turn.words = words_again(alloc, &self.words)?;
+        turn.files = files_again(alloc, &self.files)?;
+        turn.puts = puts_again(alloc, &self.puts)?;
+        Ok(turn)
+    }
+
+    /// A check of the same store, which is to find it sound.
+    pub fn checking(&self, alloc: Global) -> Result<Self, AllocError> {
+        let store = self.wanted.store.as_str();
+        let mut turn = Self::wanting(alloc, Wanted::sound(alloc, store)?);
+        turn.words.push(String::from_str(alloc, "check")?)?;
+        turn.words.push(String::from_str(alloc, store)?)?;
+        Ok(turn)
+    }
+
+    /// Whether a store is migrated.
+    pub fn is_migration(&self) -> bool {
+        match self.words.first() {
+            Some(word) => word.as_str() == "migrate",
+            None => false,
         }
     }
 
@@ -96,8 +136,19 @@ impl Turn {
             "disk-fails-at" => Ok(set_number(&mut self.disk.at, text)),
             "output-fails-from" => Ok(set_number(&mut self.output.from, text)),
             "output-fails-at" => Ok(set_number(&mut self.output.at, text)),
+            "formats" => Ok(set_number(&mut self.formats, text)),
+            "each-call" | "each-page" => self.push_sweep(word, text),
             _ => self.wanted.set(alloc, word, text),
         }
+    }
+
+    /// One sweep more.
+    fn push_sweep(&mut self, word: &str, text: &str) -> Result<bool, AllocError> {
+        let Some(sweep) = Sweep::of(word, text) else {
+            return Ok(false);
+        };
+        self.sweeps.push(sweep)?;
+        Ok(true)
     }
 
     /// How many changes are held, or until the file of which word is asked for, and for how many turns.
@@ -169,4 +220,34 @@ impl Turn {
             _ => Ok(false),
         }
     }
+}
+
+/// The same words.
+fn words_again(alloc: Global, words: &[String]) -> Result<Vec<String>, AllocError> {
+    let mut all = Vec::new(alloc);
+    for word in words {
+        all.push(String::from_str(alloc, word)?)?;
+    }
+    Ok(all)
+}
+
+/// The same files.
+fn files_again(alloc: Global, files: &[Vec<u8>]) -> Result<Vec<Vec<u8>>, AllocError> {
+    let mut all = Vec::new(alloc);
+    for file in files {
+        all.push(Vec::from_slice(alloc, file)?)?;
+    }
+    Ok(all)
+}
+
+/// The same bytes at their places.
+fn puts_again(alloc: Global, puts: &[Put]) -> Result<Vec<Put>, AllocError> {
+    let mut all = Vec::new(alloc);
+    for put in puts {
+        all.push(Put {
+            at: put.at,
+            bytes: Vec::from_slice(alloc, &put.bytes)?,
+        })?;
+    }
+    Ok(all)
 }

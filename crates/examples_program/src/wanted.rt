@@ -4,13 +4,15 @@ use crate::rows::{push_bytes, set_number, set_text};
 use example_table::{bytes_of, number_of, row_of};
 use std::alloc::{AllocError, Global};
 
-/// How a run is to end. The texts are empty where there is no fault and no store. What the disk holds then counts, or not.
+/// How a run is to end. The texts are empty where there is no fault and no store. What the disk holds then counts, or not. Where it is `begun`,
+/// what is printed need be no more than a beginning.
 #[derive(Drop)]
 pub struct Wanted {
     pub status: u64,
     pub fault: String,
     pub store: String,
     pub printed: Vec<u8>,
+    pub begun: bool,
     pub any_disk: bool,
     pub disk_bytes: u64,
     pub pieces: Vec<Piece>,
@@ -31,6 +33,7 @@ impl Wanted {
             fault: String::new(alloc),
             store: String::new(alloc),
             printed: Vec::new(alloc),
+            begun: false,
             any_disk: false,
             disk_bytes: 0,
             pieces: Vec::new(alloc),
@@ -43,6 +46,45 @@ impl Wanted {
         wanted.store = String::from_str(alloc, last.store.as_str())?;
         wanted.any_disk = last.any_disk;
         Ok(wanted)
+    }
+
+    /// A check that finds the store at this path sound.
+    pub fn sound(alloc: Global, store: &str) -> Result<Self, AllocError> {
+        let mut wanted = Self::new(alloc);
+        wanted.store = String::from_str(alloc, store)?;
+        wanted.printed = Vec::from_slice(alloc, b"sound\n")?;
+        wanted.any_disk = true;
+        Ok(wanted)
+    }
+
+    /// The same, whatever the disk holds then.
+    pub fn copied(&self, alloc: Global) -> Result<Self, AllocError> {
+        let mut wanted = Self::new(alloc);
+        wanted.status = self.status;
+        wanted.fault = String::from_str(alloc, self.fault.as_str())?;
+        wanted.store = String::from_str(alloc, self.store.as_str())?;
+        wanted.printed = Vec::from_slice(alloc, &self.printed)?;
+        wanted.any_disk = true;
+        Ok(wanted)
+    }
+
+    /// The run is to be refused so, in the midst of what it prints.
+    pub fn refuse(&mut self, alloc: Global, status: u64, fault: &str) -> Result<(), AllocError> {
+        self.fault = String::from_str(alloc, fault)?;
+        self.status = status;
+        self.begun = true;
+        Ok(())
+    }
+
+    /// Whether this is the line of the fault. One that ends in a blank says only how it begins.
+    pub fn is_fault(&self, line: &str) -> bool {
+        let fault = self.fault.as_str();
+        line == fault || (fault.ends_with(' ') && line.starts_with(fault))
+    }
+
+    /// Whether this is what is to be printed.
+    pub fn is_printed(&self, bytes: &[u8]) -> bool {
+        bytes == self.printed.as_slice() || (self.begun && self.printed.starts_with(bytes))
     }
 
     /// Takes up what a row says. False: it is no row of what is wanted.
