@@ -1,4 +1,5 @@
 //! Covers against the test of each tile, for geometries by chance.
+use crate::chance::next;
 use crate::notation::on_earth;
 use crate::tables::table_of;
 use example_table::{number_of, row_of};
@@ -14,14 +15,6 @@ const SIDE: u32 = 8;
 
 /// The table: the latitudes 800, 600 and so on to -800.
 const TABLE: &str = "800,200,9";
-
-/// The next of numbers that look like those of chance: the upper bits of the state.
-fn next(state: &mut u64) -> u64 {
-    *state = (*state)
-        .wrapping_mul(6_364_136_223_846_793_005)
-        .wrapping_add(1_442_695_040_888_963_407);
-    *state >> 33
-}
 
 /// A line of so many places, often on the sides of tiles.
 fn line_by_chance(alloc: Global, state: &mut u64, count: u64) -> Result<Places, OutOfMemory> {

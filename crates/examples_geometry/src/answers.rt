@@ -3,8 +3,8 @@ use crate::kernels::{asked, boxed, compared};
 use crate::nesting::nested;
 use crate::nodes::along;
 use crate::pieces::{closed, extended, joined, taken, tested};
-use crate::rows::written;
-use crate::{agreement, covers, due, tables};
+use crate::rows::{copied, written};
+use crate::{agreement, covers, due, lanes, tables};
 use example_table::Examples;
 use osm_base::OutOfMemory;
 use std::alloc::Global;
@@ -26,8 +26,10 @@ impl Examples for OfGeometry {
             "box" => boxed(alloc, given),
             "meet" | "met" => compared(alloc, kind, given),
             "odd" | "crosses" | "on" | "products" => asked(alloc, kind, given),
+            "lanes" => lanes::agree(alloc, given),
             "nest" => nested(alloc, given),
             "row" => written(alloc, given),
+            "copied" => copied(alloc, given),
             _ => answer_of_tiles(alloc, kind, given),
         }
     }

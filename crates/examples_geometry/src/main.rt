@@ -6,9 +6,11 @@
 
 mod agreement;
 mod answers;
+mod chance;
 mod covers;
 mod due;
 mod kernels;
+mod lanes;
 mod nesting;
 mod nodes;
 mod notation;

@@ -1,12 +1,43 @@
 //! Rows written as lines.
 use crate::shapes::geometry_of;
 use example_table::{signed_of, text_of};
-use osm_base::{Cell, Cells, OutOfMemory, Row, Text};
+use osm_base::{Cell, Cells, Geometry, OutOfMemory, Places, Row, Text, TryCopy};
 use row_text::push_row;
 use std::alloc::{AllocError, Global};
 
 /// The line of a row, with `\t`, `\n` and `\\` for tabs, newlines and backslashes.
 pub fn written(alloc: Global, given: &str) -> Result<Option<String>, OutOfMemory> {
+    let Some((number, row)) = row_of_words(alloc, given)? else {
+        return Ok(None);
+    };
+    Ok(Some(line_of(alloc, number, &row)?))
+}
+
+/// The line of a copy of a row, which was changed once the copy was made; `differs` where it is not the line that the row had.
+pub fn copied(alloc: Global, given: &str) -> Result<Option<String>, OutOfMemory> {
+    let Some((number, mut row)) = row_of_words(alloc, given)? else {
+        return Ok(None);
+    };
+    let copy = row.copy(alloc)?;
+    let before = line_of(alloc, number, &row)?;
+    change(alloc, &mut row)?;
+    let line = line_of(alloc, number, &copy)?;
+    if line == before && line != line_of(alloc, number, &row)? {
+        Ok(Some(line))
+    } else {
+        Ok(Some(String::from_str(alloc, "differs")?))
+    }
+}
+
+/// Gives a row another cell behind those that it has, and a line without a place.
+fn change(alloc: Global, row: &mut Row) -> Result<(), OutOfMemory> {
+    row.cells.push(Cell::Int(0))?;
+    row.geometry = Geometry::Line(Places::new(alloc));
+    Ok(())
+}
+
+/// The number and the row of a text `NUMBER / CELLS / GEOMETRY`.
+fn row_of_words(alloc: Global, given: &str) -> Result<Option<(i64, Row)>, OutOfMemory> {
     let Some((number, text)) = given.split_once('/') else {
         return Ok(None);
     };
@@ -16,12 +47,16 @@ pub fn written(alloc: Global, given: &str) -> Result<Option<String>, OutOfMemory
     let Some(number) = signed_of(number.trim()) else {
         return Ok(None);
     };
-    let Some(row) = row_of_fields(alloc, cells, geometry)? else {
-        return Ok(None);
-    };
+    match row_of_fields(alloc, cells, geometry)? {
+        None => Ok(None),
+        Some(row) => Ok(Some((number, row))),
+    }
+}
+
+fn line_of(alloc: Global, number: i64, row: &Row) -> Result<String, OutOfMemory> {
     let mut out = String::new(alloc);
-    push_row(&mut out, number, &row)?;
-    Ok(Some(shown(alloc, &out)?))
+    push_row(&mut out, number, row)?;
+    Ok(shown(alloc, &out)?)
 }
 
 fn row_of_fields(alloc: Global, cells: &str, geometry: &str) -> Result<Option<Row>, OutOfMemory> {

@@ -57,6 +57,7 @@ fn put_answer(
         "style" => styles::read(alloc, answer, given),
         "many" => many::read(alloc, answer, given),
         "text" => tables::text(alloc, answer, given),
+        "copied" => tables::copied(alloc, answer, given),
         "number" => tables::number(alloc, answer, given),
         "rows" => objects::rows(alloc, answer, given, false),
         "rows_at_once" => objects::rows(alloc, answer, given, true),

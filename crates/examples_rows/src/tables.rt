@@ -2,6 +2,7 @@
 use example_table::{number_of, row_of};
 use osm_base::{
     Cell, Cells, Geometry, Key, Kind, MAX_ID, OutOfMemory, Place, Row, RowChange, Tables, Text,
+    TryCopy,
 };
 use row_text::{row_number, table_text};
 use std::alloc::{AllocError, Global};
@@ -15,6 +16,17 @@ pub fn text(alloc: Global, answer: &mut String, given: &str) -> Result<bool, All
     };
     match style_of(alloc, source) {
         Some(style) => put_rows(alloc, answer, &style, words),
+        None => Ok(false),
+    }
+}
+
+/// Adds the text of the table 1 of a copy of such tables, out of which the rows were taken once it was made.
+pub fn copied(alloc: Global, answer: &mut String, given: &str) -> Result<bool, AllocError> {
+    let Some((source, words)) = row_of(given) else {
+        return Ok(false);
+    };
+    match style_of(alloc, source) {
+        Some(style) => put_copied(alloc, answer, &style, words),
         None => Ok(false),
     }
 }
@@ -77,6 +89,54 @@ fn put_rows(
     } else {
         Ok(false)
     }
+}
+
+/// Adds the text of the table 1 of a copy, and `differs` where it is not that of the tables from which it was made, or where a row
+/// is left in these once it was taken out.
+fn put_copied(
+    alloc: Global,
+    answer: &mut String,
+    style: &Style,
+    words: &str,
+) -> Result<bool, AllocError> {
+    let mut tables = Tables::new(alloc);
+    if !fill(alloc, &mut tables, words) {
+        return Ok(false);
+    }
+    let Ok(copy) = tables.copy(alloc) else {
+        return Ok(false);
+    };
+    let mut before = String::new(alloc);
+    if !put_text(alloc, &mut before, style, &tables)? || !clear(&mut tables, words) {
+        return Ok(false);
+    }
+    if !put_text(alloc, answer, style, &copy)? {
+        return Ok(false);
+    }
+    if answer.as_str() != before.as_str() || !tables.rows().is_empty() {
+        answer.push_str(" differs")?;
+    }
+    Ok(true)
+}
+
+/// Takes the row of each word out. False: one is not in its form, or memory ran out.
+fn clear(tables: &mut Tables, words: &str) -> bool {
+    for word in words.split_ascii_whitespace() {
+        let Some((table, key)) = spot_of(word) else {
+            return false;
+        };
+        if tables
+            .apply(RowChange {
+                table,
+                key,
+                row: None,
+            })
+            .is_err()
+        {
+            return false;
+        }
+    }
+    true
 }
 
 /// Puts a row for each word. False: one is not in its form, or memory ran out.

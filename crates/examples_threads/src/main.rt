@@ -71,6 +71,7 @@ fn run<R: Threads + Wait + Sync + AllocGlobal>(
         "built" => built::built(rt, alloc, given, out),
         "worked" => built::worked(alloc, given, out),
         "many" => built::many(rt, alloc, given, out),
+        "copied" => pending::copied(alloc, given, out),
         "ahead" => ahead::ahead(rt, alloc, given, out),
         "pipe" => ahead::pipe(rt, alloc, given, out),
         "beside" => beside::beside(rt, alloc, given, out),

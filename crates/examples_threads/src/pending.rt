@@ -7,7 +7,7 @@ ghost use Rattle.osm_base.specs.values.Key.{IsId};
 use crate::refusal::Refusal;
 use example_table::{bytes_of, number_of};
 use object_fold::{Change, Objects, RisingIds, read_file};
-use osm_base::{Bytes, FileList, Ids, Limits, MAX_ID, PendingSet};
+use osm_base::{Bytes, FileList, Ids, Limits, MAX_ID, PendingSet, TryCopy};
 use outside::{Fails, MemInputs};
 use std::alloc::Global;
 
@@ -52,6 +52,30 @@ pub fn pending_of(alloc: Global, word: &str) -> Result<PendingSet, Refusal> {
     let mut relations = Vec::new(alloc);
     push_ids(word, &mut nodes, &mut ways, &mut relations)?;
     set_of(nodes, ways, relations)
+}
+
+/// Adds the keys of a copy of the set that a word names, once the set itself is gone.
+pub fn copied(alloc: Global, given: &str, out: &mut String) -> Result<(), Refusal> {
+    let copy = copy_of(alloc, given)?;
+    push_keys(copy.nodes(), 'n', out)?;
+    push_keys(copy.ways(), 'w', out)?;
+    push_keys(copy.relations(), 'r', out)
+}
+
+/// A copy of the set that a word names, which is dropped.
+fn copy_of(alloc: Global, word: &str) -> Result<PendingSet, Refusal> {
+    let set = pending_of(alloc, word)?;
+    Ok(set.copy(alloc)?)
+}
+
+/// Adds ids, each behind the letter of its kind, with commas before all but the first of the text.
+fn push_keys(ids: &[u64], letter: char, out: &mut String) -> Result<(), Refusal> {
+    for id in ids {
+        let comma = if out.is_empty() { "" } else { "," };
+        let id = *id;
+        write!(out, "{comma}{letter}{id}")?;
+    }
+    Ok(())
 }
 
 /// Adds the ids of the words between commas.
