@@ -1,0 +1,14 @@
+pub mod Cutting
+pub mod RoundTrips
+pub mod Soundness
+pub mod Peeks
+pub mod Known
+pub mod Turns
+pub mod Trips
+pub mod BlockTrips
+pub mod Trees
+pub mod LineSteps
+pub mod BlockSteps
+pub mod Once
+pub mod MoreLines
+pub mod TurnSteps

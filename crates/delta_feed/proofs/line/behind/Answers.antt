@@ -1,0 +1,5 @@
+use Rattle.delta_feed.proofs.Cutting.{end_with}
+use Rattle.delta_feed.proofs.line.behind.Goals as goal
+
+pub returns-in-End : goal.returns-in-End
+returns-in-End c = record { line = rw c.in-End.is (end_with c.args.words.now); fits = tt; same = tt }

@@ -1,0 +1,14 @@
+pub mod Why
+pub mod Words
+pub mod Hexes
+pub mod Place
+pub mod Line
+pub mod Text
+pub mod Stage
+pub mod Turn
+pub mod Blocks
+pub mod Stops
+pub mod Sound
+pub mod Feeding
+pub mod Written
+pub mod Writing

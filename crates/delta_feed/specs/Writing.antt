@@ -1,0 +1,21 @@
+-- What a sink took of a block that was not written whole.
+use Rattle.std.specs.Prelude.{ℕ, List}
+use Rattle.std.specs.BTreeMap.{BTreeMap}
+use Rattle.std.specs.FinMap as finite
+use Rattle.std.specs.Io.KnownBytes.{Keeps}
+use Rattle.osm_base.specs.declared.values.row.RowChange.{RowChange}
+use Rattle.osm_base.specs.map.Spots.{SpotOf, spot_cmp}
+use Rattle.outside.specs.Bytes.{AppendsPrefix}
+use Rattle.outside.specs.Causes.{Rose}
+use Rattle.outside.specs.Sink.{SinkView}
+use Rattle.delta_feed.specs.declared.fault.FeedWrite.{FeedWrite}
+use Rattle.delta_feed.specs.declared.fault.FeedWrite.TheVariants.{WriteFault, OutOfMemory}
+
+-- a front of the text, where writing failed; and nothing, where memory ran out
+abbrev pub IsUnwritten : List ℕ → SinkView → SinkView → FeedWrite → Type 0
+IsUnwritten text old new WriteFault = AppendsPrefix old.taken new.taken text × Rose old.faults new.faults
+IsUnwritten text old new OutOfMemory = Keeps old.taken new.taken
+
+-- the changes that a tree has by their spots
+abbrev pub told_by : BTreeMap SpotOf RowChange → finite.FinMap spot_cmp RowChange
+told_by told = finite.from_entries told.entries
