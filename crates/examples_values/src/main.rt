@@ -6,6 +6,7 @@
 mod asked;
 mod buckets;
 mod calls;
+mod feeds;
 mod hex;
 mod lists;
 mod objects;
@@ -37,6 +38,8 @@ impl Examples for OfValues {
             "calls" => calls::calls(alloc, given),
             "ways" => asked::ways(alloc, given),
             "cut" => cut(alloc, given),
+            "feed" => feeds::feed(alloc, given),
+            "feed_alone" => feeds::feed_alone(alloc, given),
             _ => match hex::bytes_of(alloc, given)? {
                 Some(bytes) => value(alloc, kind, &bytes),
                 None => Ok(None),
