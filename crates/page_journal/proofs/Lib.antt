@@ -9,6 +9,7 @@ pub mod Counting
 pub mod Parts
 pub mod Phases
 pub mod Members
+pub mod Padding
 pub mod Places
 pub mod ReadCounts
 pub mod Runs

@@ -1,11 +1,15 @@
 -- Pages that are held back and written in one call.
-use Rattle.std.proofs.Common.{◌≡◌, inl, inr, ℕ, ◌+◌, ◌-◌, ◌<◌, ◌≤◌, List, [], ◌∷◌, ◌++◌, length, take, drop, get_or, option_map, refl, sym}
-use Rattle.std.proofs.Common.{ap, ◌∙◌, subst, arith, append_assoc, length-append, length-take}
+use Rattle.std.proofs.Common.{◌≡◌, inl, inr, ℕ, ◌+◌, ◌-◌, ◌<◌, ◌≤◌, List, [], ◌∷◌, ◌++◌, length, take, drop, get_or, option_map, refl, replicate, sym}
+use Rattle.std.proofs.Common.{ap, ◌∙◌, subst, arith, append_assoc, length-append, length-drop, length-take}
 use Rattle.std.proofs.lemmas.Bool.{cases_lt}
-use Rattle.std.proofs.lemmas.List.{ext_get_or, get_or_append_left, get_or-append_right, take_at}
+use Rattle.std.proofs.lemmas.List.{ext_get_or, get_or_append_left, get_or-append_right, length-replicate, take_at}
+use Rattle.std.proofs.lemmas.Slice.{take-put_mid}
+use borrow.Rule.Slice.PartMut.{mid_of, put_mid}
 use Rattle.outside.specs.Disk.{Crashes, DiskView, Elapses, Follows, Tells, Torn, overlaid}
 use Rattle.outside.proofs.Overlay.{length-overlaid, overlaid-in, overlaid-beside, overlaid-within, Torn-same}
 use Rattle.page_journal.specs.PageRun.{Grows, Shows, shown}
+use Rattle.page_journal.specs.PageSet.{padded}
+use Rattle.page_journal.proofs.Bytes.{put_mid-overlaid}
 use Rattle.page_journal.proofs.Moments.{told_written}
 use Rattle.page_journal.proofs.Places.{Beside}
 
@@ -67,6 +71,33 @@ take-overlaid at count bytes content long fits =
     length-append (take at content) bytes ∙ omega (arith, length-take at content, long, fits) in
     ap (λ (l : List ℕ). take (at + count) l) (overlaid-within at bytes content within ∙ sym (append_assoc (take at content) bytes rest))
     ∙ take_at (take at content ++ bytes) rest (at + count) size
+
+-- and so of one into which a page was put in two parts, its bytes and the zeros behind them
+pub padded_behind : (filled : ℕ) (page old held zeros : List ℕ) → length page ≤ 4096 → filled + 4096 ≤ length old → held ≡ page
+    → zeros ≡ replicate (length (mid_of (filled + length page) (filled + 4096 - (filled + length page))
+    (put_mid filled (filled + length page - filled) old held))) 0
+    → take (filled + 4096) (put_mid (filled + length page) (filled + 4096 - (filled + length page))
+    (put_mid filled (filled + length page - filled) old held) zeros)
+    ≡ take filled old ++ padded page
+unfolding padded
+padded_behind filled page old held zeros few fits is none =
+    let at : ℕ = filled + length page in
+    let mid : List ℕ = put_mid filled (at - filled) old held in
+    let same : length held ≡ length page = ap (λ (l : List ℕ). length l) is in
+    let within : filled ≤ length old = omega (arith, fits) in
+    let size : length mid ≡ length old =
+    ap (λ (l : List ℕ). length l) (put_mid-overlaid filled (length page) old held within same)
+    ∙ omega (arith, length-overlaid filled held old, same, few, fits) in
+    let count : length (mid_of at (filled + 4096 - at) mid) ≡ 4096 - length page =
+    length-take (filled + 4096 - at) (drop at mid) ∙ omega (arith, length-drop at mid, size, few, fits) in
+    let zeros-are : zeros ≡ replicate (4096 - length page) 0 = none ∙ ap (λ (n : ℕ). replicate n 0) count in
+    let many : length zeros ≡ 4096 - length page =
+    ap (λ (l : List ℕ). length l) zeros-are ∙ length-replicate {A = ℕ} (4096 - length page) 0 in
+    take-put_mid at (filled + 4096 - at) mid zeros (filled + 4096) (omega (arith, many, few)) (omega (arith, size, fits, few))
+    ∙ ap (λ (l : List ℕ). l ++ zeros) (take-put_mid filled (at - filled) old held at (omega (arith, same)) within)
+    ∙ append_assoc (take filled old) held zeros
+    ∙ ap (λ (l : List ℕ). take filled old ++ (l ++ zeros)) is
+    ∙ ap (λ (l : List ℕ). take filled old ++ (page ++ l)) zeros-are
 
 shown-some : (at : ℕ) (held content : List ℕ) → 0 < length held → shown at held content ≡ overlaid at held content
 shown-some at [] content some = absurd (omega (arith, some))

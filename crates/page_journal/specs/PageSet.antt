@@ -1,6 +1,6 @@
 -- Pages by their numbers, and what a commit of them makes of the home pages.
 use Rattle.std.specs.Prelude.{◌≡◌, ℕ, zero, suc, ◌-◌, ◌^◌, ◌<◌, ◌≤◌, List, [], ◌∷◌, ◌++◌, map, length, slice_index_or, Option, Some, None}
-use Rattle.std.specs.Prelude.{IsSome, Vec, T}
+use Rattle.std.specs.Prelude.{IsSome, Vec, T, replicate}
 use Rattle.std.specs.Ordering.{nat_cmp}
 use Rattle.std.specs.FinMap as map
 use Rattle.std.specs.declared.alloc.Global.{Global}
@@ -11,9 +11,13 @@ use Rattle.page_journal.specs.declared.layout.TheConstants.{PAGE_LEN}
 abbrev pub PageMap : Type 0
 PageMap = map.FinMap nat_cmp (List ℕ)
 
--- entries of a tree, with the bytes of their pages
+-- the page that begins with these bytes: zeros stand behind them
+unfoldable pub padded : List ℕ → List ℕ
+padded bytes = bytes ++ replicate (PAGE_LEN - length bytes) 0
+
+-- entries of a tree, with the pages that begin with their bytes
 abbrev pub plain : List (ℕ × Vec ℕ Global) → List (ℕ × List ℕ)
-plain entries = map (λ entry. (entry.0, entry.1.items)) entries
+plain entries = map (λ entry. (entry.0, padded entry.1.items)) entries
 
 -- the number and the page at a place
 abbrev pub number_at : List (ℕ × List ℕ) → ℕ → ℕ

@@ -3,6 +3,7 @@ ghost use Rattle.std.specs.Prelude.{◌≡◌, ◌⊎◌, ◌+◌, ◌^◌, ◌�
 ghost use Rattle.outside.specs.Disk.{Tells, overlaid};
 ghost use Rattle.page_journal.specs.DiskCalls.{WritesDiskOnce};
 ghost use Rattle.page_journal.specs.PageRun.{Fits, Grows, Shows};
+ghost use Rattle.page_journal.specs.PageSet.{padded};
 
 use crate::layout::{PAGE, RUN};
 use outside::{Disk, Failed};
@@ -31,8 +32,8 @@ impl PageRun {
     }
 }
 
-/// Holds back a page that goes there. What is held is written first where the page does not lie behind it, or
-/// has no room.
+/// Holds back a page that goes there, with zeros behind these bytes. What is held is written first where the page
+/// does not lie behind it, or has no room.
 pub fn put_page<D: Disk>(
     disk: &mut D,
     run: &mut PageRun,
@@ -40,11 +41,11 @@ pub fn put_page<D: Disk>(
     page: &[u8],
 ) -> Result<(), Failed>
     requires held { Fits run.old.at run.old.filled run.old.bytes }
-    requires size { length page.now ≡ 4096 }
+    requires size { length page.now ≤ 4096 }
     requires room { at + 4096 ≤ 2 ^ 62 }
     ensures fits { OnOk result (Fits run.new.at run.new.filled run.new.bytes) }
     ensures shows { OnOk result ((content : List ℕ) → Shows run.old.at run.old.filled run.old.bytes (D.view disk.old) content
-        → Shows run.new.at run.new.filled run.new.bytes (D.view disk.new) (overlaid at page.now content)) }
+        → Shows run.new.at run.new.filled run.new.bytes (D.view disk.new) (overlaid at (padded page.now) content)) }
     ensures grows { OnOk result (Grows run.old.at run.old.filled at run.new.at run.new.filled) }
     ensures writes { WritesDiskOnce run.old.at run.old.filled (D.view disk.old) (D.view disk.new) result }
 {
@@ -102,12 +103,14 @@ fn lies_behind(run: &PageRun, at: u64) -> bool
     run.at + run.filled as u64 == at
 }
 
-// Puts a page behind the first so many bytes.
+// Puts a page, with zeros behind its bytes, behind the first so many bytes.
 fn put_behind(bytes: &mut [u8; RUN], filled: usize, page: &[u8])
     requires room { filled + 4096 ≤ 65536 }
-    requires size { length page.now ≡ 4096 }
-    ensures held { take (filled + 4096) bytes.new ≡ take filled bytes.old ++ page.now }
+    requires size { length page.now ≤ 4096 }
+    ensures held { take (filled + 4096) bytes.new ≡ take filled bytes.old ++ padded page.now }
     ensures long { length bytes.new ≡ 65536 }
 {
-    bytes[filled..filled + PAGE].copy_from_slice(page);
+    let end = filled + page.len();
+    bytes[filled..end].copy_from_slice(page);
+    bytes[end..filled + PAGE].fill(0);
 }

@@ -1,15 +1,16 @@
 //! Pages by their numbers.
-ghost use Rattle.std.specs.Prelude.{◌≡◌, ◌≤◌, ◌<◌, ◌↔◌, None, Some, length, List, ℕ, IfSome, IsTrue, MatchOption, OnOk, OnErr};
-ghost use Rattle.page_journal.specs.PageSet.{AreWithin, CanCommit, HasAll, TellsHome, plain};
+ghost use Rattle.std.specs.Prelude.{◌≡◌, ◌≤◌, ◌<◌, ◌↔◌, None, Some, is_some, length, List, ℕ, IfSome, IsTrue, MatchOption, OnOk, OnErr};
+ghost use Rattle.page_journal.specs.PageSet.{AreWithin, CanCommit, HasAll, TellsHome, padded, plain};
 ghost use Rattle.page_journal.specs.Pages.{number};
 ghost use Rattle.std.specs.FinMap as map;
 
+use crate::layout::PAGE;
 use osm_base::OutOfMemory;
 use std::alloc::Global;
 use std::collections::BTreeMap;
 use std::marker::Model;
 
-/// Pages by their numbers, which a commit writes as a whole or not at all.
+/// Pages by their numbers, which a commit writes as a whole or not at all. The zeros at the end of a page take no memory.
 #[derive(Drop)]
 pub struct PageSet {
     alloc: Global,
@@ -42,13 +43,13 @@ impl PageSet {
         }
     }
 
-    /// A page of the set.
-    pub fn get(&self, page: u64) -> Option<&[u8]>
-        ensures page { MatchOption result (map.get self.now page ≡ None) (λ bytes. map.get self.now page ≡ Some bytes.now) }
-        ensures long { IfSome result (λ bytes. length bytes.now ≡ 4096) }
+    /// A page of the set. For callers outside: the program does not use it.
+    pub fn get(&self, page: u64) -> Option<[u8; 4096]>
+        ensures page { MatchOption result (map.get self.now page ≡ None) (λ bytes. map.get self.now page ≡ Some bytes) }
+        ensures long { IfSome result (λ bytes. length bytes ≡ 4096) }
     {
         match self.pages.get(&page) {
-            Some(bytes) => Some(bytes.as_slice()),
+            Some(bytes) => Some(page_of(bytes.as_slice())),
             None => None,
         }
     }
@@ -75,7 +76,7 @@ impl PageSet {
         ensures { IsTrue result ↔ TellsHome self.now home }
     {
         match self.get(1) {
-            Some(page) => front_of(page) == home,
+            Some(page) => front_of(&page) == home,
             None => false,
         }
     }
@@ -85,12 +86,18 @@ impl PageSet {
         ensures { IsTrue result ↔ HasAll self.now from to }
     {
         for page in from..to {
-            match self.get(page) {
-                Some(_) => {}
-                None => return false,
+            if !self.has(page) {
+                return false;
             }
         }
         true
+    }
+
+    // Whether this page is in the set.
+    fn has(&self, page: u64) -> bool
+        ensures { result ≡ is_some (map.get self.now page) }
+    {
+        self.pages.contains_key(&page)
     }
 
     /// Sets one page. Where it fails, the set is as it was.
@@ -103,15 +110,27 @@ impl PageSet {
         Ok(())
     }
 
-    /// Sets one page, whose bytes are taken over and not copied. Where it fails, the set is as it was.
+    /// Sets one page, which begins with these bytes and has zeros behind them. They are taken over and not copied, and the zeros
+    /// are not made. Where it fails, the set is as it was.
     pub fn put_owned(&mut self, page: u64, bytes: Vec<u8>) -> Result<(), OutOfMemory>
-        requires { length bytes.items ≡ 4096 }
-        ensures ok { OnOk result (self.new ≡ map.insert self.old page bytes.items) }
+        requires { length bytes.items ≤ 4096 }
+        ensures ok { OnOk result (self.new ≡ map.insert self.old page (padded bytes.items)) }
+        ensures whole { OnOk result (length bytes.items ≡ 4096 → self.new ≡ map.insert self.old page bytes.items) }
         ensures err { OnErr result (self.new ≡ self.old) }
     {
         self.pages.insert(page, bytes)?;
         Ok(())
     }
+}
+
+// The page that begins with these bytes.
+fn page_of(bytes: &[u8]) -> [u8; PAGE]
+    requires { length bytes.now ≤ 4096 }
+    ensures { result ≡ padded bytes.now }
+{
+    let mut page = [0; PAGE];
+    page[..bytes.len()].copy_from_slice(bytes);
+    page
 }
 
 // The number at the front of a page.

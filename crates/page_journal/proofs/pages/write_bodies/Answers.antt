@@ -5,10 +5,11 @@ use Rattle.std.specs.Map.Iter.{deref_pair}
 use Rattle.outside.specs.Disk.{Tells, overlaid}
 use Rattle.page_journal.specs.Crash.{BesideJournal, Spares}
 use Rattle.page_journal.specs.PageRun.{Shows}
-use Rattle.page_journal.specs.PageSet.{plain, page_at}
+use Rattle.page_journal.specs.PageSet.{padded, plain, page_at}
 use Rattle.page_journal.specs.Written.{PagesPut}
 use Rattle.page_journal.proofs.Causes.{cause_after, caused, on_ok}
 use Rattle.page_journal.proofs.Entries.{page_at-plain}
+use Rattle.page_journal.proofs.Padding.{padded_few}
 use Rattle.page_journal.proofs.Moments.{started}
 use Rattle.page_journal.proofs.Parts.{bodies_none, bodies_more}
 use Rattle.page_journal.proofs.Places.{goes_write}
@@ -23,7 +24,9 @@ put_page-requires-clause-size g c =
     let turn = iter_turn deref_pair entries yielded c.into_iter-page-iterator.result _ _ _ start c.loop-page.yielded_by
     (c.in-Some.field-0-0, c.in-Some.page) c.in-Some.is c.next.ensures.steps in
     let here = page_at-plain entries (length yielded) c.in-Some.field-0-0.now c.in-Some.page.now turn.1 in
-    ap length (c.as_slice.ensures.value ∙ sym here) ∙ c.requires.sized (length yielded) turn.0
+    let size : length (padded c.as_slice.result.now) ≡ 4096 =
+    ap (λ (l : List ℕ). length (padded l)) c.as_slice.ensures.value ∙ ap length (sym here) ∙ c.requires.sized (length yielded) turn.0 in
+    padded_few c.as_slice.result.now size
 
 pub put_page-requires-clause-room : goal.put_page-requires-clause-room
 put_page-requires-clause-room g c =
@@ -64,8 +67,10 @@ loop-page-preserved g c =
     let turn = iter_turn deref_pair entries yielded c.into_iter-page-iterator.result _ _ _ start c.loop-page.yielded_by
     (c.in-Some.field-0-0, c.in-Some.page) c.in-Some.is c.next.ensures.steps in
     let here = page_at-plain entries (length yielded) c.in-Some.field-0-0.now c.in-Some.page.now turn.1 in
-    let is : c.as_slice.result.now ≡ page_at (plain entries) (length yielded) = c.as_slice.ensures.value ∙ sym here in
-    let size : length c.as_slice.result.now ≡ 4096 = ap length is ∙ c.requires.sized (length yielded) turn.0 in
+    let page : List ℕ = padded c.as_slice.result.now in
+    let is : page ≡ page_at (plain entries) (length yielded) =
+    ap (λ (l : List ℕ). padded l) c.as_slice.ensures.value ∙ sym here in
+    let size : length page ≡ 4096 = ap length is ∙ c.requires.sized (length yielded) turn.0 in
     let more = length_push yielded (c.in-Some.field-0-0, c.in-Some.page) in
     let next = c.loop-page.next in
     let new = c.put_page.new.run in
@@ -79,10 +84,10 @@ loop-page-preserved g c =
       from = from;
       put = λ bytes told.
           let now = so_far.put bytes told in (
-            overlaid next c.as_slice.result.now now.0,
+            overlaid next page now.0,
             added.shows now.0 now.1,
-            subst (λ (n : ℕ). PagesPut (plain entries) n c.args.at bytes (overlaid next c.as_slice.result.now now.0)) (sym more)
-                (bodies_more (plain entries) (length yielded) c.args.at next c.as_slice.result.now bytes now.0 now.2 so_far.place is size),
+            subst (λ (n : ℕ). PagesPut (plain entries) n c.args.at bytes (overlaid next page now.0)) (sym more)
+                (bodies_more (plain entries) (length yielded) c.args.at next page bytes now.0 now.2 so_far.place is size),
           );
       crash = λ low base le within.
           goes_write (BesideJournal low) base run.at run.filled _ _ _

@@ -5,10 +5,11 @@ use Rattle.std.proofs.lemmas.Map.Iter.{iter_turn, iter_end}
 use Rattle.std.specs.Map.Iter.{deref_pair}
 use Rattle.outside.specs.Disk.{Only, Tells, overlaid}
 use Rattle.page_journal.specs.Crash.{BesidePages, Spares}
-use Rattle.page_journal.specs.PageSet.{plain, number_at, page_at}
+use Rattle.page_journal.specs.PageSet.{padded, plain, number_at, page_at}
 use Rattle.page_journal.specs.Written.{HomePut}
 use Rattle.page_journal.proofs.Causes.{cause_after, caused, on_ok}
 use Rattle.page_journal.proofs.Entries.{number_at-plain, page_at-plain}
+use Rattle.page_journal.proofs.Padding.{padded_few}
 use Rattle.page_journal.proofs.Moments.{started, goes_quiet}
 use Rattle.page_journal.proofs.Parts.{home_none, home_more, beside_page}
 use Rattle.page_journal.proofs.Places.{goes_write}
@@ -35,7 +36,9 @@ put_page-requires-clause-size g c =
     let turn = iter_turn deref_pair entries yielded c.into_iter-number-iterator.result _ _ _ start c.loop-number.yielded_by
     (c.in-Some.number, c.in-Some.page) c.in-Some.is c.next.ensures.steps in
     let same = page_at-plain entries (length yielded) c.in-Some.number.now c.in-Some.page.now turn.1 in
-    ap length (c.as_slice.ensures.value ∙ sym same) ∙ c.requires.sized (length yielded) turn.0
+    let size : length (padded c.as_slice.result.now) ≡ 4096 =
+    ap (λ (l : List ℕ). length (padded l)) c.as_slice.ensures.value ∙ ap length (sym same) ∙ c.requires.sized (length yielded) turn.0 in
+    padded_few c.as_slice.result.now size
 
 pub put_page-requires-clause-room : goal.put_page-requires-clause-room
 put_page-requires-clause-room g c =
@@ -80,8 +83,10 @@ loop-number-preserved g c =
     (c.in-Some.number, c.in-Some.page) c.in-Some.is c.next.ensures.steps in
     let here = number_at-plain entries (length yielded) c.in-Some.number.now c.in-Some.page.now turn.1 in
     let same = page_at-plain entries (length yielded) c.in-Some.number.now c.in-Some.page.now turn.1 in
-    let is : c.as_slice.result.now ≡ page_at (plain entries) (length yielded) = c.as_slice.ensures.value ∙ sym same in
-    let size : length c.as_slice.result.now ≡ 4096 = ap length is ∙ c.requires.sized (length yielded) turn.0 in
+    let page : List ℕ = padded c.as_slice.result.now in
+    let is : page ≡ page_at (plain entries) (length yielded) =
+    ap (λ (l : List ℕ). padded l) c.as_slice.ensures.value ∙ sym same in
+    let size : length page ≡ 4096 = ap length is ∙ c.requires.sized (length yielded) turn.0 in
     let more = length_push yielded (c.in-Some.number, c.in-Some.page) in
     let at = c.in-Some.number.now * 4096 in
     let at-is : at ≡ 4096 * number_at (plain entries) (length yielded) = omega (arith, here) in
@@ -95,11 +100,11 @@ loop-number-preserved g c =
           (beside_page (length entries) (number_at (plain entries)) (length yielded) at 4096 inside at-is refl);
       put = λ bytes told.
           let now = so_far.put bytes told in (
-            overlaid at c.as_slice.result.now now.0,
+            overlaid at page now.0,
             added.shows now.0 now.1,
             subst (λ (n : ℕ). HomePut (number_at (plain entries)) (page_at (plain entries)) n bytes
-                (overlaid at c.as_slice.result.now now.0)) (sym more)
-                (home_more (number_at (plain entries)) (page_at (plain entries)) (length yielded) at c.as_slice.result.now bytes now.0 now.2
+                (overlaid at page now.0)) (sym more)
+                (home_more (number_at (plain entries)) (page_at (plain entries)) (length yielded) at page bytes now.0 now.2
                 (λ place below. c.requires.rises place (length yielded) below inside) at-is is size),
           );
       crash = λ base within.
