@@ -1,12 +1,12 @@
 -- Pages are put into a set, one after another.
-use Rattle.std.proofs.Common.{◌≡◌, inl, inr, ℕ, ◌+◌, ◌-◌, ◌<◌, ◌≤◌, ◌==◌, ◌&&◌, min, Bool, true, false, cond, List, [], ◌∷◌, ◌++◌, length}
-use Rattle.std.proofs.Common.{take, drop, replicate, get_or, refl, sym, ap, ◌∙◌, arith, append_assoc, length-append, add-one, drop-cons}
+use Rattle.std.proofs.Common.{◌≡◌, inl, inr, ℕ, ◌+◌, ◌<◌, ◌≤◌, ◌==◌, ◌&&◌, min, Bool, true, false, cond, List, [], ◌∷◌, ◌++◌, length}
+use Rattle.std.proofs.Common.{take, drop, get_or, refl, sym, ap, ◌∙◌, arith, append_assoc, length-append, add-one, drop-cons}
 use Rattle.std.proofs.lemmas.Bool.{cases_lt}
 use Rattle.std.proofs.lemmas.List.{drop-drop, drop_all, take_all}
 use Rattle.std.specs.Int.{w32, w64, to_le_bytes}
 use Rattle.std.proofs.Math.ListN.{set}
 use Rattle.std.specs.FinMap as finite
-use Rattle.page_journal.specs.PageSet.{PageMap}
+use Rattle.page_journal.specs.PageSet.{PageMap, padded}
 use Rattle.chain_store.specs.Pairs.{chain_pairs, link_front, link_page, puts, stays_so}
 use Rattle.chain_store.specs.Parts.{first_held, head_or, later_held}
 
@@ -25,33 +25,43 @@ cut_later bytes n is = elim (cases_lt (length bytes) 4080) [
   | inr many ↦ ap (λ (k : ℕ). drop k bytes) (let all : n ≡ 4080 = omega (arith, is, many) in all)
 ]
 
--- a page that was written field by field
-pub link_made : (next owner n len : ℕ) (held one two three four : List ℕ) → one ≡ [] ++ to_le_bytes w64 next → n ≡ length held
-    → two ≡ one ++ to_le_bytes w32 n → three ≡ two ++ to_le_bytes w32 owner → four ≡ three ++ held → len ≡ length four → length held ≤ 4080
-    → take 4096 four ++ replicate (4096 - len) 0 ≡ link_page next owner held
-unfolding link_page
-link_made next owner n len held one two three four is1 many is2 is3 is4 long few =
-    let whole : four ≡ link_front next owner held =
+-- what was written of a page field by field
+link_whole : (next owner n : ℕ) (held one two three four : List ℕ) → one ≡ [] ++ to_le_bytes w64 next → n ≡ length held
+    → two ≡ one ++ to_le_bytes w32 n → three ≡ two ++ to_le_bytes w32 owner → four ≡ three ++ held → four ≡ link_front next owner held
+link_whole next owner n held one two three four is1 many is2 is3 is4 =
     is4 ∙ ap (λ (l : List ℕ). l ++ held) (is3
     ∙ ap (λ (l : List ℕ). l ++ to_le_bytes w32 owner) (is2 ∙ ap (λ (l : List ℕ). l ++ to_le_bytes w32 n) is1))
     ∙ ap (λ (k : ℕ). ((to_le_bytes w64 next ++ to_le_bytes w32 k) ++ to_le_bytes w32 owner) ++ held) many
-    ∙ simp append_assoc in
-    let size : length (link_front next owner held) ≡ 16 + length held =
+    ∙ simp append_assoc
+
+-- it fits the page
+pub link_fits : (next owner n : ℕ) (held one two three four : List ℕ) → one ≡ [] ++ to_le_bytes w64 next → n ≡ length held
+    → two ≡ one ++ to_le_bytes w32 n → three ≡ two ++ to_le_bytes w32 owner → four ≡ three ++ held → length held ≤ 4080
+    → length four ≤ 4096
+link_fits next owner n held one two three four is1 many is2 is3 is4 few =
+    let whole = link_whole next owner n held one two three four is1 many is2 is3 is4 in
     let eight : length (to_le_bytes w64 next) ≡ 8 = refl in
     let four_many : length (to_le_bytes w32 (length held)) ≡ 4 = refl in
     let four_owner : length (to_le_bytes w32 owner) ≡ 4 = refl in
     omega (
       arith,
+      ap (λ (l : List ℕ). length l) whole,
       length-append (to_le_bytes w64 next) (to_le_bytes w32 (length held) ++ (to_le_bytes w32 owner ++ held)),
       length-append (to_le_bytes w32 (length held)) (to_le_bytes w32 owner ++ held),
       length-append (to_le_bytes w32 owner) held,
       eight,
       four_many,
       four_owner,
-    ) in
-    let fits : length four ≤ 4096 = omega (arith, ap (λ (l : List ℕ). length l) whole, size, few) in
-    ap (λ (l : List ℕ). l ++ replicate (4096 - len) 0) (take_all 4096 four fits ∙ whole)
-    ∙ ap (λ (k : ℕ). link_front next owner held ++ replicate (4096 - k) 0) (long ∙ ap (λ (l : List ℕ). length l) whole)
+      few,
+    )
+
+-- and with zeros behind it is the page
+pub link_made : (next owner n : ℕ) (held one two three four : List ℕ) → one ≡ [] ++ to_le_bytes w64 next → n ≡ length held
+    → two ≡ one ++ to_le_bytes w32 n → three ≡ two ++ to_le_bytes w32 owner → four ≡ three ++ held
+    → padded four ≡ link_page next owner held
+unfolding link_page padded
+link_made next owner n held one two three four is1 many is2 is3 is4 =
+    ap (λ (l : List ℕ). padded l) (link_whole next owner n held one two three four is1 many is2 is3 is4)
 
 pub puts-append : (set : PageMap) (xs ys : List (ℕ × List ℕ)) → puts set (xs ++ ys) ≡ puts (puts set xs) ys
 puts-append set [] ys = refl

@@ -1,10 +1,11 @@
 //! Pages of chains are put into the set of a commit.
 ghost use Rattle.std.specs.Prelude.{◌≡◌, ◌+◌, ◌-◌, ◌<◌, ◌≤◌, ◌==◌, ◌&&◌, cond, drop, length, slice_index, IfOk, OnOk};
 ghost use Rattle.std.specs.FinMap as map;
+ghost use Rattle.page_journal.specs.PageSet.{padded};
 ghost use Rattle.chain_store.specs.Pairs.{chain_pairs, laid_pairs, link_page, puts, stays_so};
 ghost use Rattle.chain_store.specs.Parts.{first_held, head_or, later_held};
 
-use crate::layout::{HELD, PAGE};
+use crate::layout::{HELD, LINK};
 use crate::parts::Laid;
 use osm_base::OutOfMemory;
 use page_journal::PageSet;
@@ -141,17 +142,16 @@ fn number_from(numbers: &[u64], place: usize, other: u64) -> u64
     }
 }
 
-// A page of a chain.
+// A page of a chain, without the zeros behind what it holds.
 fn link_page(alloc: Global, next: u64, owner: u32, held: &[u8]) -> Result<Vec<u8>, OutOfMemory>
     requires { length held.now ≤ 4080 }
-    ensures long { IfOk result (λ page. length page.items ≡ 4096) }
-    ensures page { IfOk result (λ page. page.items ≡ link_page next owner held.now) }
+    ensures few { IfOk result (λ page. length page.items ≤ 4096) }
+    ensures page { IfOk result (λ page. padded page.items ≡ link_page next owner held.now) }
 {
-    let mut page = Vec::with_capacity(alloc, PAGE)?;
+    let mut page = Vec::with_capacity(alloc, LINK + held.len())?;
     page.extend_from_slice(&next.to_le_bytes())?;
     page.extend_from_slice(&(held.len() as u32).to_le_bytes())?;
     page.extend_from_slice(&owner.to_le_bytes())?;
     page.extend_from_slice(held)?;
-    page.resize(PAGE, 0)?;
     Ok(page)
 }
