@@ -1,4 +1,5 @@
 pub mod Cutting
+pub mod FarRows
 pub mod Joined
 pub mod KeptBoxes
 pub mod KeptCounts

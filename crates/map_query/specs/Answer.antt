@@ -48,9 +48,13 @@ joined None other = other
 joined (Some one) None = Some one
 joined (Some one) (Some other) = Some (around one other)
 
+-- a box, where it is there, has a place in common with an asked one
+abbrev pub near : GeoBox → Option GeoBox → Bool
+near asked box = option_map_or (meets asked) box false
+
 -- the box of a row has a place in common with an asked one
 abbrev pub is_in : GeoBox → Row → Bool
-is_in asked row = option_map_or (meets asked) (box_of (places_of row.geometry)) false
+is_in asked row = near asked (box_of (places_of row.geometry))
 
 -- rows of a table with their numbers
 abbrev pub numbered : StyleOf → (table : ℕ) → List (KeyOf × Row) → List NumberedRow

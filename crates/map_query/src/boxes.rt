@@ -53,7 +53,7 @@ fn box_of_polygons(polygons: &[LineList]) -> Option<GeoBox>
 }
 
 /// The box around two boxes, where they are there.
-fn joined(one: Option<GeoBox>, other: Option<GeoBox>) -> Option<GeoBox>
+pub(crate) fn joined(one: Option<GeoBox>, other: Option<GeoBox>) -> Option<GeoBox>
     ensures sides { result ≡ joined one other }
 {
     match (one, other) {

@@ -1,16 +1,16 @@
 //! The answer to a query over rows that stand in order, each with its box beside it.
-ghost use Rattle.std.specs.Prelude.{◌≡◌, filter, map, IfOk, IfSome};
+ghost use Rattle.std.specs.Prelude.{◌≡◌, ◌++◌, IfOk, IfSome, OnOk};
 ghost use Rattle.std.specs.List.{All};
-ghost use Rattle.map_query.specs.Answer.{answer, is_in, numbered};
-ghost use Rattle.map_query.specs.Ordered.{AreRows, IsTable, seen};
+ghost use Rattle.map_query.specs.Answer.{answer};
+ghost use Rattle.map_query.specs.Ordered.{AreBlocks, IsTable, around_rows, met};
 ghost use Rattle.osm_base.specs.map.Spots.{TableMap};
 ghost use Rattle.style_read.specs.Style.{StyleOf};
 
 use crate::answering::{Found, answer, push};
+use crate::blocks::{BLOCK, block_at, is_near};
 use crate::boxed::BoxedRow;
 use crate::ordered::TableRows;
 use crate::query::Query;
-use lanes_geo::is_met;
 use osm_base::{GeoBox, Items, OutOfMemory, RowList, Tables};
 use row_text::row_number;
 use std::alloc::Global;
@@ -29,14 +29,14 @@ pub fn answer_in_order(
 {
     match *query {
         Query::Count { table } => {
-            if let Some(rows) = rows_of(all, table) {
+            if let Some(own) = rows_of(all, table) {
+                let rows = own.rows.as_slice();
                 return Ok(Found::Count(rows.len() as u64));
             }
         }
         Query::Box { table, asked } => {
-            if let Some(ordered) = rows_of(all, table) {
-                let rows = rows_met(alloc, style, table, asked, ordered)?;
-                return Ok(Found::Rows(rows));
+            if let Some(own) = rows_of(all, table) {
+                return Ok(Found::Rows(rows_met(alloc, style, asked, own)?));
             }
         }
         Query::One { .. } => {}
@@ -45,41 +45,71 @@ pub fn answer_in_order(
 }
 
 /// The rows of a table, if they stand there.
-fn rows_of<'a, 't>(all: &'a [TableRows<'t>], table: u32) -> Option<&'a [BoxedRow<'t>]>
-    ensures rows { (style : StyleOf) (tables : TableMap) → All (IsTable style tables) all.now → IfSome result (AreRows style tables table) }
+fn rows_of<'a, 't>(all: &'a [TableRows<'t>], table: u32) -> Option<&'a TableRows<'t>>
+    ensures rows { (style : StyleOf) (tables : TableMap) → All (IsTable style tables) all.now → IfSome result (λ own. IsTable style tables own.now) }
+    ensures table { IfSome result (λ own. own.now.table ≡ table) }
 {
     let own = all.get(table as usize)?;
     if own.table != table {
         return None;
     }
-    Some(&own.rows)
+    Some(own)
 }
 
 /// Those of the rows of a table whose boxes have a place in common with the asked one.
 fn rows_met(
     alloc: Global,
     style: &Style,
-    table: u32,
     asked: GeoBox,
-    ordered: &[BoxedRow],
+    own: &TableRows,
 ) -> Result<RowList, OutOfMemory>
-    ensures rows { IfOk result (λ rows. rows ≡ numbered style.now table (filter (λ (key, row). is_in asked row) (map seen ordered.now))) }
+    requires blocks { AreBlocks own.now.blocks.items own.now.rows.items }
+    ensures rows { IfOk result (λ rows. rows ≡ met style.now own.now.table asked own.now.rows.items) }
 {
     let mut rows = Items::new(alloc);
-    for own in ordered {
-        if is_in(asked, own) {
-            push(alloc, &mut rows, row_number(style, table, own.key), own.row)?;
-        }
+    let mut at = 0;
+    for around in &own.blocks {
+        let block = block_at(&own.rows, at);
+        push_near(alloc, style, own.table, asked, *around, block, &mut rows)?;
+        at += BLOCK;
     }
     Ok(rows)
 }
 
-/// Whether the box of a row has a place in common with the asked one.
-fn is_in(asked: GeoBox, own: &BoxedRow) -> bool
-    ensures met { result ≡ is_in asked own.now.row.now }
+/// Adds those of the rows of a block whose boxes have a place in common with the asked one. Where its own has none no row is looked at.
+fn push_near(
+    alloc: Global,
+    style: &Style,
+    table: u32,
+    asked: GeoBox,
+    around: Option<GeoBox>,
+    block: &[BoxedRow],
+    rows: &mut RowList,
+) -> Result<(), OutOfMemory>
+    requires around { around ≡ around_rows block.now }
+    ensures ok { OnOk result (rows.new ≡ rows.old ++ met style.now table asked block.now) }
 {
-    match own.around {
-        Some(around) => is_met(asked, around),
-        None => false,
+    if !is_near(asked, around) {
+        return Ok(());
     }
+    push_met(alloc, style, table, asked, block, rows)
+}
+
+/// Adds those of the rows of a block whose boxes have a place in common with the asked one.
+fn push_met(
+    alloc: Global,
+    style: &Style,
+    table: u32,
+    asked: GeoBox,
+    block: &[BoxedRow],
+    rows: &mut RowList,
+) -> Result<(), OutOfMemory>
+    ensures ok { OnOk result (rows.new ≡ rows.old ++ met style.now table asked block.now) }
+{
+    for own in block {
+        if is_near(asked, own.around) {
+            push(alloc, rows, row_number(style, table, own.key), own.row)?;
+        }
+    }
+    Ok(())
 }

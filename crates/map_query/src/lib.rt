@@ -6,12 +6,14 @@
 //! for, by rising numbers: the row of one object, or those whose boxes meet an asked box.
 //!
 //! Two more ways lead to the same answers, for who asks the same tables many times. `boxed_tables` puts the rows of all tables
-//! in order once, each with its box, and `answer_in_order` tests the boxes one behind the other. `boxes_of` keeps the boxes of
+//! in order once, each with its box, and `answer_in_order` tests the boxes of blocks of rows, and of the rows of those that
+//! are near. `boxes_of` keeps the boxes of
 //! all rows in a grid, which `box_in` tells how to change with a row, and `answer_by_boxes` looks at no far row. Neither counts a
 //! row for a count: `CountedTables` keeps how many each table has.
 #![tactic(auto)]
 
 mod answering;
+mod blocks;
 mod boxed;
 mod boxes;
 mod counted;

@@ -6,18 +6,20 @@ ghost use Rattle.row_text.specs.Numbered.{seen as in_order};
 ghost use Rattle.row_text.specs.Table.{has_areas};
 ghost use Rattle.map_query.specs.Ordered.{IsTable, seen};
 
+use crate::blocks::blocks_of;
 use crate::boxed::BoxedRow;
 use crate::boxes::box_of_geometry;
-use osm_base::{Key, OutOfMemory, Row, Tables};
+use osm_base::{GeoBox, Key, OutOfMemory, Row, Tables};
 use row_text::{KeyedRow, rows_by_number};
 use std::alloc::Global;
 use style_read::Style;
 
-/// The rows of a table, by rising numbers.
+/// The rows of a table, by rising numbers, and the boxes around their blocks.
 #[derive(Drop)]
 pub struct TableRows<'t> {
     pub table: u32,
     pub rows: Vec<BoxedRow<'t>>,
+    pub blocks: Vec<Option<GeoBox>>,
 }
 
 /// The rows of all tables of a style.
@@ -48,7 +50,12 @@ fn table_rows<'t>(
 {
     let ordered = rows_by_number(alloc, style, tables, table)?;
     let rows = with_boxes(alloc, &ordered)?;
-    Ok(TableRows { table, rows })
+    let blocks = blocks_of(alloc, &rows)?;
+    Ok(TableRows {
+        table,
+        rows,
+        blocks,
+    })
 }
 
 /// The same rows with their boxes.
