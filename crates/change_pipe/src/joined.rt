@@ -5,6 +5,7 @@ ghost use Rattle.change_pipe.specs.declared.pipe.TheConstants.{MAX_AHEAD};
 ghost use Rattle.change_pipe.specs.Ends.{end_view};
 ghost use Rattle.change_pipe.specs.Files.{AreRead, HasAll, ReadsAmong};
 
+use crate::files::ChangeFiles;
 use crate::parcel::{Parcel, is_whole, read_parcel};
 use crate::pipe::{Pipe, Taker, make_pipe};
 use crate::putting::put_some;
@@ -65,25 +66,23 @@ fn take_some<R: Wait>(
     }
 }
 
-/// What so many files from this one on are read as, up to the first that is refused, each by so many workers.
+/// What files are read as, up to the first that is refused, each by so many workers.
 fn read_each<R: Threads + Sync, I: Inputs>(
     rt: &R,
     alloc: Global,
     inputs: &mut I,
-    first: u32,
-    count: u32,
+    files: ChangeFiles,
     limits: &Limits,
     workers: u32,
 ) -> Result<Vec<Parcel>, OutOfMemory>
     requires workers { 0 < workers }
-    requires fits { first + count ≤ 8192 }
-    ensures parcels { IfOk result (λ read. AreRead limits.now first (first + count) (I.view inputs.old) (I.view inputs.new) read.items) }
-    ensures all { IfOk result (λ read. HasAll count read.items) }
-    ensures read { ReadsAmong first (first + count) (λ asked. I.reads inputs.old asked inputs.new) (I.view inputs.old) (I.view inputs.new) }
+    ensures parcels { IfOk result (λ read. AreRead limits.now files.first (files.first + files.count) (I.view inputs.old) (I.view inputs.new) read.items) }
+    ensures all { IfOk result (λ read. HasAll files.count read.items) }
+    ensures read { ReadsAmong files.first (files.first + files.count) (λ asked. I.reads inputs.old asked inputs.new) (I.view inputs.old) (I.view inputs.new) }
 {
     let mut parcels = Vec::new(alloc);
-    let end = first + count;
-    let mut file = first;
+    let end = files.first + files.count;
+    let mut file = files.first;
     while file < end {
         let parcel = read_parcel(rt, alloc, inputs, file, limits, workers);
         let whole = is_whole(&parcel);
@@ -96,13 +95,12 @@ fn read_each<R: Threads + Sync, I: Inputs>(
     Ok(parcels)
 }
 
-/// What another thread takes of so many files from this one on, while they are read. `None`: no thread could be made, and none was read.
+/// What another thread takes of files, while they are read. `None`: no thread could be made, and none was read.
 fn read_beside<R: Threads + Wait + Sync, I: Inputs>(
     rt: &R,
     alloc: Global,
     inputs: &mut I,
-    first: u32,
-    count: u32,
+    files: ChangeFiles,
     limits: &Limits,
     workers: u32,
     ahead: usize,
@@ -110,11 +108,10 @@ fn read_beside<R: Threads + Wait + Sync, I: Inputs>(
     requires workers { 0 < workers }
     requires some { 1 ≤ ahead }
     requires few { ahead ≤ MAX_AHEAD }
-    requires fits { first + count ≤ 8192 }
     ensures parcels { IfOk result (λ found. IfSome found (λ taken.
-        AreRead limits.now first (first + count) (I.view inputs.old) (I.view inputs.new) taken.items)) }
-    ensures all { IfOk result (λ found. IfSome found (λ taken. HasAll count taken.items)) }
-    ensures read { ReadsAmong first (first + count) (λ asked. I.reads inputs.old asked inputs.new) (I.view inputs.old) (I.view inputs.new) }
+        AreRead limits.now files.first (files.first + files.count) (I.view inputs.old) (I.view inputs.new) taken.items)) }
+    ensures all { IfOk result (λ found. IfSome found (λ taken. HasAll files.count taken.items)) }
+    ensures read { ReadsAmong files.first (files.first + files.count) (λ asked. I.reads inputs.old asked inputs.new) (I.view inputs.old) (I.view inputs.new) }
     ensures unread { IfOk result (λ found. IfNone found (inputs.new ≡ inputs.old)) }
 {
     let (pipe, mut putter, mut taker) = make_pipe(alloc, ahead)?;
@@ -122,30 +119,18 @@ fn read_beside<R: Threads + Wait + Sync, I: Inputs>(
     let (read, taken) = join_mut(
         rt,
         &mut || -> bool
-            requires { (putter ≡ end_view line.now.home []) × (0 < workers) × (first + count ≤ 8192) }
+            requires { (putter ≡ end_view line.now.home []) × (0 < workers) }
             ensures { (putter.exit.home ≡ line.entry.now.home)
-                × AreRead limits.entry.now first (first + count) (I.view inputs.entry.now) (I.view inputs.exit.now) putter.exit.list
-                × ReadsAmong first (first + count) (λ asked. I.reads inputs.entry.now asked inputs.exit.now)
+                × AreRead limits.entry.now files.first (files.first + files.count) (I.view inputs.entry.now) (I.view inputs.exit.now) putter.exit.list
+                × ReadsAmong files.first (files.first + files.count) (λ asked. I.reads inputs.entry.now asked inputs.exit.now)
                 (I.view inputs.entry.now) (I.view inputs.exit.now)
                 × OnFalse result (inputs.exit.now ≡ inputs.entry.now) }
-        {
-            put_some(
-                rt,
-                alloc,
-                inputs,
-                first,
-                count,
-                limits,
-                workers,
-                line,
-                &mut putter,
-            )
-        },
+        { put_some(rt, alloc, inputs, files, limits, workers, line, &mut putter) },
         &mut || -> Result<Option<Vec<Parcel>>, OutOfMemory>
             requires { taker ≡ end_view line.now.home [] }
             ensures { (taker.exit.home ≡ line.entry.now.home)
-                × IfOk result (λ found. IfSome found (λ taken. (taken.items ≡ taker.exit.list) × HasAll count taken.items)) }
-        { take_some(rt, alloc, count, line, &mut taker) },
+                × IfOk result (λ found. IfSome found (λ taken. (taken.items ≡ taker.exit.list) × HasAll files.count taken.items)) }
+        { take_some(rt, alloc, files.count, line, &mut taker) },
     );
     pipe.end(putter, taker);
     match taken {
@@ -156,14 +141,12 @@ fn read_beside<R: Threads + Wait + Sync, I: Inputs>(
     }
 }
 
-/// What so many files from this one on are read as, up to the first that is refused, each by so many workers, where so many files
-/// are read ahead. For callers outside: the program does not use it.
+/// What files are read as, up to the first that is refused, each by so many workers, where so many of them are read ahead. For callers outside: the program does not use it.
 pub fn read_ahead<R: Threads + Wait + Sync, I: Inputs>(
     rt: &R,
     alloc: Global,
     inputs: &mut I,
-    first: u32,
-    count: u32,
+    files: ChangeFiles,
     limits: &Limits,
     workers: u32,
     ahead: usize,
@@ -171,14 +154,13 @@ pub fn read_ahead<R: Threads + Wait + Sync, I: Inputs>(
     requires workers { 0 < workers }
     requires some { 1 ≤ ahead }
     requires few { ahead ≤ MAX_AHEAD }
-    requires fits { first + count ≤ 8192 }
-    ensures parcels { IfOk result (λ taken. AreRead limits.now first (first + count) (I.view inputs.old) (I.view inputs.new) taken.items) }
-    ensures all { IfOk result (λ taken. HasAll count taken.items) }
-    ensures read { ReadsAmong first (first + count) (λ asked. I.reads inputs.old asked inputs.new) (I.view inputs.old) (I.view inputs.new) }
+    ensures parcels { IfOk result (λ taken. AreRead limits.now files.first (files.first + files.count) (I.view inputs.old) (I.view inputs.new) taken.items) }
+    ensures all { IfOk result (λ taken. HasAll files.count taken.items) }
+    ensures read { ReadsAmong files.first (files.first + files.count) (λ asked. I.reads inputs.old asked inputs.new) (I.view inputs.old) (I.view inputs.new) }
 {
-    match read_beside(rt, alloc, inputs, first, count, limits, workers, ahead) {
+    match read_beside(rt, alloc, inputs, files, limits, workers, ahead) {
         Ok(Some(taken)) => Ok(taken),
-        Ok(None) => read_each(rt, alloc, inputs, first, count, limits, workers),
+        Ok(None) => read_each(rt, alloc, inputs, files, limits, workers),
         Err(error) => Err(error),
     }
 }

@@ -9,11 +9,11 @@
 //! file's bytes read as, by as many workers as the caller says. No file behind a refused one is touched.
 //! A pipe holds no more parcels than it was made for, and who waits for room or for a parcel sleeps.
 //!
-//! No command calls it yet: `read_ahead`, the joined run in small, is its only user beside the examples,
-//! and stands as the pattern for an append that reads ahead: `put_some` in one closure of a join, and in
-//! the other `has_begun`, `take_when_ready` as often as it wants, and `stop`.
+//! `append` calls `put_some` in one closure of a join, and in the other `has_begun`, `take_when_ready` as
+//! often as it wants, and `stop`. `read_ahead` is this in small, for the examples.
 #![tactic(auto)]
 
+mod files;
 mod joined;
 mod parcel;
 mod pipe;
@@ -21,6 +21,7 @@ mod putting;
 mod rule;
 mod view;
 
+pub use files::ChangeFiles;
 pub use joined::read_ahead;
 pub use parcel::{Parcel, ParcelBody};
 pub use pipe::{MAX_AHEAD, Pipe, Putter, Taker, make_pipe};

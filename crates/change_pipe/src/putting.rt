@@ -4,6 +4,7 @@ ghost use Rattle.std.specs.Bool.{OnFalse, OnTrue};
 ghost use Rattle.change_pipe.specs.Ends.{end_view};
 ghost use Rattle.change_pipe.specs.Files.{AreRead, HasAll, ReadsAmong};
 
+use crate::files::ChangeFiles;
 use crate::parcel::{is_whole, read_parcel};
 use crate::pipe::{Pipe, Putter};
 use osm_base::Limits;
@@ -12,14 +13,13 @@ use std::alloc::Global;
 use std::sync::Wait;
 use std::thread::Threads;
 
-/// Reads so many files from this one on, in order, each by so many workers, and puts a parcel of each into the pipe, up to the first
+/// Reads files in their order, each by so many workers, and puts a parcel of each into the pipe, up to the first
 /// that is refused. `false`: nothing more will be taken, and the parcel of the file that was read last was not put.
 pub fn put_files<R: Threads + Wait + Sync, I: Inputs>(
     rt: &R,
     alloc: Global,
     inputs: &mut I,
-    first: u32,
-    count: u32,
+    files: ChangeFiles,
     limits: &Limits,
     workers: u32,
     pipe: &Pipe,
@@ -27,14 +27,13 @@ pub fn put_files<R: Threads + Wait + Sync, I: Inputs>(
 ) -> bool
     requires ours { putter.old ≡ end_view pipe.now.home [] }
     requires workers { 0 < workers }
-    requires fits { first + count ≤ 8192 }
     ensures ours { putter.new.home ≡ pipe.now.home }
-    ensures parcels { AreRead limits.now first (first + count) (I.view inputs.old) (I.view inputs.new) putter.new.list }
-    ensures all { OnTrue result (HasAll count putter.new.list) }
-    ensures read { ReadsAmong first (first + count) (λ asked. I.reads inputs.old asked inputs.new) (I.view inputs.old) (I.view inputs.new) }
+    ensures parcels { AreRead limits.now files.first (files.first + files.count) (I.view inputs.old) (I.view inputs.new) putter.new.list }
+    ensures all { OnTrue result (HasAll files.count putter.new.list) }
+    ensures read { ReadsAmong files.first (files.first + files.count) (λ asked. I.reads inputs.old asked inputs.new) (I.view inputs.old) (I.view inputs.new) }
 {
-    let end = first + count;
-    let mut file = first;
+    let end = files.first + files.count;
+    let mut file = files.first;
     while file < end {
         let parcel = read_parcel(rt, alloc, inputs, file, limits, workers);
         let whole = is_whole(&parcel);
@@ -57,8 +56,7 @@ pub fn put_some<R: Threads + Wait + Sync, I: Inputs>(
     rt: &R,
     alloc: Global,
     inputs: &mut I,
-    first: u32,
-    count: u32,
+    files: ChangeFiles,
     limits: &Limits,
     workers: u32,
     pipe: &Pipe,
@@ -66,18 +64,15 @@ pub fn put_some<R: Threads + Wait + Sync, I: Inputs>(
 ) -> bool
     requires ours { putter.old ≡ end_view pipe.now.home [] }
     requires workers { 0 < workers }
-    requires fits { first + count ≤ 8192 }
     ensures ours { putter.new.home ≡ pipe.now.home }
-    ensures parcels { AreRead limits.now first (first + count) (I.view inputs.old) (I.view inputs.new) putter.new.list }
-    ensures read { ReadsAmong first (first + count) (λ asked. I.reads inputs.old asked inputs.new) (I.view inputs.old) (I.view inputs.new) }
+    ensures parcels { AreRead limits.now files.first (files.first + files.count) (I.view inputs.old) (I.view inputs.new) putter.new.list }
+    ensures read { ReadsAmong files.first (files.first + files.count) (λ asked. I.reads inputs.old asked inputs.new) (I.view inputs.old) (I.view inputs.new) }
     ensures unread { OnFalse result (inputs.new ≡ inputs.old) }
     ensures unput { OnFalse result (putter.new ≡ putter.old) }
 {
     if !pipe.begin() {
         return false;
     }
-    put_files(
-        rt, alloc, inputs, first, count, limits, workers, pipe, putter,
-    );
+    put_files(rt, alloc, inputs, files, limits, workers, pipe, putter);
     true
 }

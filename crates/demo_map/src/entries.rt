@@ -4,7 +4,7 @@ ghost use Rattle.osm_base.specs.values.Key.{IsId};
 ghost use Rattle.osm_base.specs.values.Place.{PlaceOf};
 ghost use Rattle.demo_map.specs.Demo as demo;
 
-use crate::parts::MAX_SQUARES;
+use crate::squares::{MAX_SQUARES, Squares};
 use osm_base::{
     Entry, Ids, Key, Kind, Member, Members, Object, OutOfMemory, Place, TagList, Tags, Text,
 };
@@ -38,7 +38,6 @@ pub(crate) fn node_at(id: u64, place: Place, tags: Tags) -> Entry
 
 /// The way of a square.
 pub(crate) fn way_of(alloc: Global, square: u32) -> Result<Entry, OutOfMemory>
-    requires few { square < MAX_SQUARES }
     ensures way { IfOk result (λ entry. entry ≡ demo.way_of square) }
 {
     let before = 4 * u64::from(square);
@@ -52,13 +51,12 @@ pub(crate) fn way_of(alloc: Global, square: u32) -> Result<Entry, OutOfMemory>
 }
 
 /// The relation of a tenth square of so many.
-pub(crate) fn route_of(alloc: Global, count: u32, square: u32) -> Result<Entry, OutOfMemory>
-    requires there { square < count }
-    requires few { count ≤ MAX_SQUARES }
-    ensures route { IfOk result (λ entry. entry ≡ demo.route_of count square) }
+pub(crate) fn route_of(alloc: Global, squares: Squares, square: u32) -> Result<Entry, OutOfMemory>
+    requires there { square < squares.count }
+    ensures route { IfOk result (λ entry. entry ≡ demo.route_of squares.count square) }
 {
     let id = u64::from(square) / 10 + 1;
-    let members = members_of(alloc, square + 1, count.min(square + 10) - square)?;
+    let members = members_of(alloc, square + 1, squares.count.min(square + 10) - square)?;
     let tags = route_tags(alloc, id)?;
     Ok(Entry {
         key: Key::new(Kind::Relation, id),
@@ -107,7 +105,6 @@ pub(crate) fn moved_of(alloc: Global, square: u32) -> Entry
 
 /// The first corner of a square, deleted.
 pub(crate) fn gone_of(square: u32) -> Entry
-    requires few { square < MAX_SQUARES }
     ensures gone { result ≡ demo.gone_of square }
 {
     Entry {

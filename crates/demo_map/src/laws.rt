@@ -8,7 +8,7 @@ ghost use Rattle.demo_map.specs.Demo.{demo_first, demo_input, demo_second};
 ghost use Rattle.demo_map.specs.Style.{DEMO_STYLE, demo_style};
 ghost use Rattle.demo_map.specs.Written.{AreReadAgain, FitsLine};
 
-use crate::parts::MAX_SQUARES;
+use crate::squares::MAX_SQUARES;
 use osm_base::MAX_ENTRIES;
 
 /// The text of the style has no fault.

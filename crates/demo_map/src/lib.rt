@@ -13,9 +13,10 @@ mod entries;
 mod laws;
 mod map;
 mod parts;
+mod squares;
 mod style;
 
 pub use laws::{demo_is_read, shared_numbers, style_is_read, written_is_read};
 pub use map::{first_change_of, input_of, second_change_of};
-pub use parts::MAX_SQUARES;
+pub use squares::{MAX_SQUARES, Squares};
 pub use style::{DemoStyle, demo_bounds, demo_style};

@@ -2,16 +2,14 @@
 ghost use Rattle.std.specs.Prelude.{◌≡◌, ◌+◌, ◌*◌, ◌<◌, ◌≤◌, ◌++◌, ◌∷◌, [], None, OnOk, IfOk, flat_map};
 ghost use Rattle.osm_base.specs.values.Key.{node_key};
 ghost use Rattle.object_fold.specs.Change.{Follows, last_key};
-ghost use Rattle.demo_map.specs.Demo.{node_at, nodes_of, squares};
+ghost use Rattle.demo_map.specs.Demo.{node_at, nodes_of, squares as squares_of};
 ghost use Rattle.demo_map.specs.Parts.{entry_of, first_of, made_by, made_of, takes_square};
 
 use crate::entries::{gone_of, moved_of, node_at, place_in, route_of, way_of};
+use crate::squares::{MAX_SQUARES, Squares};
 use object_fold::{Change, Keeper};
 use osm_base::{Entry, OutOfMemory, Place, Tags};
 use std::alloc::Global;
-
-/// The most squares of a map.
-pub const MAX_SQUARES: u32 = 100_000;
 
 /// What there is of each square of a map, or of each tenth, by rising keys.
 #[derive(Clone, Copy)]
@@ -29,16 +27,15 @@ pub(crate) enum Part {
 pub(crate) fn keep_part(
     alloc: Global,
     part: Part,
-    count: u32,
+    squares: Squares,
     change: &mut Change,
 ) -> Result<(), OutOfMemory>
-    requires few { count ≤ MAX_SQUARES }
     requires follows { Follows (last_key None change.old) (first_of part 0) }
-    ensures ok { OnOk result (change.new ≡ change.old ++ made_by part count (squares count)) }
-    ensures next { OnOk result (Follows (last_key None change.new) (first_of part count)) }
+    ensures ok { OnOk result (change.new ≡ change.old ++ made_by part squares.count (squares_of squares.count)) }
+    ensures next { OnOk result (Follows (last_key None change.new) (first_of part squares.count)) }
 {
-    for square in 0..count {
-        keep_of(alloc, part, count, square, change)?;
+    for square in 0..squares.count {
+        keep_of(alloc, part, squares, square, change)?;
     }
     Ok(())
 }
@@ -47,34 +44,32 @@ pub(crate) fn keep_part(
 fn keep_of(
     alloc: Global,
     part: Part,
-    count: u32,
+    squares: Squares,
     square: u32,
     change: &mut Change,
 ) -> Result<(), OutOfMemory>
-    requires few { count ≤ MAX_SQUARES }
-    requires there { square < count }
+    requires there { square < squares.count }
     requires follows { Follows (last_key None change.old) (first_of part square) }
-    ensures ok { OnOk result (change.new ≡ change.old ++ made_of part count square) }
+    ensures ok { OnOk result (change.new ≡ change.old ++ made_of part squares.count square) }
     ensures next { OnOk result (Follows (last_key None change.new) (first_of part (square + 1))) }
 {
     if !takes_square(part, square) {
         return Ok(());
     }
-    let entry = entry_of(alloc, part, count, square)?;
+    let entry = entry_of(alloc, part, squares, square)?;
     change.keep(entry)?;
     Ok(())
 }
 
 /// The entry of a square.
 #[tactic(auto, unfolding(crate::specs::Parts::entry_of))]
-fn entry_of(alloc: Global, part: Part, count: u32, square: u32) -> Result<Entry, OutOfMemory>
-    requires few { count ≤ MAX_SQUARES }
-    requires there { square < count }
-    ensures entry { IfOk result (λ entry. entry ≡ entry_of part count square) }
+fn entry_of(alloc: Global, part: Part, squares: Squares, square: u32) -> Result<Entry, OutOfMemory>
+    requires there { square < squares.count }
+    ensures entry { IfOk result (λ entry. entry ≡ entry_of part squares.count square) }
 {
     match part {
         Part::Ways => way_of(alloc, square),
-        Part::Routes => route_of(alloc, count, square),
+        Part::Routes => route_of(alloc, squares, square),
         Part::Moved => Ok(moved_of(alloc, square)),
         Part::Gone => Ok(gone_of(square)),
     }
@@ -93,15 +88,14 @@ fn takes_square(part: Part, square: u32) -> bool
 /// Keeps the nodes of all squares.
 pub(crate) fn keep_all_nodes(
     alloc: Global,
-    count: u32,
+    squares: Squares,
     change: &mut Change,
 ) -> Result<(), OutOfMemory>
-    requires few { count ≤ MAX_SQUARES }
     requires follows { Follows (last_key None change.old) (node_key 1) }
-    ensures ok { OnOk result (change.new ≡ change.old ++ flat_map nodes_of (squares count)) }
-    ensures next { OnOk result (Follows (last_key None change.new) (node_key (4 * count + 1))) }
+    ensures ok { OnOk result (change.new ≡ change.old ++ flat_map nodes_of (squares_of squares.count)) }
+    ensures next { OnOk result (Follows (last_key None change.new) (node_key (4 * squares.count + 1))) }
 {
-    for square in 0..count {
+    for square in 0..squares.count {
         keep_nodes(alloc, square, change)?;
     }
     Ok(())

@@ -3,7 +3,9 @@ ghost use Rattle.std.specs.Prelude.{◌≡◌, ◌<◌, ◌≤◌, IfSome, OnOk}
 ghost use Rattle.change_pipe.specs.declared.pipe.TheConstants.{MAX_AHEAD};
 
 use crate::refusal::Refusal;
-use change_pipe::{MAX_AHEAD, Parcel, ParcelBody, Pipe, Putter, Taker, make_pipe, read_ahead};
+use change_pipe::{
+    ChangeFiles, MAX_AHEAD, Parcel, ParcelBody, Pipe, Putter, Taker, make_pipe, read_ahead,
+};
 use example_table::{bytes_of, number_of, row_of};
 use object_fold::FileFault;
 use osm_base::{Bytes, FileList, Ids, Limits};
@@ -28,9 +30,10 @@ pub fn ahead<R: Threads + Wait + Sync>(
         return Err(Refusal::NoRow);
     };
     let mut inputs = MemInputs::new(FileList::from_vec(files), fails_of(alloc, failing)?);
+    let asked = ChangeFiles { first: 0, count };
     let limits = Limits::standard();
     push_parcels(
-        &read_ahead(rt, alloc, &mut inputs, 0, count, &limits, workers, ahead)?,
+        &read_ahead(rt, alloc, &mut inputs, asked, &limits, workers, ahead)?,
         out,
     )
 }

@@ -2,7 +2,7 @@
 use Rattle.std.specs.Prelude.{◌≡◌, ℕ, ◌+◌, ◌<◌, ◌≤◌, Bool, true, false, Option, Some, None, List}
 use Rattle.std.specs.Int.{is_power_of_two}
 use Rattle.tile_cover.specs.declared.runs.TheConstants.{MAX_ZOOM}
-use Rattle.demo_map.specs.declared.parts.TheConstants.{MAX_SQUARES}
+use Rattle.demo_map.specs.declared.squares.TheConstants.{MAX_SQUARES}
 use Rattle.run_promise.specs.declared.files.Files.{Files}
 use Rattle.run_promise.specs.declared.ranges.TheConstants.{MAX_AHEAD, MAX_BUCKETS, MAX_READERS}
 

@@ -44,7 +44,7 @@ seen (Serve store files workers readers) = serve_of store.now files workers read
 seen (Replay store files workers) = replay_of store.now files workers
 seen (Migrate store) = migrate_of store.now
 seen (Check store) = check_of store.now
-seen (Demo count store workers) = demo_of count store.now workers
+seen (Demo squares store workers) = demo_of squares.count store.now workers
 
 -- words are read as a form says, and the files of a command that they ask for are as they have to be
 pub record IsReadAs (form : (options words : List (List ℕ)) → (place : ℕ) → Option CommandOf) (words : Words)

@@ -24,9 +24,8 @@ ghost use Rattle.updater.specs.Heads.{IsHead, Leads};
 ghost use Rattle.updater.specs.Versions.{AppendsHere};
 ghost use Rattle.updater.specs.Works.{KeepsOpen, KeepsSound, Works};
 
-use crate::change_files::ChangeFiles;
 use crate::versions::{append_files, commit_change};
-use change_pipe::{ParcelBody, Pipe, Taker, make_pipe, put_some};
+use change_pipe::{ChangeFiles, ParcelBody, Pipe, Taker, make_pipe, put_some};
 use geom_workers::Hands;
 use object_fold::Change;
 use osm_base::{Limits, MAX_ENTRIES};
@@ -95,26 +94,24 @@ fn append_parcel<R: Threads + Sync, D: Disk, S: Sink, G: Gate>(
 fn append_taken<R: Threads + Wait + Sync, D: Disk, S: Sink, G: Gate>(
     hands: &Hands<'_, R, G>,
     bounds: &Bounds,
-    first: u32,
-    count: u32,
+    files: ChangeFiles,
     pipe: &Pipe,
     taker: &mut Taker,
     store: &mut Updater<'_, D>,
     out: &mut S,
 ) -> Result<(), Fault>
-    requires fits { first + count ≤ 8192 }
     requires ours { taker.old ≡ end_view pipe.now.home [] }
     requires takes { TakesChanges (handle_of store.old) }
     ensures ours { taker.new.home ≡ pipe.now.home }
-    ensures taken { AppendsTaken bounds.now first count (result_err result) taker.new.list (handle_of store.old) (handle_of store.new) (S.view out.old) (S.view out.new) }
+    ensures taken { AppendsTaken bounds.now files.first files.count (result_err result) taker.new.list (handle_of store.old) (handle_of store.new) (S.view out.old) (S.view out.new) }
     ensures keeps { KeepsOpen (result_err result) store.old store.new }
 {
-    let end = first + count;
-    let mut file = first;
+    let end = files.first + files.count;
+    let mut file = files.first;
     while file < end {
         hands
             .gate
-            .pass(GatePlace::BeforeChange, u64::from(file - first + 1));
+            .pass(GatePlace::BeforeChange, u64::from(file - files.first + 1));
         let parcel = pipe.take_when_ready(hands.rt, taker);
         match append_parcel(hands, bounds, file, parcel.body, store, out) {
             Ok(()) => {}
@@ -130,25 +127,23 @@ fn append_taken<R: Threads + Wait + Sync, D: Disk, S: Sink, G: Gate>(
 fn append_some<R: Threads + Wait + Sync, D: Disk, S: Sink, G: Gate>(
     hands: &Hands<'_, R, G>,
     bounds: &Bounds,
-    first: u32,
-    count: u32,
+    files: ChangeFiles,
     pipe: &Pipe,
     taker: &mut Taker,
     store: &mut Updater<'_, D>,
     out: &mut S,
 ) -> Option<Option<Fault>>
-    requires fits { first + count ≤ 8192 }
     requires ours { taker.old ≡ end_view pipe.now.home [] }
     requires takes { TakesChanges (handle_of store.old) }
     ensures ours { taker.new.home ≡ pipe.now.home }
-    ensures taken { IfSome result (λ fault. AppendsTaken bounds.now first count fault taker.new.list (handle_of store.old) (handle_of store.new) (S.view out.old) (S.view out.new)) }
+    ensures taken { IfSome result (λ fault. AppendsTaken bounds.now files.first files.count fault taker.new.list (handle_of store.old) (handle_of store.new) (S.view out.old) (S.view out.new)) }
     ensures keeps { IfSome result (λ fault. KeepsOpen fault store.old store.new) }
     ensures none { IfNone result ((store.new ≡ store.old) × (out.new ≡ out.old)) }
 {
     if !pipe.has_begun(hands.rt) {
         return None;
     }
-    let done = append_taken(hands, bounds, first, count, pipe, taker, store, out);
+    let done = append_taken(hands, bounds, files, pipe, taker, store, out);
     pipe.stop();
     Some(done.err())
 }
@@ -204,8 +199,7 @@ fn append_beside<R: Threads + Wait + Sync, I: Inputs, D: Disk, S: Sink, G: Gate>
                 rt,
                 alloc,
                 inputs,
-                first,
-                count,
+                ChangeFiles { first, count },
                 limits,
                 workers,
                 line,
@@ -223,8 +217,10 @@ fn append_beside<R: Threads + Wait + Sync, I: Inputs, D: Disk, S: Sink, G: Gate>
             append_some(
                 hands,
                 bounds,
-                files.first,
-                files.count,
+                ChangeFiles {
+                    first: files.first,
+                    count: files.count,
+                },
                 line,
                 &mut taker,
                 store,

@@ -15,7 +15,6 @@
 mod ahead;
 mod answers;
 mod blocks;
-mod change_files;
 mod commands;
 mod file_reads;
 mod forms;

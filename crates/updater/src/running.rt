@@ -152,7 +152,7 @@ fn run_command<R: Threads + Wait + Sync, I: Inputs, D: Disk, S: Sink, G: Gate>(
         Command::Migrate { store: _ } => migrate(alloc, inputs, disk, out),
         Command::Check { store: _ } => check(alloc, inputs, disk, out),
         Command::Demo {
-            count,
+            squares,
             store: _,
             workers,
         } => {
@@ -162,7 +162,7 @@ fn run_command<R: Threads + Wait + Sync, I: Inputs, D: Disk, S: Sink, G: Gate>(
                 workers,
                 gate,
             };
-            demo(&hands, count, inputs, disk, out)
+            demo(&hands, squares, inputs, disk, out)
         }
     }
 }

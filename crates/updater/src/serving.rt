@@ -18,9 +18,9 @@ ghost use Rattle.updater.specs.Works.{KeepsSound, Works, WorksOn};
 ghost use Rattle.run_promise.specs.World.{Before, world};
 
 use crate::blocks::blocks_text;
-use crate::change_files::ChangeFiles;
 use crate::telling::tell;
 use crate::versions::commit_file;
+use change_pipe::ChangeFiles;
 use geom_workers::Hands;
 use map_query::Queries;
 use osm_base::{Delta, OutOfMemory, RowChange, Tables, TryCopy};

@@ -24,9 +24,9 @@ ghost use Rattle.updater.specs.Serving.{LeadsBy};
 ghost use Rattle.updater.specs.Works.{KeepsOpen, KeepsSound, Works, WorksOn};
 ghost use Rattle.run_promise.specs.World.{Before};
 
-use crate::change_files::ChangeFiles;
 use crate::file_reads::{StyleFile, read_change};
 use crate::telling::tell;
+use change_pipe::ChangeFiles;
 use geom_workers::Hands;
 use object_fold::Change;
 use osm_base::Delta;

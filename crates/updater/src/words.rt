@@ -10,6 +10,7 @@ use crate::commands::{
     append, check, demo, export, import, init, lines, migrate, points, query, replay, serve, tiles,
 };
 use crate::forms::Words;
+use demo_map::Squares;
 use geom_workers::Workers;
 use run_promise::Files;
 
@@ -86,7 +87,7 @@ pub enum Command<'a> {
     },
     /// A store made and filled with a map of so many squares out of nothing, and how much it holds.
     Demo {
-        count: u32,
+        squares: Squares,
         store: &'a str,
         workers: Workers,
     },

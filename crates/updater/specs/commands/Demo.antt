@@ -2,7 +2,7 @@
 use Rattle.std.specs.Prelude.{ℕ, nat_eq, nat_lt, ◌||◌, if◌then◌else◌, true, false, Option, Some, None, List, [], ◌∷◌, codes}
 use Rattle.std.specs.List.{starts_with}
 use Rattle.std.specs.Option.{option_and_then, unwrap_or}
-use Rattle.demo_map.specs.declared.parts.TheConstants.{MAX_SQUARES}
+use Rattle.demo_map.specs.declared.squares.TheConstants.{MAX_SQUARES}
 use Rattle.run_promise.specs.CommandOf.{CommandOf, demo_of}
 use Rattle.updater.specs.Number.{number}
 use Rattle.updater.specs.Options.{options_read}

@@ -21,11 +21,11 @@ ghost use Rattle.updater.specs.FileReads.{Among};
 ghost use Rattle.updater.specs.Works.{Does, KeepsSound, Works};
 
 use crate::ahead::append_ahead;
-use crate::change_files::ChangeFiles;
 use crate::file_reads::read_bounds_file;
 use crate::forms::{Words, stored_files};
 use crate::options::{Allowed, options_of, usual_workers};
 use crate::words::Command;
+use change_pipe::ChangeFiles;
 use geom_workers::Hands;
 use osm_base::Limits;
 use outside::{Disk, Gate, Inputs, Sink};

@@ -1,5 +1,6 @@
 //! `demo N STORE`: a store made and filled with a map out of nothing, and how much it holds.
-ghost use Rattle.std.specs.Prelude.{◌≡◌, ◌≢◌, ◌≤◌, [], ℕ, Some, length, IfSome};
+ghost use Rattle.std.specs.Prelude.{◌≡◌, ◌≢◌, [], ℕ, Some, length};
+ghost use Rattle.std.specs.Option.{option_map};
 ghost use Rattle.std.specs.Result.{result_err};
 ghost use Rattle.demo_map.specs.Demo.{demo_first, demo_input, demo_second};
 ghost use Rattle.demo_map.specs.Style.{DEMO_STYLE, demo_bounds, demo_style};
@@ -9,7 +10,6 @@ ghost use Rattle.outside.specs.Inputs.{FilesView};
 ghost use Rattle.update_flow.specs.Handle.{view_of};
 ghost use Rattle.update_flow.specs.State.{Holding, State, formatted, imported};
 ghost use Rattle.update_flow.specs.Updater.{handle_of};
-ghost use Rattle.run_promise.specs.CommandOf.{AreSquares};
 ghost use Rattle.updater.specs.Command.{IsReadAs};
 ghost use Rattle.run_promise.specs.Course.{formats, looks};
 ghost use Rattle.run_promise.specs.Courses.{demo_course, fills_demo, growing, if_blank, imports_these, onward, summing};
@@ -31,7 +31,8 @@ use crate::telling::tell;
 use crate::versions::{commit_change, import_change};
 use crate::words::Command;
 use demo_map::{
-    DemoStyle, MAX_SQUARES, demo_bounds, demo_style, first_change_of, input_of, second_change_of,
+    DemoStyle, MAX_SQUARES, Squares, demo_bounds, demo_style, first_change_of, input_of,
+    second_change_of,
 };
 use geom_workers::Hands;
 use osm_base::Limits;
@@ -58,9 +59,9 @@ pub fn form(words: Words<'_>) -> Option<Command<'_>>
     let own = options_of(ALLOWED, words.options)?;
     match words.form {
         [count, store] => {
-            let count = squares_in(count.as_bytes())?;
+            let squares = squares_in(count.as_bytes())?;
             Some(Command::Demo {
-                count,
+                squares,
                 store: store.as_str(),
                 workers: own.workers.unwrap_or(usual_workers()),
             })
@@ -70,9 +71,8 @@ pub fn form(words: Words<'_>) -> Option<Command<'_>>
 }
 
 /// How many squares a word tells: a number from 1 to `MAX_SQUARES` that begins with no zero.
-fn squares_in(word: &[u8]) -> Option<u32>
-    ensures squares { result ≡ demo.squares word.now }
-    ensures range { IfSome result AreSquares }
+fn squares_in(word: &[u8]) -> Option<Squares>
+    ensures squares { option_map (λ squares. squares.count) result ≡ demo.squares word.now }
 {
     if word.starts_with(b"0") {
         return None;
@@ -81,20 +81,19 @@ fn squares_in(word: &[u8]) -> Option<u32>
     if count < 1 || count > MAX_SQUARES {
         return None;
     }
-    Some(count)
+    Some(Squares { count })
 }
 
 /// Makes a store on an empty disk, imports the map of so many squares into it, appends its two changes, and writes how much it holds
 /// then.
 pub fn demo<R: Threads + Sync, I: Inputs, D: Disk, S: Sink, G: Gate>(
     hands: &Hands<'_, R, G>,
-    count: u32,
+    squares: Squares,
     inputs: &I,
     disk: &mut D,
     out: &mut S,
 ) -> Result<(), Fault>
-    requires few { count ≤ MAX_SQUARES }
-    ensures course { GoesBy (demo_course count) (begun unused 0) (result_err result)
+    ensures course { GoesBy (demo_course squares.count) (begun unused 0) (result_err result)
         (world (I.view inputs.now) (D.view disk.old) (S.view out.old))
         (world (I.view inputs.now) (D.view disk.new) (S.view out.new)) }
     ensures looked { IfTold (D.view disk.old).content (λ bytes. length bytes ≢ 0 → Stays (D.view disk.old) (D.view disk.new)) }
@@ -103,21 +102,20 @@ pub fn demo<R: Threads + Sync, I: Inputs, D: Disk, S: Sink, G: Gate>(
     if let Err(fault) = wants_empty(disk) {
         return Err(fault);
     }
-    make_demo(hands, count, inputs, disk, out)
+    make_demo(hands, squares, inputs, disk, out)
 }
 
 /// Makes a store on an empty disk, and fills it.
 fn make_demo<R: Threads + Sync, I: Inputs, D: Disk, S: Sink, G: Gate>(
     hands: &Hands<'_, R, G>,
-    count: u32,
+    squares: Squares,
     inputs: &I,
     disk: &mut D,
     out: &mut S,
 ) -> Result<(), Fault>
-    requires few { count ≤ MAX_SQUARES }
     ensures goes_on { (old : Before)
         → IsSoFar (begun unused 0) (reading_alone []) 0 old (I.view inputs.now) (D.view disk.old) (S.view out.old)
-        → GoesOn (formats (looks (fills_demo count))) (begun unused 0) (reading_alone []) (result_err result) old
+        → GoesOn (formats (looks (fills_demo squares.count))) (begun unused 0) (reading_alone []) (result_err result) old
         (world (I.view inputs.now) (D.view disk.new) (S.view out.new)) }
     ensures formatted { result_err result ≢ Some Fault.NotFormatted }
 {
@@ -130,7 +128,7 @@ fn make_demo<R: Threads + Sync, I: Inputs, D: Disk, S: Sink, G: Gate>(
         Err(fault) => return Err(Fault::in_made(fault)),
     };
     let mut store = Updater::over(hands.alloc, disk, opened, &limits);
-    let done = fill_demo(hands, count, inputs, &mut store, out);
+    let done = fill_demo(hands, squares, inputs, &mut store, out);
     let _disk = store.close();
     done
 }
@@ -138,25 +136,24 @@ fn make_demo<R: Threads + Sync, I: Inputs, D: Disk, S: Sink, G: Gate>(
 /// Imports the map into a store that was only made, appends its changes, and writes how much the store holds then.
 fn fill_demo<R: Threads + Sync, I: Inputs, D: Disk, S: Sink, G: Gate>(
     hands: &Hands<'_, R, G>,
-    count: u32,
+    squares: Squares,
     inputs: &I,
     store: &mut Updater<'_, D>,
     out: &mut S,
 ) -> Result<(), Fault>
-    requires few { count ≤ MAX_SQUARES }
     ensures goes_on { (old : Before) (start done : Progress) (state : State) → IsHead start done state 0 old (I.view inputs.now) (handle_of store.old) (S.view out.old)
-        → GoesOn (if_blank (fills_demo count) state) start done (result_err result) old
+        → GoesOn (if_blank (fills_demo squares.count) state) start done (result_err result) old
         (world (I.view inputs.now) (view_of (handle_of store.new)) (S.view out.new)) }
     ensures keeps { KeepsOpen (result_err result) store.old store.new }
 {
     if store.imported() {
         return Err(Fault::AlreadyImported);
     }
-    match import_demo(hands, count, store, out) {
+    match import_demo(hands, squares, store, out) {
         Ok(()) => {}
         Err(fault) => return Err(fault),
     }
-    match grow_demo(hands, count, store, out) {
+    match grow_demo(hands, squares, store, out) {
         Ok(()) => {}
         Err(fault) => return Err(fault),
     }
@@ -166,14 +163,13 @@ fn fill_demo<R: Threads + Sync, I: Inputs, D: Disk, S: Sink, G: Gate>(
 /// Imports the map of so many squares into a store that was only made, and tells so.
 fn import_demo<R: Threads + Sync, D: Disk, S: Sink, G: Gate>(
     hands: &Hands<'_, R, G>,
-    count: u32,
+    squares: Squares,
     store: &mut Updater<'_, D>,
     out: &mut S,
 ) -> Result<(), Fault>
-    requires few { count ≤ MAX_SQUARES }
     ensures leads { (next : ℕ) (files : FilesView) (old : Before) (start done : Progress)
         → IsHead start done formatted next old files (handle_of store.old) (S.view out.old)
-        → Leads (λ last. imports_these (demo_style, DEMO_STYLE) 1024 (demo_input count) (onward last)) (result_err result) start done next old
+        → Leads (λ last. imports_these (demo_style, DEMO_STYLE) 1024 (demo_input squares.count) (onward last)) (result_err result) start done next old
         files (handle_of store.new) (S.view out.new) }
     ensures keeps { KeepsOpen (result_err result) store.old store.new }
 {
@@ -183,7 +179,7 @@ fn import_demo<R: Threads + Sync, D: Disk, S: Sink, G: Gate>(
     };
     let DemoStyle { style, bytes } = own;
     let style = StyleFile { style, bytes };
-    let change = match input_of(hands.alloc, count) {
+    let change = match input_of(hands.alloc, squares) {
         Ok(change) => change,
         Err(_) => return Err(Fault::OutOfMemory),
     };
@@ -193,14 +189,13 @@ fn import_demo<R: Threads + Sync, D: Disk, S: Sink, G: Gate>(
 /// Appends both changes of the map to a store into which it was imported, and tells each.
 fn grow_demo<R: Threads + Sync, D: Disk, S: Sink, G: Gate>(
     hands: &Hands<'_, R, G>,
-    count: u32,
+    squares: Squares,
     store: &mut Updater<'_, D>,
     out: &mut S,
 ) -> Result<(), Fault>
-    requires few { count ≤ MAX_SQUARES }
     ensures leads { (next : ℕ) (files : FilesView) (old : Before) (start done : Progress) (held : Holding)
         → IsHead start done (imported held) next old files (handle_of store.old) (S.view out.old)
-        → Leads (λ last. onward (growing demo_bounds (demo_first count) (growing demo_bounds (demo_second count) last)) held)
+        → Leads (λ last. onward (growing demo_bounds (demo_first squares.count) (growing demo_bounds (demo_second squares.count) last)) held)
         (result_err result) start done next old files (handle_of store.new) (S.view out.new) }
     ensures keeps { KeepsOpen (result_err result) store.old store.new }
 {
@@ -208,7 +203,7 @@ fn grow_demo<R: Threads + Sync, D: Disk, S: Sink, G: Gate>(
         Ok(bounds) => bounds,
         Err(_) => return Err(Fault::OutOfMemory),
     };
-    let first = match first_change_of(hands.alloc, count) {
+    let first = match first_change_of(hands.alloc, squares) {
         Ok(change) => change,
         Err(_) => return Err(Fault::OutOfMemory),
     };
@@ -216,7 +211,7 @@ fn grow_demo<R: Threads + Sync, D: Disk, S: Sink, G: Gate>(
         Ok(delta) => delta,
         Err(fault) => return Err(fault),
     };
-    let second = match second_change_of(hands.alloc, count) {
+    let second = match second_change_of(hands.alloc, squares) {
         Ok(change) => change,
         Err(_) => return Err(Fault::OutOfMemory),
     };

@@ -21,7 +21,6 @@ ghost use Rattle.updater.specs.Works.{KeepsOpen, Works};
 ghost use Rattle.run_promise.specs.World.{Before, world};
 ghost use Rattle.updater.specs.commands.Replay as replay;
 
-use crate::change_files::ChangeFiles;
 use crate::file_reads::{StyleFile, read_bounds_file, read_style_file};
 use crate::forms::{Words, stored_files};
 use crate::making::{MADE_BUCKETS, wants_empty};
@@ -30,6 +29,7 @@ use crate::telling::tell;
 use crate::versions::{append_files, import_file};
 use crate::whole_text::whole_text;
 use crate::words::Command;
+use change_pipe::ChangeFiles;
 use geom_workers::Hands;
 use osm_base::Limits;
 use outside::{Disk, Gate, Inputs, Sink};

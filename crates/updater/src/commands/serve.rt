@@ -17,12 +17,12 @@ ghost use Rattle.updater.specs.Works.{Does, KeepsSound, Works};
 ghost use Rattle.run_promise.specs.World.{Before, world};
 ghost use Rattle.updater.specs.commands.Serve as serve;
 
-use crate::change_files::ChangeFiles;
 use crate::file_reads::{read_bounds_file, read_queries_file};
 use crate::forms::{Words, stored_files};
 use crate::options::{Allowed, READERS, options_of, usual_workers};
 use crate::serving::{Asked, serve_shown};
 use crate::words::Command;
+use change_pipe::ChangeFiles;
 use geom_workers::Hands;
 use map_query::Queries;
 use osm_base::{Limits, Tables, TryCopy};

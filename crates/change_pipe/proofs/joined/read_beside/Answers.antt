@@ -3,5 +3,5 @@ use Rattle.change_pipe.proofs.ParcelLaws.{read_front}
 use Rattle.change_pipe.proofs.joined.read_beside.Goals as goal
 
 pub returns-in-Ok-Some-clause-parcels : goal.returns-in-Ok-Some-clause-parcels
-returns-in-Ok-Some-clause-parcels g c = read_front c.args.limits.now c.args.first (c.args.first + c.args.count)
+returns-in-Ok-Some-clause-parcels g c = read_front c.args.limits.now c.args.files.first (c.args.files.first + c.args.files.count)
     (g.I.Inputs.view c.args.inputs.now) _ _ _ _ c.end.ensures.front.0 c.end.ensures.front.1 (search rules) (search rules)

@@ -6,7 +6,7 @@ use Rattle.change_pipe.proofs.joined.read_each.Given as goal
 abbrev pub invariant-loop-file : goal.invariant-loop-file
 invariant-loop-file g l = record {
   within : l.file ≤ l.end;
-  so_far : HasRead l.limits l.first l.file (λ asked. g.I.Inputs.reads l.fn.inputs asked l.inputs) (g.I.Inputs.view l.fn.inputs)
+  so_far : HasRead l.limits l.fn.files.first l.file (λ asked. g.I.Inputs.reads l.fn.inputs asked l.inputs) (g.I.Inputs.view l.fn.inputs)
       (g.I.Inputs.view l.inputs) l.parcels.items;
 }
 

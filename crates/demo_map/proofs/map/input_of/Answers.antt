@@ -9,29 +9,31 @@ use Rattle.demo_map.proofs.KeyOrders.{routes_behind, ways_behind}
 use Rattle.demo_map.proofs.PartLists.{few_in_all, few_nodes, routes_by, ways_by}
 use Rattle.demo_map.proofs.map.input_of.Goals as goal
 
-pub keep_part-requires-clause-follows : goal.keep_part-requires-clause-follows
-keep_part-requires-clause-follows c =
-    ways_behind c.args.count (last_key None c.keep_all_nodes.new.change) c.in_ok-keep_all_nodes.ensures.next
+pub keep_part-requires : goal.keep_part-requires
+keep_part-requires c = record {
+  follows = ways_behind c.args.squares.count (last_key None c.keep_all_nodes.new.change) c.in_ok-keep_all_nodes.ensures.next;
+}
 
-pub keep_part-requires-2-clause-follows : goal.keep_part-requires-2-clause-follows
-keep_part-requires-2-clause-follows c =
-    routes_behind c.args.count (last_key None c.keep_part.new.change) c.in_ok-keep_part.ensures.next
+pub keep_part-requires-2 : goal.keep_part-requires-2
+keep_part-requires-2 c = record {
+  follows = routes_behind c.args.squares.count (last_key None c.keep_part.new.change) c.in_ok-keep_part.ensures.next;
+}
 
 pub returns-clause-entries : goal.returns-clause-entries
 returns-clause-entries c =
-    let all = squares c.args.count in
+    let all = squares c.args.squares.count in
     rw (
       c.in_ok-keep_part-2.ensures.ok,
       c.in_ok-keep_part.ensures.ok,
       c.in_ok-keep_all_nodes.ensures.ok,
       c.new-change.ensures.empty,
-      ways_by c.args.count all,
-      routes_by c.args.count all,
+      ways_by c.args.squares.count all,
+      routes_by c.args.squares.count all,
     )
 
 pub returns-clause-few : goal.returns-clause-few
 returns-clause-few c =
-    let count = c.args.count in
+    let count = c.args.squares.count in
     let nodes = few_nodes count in
     let ways = few_in_all parts.Ways count count in
     let routes = few_in_all parts.Routes count count in
@@ -45,4 +47,4 @@ returns-clause-few c =
       length-append (made_nodes ++ made_ways) (made_by parts.Routes count (squares count)),
       length-append made_nodes made_ways,
     )
-    (omega (arith, nodes, ways, routes, c.requires.few))
+    (omega (arith, nodes, ways, routes, c.args.squares.few))

@@ -6,9 +6,9 @@ use Rattle.demo_map.proofs.map.second_change_of.Goals as goal
 
 pub returns-clause-entries : goal.returns-clause-entries
 returns-clause-entries c =
-    c.in_ok-keep_part.ensures.ok ∙ rw c.new-change.ensures.empty (gone_by c.args.count (squares c.args.count))
+    c.in_ok-keep_part.ensures.ok ∙ rw c.new-change.ensures.empty (gone_by c.args.squares.count (squares c.args.squares.count))
 
 pub returns-clause-few : goal.returns-clause-few
 returns-clause-few c =
-    let few = few_in_all parts.Gone c.args.count c.args.count in
-    rw (c.in_ok-keep_part.ensures.ok, c.new-change.ensures.empty) (omega (arith, few, c.requires.few))
+    let few = few_in_all parts.Gone c.args.squares.count c.args.squares.count in
+    rw (c.in_ok-keep_part.ensures.ok, c.new-change.ensures.empty) (omega (arith, few, c.args.squares.few))

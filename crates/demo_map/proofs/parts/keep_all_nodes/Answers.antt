@@ -9,7 +9,7 @@ use Rattle.demo_map.proofs.parts.keep_all_nodes.Goals as goal
 
 pub loop-square-preserved : goal.loop-square-preserved
 loop-square-preserved c =
-    let count = c.args.count in
+    let count = c.args.squares.count in
     let square = c.loop-square.square in
     let inside : square < count = omega arith in
     let later : 4 * square + 5 ≡ 4 * (square + 1) + 1 = omega arith in

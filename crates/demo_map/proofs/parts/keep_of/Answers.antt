@@ -10,7 +10,7 @@ use Rattle.demo_map.proofs.parts.keep_of.Goals as goal
 
 pub returns-then-not-takes_square-clause-ok : goal.returns-then-not-takes_square-clause-ok
 returns-then-not-takes_square-clause-ok c =
-    rw (none_of c.args.part c.args.count c.args.square (sym c.if-not-takes_square.ensures.takes), append-nil)
+    rw (none_of c.args.part c.args.squares.count c.args.square (sym c.if-not-takes_square.ensures.takes), append-nil)
 
 pub returns-then-not-takes_square-clause-next : goal.returns-then-not-takes_square-clause-next
 returns-then-not-takes_square-clause-next c =
@@ -20,20 +20,20 @@ pub keep-requires-clause-takes : goal.keep-requires-clause-takes
 keep-requires-clause-takes c =
     subst (λ key. Follows (last_key None c.args.change.now) key)
     (sym (ap (λ (own : Entry). own.key) c.in_ok-entry.ensures.entry
-    ∙ first_is c.args.part c.args.count c.args.square (sym c.if-not-takes_square.ensures.takes))) c.requires.follows
+    ∙ first_is c.args.part c.args.squares.count c.args.square (sym c.if-not-takes_square.ensures.takes))) c.requires.follows
 
 pub keep-requires-clause-proper : goal.keep-requires-clause-proper
 keep-requires-clause-proper c =
-    subst IsProper (sym c.in_ok-entry.ensures.entry) (proper c.args.part c.args.count c.args.square (omega arith))
+    subst IsProper (sym c.in_ok-entry.ensures.entry) (proper c.args.part c.args.squares.count c.args.square (omega arith))
 
 pub returns-clause-ok : goal.returns-clause-ok
 returns-clause-ok c =
     c.in_ok-keep.ensures.ok ∙ ap (λ own. c.args.change.now ++ own ∷ []) c.in_ok-entry.ensures.entry
     ∙ ap (λ list. c.args.change.now ++ list)
-    (sym (one_of c.args.part c.args.count c.args.square (sym c.if-not-takes_square.ensures.takes)))
+    (sym (one_of c.args.part c.args.squares.count c.args.square (sym c.if-not-takes_square.ensures.takes)))
 
 pub returns-clause-next : goal.returns-clause-next
 returns-clause-next c =
     c.in_ok-keep.ensures.rises (first_of c.args.part (c.args.square + 1))
     (ap (λ (own : Entry). is_below own.key (first_of c.args.part (c.args.square + 1))) c.in_ok-entry.ensures.entry
-    ∙ rises c.args.part c.args.count c.args.square (sym c.if-not-takes_square.ensures.takes))
+    ∙ rises c.args.part c.args.squares.count c.args.square (sym c.if-not-takes_square.ensures.takes))

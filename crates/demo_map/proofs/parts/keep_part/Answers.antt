@@ -8,7 +8,7 @@ use Rattle.demo_map.proofs.parts.keep_part.Goals as goal
 pub loop-square-preserved : goal.loop-square-preserved
 loop-square-preserved c =
     let part = c.args.part in
-    let count = c.args.count in
+    let count = c.args.squares.count in
     let square = c.loop-square.square in
     let inside : square < count = omega arith in
     record {

@@ -8,6 +8,6 @@ use Rattle.demo_map.proofs.parts.keep_part.Given as goal
 -- what is kept, and then what is made of the squares that are left, is all of it; and the next square may come
 abbrev pub invariant-loop-square : goal.invariant-loop-square
 invariant-loop-square l = record {
-  kept : l.change ++ made_by l.part l.count (range_with_len l.square (l.count - l.square)) ≡ l.fn.change ++ made_by l.part l.count (squares l.count);
+  kept : l.change ++ made_by l.part l.squares.count (range_with_len l.square (l.squares.count - l.square)) ≡ l.fn.change ++ made_by l.part l.squares.count (squares l.squares.count);
   follows : Follows (last_key None l.change) (first_of l.part l.square);
 }

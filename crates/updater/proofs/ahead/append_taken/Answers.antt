@@ -15,8 +15,8 @@ loop-file-init g c =
       stays = record { same_disk = refl; same_limits = refl };
       sound = λ opened. opened;
       takes = c.requires.takes;
-      so_far = λ own now taken. so_far_none c.args.bounds.now c.args.first c.args.count
-          (c.args.first + c.args.count - c.args.first) (omega arith) own now (handle_of c.args.store.now)
+      so_far = λ own now taken. so_far_none c.args.bounds.now c.args.files.first c.args.files.count
+          (c.args.files.first + c.args.files.count - c.args.files.first) (omega arith) own now (handle_of c.args.store.now)
           (g.S.Sink.view c.args.out.now) taken.later;
     }
 
@@ -25,8 +25,8 @@ overflow_sub-file g c = omega (arith, c.loop-file.invariant.least)
 
 pub returns-in-Err-clause-taken : goal.returns-in-Err-clause-taken
 returns-in-Err-clause-taken g c =
-    taken_ends c.args.bounds.now c.args.first c.args.count c.loop-file.file
-    (c.args.first + c.args.count - c.loop-file.file) (c.args.first + c.args.count - (c.loop-file.file + 1))
+    taken_ends c.args.bounds.now c.args.files.first c.args.files.count c.loop-file.file
+    (c.args.files.first + c.args.files.count - c.loop-file.file) (c.args.files.first + c.args.files.count - (c.loop-file.file + 1))
     (omega (arith, c.loop-file-test.true)) (handle_of c.args.store.now) (handle_of c.loop-file.store)
     (handle_of c.append_parcel.new.store) (g.S.Sink.view c.args.out.now) (g.S.Sink.view c.loop-file.out)
     (g.S.Sink.view c.append_parcel.new.out) c.loop-file.taker.list c.take_when_ready-parcel.result c.loop-file.invariant.many
@@ -51,8 +51,8 @@ loop-file-preserved g c =
       };
       sound = λ opened. (c.in-Ok.ensures.sound (c.loop-file.invariant.sound opened)).stays refl;
       takes = c.in-Ok.ensures.takes c.loop-file.invariant.takes c.in-Ok.ensures.whole;
-      so_far = taken_more c.args.bounds.now c.args.first c.args.count c.loop-file.file
-          (c.args.first + c.args.count - c.loop-file.file) (c.args.first + c.args.count - (c.loop-file.file + 1))
+      so_far = taken_more c.args.bounds.now c.args.files.first c.args.files.count c.loop-file.file
+          (c.args.files.first + c.args.files.count - c.loop-file.file) (c.args.files.first + c.args.files.count - (c.loop-file.file + 1))
           (omega (arith, c.loop-file-test.true)) (handle_of c.args.store.now) (handle_of c.loop-file.store)
           (handle_of c.append_parcel.new.store) (g.S.Sink.view c.args.out.now) (g.S.Sink.view c.loop-file.out)
           (g.S.Sink.view c.append_parcel.new.out) c.loop-file.taker.list c.take_when_ready-parcel.result c.loop-file.invariant.many
@@ -63,8 +63,8 @@ loop-file-preserved g c =
 
 pub returns-clause-taken : goal.returns-clause-taken
 returns-clause-taken g c =
-    taken_all c.args.bounds.now c.args.first c.args.count c.loop-file.file
-    (c.args.first + c.args.count - c.loop-file.file) (omega (arith, c.loop-file-test.false))
+    taken_all c.args.bounds.now c.args.files.first c.args.files.count c.loop-file.file
+    (c.args.files.first + c.args.files.count - c.loop-file.file) (omega (arith, c.loop-file-test.false))
     (omega (arith, c.loop-file-test.false, c.loop-file.invariant.within)) (handle_of c.args.store.now) (handle_of c.loop-file.store)
     (g.S.Sink.view c.args.out.now) (g.S.Sink.view c.loop-file.out) c.loop-file.taker.list c.loop-file.invariant.many
     c.loop-file.invariant.so_far c.loop-file.invariant.sound

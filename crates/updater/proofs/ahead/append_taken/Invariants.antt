@@ -9,15 +9,15 @@ use Rattle.updater.proofs.ahead.append_taken.Given as goal
 -- the files so far are taken, appended and told
 abbrev pub invariant-loop-file : goal.invariant-loop-file
 invariant-loop-file g l = record {
-  least : l.fn.first ≤ l.file;
+  least : l.fn.files.first ≤ l.file;
   within : l.file ≤ l.end;
   ours : l.taker.home ≡ l.pipe.home;
-  many : l.fn.first + length l.taker.list ≡ l.file;
+  many : l.fn.files.first + length l.taker.list ≡ l.file;
   stays : StaysOver l.fn.store l.store;
   sound : IsSoundlyOpen (handle_of l.fn.store) → IsSoundlyOpen (handle_of l.store);
   takes : TakesChanges (handle_of l.store);
-  so_far : (own now : FilesView) → AreTaken l.fn.first l.fn.count own now l.taker.list
-      → AheadSoFar l.fn.bounds l.fn.first l.fn.count l.file (l.end - l.file) own now (handle_of l.fn.store) (handle_of l.store)
+  so_far : (own now : FilesView) → AreTaken l.fn.files.first l.fn.files.count own now l.taker.list
+      → AheadSoFar l.fn.bounds l.fn.files.first l.fn.files.count l.file (l.end - l.file) own now (handle_of l.fn.store) (handle_of l.store)
       (g.S.Sink.view l.fn.out) (g.S.Sink.view l.out);
 }
 

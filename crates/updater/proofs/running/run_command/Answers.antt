@@ -250,21 +250,16 @@ returns-in-Check g c =
           (λ (asked : List ℕ). g.I.Inputs.reads c.args.inputs.now asked c.args.inputs.now) old new fault own);
     }
 
-pub demo-requires-clause-few : goal.demo-requires-clause-few
-demo-requires-clause-few g c κs within =
-    let fits = subst (λ (own : Command). FilesFit (seen own)) c.in-Demo.is c.requires.fits in
-    fits.limit
-
 pub returns-in-Demo : goal.returns-in-Demo
 returns-in-Demo g c =
     let laws = g.met.I.Inputs g.world.𝓛 g.world.𝓜 g.world.𝓡 ((λ s x. x), (λ x. x), (λ x. x), λ x. x) in
     let old = world (g.I.Inputs.view c.args.inputs.now) (g.D.Disk.view c.args.disk.now) (g.S.Sink.view c.args.out.now) in
     let new = world (g.I.Inputs.view c.args.inputs.now) (g.D.Disk.view c.demo.new.disk) (g.S.Sink.view c.demo.new.out) in
     let fault = result_err c.demo.result in
-    let command = demo_of c.in-Demo.count c.in-Demo.store.now c.in-Demo.workers in
+    let command = demo_of c.in-Demo.squares.count c.in-Demo.store.now c.in-Demo.workers in
     let own = runs_by command (λ (asked : List ℕ). g.I.Inputs.reads c.args.inputs.now asked c.args.inputs.now) fault old new tt
     (asked_none g.I.Inputs.reads (Names command) c.args.inputs.now (laws.reads_none c.args.inputs.now))
-    (from_unused new_store old new (demo_course c.in-Demo.count) fault (λ e. absurd (cc)) c.demo.ensures.course) (λ none. absurd (cc))
+    (from_unused new_store old new (demo_course c.in-Demo.squares.count) fault (λ e. absurd (cc)) c.demo.ensures.course) (λ none. absurd (cc))
     (λ _. c.demo.ensures.looked) (λ is. absurd (c.demo.ensures.formatted is)) tt tt (λ is. absurd (cc (is))) in
     record {
       runs = subst (λ (own : Command). Runs (seen own)

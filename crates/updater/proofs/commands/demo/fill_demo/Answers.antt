@@ -13,22 +13,22 @@ use Rattle.updater.proofs.commands.demo.fill_demo.Goals as goal
 pub returns-then-imported-clause-goes_on : goal.returns-then-imported-clause-goes_on
 returns-then-imported-clause-goes_on g c = λ old start done state head.
     never_blank start done 0 old (g.I.Inputs.view c.args.inputs.now) (handle_of c.args.store.now) (g.S.Sink.view c.args.out.now)
-    (fills_demo c.args.count) state head (sym c.imported.ensures.is ∙ c.if-imported.true)
+    (fills_demo c.args.squares.count) state head (sym c.imported.ensures.is ∙ c.if-imported.true)
 
 pub returns-in-Err-clause-goes_on : goal.returns-in-Err-clause-goes_on
 returns-in-Err-clause-goes_on g c = λ old start done state head.
     let files = g.I.Inputs.view c.args.inputs.now in
     if_made start done 0 old files (handle_of c.args.store.now) (g.S.Sink.view c.args.out.now)
-    (fills_demo c.args.count) _ _ state head (sym c.imported.ensures.is ∙ c.if-imported.false)
+    (fills_demo c.args.squares.count) _ _ state head (sym c.imported.ensures.is ∙ c.if-imported.false)
     (λ head. c.in-Err.ensures.leads 0 files old start done head
-    (growing demo_bounds (demo_first c.args.count) (growing demo_bounds (demo_second c.args.count) summing)))
+    (growing demo_bounds (demo_first c.args.squares.count) (growing demo_bounds (demo_second c.args.squares.count) summing)))
 
 pub returns-in-Err-grow_demo-clause-goes_on : goal.returns-in-Err-grow_demo-clause-goes_on
 returns-in-Err-grow_demo-clause-goes_on g c = λ old start done state head.
     let files = g.I.Inputs.view c.args.inputs.now in
     if_made start done 0 old files (handle_of c.args.store.now) (g.S.Sink.view c.args.out.now)
-    (fills_demo c.args.count) _ _ state head (sym c.imported.ensures.is ∙ c.if-imported.false)
-    (λ head. demo_stopped c.args.count start done 0 old files (handle_of c.import_demo.new.store) (g.S.Sink.view c.import_demo.new.out)
+    (fills_demo c.args.squares.count) _ _ state head (sym c.imported.ensures.is ∙ c.if-imported.false)
+    (λ head. demo_stopped c.args.squares.count start done 0 old files (handle_of c.import_demo.new.store) (g.S.Sink.view c.import_demo.new.out)
     (c.in-Ok.ensures.leads 0 files old start done head) c.in-Err-grow_demo.fault (handle_of c.grow_demo.new.store)
     (g.S.Sink.view c.grow_demo.new.out)
     (λ further held head. c.in-Err-grow_demo.ensures.leads 0 files old start further held head))
@@ -38,8 +38,8 @@ returns-clause-goes_on g c = λ old start done state head.
     let files = g.I.Inputs.view c.args.inputs.now in
     let new = world files (view_of (handle_of c.tell_summary.new.store)) (g.S.Sink.view c.tell_summary.new.out) in
     if_made start done 0 old files (handle_of c.args.store.now) (g.S.Sink.view c.args.out.now)
-    (fills_demo c.args.count) (result_err c.tell_summary.result) new state head (sym c.imported.ensures.is ∙ c.if-imported.false)
-    (λ head. demo_grown c.args.count start done 0 old files (handle_of c.import_demo.new.store) (g.S.Sink.view c.import_demo.new.out)
+    (fills_demo c.args.squares.count) (result_err c.tell_summary.result) new state head (sym c.imported.ensures.is ∙ c.if-imported.false)
+    (λ head. demo_grown c.args.squares.count start done 0 old files (handle_of c.import_demo.new.store) (g.S.Sink.view c.import_demo.new.out)
     (c.in-Ok.ensures.leads 0 files old start done head) (handle_of c.grow_demo.new.store) (g.S.Sink.view c.grow_demo.new.out)
     (λ further held head. c.in-Ok-grow_demo.ensures.leads 0 files old start further held head) (result_err c.tell_summary.result) new
     (λ further held head. c.tell_summary.ensures.goes_on old files start further held 0 head))

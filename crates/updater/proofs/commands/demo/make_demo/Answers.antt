@@ -11,7 +11,7 @@ use Rattle.updater.proofs.commands.demo.make_demo.Goals as goal
 pub returns-in-Err-clause-goes_on : goal.returns-in-Err-clause-goes_on
 returns-in-Err-clause-goes_on g c = rw c.in_store.ensures.fault (λ old head.
     unmade [] 0 old (g.I.Inputs.view c.args.inputs.now) (g.D.Disk.view c.args.disk.now) (g.S.Sink.view c.args.out.now) head
-    c.in-Err.fault (g.D.Disk.view c.format.new.disk) (looks (fills_demo c.args.count))
+    c.in-Err.fault (g.D.Disk.view c.format.new.disk) (looks (fills_demo c.args.squares.count))
     c.in-Err.ensures.alone c.in-Err.ensures.answers (λ refused. (c.in-Err.ensures.refused refused).content) c.in-Err.ensures.cause)
 
 pub returns-in-Err-clause-formatted : goal.returns-in-Err-clause-formatted
@@ -22,7 +22,7 @@ returns-in-Err-open-clause-goes_on g c = rw c.in_made.ensures.fault (λ old head
     unopened [] 0 old (g.I.Inputs.view c.args.inputs.now) (g.D.Disk.view c.args.disk.now) (g.S.Sink.view c.args.out.now) head
     (λ (now : List ℕ). page_from now 4096 ∷ [])
     (g.D.Disk.view c.format.new.disk) c.in_default.ensures.fresh c.in_default.ensures.cause.later
-    (g.D.Disk.view c.open.new.disk) (fills_demo c.args.count)
+    (g.D.Disk.view c.open.new.disk) (fills_demo c.args.squares.count)
     c.in-Err-open.fault c.in-Err-open.ensures.opens c.in-Err-open.ensures.any.told c.in-Err-open.ensures.any.alone
     c.in-Err-open.ensures.any.cause)
 
@@ -41,7 +41,7 @@ returns-clause-goes_on g c = λ old head.
     (c.over-store.ensures.tells.limits_are ∙ c.standard-limits.ensures.numbers) c.over-store.ensures.tells.whole
     (λ is. (c.over-store.ensures.tells.begun is, c.over-store.ensures.tells.unbegun is)) c.in-Ok.ensures.any.cause
     (λ now. refl) c.in-Ok.ensures.any.same
-    (fills_demo c.args.count)
+    (fills_demo c.args.squares.count)
     (result_err c.fill_demo-done.result) c.fill_demo-done.new.store
     c.disk-1.given.0 (c.disk-1.given.1 (sym c.over-store.ensures.same_disk ∙ sym c.fill_demo-done.ensures.keeps.stays.same_disk
     ∙ sym c.close-disk.ensures.same_disk) ∙ c.close-disk.ensures.disk)

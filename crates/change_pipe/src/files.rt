@@ -1,4 +1,4 @@
-//! The change files that a command appends.
+//! The files that are read.
 ghost use Rattle.std.specs.Prelude.{◌+◌, ◌≤◌};
 
 /// The change files of a command, by the places of their words: so many from the first on.
