@@ -1,5 +1,5 @@
--- The buckets of a transaction in a tree, as a finite map.
-use Rattle.std.proofs.Common.{◌≡◌, ◌≢◌, ◌⊎◌, ◌-◌, ◌<◌, ℕ, Bool, true, cond, List, Option, Some, None, Result, Ok, Err, sym, ap, subst, ◌∙◌}
+-- The buckets of a transaction as a finite map.
+use Rattle.std.proofs.Common.{◌≡◌, ◌≢◌, ◌⊎◌, ◌-◌, ◌<◌, ℕ, Bool, true, cond, Option, Some, None, Result, Ok, Err, sym, ap, ◌∙◌}
 use Rattle.std.proofs.Common.{arith, inl, inr}
 use Rattle.std.proofs.lemmas.Bool.{cases_order}
 use Rattle.std.specs.declared.cmp.Ordering.{Ordering}
@@ -10,18 +10,10 @@ use Rattle.std.specs.Bool.{IsTrue}
 use Rattle.std.specs.Option.{IfSome, IsSome, OnSome, is_some}
 use Rattle.std.specs.Ordering.{nat_cmp, is_eq}
 use Rattle.std.specs.Cmp.{nat_cmp_total}
-use Rattle.std.specs.BTreeMap.{is_at}
-use Rattle.std.specs.Map.{lookup}
 use Rattle.std.specs.FinMap as map
 use Rattle.std.specs.FinMap.{nat_cmp-IsAntisymmetric}
-use Rattle.osm_base.proofs.Found.{found}
 use Rattle.bucket_store.specs.Cache.{CacheMap}
 use Rattle.bucket_store.specs.declared.cache.Cached.{Cached}
-
-pub seen_get : (n : ℕ) (entries : List (ℕ × Cached)) (seen : CacheMap) → map.from_entries entries ≡ seen
-    → lookup (is_at (nat_cmp n)) entries ≡ map.get seen n
-seen_get n entries seen is =
-    found nat_cmp nat_cmp_total nat_cmp-IsAntisymmetric n entries ∙ ap (λ (m : CacheMap). map.get m n) is
 
 pub true_is_some : (b : Bool) (o : Option Cached) → b ≡ is_some o → IsTrue b → IsSome o
 true_is_some b None same is = absurd (cc)
@@ -31,25 +23,14 @@ pub some_is_true : (b : Bool) (o : Option Cached) → b ≡ is_some o → IsSome
 some_is_true b None same some = absurd (cc)
 some_is_true b (Some own) same some = cc
 
-not_none : IsSome {T = Cached} None → ⊥
+pub not_none : IsSome {T = Cached} None → ⊥
 not_none some = absurd (cc)
 
 pub none_own : (own : Cached) → None ≡ Some own → ⊥
 none_own own same = absurd (cc)
 
-some_there : (own : Cached) → IsSome (Some own)
+pub some_there : (own : Cached) → IsSome (Some own)
 some_there own = cc
-
--- what is there is found
-pub none_there : (n : ℕ) (entries : List (ℕ × Cached)) (seen : CacheMap) → map.from_entries entries ≡ seen → IsSome (map.get seen n)
-    → None ≡ lookup (is_at (nat_cmp n)) entries → ⊥
-none_there n entries seen is there none =
-    let same = none ∙ seen_get n entries seen is in
-    absurd (let P : Option Cached → Type 0 = λ o. IsSome o in not_none (subst P (sym same) there))
-
-pub same_there : (n : ℕ) (entries : List (ℕ × Cached)) (seen : CacheMap) (found own : Cached) → map.from_entries entries ≡ seen
-    → Some found ≡ lookup (is_at (nat_cmp n)) entries → map.get seen n ≡ Some own → found ≡ own
-same_there n entries seen found own is there here = same_Some found own (there ∙ seen_get n entries seen is ∙ here)
 
 -- facts that follow at one outcome
 pub on_ok : {T E : Type 0} (r : Result T E) (P Q : Type 0) → OnOk r P → (P → Q) → OnOk r Q
@@ -79,14 +60,6 @@ insert_same seen n own here =
       | inr (inl low) ↦ ap (λ (r : Ordering). cond (is_eq r) (Some own) (map.get seen q)) (less_of q n low)
       | inr (inr high) ↦ ap (λ (r : Ordering). cond (is_eq r) (Some own) (map.get seen q)) (greater_of q n high)
     ])
-
-pub found_is : (n : ℕ) (entries : List (ℕ × Cached)) (found : Cached) → Some found ≡ lookup (is_at (nat_cmp n)) entries
-    → IsSome (lookup (is_at (nat_cmp n)) entries)
-found_is n entries found there = let P : Option Cached → Type 0 = λ o. IsSome o in subst P there (some_there found)
-
-pub seen_there : (n : ℕ) (entries : List (ℕ × Cached)) (seen : CacheMap) (found : Cached) → map.from_entries entries ≡ seen
-    → Some found ≡ lookup (is_at (nat_cmp n)) entries → map.get seen n ≡ Some found
-seen_there n entries seen found is there = sym (there ∙ seen_get n entries seen is)
 
 pub nothing : (seen : CacheMap) (n : ℕ) (own : Cached) → seen ≡ map.empty → map.get seen n ≡ Some own → ⊥
 nothing seen n own none there =

@@ -21,3 +21,5 @@ pub mod Texts
 pub mod TypedLaws
 pub mod Wholes
 pub mod Listings
+pub mod PlaceLaws
+pub mod SlotLaws

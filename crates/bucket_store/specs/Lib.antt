@@ -1,5 +1,7 @@
 pub mod Buckets
 pub mod Cache
+pub mod Places
+pub mod Slots
 pub mod Transaction
 pub mod Committing
 pub mod Image

@@ -3,10 +3,11 @@ ghost use Rattle.std.specs.Prelude.{◌≡◌, ◌↔◌, ℕ, Some, None, true,
 ghost use Rattle.std.specs.FinMap as map;
 ghost use Rattle.bucket_store.specs.Cache.{Becomes, changed_to};
 
+use crate::places::Places;
+use crate::slots::{Slot, own_of, push, slot_of, take_last, take_next};
 use bucket_records::Bucket;
 use osm_base::{Bytes, OutOfMemory};
 use std::alloc::Global;
-use std::collections::BTreeMap;
 use std::marker::Model;
 
 /// A bucket, and whether the transaction has changed it.
@@ -17,8 +18,8 @@ pub struct Cached {
 }
 
 impl Cached {
-    // Sets the value of a key.
-    fn put(&mut self, key: u64, value: &[u8]) -> Result<(), OutOfMemory>
+    /// Sets the value of a key.
+    pub fn put(&mut self, key: u64, value: &[u8]) -> Result<(), OutOfMemory>
         ensures put { Becomes self.old self.new (changed_to self.old (map.insert self.old.bucket.values key value.now)) result }
     {
         match self.bucket.put(key, value) {
@@ -30,8 +31,8 @@ impl Cached {
         }
     }
 
-    // Takes a key out, and answers whether it was there.
-    fn remove(&mut self, key: u64) -> Result<bool, OutOfMemory>
+    /// Takes a key out, and answers whether it was there.
+    pub fn remove(&mut self, key: u64) -> Result<bool, OutOfMemory>
         ensures was { IfOk result (λ was. was ≡ map.contains_key self.old.bucket.values key) }
         ensures taken { IfOk result (λ was. IsTrue was → self.new ≡ changed_to self.old (map.remove self.old.bucket.values key)) }
         ensures none { IfOk result (λ was. was ≡ false → self.new ≡ self.old) }
@@ -50,23 +51,29 @@ impl Cached {
     }
 }
 
-/// Buckets by the numbers of their chains.
+/// Buckets by the numbers of their chains: a table tells where each of them is.
 #[derive(Drop)]
 pub struct Cache {
-    tree: BTreeMap<u32, Cached>,
+    places: Places,
+    slots: Vec<Slot>,
+    // From which number on they are taken out.
+    next: u32,
 }
 
 impl Model for Cache {
     ghost use Rattle.std.specs.Coded.{coded_ℕ};
     ghost use Rattle.std.specs.FinMap as map;
     ghost use Rattle.bucket_store.specs.Cache.{CacheMap};
+    ghost use Rattle.bucket_store.specs.Slots.{ArePlaced, map_of};
     ghost use Rattle.bucket_store.specs.contracts.cache.Cached as cached;
 
     ghost Value = { CacheMap };
 
     ghost coded = { map.code coded_ℕ cached.the_row.coded };
 
-    ghost view = { λ cache. map.from_entries cache.tree.entries };
+    ghost view = { λ cache. map_of cache.slots.items };
+
+    ghost invariant = { λ cache. ArePlaced cache.places cache.slots.items };
 }
 
 impl Cache {
@@ -75,7 +82,9 @@ impl Cache {
         ensures empty { result ≡ map.empty }
     {
         Self {
-            tree: BTreeMap::new(alloc),
+            places: Places::new(alloc),
+            slots: Vec::new(alloc),
+            next: 0,
         }
     }
 
@@ -83,7 +92,7 @@ impl Cache {
     pub fn has(&self, n: u32) -> bool
         ensures { IsTrue result ↔ IsSome (map.get self.now n) }
     {
-        self.tree.contains_key(&n)
+        own_of(&self.places, self.slots.as_slice(), n).is_some()
     }
 
     /// The value of a key in a bucket that is there.
@@ -92,10 +101,10 @@ impl Cache {
         ensures value { (own : Cached) → map.get self.now n ≡ Some own
             → MatchOption result (map.get own.bucket.values key ≡ None) (λ value. map.get own.bucket.values key ≡ Some value.now) }
     {
-        let Some(cached) = self.tree.get(&n) else {
+        let Some(own) = own_of(&self.places, self.slots.as_slice(), n) else {
             unreachable!()
         };
-        cached.bucket.get(key)
+        own.bucket.get(key)
     }
 
     /// The records of a bucket that is there, by rising key.
@@ -103,24 +112,27 @@ impl Cache {
         requires { IsSome (map.get self.now n) }
         ensures records { IfOk result (λ records. (own : Cached) → map.get self.now n ≡ Some own → records.items ≡ map.entries own.bucket.values) }
     {
-        let Some(cached) = self.tree.get(&n) else {
+        let Some(own) = own_of(&self.places, self.slots.as_slice(), n) else {
             unreachable!()
         };
-        cached.bucket.records()
+        own.bucket.records()
     }
 
     /// Puts a bucket beside the others. Where it fails, they are as they were.
     pub fn add(&mut self, n: u32, bucket: Bucket) -> Result<(), OutOfMemory>
         ensures added { Becomes self.old self.new (map.insert self.old n (record { bucket = bucket; changed = false })) result }
     {
-        self.tree.insert(
-            n,
-            Cached {
-                bucket,
-                changed: false,
-            },
-        )?;
-        Ok(())
+        let own = Cached {
+            bucket,
+            changed: false,
+        };
+        match slot_of(&self.places, self.slots.as_slice(), n) {
+            Some(k) => {
+                self.slots[k].own = Some(own);
+                Ok(())
+            }
+            None => push(&mut self.places, &mut self.slots, n, own),
+        }
     }
 
     /// Sets the value of a key in a bucket, and answers whether the bucket is there. Where it is not, or it fails, all is as it was.
@@ -131,11 +143,10 @@ impl Cache {
         ensures none { IfOk result (λ there. there ≡ false → self.new ≡ self.old) }
         ensures err { OnErr result (self.new ≡ self.old) }
     {
-        let Some(cached) = self.tree.get_mut(&n) else {
-            return Ok(false);
-        };
-        cached.put(key, value)?;
-        Ok(true)
+        match slot_of(&self.places, self.slots.as_slice(), n) {
+            Some(k) => self.slots[k].put(key, value),
+            None => Ok(false),
+        }
     }
 
     /// Takes a key out of a bucket that is there, and answers whether it was in it. Where it fails, it is as it was.
@@ -147,18 +158,21 @@ impl Cache {
         ensures none { IfOk result (λ was. was ≡ false → self.new ≡ self.old) }
         ensures err { OnErr result (self.new ≡ self.old) }
     {
-        let Some(cached) = self.tree.get_mut(&n) else {
+        let Some(k) = slot_of(&self.places, self.slots.as_slice(), n) else {
             unreachable!()
         };
-        cached.remove(key)
+        self.slots[k].remove(key)
     }
 
-    /// Takes out a bucket, if there is one.
+    /// Takes out a bucket, if there is one: by rising number, as long as none is added.
     pub fn pop(&mut self) -> Option<(u32, Cached)>
         ensures there { IfSome result (λ (n, own). map.get self.old n ≡ Some own) }
         ensures rest { IfSome result (λ (n, own). self.new ≡ map.remove self.old n) }
         ensures none { IsNone result → self.old ≡ map.empty }
     {
-        self.tree.pop_first()
+        match take_next(&self.places, &mut self.slots, &mut self.next) {
+            Some(first) => Some(first),
+            None => take_last(&mut self.slots, &self.places),
+        }
     }
 }

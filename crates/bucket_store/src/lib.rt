@@ -16,8 +16,10 @@ mod cache;
 mod committing;
 mod laws;
 mod opening;
+mod places;
 mod reading;
 mod resting;
+mod slots;
 mod typed;
 mod whole;
 

@@ -1,56 +1,56 @@
--- What is written through is put at the number; where no bucket is there, nothing is written.
-use Rattle.std.proofs.Common.{ℕ, Option, ap, ◌∙◌}
-use Rattle.std.specs.BTreeMap.{BTreeMap}
-use Rattle.std.specs.Cmp.{nat_cmp_total}
+-- What is put into the bucket of a slot is put at its number.
+use Rattle.std.proofs.Common.{Option, refl, sym, ap, ◌∙◌}
 use Rattle.std.specs.Option.{is_some}
-use Rattle.std.specs.Ordering.{nat_cmp}
-use Rattle.std.specs.FinMap as map
-use Rattle.std.specs.FinMap.{nat_cmp-IsAntisymmetric}
-use Rattle.osm_base.proofs.Found.{inserted}
-use Rattle.bucket_store.specs.Cache.{CacheMap, changed_to}
 use Rattle.bucket_store.specs.declared.cache.Cached.{Cached}
-use Rattle.bucket_store.proofs.Caches.{at_err, none_own, same_there, seen_get, seen_there, found_is, insert_same}
+use Rattle.bucket_store.proofs.Caches.{if_ok, none_own, on_err, on_ok}
+use Rattle.bucket_store.proofs.SlotLaws.{seen_at, seen_none, seen_put, seen_stays, slot_shown, slot_there}
 use Rattle.bucket_store.proofs.cache.Cache.put.Goals as goal
 
-pub returns-in_default-clause-there : goal.returns-in_default-clause-there
-returns-in_default-clause-there c =
-    ap (λ (o : Option Cached). is_some o) (c.in_default.ensures.value
-    ∙ seen_get c.args.n c.self.inside.tree.entries c.args.self.now c.self.view_is)
+pub returns-in-Some-clause-there : goal.returns-in-Some-clause-there
+returns-in-Some-clause-there c =
+    let slots = c.self.inside.slots.items in
+    let slot = c.index_mut.result.now in
+    let at = slot_there c.as_slice.result.now slots c.in-Some.k slot c.as_slice.ensures.value c.in-Some.ensures.there c.index_mut.ensures.value in
+    let number = c.in-Some.ensures.number slot (slot_shown c.as_slice.result.now slots c.in-Some.k slot c.as_slice.ensures.value at) in
+    if_ok c.put.result _ _ c.put.ensures.there (λ there is.
+    is ∙ ap (λ (own : Option Cached). is_some own)
+    (sym (seen_at c.self.inside.places slots c.in-Some.k c.args.n slot c.args.self.now c.self.view_is c.self.invariant at number)))
 
-pub returns-in_default-clause-ok : goal.returns-in_default-clause-ok
-returns-in_default-clause-ok c own here =
-    absurd (none_own own (c.in_default.ensures.value ∙ seen_get c.args.n c.self.inside.tree.entries c.args.self.now c.self.view_is ∙ here))
+pub returns-in-Some-clause-ok : goal.returns-in-Some-clause-ok
+returns-in-Some-clause-ok c =
+    let slots = c.self.inside.slots.items in
+    let slot = c.index_mut.result.now in
+    let at = slot_there c.as_slice.result.now slots c.in-Some.k slot c.as_slice.ensures.value c.in-Some.ensures.there c.index_mut.ensures.value in
+    let number = c.in-Some.ensures.number slot (slot_shown c.as_slice.result.now slots c.in-Some.k slot c.as_slice.ensures.value at) in
+    on_ok c.put.result _ _ c.put.ensures.ok (λ is own here.
+    seen_put c.self.inside.places slots c.in-Some.k c.args.n slot c.put.new.self _ c.args.self.now c.self.view_is c.self.invariant at number
+    c.put.ensures.number
+    (is own (sym (seen_at c.self.inside.places slots c.in-Some.k c.args.n slot c.args.self.now c.self.view_is c.self.invariant at number) ∙ here)))
 
-pub returns-in_default-clause-none : goal.returns-in_default-clause-none
-returns-in_default-clause-none c absent =
-    ap (λ (tree : BTreeMap ℕ Cached). map.from_entries {R = nat_cmp} tree.entries) c.get_mut.follows.holds-at-none ∙ c.self.view_is
+pub returns-in-Some-clause-none : goal.returns-in-Some-clause-none
+returns-in-Some-clause-none c =
+    let slots = c.self.inside.slots.items in
+    let slot = c.index_mut.result.now in
+    let at = slot_there c.as_slice.result.now slots c.in-Some.k slot c.as_slice.ensures.value c.in-Some.ensures.there c.index_mut.ensures.value in
+    if_ok c.put.result _ _ c.put.ensures.none (λ there is absent.
+    seen_stays c.self.inside.places slots c.in-Some.k slot c.put.new.self c.args.self.now c.self.view_is c.self.invariant at
+    c.put.ensures.number (is absent))
 
-pub returns-clause-there : goal.returns-clause-there
-returns-clause-there c =
-    ap (λ (o : Option Cached). is_some o) (c.in-Some.ensures.value
-    ∙ seen_get c.args.n c.self.inside.tree.entries c.args.self.now c.self.view_is)
+pub returns-in-Some-clause-err : goal.returns-in-Some-clause-err
+returns-in-Some-clause-err c =
+    let slots = c.self.inside.slots.items in
+    let slot = c.index_mut.result.now in
+    let at = slot_there c.as_slice.result.now slots c.in-Some.k slot c.as_slice.ensures.value c.in-Some.ensures.there c.index_mut.ensures.value in
+    on_err c.put.result _ _ c.put.ensures.err (λ is.
+    seen_stays c.self.inside.places slots c.in-Some.k slot c.put.new.self c.args.self.now c.self.view_is c.self.invariant at
+    c.put.ensures.number is)
 
-pub returns-clause-ok : goal.returns-clause-ok
-returns-clause-ok c own here =
-    let new = c.put.new.self in
-    let entries = c.self.inside.tree.entries in
-    let there = c.in-Some.ensures.value in
-    let written = (c.get_mut.follows.holds new).3 (found_is c.args.n entries c.in-Some.cached.now there) in
-    inserted nat_cmp nat_cmp_total nat_cmp-IsAntisymmetric c.self.inside.tree (c.get_mut.follows.lender new) c.args.n new written
-    ∙ ap (λ (m : CacheMap). map.insert m c.args.n new) c.self.view_is
-    ∙ ap (λ (it : Cached). map.insert c.args.self.now c.args.n it) (c.in_ok-put.ensures.put
-    ∙ ap (λ (it : Cached). changed_to it (map.insert it.bucket.values c.args.key c.args.value.now))
-    (same_there c.args.n entries c.args.self.now c.in-Some.cached.now own c.self.view_is there here))
+pub returns-in-None-clause-there : goal.returns-in-None-clause-there
+returns-in-None-clause-there c =
+    ap (λ (own : Option Cached). is_some own) (sym (seen_none c.as_slice.result.now c.self.inside.slots.items c.args.n c.args.self.now
+    c.self.view_is c.as_slice.ensures.value (c.in-None.ensures.none refl)))
 
-pub returns-in_err-put-clause-err : goal.returns-in_err-put-clause-err
-returns-in_err-put-clause-err c =
-    let new = c.put.new.self in
-    let entries = c.self.inside.tree.entries in
-    let there = c.in-Some.ensures.value in
-    let written = (c.get_mut.follows.holds new).3 (found_is c.args.n entries c.in-Some.cached.now there) in
-    at_err c.from_residual.result _ (inserted nat_cmp nat_cmp_total nat_cmp-IsAntisymmetric c.self.inside.tree
-    (c.get_mut.follows.lender new) c.args.n new written
-    ∙ ap (λ (m : CacheMap). map.insert m c.args.n new) c.self.view_is
-    ∙ ap (λ (it : Cached). map.insert c.args.self.now c.args.n it) c.in_err-put.ensures.put
-    ∙ insert_same c.args.self.now c.args.n c.in-Some.cached.now
-    (seen_there c.args.n entries c.args.self.now c.in-Some.cached.now c.self.view_is there))
+pub returns-in-None-clause-ok : goal.returns-in-None-clause-ok
+returns-in-None-clause-ok c own here =
+    absurd (none_own own (sym (seen_none c.as_slice.result.now c.self.inside.slots.items c.args.n c.args.self.now
+    c.self.view_is c.as_slice.ensures.value (c.in-None.ensures.none refl)) ∙ here))
