@@ -23,3 +23,4 @@ pub mod Wholes
 pub mod Listings
 pub mod PlaceLaws
 pub mod SlotLaws
+pub mod Bare

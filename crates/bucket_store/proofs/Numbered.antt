@@ -46,7 +46,7 @@ empty_written : (o : Option (List ℕ)) (first : ℕ) → first ≡ 0 → ((byte
 empty_written None first none own = none
 empty_written (Some bytes) first none own = own bytes refl
 
-loaded_none : (o : Option (List ℕ)) (pages : List (List ℕ)) (n first : ℕ) → MatchOption o (first ≡ 0) (λ own. own ≡ [])
+pub loaded_none : (o : Option (List ℕ)) (pages : List (List ℕ)) (n first : ℕ) → MatchOption o (first ≡ 0) (λ own. own ≡ [])
     → LoadedIs pages n first o []
 loaded_none None pages n first is = record { ns = []; has = record { path = is; few = omega arith }; held = refl }
 loaded_none (Some own) pages n first is = sym is
@@ -58,7 +58,7 @@ none_found (one ∷ records) none =
     let here = ap (λ (r : Ordering). cond (is_eq r) (Some one.1) (find nat_cmp one.0 records)) (equal_of one.0 one.0 refl) in
     absurd (cc (here, none one.0))
 
-no_entries : (values : BucketMap) → values ≡ map.empty → map.entries values ≡ []
+pub no_entries : (values : BucketMap) → values ≡ map.empty → map.entries values ≡ []
 no_entries values none = none_found (map.entries values) (λ key.
     sym (map.get-entries values key) ∙ ap (λ (m : BucketMap). map.get m key) none ∙ map.get-empty nat_cmp key)
 
@@ -66,7 +66,7 @@ empty_records : (buckets bucket : ℕ) → IsBucket buckets bucket [] []
 unfolding AreRecords AreOf records_bytes
 empty_records buckets bucket = record { rise = tt; own = tt; bytes_are = refl }
 
-empty_bucket : (buckets bucket : ℕ) (values : BucketMap) → values ≡ map.empty → IsBucket buckets bucket [] (map.entries values)
+pub empty_bucket : (buckets bucket : ℕ) (values : BucketMap) → values ≡ map.empty → IsBucket buckets bucket [] (map.entries values)
 empty_bucket buckets bucket values none =
     subst (λ (l : List (ℕ × List ℕ)). IsBucket buckets bucket [] l) (sym (no_entries values none)) (empty_records buckets bucket)
 

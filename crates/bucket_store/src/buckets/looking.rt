@@ -1,6 +1,7 @@
 //! The buckets of an open store are read and looked at.
-ghost use Rattle.std.specs.Prelude.{◌≡◌, ◌%◌, ◌≤◌, ◌<◌, List, ℕ, None, Some, false, IfOk, IsSome, OnOk, MatchOption};
+ghost use Rattle.std.specs.Prelude.{◌≡◌, ◌↔◌, ◌%◌, ◌≤◌, ◌<◌, List, ℕ, None, Some, false, IfOk, IsSome, IsTrue, OnOk, MatchOption};
 ghost use Rattle.std.specs.FinMap as finite;
+ghost use Rattle.chain_store.specs.Chains.{first_of};
 ghost use Rattle.chain_store.specs.Directories.{IsString};
 ghost use Rattle.bucket_store.specs.Buckets.{IsBucketChain, bucket_count};
 ghost use Rattle.bucket_records.specs.Records.{BucketMap};
@@ -15,7 +16,7 @@ use value_bytes::StoreMap;
 impl<'d, D: Disk> Buckets<'d, D> {
     ghost use Rattle.bucket_store.specs.Calls.{BringsOnly, BringsThere, GetsBytes, GetsRecords, GetsText, Touches, TouchesChain};
     ghost use Rattle.bucket_store.specs.Image.{Has, Image, IsBucketOf};
-    ghost use Rattle.bucket_store.specs.Transaction.{Content, IsReady, IsReadyAt, IsThere, bucket_at, has_refused};
+    ghost use Rattle.bucket_store.specs.Transaction.{Content, IsReady, IsReadyAt, IsThere, bucket_at, cached_of, chains_of, has_refused};
     ghost use Rattle.value_bytes.specs.StoreMap.{number_of};
 
     /// Reads the bucket of a key, where the transaction has not done so: then its values can be looked at.
@@ -39,12 +40,32 @@ impl<'d, D: Disk> Buckets<'d, D> {
         self.cache.value(self.chain_of(map, key), key)
     }
 
+    /// Whether the bucket of a key is known to have no values: the store has no page of it, and the transaction does not have it.
+    /// Reads nothing.
+    pub fn is_bare(&self, map: StoreMap, key: u64) -> bool
+        requires ready { IsReady self.now }
+        ensures exact { IsTrue result ↔ ((first_of (chains_of self.now) (bucket_at self.now (number_of map) key) ≡ 0)
+            × (finite.get (cached_of self.now) (bucket_at self.now (number_of map) key) ≡ None)) }
+        ensures none { IsTrue result → (pages : List (List ℕ)) (values : BucketMap) → Content pages self.now (bucket_at self.now (number_of map) key) values
+            → values ≡ finite.empty }
+        ensures found { IsTrue result → (rest now : Image) → Has rest now self.now → finite.get (now.maps (number_of map)) key ≡ None }
+    {
+        let n = self.chain_of(map, key);
+        if self.chains.first_page(n) != 0 {
+            return false;
+        }
+        !self.cache.has(n)
+    }
+
     /// The value of a key in a map.
     pub fn get(&mut self, map: StoreMap, key: u64) -> Result<Option<Bytes>, StoreFault>
         requires ready { IsReady self.old }
         ensures bytes { GetsBytes (number_of map) key self.old self.new result }
         ensures touches { Touches (number_of map) key self.old self.new result }
     {
+        if self.is_bare(map, key) {
+            return Ok(None);
+        }
         if let Err(fault) = self.bring(map, key) {
             return Err(fault);
         }
@@ -79,6 +100,9 @@ impl<'d, D: Disk> Buckets<'d, D> {
         ensures records { GetsRecords (number_of map) key self.old self.new result }
         ensures touches { Touches (number_of map) key self.old self.new result }
     {
+        if self.is_bare(map, key) {
+            return Ok(Vec::new(self.alloc));
+        }
         if let Err(fault) = self.bring(map, key) {
             return Err(fault);
         }
