@@ -142,8 +142,12 @@ impl Bucket {
 fn recorded<'a>(records: &'a Records, key: u64) -> Option<&'a [u8]>
     ensures { MatchOption result (map.get (map_of records.now) key ≡ None) (λ value. map.get (map_of records.now) key ≡ Some value.now) }
 {
+    let count = records.len();
+    if records.are_below(key) {
+        return None;
+    }
     let (place, rest) = seek(records, key);
-    if place >= records.len() {
+    if place >= count {
         return None;
     }
     let (own, value, _) = records.front(place, rest);
