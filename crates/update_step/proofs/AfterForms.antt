@@ -29,7 +29,7 @@ lower-untouched key last (entry ∷ entries) below rise =
     let here : is_below key entry.key ≡ true = below_all key last entry.key below rise.1 in
     (apart (key_cmp key entry.key) here, lower-untouched key entry.key entries here rise.2)
 
-last-untouched : (key : KeyOf) (entries : List Entry) → RiseFrom (Some key) entries → Untouched key entries
+pub last-untouched : (key : KeyOf) (entries : List Entry) → RiseFrom (Some key) entries → Untouched key entries
 last-untouched key [] rise = tt
 last-untouched key (entry ∷ entries) rise = (apart (key_cmp key entry.key) rise.1, lower-untouched key entry.key entries rise.1 rise.2)
 

@@ -1,47 +1,62 @@
 -- Answers that are kept, one more and many more.
-use Rattle.std.proofs.Common.{◌≡◌, ◌<◌, ℕ, ◌+◌, true, false, cond, List, [], ◌∷◌, ◌++◌, get_or, length, take, Option}
+use Rattle.std.proofs.Common.{◌≡◌, ◌<◌, ℕ, ◌+◌, true, false, cond, List, [], ◌∷◌, ◌++◌, get_or, length, take, Option, None}
 use Rattle.std.proofs.Common.{Some, refl, sym, ap, subst, ◌∙◌}
 use mathlib.Core.Bool.{false≢true}
+use Rattle.std.specs.Prelude.{IfSome}
 use Rattle.std.specs.Cmp.{IsTotalOrder, Equal-is, nat_cmp_total}
 use Rattle.std.specs.declared.cmp.Ordering.{Ordering}
-use Rattle.std.specs.FinMap as finite
 use Rattle.std.specs.FinMap.{IsAntisymmetric, nat_cmp-IsAntisymmetric}
-use Rattle.std.specs.Option.{is_some, unwrap_or}
-use Rattle.std.specs.Ordering.{eq_by_cmp, nat_cmp}
+use Rattle.std.specs.Option.{is_some, option_map, option_or, unwrap_or}
+use Rattle.std.specs.Ordering.{eq_by_cmp}
 use Rattle.std.proofs.lemmas.List.{take_more}
 use Rattle.std.proofs.lemmas.Cmp.{tied_itself}
+use Rattle.osm_base.specs.declared.values.object.Entry.{Entry}
 use Rattle.osm_base.specs.declared.values.object.Object.{Object}
 use Rattle.osm_base.specs.map.Known.{Known}
-use Rattle.osm_base.specs.values.Key.{KeyOf}
-use Rattle.osm_base.specs.values.KeyOrder.{key_cmp}
+use Rattle.osm_base.specs.map.Objects.{place_in}
+use Rattle.osm_base.specs.values.Key.{KeyOf, node_key}
 use Rattle.osm_base.specs.values.Place.{PlaceOf}
 use Rattle.osm_base.proofs.KeyLaws.{key_cmp_total, key_cmp-IsAntisymmetric}
 use Rattle.update_step.specs.Gather.{AlongWay, AreAsked, AroundNode, Ask, AtNode, Gathered, Gathers, Grows, IsRight, OfKey, Same, joined}
-use Rattle.update_step.specs.Gather.{known_in, nothing_gathered, was_asked, with_along, with_around, with_form, with_place}
+use Rattle.update_step.specs.Gather.{known_in, said_by, was_asked, with_along, with_answer, with_around, with_form, with_place}
+use Rattle.update_step.specs.Named.{AreKnown, IsKnown, named_in}
 
--- a map with one answer more
-module _ {K X : Type 0} {R : K → K → Ordering} (total : IsTotalOrder R) (same : IsAntisymmetric R) (values : finite.FinMap R X) (key : K)
+-- answers with one more
+module _ {K X : Type 0} {R : K → K → Ordering} (total : IsTotalOrder R) (same : IsAntisymmetric R) (answers : K → Option X) (key : K)
     (value : X) where
   put_right : {Y : Type 0} (view : Option X → Y) (to : K → Y) → view (Some value) ≡ to key → (other : K)
-      → (is_some (finite.get values other) ≡ true → view (finite.get values other) ≡ to other)
-      → is_some (finite.get (finite.insert values key value) other) ≡ true
-      → view (finite.get (finite.insert values key value) other) ≡ to other
-  put_right view to is other right = subst (λ found. is_some found ≡ true → view found ≡ to other)
-      (sym (finite.get-insert total values key value other))
-      (elim (eq_by_cmp R other key) as (λ b. eq_by_cmp R other key ≡ b → is_some (cond b (Some value) (finite.get values other)) ≡ true
-      → view (cond b (Some value) (finite.get values other)) ≡ to other) [
+      → (is_some (answers other) ≡ true → view (answers other) ≡ to other)
+      → is_some (with_answer R answers key value other) ≡ true → view (with_answer R answers key value other) ≡ to other
+  put_right view to is other right =
+      elim (eq_by_cmp R other key) as (λ b. eq_by_cmp R other key ≡ b → is_some (cond b (Some value) (answers other)) ≡ true
+      → view (cond b (Some value) (answers other)) ≡ to other) [
         | true ↦ λ tied _. is ∙ ap to (sym (same other key ((Equal-is (R other key)).0 tied)))
         | false ↦ λ _. right
-      ] refl)
+      ] refl
 
-  put_grows : (other : K) → is_some (finite.get values other) ≡ true → is_some (finite.get (finite.insert values key value) other) ≡ true
-  put_grows other there = subst (λ found. is_some found ≡ true) (sym (finite.get-insert total values key value other))
-      (elim (eq_by_cmp R other key) as (λ b. is_some (cond b (Some value) (finite.get values other)) ≡ true)
-      [ true ↦ refl | false ↦ there ])
+  put_grows : (other : K) → is_some (answers other) ≡ true → is_some (with_answer R answers key value other) ≡ true
+  put_grows other there = elim (eq_by_cmp R other key) as (λ b. is_some (cond b (Some value) (answers other)) ≡ true)
+      [ true ↦ refl | false ↦ there ]
 
-  put_there : is_some (finite.get (finite.insert values key value) key) ≡ true
-  put_there = subst (λ found. is_some found ≡ true) (sym (finite.get-insert total values key value key))
-      (ap (λ b. is_some (cond b (Some value) (finite.get values key))) ((Equal-is (R key key)).1 (tied_itself total key)))
+  put_there : is_some (with_answer R answers key value key) ≡ true
+  put_there = ap (λ b. is_some (cond b (Some value) (answers key))) ((Equal-is (R key key)).1 (tied_itself total key))
+
+  -- where others go before them, and do not say it yet
+  pub before-put : (before new : K → Option X) → is_some (option_or (before key) (answers key)) ≡ false
+      → ((other : K) → new other ≡ with_answer R answers key value other) → (other : K)
+      → option_or (before other) (new other) ≡ with_answer R (λ own. option_or (before own) (answers own)) key value other
+  before-put before new anew is other =
+      ap (option_or (before other)) (is other)
+      ∙ elim (eq_by_cmp R other key) as (λ b. eq_by_cmp R other key ≡ b → option_or (before other) (cond b (Some value) (answers other))
+      ≡ cond b (Some value) (option_or (before other) (answers other))) [
+        | true ↦ λ tied. ap (λ own. option_or (before own) (Some value)) (same other key ((Equal-is (R other key)).0 tied))
+            ∙ ap (λ found. option_or found (Some value)) (none-before (before key) (answers key) anew)
+        | false ↦ λ _. refl
+      ] refl
+    where
+      none-before : (one two : Option X) → is_some (option_or one two) ≡ false → one ≡ None
+      none-before None two none = refl
+      none-before (Some found) two none = absurd (false≢true (sym none))
 
 abbrev listed : Option (List ℕ) → List ℕ
 listed found = unwrap_or found []
@@ -180,12 +195,22 @@ next-gathers to first second third asks at ask default below is one other =
     subst (Gathers to first third) (sym (take_more asks at default below ∙ ap (λ own. take at asks ++ own ∷ []) (sym is)))
     (then-gathers to first second third (take at asks) (ask ∷ []) one other)
 
--- by nothing nothing is said
-never-asked : (ask : Ask) → was_asked nothing_gathered ask ≡ false
-never-asked (AtNode id) = ap is_some (finite.get-empty nat_cmp id)
-never-asked (OfKey own) = ap is_some (finite.get-empty key_cmp own)
-never-asked (AlongWay id) = ap is_some (finite.get-empty nat_cmp id)
-never-asked (AroundNode id) = ap is_some (finite.get-empty nat_cmp id)
+-- what a change says is right, where it is known
+pub said-right : (to : Known) (change : List Entry) → AreKnown to change → IsRight (said_by change) to
+said-right to change known = right
+  where
+    place-said : (id : ℕ) (said : Option (Option Object)) → IfSome said (IsKnown to (node_key id))
+        → is_some (option_map place_in said) ≡ true → joined (option_map place_in said) ≡ to.place id
+    place-said id None is said = absurd (false≢true said)
+    place-said id (Some object) is said = sym (is.placed refl)
 
-pub nothing-right : (to : Known) → IsRight nothing_gathered to
-nothing-right to ask asked = absurd (false≢true (sym (never-asked ask) ∙ asked))
+    form-said : (own : KeyOf) (said : Option (Option Object)) → IfSome said (IsKnown to own) → is_some said ≡ true
+        → joined said ≡ to.object own
+    form-said own None is said = absurd (false≢true said)
+    form-said own (Some object) is said = sym is.form
+
+    right : IsRight (said_by change) to
+    right (AtNode id) said = place-said id (named_in change (node_key id)) (known (node_key id)) said
+    right (OfKey own) said = form-said own (named_in change own) (known own) said
+    right (AlongWay id) said = absurd (false≢true said)
+    right (AroundNode id) said = absurd (false≢true said)

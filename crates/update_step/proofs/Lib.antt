@@ -15,6 +15,7 @@ pub mod NewEntries
 pub mod Parts
 pub mod PendingKeys
 pub mod RowsStill
+pub mod Said
 pub mod Touching
 pub mod Trees
 pub mod Unknown

@@ -8,10 +8,12 @@ use Rattle.std.specs.Cmp.{Equal-is, eq_by_cmp_equiv}
 use Rattle.std.specs.FinMap as finite
 use Rattle.std.proofs.lemmas.List.{get_or_default}
 use Rattle.std.specs.List.{fold}
+use Rattle.std.specs.Option.{unwrap_or}
 use Rattle.std.specs.Ordering.{eq_by_cmp, is_eq, is_lt, ordering_reverse}
 use Rattle.osm_base.specs.declared.values.key.Kind.{Kind}
 use Rattle.osm_base.specs.declared.values.key.Kind.TheVariants.{Relation}
 use Rattle.osm_base.specs.declared.values.object.Entry.{Entry}
+use Rattle.osm_base.specs.declared.values.object.Object.{Object}
 use Rattle.osm_base.specs.map.Listers.{ids_of, is_kind, lists}
 use Rattle.osm_base.specs.map.Objects.{ObjectSet, folded, folded_all}
 use Rattle.osm_base.specs.values.Key.{KeyOf}
@@ -21,7 +23,8 @@ use Rattle.object_fold.specs.Change.{IsChange, RiseFrom}
 use Rattle.object_fold.proofs.FoldLaws.{Untouched, get-untouched, get-with_object}
 use Rattle.object_fold.proofs.IndexOf.{ids_of-rise, listers-are}
 use Rattle.object_fold.proofs.Listers.{has-ids_of, untied-kinds}
-use Rattle.update_step.specs.NewObjects.{key_in, key_named, no_entry, relation_folded, relations_folded}
+use Rattle.update_step.specs.Named.{key_in, key_named, named_in, no_entry}
+use Rattle.update_step.specs.NewObjects.{relation_folded, relations_folded}
 use Rattle.update_step.proofs.NamedKeys.{above_apart, at_above, below_all, less_is}
 
 -- How keys compare.
@@ -85,17 +88,12 @@ module _ (entries : List Entry) (rise : IsChange entries) (key : KeyOf) where
   untouched_of [] each = tt
   untouched_of (entry ∷ own) each = (each 0 (omega arith), untouched_of own (λ k inside. each (suc k) (omega (arith, inside))))
 
-  -- the key is none of theirs
-  pub get_none : ((k : ℕ) → k < length entries → eq_by_cmp key_cmp key (key_in entries k) ≡ false)
-      → finite.get (folded_all finite.empty entries) key ≡ None
-  get_none each = get-untouched finite.empty entries key (untouched_of entries each) ∙ finite.get-empty key_cmp key
-
   -- the first entries have lower keys, and the one behind them, if there is one, another
-  pub get_apart : (place : ℕ) → ((k : ℕ) → k < place → is_below (key_in entries k) key ≡ true)
+  pub untouched_apart : (place : ℕ) → ((k : ℕ) → k < place → is_below (key_in entries k) key ≡ true)
       → (place < length entries → is_below (key_in entries place) key ≡ false)
       → (place < length entries → eq_by_cmp key_cmp key (key_in entries place) ≡ false)
-      → finite.get (folded_all finite.empty entries) key ≡ None
-  get_apart place below from apart = get_none (λ k inside. elim (three k place) [
+      → Untouched key entries
+  untouched_apart place below from apart = untouched_of entries (λ k inside. elim (three k place) [
     | inl less ↦ above_apart (key_in entries k) key (below k less)
     | inr (inl same) ↦ ap (λ (n : ℕ). eq_by_cmp key_cmp key (key_in entries n)) same ∙ apart (omega (arith, same, inside))
     | inr (inr more) ↦
@@ -121,23 +119,58 @@ untouched_from : (key : KeyOf) (entries : List Entry) → RiseFrom (Some key) en
 untouched_from key [] rise = tt
 untouched_from key (entry ∷ entries) rise = (below_apart key entry.key rise.1, untouched_above key entry.key entries rise.1 rise.2)
 
-get_from : (objects : ObjectSet) (last : Option KeyOf) (entries : List Entry) (at : ℕ) → RiseFrom last entries → at < length entries
-    → finite.get (folded_all objects entries) (key_in entries at) ≡ (slice_index_or entries at no_entry).object
-get_from objects last [] at rise inside = absurd (omega (arith, inside))
-get_from objects last (entry ∷ entries) zero rise inside =
-    get-untouched (folded objects entry) entries entry.key (untouched_from entry.key entries rise.2)
+get_first : (objects : ObjectSet) (entry : Entry) (entries : List Entry) → RiseFrom (Some entry.key) entries
+    → finite.get (folded_all (folded objects entry) entries) entry.key ≡ entry.object
+get_first objects entry entries rise =
+    get-untouched (folded objects entry) entries entry.key (untouched_from entry.key entries rise)
     ∙ get-with_object objects entry.key entry.object entry.key
     ∙ ap (λ (b : Bool). cond b entry.object (finite.get objects entry.key)) ((eq_by_cmp_equiv key_cmp_total).refl entry.key)
-get_from objects last (entry ∷ entries) (suc at) rise inside =
-    get_from (folded objects entry) (Some entry.key) entries at rise.2 (omega (arith, inside))
 
--- the entry of the key has its object
-pub get_here : (entries : List Entry) (at : ℕ) (key : KeyOf) → IsChange entries → at < length entries
+-- the object of a key is what they say of it, where they name it
+get_named : (objects : ObjectSet) (last : Option KeyOf) (entries : List Entry) (key : KeyOf) → RiseFrom last entries
+    → finite.get (folded_all objects entries) key ≡ unwrap_or (named_in entries key) (finite.get objects key)
+get_named objects last [] key rise = refl
+get_named objects last (entry ∷ entries) key rise =
+    elim (eq_by_cmp key_cmp key entry.key) as (λ b. eq_by_cmp key_cmp key entry.key ≡ b
+    → finite.get (folded_all (folded objects entry) entries) key
+    ≡ unwrap_or (cond b (Some entry.object) (named_in entries key)) (finite.get objects key)) [
+      | true ↦ λ same. ap (finite.get (folded_all (folded objects entry) entries)) (same_key key entry.key same)
+          ∙ get_first objects entry entries rise.2
+      | false ↦ λ apart. get_named (folded objects entry) (Some entry.key) entries key rise.2
+          ∙ ap (unwrap_or (named_in entries key)) (get-with_object objects entry.key entry.object key
+          ∙ ap (λ (b : Bool). cond b entry.object (finite.get objects key)) apart)
+    ] refl
+
+pub get_made : (entries : List Entry) (key : KeyOf) (found : Option (Option Object)) → IsChange entries → named_in entries key ≡ found
+    → finite.get (folded_all finite.empty entries) key ≡ unwrap_or found None
+get_made entries key found rise is =
+    get_named finite.empty None entries key rise ∙ ap (unwrap_or (named_in entries key)) (finite.get-empty key_cmp key)
+    ∙ ap (λ (own : Option (Option Object)). unwrap_or own None) is
+
+-- What entries say of a key.
+
+pub named_none : (entries : List Entry) (key : KeyOf) → Untouched key entries → named_in entries key ≡ None
+named_none [] key untouched = refl
+named_none (entry ∷ entries) key untouched =
+    ap (λ (b : Bool). cond b (Some entry.object) (named_in entries key)) untouched.0 ∙ named_none entries key untouched.1
+
+named_from : (last : Option KeyOf) (entries : List Entry) (at : ℕ) → RiseFrom last entries → at < length entries
+    → named_in entries (key_in entries at) ≡ Some (slice_index_or entries at no_entry).object
+named_from last [] at rise inside = absurd (omega (arith, inside))
+named_from last (entry ∷ entries) zero rise inside =
+    ap (λ (b : Bool). cond b (Some entry.object) (named_in entries entry.key)) ((eq_by_cmp_equiv key_cmp_total).refl entry.key)
+named_from last (entry ∷ entries) (suc at) rise inside =
+    let lt : at < length entries = omega (arith, inside) in
+    ap (λ (b : Bool). cond b (Some entry.object) (named_in entries (key_in entries at)))
+    (above_apart entry.key (key_in entries at) (at_above entry.key entries at no_entry rise.2 lt))
+    ∙ named_from (Some entry.key) entries at rise.2 lt
+
+-- the entry of the key says it
+pub named_here : (entries : List Entry) (at : ℕ) (key : KeyOf) → IsChange entries → at < length entries
     → eq_by_cmp key_cmp key (key_in entries at) ≡ true
-    → finite.get (folded_all finite.empty entries) key ≡ (slice_index_or entries at no_entry).object
-get_here entries at key rise inside same =
-    ap (λ (k : KeyOf). finite.get (folded_all finite.empty entries) k) (same_key key (key_in entries at) same)
-    ∙ get_from finite.empty None entries at rise inside
+    → named_in entries key ≡ Some (slice_index_or entries at no_entry).object
+named_here entries at key rise inside same =
+    ap (named_in entries) (same_key key (key_in entries at) same) ∙ named_from None entries at rise inside
 
 -- Relations by themselves.
 

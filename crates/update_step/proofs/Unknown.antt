@@ -198,7 +198,7 @@ module _ (id : ℕ) where
       by kinds.Way apart = refl
       by kinds.Relation apart = refl
 
-  stays-kept : (entries : List Entry) (maps : Maps) → Untouched (node_key id) entries
+  pub stays-kept : (entries : List Entry) (maps : Maps) → Untouched (node_key id) entries
       → finite.get (change_on maps entries).nodes id ≡ finite.get maps.nodes id
   stays-kept [] maps none = refl
   stays-kept (entry ∷ entries) maps none =

@@ -5,38 +5,50 @@
 use Rattle.std.specs.Prelude.{◌≡◌, ℕ, Bool, true, List, [], ◌∷◌, ◌++◌, map, if◌then◌else◌, Option, None, Some}
 use Rattle.std.specs.FinMap as finite
 use Rattle.std.specs.List.{AllByRecursion, flat_map}
-use Rattle.std.specs.Option.{is_some, unwrap_or}
-use Rattle.std.specs.Ordering.{nat_cmp}
+use Rattle.std.specs.Option.{is_some, option_map, option_or, unwrap_or}
+use Rattle.std.specs.Ordering.{eq_by_cmp, nat_cmp}
+use Rattle.std.specs.declared.cmp.Ordering.{Ordering}
 use Rattle.osm_base.specs.declared.values.key.Kind.TheVariants as kinds
+use Rattle.osm_base.specs.declared.values.object.Entry.{Entry}
 use Rattle.osm_base.specs.declared.values.object.Member.{Member}
 use Rattle.osm_base.specs.declared.values.object.Object.{Object}
 use Rattle.osm_base.specs.declared.values.object.Object.TheVariants.{Way, Relation}
 use Rattle.osm_base.specs.map.Known.{Known}
 use Rattle.osm_base.specs.map.Listers.{is_kind}
-use Rattle.osm_base.specs.values.Key.{KeyOf, relation_key}
+use Rattle.osm_base.specs.map.Objects.{place_in}
+use Rattle.osm_base.specs.values.Key.{KeyOf, node_key, relation_key}
 use Rattle.osm_base.specs.values.KeyOrder.{key_cmp}
 use Rattle.osm_base.specs.values.Place.{PlaceOf}
 use Rattle.style_read.specs.Style.{StyleOf}
-use Rattle.object_fold.specs.Listing.{ListingOf}
 use Rattle.row_map.specs.Wanted.{may_have_rows}
+use Rattle.update_step.specs.Named.{named_in}
 use Rattle.update_step.specs.declared.answers.Answers.{Answers}
 pub use Rattle.update_step.specs.declared.asks.Ask.{Ask}
 pub use Rattle.update_step.specs.declared.asks.Ask.TheVariants.{AlongWay, AroundNode, AtNode, OfKey}
 
--- the answers that are kept: that there is nothing is an answer too
+-- the answers that are there: that there is nothing is an answer too
 pub record Gathered : Type 0 where
-  pub places : finite.FinMap nat_cmp (Option PlaceOf)
-  pub forms : finite.FinMap key_cmp (Option Object)
-  pub along_ways : ListingOf
-  pub around_nodes : ListingOf
+  pub places : ℕ → Option (Option PlaceOf)
+  pub forms : KeyOf → Option (Option Object)
+  pub along_ways : ℕ → Option (List ℕ)
+  pub around_nodes : ℕ → Option (List ℕ)
 
--- those of trees
+-- what a change says is an answer, and nothing else is one
+abbrev pub said_by : List Entry → Gathered
+said_by change = record {
+  places = λ id. option_map place_in (named_in change (node_key id));
+  forms = named_in change;
+  along_ways = λ id. None;
+  around_nodes = λ id. None;
+}
+
+-- what the change says of a key goes before what is kept in trees
 abbrev pub gathered_in : Answers → Gathered
 gathered_in answers = record {
-  places = finite.from_entries answers.places.entries;
-  forms = finite.from_entries answers.forms.entries;
-  along_ways = finite.from_entries answers.along_ways.entries;
-  around_nodes = finite.from_entries answers.around_nodes.entries;
+  places = λ id. option_or ((said_by answers.change.now).places id) (finite.get (finite.from_entries {R = nat_cmp} answers.places.entries) id);
+  forms = λ own. option_or (named_in answers.change.now own) (finite.get (finite.from_entries {R = key_cmp} answers.forms.entries) own);
+  along_ways = finite.get (finite.from_entries {R = nat_cmp} answers.along_ways.entries);
+  around_nodes = finite.get (finite.from_entries {R = nat_cmp} answers.around_nodes.entries);
 }
 
 abbrev pub joined : {X : Type 0} → Option (Option X) → Option X
@@ -46,10 +58,10 @@ joined None = None
 -- what is known by these answers
 abbrev pub known_in : Gathered → Known
 known_in gathered = record {
-  place = λ id. joined (finite.get gathered.places id);
-  object = λ own. joined (finite.get gathered.forms own);
-  relations_of_way = λ id. unwrap_or (finite.get gathered.along_ways id) [];
-  relations_of_node = λ id. unwrap_or (finite.get gathered.around_nodes id) [];
+  place = λ id. joined (gathered.places id);
+  object = λ own. joined (gathered.forms own);
+  relations_of_way = λ id. unwrap_or (gathered.along_ways id) [];
+  relations_of_node = λ id. unwrap_or (gathered.around_nodes id) [];
 }
 
 -- two know the same of it
@@ -59,11 +71,12 @@ Same one other (OfKey own) = one.object own ≡ other.object own
 Same one other (AlongWay id) = one.relations_of_way id ≡ other.relations_of_way id
 Same one other (AroundNode id) = one.relations_of_node id ≡ other.relations_of_node id
 
+-- what needs not be asked any more
 abbrev pub was_asked : Gathered → Ask → Bool
-was_asked gathered (AtNode id) = is_some (finite.get gathered.places id)
-was_asked gathered (OfKey own) = is_some (finite.get gathered.forms own)
-was_asked gathered (AlongWay id) = is_some (finite.get gathered.along_ways id)
-was_asked gathered (AroundNode id) = is_some (finite.get gathered.around_nodes id)
+was_asked gathered (AtNode id) = is_some (gathered.places id)
+was_asked gathered (OfKey own) = is_some (gathered.forms own)
+was_asked gathered (AlongWay id) = is_some (gathered.along_ways id)
+was_asked gathered (AroundNode id) = is_some (gathered.around_nodes id)
 
 -- each answer is right
 abbrev pub IsRight : Gathered → Known → Type 0
@@ -128,18 +141,17 @@ pub record Gathers (to : Known) (old new : Gathered) (asks : List Ask) : Type 0 
   pub asked : AreAsked new asks
 
 -- one answer more
+abbrev pub with_answer : {K X : Type 0} → (K → K → Ordering) → (K → Option X) → K → X → K → Option X
+with_answer order answers key value own = if eq_by_cmp order own key then Some value else answers own
+
 abbrev pub with_place : Gathered → ℕ → Option PlaceOf → Gathered
-with_place gathered id place = record gathered { places = finite.insert gathered.places id place }
+with_place gathered id place = record gathered { places = with_answer nat_cmp gathered.places id place }
 
 abbrev pub with_form : Gathered → KeyOf → Option Object → Gathered
-with_form gathered own form = record gathered { forms = finite.insert gathered.forms own form }
+with_form gathered own form = record gathered { forms = with_answer key_cmp gathered.forms own form }
 
 abbrev pub with_along : Gathered → ℕ → List ℕ → Gathered
-with_along gathered id ids = record gathered { along_ways = finite.insert gathered.along_ways id ids }
+with_along gathered id ids = record gathered { along_ways = with_answer nat_cmp gathered.along_ways id ids }
 
 abbrev pub with_around : Gathered → ℕ → List ℕ → Gathered
-with_around gathered id ids = record gathered { around_nodes = finite.insert gathered.around_nodes id ids }
-
--- nothing was asked
-abbrev pub nothing_gathered : Gathered
-nothing_gathered = record { places = finite.empty; forms = finite.empty; along_ways = finite.empty; around_nodes = finite.empty }
+with_around gathered id ids = record gathered { around_nodes = with_answer nat_cmp gathered.around_nodes id ids }

@@ -5,6 +5,7 @@ pub mod Gather
 pub mod Importing
 pub mod Lacking
 pub mod Looks
+pub mod Named
 pub mod NewObjects
 pub mod Old
 pub mod Rounds

@@ -116,7 +116,7 @@ fn add_parts_of(
     style: &Style,
     reaches: bool,
     key: Key,
-    answers: &Answers,
+    answers: &Answers<'_>,
 ) -> Result<(), OutOfMemory>
     ensures added { OnOk result (asks.new.items ≡ asks.old.items ++ parts_of style.now reaches (known_in (gathered_in answers.now)) key) }
 {
@@ -138,7 +138,7 @@ fn add_relations(asks: &mut Vec<Ask>, ids: &[u64]) -> Result<(), OutOfMemory>
 }
 
 /// Adds what an answer leads to: of a way its nodes, of a list of relations these.
-fn add_behind(asks: &mut Vec<Ask>, ask: Ask, answers: &Answers) -> Result<(), OutOfMemory>
+fn add_behind(asks: &mut Vec<Ask>, ask: Ask, answers: &Answers<'_>) -> Result<(), OutOfMemory>
     ensures added { OnOk result (asks.new.items ≡ asks.old.items ++ asks_behind (known_in (gathered_in answers.now)) ask) }
 {
     match ask {
@@ -169,7 +169,7 @@ pub(crate) fn of_parts(
     style: &Style,
     reaches: bool,
     keys: &[Key],
-    answers: &Answers,
+    answers: &Answers<'_>,
 ) -> Result<Vec<Ask>, OutOfMemory>
     ensures asks { IfOk result (λ asks. asks.items ≡ flat_map (parts_of style.now reaches (known_in (gathered_in answers.now))) keys.now) }
 {
@@ -184,7 +184,7 @@ pub(crate) fn of_parts(
 pub(crate) fn behind(
     alloc: Global,
     asks: &[Ask],
-    answers: &Answers,
+    answers: &Answers<'_>,
 ) -> Result<Vec<Ask>, OutOfMemory>
     ensures asks { IfOk result (λ more. more.items ≡ flat_map (asks_behind (known_in (gathered_in answers.now))) asks.now) }
 {

@@ -64,7 +64,7 @@ pub fn change_maps<S: MapStore, R: Threads + Sync, G: Gate>(
     match keys_due(alloc, store, style, change, &old, limits) {
         Ok(set) => {
             let pending = PendingKeys { set };
-            rebuild(hands, store, style, bounds, &pending, lacking, due)
+            rebuild(hands, store, style, bounds, &pending, change, lacking, due)
         }
         Err(why) => Err(why),
     }

@@ -5,12 +5,14 @@ ghost use Rattle.store_maps.specs.Maps.{Maps};
 ghost use Rattle.store_maps.specs.Named.{known_on};
 ghost use Rattle.update_step.specs.Gather.{AreAsked, Gathers, IsRight, all_needs, gathered_in};
 ghost use Rattle.update_step.specs.Looks.{Looks};
+ghost use Rattle.update_step.specs.Named.{AreKnown};
 ghost use Rattle.update_step.specs.Touch.{MayAsk, MayAskAll};
 
 use crate::StepFault;
 use crate::answers::Answers;
 use crate::asks::{Ask, behind, of_keys, of_parts};
 use crate::listers::Listers;
+use object_fold::Change;
 use osm_base::Key;
 use std::alloc::Global;
 use store_maps::MapStore;
@@ -19,7 +21,7 @@ use style_read::Style;
 /// Asks a store, unless the answer is there.
 fn ask_one<S: MapStore>(
     store: &mut S,
-    answers: &mut Answers,
+    answers: &mut Answers<'_>,
     ask: Ask,
 ) -> Result<(), StepFault<S::Refusal>>
     requires spent { S.spent store.old ≡ false }
@@ -58,7 +60,7 @@ fn ask_one<S: MapStore>(
 /// Asks a store all of these.
 fn ask_all<S: MapStore>(
     store: &mut S,
-    answers: &mut Answers,
+    answers: &mut Answers<'_>,
     asks: &[Ask],
 ) -> Result<(), StepFault<S::Refusal>>
     requires spent { S.spent store.old ≡ false }
@@ -73,23 +75,25 @@ fn ask_all<S: MapStore>(
     Ok(())
 }
 
-/// What the rows of these keys are built of, as a store has it.
-pub(crate) fn gathered<S: MapStore>(
+/// What the rows of these keys are built of, as a store has it. The store has what the change says, and is not asked for it.
+pub(crate) fn gathered<'c, S: MapStore>(
     alloc: Global,
     store: &mut S,
+    change: &'c Change,
     style: &Style,
     reaches: bool,
     keys: &[Key],
-) -> Result<Answers, StepFault<S::Refusal>>
+) -> Result<Answers<'c>, StepFault<S::Refusal>>
     requires spent { S.spent store.old ≡ false }
-    ensures right { IfOk result (λ answers. (under : S.Under) (maps : Maps) → S.holds store.old under maps → IsRight (gathered_in answers) (known_on maps)) }
-    ensures asked { IfOk result (λ answers. (under : S.Under) (maps : Maps) → S.holds store.old under maps
+    ensures right { IfOk result (λ answers. (under : S.Under) (maps : Maps) → S.holds store.old under maps → AreKnown (known_on maps) change.now
+        → IsRight (gathered_in answers) (known_on maps)) }
+    ensures asked { IfOk result (λ answers. (under : S.Under) (maps : Maps) → S.holds store.old under maps → AreKnown (known_on maps) change.now
         → AreAsked (gathered_in answers) (all_needs style.now reaches (known_on maps) keys.now)) }
-    ensures within { (under : S.Under) (maps : Maps) → S.holds store.old under maps → (may : May)
+    ensures within { (under : S.Under) (maps : Maps) → S.holds store.old under maps → AreKnown (known_on maps) change.now → (may : May)
         → MayAskAll may (all_needs style.now reaches (known_on maps) keys.now) → S.within may store.old → S.within may store.new }
     ensures looks { Looks S.MapStore.own S.Back store.old store.new result }
 {
-    let mut answers = Answers::new(alloc);
+    let mut answers = Answers::new(alloc, change);
     let objects = of_keys(alloc, keys)?;
     let objects = objects.as_slice();
     ask_all(store, &mut answers, objects)?;

@@ -15,6 +15,7 @@ mod gathering;
 mod importing;
 mod lacking;
 mod listers;
+mod named;
 mod new_objects;
 mod pending_keys;
 mod rebuilding;

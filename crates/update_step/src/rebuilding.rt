@@ -14,6 +14,7 @@ ghost use Rattle.update_step.specs.Changing.{Replaces};
 ghost use Rattle.update_step.specs.Ends.{MayRefuse};
 ghost use Rattle.update_step.specs.Gather.{all_needs};
 ghost use Rattle.update_step.specs.Looks.{Goes};
+ghost use Rattle.update_step.specs.Named.{AreKnown};
 ghost use Rattle.update_step.specs.Suffices.{IsBuilt};
 ghost use Rattle.update_step.specs.Touch.{MayAllRows, MayAskAll};
 ghost use Rattle.update_step.specs.Turned.{HadRows};
@@ -25,6 +26,7 @@ use crate::row_lists::{NewRows, all_before, keys_in, put_rows};
 use crate::turns::turns_of;
 use dep_closure::reaches_nodes;
 use geom_workers::{Hands, build_all};
+use object_fold::Change;
 use osm_base::{Key, RowChanges};
 use outside::Gate;
 use std::alloc::Global;
@@ -66,23 +68,24 @@ fn replace<S: MapStore>(
 }
 
 /// Builds the rows of pending keys anew and sets them. Answers how they differ from those that were there, and puts to `due` the
-/// tiles that this makes due. `lacking` are keys that had no rows.
+/// tiles that this makes due. The store has what the change says; `lacking` are keys that had no rows.
 pub(crate) fn rebuild<S: MapStore, R: Threads + Sync, G: Gate>(
     hands: &Hands<'_, R, G>,
     store: &mut S,
     style: &Style,
     bounds: &Bounds,
     pending: &PendingKeys,
+    change: &Change,
     lacking: &[Key],
     due: &mut TileRuns,
 ) -> Result<RowChanges, StepFault<S::Refusal>>
     requires spent { S.spent store.old ≡ false }
     requires style { S.style store.old ≡ style.now }
     ensures replaces { (under : S.Under) (maps : Maps) (old rows : KeyOf → List TableRow) → S.holds store.old under maps → HadRows (length style.now.tables) lacking.now maps old
-        → IsBuilt style.now maps (keys_of pending.now.set) rows
+        → IsBuilt style.now maps (keys_of pending.now.set) rows → AreKnown (known_on maps) change.now
         → Replaces (S.holds store.new under) style.now bounds.now maps (keys_of pending.now.set) old rows
         (has due.old) (has due.new) result }
-    ensures within { (under : S.Under) (maps : Maps) → S.holds store.old under maps → (may : May)
+    ensures within { (under : S.Under) (maps : Maps) → S.holds store.old under maps → AreKnown (known_on maps) change.now → (may : May)
         → MayAskAll may (all_needs style.now (reaches_nodes style.now) (known_on maps) (keys_of pending.now.set))
         → MayAllRows may (keys_of pending.now.set) → S.within may store.old → S.within may store.new }
     ensures allowed { (under : S.Under) (maps : Maps) (old : KeyOf → List TableRow) → S.holds store.old under maps → HadRows (length style.now.tables) lacking.now maps old
@@ -92,7 +95,7 @@ pub(crate) fn rebuild<S: MapStore, R: Threads + Sync, G: Gate>(
     let alloc = hands.alloc;
     let keys = keys_in(alloc, pending)?;
     let keys = keys.as_slice();
-    let known = gathered(alloc, store, style, reaches_nodes(style), keys)?;
+    let known = gathered(alloc, store, change, style, reaches_nodes(style), keys)?;
     let built = build_all(hands, style, &pending.set, &known)?;
     let rows = built.rows.as_slice();
     let news = NewRows { keys, rows };

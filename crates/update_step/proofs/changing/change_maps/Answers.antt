@@ -28,6 +28,7 @@ use Rattle.update_step.proofs.Endings.{ends-then, if_err-then, if_ok-then, on_ok
 use Rattle.update_step.proofs.EntryLists.{change_proper}
 use Rattle.update_step.proofs.PendingKeys.{keys-size, old-forms, outside-rows, pending-rows, same-size}
 use Rattle.update_step.proofs.RowsStill.{entries-keep}
+use Rattle.update_step.proofs.Said.{change-known}
 use Rattle.update_step.proofs.Touching.{may-entries, may-needs, may-rows, may-turn}
 use Rattle.update_step.proofs.Unknown.{had-rows, is-left, stands-known}
 use Rattle.update_step.proofs.Whole.{delta-is, due-is}
@@ -77,7 +78,8 @@ returns-in-Ok-clause-changes g c under maps objects held stands =
     let had : HadRows (length style.tables) c.as_slice-lacking.result.now changed (rows_in style objects) =
     record { held = kept; none = lacks; by_table = rows_in-by-table style objects } in
     let built = pending-rows style maps objects change on set both.0 in
-    let done = c.rebuild.ensures.replaces under changed (rows_in style objects) (rows_in style after) read had built in
+    let done = c.rebuild.ensures.replaces under changed (rows_in style objects) (rows_in style after) read had built
+    (change-known maps change c.entries-entries.ensures.rise) in
     let delta = delta-is style objects change set both.0.rising both.1 in
     record {
       stands = on_ok-then c.rebuild.result done.holds (λ holds. (
@@ -122,7 +124,8 @@ returns-in-Ok-clause-known g c under maps objects held stands =
     (c.in_ok-lacking.ensures.lacking under maps objects held stands.on))
     (subst (AreUnplaced maps) (sym c.as_slice-lacking.ensures.value) (c.in_ok-lacking.ensures.unplaced under maps held)) in
     let built = pending-rows style maps objects change on set both.0 in
-    let done = c.rebuild.ensures.replaces under changed (all_kept maps) (rows_in style after) read had built in
+    let done = c.rebuild.ensures.replaces under changed (all_kept maps) (rows_in style after) read had built
+    (change-known maps change c.entries-entries.ensures.rise) in
     record {
       stands = on_ok-then c.rebuild.result done.holds (λ holds. (
         appended maps change (rows_in style after) (keys_of set),
@@ -223,7 +226,8 @@ returns-in-Ok-clause-within g c under maps objects held stands may touched befor
     let forms = old_are style maps objects change c.in_ok-old.old stands.on (c.in_ok-old.ensures.old under maps read) in
     let set = c.in-Ok.set in
     let pending = c.in-Ok.ensures.pending objects forms under (change_on maps change) changed on in
-    c.rebuild.ensures.within under (change_on maps change) (c.in-Ok.ensures.holds under (change_on maps change) changed) may
+    c.rebuild.ensures.within under (change_on maps change) (c.in-Ok.ensures.holds under (change_on maps change) changed)
+    (change-known maps change rise) may
     (may-needs style objects change may touched (change_on maps change) on set pending.0)
     (may-rows style objects change may touched (change_on maps change) on set pending.0) due
 

@@ -56,13 +56,13 @@ replace-requires-clause-kept g c =
     subst (λ (lists : List (List TableRow)). AllByRecursion (MayKeep style.tables) lists) (sym news_are) (all-kept style g_in keys)
 
 pub returns-clause-replaces : goal.returns-clause-replaces
-returns-clause-replaces g c under maps old rows held had built =
+returns-clause-replaces g c under maps old rows held had built known =
     let style = c.args.style.now in
     let keys : List KeyOf = keys_of c.args.pending.now.set in
     let same : c.as_slice-keys.result.now ≡ keys = c.as_slice-keys.ensures.value ∙ c.in_ok-keys.ensures.keys in
     let news = rows_are style maps keys c.as_slice-keys.result.now rows
     (gathered_in c.in_ok-known.known) c.reaches_nodes.result c.as_slice-rows.result.now built same c.reaches_nodes.ensures.reaches
-    (c.in_ok-known.ensures.right under maps held) (c.in_ok-known.ensures.asked under maps held)
+    (c.in_ok-known.ensures.right under maps held known) (c.in_ok-known.ensures.asked under maps held known)
     (c.as_slice-rows.ensures.items ∙ c.in_ok-built.ensures.rows) in
     subst (λ (own : List KeyOf). Replaces (g.S.MapStore.holds c.replace.new.store under) style c.args.bounds.now maps own old rows
     (has c.args.due.now) (has c.replace.new.due) c.replace.result) same
@@ -89,10 +89,10 @@ returns-clause-allowed g c under maps old held had =
     (c.in_ok-known.ensures.looks.holds under maps held) had news
 
 pub returns-clause-within : goal.returns-clause-within
-returns-clause-within g c under maps held may asks rows before =
+returns-clause-within g c under maps held known may asks rows before =
     let same : c.as_slice-keys.result.now ≡ keys_of c.args.pending.now.set = c.as_slice-keys.ensures.value ∙ c.in_ok-keys.ensures.keys in
     let asked = subst (λ (reaches : Bool). MayAskAll may (all_needs c.args.style.now reaches (known_on maps) c.as_slice-keys.result.now))
     (sym c.reaches_nodes.ensures.reaches)
     (subst (λ (own : List KeyOf). MayAskAll may (all_needs c.args.style.now (reaches_nodes c.args.style.now) (known_on maps) own))
     (sym same) asks) in
-    c.replace.ensures.within may (subst (MayAllRows may) (sym same) rows) (c.gathered.ensures.within under maps held may asked before)
+    c.replace.ensures.within may (subst (MayAllRows may) (sym same) rows) (c.gathered.ensures.within under maps held known may asked before)

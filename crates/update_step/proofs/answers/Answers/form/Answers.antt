@@ -1,7 +1,18 @@
-use Rattle.std.proofs.Common.{ap, ◌∙◌}
+use Rattle.std.proofs.Common.{ap, ◌∙◌, sym}
 use Rattle.update_step.specs.Gather.{joined}
-use Rattle.update_step.proofs.Trees.{got_key}
+use Rattle.update_step.specs.Named.{named_in}
+use Rattle.update_step.proofs.Trees.{got_key, none-before, some-before}
 use Rattle.update_step.proofs.answers.Answers.form.Goals as goal
 
-pub returns : goal.returns
-returns c = record { form = ap joined (c.get.ensures.value ∙ got_key c.args.self.now.forms c.args.key) }
+pub returns-in-Some : goal.returns-in-Some
+returns-in-Some c =
+    record {
+      form = ap joined (some-before (named_in c.args.self.now.change.now c.args.key) _ _ (ap (named_in c.args.self.now.change.now) (sym c.key.view_is) ∙ sym c.in-Some.ensures.named));
+    }
+
+pub returns-in-None : goal.returns-in-None
+returns-in-None c =
+    record {
+      form = ap joined (c.get.ensures.value ∙ got_key c.args.self.now.forms c.args.key
+          ∙ none-before (named_in c.args.self.now.change.now c.args.key) _ (ap (named_in c.args.self.now.change.now) (sym c.key.view_is) ∙ sym c.in-None.ensures.named));
+    }

@@ -7,5 +7,5 @@ pub returns : goal.returns
 returns c =
     record {
       ok = ap (λ along_ways. record (gathered_in c.args.self.now) { along_ways = along_ways })
-          (put_id c.args.self.now.along_ways c.insert.new.self c.args.id c.args.ids c.in_ok-insert.ensures.updates);
+          (λ i other. put_id c.args.self.now.along_ways c.insert.new.self c.args.id c.args.ids c.in_ok-insert.ensures.updates other i);
     }

@@ -7,5 +7,5 @@ pub returns : goal.returns
 returns c =
     record {
       ok = ap (λ around_nodes. record (gathered_in c.args.self.now) { around_nodes = around_nodes })
-          (put_id c.args.self.now.around_nodes c.insert.new.self c.args.id c.args.ids c.in_ok-insert.ensures.updates);
+          (λ i other. put_id c.args.self.now.around_nodes c.insert.new.self c.args.id c.args.ids c.in_ok-insert.ensures.updates other i);
     }

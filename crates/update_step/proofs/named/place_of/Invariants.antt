@@ -1,7 +1,7 @@
 use Rattle.std.proofs.Common.{◌≡◌, ◌<◌, ◌≤◌, ◌-◌, ℕ, length, true, false}
 use Rattle.osm_base.specs.values.KeyOrder.{is_below}
-use Rattle.update_step.specs.NewObjects.{key_in, key_named}
-use Rattle.update_step.proofs.new_objects.place_of.Given as goal
+use Rattle.update_step.specs.Named.{key_in, key_named}
+use Rattle.update_step.proofs.named.place_of.Given as goal
 
 -- the keys before `low` are below, and those from `high` on are not
 abbrev pub invariant-loop-low : goal.invariant-loop-low

@@ -3,10 +3,10 @@ use Rattle.std.proofs.Common.{◌≡◌, ◌<◌, ℕ, List, length, true, false
 use Rattle.osm_base.specs.declared.values.object.Entry.{Entry}
 use Rattle.osm_base.specs.values.Key.{KeyOf}
 use Rattle.osm_base.specs.values.KeyOrder.{is_below}
-use Rattle.update_step.specs.NewObjects.{key_in, key_named, no_entry}
+use Rattle.update_step.specs.Named.{key_in, key_named, no_entry}
 use Rattle.std.proofs.lemmas.List.{get_or_default}
 use Rattle.update_step.proofs.NewEntries.{all_below, none_below}
-use Rattle.update_step.proofs.new_objects.place_of.Goals as goal
+use Rattle.update_step.proofs.named.place_of.Goals as goal
 
 pub loop-low-preserved-then-is_before : goal.loop-low-preserved-then-is_before
 loop-low-preserved-then-is_before c =
