@@ -109,16 +109,16 @@ module _ (style : StyleOf) (maps : Maps) (objects : ObjectSet) (stands : StandsO
   no_place id (Some (Relation members tags)) proper none is = absurd proper
 
   -- a node that has no place
-  pub lacks-place : (own : KeyOf) → (is_kind kinds.Node own.kind && not (is_some (object_in maps own.kind own.id))) ≡ true
-      → place_in (finite.get maps.nodes own.id) ≡ None → rows_in style objects own ≡ []
-  lacks-place own unknown none = by own.kind own.id unknown none
+  pub lacks-place : (own : KeyOf) → is_kind kinds.Node own.kind ≡ true → place_in (finite.get maps.nodes own.id) ≡ None
+      → rows_in style objects own ≡ []
+  lacks-place own node none = by own.kind own.id node none
     where
-      by : (kind : Kind) (id : ℕ) → (is_kind kinds.Node kind && not (is_some (object_in maps kind id))) ≡ true
-          → place_in (finite.get maps.nodes id) ≡ None → rows_in style objects (record { kind = kind; id = id }) ≡ []
-      by kinds.Node id unknown none = no_place id (finite.get objects (node_key id)) (stands.proper.kinds (node_key id))
+      by : (kind : Kind) (id : ℕ) → is_kind kinds.Node kind ≡ true → place_in (finite.get maps.nodes id) ≡ None
+          → rows_in style objects (record { kind = kind; id = id }) ≡ []
+      by kinds.Node id node none = no_place id (finite.get objects (node_key id)) (stands.proper.kinds (node_key id))
           (sym (place_is (reaches_nodes style) maps objects stands id) ∙ none) refl
-      by kinds.Way id unknown none = absurd (false≢true unknown)
-      by kinds.Relation id unknown none = absurd (false≢true unknown)
+      by kinds.Way id node none = absurd (false≢true node)
+      by kinds.Relation id node none = absurd (false≢true node)
 
   -- what no table may want
   pub lacks-unwanted : (own : KeyOf) → (is_kind kinds.Node own.kind && not (is_some (object_in maps own.kind own.id))) ≡ false
@@ -137,15 +137,21 @@ module _ (style : StyleOf) (maps : Maps) (objects : ObjectSet) (stands : StandsO
           (ap (may_have_rows style) (sym (stands.objects.relations id)) ∙ unwanted)
 
 -- a node that may be asked for its object may be asked for its place
-pub may-place : (may : May) (own : KeyOf) (more : Bool) → (is_kind kinds.Node own.kind && more) ≡ true → MayObject may own
-    → may 0 own.id ≡ true
-may-place may own more is all = by own.kind own.id is all
+pub may-place : (may : May) (own : KeyOf) → is_kind kinds.Node own.kind ≡ true → MayObject may own → may 0 own.id ≡ true
+may-place may own node all = by own.kind own.id node all
   where
-    by : (kind : Kind) (id : ℕ) → (is_kind kinds.Node kind && more) ≡ true → MayObject may (record { kind = kind; id = id })
-        → may 0 id ≡ true
-    by kinds.Node id is all = all
-    by kinds.Way id is all = absurd (false≢true is)
-    by kinds.Relation id is all = absurd (false≢true is)
+    by : (kind : Kind) (id : ℕ) → is_kind kinds.Node kind ≡ true → MayObject may (record { kind = kind; id = id }) → may 0 id ≡ true
+    by kinds.Node id node all = all
+    by kinds.Way id node all = absurd (false≢true node)
+    by kinds.Relation id node all = absurd (false≢true node)
+
+-- what is there is not unknown, nor is what is no node
+pub known-some : {X : Type 0} (node : Bool) (found : Option X) → is_some found ≡ true → (node && not (is_some found)) ≡ false
+known-some true found there = ap not there
+known-some false found there = refl
+
+pub known-other : (node more : Bool) → node ≡ false → (node && more) ≡ false
+known-other node more not-node = ap (λ b. b && more) not-node
 
 pub none-found : {X : Type 0} (found : Option X) → is_some found ≡ false → found ≡ None
 none-found None not = refl
