@@ -1,5 +1,6 @@
 mod Merging
 mod Numbers
+mod PieceLaws
 mod Reading
 mod Same
 mod Splicing

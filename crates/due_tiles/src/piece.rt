@@ -1,5 +1,5 @@
 //! Bytes that are held back, so that many words go to the output in one call.
-ghost use Rattle.std.specs.Prelude.{◌≡◌, ◌≤◌, ◌<◌, ◌+◌, ◌++◌, [], length, take, OnErr, OnOk};
+ghost use Rattle.std.specs.Prelude.{◌≡◌, ◌≤◌, ◌+◌, ◌++◌, [], length, OnErr, OnOk};
 ghost use Rattle.std.specs.Io.KnownBytes.{Appends};
 ghost use Rattle.outside.specs.Bytes.{AppendsPrefix};
 ghost use Rattle.outside.specs.Causes.{HasCause};
@@ -50,13 +50,34 @@ impl Piece {
         ensures cause { HasCause (S.view out.old).faults (S.view out.new).faults result }
     {
         if bytes.len() > PIECE - self.filled {
-            self.flush(out)?;
+            return self.put_alone(out, bytes);
         }
-        if bytes.len() > PIECE - self.filled {
+        self.hold(bytes);
+        Ok(())
+    }
+
+    /// Writes what is held, and holds back bytes alone; so many that they never have room are written too.
+    fn put_alone<S: Sink>(&mut self, out: &mut S, bytes: &[u8]) -> Result<(), Failed>
+        ensures ok { OnOk result (Puts (S.view out.old).taken (S.view out.new).taken self.old self.new bytes.now) }
+        ensures err { OnErr result (AppendsPrefix (S.view out.old).taken (S.view out.new).taken (self.old ++ bytes.now)) }
+        ensures cause { HasCause (S.view out.old).faults (S.view out.new).faults result }
+    {
+        self.flush(out)?;
+        if bytes.len() > PIECE {
             return put_all(out, bytes);
         }
         self.hold(bytes);
         Ok(())
+    }
+
+    /// Holds back bytes that have room.
+    fn hold(&mut self, bytes: &[u8])
+        requires room { length self.old + length bytes.now ≤ PIECE }
+        ensures held { self.new ≡ self.old ++ bytes.now }
+    {
+        let end = self.filled + bytes.len();
+        self.bytes[self.filled..end].copy_from_slice(bytes);
+        self.filled = end;
     }
 
     /// Writes what is held.

@@ -15,6 +15,7 @@ use tile_cover::Run;
 pub(crate) fn listed(alloc: Global, runs: &[Run], zoom: Zoom) -> Result<RisingIds, OutOfMemory>
     requires runs { AllByRecursion IsRun runs.now }
     ensures listed { IfOk result (λ numbers. (number : ℕ) → has numbers number ≡ is_listed runs.now zoom.level number) }
+    ensures rise { IfOk result IsRising }
 {
     let mut numbers = Vec::new(alloc);
     for run in runs {

@@ -10,10 +10,11 @@ ghost use Rattle.due_tiles.specs.Ends.{Ends};
 ghost use Rattle.due_tiles.specs.TileText.{line_of, tile_line, tile_text, zoom_text};
 
 use crate::TilesFault;
+use crate::levels::TileLevels;
 use crate::tile_numbers::listed;
 use crate::zoom::{Zoom, side_of};
 use osm_base::OutOfMemory;
-use outside::{Sink, put_all};
+use outside::Sink;
 use std::alloc::Global;
 use tile_cover::{MAX_ZOOM, Run, TileRuns};
 
@@ -30,8 +31,8 @@ pub fn write_tiles<S: Sink>(
     ensures err { OnErr result (AppendsPrefix (S.view out.old).taken (S.view out.new).taken (tile_text runs.now least)) }
     ensures cause { IfErr result (Ends (Rose (S.view out.old).faults (S.view out.new).faults)) }
 {
-    let text = tiles_text(alloc, runs, least)?;
-    match put_all(out, text.as_slice()) {
+    let levels = TileLevels::of(alloc, runs, least)?;
+    match levels.write(out) {
         Ok(()) => Ok(()),
         Err(_) => Err(TilesFault::WriteFault),
     }

@@ -15,9 +15,9 @@ ghost use Rattle.updater.specs.Works.{Does, KeepsOpen, KeepsSound, NoFile};
 use crate::forms::Words;
 use crate::number::number_of;
 use crate::options::{Allowed, options_of};
-use crate::telling::tell;
+use crate::telling::tell_tiles;
 use crate::words::Command;
-use due_tiles::tiles_text;
+use due_tiles::TileLevels;
 use osm_base::Limits;
 use outside::{Disk, Inputs, Sink};
 use run_promise::Fault;
@@ -102,11 +102,11 @@ fn tiles_in<I: Inputs, D: Disk, S: Sink>(
         Ok(due) => due,
         Err(fault) => return Err(Fault::in_flow(fault)),
     };
-    let text = match tiles_text(alloc, &due, least) {
-        Ok(text) => text,
+    let tiles = match TileLevels::of(alloc, &due, least) {
+        Ok(tiles) => tiles,
         Err(_) => return Err(Fault::OutOfMemory),
     };
-    if let Err(fault) = tell(out, &text) {
+    if let Err(fault) = tell_tiles(out, &tiles) {
         return Err(fault);
     }
     if !clear {

@@ -33,8 +33,8 @@ returns-in-Err-clause-goes_on g c = rw c.in_flow.ensures.fault (λ old start don
     (handle_of c.due.new.self) output head c.in-Err.fault c.in-Err.ensures.looks (refused_so c.in-Err.ensures.stays)
     (writes (IsTileText held.due c.args.least) (clears c.args.clear))))
 
-pub returns-in-Err-tiles_text-clause-goes_on : goal.returns-in-Err-tiles_text-clause-goes_on
-returns-in-Err-tiles_text-clause-goes_on g c = λ old start done state head.
+pub returns-in-Err-of-clause-goes_on : goal.returns-in-Err-of-clause-goes_on
+returns-in-Err-of-clause-goes_on g c = λ old start done state head.
     let files = g.I.Inputs.view c.args.inputs.now in
     let output = g.S.Sink.view c.args.out.now in
     if_there start done 0 old files (handle_of c.args.store.now) output _ _ _ state head (sym c.old.ensures.is ∙ c.if-old.false)
@@ -46,8 +46,8 @@ returns-in-Err-tiles_text-clause-goes_on g c = λ old start done state head.
     look_short start done held 0 old files (handle_of c.args.store.now) (handle_of c.due.new.self) output head
     (IsTileText held.due c.args.least) (clears c.args.clear) sure)
 
-pub returns-in-Err-tell-clause-goes_on : goal.returns-in-Err-tell-clause-goes_on
-returns-in-Err-tell-clause-goes_on g c = λ old start done state head.
+pub returns-in-Err-tell_tiles-clause-goes_on : goal.returns-in-Err-tell_tiles-clause-goes_on
+returns-in-Err-tell_tiles-clause-goes_on g c = λ old start done state head.
     let files = g.I.Inputs.view c.args.inputs.now in
     let output = g.S.Sink.view c.args.out.now in
     if_there start done 0 old files (handle_of c.args.store.now) output _ _ _ state head (sym c.old.ensures.is ∙ c.if-old.false)
@@ -58,21 +58,21 @@ returns-in-Err-tell-clause-goes_on g c = λ old start done state head.
     (c.in-Ok.ensures.stays.still tt) c.in-Ok.ensures.stays.whole c.due.ensures.stays.over.same_limits c.in-Ok.ensures.stays.cause in
     look_untold start done held 0 old files (handle_of c.args.store.now) (handle_of c.due.new.self) output head
     (IsTileText held.due c.args.least) (clears c.args.clear) sure
-    c.deref.result.now (g.S.Sink.view c.tell.new.out) c.in-Err-tell.fault
+    c.in-Ok-of.tiles (g.S.Sink.view c.tell_tiles.new.out) c.in-Err-tell_tiles.fault
     (λ read certain. (
       c.in-Ok.due,
       c.in-Ok.ensures.due held (held_certain done held (handle_of c.args.store.now) head.here certain),
-      c.deref.ensures.value ∙ c.in-Ok-tiles_text.ensures.text,
+      c.in-Ok-of.ensures.text,
     ))
-    c.in-Err-tell.ensures.err c.in-Err-tell.ensures.alone
-    (record { later = c.in-Err-tell.ensures.cause.later; failed = c.in-Err-tell.ensures.cause.failed }))
+    c.in-Err-tell_tiles.ensures.err c.in-Err-tell_tiles.ensures.alone
+    (record { later = c.in-Err-tell_tiles.ensures.cause.later; failed = c.in-Err-tell_tiles.ensures.cause.failed }))
 
 pub returns-then-not-clear-clause-goes_on : goal.returns-then-not-clear-clause-goes_on
 returns-then-not-clear-clause-goes_on g c = rw c.if-not-clear.true (λ old start done state head.
     let files = g.I.Inputs.view c.args.inputs.now in
     let output = g.S.Sink.view c.args.out.now in
-    let text = c.deref.result.now in
-    let new = g.S.Sink.view c.tell.new.out in
+    let text = c.in-Ok-of.tiles in
+    let new = g.S.Sink.view c.tell_tiles.new.out in
     if_there start done 0 old files (handle_of c.args.store.now) output _ None
     (world files (view_of (handle_of c.due.new.self)) new) state head (sym c.old.ensures.is ∙ c.if-old.false)
     (sym c.imported.ensures.is ∙ c.if-not-imported.false)
@@ -85,17 +85,17 @@ returns-then-not-clear-clause-goes_on g c = rw c.if-not-clear.true (λ old start
     (λ read certain. (
       c.in-Ok.due,
       c.in-Ok.ensures.due held (held_certain done held (handle_of c.args.store.now) head.here certain),
-      c.deref.ensures.value ∙ c.in-Ok-tiles_text.ensures.text,
+      c.in-Ok-of.ensures.text,
     ))
-    c.in_default.ensures.ok c.tell.ensures.cause.later None (world files (view_of (handle_of c.due.new.self)) new)
+    c.in_default.ensures.ok c.tell_tiles.ensures.cause.later None (world files (view_of (handle_of c.due.new.self)) new)
     (λ head. ends_here start (plus text done) _ 0 old files (handle_of c.due.new.self) new head)))
 
 pub returns-in-Ok-clear_due-clause-goes_on : goal.returns-in-Ok-clear_due-clause-goes_on
 returns-in-Ok-clear_due-clause-goes_on g c = rw c.if-not-clear.false (λ old start done state head.
     let files = g.I.Inputs.view c.args.inputs.now in
     let output = g.S.Sink.view c.args.out.now in
-    let text = c.deref.result.now in
-    let new = g.S.Sink.view c.tell.new.out in
+    let text = c.in-Ok-of.tiles in
+    let new = g.S.Sink.view c.tell_tiles.new.out in
     if_there start done 0 old files (handle_of c.args.store.now) output _ None
     (world files (view_of (handle_of c.clear_due.new.self)) new) state head (sym c.old.ensures.is ∙ c.if-old.false)
     (sym c.imported.ensures.is ∙ c.if-not-imported.false)
@@ -108,9 +108,9 @@ returns-in-Ok-clear_due-clause-goes_on g c = rw c.if-not-clear.false (λ old sta
     (λ read certain. (
       c.in-Ok.due,
       c.in-Ok.ensures.due held (held_certain done held (handle_of c.args.store.now) head.here certain),
-      c.deref.ensures.value ∙ c.in-Ok-tiles_text.ensures.text,
+      c.in-Ok-of.ensures.text,
     ))
-    c.in_default.ensures.ok c.tell.ensures.cause.later None (world files (view_of (handle_of c.clear_due.new.self)) new)
+    c.in_default.ensures.ok c.tell_tiles.ensures.cause.later None (world files (view_of (handle_of c.clear_due.new.self)) new)
     (λ head. clear_done start (plus text done) held 0 old files (handle_of c.due.new.self) (handle_of c.clear_due.new.self) new head
     c.in-Ok-clear_due.ensures.takes (c.in-Ok-clear_due.ensures.stays.still tt) c.in-Ok-clear_due.ensures.stays.whole
     c.clear_due.ensures.stays.over.same_limits c.in-Ok-clear_due.ensures.stays.cause)))
@@ -119,8 +119,8 @@ pub returns-clause-goes_on : goal.returns-clause-goes_on
 returns-clause-goes_on g c = rw c.in_flow-in-Err-clear_due.ensures.fault (rw c.if-not-clear.false (λ old start done state head.
     let files = g.I.Inputs.view c.args.inputs.now in
     let output = g.S.Sink.view c.args.out.now in
-    let text = c.deref.result.now in
-    let new = g.S.Sink.view c.tell.new.out in
+    let text = c.in-Ok-of.tiles in
+    let new = g.S.Sink.view c.tell_tiles.new.out in
     if_there start done 0 old files (handle_of c.args.store.now) output _ _
     (world files (view_of (handle_of c.clear_due.new.self)) new) state head (sym c.old.ensures.is ∙ c.if-old.false)
     (sym c.imported.ensures.is ∙ c.if-not-imported.false)
@@ -133,9 +133,9 @@ returns-clause-goes_on g c = rw c.in_flow-in-Err-clear_due.ensures.fault (rw c.i
     (λ read certain. (
       c.in-Ok.due,
       c.in-Ok.ensures.due held (held_certain done held (handle_of c.args.store.now) head.here certain),
-      c.deref.ensures.value ∙ c.in-Ok-tiles_text.ensures.text,
+      c.in-Ok-of.ensures.text,
     ))
-    c.in_default.ensures.ok c.tell.ensures.cause.later _ (world files (view_of (handle_of c.clear_due.new.self)) new)
+    c.in_default.ensures.ok c.tell_tiles.ensures.cause.later _ (world files (view_of (handle_of c.clear_due.new.self)) new)
     (λ head. clear_refused start (plus text done) held 0 old files (handle_of c.due.new.self) (handle_of c.clear_due.new.self) new head
     c.in-Err-clear_due.fault c.in-Err-clear_due.ensures.takes (refused_so c.in-Err-clear_due.ensures.stays)))))
 
@@ -144,9 +144,9 @@ returns-in-Err-clause-sound g c = rw c.in_flow.ensures.fault (λ opened.
     look_stops c.in-Err.fault (handle_of c.args.store.now) opened (handle_of c.due.new.self)
     (handle_of c.due.new.self) c.in-Err.ensures.sound)
 
-pub returns-in-Err-tell-clause-sound : goal.returns-in-Err-tell-clause-sound
-returns-in-Err-tell-clause-sound g c = λ opened.
-    told_ends (Err c.in-Err-tell.fault) (handle_of c.due.new.self) c.in-Err-tell.ensures.alone
+pub returns-in-Err-tell_tiles-clause-sound : goal.returns-in-Err-tell_tiles-clause-sound
+returns-in-Err-tell_tiles-clause-sound g c = λ opened.
+    told_ends (Err c.in-Err-tell_tiles.fault) (handle_of c.due.new.self) c.in-Err-tell_tiles.ensures.alone
     (look_goes (handle_of c.args.store.now) (handle_of c.due.new.self) c.in-Ok.ensures.sound opened)
 
 pub returns-then-not-clear-clause-sound : goal.returns-then-not-clear-clause-sound
