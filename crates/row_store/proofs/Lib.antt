@@ -1,6 +1,12 @@
+pub mod ByteLaws
+pub mod ClearLaws
 pub mod LoadLaws
 pub mod LookLaws
 pub mod Manual
+pub mod MapTables
 pub mod RowLaws
 pub mod RowsLaws
 pub mod SpelledLaws
+pub mod TableLaws
+pub mod TurnCalls
+pub mod TurnLaws

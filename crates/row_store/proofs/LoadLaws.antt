@@ -46,10 +46,10 @@ twice false x y z = refl
 abbrev spot : ℕ → KeyOf → SpotOf
 spot table key = record { table = table; key = key }
 
-spot_same : (one other : SpotOf) → one ≡ other → eq_by_cmp spot_cmp one other ≡ true
+pub spot_same : (one other : SpotOf) → one ≡ other → eq_by_cmp spot_cmp one other ≡ true
 spot_same one other same = subst (λ (s : SpotOf). eq_by_cmp spot_cmp one s ≡ true) same (ap is_eq (tied_itself spot_cmp_total one))
 
-spot_apart : (one other : SpotOf) → (one ≡ other → ⊥) → eq_by_cmp spot_cmp one other ≡ false
+pub spot_apart : (one other : SpotOf) → (one ≡ other → ⊥) → eq_by_cmp spot_cmp one other ≡ false
 spot_apart one other apart = elim (decide (eq_by_cmp spot_cmp one other)) [
   | inl same ↦ absurd (apart (spot_cmp-IsAntisymmetric one other ((Equal-is (spot_cmp one other)).0 same)))
   | inr differs ↦ differs
@@ -62,10 +62,10 @@ same_or_apart key other = elim (decide (eq_by_cmp spot_cmp (spot 0 key) (spot 0 
   | inr differs ↦ inr (λ same. absurd (let yes = spot_same (spot 0 key) (spot 0 other) (ap (spot 0) same) in cc (yes, differs)))
 ]
 
-met : (one other : ℕ) → one ≡ other → nat_eq one other ≡ true
+pub met : (one other : ℕ) → one ≡ other → nat_eq one other ≡ true
 met one other same = grind (arith, nat_tests)
 
-unmet : (one other : ℕ) → one ≢ other → nat_eq one other ≡ false
+pub unmet : (one other : ℕ) → one ≢ other → nat_eq one other ≡ false
 unmet one other differs = grind (arith, nat_tests)
 
 -- a row more, if it is wanted

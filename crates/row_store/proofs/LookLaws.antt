@@ -19,7 +19,7 @@ use Rattle.bucket_store.specs.declared.buckets.Buckets.{Buckets}
 use Rattle.bucket_store.proofs.Holding.{looks_then}
 use Rattle.row_store.specs.Loading.{Looks}
 
-or_false : (b : Bool) → (b || false) ≡ b
+pub or_false : (b : Bool) → (b || false) ≡ b
 or_false true = refl
 or_false false = refl
 
@@ -61,7 +61,7 @@ module _ {D : Type 0} {g : Ghosts D} where
   }
 
 -- a refusal of one call is one of another
-sound_of : (T U : Type 0) (fault : StoreFault) → IsSoundAnswer {T = T} (Err fault) → IsSoundAnswer {T = U} (Err fault)
+pub sound_of : (T U : Type 0) (fault : StoreFault) → IsSoundAnswer {T = T} (Err fault) → IsSoundAnswer {T = U} (Err fault)
 sound_of T U NotFormatted is = is
 sound_of T U NotEmpty is = is
 sound_of T U (BadStore page) is = is

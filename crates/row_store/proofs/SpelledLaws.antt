@@ -1,6 +1,6 @@
 -- Records that are each of one kind.
 use Rattle.std.proofs.Common.{◌≡◌, ◌<◌, ◌≤◌, ◌+◌, ◌%◌, ◌∙◌, zero, suc, ℕ, Bool, cond, List, [], ◌∷◌, length, take, get_or}
-use Rattle.std.proofs.Common.{Option, Some, None, sym, ap, subst, arith, inl, inr}
+use Rattle.std.proofs.Common.{Some, None, sym, ap, subst, arith, inl, inr}
 use Rattle.std.specs.Prelude.{◌++◌}
 use Rattle.std.specs.List.{AllByRecursion}
 use Rattle.std.specs.Cmp.{Equal-is}

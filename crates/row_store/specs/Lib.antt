@@ -1,4 +1,6 @@
+pub mod Clearing
 pub mod Loading
 pub mod Maps
 pub mod Row
 pub mod Rows
+pub mod Tables
