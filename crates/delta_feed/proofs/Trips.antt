@@ -8,7 +8,9 @@ use Rattle.osm_base.specs.declared.bounds.limits.LimitNumbers.{LimitNumbers}
 use Rattle.osm_base.specs.declared.values.row.Row.{Row}
 use Rattle.osm_base.specs.declared.values.row.RowChange.{RowChange}
 use Rattle.osm_base.specs.map.Spots.{SpotOf}
+use Rattle.row_store.proofs.ByteLaws.{row_bytes-low, row_bytes-some}
 use Rattle.row_store.specs.Row.{row_bytes}
+use Rattle.store_maps.specs.Rows.{columns_in}
 use Rattle.style_read.specs.Style.{StyleOf}
 use Rattle.style_read.specs.declared.style.TableDef.{TableDef}
 use Rattle.delta_feed.specs.Blocks.{Comes, Found, Follows, goes_on, is_full, limit_at, line_at, more_comes, whole}
@@ -244,8 +246,11 @@ end_stands : (head : Head) → may_stand (rows_place head) verbs.End ≡ true
 end_stands (heads.Full version bytes style) = refl
 end_stands (heads.Delta version) = refl
 
-front_bytes : (tables : List TableDef) (table : ℕ) (row : Row) → IsWritable tables table row → 1 ≤ length (take LINE_BYTES (row_bytes row))
-front_bytes tables table row writable = take_some LINE_BYTES (row_bytes row) line_room writable.some
+front_bytes : (row : Row) → 1 ≤ length (take LINE_BYTES (row_bytes row))
+front_bytes row = take_some LINE_BYTES (row_bytes row) line_room (row_bytes-some row)
+
+bytes_of : (tables : List TableDef) (table : ℕ) (row : Row) → IsWritable tables table row → IsBytes (row_bytes row)
+bytes_of tables table row writable = row_bytes-low (columns_in tables table) row writable.is
 
 set_pass : (limits : LimitNumbers) (base : Option StyleOf) (rows : Rows) (spot : SpotOf) (row : Row) (number : ℕ) (rest : List (List ℕ)) (found : Found)
     → is_next rows.last spot ≡ true → IsTold spot → IsWritable (tables_of (style_for rows.head base)) spot.table row → more_comes rest ≡ false
@@ -257,9 +262,10 @@ set_pass limits base rows spot row number rest found next told writable no_more 
     bytes_pass limits base (λ front. stages.Row rows spot front) all (stages.Rows (with_change rows spot (Some row))) rest found
     (λ front. refl) (λ front piece result turn. turn)
     (λ front piece result entire turn. ends_only tables rows spot (front ++ piece) row result next writable entire turn)
-    no_more (stages.Rows rows) number (set_line spot (take LINE_BYTES all)) (lines.Set spot (take LINE_BYTES all)) writable.some writable.bytes refl
-    (set_back (rows_place rows.head) spot (take LINE_BYTES all) (set_stands rows.head) told (bytes_take LINE_BYTES all writable.bytes)
-    (front_bytes tables spot.table row writable) (take_short LINE_BYTES all))
+    no_more (stages.Rows rows) number (set_line spot (take LINE_BYTES all)) (lines.Set spot (take LINE_BYTES all)) (row_bytes-some row)
+    (bytes_of tables spot.table row writable) refl
+    (set_back (rows_place rows.head) spot (take LINE_BYTES all) (set_stands rows.head) told (bytes_take LINE_BYTES all (bytes_of tables spot.table row writable))
+    (front_bytes row) (take_short LINE_BYTES all))
     (λ result turn. turn ∙ rw next refl)
     (λ result entire turn. ends_only tables rows spot (take LINE_BYTES all) row result next writable entire turn)
     within comes
@@ -308,7 +314,8 @@ row_says : (tables : List TableDef) (spot : SpotOf) (row : Option Row) (rest : L
     → more_comes (row_lines spot row ++ rest) ≡ false
 row_says tables spot None rest told writable = del_says spot rest told
 row_says tables spot (Some row) rest told writable =
-    set_says spot (take LINE_BYTES (row_bytes row)) (lines_behind (row_bytes row) ++ rest) told (bytes_take LINE_BYTES (row_bytes row) writable.bytes)
+    set_says spot (take LINE_BYTES (row_bytes row)) (lines_behind (row_bytes row) ++ rest) told
+    (bytes_take LINE_BYTES (row_bytes row) (bytes_of tables spot.table row writable))
 
 pub entries_say : (tables : List TableDef) (entries : List (SpotOf × Option Row)) (rest : List (List ℕ)) → AreWritable tables entries → more_comes rest ≡ false
     → more_comes (entry_lines entries ++ rest) ≡ false

@@ -1,12 +1,11 @@
 -- What may be written so that it is read again.
 use Rattle.std.specs.Prelude.{◌≡◌, ◌<◌, ◌≤◌, ℕ, ◌+◌, List, [], ◌∷◌, length, map, Option, None, Some}
-use Rattle.hex.specs.Hex.{IsBytes}
 use Rattle.osm_base.specs.declared.bounds.limits.LimitNumbers.{LimitNumbers}
 use Rattle.osm_base.specs.declared.values.row.Row.{Row}
 use Rattle.osm_base.specs.declared.values.row.RowChange.{RowChange}
 use Rattle.osm_base.specs.map.Spots.{SpotOf}
 use Rattle.osm_base.specs.values.Key.{IsId}
-use Rattle.row_store.specs.Row.{row_bytes, IsRow}
+use Rattle.row_store.specs.Row.{IsRow}
 use Rattle.store_maps.specs.Rows.{columns_in}
 use Rattle.style_read.specs.declared.style.TableDef.{TableDef}
 use Rattle.delta_feed.specs.Blocks.{limit_at}
@@ -18,12 +17,10 @@ pub record IsTold (spot : SpotOf) : Type 0 where
   pub table : spot.table ≤ TABLES
   pub id : IsId spot.key.id
 
--- a row of a table, and its bytes
+-- a row of a table that has a spelling
 pub record IsWritable (tables : List TableDef) (table : ℕ) (row : Row) : Type 0 where
   pub is : IsRow (columns_in tables table) row
   pub there : table < length tables
-  pub some : 1 ≤ length (row_bytes row)
-  pub bytes : IsBytes (row_bytes row)
 
 abbrev pub IsWritableRow : List TableDef → (table : ℕ) → Option Row → Type 0
 IsWritableRow tables table None = Unit {0}
