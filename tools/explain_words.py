@@ -13,6 +13,7 @@ FORMS = {
     "init": "STORE",
     "import": "[workers=N] [buckets=N] STORE STYLE INPUT",
     "append": "[ahead=N] [workers=N] STORE BOUNDS CHANGE..",
+    "feed": "[workers=N] [full=yes] STORE BOUNDS [CHANGE..]",
     "export": "STORE TABLE",
     "tiles": "[clear=yes] STORE MINZOOM",
     "query": "STORE QUERIES",
@@ -151,8 +152,8 @@ def option_fault(call):
             return f"{call.command} has no option {shown(word, 40)}{others}"
         if any(it.startswith(key + "=") for it in call.options[:at]):
             return f"the option {key} stands twice"
-        if key == "clear" and value != "yes":
-            return "clear may be yes alone"
+        if key in ("clear", "full") and value != "yes":
+            return f"{key} may be yes alone"
         number = int(value) if re.fullmatch(r"[0-9]{1,6}", value) else 0
         if key in ("workers", "readers") and not 1 <= number <= 64:
             return f"{key} is a number from 1 to 64, not {shown(value, 40)}"
@@ -165,7 +166,7 @@ def option_fault(call):
 
 def count_fault(call):
     """What is wrong with the number of the words behind the options, and with those that are no files; None where nothing is."""
-    late = next((it for it in call.given if re.match("(workers|readers|buckets|ahead|clear)=", it)), None)
+    late = next((it for it in call.given if re.match("(workers|readers|buckets|ahead|clear|full)=", it)), None)
     dashed = next((it for it in call.given if re.match("--?[a-z]+", it) and not os.path.exists(it)), None)
     most = len(call.words) if call.repeats else len(call.roles)
     if late:

@@ -35,6 +35,8 @@ FORMS = {
 }
 # The commands that tell each step as it is done, which stays where a later one is refused.
 STEPWISE = ("append", "serve", "replay")
+# And a block of a feed, which tells one too.
+BLOCK = rb"((full [0-9]+\nstyle [0-9a-f]+\n|delta [0-9]+\n)((set|del|more) [0-9a-z ]+\n)*end\n)"
 
 
 class Finding(Exception):
@@ -115,6 +117,8 @@ def may_print(words, out):
     """Whether an output may stand before a fault: steps that are done, and tiles that were to be cleared next."""
     if words[:2] == ["tiles", "clear=yes"]:
         return re.fullmatch(rb"([0-9]+/[0-9]+/[0-9]+\n)+", out)
+    if words[0] == "feed":
+        return re.fullmatch(BLOCK + b"+", out)
     return words[0] in STEPWISE and are_versions(out)
 
 

@@ -7,12 +7,14 @@ from runs import Finding
 COMMANDS = {
     "points": (2, True, ()), "lines": (2, True, ()), "init": (1, False, ()), "migrate": (1, False, ()), "check": (1, False, ()),
     "import": (3, False, ("workers", "buckets")), "append": (3, True, ("ahead", "workers")), "export": (2, False, ()),
+    "feed": (2, True, ("workers", "full")),
     "tiles": (2, False, ("clear",)), "query": (2, False, ()), "serve": (3, True, ("workers", "readers")),
     "replay": (4, True, ("workers",)),
 }
 FORMS = {
     "points": ("amenity", "town.opl"), "lines": ("highway", "town.opl"), "init": ("new",), "migrate": ("store",), "check": ("store",),
     "import": ("new", "style", "town.opl"), "append": ("store", "rows", "change.opl"), "export": ("store", "roads"),
+    "feed": ("store", "rows"),
     "tiles": ("store", "3"), "query": ("store", "asked"), "serve": ("store", "rows", "asked"),
     "replay": ("new", "style", "rows", "town.opl"),
 }
@@ -26,7 +28,7 @@ NUMBERS = [
     "1", "2", "0", "8", "9", "64", "65", "256", "65536", "65537", "131072", "3", "", "yes", "no", "01", "000001", "0000001", "-1", "+1",
     "1 ", "9" * 30,
 ]
-OPTIONS = [f"{name}={value}" for name in ("workers", "readers", "buckets", "ahead", "clear") for value in NUMBERS]
+OPTIONS = [f"{name}={value}" for name in ("workers", "readers", "buckets", "ahead", "clear", "full") for value in NUMBERS]
 
 
 class Kind:
@@ -117,7 +119,7 @@ def is_number(text, low, high):
 
 
 def is_option(name, value):
-    if name == "clear":
+    if name in ("clear", "full"):
         return value == "yes"
     if name == "buckets":
         return is_number(value, 1, 65_536) and int(value) & (int(value) - 1) == 0

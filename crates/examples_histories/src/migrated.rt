@@ -90,7 +90,7 @@ fn push_found(alloc: Global, disk: &mut MemDisk, out: &mut String) -> Result<(),
 // What the record of the node has. `None`: no store with buckets opens.
 fn kept_in(alloc: Global, disk: &mut MemDisk) -> Option<&'static str> {
     let limits = Limits::standard();
-    let Ok(opened) = open(alloc, disk, &limits) else {
+    let Ok(Some(opened)) = open(alloc, disk, &limits) else {
         return None;
     };
     let Opened {

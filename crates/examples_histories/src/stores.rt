@@ -107,16 +107,16 @@ pub fn push_tables(
     Ok(())
 }
 
-/// The open store of a disk.
+/// The open store of a disk. `AlreadyImported`: it is that of a follower, which took the tables of another store.
 pub fn opened<'d>(
     alloc: Global,
     disk: &'d mut MemDisk,
     limits: &Limits,
 ) -> Result<Updater<'d, MemDisk>, FlowFault> {
-    match open(alloc, disk, limits) {
-        Ok(opened) => Ok(Updater::over(alloc, disk, opened, limits)),
-        Err(fault) => Err(fault),
-    }
+    let Some(opened) = open(alloc, disk, limits)? else {
+        return Err(FlowFault::AlreadyImported);
+    };
+    Ok(Updater::over(alloc, disk, opened, limits))
 }
 
 // What is told, where nothing of it is refused.

@@ -6,7 +6,7 @@ use Rattle.run_promise.specs.declared.fault.Fault.{Fault}
 use Rattle.run_promise.specs.declared.fault.Fault.TheVariants as faults
 use Rattle.run_promise.specs.Ahead.{IsReadAhead, MayBeAhead}
 use Rattle.run_promise.specs.CommandOf.{CommandOf, Names, points_of, lines_of, init_of, import_of, append_of, export_of, tiles_of, query_of}
-use Rattle.run_promise.specs.CommandOf.{serve_of, replay_of, migrate_of, check_of, demo_of}
+use Rattle.run_promise.specs.CommandOf.{feed_of, serve_of, replay_of, migrate_of, check_of, demo_of}
 use Rattle.run_promise.specs.Leaves.{HasCause}
 use Rattle.run_promise.specs.World.{Before, World, with_files}
 
@@ -30,6 +30,7 @@ ahead_named (points_of key files) fault file may = absurd may
 ahead_named (lines_of key files) fault file may = absurd may
 ahead_named (init_of store) fault file may = absurd may
 ahead_named (import_of store files buckets workers) fault file may = absurd may
+ahead_named (feed_of store files full workers) fault file may = absurd may
 ahead_named (export_of store table) fault file may = absurd may
 ahead_named (tiles_of store least clear) fault file may = absurd may
 ahead_named (query_of store files) fault file may = absurd may
@@ -60,6 +61,7 @@ cause_ahead old seen new (Some faults.NotEmpty) later cause = tt
 cause_ahead old seen new (Some faults.NotImported) later cause = tt
 cause_ahead old seen new (Some faults.AlreadyImported) later cause = tt
 cause_ahead old seen new (Some faults.OldFormat) later cause = tt
+cause_ahead old seen new (Some faults.Follower) later cause = tt
 cause_ahead old seen new (Some faults.UnknownTable) later cause = tt
 cause_ahead old seen new (Some (faults.BadStore page)) later cause = tt
 cause_ahead old seen new (Some faults.OutOfMemory) later cause = tt

@@ -17,7 +17,7 @@ use Rattle.opl_object.specs.declared.why.Why.TheVariants as causes
 use Rattle.opl_object.specs.Why.{number_of}
 use Rattle.run_promise.specs.declared.fault.Fault.{Fault}
 use Rattle.run_promise.specs.declared.fault.Fault.TheVariants.{Usage, Malformed, BadStyle, BadBounds, BadQuery, Limit, ReadFault}
-use Rattle.run_promise.specs.declared.fault.Fault.TheVariants.{NotFormatted, NotEmpty, NotImported, AlreadyImported, OldFormat}
+use Rattle.run_promise.specs.declared.fault.Fault.TheVariants.{NotFormatted, NotEmpty, NotImported, AlreadyImported, OldFormat, Follower}
 use Rattle.run_promise.specs.declared.fault.Fault.TheVariants.{UnknownTable, BadStore, WriteFault, DiskFault, OutOfMemory}
 use Rattle.style_read.specs.declared.fault.StylePart.{StylePart}
 use Rattle.style_read.specs.declared.fault.StylePart.TheVariants as parts
@@ -165,6 +165,7 @@ IsAscii-fault_text NotEmpty = IsAscii-words (codes "not empty") refl
 IsAscii-fault_text NotImported = IsAscii-words (codes "not imported") refl
 IsAscii-fault_text AlreadyImported = IsAscii-words (codes "already imported") refl
 IsAscii-fault_text OldFormat = IsAscii-words (codes "old format") refl
+IsAscii-fault_text Follower = IsAscii-words (codes "follower") refl
 IsAscii-fault_text UnknownTable = IsAscii-words (codes "unknown table") refl
 IsAscii-fault_text (BadStore page) = IsAscii-append (codes "bad store page ") (decimal page) (IsAscii-words (codes "bad store page ") refl)
     (IsAscii-any_decimal page)

@@ -14,13 +14,14 @@ use Rattle.page_journal.specs.declared.fault.StoreFault.TheVariants as stores
 use Rattle.update_flow.specs.History.{state_after}
 use Rattle.update_flow.specs.Opening.{MayOpenAs}
 use Rattle.update_flow.specs.Refusals.{OrFull, Refuses}
-use Rattle.update_flow.specs.State.{State, formatted, imported, outdated, Step, Import, Append, Clear, Migrate}
+use Rattle.delta_feed.specs.declared.block.Block.TheVariants as blocks
+use Rattle.update_flow.specs.State.{State, formatted, imported, outdated, following, Step, Import, Append, Clear, Migrate, Follow}
 use Rattle.update_flow.specs.declared.fault.FlowFault.{FlowFault}
 use Rattle.update_flow.specs.declared.fault.FlowFault.TheVariants as flow
 use Rattle.run_promise.specs.Causes.{IsStoreLimit}
 use Rattle.run_promise.specs.Comes.{Breaks, BreaksIn, Comes, HoldsBytes, IsBadStore, IsBroken, IsNoStore, IsOfFile, IsRefusal, IsRefusedFor}
 use Rattle.run_promise.specs.Comes.{IsStepFault, MayTake, refused, short, unread}
-use Rattle.run_promise.specs.Course.{Course, ends, refuses, reads, wants_empty, formats, opens, looks, commits, tells, writes}
+use Rattle.run_promise.specs.Course.{Course, ends, refuses, reads, wants_empty, formats, opens, looks, commits, tells, writes, feeds}
 use Rattle.run_promise.specs.Courses.{gathers}
 use Rattle.run_promise.specs.Faults.{flow_fault}
 use Rattle.run_promise.specs.Files.{IsChange}
@@ -80,6 +81,15 @@ page_refuses (outdated held) (Import style bytes buckets entries) page P h = abs
 page_refuses (outdated held) (Append bounds change) page P h = absurd (cc)
 page_refuses (outdated held) Clear page P h = absurd (cc)
 page_refuses (outdated held) Migrate page P h = absurd (cc)
+page_refuses formatted (Follow (blocks.Full version style_bytes style rows)) page P h = absurd (cc)
+page_refuses formatted (Follow (blocks.Delta delta)) page P h = absurd (cc)
+page_refuses (imported held) (Follow block) page P h = absurd h
+page_refuses (outdated held) (Follow block) page P h = absurd h
+page_refuses (following held) (Import style bytes buckets entries) page P h = absurd h
+page_refuses (following held) (Append bounds change) page P h = absurd h
+page_refuses (following held) Clear page P h = absurd h
+page_refuses (following held) Migrate page P h = absurd h
+page_refuses (following held) (Follow block) page P h = absurd (cc)
 
 bad_refuses : (state : State) (step : Step) (fault : FlowFault) (P : Type 0) → IsBadStore fault
     → OrFull standard (Some fault) (Refuses standard state step (Some fault)) → P
@@ -92,6 +102,7 @@ abbrev pub IsOfState : Terms → Fault → Type 0
 IsOfState terms faults.NotImported = terms.store
 IsOfState terms faults.AlreadyImported = terms.store
 IsOfState terms faults.OldFormat = terms.uses
+IsOfState terms faults.Follower = terms.opening
 IsOfState terms faults.UnknownTable = terms.opening
 IsOfState terms _ = ⊥
 
@@ -110,6 +121,7 @@ KeepsTo terms file quiet (looks rest) = terms.store × KeepsTo terms file quiet 
 KeepsTo terms file quiet (commits step rest) = terms.store × KeepsTo terms file quiet rest
 KeepsTo terms file quiet (tells text rest) = KeepsTo terms file ⊥ rest
 KeepsTo terms file quiet (writes Fits rest) = KeepsTo terms file ⊥ rest
+KeepsTo terms file quiet (feeds Fits rest) = KeepsTo terms file ⊥ rest
 
 -- a file of the terms has this fault, where it is told
 abbrev pub FileHas : Terms → Before → ℕ → Fault → Type 0
@@ -132,6 +144,7 @@ Blame terms old (Some faults.NotFormatted) = terms.opening × IfTold old.content
 Blame terms old (Some faults.NotImported) = terms.store
 Blame terms old (Some faults.AlreadyImported) = terms.store
 Blame terms old (Some faults.OldFormat) = terms.uses
+Blame terms old (Some faults.Follower) = terms.opening
 Blame terms old (Some faults.UnknownTable) = terms.opening
 Blame terms old (Some (faults.BadStore page)) = terms.store × IfTold old.content (λ _. terms.opening)
 Blame terms old (Some faults.NotEmpty) = terms.makes × IfTold old.content (λ bytes. length bytes ≢ 0)
@@ -282,6 +295,7 @@ module _ (terms : Terms) (old : Before) where
   blamed_file file faults.NotImported of_file low high told = absurd of_file
   blamed_file file faults.AlreadyImported of_file low high told = absurd of_file
   blamed_file file faults.OldFormat of_file low high told = absurd of_file
+  blamed_file file faults.Follower of_file low high told = absurd of_file
   blamed_file file faults.UnknownTable of_file low high told = absurd of_file
   blamed_file file (faults.BadStore page) of_file low high told = absurd of_file
   blamed_file file faults.WriteFault of_file low high told = absurd of_file
@@ -320,6 +334,7 @@ module _ (terms : Terms) (old : Before) where
   told_state file quiet done faults.AlreadyImported store up =
       told_at file quiet done (Some faults.AlreadyImported) up store (λ other names. names)
   told_state file quiet done faults.OldFormat uses up = told_at file quiet done (Some faults.OldFormat) up uses (λ other names. names)
+  told_state file quiet done faults.Follower opening up = told_at file quiet done (Some faults.Follower) up opening (λ other names. names)
   told_state file quiet done faults.UnknownTable opening up =
       told_at file quiet done (Some faults.UnknownTable) up opening (λ other names. names)
   told_state file quiet done faults.Usage none up = absurd none
@@ -456,6 +471,12 @@ module _ (terms : Terms) (old : Before) where
   comes_told (writes Fits rest) file quiet done ending to up (inr (own, told, inl is)) =
       is_told ending _ is (told_at_text file quiet own done up)
   comes_told (writes Fits rest) file quiet done ending to up (inr (own, told, inr c)) =
+      comes_told rest file ⊥ (plus own done) ending to (written file quiet own done up) c
+  comes_told (feeds Fits rest) file quiet done ending to up (inl is) =
+      is_told ending _ is (told_at file quiet done (Some faults.OutOfMemory) up tt (λ other names. names))
+  comes_told (feeds Fits rest) file quiet done ending to up (inr (own, block, told, inl is)) =
+      is_told ending _ is (told_at_text file quiet own done up)
+  comes_told (feeds Fits rest) file quiet done ending to up (inr (own, block, told, inr c)) =
       comes_told rest file ⊥ (plus own done) ending to (written file quiet own done up) c
 
 -- files that are gathered

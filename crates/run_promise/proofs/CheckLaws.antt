@@ -1,7 +1,7 @@
 -- What holds of checks of stores that keep a history, by their course.
 use Rattle.std.proofs.Common.{◌≡◌, ◌≤◌, ℕ, Option, Some, None, List, inl, inr, refl, sym, ◌∙◌, ap}
 use Rattle.update_flow.specs.History.{state_after}
-use Rattle.update_flow.specs.State.{State, formatted, imported, outdated}
+use Rattle.update_flow.specs.State.{State, formatted, imported, outdated, following}
 use Rattle.run_promise.specs.declared.fault.Fault.{Fault}
 use Rattle.run_promise.specs.declared.fault.Fault.TheVariants as faults
 use Rattle.run_promise.specs.Comes.{Comes}
@@ -42,6 +42,8 @@ module _ (old : Before) (kept : Kept) (ending : Ending) where
     checked_bad cut (imported held) comes = looked_bad cut comes
     checked_bad cut (outdated held) is = absurd (let two : Some faults.OldFormat ≡ Some (faults.BadStore page) =
         no_page (at (opened kept cut Start) (Some faults.OldFormat)) (Some faults.OldFormat) is refl in cc)
+    checked_bad cut (following held) is = absurd (let two : Some faults.Follower ≡ Some (faults.BadStore page) =
+        no_page (at (opened kept cut Start) (Some faults.Follower)) (Some faults.Follower) is refl in cc)
 
     pub tells_no_page : (store : List ℕ) → Comes old (course_of (check_of store)) Start ending → ⊥
     tells_no_page store (inl (inl is)) = absurd (let two : Some faults.DiskFault ≡ Some (faults.BadStore page) =
@@ -75,6 +77,7 @@ module _ (old : Before) (kept : Kept) (ending : Ending) where
       checked_so formatted comes = looked_well comes
       checked_so (imported held) comes = looked_well comes
       checked_so (outdated held) is = faulty (at Done (Some faults.OldFormat)) faults.OldFormat is refl
+      checked_so (following held) is = faulty (at Done (Some faults.Follower)) faults.Follower is refl
 
     pub checked_well : (store : List ℕ) → Comes old (course_of (check_of store)) Start ending → IsFoundSound kept ending
     checked_well store (inl (inl is)) = faulty (at Start (Some faults.DiskFault)) faults.DiskFault is refl

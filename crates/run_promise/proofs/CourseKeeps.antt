@@ -8,12 +8,12 @@ use Rattle.run_promise.specs.declared.fault.Fault.{Fault}
 use Rattle.run_promise.specs.declared.fault.Fault.TheVariants as faults
 use Rattle.run_promise.specs.Comes.{Breaks, BreaksIn, Comes, HoldsBytes, IsRefusal, IsRefusedFor, IsStepFault, MayTake, refused, short}
 use Rattle.run_promise.specs.Comes.{unread}
-use Rattle.run_promise.specs.Course.{Course, ends, refuses, reads, wants_empty, formats, opens, looks, commits, tells, writes}
+use Rattle.run_promise.specs.Course.{Course, ends, refuses, reads, wants_empty, formats, opens, looks, commits, tells, writes, feeds}
 use Rattle.run_promise.specs.Keeps.{Kept, IsFit, blank, first, perhaps, whole, with_steps}
 use Rattle.run_promise.specs.Making.{reading_alone}
 use Rattle.run_promise.specs.Progress.{unused, unknown, keeps, half_made, Progress, Ending, at, begun, past, plus, with_store, made, opened}
 use Rattle.run_promise.specs.Progress.{committed, in_doubt}
-use Rattle.run_promise.specs.Safety.{lines_in}
+use Rattle.run_promise.specs.FeedBlocks.{lines_in}
 use Rattle.run_promise.specs.World.{Before}
 use Rattle.run_promise.proofs.HistoryLaws.{append_more, length_more}
 use Rattle.run_promise.proofs.CourseLaws.{of_store, of_unknown, three}
@@ -32,6 +32,8 @@ Counts (looks rest) untold left = (untold ≡ 0) × Counts rest untold left
 Counts (commits step rest) untold left = (untold ≡ 0) × Counts rest 1 (left - 1)
 Counts (tells text rest) untold left = ((left ≡ 0) ⊎ (lines_in text ≤ untold)) × Counts rest (untold - lines_in text) left
 Counts (writes Fits rest) untold left = (untold ≡ 0) × (left ≡ 0) × Counts rest untold left
+-- what a feed tells is counted by blocks
+Counts (feeds Fits rest) untold left = ⊥
 
 -- it opens the store first
 abbrev pub CountsOpen : (total : ℕ) → Course → Type 0
@@ -45,21 +47,22 @@ CountsMade total (wants_empty rest) = CountsMade total rest
 CountsMade total (formats rest) = Counts rest 0 total
 CountsMade total _ = ⊥
 
--- the store keeps the first steps of the history that it had, and others behind them
-record IsAfter (total : ℕ) (before : Kept) (untold left : ℕ) (done : Progress) : Type 0 where
-  now : History
-  is : done.store ≡ keeps (whole now)
-  from : before.least ≤ done.cut
-  to : done.cut ≤ before.most
-  steps : List Step
-  extends : now ≡ with_steps steps (first done.cut before.history)
-  sure : (told : ℕ) → told ≤ total → told ≤ lines_in done.written + untold → done.cut + told ≤ length now.steps
-  near : done.cut + total ≤ length now.steps + left
-  owed : length steps ≤ lines_in done.written + untold
-  one : untold ≤ 1
+-- the store keeps the first steps of the history that it had, and others behind them, of which so many were told
+pub record IsAfter (total : ℕ) (before : Kept) (count untold left : ℕ) (done : Progress) : Type 0 where
+  pub now : History
+  pub is : done.store ≡ keeps (whole now)
+  pub from : before.least ≤ done.cut
+  pub to : done.cut ≤ before.most
+  pub steps : List Step
+  pub extends : now ≡ with_steps steps (first done.cut before.history)
+  pub sure : (told : ℕ) → told ≤ total → told ≤ count + untold → done.cut + told ≤ length now.steps
+  pub near : done.cut + total ≤ length now.steps + left
+  pub owed : length steps ≤ count + untold
+  pub one : untold ≤ 1
 
--- the same at an end, where the last step may be in doubt and the store may not have been opened
-pub record Reaches (total : ℕ) (before : Kept) (ending : Ending) : Type 0 where
+-- The same at an end, where the last step may be in doubt and the store may not have been opened. In the middle of a text a part of it may
+-- tell some more; after late faults the last step may be untold.
+pub record Reaches (total : ℕ) (Late : Option Fault → Type 0) (before : Kept) (count half : ℕ) (ending : Ending) : Type 0 where
   pub now : Kept
   pub is : ending.done.store ≡ keeps now
   pub from : before.least ≤ ending.done.cut
@@ -68,10 +71,9 @@ pub record Reaches (total : ℕ) (before : Kept) (ending : Ending) : Type 0 wher
   pub behind : ((now ≡ before) × (steps ≡ [])) ⊎ (now.history ≡ with_steps steps (first ending.done.cut before.history))
   pub fit : IsFit now
   pub all : ending.fault ≡ None → now.least ≡ length now.history.steps
-  pub sure : (told : ℕ) → told ≤ total → told ≤ lines_in ending.done.written + lines_in ending.writing → ending.done.cut + told ≤ now.least
-  pub only : ending.fault ≢ None → ending.fault ≢ Some faults.WriteFault → ending.fault ≢ Some faults.DiskFault
-      → length steps ≤ lines_in ending.done.written
-  pub last : ending.fault ≡ Some faults.WriteFault → length steps ≤ lines_in ending.done.written + 1
+  pub sure : (told : ℕ) → told ≤ total → told ≤ count + half → ending.done.cut + told ≤ now.least
+  pub only : ending.fault ≢ None → ¬ Late ending.fault → ending.fault ≢ Some faults.DiskFault → length steps ≤ count
+  pub last : Late ending.fault → length steps ≤ count + 1
 
 -- no store was made, or none that is whole
 pub record IsUnmadeAt (ending : Ending) : Type 0 where
@@ -86,13 +88,11 @@ more_steps before cut steps step now is =
     ap (with_steps (step ∷ [])) is ∙ ap (λ (own : List Step). record { base = before.history.base; steps = own })
     (append_more (first cut before.history).steps steps (step ∷ []))
 
-module _ (total : ℕ) (before : Kept) where
-  reaches : (ending own : Ending) → ending ≡ own → Reaches total before own → Reaches total before ending
-  reaches ending own is there = subst (Reaches total before) (sym is) there
-
+-- whatever it is that tells a step
+module _ (total : ℕ) (Late : Option Fault → Type 0) (before : Kept) (count : ℕ) where
   -- with all steps done, and all told
-  reached : (left : ℕ) (done : Progress) (reading : Option ℕ) (fault : Option Fault) → IsAfter total before 0 left done
-      → Reaches total before (record { done = done; reading = reading; writing = []; fault = fault })
+  pub reached : (left : ℕ) (done : Progress) (reading : Option ℕ) (fault : Option Fault) → IsAfter total before count 0 left done
+      → Reaches total Late before count 0 (record { done = done; reading = reading; writing = []; fault = fault })
   reached left done reading fault after = record {
     now = whole after.now;
     is = after.is;
@@ -108,7 +108,8 @@ module _ (total : ℕ) (before : Kept) where
   }
 
   -- at the end of the course the last one may go untold
-  ended : (untold left : ℕ) (done : Progress) → IsAfter total before untold left done → Reaches total before (at done None)
+  pub ended : (untold left : ℕ) (done : Progress) → IsAfter total before count untold left done
+      → Reaches total Late before count 0 (at done None)
   ended untold left done after = record {
     now = whole after.now;
     is = after.is;
@@ -120,14 +121,14 @@ module _ (total : ℕ) (before : Kept) where
     all = λ _. refl;
     sure = λ told most few. after.sure told most (omega (arith, few));
     only = λ some _ _. absurd (some refl);
-    last = λ is. absurd (cc);
+    last = λ _. let owed = after.owed in let one = after.one in omega (arith, owed, one);
   }
 
-  -- in the middle of a text, whose lines tell no more than there is to be told
-  telling : (untold left : ℕ) (text : List ℕ) (done : Progress) → (left ≡ 0) ⊎ (lines_in text ≤ untold)
-      → IsAfter total before untold left done
-      → Reaches total before (record { done = done; reading = None; writing = text; fault = Some faults.WriteFault })
-  telling untold left text done counts after = record {
+  -- in the middle of a text, which tells no more than there is to be told
+  pub telling : (half untold left : ℕ) (text : List ℕ) (done : Progress) (fault : Fault) → Late (Some fault)
+      → (left ≡ 0) ⊎ (half ≤ untold) → IsAfter total before count untold left done
+      → Reaches total Late before count half (record { done = done; reading = None; writing = text; fault = Some fault })
+  telling half untold left text done fault late counts after = record {
     now = whole after.now;
     is = after.is;
     from = after.from;
@@ -137,14 +138,15 @@ module _ (total : ℕ) (before : Kept) where
     fit = record { order = omega arith; last = refl; one = omega arith };
     all = λ e. absurd (cc);
     sure = λ told most few. ⊎_elim (λ (none : left ≡ 0). let near = after.near in omega (arith, near, none, most))
-        (λ (own : lines_in text ≤ untold). after.sure told most (omega (arith, own, few))) counts;
-    only = λ _ not _. absurd (not refl);
+        (λ (own : half ≤ untold). after.sure told most (omega (arith, own, few))) counts;
+    only = λ _ not _. absurd (not late);
     last = λ _. let owed = after.owed in let one = after.one in omega (arith, owed, one);
   }
 
   -- and with one step in doubt
-  doubted : (left : ℕ) (step : Step) (kept : Kept) (done : Progress) (after : IsAfter total before 0 left done) → done.store ≡ keeps kept
-      → Reaches total before (at (in_doubt step kept done) (Some faults.DiskFault))
+  pub doubted : (left : ℕ) (step : Step) (kept : Kept) (done : Progress) (after : IsAfter total before count 0 left done)
+      → done.store ≡ keeps kept
+      → Reaches total Late before count 0 (at (in_doubt step kept done) (Some faults.DiskFault))
   doubted left step kept done after is =
       let same : kept ≡ whole after.now = (let two : keeps kept ≡ keeps (whole after.now) = sym is ∙ after.is in cc) in
       let long : length kept.history.steps ≡ length after.now.steps = ap (λ (own : Kept). length own.history.steps) same in
@@ -164,12 +166,51 @@ module _ (total : ℕ) (before : Kept) where
         all = λ e. absurd (cc);
         sure = λ told most few. let own = after.sure told most few in omega (arith, own, long);
         only = λ _ _ not. absurd (not refl);
-        last = λ e. absurd (cc);
+        last = λ _. let owed = after.owed in let own = length_more after.steps step in omega (arith, own, owed);
       }
 
-  -- and with one more done
-  stepped : (left : ℕ) (step : Step) (kept : Kept) (done : Progress) (after : IsAfter total before 0 left done) → done.store ≡ keeps kept
-      → IsAfter total before 1 (left - 1) (committed step kept done)
+  -- before the store was opened
+  pub unopened : IsFit before → count ≡ 0 → (fault : Fault)
+      → Reaches total Late before count 0 (at (begun (keeps before) before.least) (Some fault))
+  unopened fit none fault = record {
+    now = before;
+    is = refl;
+    from = omega arith;
+    to = fit.order;
+    steps = [];
+    behind = inl (refl, refl);
+    fit = fit;
+    all = λ e. absurd (cc);
+    sure = λ told most few. omega (arith, few, none);
+    only = λ _ _ _. omega arith;
+    last = λ _. omega arith;
+  }
+
+module _ (total : ℕ) (before : Kept) (count : ℕ) where
+  -- as it was opened
+  pub just_opened : (cut : ℕ) → before.least ≤ cut → cut ≤ before.most → IsFit before → count ≡ 0
+      → IsAfter total before count 0 total (opened before cut (begun (keeps before) before.least))
+  just_opened cut low high fit none =
+      let last = fit.last in
+      let long : length (first cut before.history).steps ≡ cut = length-take-le cut before.history.steps (omega (arith, high, last)) in
+      record {
+        now = first cut before.history;
+        is = refl;
+        from = low;
+        to = high;
+        steps = [];
+        extends = ap (λ (own : List Step). record { base = before.history.base; steps = own })
+            (sym (append-nil (first cut before.history).steps));
+        sure = λ told most few. omega (arith, few, long, none);
+        near = omega (arith, long);
+        owed = omega arith;
+        one = omega arith;
+      }
+
+  -- with one more step done
+  pub stepped : (left : ℕ) (step : Step) (kept : Kept) (done : Progress) (after : IsAfter total before count 0 left done)
+      → done.store ≡ keeps kept
+      → IsAfter total before count 1 (left - 1) (committed step kept done)
   stepped left step kept done after is =
       let same : kept ≡ whole after.now = (let two : keeps kept ≡ keeps (whole after.now) = sym is ∙ after.is in cc) in
       let long : length kept.history.steps ≡ length after.now.steps = ap (λ (own : Kept). length own.history.steps) same in
@@ -192,7 +233,8 @@ module _ (total : ℕ) (before : Kept) where
       }
 
   -- with another file read
-  went_past : (left file : ℕ) (done : Progress) → IsAfter total before 0 left done → IsAfter total before 0 left (past file done)
+  pub went_past : (left file : ℕ) (done : Progress) → IsAfter total before count 0 left done
+      → IsAfter total before count 0 left (past file done)
   went_past left file done after = record {
     now = after.now;
     is = after.is;
@@ -206,11 +248,10 @@ module _ (total : ℕ) (before : Kept) where
     one = after.one;
   }
 
-  -- with a text told
-  wrote : (untold left : ℕ) (text : List ℕ) (done : Progress) → (left ≡ 0) ⊎ (lines_in text ≤ untold)
-      → IsAfter total before untold left done → IsAfter total before (untold - lines_in text) left (plus text done)
-  wrote untold left text done counts after =
-      let more = lines-append done.written text in
+  -- with a text told, which tells so many
+  pub wrote : (more untold left : ℕ) (text : List ℕ) (done : Progress) → (left ≡ 0) ⊎ (more ≤ untold)
+      → IsAfter total before count untold left done → IsAfter total before (count + more) (untold - more) left (plus text done)
+  wrote more untold left text done counts after =
       let near = after.near in
       let owed = after.owed in
       let one = after.one in
@@ -222,119 +263,122 @@ module _ (total : ℕ) (before : Kept) where
         steps = after.steps;
         extends = after.extends;
         sure = λ told most few. ⊎_elim (λ (none : left ≡ 0). omega (arith, near, none, most))
-            (λ (own : lines_in text ≤ untold). after.sure told most (omega (arith, own, few, more))) counts;
+            (λ (own : more ≤ untold). after.sure told most (omega (arith, own, few))) counts;
         near = near;
-        owed = omega (arith, owed, more);
+        owed = omega (arith, owed);
         one = omega (arith, one);
       }
 
+-- a line tells a step; where the output failed, the last one may go untold
+abbrev pub IsUnwritten : Option Fault → Type 0
+IsUnwritten fault = fault ≡ Some faults.WriteFault
+
+abbrev pub ReachesLines : (total : ℕ) (before : Kept) → Ending → Type 0
+ReachesLines total before ending =
+    Reaches total IsUnwritten before (lines_in ending.done.written) (lines_in ending.writing) ending
+
+module _ (total : ℕ) (before : Kept) where
+  abbrev After : (untold left : ℕ) → Progress → Type 0
+  After untold left done = IsAfter total before (lines_in done.written) untold left done
+
+  reaches : (ending own : Ending) → ending ≡ own → ReachesLines total before own → ReachesLines total before ending
+  reaches ending own is there = subst (ReachesLines total before) (sym is) there
+
+  all_told : (left : ℕ) (done : Progress) (reading : Option ℕ) (fault : Option Fault) → After 0 left done
+      → ReachesLines total before (record { done = done; reading = reading; writing = []; fault = fault })
+  all_told left done reading fault after = reached total IsUnwritten before (lines_in done.written) left done reading fault after
+
+  told_lines : (untold left : ℕ) (text : List ℕ) (done : Progress) → (left ≡ 0) ⊎ (lines_in text ≤ untold) → After untold left done
+      → After (untold - lines_in text) left (plus text done)
+  told_lines untold left text done counts after =
+      subst (λ (count : ℕ). IsAfter total before count (untold - lines_in text) left (plus text done))
+      (sym (lines-append done.written text))
+      (wrote total before (lines_in done.written) (lines_in text) untold left text done counts after)
+
   module _ (old : Before) where
-    breaks_safe : (left : ℕ) (done : Progress) (ending : Ending) → IsAfter total before 0 left done → Breaks done ending
-        → Reaches total before ending
-    breaks_safe left done ending after (inl is) = reaches ending _ is (reached left done None (Some faults.DiskFault) after)
-    breaks_safe left done ending after (inr is) = reaches ending _ is (reached left done None (Some faults.OutOfMemory) after)
+    breaks_safe : (left : ℕ) (done : Progress) (ending : Ending) → After 0 left done → Breaks done ending
+        → ReachesLines total before ending
+    breaks_safe left done ending after (inl is) = reaches ending _ is (all_told left done None (Some faults.DiskFault) after)
+    breaks_safe left done ending after (inr is) = reaches ending _ is (all_told left done None (Some faults.OutOfMemory) after)
 
     file_safe : (A : Type 0) (file : ℕ) (told : Option (List ℕ)) (Reads : List ℕ → Result A Fault → Type 0) (left : ℕ) (done : Progress)
-        (ending : Ending) → IsAfter total before 0 left done
-        → BreaksIn A file told Reads done ending → Reaches total before ending
+        (ending : Ending) → After 0 left done
+        → BreaksIn A file told Reads done ending → ReachesLines total before ending
     file_safe A file told Reads left done ending after (unread is) =
-        reaches ending _ is (reached left done (Some file) (Some (faults.ReadFault file)) after)
+        reaches ending _ is (all_told left done (Some file) (Some (faults.ReadFault file)) after)
     file_safe A file told Reads left done ending after (short is) =
-        reaches ending _ is (reached left done (Some file) (Some faults.OutOfMemory) after)
+        reaches ending _ is (all_told left done (Some file) (Some faults.OutOfMemory) after)
     file_safe A file told Reads left done ending after (refused fault own told_so is) =
-        reaches ending _ is (reached left done (Some file) (Some fault) after)
+        reaches ending _ is (all_told left done (Some file) (Some fault) after)
 
     -- each end of a course behind the opening
     comes_safe : (course : Course) (untold left : ℕ) (done : Progress) (ending : Ending) → Counts course untold left
-        → IsAfter total before untold left done → Comes old course done ending → Reaches total before ending
-    comes_safe ends untold left done ending counts after is = reaches ending _ is (ended untold left done after)
+        → After untold left done → Comes old course done ending → ReachesLines total before ending
+    comes_safe ends untold left done ending counts after is =
+        reaches ending _ is (ended total IsUnwritten before (lines_in done.written) untold left done after)
     comes_safe (refuses fault) untold left done ending counts after is =
-        reaches ending _ is (reached left done None (Some fault)
-        (subst (λ (untold : ℕ). IsAfter total before untold left done) counts after))
+        reaches ending _ is (all_told left done None (Some fault)
+        (subst (λ (untold : ℕ). After untold left done) counts after))
     comes_safe (reads {A} file Reads rest) untold left done ending (none, counts) after (inl breaks) =
         file_safe A file (old.left file) Reads left done ending
-        (subst (λ (untold : ℕ). IsAfter total before untold left done) none after) breaks
+        (subst (λ (untold : ℕ). After untold left done) none after) breaks
     comes_safe (reads {A} file Reads rest) untold left done ending (none, counts) after (inr (found, told, c)) =
         comes_safe (rest found) 0 left (past file done) ending (subst (λ (untold : ℕ). Counts (rest found) untold left) none (counts found))
-        (went_past left file done (subst (λ (untold : ℕ). IsAfter total before untold left done) none after)) c
+        (went_past total before (lines_in done.written) left file done (subst (λ (untold : ℕ). After untold left done) none after)) c
     comes_safe (wants_empty rest) untold left done ending counts after c = absurd counts
     comes_safe (formats rest) untold left done ending counts after c = absurd counts
     comes_safe (opens rest) untold left done ending counts after c = absurd counts
     comes_safe (looks rest) untold left done ending (none, counts) after (inl breaks) =
-        breaks_safe left done ending (subst (λ (untold : ℕ). IsAfter total before untold left done) none after) breaks
+        breaks_safe left done ending (subst (λ (untold : ℕ). After untold left done) none after) breaks
     comes_safe (looks rest) untold left done ending (none, counts) after (inr (inl why)) =
         absurd (let two : unknown ≡ keeps (whole after.now) =
         sym (of_unknown done.store (IsRefusedFor (IsStepFault None) done ending) why).0 ∙ after.is in cc)
     comes_safe (looks rest) untold left done ending (none, counts) after (inr (inr c)) =
         comes_safe rest untold left done ending counts after c
     comes_safe (commits step rest) untold left done ending (none, counts) after (inl breaks) =
-        breaks_safe left done ending (subst (λ (untold : ℕ). IsAfter total before untold left done) none after) breaks
+        breaks_safe left done ending (subst (λ (untold : ℕ). After untold left done) none after) breaks
     comes_safe (commits step rest) untold left done ending (none, counts) after (inr c) =
-        let own = subst (λ (untold : ℕ). IsAfter total before untold left done) none after in
+        let own = subst (λ (untold : ℕ). After untold left done) none after in
         of_store done.store
         (λ kept. (ending ≡ at (in_doubt step kept done) (Some faults.DiskFault))
         ⊎ IsRefusedFor (IsRefusal old (state_after kept.history) step) done ending
         ⊎ (MayTake old (state_after kept.history) step × Comes old rest (committed step kept done) ending))
-        (IsRefusedFor (IsStepFault (Some step)) done ending ⊎ Comes old rest done ending) (Reaches total before ending)
+        (IsRefusedFor (IsStepFault (Some step)) done ending ⊎ Comes old rest done ending) (ReachesLines total before ending)
         (λ kept is h. three (λ (doubt : ending ≡ at (in_doubt step kept done) (Some faults.DiskFault)).
-        reaches ending _ doubt (doubted left step kept done own is))
+        reaches ending _ doubt (doubted total IsUnwritten before (lines_in done.written) left step kept done own is))
         (λ (why : IsRefusedFor (IsRefusal old (state_after kept.history) step) done ending).
-        reaches ending _ why.2 (reached left done None _ own))
+        reaches ending _ why.2 (all_told left done None _ own))
         (λ (c : MayTake old (state_after kept.history) step × Comes old rest (committed step kept done) ending).
-        comes_safe rest 1 (left - 1) (committed step kept done) ending counts (stepped left step kept done own is) c.1) h)
+        comes_safe rest 1 (left - 1) (committed step kept done) ending counts
+        (stepped total before (lines_in done.written) left step kept done own is) c.1) h)
         (λ un h. absurd (let two : unknown ≡ keeps (whole after.now) = sym un ∙ after.is in cc)) c
     comes_safe (tells text rest) untold left done ending (counts, later) after (inl is) =
-        reaches ending _ is (telling untold left text done counts after)
+        reaches ending _ is (telling total IsUnwritten before (lines_in done.written) (lines_in text) untold left text done
+        faults.WriteFault refl counts after)
     comes_safe (tells text rest) untold left done ending (counts, later) after (inr c) =
-        comes_safe rest (untold - lines_in text) left (plus text done) ending later (wrote untold left text done counts after) c
+        comes_safe rest (untold - lines_in text) left (plus text done) ending later (told_lines untold left text done counts after) c
     comes_safe (writes Fits rest) untold left done ending (none, over, later) after (inl is) =
-        reaches ending _ is (reached left done None (Some faults.OutOfMemory)
-        (subst (λ (untold : ℕ). IsAfter total before untold left done) none after))
+        reaches ending _ is (all_told left done None (Some faults.OutOfMemory)
+        (subst (λ (untold : ℕ). After untold left done) none after))
     comes_safe (writes Fits rest) untold left done ending (none, over, later) after (inr (own, told, inl is)) =
-        reaches ending _ is (telling untold left own done (inl over) after)
+        reaches ending _ is (telling total IsUnwritten before (lines_in done.written) (lines_in own) untold left own done
+        faults.WriteFault refl (inl over) after)
     comes_safe (writes Fits rest) untold left done ending (none, over, later) after (inr (own, told, inr c)) =
         comes_safe rest 0 left (plus own done) ending (subst (λ (untold : ℕ). Counts rest untold left) none later)
         (let zero : untold - lines_in own ≡ 0 = omega (arith, none) in
-        subst (λ (untold : ℕ). IsAfter total before untold left (plus own done)) zero (wrote untold left own done (inl over) after)) c
-
-    unopened : (fit : IsFit before) (fault : Fault) → Reaches total before (at (begun (keeps before) before.least) (Some fault))
-    unopened fit fault = record {
-      now = before;
-      is = refl;
-      from = omega arith;
-      to = fit.order;
-      steps = [];
-      behind = inl (refl, refl);
-      fit = fit;
-      all = λ e. absurd (cc);
-      sure = λ told most few. omega (arith, few);
-      only = λ _ _ _. omega arith;
-      last = λ _. omega arith;
-    }
+        subst (λ (untold : ℕ). After untold left (plus own done)) zero (told_lines untold left own done (inl over) after)) c
+    comes_safe (feeds Fits rest) untold left done ending counts after c = absurd counts
 
     -- each end of a course that begins with the opening
     pub opens_safe : (course : Course) (ending : Ending) → CountsOpen total course → IsFit before
-        → Comes old course (begun (keeps before) before.least) ending → Reaches total before ending
-    opens_safe (opens rest) ending counts fit (inl (inl is)) = reaches ending _ is (unopened fit faults.DiskFault)
-    opens_safe (opens rest) ending counts fit (inl (inr is)) = reaches ending _ is (unopened fit faults.OutOfMemory)
+        → Comes old course (begun (keeps before) before.least) ending → ReachesLines total before ending
+    opens_safe (opens rest) ending counts fit (inl (inl is)) =
+        reaches ending _ is (unopened total IsUnwritten before 0 fit refl faults.DiskFault)
+    opens_safe (opens rest) ending counts fit (inl (inr is)) =
+        reaches ending _ is (unopened total IsUnwritten before 0 fit refl faults.OutOfMemory)
     opens_safe (opens rest) ending counts fit (inr (cut, low, high, c)) =
-        let last = fit.last in
-        let long : length (first cut before.history).steps ≡ cut = length-take-le cut before.history.steps (omega (arith, high, last)) in
         comes_safe (rest (state_after (first cut before.history))) 0 total (opened before cut (begun (keeps before) before.least)) ending
-        (counts (state_after (first cut before.history)))
-        (record {
-          now = first cut before.history;
-          is = refl;
-          from = low;
-          to = high;
-          steps = [];
-          extends = ap (λ (own : List Step). record { base = before.history.base; steps = own })
-              (sym (append-nil (first cut before.history).steps));
-          sure = λ told most few. omega (arith, few, long);
-          near = omega (arith, long);
-          owed = omega arith;
-          one = omega arith;
-        }) c
+        (counts (state_after (first cut before.history))) (just_opened total before 0 cut low high fit refl) c
     opens_safe ends ending counts fit c = absurd counts
     opens_safe (refuses fault) ending counts fit c = absurd counts
     opens_safe (reads {A} file Reads rest) ending counts fit c = absurd counts
@@ -344,10 +388,11 @@ module _ (total : ℕ) (before : Kept) where
     opens_safe (commits step rest) ending counts fit c = absurd counts
     opens_safe (tells text rest) ending counts fit c = absurd counts
     opens_safe (writes Fits rest) ending counts fit c = absurd counts
+    opens_safe (feeds Fits rest) ending counts fit c = absurd counts
 
 module _ (total : ℕ) (old : Before) (bytes : List ℕ) (is : old.content ≡ Some bytes) where
   abbrev MadeAt : Ending → Type 0
-  MadeAt ending = IsUnmadeAt ending ⊎ Reaches total (whole blank) ending
+  MadeAt ending = IsUnmadeAt ending ⊎ ReachesLines total (whole blank) ending
 
   unmade : (ending own : Ending) → ending ≡ own → IsUnmadeAt own → MadeAt ending
   unmade ending own same there = inl (subst IsUnmadeAt (sym same) there)
@@ -364,7 +409,7 @@ module _ (total : ℕ) (old : Before) (bytes : List ℕ) (is : old.content ≡ S
   file_unmade A file told Reads read ending (refused fault own told_so same) = unmade ending _ same (before_made read (Some file) fault)
 
   -- a store that was just made
-  just_made : (read : List ℕ) → IsAfter total (whole blank) 0 total (with_store (keeps (whole blank)) (reading_alone read))
+  just_made : (read : List ℕ) → IsAfter total (whole blank) 0 0 total (with_store (keeps (whole blank)) (reading_alone read))
   just_made read = record {
     now = blank;
     is = refl;
@@ -402,3 +447,4 @@ module _ (total : ℕ) (old : Before) (bytes : List ℕ) (is : old.content ≡ S
   makes_safe (commits step rest) read ending counts c = absurd counts
   makes_safe (tells text rest) read ending counts c = absurd counts
   makes_safe (writes Fits rest) read ending counts c = absurd counts
+  makes_safe (feeds Fits rest) read ending counts c = absurd counts

@@ -8,7 +8,7 @@ use Rattle.update_flow.specs.Opening.{MayOpenAs}
 use Rattle.update_flow.specs.State.{State}
 use Rattle.run_promise.specs.Comes.{Breaks, BreaksIn, ByStore, Comes, HoldsBytes, IfUnknown, IfUnused, IsBroken, IsDue, IsNoStore, IsOfFile}
 use Rattle.run_promise.specs.Comes.{IsOutside, IsRefusal, IsRefusedFor, IsStepFault, MayTake, refused, short, unread}
-use Rattle.run_promise.specs.Course.{Course, ends, refuses, reads, wants_empty, formats, opens, looks, commits, tells, writes}
+use Rattle.run_promise.specs.Course.{Course, ends, refuses, reads, wants_empty, formats, opens, looks, commits, tells, writes, feeds}
 use Rattle.run_promise.specs.Keeps.{Kept, first}
 use Rattle.run_promise.specs.Progress.{Standing, unused, unknown, keeps, half_made, Progress, Ending, at, at_file, at_text, past, plus}
 use Rattle.run_promise.specs.Progress.{with_store, made, opened, committed, in_doubt}
@@ -128,3 +128,8 @@ module _ (old : Before) where
   comes_due (writes Fits rest) done ending (inl is) not = blamed ending (at done (Some faults.OutOfMemory)) _ is tt not
   comes_due (writes Fits rest) done ending (inr (own, told, inl is)) not = blamed ending (at_text own done faults.WriteFault) _ is tt not
   comes_due (writes Fits rest) done ending (inr (own, told, inr c)) not = (own, told, comes_due rest (plus own done) ending c not)
+  comes_due (feeds Fits rest) done ending (inl is) not = blamed ending (at done (Some faults.OutOfMemory)) _ is tt not
+  comes_due (feeds Fits rest) done ending (inr (own, block, told, inl is)) not =
+      blamed ending (at_text own done faults.WriteFault) _ is tt not
+  comes_due (feeds Fits rest) done ending (inr (own, block, told, inr c)) not =
+      (own, block, told, comes_due rest (plus own done) ending c not)

@@ -1,37 +1,40 @@
 -- What runs that end well have done, by the courses of their commands.
-use Rattle.std.proofs.Common.{◌≡◌, ◌⊎◌, ◌≤◌, ℕ, zero, suc, ◌+◌, ◌-◌, true, Option, Some, None, Result, List, [], ◌∷◌, ◌++◌, length, map}
-use Rattle.std.proofs.Common.{inl, inr, refl, sym, ◌∙◌, ap, subst, arith}
+use Rattle.std.proofs.Common.{◌≡◌, ◌⊎◌, ◌≤◌, ℕ, zero, suc, ◌+◌, ◌-◌, Bool, true, false, Option, Some, None, Result, Ok, List, [], ◌∷◌, ◌++◌}
+use Rattle.std.proofs.Common.{length, map, inl, inr, refl, sym, ◌∙◌, ap, subst, arith}
 use Rattle.std.proofs.lemmas.List.{append-nil}
 use Rattle.osm_base.specs.declared.values.object.Entry.{Entry}
+use Rattle.outside.specs.Bytes.{IfTold}
 use Rattle.tile_cover.specs.Table.{BoundsOf}
 use Rattle.update_flow.specs.History.{History, state_after}
-use Rattle.update_flow.specs.State.{Holding, State, Step, formatted, imported, outdated, Import, Append, Clear, after, changed}
+use Rattle.update_flow.specs.State.{Holding, State, Step, formatted, imported, outdated, following, Import, Append, Clear, after, changed}
 use Rattle.run_promise.specs.declared.fault.Fault.{Fault}
 use Rattle.run_promise.specs.declared.fault.Fault.TheVariants as faults
-use Rattle.run_promise.specs.Comes.{Breaks, BreaksIn, ByStore, Comes, IsRefusal, IsRefusedFor, IsStepFault, MayTake, refused, short, unread}
-use Rattle.run_promise.specs.CommandOf.{append_of, import_of, tiles_of}
-use Rattle.run_promise.specs.Course.{Course, commits, ends, tells, writes}
-use Rattle.run_promise.specs.Courses.{IsTileText, append_to, appends, clears, course_of, finished, import_into, onward, tiles_of_store}
-use Rattle.run_promise.specs.Courses.{version_line}
-use Rattle.run_promise.specs.EndsWell.{AreAccepted, IsAppended, IsCleared, IsFirstImport, version_lines}
+use Rattle.run_promise.specs.Comes.{AreTold, Breaks, BreaksIn, ByStore, Comes, IsCertain, IsRefusal, IsRefusedFor, IsStepFault, MayTake}
+use Rattle.run_promise.specs.Comes.{refused, short, unread}
+use Rattle.run_promise.specs.CommandOf.{append_of, feed_of, import_of, tiles_of}
+use Rattle.run_promise.specs.Course.{Course, commits, ends, feeds, tells, writes}
+use Rattle.run_promise.specs.Courses.{IsDeltaText, IsTileText, append_to, appends, clears, course_of, feed_to, feeds_changes, feeds_full}
+use Rattle.run_promise.specs.Courses.{finished, import_into, onward, tiles_of_store, version_line}
+use Rattle.run_promise.specs.EndsWell.{AreAccepted, IsAppended, IsCleared, IsFed, IsFirstImport, TellChanges, first_block, version_lines}
 use Rattle.run_promise.specs.Faults.{flow_fault}
 use Rattle.run_promise.specs.Files.{IsBounds, IsChange, IsStyle}
 use Rattle.run_promise.specs.Keeps.{Kept, first, whole, with_steps}
-use Rattle.run_promise.specs.Progress.{Standing, keeps, Progress, Ending, IsIn, at, at_file, at_text, begun, committed, in_doubt, opened}
-use Rattle.run_promise.specs.Progress.{past, plus}
+use Rattle.run_promise.specs.Progress.{Standing, unknown, keeps, Progress, Ending, IsIn, at, at_file, at_text, begun, committed, in_doubt}
+use Rattle.run_promise.specs.Progress.{opened, past, plus}
 use Rattle.run_promise.specs.World.{Before}
 use Rattle.run_promise.specs.declared.files.Files.{Files}
+use Rattle.run_promise.proofs.CourseLaws.{of_unknown}
 use Rattle.run_promise.proofs.HistoryLaws.{append_more, state-more}
 
--- so many files from this one on were appended
+-- so many files from this one on were appended, and told so
 record WentOn (old : Before) (bounds : BoundsOf) (held : Holding) (file count : ℕ) (history : History) (before : Progress)
-    (ending : Ending) : Type 0 where
+    (ending : Ending) (Says : List (List Entry) → Type 0) : Type 0 where
   changes : List (List Entry)
   many : length changes ≡ count
   accepted : AreAccepted old file changes ending.done.read
   still : (own : ℕ) → IsIn before.read own → IsIn ending.done.read own
   kept : ending.done.store ≡ keeps (whole (with_steps (map (λ change. Append bounds change) changes) history))
-  told : ending.done.written ≡ before.written ++ version_lines held.changes count
+  told : Says changes
 
 module _ (old : Before) (ending : Ending) (well : ending.fault ≡ None) where
   -- a run that ended well ended otherwise than so
@@ -78,19 +81,54 @@ module _ (old : Before) (ending : Ending) (well : ending.fault ≡ None) where
   line_told text rest done (inl is) = faulty _ (at_text text done faults.WriteFault) faults.WriteFault is refl
   line_told text rest done (inr comes) = comes
 
-  appended_on : (bounds : BoundsOf) (held : Holding) (file count : ℕ) (history : History) (done : Progress)
-      → done.store ≡ keeps (whole history) → state_after history ≡ imported held
-      → Comes old (appends bounds held file count (onward finished)) done ending → WentOn old bounds held file count history done ending
-  unfolding appends
-  appended_on bounds held file zero history done keeps_it holds is = record {
+  -- none was appended
+  none_went : (bounds : BoundsOf) (held : Holding) (file : ℕ) (history : History) (done : Progress) (Says : List (List Entry) → Type 0)
+      → done.store ≡ keeps (whole history) → ending ≡ at done None → Says []
+      → WentOn old bounds held file 0 history done ending Says
+  none_went bounds held file history done Says keeps_it is told = record {
     changes = [];
     many = refl;
     accepted = tt;
     still = λ own read. subst (λ (end : Ending). IsIn end.done.read own) (sym is) read;
     kept = ap (λ (end : Ending). end.done.store) is ∙ keeps_it
         ∙ ap (λ (steps : List Step). keeps (whole (record { base = history.base; steps = steps }))) (sym (append-nil history.steps));
-    told = ap (λ (end : Ending). end.done.written) is ∙ sym (append-nil done.written);
+    told = told;
   }
+
+  -- one was, and then the others
+  one_went : (bounds : BoundsOf) (held : Holding) (file count : ℕ) (history : History) (done further : Progress) (change : List Entry)
+      (Says Later : List (List Entry) → Type 0) → further.read ≡ file ∷ done.read
+      → IfTold (old.left file) (λ bytes. IsChange file bytes (Ok change))
+      → (later : WentOn old bounds (changed bounds change held) (file + 1) count (with_steps (Append bounds change ∷ []) history) further
+      ending Later)
+      → (Later later.changes → Says (change ∷ later.changes))
+      → WentOn old bounds held file (suc count) history done ending Says
+  one_went bounds held file count history done further change Says Later read accepted later telling =
+      let here : (own : ℕ) → IsIn (file ∷ done.read) own → IsIn ending.done.read own =
+      subst (λ (files : List ℕ). (own : ℕ) → IsIn files own → IsIn ending.done.read own) read later.still in
+      record {
+        changes = change ∷ later.changes;
+        many = (let many = later.many in omega (arith, many));
+        accepted = (here file (inl refl), accepted, later.accepted);
+        still = λ own read. here own (inr read);
+        kept = later.kept
+            ∙ ap (λ (steps : List Step). keeps (whole (record { base = history.base; steps = steps })))
+            (append_more history.steps (Append bounds change ∷ []) (map (λ change. Append bounds change) later.changes));
+        told = telling later.told;
+      }
+
+  -- in a line each
+  abbrev InLines : Holding → ℕ → Progress → List (List Entry) → Type 0
+  InLines held count before changes = ending.done.written ≡ before.written ++ version_lines held.changes count
+
+  appended_on : (bounds : BoundsOf) (held : Holding) (file count : ℕ) (history : History) (done : Progress)
+      → done.store ≡ keeps (whole history) → state_after history ≡ imported held
+      → Comes old (appends bounds held file count (onward finished)) done ending
+      → WentOn old bounds held file count history done ending (InLines held count done)
+  unfolding appends
+  appended_on bounds held file zero history done keeps_it holds is =
+      none_went bounds held file history done (InLines held 0 done) keeps_it is
+      (ap (λ (end : Ending). end.done.written) is ∙ sym (append-nil done.written))
   appended_on bounds held file (suc count) history done keeps_it holds (inl breaks) =
       in_file _ file (old.left file) (IsChange file) done breaks
   appended_on bounds held file (suc count) history done keeps_it holds (inr (change, accepted, comes)) =
@@ -103,16 +141,47 @@ module _ (old : Before) (ending : Ending) (well : ending.fault ≡ None) where
       let later = appended_on bounds (changed bounds change held) (file + 1) count more further refl
       (state-more step history ∙ ap (λ (own : State). after own step) holds)
       (line_told line rest (committed step (whole history) (past file done)) taken) in
-      record {
-        changes = change ∷ later.changes;
-        many = (let many = later.many in omega (arith, many));
-        accepted = (later.still file (inl refl), accepted, later.accepted);
-        still = λ own read. later.still own (inr read);
-        kept = later.kept
-            ∙ ap (λ (steps : List Step). keeps (whole (record { base = history.base; steps = steps })))
-            (append_more history.steps (step ∷ []) (map (λ change. Append bounds change) later.changes));
-        told = later.told ∙ append_more done.written line (version_lines (held.changes + 1) count);
-      }
+      one_went bounds held file count history done further change (InLines held (suc count) done)
+      (InLines (changed bounds change held) count further) refl accepted later
+      (λ told. told ∙ append_more done.written line (version_lines (held.changes + 1) count))
+
+  -- a block was told, and what was read and is told makes it such
+  block_told : (Fits : List ℕ → Type 0) (rest : Course) (done : Progress) → Comes old (feeds Fits rest) done ending
+      → (own : List ℕ) × (AreTold old done.read → IsCertain done.store → Fits own) × Comes old rest (plus own done) ending
+  block_told Fits rest done (inl is) = faulty _ (at done (Some faults.OutOfMemory)) faults.OutOfMemory is refl
+  block_told Fits rest done (inr (own, block, fits, inl is)) = faulty _ (at_text own done faults.WriteFault) faults.WriteFault is refl
+  block_told Fits rest done (inr (own, block, fits, inr comes)) = (own, fits, comes)
+
+  -- in a block each, where all files are told
+  abbrev InBlocks : BoundsOf → Holding → Progress → List (List Entry) → Type 0
+  InBlocks bounds held before changes = AreTold old ending.done.read
+      → (later : List ℕ) × TellChanges bounds held changes later × (ending.done.written ≡ before.written ++ later)
+
+  fed_on : (bounds : BoundsOf) (held : Holding) (file count : ℕ) (history : History) (done : Progress)
+      → done.store ≡ keeps (whole history) → Comes old (feeds_changes bounds held file count) done ending
+      → WentOn old bounds held file count history done ending (InBlocks bounds held done)
+  unfolding feeds_changes
+  fed_on bounds held file zero history done keeps_it is =
+      none_went bounds held file history done (InBlocks bounds held done) keeps_it is
+      (λ _. ([], refl, ap (λ (end : Ending). end.done.written) is ∙ sym (append-nil done.written)))
+  fed_on bounds held file (suc count) history done keeps_it (inl breaks) = in_file _ file (old.left file) (IsChange file) done breaks
+  fed_on bounds held file (suc count) history done keeps_it (inr (change, accepted, comes)) =
+      let step = Append bounds change in
+      let next = changed bounds change held in
+      let rest = feeds_changes bounds next (file + 1) count in
+      let before = committed step (whole history) (past file done) in
+      let taken = went_on step (feeds (IsDeltaText held next) rest) history (past file done) keeps_it comes in
+      let block = block_told (IsDeltaText held next) rest before taken in
+      let own = block.0 in
+      let later = fed_on bounds next (file + 1) count (with_steps (step ∷ []) history) (plus own before) refl block.2 in
+      one_went bounds held file count history done (plus own before) change (InBlocks bounds held done)
+      (InBlocks bounds next (plus own before)) refl accepted later
+      (λ tell told. let behind = tell told in (
+        own ++ behind.0,
+        (own, behind.0, block.1 (λ other read. told other (later.still other read)) tt, behind.1, refl),
+        behind.2
+            ∙ append_more done.written own behind.0,
+      ))
 
   module _ (kept : Kept) (cut : ℕ) (low : kept.least ≤ cut) (high : cut ≤ kept.most) where
     abbrev stood : History
@@ -126,6 +195,7 @@ module _ (old : Before) (ending : Ending) (well : ending.fault ≡ None) where
         → IsAppended old files kept ending
     appended_by files formatted was is = faulty _ (at done (Some faults.NotImported)) faults.NotImported is refl
     appended_by files (outdated held) was is = faulty _ (at done (Some faults.OldFormat)) faults.OldFormat is refl
+    appended_by files (following held) was is = faulty _ (at done (Some faults.Follower)) faults.Follower is refl
     appended_by files (imported held) was (inl breaks) = in_file _ files.first (old.left files.first) (IsBounds files.first) done breaks
     appended_by files (imported held) was (inr (bounds, told, comes)) =
         let went = appended_on bounds held (files.first + 1) (files.count - 1) stood (past files.first done) refl was comes in
@@ -144,11 +214,59 @@ module _ (old : Before) (ending : Ending) (well : ending.fault ≡ None) where
           told = went.told ∙ ap (λ (count : ℕ). version_lines held.changes count) (sym went.many);
         }
 
+    -- a feed, with the block of all tables where that is asked for
+    full_told : (full : Bool) (held : Holding) (rest : Course) (before : Progress) → before.store ≡ keeps (whole stood)
+        → Comes old (feeds_full full held rest) before ending
+        → (own : List ℕ) × (AreTold old before.read → own ≡ first_block full held) × Comes old rest (plus own before) ending
+    full_told false held rest before keeps_it comes = (
+      [],
+      λ _. refl,
+      subst (λ (own : List ℕ). Comes old rest (record before { written = own }) ending) (sym (append-nil before.written)) comes,
+    )
+    full_told true held rest before keeps_it (inl breaks) = breaks_not _ before breaks
+    full_told true held rest before keeps_it (inr (inl bad)) = absurd (let two : unknown ≡ keeps (whole stood) =
+        sym (of_unknown before.store (IsRefusedFor (IsStepFault None) before ending) bad).0 ∙ keeps_it in cc)
+    full_told true held rest before keeps_it (inr (inr comes)) =
+        let block = block_told (λ own. own ≡ first_block true held) rest before comes in
+        (block.0, (λ told. block.1 told (subst IsCertain (sym keeps_it) tt)), block.2)
+
+    fed_by : (files : Files) (full : Bool) (state : State) → state_after stood ≡ state → Comes old (feed_to files full state) done ending
+        → IsFed old files full kept ending
+    fed_by files full formatted was is = faulty _ (at done (Some faults.NotImported)) faults.NotImported is refl
+    fed_by files full (outdated held) was is = faulty _ (at done (Some faults.OldFormat)) faults.OldFormat is refl
+    fed_by files full (following held) was is = faulty _ (at done (Some faults.Follower)) faults.Follower is refl
+    fed_by files full (imported held) was (inl breaks) = in_file _ files.first (old.left files.first) (IsBounds files.first) done breaks
+    fed_by files full (imported held) was (inr (bounds, told, comes)) =
+        let rest = feeds_changes bounds held (files.first + 1) (files.count - 1) in
+        let before = past files.first done in
+        let block = full_told full held rest before refl comes in
+        let went = fed_on bounds held (files.first + 1) (files.count - 1) stood (plus block.0 before) refl block.2 in
+        record {
+          cut = cut;
+          stood = record { from = low; to = high };
+          held = held;
+          held_is = was;
+          bounds = bounds;
+          bounds_read = went.still files.first (inl refl);
+          bounds_are = told;
+          changes = went.changes;
+          many = went.many;
+          accepted = went.accepted;
+          kept = went.kept;
+          told = λ all. let behind = went.told all in (
+            behind.0,
+            behind.1,
+            behind.2
+                ∙ ap (λ (own : List ℕ). own ++ behind.0) (block.1 (λ other read. all other (went.still other read))),
+          );
+        }
+
     -- an import
     imported_by : (files : Files) (buckets : ℕ) (state : State) → state_after stood ≡ state
         → Comes old (import_into files buckets state) done ending → IsFirstImport old files buckets kept ending
     imported_by files buckets (imported held) was is = faulty _ (at done (Some faults.AlreadyImported)) faults.AlreadyImported is refl
     imported_by files buckets (outdated held) was is = faulty _ (at done (Some faults.OldFormat)) faults.OldFormat is refl
+    imported_by files buckets (following held) was is = faulty _ (at done (Some faults.Follower)) faults.Follower is refl
     imported_by files buckets formatted was (inl breaks) = in_file _ files.first (old.left files.first) (IsStyle files.first) done breaks
     imported_by files buckets formatted was (inr (style, told, inl breaks)) =
         in_file _ (files.first + 1) (old.left (files.first + 1)) (IsChange (files.first + 1)) (past files.first done) breaks
@@ -182,6 +300,7 @@ module _ (old : Before) (ending : Ending) (well : ending.fault ≡ None) where
         → IsCleared least kept ending
     cleared_by least formatted was is = faulty _ (at done (Some faults.NotImported)) faults.NotImported is refl
     cleared_by least (outdated held) was is = faulty _ (at done (Some faults.OldFormat)) faults.OldFormat is refl
+    cleared_by least (following held) was is = faulty _ (at done (Some faults.Follower)) faults.Follower is refl
     cleared_by least (imported held) was (inl breaks) = breaks_not _ done breaks
     cleared_by least (imported held) was (inr (inl bad)) = absurd bad
     cleared_by least (imported held) was (inr (inr comes)) =
@@ -202,6 +321,12 @@ module _ (old : Before) (ending : Ending) (well : ending.fault ≡ None) where
   appended_well store files ahead workers kept (inl breaks) = breaks_not _ (begun (keeps kept) kept.least) breaks
   appended_well store files ahead workers kept (inr (cut, low, high, comes)) =
       appended_by kept cut low high files (state_after (first cut kept.history)) refl comes
+
+  pub fed_well : (store : List ℕ) (files : Files) (full : Bool) (workers : ℕ) (kept : Kept)
+      → Comes old (course_of (feed_of store files full workers)) (begun (keeps kept) kept.least) ending → IsFed old files full kept ending
+  fed_well store files full workers kept (inl breaks) = breaks_not _ (begun (keeps kept) kept.least) breaks
+  fed_well store files full workers kept (inr (cut, low, high, comes)) =
+      fed_by kept cut low high files full (state_after (first cut kept.history)) refl comes
 
   pub imported_well : (store : List ℕ) (files : Files) (buckets workers : ℕ) (kept : Kept)
       → Comes old (course_of (import_of store files buckets workers)) (begun (keeps kept) kept.least) ending

@@ -6,8 +6,11 @@ pub mod CommandRuns
 pub mod CourseKeeps
 pub mod CourseLaws
 pub mod EndLaws
+pub mod FeedKeeps
+pub mod FeedTexts
 pub mod HistoryLaws
 pub mod LineCounts
+pub mod FollowerLaws
 pub mod MigrationLaws
 pub mod SafeLaws
 pub mod TurnLaws

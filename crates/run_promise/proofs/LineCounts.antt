@@ -6,7 +6,7 @@ use Rattle.std.specs.Fmt.{digits, digits_onto, digit_glyph}
 use Rattle.std.proofs.lemmas.Bool.Decides.{nat_tests}
 use Rattle.std.proofs.lemmas.List.Elements.{filter-append}
 use Rattle.run_promise.specs.Courses.{version_line}
-use Rattle.run_promise.specs.Safety.{lines_in}
+use Rattle.run_promise.specs.FeedBlocks.{lines_in}
 use Rattle.run_promise.specs.World.{GrewBy}
 
 pub lines-append : (one other : List ℕ) → lines_in (one ++ other) ≡ lines_in one + lines_in other
@@ -32,7 +32,7 @@ lines-digits_onto (suc k) n after =
       | false ↦ lines-digits_onto k (n / 10) (digit_glyph false (n % 10) ∷ after) ∙ here
     ]
 
-lines-decimal : (n : ℕ) → lines_in (decimal n) ≡ 0
+pub lines-decimal : (n : ℕ) → lines_in (decimal n) ≡ 0
 unfolding digits
 lines-decimal n = lines-digits_onto 64 n []
 

@@ -1,16 +1,16 @@
 -- What holds of stores of the old format, by the courses of the commands.
 use Rattle.std.proofs.Common.{◌≡◌, ◌≤◌, ℕ, Some, None, List, [], ◌∷◌, ◌++◌, inl, inr, refl, sym, ◌∙◌, ap}
 use Rattle.update_flow.specs.History.{History, state_after}
-use Rattle.update_flow.specs.State.{Holding, State, formatted, imported, outdated, Migrate, after}
+use Rattle.update_flow.specs.State.{Holding, State, formatted, imported, outdated, following, Migrate, after}
 use Rattle.run_promise.specs.declared.fault.Fault.{Fault}
 use Rattle.run_promise.specs.declared.fault.Fault.TheVariants as faults
 use Rattle.run_promise.specs.Causes.{WantsNewFormat}
 use Rattle.run_promise.specs.Comes.{Comes}
 use Rattle.run_promise.specs.CommandOf.{CommandOf, points_of, lines_of, init_of, import_of, append_of, export_of, tiles_of, query_of}
-use Rattle.run_promise.specs.CommandOf.{serve_of, replay_of, migrate_of, check_of, demo_of}
+use Rattle.run_promise.specs.CommandOf.{feed_of, serve_of, replay_of, migrate_of, check_of, demo_of}
 use Rattle.run_promise.specs.Course.{Course, opens, tells, ends}
-use Rattle.run_promise.specs.Courses.{append_to, checks, course_of, export_from, format_line, import_into, migrates, query_from, serve_to}
-use Rattle.run_promise.specs.Courses.{tiles_of_store}
+use Rattle.run_promise.specs.Courses.{append_to, checks, course_of, export_from, feed_to, format_line, import_into, migrates, query_from}
+use Rattle.run_promise.specs.Courses.{serve_to, tiles_of_store}
 use Rattle.run_promise.specs.Faults.{flow_fault}
 use Rattle.run_promise.specs.Keeps.{Kept, first, whole, with_steps}
 use Rattle.run_promise.specs.Migrating.{IfOld, IsMigrated, IsMigratedFrom, LeavesOld, had, got}
@@ -21,6 +21,7 @@ use Rattle.run_promise.proofs.HistoryLaws.{state-more}
 if_old : (state : State) (P : Type 0) (C : State → Type 0) → ((held : Holding) → C (outdated held) → P) → C state → IfOld state P
 if_old formatted P C old comes = tt
 if_old (imported held) P C old comes = tt
+if_old (following held) P C old comes = tt
 if_old (outdated held) P C old comes = old held comes
 
 -- a run that opens its store and goes on so, which refuses the old format at once
@@ -48,6 +49,8 @@ leaves_old (import_of store files buckets workers) old kept ending wants comes =
     opened_left (import_into files buckets) old kept ending (λ held done is. is) comes
 leaves_old (append_of store files ahead workers) old kept ending wants comes =
     opened_left (append_to files) old kept ending (λ held done is. is) comes
+leaves_old (feed_of store files full workers) old kept ending wants comes =
+    opened_left (feed_to files full) old kept ending (λ held done is. is) comes
 leaves_old (export_of store table) old kept ending wants comes = opened_left (export_from table) old kept ending (λ held done is. is) comes
 leaves_old (tiles_of store least clear) old kept ending wants comes =
     opened_left (tiles_of_store least clear) old kept ending (λ held done is. is) comes
@@ -92,6 +95,7 @@ module _ (kept : Kept) (ending : Ending) (well : ending.fault ≡ None) where
     -- by the state at which the store was opened
     migrated_by : (state : State) → state_after stood ≡ state → Comes old (migrates state) done ending → IsMigrated kept ending
     migrated_by formatted was is = faulty (at done (Some faults.NotImported)) faults.NotImported is refl
+    migrated_by (following held) was is = faulty (at done (Some faults.Follower)) faults.Follower is refl
     migrated_by (imported held) was comes = told held stood done (had was refl) was refl refl comes
     migrated_by (outdated held) was (inl (inl is)) = faulty (at done (Some faults.DiskFault)) faults.DiskFault is refl
     migrated_by (outdated held) was (inl (inr is)) = faulty (at done (Some faults.OutOfMemory)) faults.OutOfMemory is refl

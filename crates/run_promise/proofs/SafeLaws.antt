@@ -8,12 +8,13 @@ use Rattle.map_query.specs.declared.query.Query.{Query}
 use Rattle.tile_cover.specs.Table.{BoundsOf}
 use Rattle.demo_map.specs.Demo.{demo_first, demo_input, demo_second}
 use Rattle.demo_map.specs.Style.{DEMO_STYLE, demo_bounds, demo_style}
-use Rattle.update_flow.specs.State.{Holding, State, formatted, imported, outdated, changed, fresh}
+use Rattle.update_flow.specs.State.{Holding, State, Step, formatted, imported, outdated, following, changed, fresh}
 use Rattle.run_promise.specs.declared.fault.Fault.{Fault}
 use Rattle.run_promise.specs.declared.fault.Fault.TheVariants as faults
+use Rattle.run_promise.specs.declared.files.Files.{Files}
 use Rattle.outside.specs.Inputs.{FilesView}
 use Rattle.run_promise.specs.CommandOf.{CommandOf, points_of, lines_of, init_of, import_of, append_of, export_of, tiles_of, query_of}
-use Rattle.run_promise.specs.CommandOf.{serve_of, replay_of, migrate_of, check_of, demo_of, Use, new_store, old_store, use_of}
+use Rattle.run_promise.specs.CommandOf.{feed_of, serve_of, replay_of, migrate_of, check_of, demo_of, Use, new_store, old_store, use_of}
 use Rattle.run_promise.specs.Comes.{Comes}
 use Rattle.run_promise.specs.Course.{Course, tells}
 use Rattle.run_promise.specs.Courses.{Onward, growing, telling, summing, append_to, appends, clears, course_of, export_from, exports}
@@ -23,31 +24,82 @@ use Rattle.run_promise.specs.Keeps.{Kept, IsFit, IsOneOf, blank, whole}
 use Rattle.run_promise.specs.Leaves.{IsPast, Leaves, StandsOn}
 use Rattle.run_promise.specs.Progress.{Standing, unused, keeps, Progress, Ending, begun}
 use Rattle.run_promise.specs.Runs.{Begins, GoesBy, Runs}
-use Rattle.run_promise.specs.Safety.{Acknowledges, Extends, IsSafe, IsUnmade, Preserves, lines_in, steps_told}
+use Rattle.run_promise.specs.FeedBlocks.{lines_in}
+use Rattle.run_promise.specs.Safety.{Acknowledges, AcknowledgesBy, Extends, IsSafe, IsUnmade, Preserves, steps_told}
 use Rattle.run_promise.specs.World.{GrewBy, World, remembered, with_files}
-use Rattle.run_promise.proofs.CourseKeeps.{Counts, CountsMade, CountsOpen, IsUnmadeAt, Reaches, makes_safe, opens_safe}
+use Rattle.run_promise.proofs.CourseKeeps.{Counts, CountsMade, CountsOpen, IsUnmadeAt, IsUnwritten, Reaches, ReachesLines, makes_safe}
+use Rattle.run_promise.proofs.CourseKeeps.{opens_safe}
+use Rattle.run_promise.proofs.FeedKeeps.{IsLate, feed_safe, takes_blocks, told_in}
 use Rattle.run_promise.proofs.LineCounts.{lines-grew, one_line}
 
--- what the output took then
-module _ (command : CommandOf) (before : Kept) (ending : Ending) (there : Reaches (steps_told command) before ending) where
-  acknowledges : (earlier later : List ℕ) → GrewBy ending.done.written ending.writing earlier later
-      → Acknowledges (steps_told command) there.now ending.done.cut there.steps ending.fault (lines_in later - lines_in earlier)
-  acknowledges earlier later grew =
-      let own = lines-grew ending.done.written ending.writing earlier later grew in
-      let all = own.1 in
-      let half = own.2 in
-      record {
-        kept = λ told most few. there.sure told most (omega (arith, few, all, half));
-        only = λ some write disk. let owed = there.only some write disk in omega (arith, owed, all);
-        last = λ is. let owed = there.last is in omega (arith, owed, all);
-      }
+-- every command but the feed tells its steps in lines
+abbrev IsFeed : CommandOf → Type 0
+IsFeed (feed_of store files full workers) = Unit {0}
+IsFeed _ = ⊥
 
+by_command : (P : CommandOf → Type 0)
+    → ((store : List ℕ) (files : Files) (full : Bool) (workers : ℕ) → P (feed_of store files full workers))
+    → ((command : CommandOf) → ¬ IsFeed command → P command) → (command : CommandOf) → P command
+by_command P feed lines (feed_of store files full workers) = feed store files full workers
+by_command P feed lines (points_of key files) = lines (points_of key files) (λ no_feed. no_feed)
+by_command P feed lines (lines_of key files) = lines (lines_of key files) (λ no_feed. no_feed)
+by_command P feed lines (init_of store) = lines (init_of store) (λ no_feed. no_feed)
+by_command P feed lines (import_of store files buckets workers) = lines (import_of store files buckets workers) (λ no_feed. no_feed)
+by_command P feed lines (append_of store files ahead workers) = lines (append_of store files ahead workers) (λ no_feed. no_feed)
+by_command P feed lines (export_of store table) = lines (export_of store table) (λ no_feed. no_feed)
+by_command P feed lines (tiles_of store least clear) = lines (tiles_of store least clear) (λ no_feed. no_feed)
+by_command P feed lines (query_of store files) = lines (query_of store files) (λ no_feed. no_feed)
+by_command P feed lines (serve_of store files workers readers) = lines (serve_of store files workers readers) (λ no_feed. no_feed)
+by_command P feed lines (replay_of store files workers) = lines (replay_of store files workers) (λ no_feed. no_feed)
+by_command P feed lines (migrate_of store) = lines (migrate_of store) (λ no_feed. no_feed)
+by_command P feed lines (check_of store) = lines (check_of store) (λ no_feed. no_feed)
+by_command P feed lines (demo_of count store workers) = lines (demo_of count store workers) (λ no_feed. no_feed)
+
+module _ (now : Kept) (cut : ℕ) (steps : List Step) (fault : Option Fault) (earlier later : List ℕ) where
+  abbrev InLines : CommandOf → Type 0
+  InLines command = Acknowledges (steps_told command) now cut steps fault (lines_in later - lines_in earlier)
+
+  by_lines : (command : CommandOf) → ¬ IsFeed command → InLines command → AcknowledgesBy command now cut steps fault earlier later
+  by_lines (feed_of store files full workers) not told = absurd (not tt)
+  by_lines (points_of key files) not told = told
+  by_lines (lines_of key files) not told = told
+  by_lines (init_of store) not told = told
+  by_lines (import_of store files buckets workers) not told = told
+  by_lines (append_of store files ahead workers) not told = told
+  by_lines (export_of store table) not told = told
+  by_lines (tiles_of store least clear) not told = told
+  by_lines (query_of store files) not told = told
+  by_lines (serve_of store files workers readers) not told = told
+  by_lines (replay_of store files workers) not told = told
+  by_lines (migrate_of store) not told = told
+  by_lines (check_of store) not told = told
+  by_lines (demo_of count store workers) not told = told
+
+-- what the output took then
+acknowledges : (command : CommandOf) (before : Kept) (ending : Ending) → ¬ IsFeed command
+    → (there : ReachesLines (steps_told command) before ending)
+    → (earlier later : List ℕ) → GrewBy ending.done.written ending.writing earlier later
+    → AcknowledgesBy command there.now ending.done.cut there.steps ending.fault earlier later
+acknowledges command before ending not there earlier later grew =
+    let own = lines-grew ending.done.written ending.writing earlier later grew in
+    let all = own.1 in
+    let half = own.2 in
+    by_lines there.now ending.done.cut there.steps ending.fault earlier later command not (record {
+      kept = λ told most few. there.sure told most (omega (arith, few, all, half));
+      only = λ some write disk. let owed = there.only some write disk in omega (arith, owed, all);
+      last = λ is. let owed = there.last is in omega (arith, owed, all);
+    })
+
+module _ (total : ℕ) (Late : Option Fault → Type 0) (command : CommandOf) (before : Kept) (count half : ℕ) (ending : Ending)
+    (there : Reaches total Late before count half ending)
+    (acknowledged : (earlier later : List ℕ) → GrewBy ending.done.written ending.writing earlier later
+    → AcknowledgesBy command there.now ending.done.cut there.steps ending.fault earlier later) where
   took : (earlier later : Option (List ℕ)) → BothKnown earlier later (GrewBy ending.done.written ending.writing)
       → BothKnown earlier later (λ earlier later.
-      Acknowledges (steps_told command) there.now ending.done.cut there.steps ending.fault (lines_in later - lines_in earlier))
+      AcknowledgesBy command there.now ending.done.cut there.steps ending.fault earlier later)
   took None later grew = tt
   took (Some earlier) None grew = grew
-  took (Some earlier) (Some later) grew = acknowledges earlier later grew
+  took (Some earlier) (Some later) grew = acknowledged earlier later grew
 
   -- what the run makes of the history
   abbrev extends : (start : Progress) (old new : World) (seen : FilesView) → Comes (remembered old) (course_of command) start ending
@@ -72,19 +124,37 @@ module _ (command : CommandOf) (before : Kept) (ending : Ending) (there : Reache
         acknowledged = took old.output.taken new.output.taken leaves.output;
       }
 
+  preserves : (old new : World) (seen : FilesView)
+      → Comes (remembered old) (course_of command) (begun (keeps before) before.least) ending
+      → Leaves (begun (keeps before) before.least) ending (remembered old) (with_files seen new)
+      → Preserves command before old new ending.fault
+  preserves old new seen comes leaves = record {
+    run = extends (begun (keeps before) before.least) old new seen comes leaves;
+    moments = λ left out. ⊎_elim (λ (own : IsOneOf before left). inl own)
+        (λ (own : IsPast ending.done.cut ending.done.store left).
+        inr (subst (λ (store : Standing). IsPast ending.done.cut store left) there.is own)) (leaves.moments.each left out);
+  }
+
 -- what a disk kept, it keeps
-goes_safe : (command : CommandOf) (before : Kept) (fault : Option Fault) (old new : World) (seen : FilesView)
+goes_safe : (command : CommandOf) → ¬ IsFeed command → (before : Kept) (fault : Option Fault) (old new : World) (seen : FilesView)
     → CountsOpen (steps_told command) (course_of command) → IsFit before
     → GoesBy (course_of command) (begun (keeps before) before.least) fault old (with_files seen new)
     → Preserves command before old new fault
-goes_safe command before fault old new seen counts fit (ending, same, comes, leaves) =
+goes_safe command not before fault old new seen counts fit (ending, same, comes, leaves) =
     let there = opens_safe (steps_told command) before (remembered old) (course_of command) ending counts fit comes in
-    subst (λ (fault : Option Fault). Preserves command before old new fault) same (record {
-      run = extends command before ending there (begun (keeps before) before.least) old new seen comes leaves;
-      moments = λ left out. ⊎_elim (λ (own : IsOneOf before left). inl own)
-          (λ (own : IsPast ending.done.cut ending.done.store left).
-          inr (subst (λ (store : Standing). IsPast ending.done.cut store left) there.is own)) (leaves.moments.each left out);
-    })
+    subst (λ (fault : Option Fault). Preserves command before old new fault) same
+    (preserves (steps_told command) IsUnwritten command before (lines_in ending.done.written) (lines_in ending.writing) ending there
+    (acknowledges command before ending not there) old new seen comes leaves)
+
+goes_fed : (store : List ℕ) (files : Files) (full : Bool) (workers : ℕ) (before : Kept) (fault : Option Fault) (old new : World)
+    (seen : FilesView) → IsFit before
+    → GoesBy (course_of (feed_of store files full workers)) (begun (keeps before) before.least) fault old (with_files seen new)
+    → Preserves (feed_of store files full workers) before old new fault
+goes_fed store files full workers before fault old new seen fit (ending, same, comes, leaves) =
+    let so = feed_safe before (remembered old) ending store files full workers fit comes in
+    subst (λ (fault : Option Fault). Preserves (feed_of store files full workers) before old new fault) same
+    (preserves so.total IsLate (feed_of store files full workers) before (told_in full so.blocks) so.half ending so.there
+    (takes_blocks full before ending so) old new seen comes leaves)
 
 nothing : (earlier later : Option (List ℕ)) → BothKnown earlier later (GrewBy [] [])
     → BothKnown earlier later (λ earlier later. later ≡ earlier)
@@ -115,15 +185,16 @@ stays_unmade ending start old new seen there leaves = record {
 }
 
 -- what a run makes on an empty disk
-goes_made : (command : CommandOf) (fault : Option Fault) (old new : World) (seen : FilesView)
+goes_made : (command : CommandOf) → ¬ IsFeed command → (fault : Option Fault) (old new : World) (seen : FilesView)
     → CountsMade (steps_told command) (course_of command) → old.disk.content ≡ Some []
     → GoesBy (course_of command) (begun unused 0) fault old (with_files seen new)
     → IsUnmade old new fault ⊎ Extends command (begun unused 0) (whole blank) old new fault
-goes_made command fault old new seen counts is (ending, same, comes, leaves) =
+goes_made command not fault old new seen counts is (ending, same, comes, leaves) =
     subst (λ (fault : Option Fault). IsUnmade old new fault ⊎ Extends command (begun unused 0) (whole blank) old new fault) same
     (⊎_elim (λ (there : IsUnmadeAt ending). inl (stays_unmade ending (begun unused 0) old new seen there leaves))
-    (λ (there : Reaches (steps_told command) (whole blank) ending).
-    inr (extends command (whole blank) ending there (begun unused 0) old new seen comes leaves))
+    (λ (there : ReachesLines (steps_told command) (whole blank) ending).
+    inr (extends (steps_told command) IsUnwritten command (whole blank) (lines_in ending.done.written) (lines_in ending.writing) ending
+    there (acknowledges command (whole blank) ending not there) (begun unused 0) old new seen comes leaves))
     (makes_safe (steps_told command) (remembered old) [] is (course_of command) [] ending counts comes))
 
 -- change files that are appended, and what comes behind them
@@ -172,23 +243,26 @@ serves_count bounds queries readers shown held file (suc count) =
     )
 
 -- the courses over a store that is there open it first
-opens_first : (command : CommandOf) → use_of command ≡ old_store → CountsOpen (steps_told command) (course_of command)
-opens_first (points_of key files) is = absurd (cc)
-opens_first (lines_of key files) is = absurd (cc)
-opens_first (init_of store) is = absurd (cc)
-opens_first (import_of store files buckets workers) is = into
+opens_first : (command : CommandOf) → ¬ IsFeed command → use_of command ≡ old_store → CountsOpen (steps_told command) (course_of command)
+opens_first (points_of key files) not is = absurd (cc)
+opens_first (lines_of key files) not is = absurd (cc)
+opens_first (init_of store) not is = absurd (cc)
+opens_first (import_of store files buckets workers) not is = into
   where
     into : (state : State) → Counts (import_into files buckets state) 0 1
     into formatted = let line = one_line 0 in (refl, λ style. (refl, λ entries. (refl, (inr (omega (arith, line)), tt))))
     into (imported held) = refl
     into (outdated held) = refl
-opens_first (append_of store files ahead workers) is = into
+    into (following held) = refl
+opens_first (append_of store files ahead workers) not is = into
   where
     into : (state : State) → Counts (append_to files state) 0 (files.count - 1)
     into formatted = refl
     into (imported held) = (refl, λ bounds. appends_count bounds finished (λ _. tt) held (files.first + 1) (files.count - 1))
     into (outdated held) = refl
-opens_first (export_of store table) is = into
+    into (following held) = refl
+opens_first (feed_of store files full workers) not is = absurd (not tt)
+opens_first (export_of store table) not is = into
   where
     from : (held : Holding) (found : Option ℕ) → Counts (exports held found) 0 0
     from held None = refl
@@ -198,7 +272,8 @@ opens_first (export_of store table) is = into
     into formatted = refl
     into (imported held) = from held (table_of held.style.tables table)
     into (outdated held) = refl
-opens_first (tiles_of store least clear) is = into
+    into (following held) = refl
+opens_first (tiles_of store least clear) not is = into
   where
     behind : (clear : Bool) → Counts (clears clear) 0 0
     behind false = tt
@@ -208,13 +283,15 @@ opens_first (tiles_of store least clear) is = into
     into formatted = refl
     into (imported held) = (refl, (refl, refl, behind clear))
     into (outdated held) = refl
-opens_first (query_of store files) is = into
+    into (following held) = refl
+opens_first (query_of store files) not is = into
   where
     into : (state : State) → Counts (query_from files state) 0 0
     into formatted = refl
     into (imported held) = (refl, λ queries. (refl, (refl, refl, tt)))
     into (outdated held) = refl
-opens_first (serve_of store files workers readers) is = into
+    into (following held) = refl
+opens_first (serve_of store files workers readers) not is = into
   where
     into : (state : State) → Counts (serve_to files readers state) 0 (files.count - 2)
     into formatted = refl
@@ -226,20 +303,23 @@ opens_first (serve_of store files workers readers) is = into
       ),
     )
     into (outdated held) = refl
-opens_first (replay_of store files workers) is = absurd (cc)
-opens_first (migrate_of store) is = into
+    into (following held) = refl
+opens_first (replay_of store files workers) not is = absurd (cc)
+opens_first (migrate_of store) not is = into
   where
     into : (state : State) → Counts (migrates state) 0 0
     into formatted = refl
     into (imported held) = (inl refl, tt)
     into (outdated held) = (refl, (inl refl, tt))
-opens_first (check_of store) is = into
+    into (following held) = refl
+opens_first (check_of store) not is = into
   where
     into : (state : State) → Counts (checks state) 0 0
     into formatted = (refl, (inl refl, tt))
     into (imported held) = (refl, (inl refl, tt))
     into (outdated held) = refl
-opens_first (demo_of count store workers) is = absurd (cc)
+    into (following held) = refl
+opens_first (demo_of count store workers) not is = absurd (cc)
 
 -- a step is told in its line, and so much is left
 told_count : (changes left : ℕ) (rest : Course) → Counts rest 0 left → Counts (tells (version_line changes) rest) 1 left
@@ -255,6 +335,7 @@ makes_first (lines_of key files) is = absurd (cc)
 makes_first (init_of store) is = (inl refl, tt)
 makes_first (import_of store files buckets workers) is = absurd (cc)
 makes_first (append_of store files ahead workers) is = absurd (cc)
+makes_first (feed_of store files full workers) is = absurd (cc)
 makes_first (export_of store table) is = absurd (cc)
 makes_first (tiles_of store least clear) is = absurd (cc)
 makes_first (query_of store files) is = absurd (cc)
@@ -299,13 +380,34 @@ makes_first (replay_of store files workers) is = λ style bounds.
       ),
     )
 
--- a run of each command
+-- a run of each command over a store that is there
+abbrev KeepsBy : World → World → Option Fault → FilesView → CommandOf → Type 0
+KeepsBy old new fault seen command = use_of command ≡ old_store → (before : Kept) → IsFit before
+    → GoesBy (course_of command) (begun (keeps before) before.least) fault old (with_files seen new)
+    → Preserves command before old new fault
+
+keeps_by : (old new : World) (fault : Option Fault) (seen : FilesView) (command : CommandOf) → KeepsBy old new fault seen command
+keeps_by old new fault seen = by_command (KeepsBy old new fault seen)
+    (λ store files full workers is before fit goes. goes_fed store files full workers before fault old new seen fit goes)
+    (λ command not is before fit goes. goes_safe command not before fault old new seen (opens_first command not is) fit goes)
+
+-- and of one that makes it
+abbrev MakesBy : World → World → Option Fault → FilesView → CommandOf → Type 0
+MakesBy old new fault seen command = use_of command ≡ new_store → old.disk.content ≡ Some []
+    → GoesBy (course_of command) (begun unused 0) fault old (with_files seen new)
+    → IsUnmade old new fault ⊎ Extends command (begun unused 0) (whole blank) old new fault
+
+makes_by : (old new : World) (fault : Option Fault) (seen : FilesView) (command : CommandOf) → MakesBy old new fault seen command
+makes_by old new fault seen = by_command (MakesBy old new fault seen)
+    (λ store files full workers is. absurd (cc))
+    (λ command not is empty goes. goes_made command not fault old new seen (makes_first command is) empty goes)
+
 pub runs_safe : (command : CommandOf) (asks : List ℕ → Type 0) (old new : World) (fault : Option Fault) → Runs command asks old new fault
     → IsSafe command old new fault
 runs_safe command asks old new fault runs = record {
-  kept = λ is before kept. goes_safe command before fault old new runs.seen (opens_first command is) kept.fit
+  kept = λ is before kept. keeps_by old new fault runs.seen command is before kept.fit
       (runs.course (begun (keeps before) before.least)
       (subst (λ (way : Use). Begins way old (begun (keeps before) before.least)) (sym is) (inr (before, kept, refl))));
-  made = λ is empty. goes_made command fault old new runs.seen (makes_first command is) empty
+  made = λ is empty. makes_by old new fault runs.seen command is empty
       (runs.course (begun unused 0) (subst (λ (way : Use). Begins way old (begun unused 0)) (sym is) refl));
 }

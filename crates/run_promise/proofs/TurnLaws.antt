@@ -9,14 +9,15 @@ use Rattle.run_promise.specs.declared.files.Files.{Files}
 use Rattle.run_promise.specs.Causes.{Cause, HasStore, MakesStore, OpensStore, WantsNewFormat}
 use Rattle.run_promise.specs.Comes.{Comes}
 use Rattle.run_promise.specs.CommandOf.{CommandOf, points_of, lines_of, init_of, import_of, append_of, export_of, tiles_of, query_of}
-use Rattle.run_promise.specs.CommandOf.{serve_of, replay_of, migrate_of, check_of, demo_of, files_of, Use, no_store, new_store, old_store, use_of}
+use Rattle.run_promise.specs.CommandOf.{feed_of, serve_of, replay_of, migrate_of, check_of, demo_of, files_of, Use, no_store, new_store}
+use Rattle.run_promise.specs.CommandOf.{old_store, use_of}
 use Rattle.style_read.specs.Style.{table_of}
 use Rattle.map_query.specs.declared.query.Query.{Query}
 use Rattle.tile_cover.specs.Table.{BoundsOf}
-use Rattle.update_flow.specs.State.{Holding, State, formatted, imported, outdated, changed, fresh}
+use Rattle.update_flow.specs.State.{Holding, State, formatted, imported, outdated, following, changed, fresh}
 use Rattle.run_promise.specs.Course.{Course}
-use Rattle.run_promise.specs.Courses.{append_to, appends, checks, course_of, export_from, exports, finished, import_into, migrates, onward}
-use Rattle.run_promise.specs.Courses.{query_from, replay_course, serve_to, serves, telling, tiles_of_store}
+use Rattle.run_promise.specs.Courses.{append_to, appends, checks, course_of, export_from, exports, feed_to, feeds_changes, feeds_full}
+use Rattle.run_promise.specs.Courses.{finished, import_into, migrates, onward, query_from, replay_course, serve_to, serves, telling, tiles_of_store}
 use Rattle.run_promise.specs.Files.{IsChange}
 use Rattle.run_promise.specs.InTurn.{FaultNames, IsInTurn}
 use Rattle.run_promise.specs.Leaves.{HasCause}
@@ -103,6 +104,20 @@ module _ (terms : Terms) (least : ℕ) (change : (file : ℕ) → least ≤ file
         ),
       )
 
+  feeds_to : (bounds : BoundsOf) (held : Holding) (file count : ℕ) (quiet : Type 0) → least ≤ file → file + count ≤ terms.end
+      → KeepsTo terms file quiet (feeds_changes bounds held file count)
+  unfolding feeds_changes
+  feeds_to bounds held file zero quiet low high = tt
+  feeds_to bounds held file (suc count) quiet low high =
+      let own = change file low (omega (arith, high)) in (
+        refl,
+        omega (arith, high),
+        (λ e. absurd (late e)),
+        own.faulty,
+        own.accepts,
+        λ found. (store, feeds_to bounds (changed bounds found held) (file + 1) count ⊥ (omega (arith, low)) (omega (arith, high))),
+      )
+
 -- a command over a store that is there
 has_store : old_store ≢ no_store
 has_store = λ e. absurd (cc)
@@ -111,6 +126,7 @@ import_to : (store : List ℕ) (files : Files) (buckets workers : ℕ) (state : 
     → KeepsTo (terms_of (import_of store files buckets workers)) files.first (Unit {0}) (import_into files buckets state)
 import_to store files buckets workers (imported held) two = has_store
 import_to store files buckets workers (outdated held) two = refl
+import_to store files buckets workers (following held) two = refl
 import_to store files buckets workers formatted two = (
   refl,
   omega (arith, two),
@@ -131,6 +147,7 @@ append_to_store : (store : List ℕ) (files : Files) (ahead workers : ℕ) (stat
     → KeepsTo (terms_of (append_of store files ahead workers)) files.first (Unit {0}) (append_to files state)
 append_to_store store files ahead workers formatted two = has_store
 append_to_store store files ahead workers (outdated held) two = refl
+append_to_store store files ahead workers (following held) two = refl
 append_to_store store files ahead workers (imported held) two = (
   refl,
   omega (arith, two),
@@ -147,9 +164,37 @@ append_to_store store files ahead workers (imported held) two = (
       bounds held (files.first + 1) (files.count - 1) (Unit {0}) (onward finished) (omega arith) (omega (arith, two)) (λ held quiet. tt),
 )
 
+feed_to_store : (store : List ℕ) (files : Files) (full : Bool) (workers : ℕ) (state : State) → 1 ≤ files.count
+    → KeepsTo (terms_of (feed_of store files full workers)) files.first (Unit {0}) (feed_to files full state)
+feed_to_store store files full workers formatted one = has_store
+feed_to_store store files full workers (outdated held) one = refl
+feed_to_store store files full workers (following held) one = refl
+feed_to_store store files full workers (imported held) one = (
+  refl,
+  omega (arith, one),
+  (λ e. absurd e),
+  (λ bytes fault is. inl (refl, is)),
+  (λ bytes found is. inl (refl, (found, is))),
+  λ bounds. behind full (feeds_changes bounds held (files.first + 1) (files.count - 1)) (λ quiet.
+      feeds_to (terms_of (feed_of store files full workers)) (files.first + 1)
+      (λ file low high. record {
+        faulty = λ bytes fault is. inr (low, is);
+        accepts =
+            λ bytes found is. inr (low, is_ok (List Entry) Fault _ found is);
+      }) (λ e. e) has_store
+      bounds held (files.first + 1) (files.count - 1) quiet (omega arith) (omega (arith, one))),
+)
+  where
+    behind : (own : Bool) (rest : Course)
+        → ((quiet : Type 0) → KeepsTo (terms_of (feed_of store files full workers)) (files.first + 1) quiet rest)
+        → KeepsTo (terms_of (feed_of store files full workers)) (files.first + 1) (Unit {0}) (feeds_full own held rest)
+    behind false rest later = later (Unit {0})
+    behind true rest later = (has_store, later ⊥)
+
 export_to : (store table : List ℕ) (state : State) → KeepsTo (terms_of (export_of store table)) 0 (Unit {0}) (export_from table state)
 export_to store table formatted = has_store
 export_to store table (outdated held) = refl
+export_to store table (following held) = refl
 export_to store table (imported held) = exports_to (table_of held.style.tables table)
   where
     exports_to : (found : Option ℕ) → KeepsTo (terms_of (export_of store table)) 0 (Unit {0}) (exports held found)
@@ -160,6 +205,7 @@ tiles_to : (store : List ℕ) (least : ℕ) (clear : Bool) (state : State)
     → KeepsTo (terms_of (tiles_of store least clear)) 0 (Unit {0}) (tiles_of_store least clear state)
 tiles_to store least clear formatted = has_store
 tiles_to store least clear (outdated held) = refl
+tiles_to store least clear (following held) = refl
 tiles_to store least false (imported held) = (has_store, tt)
 tiles_to store least true (imported held) = (has_store, (has_store, tt))
 
@@ -170,6 +216,7 @@ query_to : (store : List ℕ) (files : Files) (state : State) → files.count �
     → KeepsTo (terms_of (query_of store files)) files.first (Unit {0}) (query_from files state)
 query_to store files formatted one = has_store
 query_to store files (outdated held) one = refl
+query_to store files (following held) one = refl
 query_to store files (imported held) one = (
   refl,
   omega (arith, one),
@@ -183,6 +230,7 @@ serve_to_store : (store : List ℕ) (files : Files) (workers readers : ℕ) (sta
     → KeepsTo (terms_of (serve_of store files workers readers)) files.first (Unit {0}) (serve_to files readers state)
 serve_to_store store files workers readers formatted two = has_store
 serve_to_store store files workers readers (outdated held) two = refl
+serve_to_store store files workers readers (following held) two = refl
 serve_to_store store files workers readers (imported held) two = (
   refl,
   omega (arith, two),
@@ -217,11 +265,13 @@ migrate_to : (store : List ℕ) (state : State) → KeepsTo (terms_of (migrate_o
 migrate_to store formatted = has_store
 migrate_to store (imported held) = tt
 migrate_to store (outdated held) = (has_store, tt)
+migrate_to store (following held) = refl
 
 check_to : (store : List ℕ) (state : State) → KeepsTo (terms_of (check_of store)) 0 (Unit {0}) (checks state)
 check_to store formatted = (has_store, tt)
 check_to store (imported held) = (has_store, tt)
 check_to store (outdated held) = refl
+check_to store (following held) = refl
 
 -- a command that makes its store
 makes_new : new_store ≢ no_store
@@ -300,6 +350,7 @@ keeps_to (lines_of key files) its =
 keeps_to (init_of store) its = (refl, (refl, makes_store, tt))
 keeps_to (import_of store files buckets workers) its = (refl, has_store, λ state. import_to store files buckets workers state its)
 keeps_to (append_of store files ahead workers) its = (refl, has_store, λ state. append_to_store store files ahead workers state its)
+keeps_to (feed_of store files full workers) its = (refl, has_store, λ state. feed_to_store store files full workers state its)
 keeps_to (export_of store table) its = (refl, has_store, λ state. export_to store table state)
 keeps_to (tiles_of store least clear) its = (refl, has_store, λ state. tiles_to store least clear state)
 keeps_to (query_of store files) its = (refl, has_store, λ state. query_to store files state its)
@@ -374,6 +425,7 @@ cause_of command old new faults.NotEmpty blame failed = blame
 cause_of command old new faults.NotImported blame failed = blame
 cause_of command old new faults.AlreadyImported blame failed = blame
 cause_of command old new faults.OldFormat blame failed = blame
+cause_of command old new faults.Follower blame failed = blame
 cause_of command old new faults.UnknownTable blame failed = blame
 cause_of command old new (faults.BadStore page) blame failed = blame
 cause_of command old new faults.WriteFault blame failed = failed

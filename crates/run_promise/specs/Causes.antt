@@ -6,7 +6,7 @@ use Rattle.outside.specs.Bytes.{IfTold}
 use Rattle.page_journal.specs.Home.{IsFormatted}
 use Rattle.run_promise.specs.declared.fault.Fault.{Fault}
 use Rattle.run_promise.specs.declared.fault.Fault.TheVariants.{Usage, Malformed, BadStyle, BadBounds, BadQuery, Limit, ReadFault}
-use Rattle.run_promise.specs.declared.fault.Fault.TheVariants.{NotFormatted, NotEmpty, NotImported, AlreadyImported, OldFormat}
+use Rattle.run_promise.specs.declared.fault.Fault.TheVariants.{NotFormatted, NotEmpty, NotImported, AlreadyImported, OldFormat, Follower}
 use Rattle.run_promise.specs.declared.fault.Fault.TheVariants.{UnknownTable, BadStore, WriteFault, DiskFault, OutOfMemory}
 use Rattle.run_promise.specs.CommandOf.{CommandOf, migrate_of, Names, no_store, new_store, old_store, use_of}
 use Rattle.run_promise.specs.Reading.{HasFault}
@@ -54,6 +54,7 @@ Cause command old new NotFormatted = OpensStore command × IfTold old.content (�
 Cause command old new NotImported = HasStore command
 Cause command old new AlreadyImported = HasStore command
 Cause command old new OldFormat = WantsNewFormat command
+Cause command old new Follower = OpensStore command
 Cause command old new UnknownTable = OpensStore command
 -- a store that was made on a disk that tells what it holds is not damaged
 Cause command old new (BadStore page) = HasStore command × IfTold old.content (λ _. OpensStore command)

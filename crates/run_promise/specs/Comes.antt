@@ -17,8 +17,9 @@ use Rattle.update_flow.specs.Calls.{IsChange, IsLook, MayCommit}
 use Rattle.update_flow.specs.State.{State, Step, after}
 use Rattle.update_flow.specs.declared.fault.FlowFault.{FlowFault}
 use Rattle.update_flow.specs.declared.fault.FlowFault.TheVariants as flow
-use Rattle.run_promise.specs.Course.{Course, ends, refuses, reads, wants_empty, formats, opens, looks, commits, tells, writes}
+use Rattle.run_promise.specs.Course.{Course, ends, refuses, reads, wants_empty, formats, opens, looks, commits, tells, writes, feeds}
 use Rattle.run_promise.specs.Faults.{flow_fault}
+use Rattle.run_promise.specs.FeedBlocks.{IsFeedBlock}
 use Rattle.run_promise.specs.Keeps.{Kept, first}
 use Rattle.run_promise.specs.Progress.{Standing, unused, unknown, keeps, half_made, Progress, Ending, at, at_file, at_text, past, plus}
 use Rattle.run_promise.specs.Progress.{with_store, made, opened, committed, in_doubt, IsIn}
@@ -143,6 +144,9 @@ Comes old (tells text rest) done ending = (ending ≡ at_text text done WriteFau
 Comes old (writes Fits rest) done ending = (ending ≡ at done (Some OutOfMemory))
     ⊎ ((own : List ℕ) × (AreTold old done.read → IsCertain done.store → Fits own)
     × ((ending ≡ at_text own done WriteFault) ⊎ Comes old rest (plus own done) ending))
+Comes old (feeds Fits rest) done ending = (ending ≡ at done (Some OutOfMemory))
+    ⊎ ((own : List ℕ) × IsFeedBlock own × (AreTold old done.read → IsCertain done.store → Fits own)
+    × ((ending ≡ at_text own done WriteFault) ⊎ Comes old rest (plus own done) ending))
 
 -- the fault blames the outside, or the want of memory
 abbrev pub IsOutside : Option Fault → Type 0
@@ -176,3 +180,5 @@ IsDue old (commits step rest) done ending = ByStore done.store
 IsDue old (tells text rest) done ending = IsDue old rest (plus text done) ending
 IsDue old (writes Fits rest) done ending =
     (own : List ℕ) × (AreTold old done.read → IsCertain done.store → Fits own) × IsDue old rest (plus own done) ending
+IsDue old (feeds Fits rest) done ending =
+    (own : List ℕ) × IsFeedBlock own × (AreTold old done.read → IsCertain done.store → Fits own) × IsDue old rest (plus own done) ending

@@ -26,6 +26,8 @@ pub data Course : Type 1 where
   tells : List ℕ → Course → Course
   -- such a text is built, and told then
   writes : (List ℕ → Type 0) → Course → Course
+  -- such a block of a feed is built, and told then; whatever is known of what it says, it is one block
+  feeds : (List ℕ → Type 0) → Course → Course
 
 -- this text is built, and told then
 abbrev pub writes_text : List ℕ → Course → Course

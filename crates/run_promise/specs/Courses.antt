@@ -5,9 +5,11 @@ use Rattle.std.specs.Fmt.{decimal}
 use Rattle.std.specs.List.{range_with_len}
 use Rattle.std.specs.Option.{option_map_or}
 use Rattle.osm_base.specs.declared.values.object.Entry.{Entry}
+use Rattle.osm_base.specs.declared.values.row.Delta.{Delta}
 use Rattle.osm_base.specs.map.Spots.{TableMap}
 use Rattle.demo_map.specs.Demo.{demo_first, demo_input, demo_second}
 use Rattle.demo_map.specs.Style.{DEMO_STYLE, demo_bounds, demo_style}
+use Rattle.delta_feed.specs.Text.{delta_text, full_text}
 use Rattle.due_tiles.specs.TileText.{tile_text}
 use Rattle.row_map.specs.Row.{tables}
 use Rattle.row_text.specs.Numbered.{rows_of}
@@ -17,13 +19,15 @@ use Rattle.style_read.specs.declared.style.TableDef.{TableDef}
 use Rattle.tile_cover.specs.Runs.{IsTileSet, has}
 use Rattle.tile_cover.specs.Table.{BoundsOf}
 use Rattle.tile_cover.specs.declared.runs.Run.{Run}
+use Rattle.update_flow.specs.Changes.{IsDeltaOf}
 use Rattle.update_flow.specs.Due.{Tiles}
-use Rattle.update_flow.specs.State.{Holding, State, formatted, imported, outdated, Import, Append, Clear, Migrate, fresh, changed}
-use Rattle.run_promise.specs.declared.fault.Fault.TheVariants.{AlreadyImported, NotImported, OldFormat, UnknownTable}
+use Rattle.update_flow.specs.State.{Holding, State, formatted, imported, outdated, following, Import, Append, Clear, Migrate, fresh, changed}
+use Rattle.run_promise.specs.declared.fault.Fault.TheVariants.{AlreadyImported, Follower, NotImported, OldFormat, UnknownTable}
 use Rattle.run_promise.specs.declared.files.Files.{Files}
 use Rattle.run_promise.specs.CommandOf.{CommandOf, points_of, lines_of, init_of, import_of, append_of, export_of, tiles_of, query_of}
-use Rattle.run_promise.specs.CommandOf.{serve_of, replay_of, migrate_of, check_of, demo_of}
+use Rattle.run_promise.specs.CommandOf.{feed_of, serve_of, replay_of, migrate_of, check_of, demo_of}
 use Rattle.run_promise.specs.Course.{Course, ends, refuses, reads, wants_empty, formats, opens, looks, commits, tells, writes, writes_text}
+use Rattle.run_promise.specs.Course.{feeds}
 use Rattle.run_promise.specs.Answers.{answers_text}
 use Rattle.run_promise.specs.Blocks.{AreBlocks}
 use Rattle.map_query.specs.declared.query.Query.{Query}
@@ -39,22 +43,26 @@ gathers file (suc count) entries rest = reads file (IsChange file) (λ more. gat
 abbrev pub init_course : Course
 init_course = wants_empty (formats (tells (codes "formatted\n") ends))
 
--- Nothing may have been imported into the store before, or something must have been. A store of the old format is refused as such.
+-- Nothing may have been imported into the store before, or something must have been. A store of the old format is refused as such, and so is
+-- that of a follower.
 abbrev pub if_formatted : Course → State → Course
 if_formatted rest formatted = rest
 if_formatted rest (imported held) = refuses AlreadyImported
 if_formatted rest (outdated held) = refuses OldFormat
+if_formatted rest (following held) = refuses Follower
 
 abbrev pub if_imported : (Holding → Course) → State → Course
 if_imported rest formatted = refuses NotImported
 if_imported rest (imported held) = rest held
 if_imported rest (outdated held) = refuses OldFormat
+if_imported rest (following held) = refuses Follower
 
 -- into a store that was just made nothing was imported, whatever its format
 abbrev pub if_blank : Course → State → Course
 if_blank rest formatted = rest
 if_blank rest (imported held) = refuses AlreadyImported
 if_blank rest (outdated held) = refuses AlreadyImported
+if_blank rest (following held) = refuses AlreadyImported
 
 -- the line that tells of so many changes
 abbrev pub version_line : ℕ → List ℕ
@@ -175,6 +183,31 @@ append_to files state = if_imported (λ held.
     reads files.first (IsBounds files.first) (λ bounds.
     appends bounds held (files.first + 1) (files.count - 1) (onward finished))) state
 
+-- the block that tells what a change has made of the tables
+abbrev pub IsDeltaText : (before after : Holding) → List ℕ → Type 0
+IsDeltaText before after text =
+    (delta : Delta) × IsDeltaOf before.style before.objects after.objects after.changes delta × (text ≡ delta_text delta)
+
+-- so many change files from this one on are appended, one after another, and of each such a block is told
+unfoldable pub feeds_changes : BoundsOf → Holding → (file count : ℕ) → Course
+feeds_changes bounds held file zero = ends
+feeds_changes bounds held file (suc count) =
+    reads file (IsChange file) (λ change.
+    commits (Append bounds change)
+    (feeds (IsDeltaText held (changed bounds change held))
+    (feeds_changes bounds (changed bounds change held) (file + 1) count)))
+
+-- the block of all tables comes first, where it is asked for
+abbrev pub feeds_full : Bool → Holding → Course → Course
+feeds_full false held rest = rest
+feeds_full true held rest =
+    looks (feeds (λ own. own ≡ full_text held.changes held.style_bytes (tables held.style held.objects)) rest)
+
+abbrev pub feed_to : Files → (full : Bool) → State → Course
+feed_to files full state = if_imported (λ held.
+    reads files.first (IsBounds files.first) (λ bounds.
+    feeds_full full held (feeds_changes bounds held (files.first + 1) (files.count - 1)))) state
+
 abbrev pub export_from : (table : List ℕ) → State → Course
 export_from table state = if_imported (λ held. exports held (table_of held.style.tables table)) state
 
@@ -200,8 +233,10 @@ abbrev pub migrates : State → Course
 migrates formatted = refuses NotImported
 migrates (imported held) = tells format_line ends
 migrates (outdated held) = commits Migrate (tells format_line ends)
+migrates (following held) = refuses Follower
 
--- All of a store is looked at, whether something was imported or not, and that it is sound is told. One of the old format is not judged.
+-- All of a store is looked at, whether something was imported or not, and that it is sound is told. One of the old format is not judged, nor is
+-- that of a follower.
 abbrev pub sound_line : List ℕ
 sound_line = codes "sound\n"
 
@@ -209,6 +244,7 @@ abbrev pub checks : State → Course
 checks formatted = looks (tells sound_line ends)
 checks (imported held) = looks (tells sound_line ends)
 checks (outdated held) = refuses OldFormat
+checks (following held) = refuses Follower
 
 -- a file is imported, so many behind it are appended, and all that the store holds then is told
 abbrev pub fills : (style : StyleOf × List ℕ) → BoundsOf → (file changes : ℕ) → Course
@@ -238,6 +274,7 @@ course_of (lines_of key files) = gathers files.first files.count [] (λ entries.
 course_of (init_of store) = init_course
 course_of (import_of store files buckets workers) = opens (import_into files buckets)
 course_of (append_of store files ahead workers) = opens (append_to files)
+course_of (feed_of store files full workers) = opens (feed_to files full)
 course_of (export_of store table) = opens (export_from table)
 course_of (tiles_of store least clear) = opens (tiles_of_store least clear)
 course_of (query_of store files) = opens (query_from files)

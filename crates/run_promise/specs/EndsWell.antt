@@ -1,12 +1,16 @@
--- What an import, an append, a clearing and a check that end well have made of the history that the disk kept, and what they have told.
-use Rattle.std.specs.Prelude.{◌≡◌, ◌≤◌, ℕ, zero, suc, ◌+◌, ◌-◌, List, [], ◌∷◌, ◌++◌, length, map, Ok}
+-- What an import, an append, a feed, a clearing and a check that end well have made of the history that the disk kept, and what they
+-- have told.
+use Rattle.std.specs.Prelude.{Bool, true, false, ◌≡◌, ◌≤◌, ℕ, zero, suc, ◌+◌, ◌-◌, List, [], ◌∷◌, ◌++◌, length, map, Ok}
 use Rattle.osm_base.specs.declared.values.object.Entry.{Entry}
+use Rattle.delta_feed.specs.Text.{full_text}
 use Rattle.outside.specs.Bytes.{IfTold}
+use Rattle.row_map.specs.Row.{tables}
 use Rattle.style_read.specs.Style.{StyleOf}
 use Rattle.tile_cover.specs.Table.{BoundsOf}
 use Rattle.update_flow.specs.History.{state_after}
-use Rattle.update_flow.specs.State.{Holding, formatted, imported, Import, Append, Clear}
-use Rattle.run_promise.specs.Courses.{IsTileText, sound_line, version_line}
+use Rattle.update_flow.specs.State.{Holding, formatted, imported, Import, Append, Clear, changed}
+use Rattle.run_promise.specs.Comes.{AreTold}
+use Rattle.run_promise.specs.Courses.{IsDeltaText, IsTileText, sound_line, version_line}
 use Rattle.run_promise.specs.Files.{IsBounds, IsChange, IsStyle}
 use Rattle.run_promise.specs.Keeps.{Kept, first, whole, with_steps}
 use Rattle.run_promise.specs.Progress.{Ending, IsIn, keeps}
@@ -43,6 +47,34 @@ pub record IsAppended (old : Before) (files : Files) (before : Kept) (ending : E
   pub accepted : AreAccepted old (files.first + 1) changes ending.done.read
   pub kept : ending.done.store ≡ keeps (whole (with_steps (map (λ change. Append bounds change) changes) (first cut before.history)))
   pub told : ending.done.written ≡ version_lines held.changes (length changes)
+
+-- one block behind another, each tells what a change has made of the tables
+abbrev pub TellChanges : BoundsOf → Holding → List (List Entry) → List ℕ → Type 0
+TellChanges bounds held [] text = text ≡ []
+TellChanges bounds held (change ∷ changes) text = (own : List ℕ) × (later : List ℕ) × IsDeltaText held (changed bounds change held) own
+    × TellChanges bounds (changed bounds change held) changes later × (text ≡ own ++ later)
+
+-- the block of all tables, where it is asked for
+abbrev pub first_block : (full : Bool) → Holding → List ℕ
+first_block false held = []
+first_block true held = full_text held.changes held.style_bytes (tables held.style held.objects)
+
+-- the steps behind those that stood are the changes of the files, each file was read whole, and where all files are told, the output took
+-- the block of each change, behind that of all tables where it is asked for
+pub record IsFed (old : Before) (files : Files) (full : Bool) (before : Kept) (ending : Ending) : Type 0 where
+  pub cut : ℕ
+  pub stood : StoodAt before cut
+  pub held : Holding
+  pub held_is : state_after (first cut before.history) ≡ imported held
+  pub bounds : BoundsOf
+  pub bounds_read : IsIn ending.done.read files.first
+  pub bounds_are : IfTold (old.left files.first) (λ bytes. IsBounds files.first bytes (Ok bounds))
+  pub changes : List (List Entry)
+  pub many : length changes ≡ files.count - 1
+  pub accepted : AreAccepted old (files.first + 1) changes ending.done.read
+  pub kept : ending.done.store ≡ keeps (whole (with_steps (map (λ change. Append bounds change) changes) (first cut before.history)))
+  pub told : AreTold old ending.done.read → (later : List ℕ) × TellChanges bounds held changes later
+      × (ending.done.written ≡ first_block full held ++ later)
 
 -- nothing was imported before, the one step behind is the import of the file, both files were read whole, and that was told
 pub record IsFirstImport (old : Before) (files : Files) (buckets : ℕ) (before : Kept) (ending : Ending) : Type 0 where

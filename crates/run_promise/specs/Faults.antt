@@ -16,7 +16,7 @@ use Rattle.page_journal.specs.declared.fault.StoreFault.{StoreFault}
 use Rattle.page_journal.specs.declared.fault.StoreFault.TheVariants as stores
 use Rattle.run_promise.specs.declared.fault.Fault.{Fault}
 use Rattle.run_promise.specs.declared.fault.Fault.TheVariants.{Usage, Malformed, BadStyle, BadBounds, BadQuery, Limit, ReadFault}
-use Rattle.run_promise.specs.declared.fault.Fault.TheVariants.{NotFormatted, NotEmpty, NotImported, AlreadyImported, OldFormat}
+use Rattle.run_promise.specs.declared.fault.Fault.TheVariants.{NotFormatted, NotEmpty, NotImported, AlreadyImported, OldFormat, Follower}
 use Rattle.run_promise.specs.declared.fault.Fault.TheVariants.{UnknownTable, BadStore, WriteFault, DiskFault, OutOfMemory}
 use Rattle.update_flow.specs.declared.fault.FlowFault.{FlowFault}
 use Rattle.update_flow.specs.declared.fault.TheConstants.{LAST_CHANGE}
@@ -54,6 +54,7 @@ status_of (Some NotEmpty) = 6
 status_of (Some NotImported) = 6
 status_of (Some AlreadyImported) = 6
 status_of (Some OldFormat) = 6
+status_of (Some Follower) = 6
 status_of (Some (BadStore _)) = 6
 status_of (Some (ReadFault _)) = 7
 status_of (Some WriteFault) = 8
@@ -114,6 +115,7 @@ fault_text NotEmpty = codes "not empty"
 fault_text NotImported = codes "not imported"
 fault_text AlreadyImported = codes "already imported"
 fault_text OldFormat = codes "old format"
+fault_text Follower = codes "follower"
 fault_text UnknownTable = codes "unknown table"
 fault_text (BadStore page) = codes "bad store page " ++ decimal page
 fault_text WriteFault = codes "write fault"

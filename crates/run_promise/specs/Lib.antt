@@ -9,7 +9,9 @@ pub mod Course
 pub mod Courses
 pub mod EndsWell
 pub mod Faults
+pub mod FeedBlocks
 pub mod Files
+pub mod Followers
 pub mod InTurn
 pub mod Keeps
 pub mod Leaves

@@ -1,7 +1,7 @@
 -- Stores of the old format: who refuses them, and what a migration makes of one.
 use Rattle.std.specs.Prelude.{◌≡◌, ◌⊎◌, ◌≤◌, ℕ, [], ◌∷◌, Some}
 use Rattle.update_flow.specs.History.{History, state_after}
-use Rattle.update_flow.specs.State.{Holding, State, formatted, imported, outdated, Migrate}
+use Rattle.update_flow.specs.State.{Holding, State, formatted, imported, outdated, following, Migrate}
 use Rattle.run_promise.specs.declared.fault.Fault.TheVariants.{OldFormat}
 use Rattle.run_promise.specs.Comes.{Breaks}
 use Rattle.run_promise.specs.Courses.{format_line}
@@ -12,6 +12,7 @@ use Rattle.run_promise.specs.Progress.{Ending, at, begun, keeps, opened}
 abbrev pub IfOld : State → Type 0 → Type 0
 IfOld formatted P = Unit {0}
 IfOld (imported held) P = Unit {0}
+IfOld (following held) P = Unit {0}
 IfOld (outdated held) P = P
 
 -- the disk failed at the opening, or memory ran out; or the store was opened, and the run ended at once where it has the old format

@@ -3,7 +3,7 @@ use Rattle.std.specs.Prelude.{◌≡◌, ◌≤◌, ◌+◌, ◌⊎◌, ℕ, Lis
 use Rattle.style_read.specs.Style.{StyleOf}
 use Rattle.tile_cover.specs.Table.{BoundsOf}
 use Rattle.run_promise.specs.declared.fault.Fault.{Fault}
-use Rattle.run_promise.specs.CommandOf.{CommandOf, import_of, append_of, query_of, serve_of, replay_of}
+use Rattle.run_promise.specs.CommandOf.{CommandOf, import_of, append_of, feed_of, query_of, serve_of, replay_of}
 use Rattle.map_query.specs.declared.query.Query.{Query}
 use Rattle.run_promise.specs.Files.{IsBounds, IsChange, IsQueries, IsStyle, change_in}
 
@@ -27,6 +27,8 @@ Accepts (import_of store files buckets workers) file bytes =
     ((file ≡ files.first) × AcceptsStyle file bytes) ⊎ ((files.first + 1 ≤ file) × AcceptsChange file bytes)
 Accepts (append_of store files ahead workers) file bytes =
     ((file ≡ files.first) × AcceptsBounds file bytes) ⊎ ((files.first + 1 ≤ file) × AcceptsChange file bytes)
+Accepts (feed_of store files full workers) file bytes =
+    ((file ≡ files.first) × AcceptsBounds file bytes) ⊎ ((files.first + 1 ≤ file) × AcceptsChange file bytes)
 Accepts (query_of store files) file bytes = AcceptsQueries file bytes
 Accepts (serve_of store files workers readers) file bytes =
     ((file ≡ files.first) × AcceptsBounds file bytes) ⊎ ((file ≡ files.first + 1) × AcceptsQueries file bytes)
@@ -42,6 +44,8 @@ HasFault (import_of store files buckets workers) file bytes fault =
     ((file ≡ files.first) × IsStyle file bytes (Err fault)) ⊎ ((files.first + 1 ≤ file) × IsChange file bytes (Err fault))
 HasFault (append_of store files ahead workers) file bytes fault =
     ((file ≡ files.first) × IsBounds file bytes (Err fault)) ⊎ ((files.first + 1 ≤ file) × IsChange file bytes (Err fault))
+HasFault (feed_of store files full workers) file bytes fault =
+    ((file ≡ files.first) × IsBounds file bytes (Err fault)) ⊎ ((files.first + 1 ≤ file) × IsChange file bytes (Err fault))
 HasFault (query_of store files) file bytes fault = (style : StyleOf) × IsQueries style file bytes (Err fault)
 HasFault (serve_of store files workers readers) file bytes fault =
     ((file ≡ files.first) × IsBounds file bytes (Err fault))
@@ -55,6 +59,7 @@ HasFault _ file bytes fault = IsChange file bytes (Err fault)
 -- the command writes nothing before all its files are read
 abbrev pub ReadsFirst : CommandOf → Type 0
 ReadsFirst (append_of store files ahead workers) = ⊥
+ReadsFirst (feed_of store files full workers) = ⊥
 ReadsFirst (serve_of store files workers readers) = ⊥
 ReadsFirst (replay_of store files workers) = ⊥
 ReadsFirst _ = Unit {0}
@@ -63,6 +68,7 @@ ReadsFirst _ = Unit {0}
 abbrev pub HasItsFiles : CommandOf → Type 0
 HasItsFiles (import_of store files buckets workers) = files.count ≡ 2
 HasItsFiles (append_of store files ahead workers) = 2 ≤ files.count
+HasItsFiles (feed_of store files full workers) = 1 ≤ files.count
 HasItsFiles (query_of store files) = files.count ≡ 1
 HasItsFiles (serve_of store files workers readers) = 2 ≤ files.count
 HasItsFiles (replay_of store files workers) = 3 ≤ files.count

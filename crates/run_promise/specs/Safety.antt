@@ -1,12 +1,15 @@
 -- What a store keeps through a run, whatever the command and the answer.
-use Rattle.std.specs.Prelude.{◌≡◌, ◌≢◌, ◌⊎◌, ◌≤◌, ◌+◌, ◌-◌, ℕ, nat_eq, List, [], filter, length, Option, Some, None}
+use Rattle.std.specs.Prelude.{◌≡◌, ◌≢◌, ◌⊎◌, ◌≤◌, ◌+◌, ◌-◌, ◌++◌, ℕ, Bool, true, false, List, [], length, Option, Some, None}
+use Rattle.std.specs.List.{AllByRecursion, concat}
 use Rattle.outside.specs.Bytes.{BothKnown, IsTold}
 use Rattle.run_promise.specs.declared.fault.Fault.{Fault}
-use Rattle.run_promise.specs.declared.fault.Fault.TheVariants.{WriteFault, DiskFault}
+use Rattle.run_promise.specs.declared.fault.Fault.TheVariants.{WriteFault, DiskFault, OutOfMemory}
 use Rattle.update_flow.specs.State.{Step}
-use Rattle.run_promise.specs.CommandOf.{CommandOf, import_of, append_of, serve_of, replay_of, demo_of, new_store, old_store, use_of}
+use Rattle.run_promise.specs.CommandOf.{CommandOf, import_of, append_of, feed_of, serve_of, replay_of, demo_of, new_store, old_store}
+use Rattle.run_promise.specs.CommandOf.{use_of}
 use Rattle.run_promise.specs.Comes.{Comes}
 use Rattle.run_promise.specs.Courses.{course_of}
+use Rattle.run_promise.specs.FeedBlocks.{IsFeedBlock, IsPart, lines_in}
 use Rattle.run_promise.specs.Keeps.{Is, IsFit, IsKept, IsOneOf, Keeps, Kept, blank, first, whole, with_steps}
 use Rattle.run_promise.specs.Progress.{Ending, Progress, begun, keeps, unused}
 use Rattle.run_promise.specs.World.{World, remembered}
@@ -25,10 +28,6 @@ pub record KeepsAtEnd (now : Kept) (new : World) (fault : Option Fault) : Type 0
   pub all : fault ≡ None → now.least ≡ length now.history.steps
   pub told : fault ≢ Some DiskFault → IsTold new.disk.content
 
--- how many lines there are
-abbrev pub lines_in : List ℕ → ℕ
-lines_in bytes = length (filter (nat_eq 10) bytes)
-
 -- how many steps a command tells, if it comes to its end: each in a line of its own, and these lines are the first that it writes
 abbrev pub steps_told : CommandOf → ℕ
 steps_told (import_of store files buckets workers) = 1
@@ -44,6 +43,32 @@ pub record Acknowledges (most : ℕ) (now : Kept) (cut : ℕ) (steps : List Step
   pub kept : (told : ℕ) → told ≤ most → told ≤ lines → cut + told ≤ now.least
   pub only : fault ≢ None → fault ≢ Some WriteFault → fault ≢ Some DiskFault → length steps ≤ lines
   pub last : fault ≡ Some WriteFault → length steps ≤ lines + 1
+
+-- the blocks of a feed that tell no step: that of all tables, where it is asked for
+abbrev pub untold_blocks : (full : Bool) → ℕ
+untold_blocks false = 0
+untold_blocks true = 1
+
+-- What the output took of a feed: blocks, and a part of one more. Each step whose block was taken whole is kept. After a fault the run took
+-- no other step, unless the disk failed; where the output failed, or memory for the text of a block, the block of the last step may be
+-- missing.
+pub record AcknowledgesBlocks (full : Bool) (now : Kept) (cut : ℕ) (steps : List Step) (fault : Option Fault) (own : List ℕ) : Type 0 where
+  pub blocks : List (List ℕ)
+  pub part : List ℕ
+  pub are : AllByRecursion IsFeedBlock blocks
+  pub half : IsPart part
+  pub is : own ≡ concat blocks ++ part
+  pub kept : cut + (length blocks - untold_blocks full) ≤ now.least
+  pub only : fault ≢ None → fault ≢ Some WriteFault → fault ≢ Some DiskFault → fault ≢ Some OutOfMemory
+      → length steps ≤ length blocks - untold_blocks full
+  pub last : (fault ≡ Some WriteFault) ⊎ (fault ≡ Some OutOfMemory) → length steps ≤ length blocks - untold_blocks full + 1
+
+-- what a command has told of its steps, where the output held these bytes and holds those
+abbrev pub AcknowledgesBy : CommandOf → (now : Kept) → (cut : ℕ) → List Step → Option Fault → (earlier later : List ℕ) → Type 0
+AcknowledgesBy (feed_of store files full workers) now cut steps fault earlier later =
+    (own : List ℕ) × (later ≡ earlier ++ own) × AcknowledgesBlocks full now cut steps fault own
+AcknowledgesBy command now cut steps fault earlier later =
+    Acknowledges (steps_told command) now cut steps fault (lines_in later - lines_in earlier)
 
 -- a run of the command may come to an end at which the disk keeps this, of which so many steps stood there before
 abbrev pub ComesTo : CommandOf → (start : Progress) → (now : Kept) → (cut : ℕ) → World → Option Fault → Type 0
@@ -63,7 +88,7 @@ pub record Extends (command : CommandOf) (start : Progress) (before : Kept) (old
   pub comes : ComesTo command start now cut old fault
   pub at_end : KeepsAtEnd now new fault
   pub acknowledged : BothKnown old.output.taken new.output.taken
-      (λ earlier later. Acknowledges (steps_told command) now cut steps fault (lines_in later - lines_in earlier))
+      (λ earlier later. AcknowledgesBy command now cut steps fault earlier later)
 
 -- over a store that was there
 pub record Preserves (command : CommandOf) (before : Kept) (old new : World) (fault : Option Fault) : Type 0 where

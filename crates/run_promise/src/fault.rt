@@ -64,6 +64,8 @@ pub enum Fault {
     AlreadyImported,
     /// The store is one of the old format, which `migrate` writes anew.
     OldFormat,
+    /// The store is that of a follower.
+    Follower,
     /// The store has no table of this name.
     UnknownTable,
     /// This page shows that the store is damaged.
@@ -238,6 +240,7 @@ impl Outcome {
                 | Fault::NotImported
                 | Fault::AlreadyImported
                 | Fault::OldFormat
+                | Fault::Follower
                 | Fault::BadStore { .. },
             ) => 6,
             Some(Fault::ReadFault { .. }) => 7,
@@ -294,6 +297,7 @@ impl fmt::Display for Fault {
             Fault::NotImported => f.write_str("not imported"),
             Fault::AlreadyImported => f.write_str("already imported"),
             Fault::OldFormat => f.write_str("old format"),
+            Fault::Follower => f.write_str("follower"),
             Fault::UnknownTable => f.write_str("unknown table"),
             Fault::BadStore { page } => write!(f, "bad store page {page}"),
             Fault::WriteFault => f.write_str("write fault"),

@@ -1,10 +1,11 @@
 //! What holds of the runs of every command, by their courses.
-ghost use Rattle.std.specs.Prelude.{◌≡◌, ◌≢◌, List, None, Some, true, ℕ};
-ghost use Rattle.run_promise.specs.Causes.{WantsNewFormat};
+ghost use Rattle.std.specs.Prelude.{◌≡◌, ◌≢◌, Bool, List, None, Some, true, ℕ};
+ghost use Rattle.run_promise.specs.Causes.{OpensStore, WantsNewFormat};
 ghost use Rattle.run_promise.specs.Comes.{Comes, IsDue, IsOutside};
-ghost use Rattle.run_promise.specs.CommandOf.{CommandOf, append_of, check_of, import_of, migrate_of, tiles_of, use_of};
+ghost use Rattle.run_promise.specs.CommandOf.{CommandOf, append_of, check_of, feed_of, import_of, migrate_of, tiles_of, use_of};
 ghost use Rattle.run_promise.specs.Courses.{course_of};
-ghost use Rattle.run_promise.specs.EndsWell.{IsAppended, IsCleared, IsFirstImport, IsFoundSound};
+ghost use Rattle.run_promise.specs.EndsWell.{IsAppended, IsCleared, IsFed, IsFirstImport, IsFoundSound};
+ghost use Rattle.run_promise.specs.Followers.{LeavesFollower};
 ghost use Rattle.run_promise.specs.InTurn.{FaultNames, IsInTurn};
 ghost use Rattle.run_promise.specs.Keeps.{Kept};
 ghost use Rattle.run_promise.specs.Migrating.{IsMigrated, LeavesOld};
@@ -34,6 +35,12 @@ pub fn old_stores_are_left()
         → Comes old (course_of command) (begun (keeps kept) kept.least) ending → LeavesOld kept ending }
 {}
 
+/// Each command that opens its store leaves that of a follower as it is.
+pub fn follower_stores_are_left()
+    ensures left { (command : CommandOf) (old : Before) (kept : Kept) (ending : Ending) → OpensStore command
+        → Comes old (course_of command) (begun (keeps kept) kept.least) ending → LeavesFollower kept ending }
+{}
+
 /// A migration that ends well leaves a store of this format that holds what it held, and has told so.
 pub fn migrations_end_well()
     ensures migrated { (old : Before) (store : List ℕ) (kept : Kept) (ending : Ending)
@@ -45,6 +52,13 @@ pub fn appends_end_well()
     ensures appended { (old : Before) (store : List ℕ) (files : Files) (ahead workers : ℕ) (kept : Kept) (ending : Ending)
         → Comes old (course_of (append_of store files ahead workers)) (begun (keeps kept) kept.least) ending → ending.fault ≡ None
         → IsAppended old files kept ending }
+{}
+
+/// A feed that ends well has appended each of its change files, one after another, and told what each has made of the tables.
+pub fn feeds_end_well()
+    ensures fed { (old : Before) (store : List ℕ) (files : Files) (full : Bool) (workers : ℕ) (kept : Kept) (ending : Ending)
+        → Comes old (course_of (feed_of store files full workers)) (begun (keeps kept) kept.least) ending → ending.fault ≡ None
+        → IsFed old files full kept ending }
 {}
 
 /// An import that ends well was the first one, and has told so.

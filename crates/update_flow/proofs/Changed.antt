@@ -24,12 +24,12 @@ use Rattle.update_step.specs.declared.fault.StepFault.{StepFault}
 use Rattle.update_step.specs.declared.fault.StepFault.TheVariants as steps
 use Rattle.update_flow.specs.Due.{Tiles, both, due_between}
 use Rattle.update_flow.specs.Faults.{of_store}
-use Rattle.update_flow.specs.Handle.{Handle, IsOpen, Takes, changes_of, is_imported, is_old, is_whole, limits_of, style_of, view_of}
+use Rattle.update_flow.specs.Handle.{Handle, IsOpen, Takes, changes_of, is_follower, is_imported, is_old, is_whole, limits_of, style_of, view_of}
 use Rattle.update_flow.specs.Ids.{AreIdEntries}
 use Rattle.update_flow.specs.Refusals.{MayAnswer, RefusesChange}
 use Rattle.update_flow.specs.Settling.{settled}
 use Rattle.update_flow.specs.Stands.{IsImported}
-use Rattle.update_flow.specs.State.{Append, Holding, State, changed, formatted, imported, outdated}
+use Rattle.update_flow.specs.State.{Append, Holding, State, changed, formatted, imported, outdated, following}
 use Rattle.update_flow.specs.Steps.{of_step}
 use Rattle.update_flow.specs.Turning.{TurnsOn}
 use Rattle.update_flow.specs.Updater.{KeptFits}
@@ -37,7 +37,7 @@ use Rattle.update_flow.specs.declared.fault.TheConstants.{LAST_CHANGE}
 use Rattle.update_flow.specs.declared.fault.FlowFault.{FlowFault}
 use Rattle.update_flow.specs.declared.fault.FlowFault.TheVariants as flow
 use Rattle.update_flow.proofs.Becoming.{objects_become, settled_becomes, with_changes, with_due, with_objects}
-use Rattle.update_flow.proofs.Handles.{step_old, takes_on, told_blank, told_old}
+use Rattle.update_flow.proofs.Handles.{step_old, takes_on, told_own, told_blank, told_old}
 use Rattle.update_flow.proofs.Keyed.{ids_folded}
 
 pub not_zero : (n : ℕ) → (n ≡ 0 → ⊥) → nat_eq n 0 ≡ false
@@ -87,8 +87,8 @@ append_old handle bounds change is state opened = step_old handle (Append bounds
 module _ (old new : Handle) (kept : Option Resting) (whole : is_some kept ≡ is_whole new)
     (keeps : KeptFits kept (view_of new) → new.keeps) where
   -- a change is made
-  module _ (is : is_imported old ≡ true) (fresh : is_old old ≡ false) (stays : is_old new ≡ is_old old)
-      (style : style_of new ≡ style_of old) (fault : Option FlowFault)
+  module _ (is : is_imported old ≡ true) (fresh : is_old old ≡ false) (own : is_follower old ≡ false)
+      (same : is_follower new ≡ is_follower old) (stays : is_old new ≡ is_old old) (style : style_of new ≡ style_of old) (fault : Option FlowFault)
       (one_more : fault ≡ None → changes_of new ≡ changes_of old + 1) (as_many : fault ≢ None → changes_of new ≡ changes_of old) where
     shows_style : is_imported new ≡ true
     shows_style = ap (λ (o : Option StyleOf). is_some o) style ∙ is
@@ -99,6 +99,7 @@ module _ (old new : Handle) (kept : Option Resting) (whole : is_some kept ≡ is
         → (state : State) → IsOpen state old → Takes state (Append bounds change) fault old new
     append_taken bounds change turns formatted opened = absurd (told_blank old opened is)
     append_taken bounds change turns (outdated held) opened = absurd (told_old old held opened fresh)
+    append_taken bounds change turns (following held) opened = absurd (told_own old held opened own)
     append_taken bounds change turns (imported held) opened =
         takes_on old new kept whole keeps (imported held) (Append bounds change) fault (turns held opened)
         (λ none. record {
@@ -106,10 +107,12 @@ module _ (old new : Handle) (kept : Option Resting) (whole : is_some kept ≡ is
           imported_is = shows_style;
           old_is = stays ∙ opened.shows.old_is;
           style_is = style ∙ opened.shows.style_is;
+          follower_is = same ∙ opened.shows.follower_is;
         })
         (λ some. record {
           changes_are = as_many some ∙ opened.shows.changes_are;
           imported_is = shows_style;
           old_is = stays ∙ opened.shows.old_is;
           style_is = style ∙ opened.shows.style_is;
+          follower_is = same ∙ opened.shows.follower_is;
         })

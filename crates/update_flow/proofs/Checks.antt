@@ -1,7 +1,7 @@
 -- What was opened and judged is what was opened.
 use Rattle.std.proofs.Common.{◌≡◌, ◌⊎◌, inl, inr, ℕ, Bool, true, false, List, Option, Some, None, Result, Ok, Err, refl, sym, ap, subst, ◌∙◌}
 use Rattle.std.proofs.Common.{◌≤◌, arith}
-use Rattle.std.specs.Prelude.{IfErr, IfOk, IsErrOf, OnOk}
+use Rattle.std.specs.Prelude.{IfErr, IfOk, IfSome, IsErrOf, OnOk}
 use Rattle.std.specs.Result.{result_err}
 use Rattle.outside.specs.Bytes.{IfTold, IsTold}
 use Rattle.outside.specs.Causes.{Rose}
@@ -24,26 +24,49 @@ use Rattle.bucket_store.specs.declared.resting.Resting.{Resting}
 use Rattle.update_flow.specs.AtRest.{HasFlowCause, IsAt}
 use Rattle.update_flow.specs.BadPage.{BadFront, BadHome, BadInside, BadJournal, IsBadPage, root_told}
 use Rattle.update_flow.specs.Judged.{AreSound, IsAsOpened, IsReadOf, Judges, TellsToday}
-use Rattle.update_flow.specs.Opening.{Found, OpensAny, RootTells}
+use Rattle.update_flow.specs.Opening.{AreFieldsFor, Found, FoundIn, HoldsState, OpensAny, RootTells, RootTold, as_found}
 use Rattle.update_flow.specs.Refusals.{IsOpenFault, MayFind}
 use Rattle.update_flow.specs.Roots.{AreFieldsOf, IsOfKind, is_blank, is_imported}
 use Rattle.update_flow.specs.Sound.{IsSound}
-use Rattle.update_flow.specs.Stands.{StandsFor}
-use Rattle.update_flow.specs.State.{State, formatted, imported, outdated, was_old}
+use Rattle.update_flow.specs.Stands.{Means, StandsFor}
+use Rattle.update_flow.specs.State.{State, changes_in, following, follows, formatted, imported, outdated, style_in, was_old}
 use Rattle.update_flow.specs.Within.{IsSound as IsSoundFault, MayRun}
 use Rattle.update_flow.specs.declared.fault.FlowFault.{FlowFault}
 use Rattle.update_flow.specs.declared.fault.FlowFault.TheVariants as flow
 use Rattle.update_flow.specs.declared.opened.Opened.{Opened}
 use Rattle.style_read.specs.Style.{StyleOf}
-use Rattle.update_flow.proofs.Judgements.{home_of_sound, sound_of_home}
-use Rattle.update_flow.proofs.Openings.{at_state, state_before}
+use Rattle.update_flow.specs.declared.fields.TheConstants.{IMPORTED_FORMAT, OLD_FORMAT}
+use Rattle.update_flow.proofs.Judgements.{home_of_sound, made_apart, own_apart, sound_of_home}
+use Rattle.update_flow.proofs.Openings.{at_state, following_root, imported_root, old_root, root_of, state_before}
 use Rattle.update_flow.proofs.SoundStanding.{blank_is_sound, import_is_sound}
 
--- what stands for a state that is no old one is sound
-pub state_sound : (state : State) (bytes : List ℕ) → was_old state ≡ false → StandsFor bytes state → IsSound bytes
-state_sound formatted bytes fresh stands = blank_is_sound bytes stands
-state_sound (imported held) bytes fresh stands = import_is_sound bytes held stands
-state_sound (outdated held) bytes fresh stands = absurd (cc (fresh))
+-- what stands for a state that is no old one and no follower's is sound
+pub state_sound : (state : State) (bytes : List ℕ) → was_old state ≡ false → follows state ≡ false → StandsFor bytes state → IsSound bytes
+state_sound formatted bytes fresh own stands = blank_is_sound bytes stands
+state_sound (imported held) bytes fresh own stands = import_is_sound bytes held stands
+state_sound (outdated held) bytes fresh own stands = absurd (cc (fresh))
+state_sound (following held) bytes fresh own stands = absurd (cc (own))
+
+only_made : (state : State) (image : Image) → Means state image → is_blank image.root ≡ true → formatted ≡ state
+only_made formatted image means made = refl
+only_made (imported held) image means made = absurd (made_apart IMPORTED_FORMAT image.root made (imported_root held image means))
+only_made (outdated held) image means made = absurd (made_apart OLD_FORMAT image.root made (old_root held image means))
+only_made (following held) image means made = absurd (own_apart image.root (following_root held image means) (inl made))
+
+-- blank fields are those of a store that was only made
+pub blank_found : (state : State) (view : DiskView) (found : Resting) (opened : Opened) → is_blank (opened_root found) ≡ true
+    → opened.store ≡ found → opened.changes ≡ 0 → opened.style ≡ None → opened.outdated ≡ false → Fits found view → HoldsState state view
+    → Found state view opened
+blank_found state view found opened blank same none styleless fresh fits holds =
+    let made : is_blank holds.image.root ≡ true = ap (λ (r : Root). is_blank r) (sym (root_of state view found fits holds)) ∙ blank in
+    let own = only_made state holds.image holds.means made in
+    record {
+      changes_are = none ∙ ap (λ (s : State). changes_in s) own;
+      style_is = styleless ∙ ap (λ (s : State). style_in s) own;
+      old_is = fresh ∙ ap (λ (s : State). was_old s) own;
+      own = ap (λ (s : State). follows s) (sym own);
+      fits = subst (λ (s : Resting). Fits s view) (sym same) fits;
+    }
 
 -- the fields of a store that is no old one are those of today
 kind_today : (style : Option StyleOf) (root : Root) → IsOfKind style false root → (is_blank root ≡ true) ⊎ (is_imported root ≡ true)
@@ -81,11 +104,13 @@ same_home bytes one other view home rests own =
     let here : Home one own.0 = subst (λ (b : List ℕ). Home one b) same rests.1.home in
     subst (λ (p : List (List ℕ)). Home p bytes) (one_home one other own.0 here own.1.home) home
 
--- two facts of what was answered
-pub both_ok : (result : Result Opened FlowFault) (A B C : Opened → Type 0) → ((opened : Opened) → A opened → B opened → C opened)
-    → IfOk result A → IfOk result B → IfOk result C
-both_ok (Ok opened) A B C then one other = then opened one other
-both_ok (Err fault) A B C then one other = tt
+-- a fact of what was found, and its fields
+pub both_found : (result : Result (Option Opened) FlowFault) (A : Opened → Type 0) (root : Root) (C : Opened → Type 0)
+    → ((opened : Opened) → A opened → AreFieldsOf opened.style opened.outdated opened.changes root → C opened)
+    → IfOk result (λ found. IfSome found A) → IfOk result (λ found. AreFieldsFor found root) → IfOk result (λ found. IfSome found C)
+both_found (Ok None) A root C then one other = tt
+both_found (Ok (Some opened)) A root C then one other = then opened one other
+both_found (Err fault) A root C then one other = tt
 
 -- what was opened was read of the bytes
 pub read_of : (bytes : List ℕ) (found : Resting) (opened : Opened) (mid new : DiskView) (before : Fits found mid)
@@ -160,14 +185,32 @@ find_opens flow.LastChange may = absurd may
 find_opens (flow.TooMany value) may = absurd may
 find_opens flow.OutOfMemory may = tt
 
-finds_only : (result : Result Opened FlowFault) → IfErr result MayFind → IfErr result IsOpenFault
+-- what is so of a store, if one was found, is so of this one
+pub some_found : (found : Option Opened) (opened : Opened) (P : Opened → Type 0) → found ≡ Some opened → IfSome found P → P opened
+some_found found opened P is own = subst (λ (o : Option Opened). IfSome o P) is own
+
+-- what is answered of a store that was found
+pub err_found : (result : Result Opened FlowFault) → result_err (as_found result) ≡ result_err result
+err_found (Ok opened) = refl
+err_found (Err fault) = refl
+
+pub err_again : (result : Result Opened FlowFault) (fault : FlowFault) → IsErrOf (as_found result) fault → IsErrOf result fault
+err_again (Ok opened) fault is = absurd (cc (is))
+err_again (Err own) fault is =
+    ap (λ (f : FlowFault). Err f) (same_Some own fault (ap (λ (r : Result (Option Opened) FlowFault). result_err r) is))
+
+pub fault_found : (found : Result (Option Opened) FlowFault) (result : Result Opened FlowFault) → found ≡ as_found result
+    → result_err result ≡ result_err found
+fault_found found result is = sym (err_found result) ∙ ap (λ (r : Result (Option Opened) FlowFault). result_err r) (sym is)
+
+finds_only : (result : Result Opened FlowFault) → IfErr result MayFind → IfErr (as_found result) IsOpenFault
 finds_only (Ok opened) alone = tt
 finds_only (Err fault) alone = find_opens fault alone
 
 no_formatted : (result : Result Opened FlowFault) → IfErr result MayFind → IsErrOf result (flow.Store store.NotFormatted) → ⊥
 no_formatted result alone is = subst (λ (r : Result Opened FlowFault). IfErr r MayFind) is alone
 
-on_any : (result : Result Opened FlowFault) (P : Type 0) → P → OnOk result P
+on_any : (result : Result Opened FlowFault) (P : Type 0) → P → OnOk (as_found result) P
 on_any (Ok opened) P own = own
 on_any (Err fault) P own = tt
 
@@ -179,12 +222,12 @@ whole_sound state opened mid fits fault at found fresh judges alone =
     let same : at.bytes ≡ fits.rests.0 = same_Some at.bytes fits.rests.0 (sym at.told ∙ fits.rests.1.told) in
     let stands : StandsFor fits.rests.0 state = subst (λ (b : List ℕ). StandsFor b state) same at.stands in
     judged_sound fits.pages opened.store.kept fault judges alone
-    (home_of_sound fits.rests.0 fits.pages fits.rests.1.home (state_sound state fits.rests.0 (sym found.old_is ∙ fresh) stands))
+    (home_of_sound fits.rests.0 fits.pages fits.rests.1.home (state_sound state fits.rests.0 (sym found.old_is ∙ fresh) found.own stands))
 
 -- bytes are sound where they are judged so, and else a page is blamed
 pub sound_told : (result : Result Opened FlowFault) (R : List ℕ → Type 0)
     → ((bytes : List ℕ) → R bytes → (pages : List (List ℕ)) × (kept : Kept) × Home pages bytes × Judges pages kept (result_err result))
-    → IfOk result (λ opened. opened.outdated ≡ false → (bytes : List ℕ) → R bytes → IsSound bytes)
+    → IfOk (as_found result) (λ found. IfSome found (λ opened. opened.outdated ≡ false → (bytes : List ℕ) → R bytes → IsSound bytes))
 sound_told (Ok opened) R each = λ fresh bytes told. let own = each bytes told in sound_of_home bytes own.0 own.2 own.3
 sound_told (Err fault) R each = tt
 
@@ -202,7 +245,7 @@ pub found_told : (result : Result Opened FlowFault) (opened : Opened) (old mid n
     → Stays mid new → (IsTold old.content → (state : State) → IsAt state mid → Found state mid opened)
     → IfOk result (λ now. IsAsOpened opened now)
     → IfOk result (λ now. (image : Image) → Fits opened.store mid → HoldsImage image mid → Fits now.store new)
-    → IfOk result (λ now. IsTold old.content → (state : State) → IsAt state new → Found state new now)
+    → IfOk (as_found result) (λ now. IsTold old.content → (state : State) → IsAt state new → FoundIn state new now)
 found_told (Err fault) opened old mid new fits stays found same then = tt
 found_told (Ok now) opened old mid new fits stays found same then = λ told state at.
     let before = fits told in
@@ -212,12 +255,13 @@ found_told (Ok now) opened old mid new fits stays found same then = λ told stat
       changes_are = same.changes_are ∙ own.changes_are;
       style_is = same.style_is ∙ own.style_is;
       old_is = same.old_is ∙ own.old_is;
+      own = own.own;
       fits = then holds.image before holds.holds;
     }
 
 fields_still : (result : Result Opened FlowFault) (opened : Opened) (content : Option (List ℕ))
     → IfTold content (RootTells opened.style opened.outdated opened.changes) → IfOk result (λ now. IsAsOpened opened now)
-    → IfOk result (λ now. IfTold content (RootTells now.style now.outdated now.changes))
+    → IfOk (as_found result) (RootTold content)
 fields_still (Err fault) opened content tells same = tt
 fields_still (Ok now) opened content tells same = λ bytes told.
     subst (λ (n : ℕ). RootTells now.style now.outdated n bytes) (sym same.changes_are)
@@ -225,22 +269,22 @@ fields_still (Ok now) opened content tells same = λ bytes told.
     (subst (λ (s : Option StyleOf). RootTells s opened.outdated opened.changes bytes) (sym same.style_is) (tells bytes told)))
 
 -- whatever the disk holds
-pub any_still : (result : Result Opened FlowFault) (opened : Opened) (old mid new : DiskView) → OpensAny old mid (Ok opened) → Stays mid new
+pub any_still : (result : Result Opened FlowFault) (opened : Opened) (old mid new : DiskView) → OpensAny old mid (Ok (Some opened)) → Stays mid new
     → IfErr result MayFind → HasFlowCause (result_err result) mid new → IfOk result (λ now. IsAsOpened opened now)
     → ((page : ℕ) → IsErrOf result (flow.Store (store.BadStore page)) → IfTold old.content (λ bytes. (state : State) → ¬ StandsFor bytes state))
-    → OpensAny old new result
+    → OpensAny old new (as_found result)
 any_still result opened old mid new any stays alone cause same none = record {
   alone = finds_only result alone;
-  no_store = λ is. absurd (no_formatted result alone is);
+  no_store = λ is. absurd (no_formatted result alone (err_again result _ is));
   formed = on_any result _ any.formed;
   fields = fields_still result opened old.content any.fields same;
-  untouched = λ is. absurd (no_formatted result alone is);
+  untouched = λ is. absurd (no_formatted result alone (err_again result _ is));
   told = λ told no. let own = any.told told tt in (own.0, stays.content ∙ own.1);
-  bad = λ page is bytes told. record { formed = any.formed bytes told; none = none page is bytes told };
+  bad = λ page is bytes told. record { formed = any.formed bytes told; none = none page (err_again result _ is) bytes told };
   same = λ bytes told shut. stays.content ∙ any.same bytes told shut;
   looked = λ bytes told shut. stays_then old mid new (any.looked bytes told shut) stays;
   cause = record {
     later = omega (arith, any.cause.later, cause.later);
-    failed = λ is. rose_later old.faults mid.faults new.faults any.cause.later (cause.failed is);
+    failed = λ is. rose_later old.faults mid.faults new.faults any.cause.later (cause.failed (sym (err_found result) ∙ is));
   };
 }

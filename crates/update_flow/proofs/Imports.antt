@@ -28,14 +28,14 @@ use Rattle.update_flow.specs.Refusals.{MayAnswer}
 use Rattle.update_flow.specs.Ids.{AreIdEntries}
 use Rattle.update_flow.specs.Settling.{begun, fresh_root}
 use Rattle.update_flow.specs.Stands.{IsImported}
-use Rattle.update_flow.specs.State.{State, Step, Import, formatted, fresh, imported, outdated}
-use Rattle.update_flow.specs.Handle.{Handle, IsOpen, Shows, Takes, TellsAs, is_imported, is_old, is_whole, limits_of, view_of}
+use Rattle.update_flow.specs.State.{State, Step, Import, following, formatted, fresh, imported, outdated}
+use Rattle.update_flow.specs.Handle.{Handle, IsOpen, Shows, Takes, TellsAs, is_follower, is_imported, is_old, is_whole, limits_of, view_of}
 use Rattle.update_flow.specs.Turning.{TurnsOn}
 use Rattle.update_flow.specs.Updater.{KeptFits}
 use Rattle.update_flow.specs.declared.fault.FlowFault.{FlowFault}
 use Rattle.update_flow.specs.declared.fault.FlowFault.TheVariants as flow
 use Rattle.bucket_store.specs.declared.resting.Resting.{Resting}
-use Rattle.update_flow.proofs.Handles.{step_old, takes_none, takes_on, told_begun, told_blank, told_imported, told_old}
+use Rattle.update_flow.proofs.Handles.{step_old, takes_none, takes_on, told_begun, told_blank, told_imported, told_old, told_own, told_taken}
 use Rattle.update_flow.specs.Steps.{of_step}
 use Rattle.update_flow.specs.declared.fields.TheConstants.{DUE_TEXT, STYLE_TEXT}
 use Rattle.tile_cover.specs.Runs.{IsTileSet}
@@ -115,11 +115,12 @@ module _ (limits : LimitNumbers) (step : Step) where
 
 -- a store that was imported is imported no more
 pub import_unasked : (handle : Handle) (style : StyleOf) (bytes : List ℕ) (buckets : ℕ) (entries : List Entry) → is_imported handle ≡ true
-    → is_old handle ≡ false → (state : State) → IsOpen state handle
+    → is_old handle ≡ false → is_follower handle ≡ false → (state : State) → IsOpen state handle
     → Takes state (Import style bytes buckets entries) (Some flow.AlreadyImported) handle handle
-import_unasked handle style bytes buckets entries is fresh formatted opened = absurd (told_blank handle opened is)
-import_unasked handle style bytes buckets entries is fresh (outdated held) opened = absurd (told_old handle held opened fresh)
-import_unasked handle style bytes buckets entries is fresh (imported held) opened =
+import_unasked handle style bytes buckets entries is fresh own formatted opened = absurd (told_blank handle opened is)
+import_unasked handle style bytes buckets entries is fresh own (outdated held) opened = absurd (told_old handle held opened fresh)
+import_unasked handle style bytes buckets entries is fresh own (following held) opened = absurd (told_own handle held opened own)
+import_unasked handle style bytes buckets entries is fresh own (imported held) opened =
     takes_none (imported held) (Import style bytes buckets entries) flow.AlreadyImported handle opened refl tt
 
 pub import_old : (handle : Handle) (style : StyleOf) (bytes : List ℕ) (buckets : ℕ) (entries : List Entry) → is_old handle ≡ true
@@ -138,6 +139,7 @@ module _ (old new : Handle) (kept : Option Resting) (whole : is_some kept ≡ is
       → (state : State) → IsOpen state old → Takes state (Import style bytes buckets entries) fault old new
   import_taken style bytes buckets entries fault is turns done tells (imported held) opened = absurd (told_imported old held opened is)
   import_taken style bytes buckets entries fault is turns done tells (outdated held) opened = absurd (told_begun old held opened is)
+  import_taken style bytes buckets entries fault is turns done tells (following held) opened = absurd (told_taken old held opened is)
   import_taken style bytes buckets entries fault is turns done tells formatted opened =
       takes_on old new kept whole keeps formatted (Import style bytes buckets entries) fault (turns opened) done
       (λ not. record {
@@ -145,4 +147,5 @@ module _ (old new : Handle) (kept : Option Resting) (whole : is_some kept ≡ is
         imported_is = (tells not).imported_same ∙ opened.shows.imported_is;
         old_is = (tells not).old_same ∙ opened.shows.old_is;
         style_is = (tells not).style_same ∙ opened.shows.style_is;
+        follower_is = (tells not).follower_same ∙ opened.shows.follower_is;
       })

@@ -45,7 +45,7 @@ use Rattle.update_flow.specs.Due.{Tiles}
 use Rattle.update_flow.specs.Faults.{of_store}
 use Rattle.update_flow.specs.Judged.{AreEmptyBelow, AreSound, IsEmptyText, IsOfToday, IsSoundImage, IsStyleless, IsWrongAt, Judges, JudgesImage}
 use Rattle.update_flow.specs.Judged.{HasOnlyRead, IsEmptyAt, LoadsStyle, fault_unless, rooted}
-use Rattle.update_flow.specs.Roots.{is_blank, is_imported, is_of, is_old}
+use Rattle.update_flow.specs.Roots.{is_blank, is_following, is_imported, is_of, is_old}
 use Rattle.update_flow.specs.Sound.{HasSoundMaps, IsSound, IsSoundImport}
 use Rattle.update_flow.specs.Stands.{AreDue}
 use Rattle.update_flow.specs.State.{Holding}
@@ -103,6 +103,18 @@ made_apart format root made is =
 
 pub old_apart : (root : Root) → is_imported root ≡ true → is_old root ≡ true → ⊥
 old_apart root is old = one_two root.format (left_of (root.format == 1) _ old) (left_of (root.format == 2) _ is)
+
+zero_two : (n : ℕ) → (n == 0) ≡ true → (n == 2) ≡ true → ⊥
+zero_two n zero two = grind (arith, nat_tests, zero, two)
+
+state_two : (root : Root) → is_following root ≡ true → (root.state == 2) ≡ true
+state_two root is = left_of (root.state == 2) _ (right_of (root.format == 2) _ is)
+
+-- and those of a follower's are none of today
+pub own_apart : (root : Root) → is_following root ≡ true → (is_blank root ≡ true) ⊎ (is_imported root ≡ true) → ⊥
+own_apart root own (inl made) =
+    zero_two root.state (left_of (root.state == 0) (root.buckets == 0) (right_of (root.format == 1) _ made)) (state_two root own)
+own_apart root own (inr begun) = one_two root.state (state_one IMPORTED_FORMAT root begun) (state_two root own)
 
 -- a sound store is one of today
 pub sound_today : (image : Image) → IsSoundImage image → IsOfToday image

@@ -34,3 +34,4 @@ pub mod SoundKnown
 pub mod SoundStanding
 pub mod Judgements
 pub mod Checks
+pub mod Takings

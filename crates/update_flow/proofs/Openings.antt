@@ -1,5 +1,5 @@
 -- A store of a state is found where it is opened.
-use Rattle.std.proofs.Common.{◌≡◌, ◌⊎◌, ◌≤◌, ◌==◌, ◌&&◌, not, inl, inr, ℕ, Bool, true, false, List, Option, Some, None, Result, Ok, Err}
+use Rattle.std.proofs.Common.{◌≡◌, ◌⊎◌, ◌≢◌, ◌≤◌, ◌==◌, ◌&&◌, not, inl, inr, ℕ, Bool, true, false, List, Option, Some, None, Result, Ok, Err}
 use Rattle.std.proofs.Common.{refl, sym, ap, subst, ◌∙◌, arith, nat_le}
 use Rattle.std.proofs.lemmas.Bool.Decides.{nat_tests}
 use Rattle.std.proofs.lemmas.Option.{same_Some}
@@ -11,6 +11,8 @@ use Rattle.outside.specs.Disk.{Crashes, DiskView, Goes, Stays, Within}
 use Rattle.chain_store.specs.declared.root.Root.{Root}
 use Rattle.page_journal.proofs.Moments.{goes_stays, goes_weaker}
 use Rattle.page_journal.proofs.Uniqueness.{one_home}
+use Rattle.page_journal.specs.Pages.{gate}
+use Rattle.page_journal.specs.declared.layout.TheConstants.{OPEN}
 use Rattle.page_journal.specs.declared.fault.StoreFault.{StoreFault}
 use Rattle.page_journal.specs.declared.fault.StoreFault.TheVariants as store
 use Rattle.chain_store.specs.Answers.{IsReadAnswer}
@@ -27,11 +29,11 @@ use Rattle.style_read.specs.Style.{StyleOf}
 use Rattle.row_map.specs.Condition.{reaches_nodes}
 use Rattle.update_flow.specs.AtRest.{IsAt, IsOfEither, Opens, OpensAs}
 use Rattle.update_flow.specs.Faults.{of_store}
-use Rattle.update_flow.specs.Opening.{Found, HoldsState}
+use Rattle.update_flow.specs.Opening.{AreFieldsFor, AreOfFollower, Found, HoldsState, IsStyled, RootTold}
 use Rattle.update_flow.specs.Refusals.{IsNoDiskFault, IsOpenFault, MayFind, OrBreaks}
-use Rattle.update_flow.specs.Roots.{AreFieldsOf, IsOfKind, is_blank, is_imported, is_old}
-use Rattle.update_flow.specs.Stands.{HasMapsOf, IsBlank, IsImported, IsOfFormat, IsOld, Means, StandsFor}
-use Rattle.update_flow.specs.State.{Holding, State, changes_in, formatted, imported, outdated, style_in, was_imported, was_old}
+use Rattle.update_flow.specs.Roots.{AreFieldsOf, IsOfKind, is_blank, is_following, is_imported, is_old}
+use Rattle.update_flow.specs.Stands.{HasMapsOf, IsBlank, IsFollowing, IsImported, IsOfFormat, IsOld, Means, StandsFor}
+use Rattle.update_flow.specs.State.{Following, Holding, State, changes_in, formatted, imported, outdated, following, follows, style_in, was_imported, was_old}
 use Rattle.update_flow.specs.Within.{IsSound}
 use Rattle.update_flow.specs.declared.fault.TheConstants.{LAST_CHANGE}
 use Rattle.update_flow.specs.declared.fields.TheConstants.{IMPORTED_FORMAT, STYLE_TEXT}
@@ -111,16 +113,30 @@ old_root held image is =
     ∙ two_not (held.buckets == 0) (nat_le held.changes LAST_CHANGE) (some_count held.buckets is.some)
     (low_count held.changes LAST_CHANGE is.counted)
 
--- whether they are those of an old store
+pub following_root : (held : Following) (image : Image) → IsFollowing held image → is_following image.root ≡ true
+following_root held image is =
+    ap (λ (r : Root). is_following r) is.root
+    ∙ two_not (held.buckets == 0) (nat_le held.version LAST_CHANGE) (some_count held.buckets is.some)
+    (low_count held.version LAST_CHANGE is.counted)
+
+-- whether they are those of a follower's store, or of an old one
+pub tells_own : (state : State) (image : Image) → Means state image → is_following image.root ≡ follows state
+tells_own formatted image blank = ap (λ (r : Root). is_following r) blank.root
+tells_own (imported held) image is = ap (λ (r : Root). is_following r) is.root
+tells_own (outdated held) image is = ap (λ (r : Root). is_following r) is.root
+tells_own (following held) image is = following_root held image is
+
 pub tells_old : (state : State) (image : Image) → Means state image → is_old image.root ≡ was_old state
 tells_old formatted image blank = ap (λ (r : Root). is_old r) blank.root
 tells_old (imported held) image is = ap (λ (r : Root). is_old r) is.root
 tells_old (outdated held) image is = old_root held image is
+tells_old (following held) image is = ap (λ (r : Root). is_old r) is.root
 
 pub tells_count : (state : State) (image : Image) → Means state image → image.root.changes ≡ changes_in state
 tells_count formatted image blank = ap (λ (r : Root). r.changes) blank.root
 tells_count (imported held) image is = ap (λ (r : Root). r.changes) is.root
 tells_count (outdated held) image is = ap (λ (r : Root). r.changes) is.root
+tells_count (following held) image is = ap (λ (r : Root). r.changes) is.root
 
 pub root_of : (state : State) (view : DiskView) (opened : Resting) → Fits opened view → (holds : HoldsState state view)
     → opened_root opened ≡ holds.image.root
@@ -258,16 +274,21 @@ none_blank view opened root same blank fits holds =
     let is : is_blank holds.image.root ≡ true = blank_root holds.image holds.means in
     absurd (cc (here, is, blank))
 
--- those of a store of a state are so, or those of an imported one of one format or the other
+-- those of a store of a state are so, or those of an imported one of one format or the other, or of a follower's
 pub is_one : (state : State) (view : DiskView) (opened : Resting) (root : Root) → root ≡ opened_root opened → is_blank root ≡ false
-    → is_old root ≡ false → is_imported root ≡ false → Fits opened view → HoldsState state view → ⊥
-is_one formatted view opened root same blank old other fits holds = none_blank view opened root same blank fits holds
-is_one (imported held) view opened root same blank old other fits holds =
+    → is_old root ≡ false → is_imported root ≡ false → is_following root ≡ false → Fits opened view → HoldsState state view → ⊥
+is_one formatted view opened root same blank old other own fits holds = none_blank view opened root same blank fits holds
+is_one (imported held) view opened root same blank old other own fits holds =
     let here : is_imported root ≡ is_imported holds.image.root =
     ap (λ (r : Root). is_imported r) (same ∙ root_of (imported held) view opened fits holds) in
     let is : is_imported holds.image.root ≡ true = imported_root held holds.image holds.means in
     absurd (cc (here, is, other))
-is_one (outdated held) view opened root same blank old other fits holds =
+is_one (following held) view opened root same blank old other own fits holds =
+    let here : is_following root ≡ is_following holds.image.root =
+    ap (λ (r : Root). is_following r) (same ∙ root_of (following held) view opened fits holds) in
+    let is : is_following holds.image.root ≡ true = following_root held holds.image holds.means in
+    absurd (cc (here, is, own))
+is_one (outdated held) view opened root same blank old other own fits holds =
     let here : is_old root ≡ is_old holds.image.root =
     ap (λ (r : Root). is_old r) (same ∙ root_of (outdated held) view opened fits holds) in
     let is : is_old holds.image.root ≡ true = old_root held holds.image holds.means in
@@ -279,23 +300,24 @@ pub begun_state : (state : State) (view : DiskView) (opened : Resting) (root : R
 begun_state formatted view opened root same blank fits holds = absurd (none_blank view opened root same blank fits holds)
 begun_state (imported held) view opened root same blank fits holds = refl
 begun_state (outdated held) view opened root same blank fits holds = refl
+begun_state (following held) view opened root same blank fits holds = refl
 
 -- what was found of an imported store is what was found of a store
 pub found_of : (root : Root) (view new : DiskView) (found : Resting) (dated : Bool) (result : Result Judged FlowFault)
     → root ≡ opened_root found
-    → is_blank root ≡ false → dated ≡ is_old root → IfOk result (λ opened. opened.changes ≡ root.changes)
-    → IfOk result (λ opened. opened.outdated ≡ dated)
+    → is_blank root ≡ false → is_following root ≡ false → dated ≡ is_old root → IfOk result (IsStyled root.changes dated)
     → IfOk result (λ opened. Fits found view → (state : State) → HoldsState state view → was_imported state ≡ true
     → (opened.style ≡ style_in state) × Fits opened.store new)
     → IfOk result (λ opened. Fits found view → (state : State) → HoldsState state view → Found state new opened)
-found_of root view new found dated (Err fault) same blank is changes old rest = tt
-found_of root view new found dated (Ok opened) same blank is changes old rest = λ fits state holds.
+found_of root view new found dated (Err fault) same blank other is styled rest = tt
+found_of root view new found dated (Ok opened) same blank other is styled rest = λ fits state holds.
     let are : root ≡ holds.image.root = same ∙ root_of state view found fits holds in
     let own = rest fits state holds (begun_state state view found root same blank fits holds) in
     record {
-      changes_are = changes ∙ ap (λ (r : Root). r.changes) are ∙ tells_count state holds.image holds.means;
+      changes_are = styled.changes_are ∙ ap (λ (r : Root). r.changes) are ∙ tells_count state holds.image holds.means;
       style_is = own.0;
-      old_is = old ∙ is ∙ ap (λ (r : Root). is_old r) are ∙ tells_old state holds.image holds.means;
+      old_is = styled.old_is ∙ is ∙ ap (λ (r : Root). is_old r) are ∙ tells_old state holds.image holds.means;
+      own = sym (tells_own state holds.image holds.means) ∙ ap (λ (r : Root). is_following r) (sym are) ∙ other;
       fits = own.1;
     }
 
@@ -318,6 +340,27 @@ root_told found bytes pages old mid told stays fits home =
     let one : fits.pages ≡ pages = one_home fits.pages pages bytes here home in
     ap (λ (front : List ℕ). root_in front) fits.keeps.front ∙ ap (λ (p : List (List ℕ)). root_in (page_in p 1)) one
 
+-- what was read of a disk that was only looked at tells its root page
+pub told_by : (found : Resting) (old mid : DiskView) → ((bytes : List ℕ) → old.content ≡ Some bytes → gate bytes ≢ OPEN → Stays old mid)
+    → ((bytes : List ℕ) → old.content ≡ Some bytes → Fits found mid) → (judged : Option Judged) → AreFieldsFor judged (opened_root found)
+    → RootTold old.content judged
+told_by found old mid stays fits None own = (
+  (opened_root found).changes,
+  λ bytes told shut pages home.
+      subst (λ (r : Root). AreOfFollower (opened_root found).changes r)
+      (root_told found bytes pages old mid told (stays bytes told shut) (fits bytes told) home) (record { kind = own; count = refl }),
+)
+told_by found old mid stays fits (Some opened) own = λ bytes told shut pages home.
+    subst (λ (r : Root). AreFieldsOf opened.style opened.outdated opened.changes r)
+    (root_told found bytes pages old mid told (stays bytes told shut) (fits bytes told) home) own
+
+-- and that of a follower's store tells that it is one
+pub own_found : (state : State) (view : DiskView) (found : Resting) → is_following (opened_root found) ≡ true → Fits found view
+    → HoldsState state view → follows state ≡ true
+own_found state view found own fits holds =
+    sym (tells_own state holds.image holds.means)
+    ∙ ap (λ (r : Root). is_following r) (sym (root_of state view found fits holds)) ∙ own
+
 -- an imported store is found where its fields say so
 pub kind_of : (style : Option StyleOf) (dated : Bool) (root : Root) → is_some style ≡ true → (dated ≡ true → is_old root ≡ true)
     → (dated ≡ false → is_imported root ≡ true) → IsOfKind style dated root
@@ -327,14 +370,13 @@ kind_of (Some style) true root some old new = old refl
 
 pub fields_of : (root stored : Root) (dated : Bool) (result : Result Judged FlowFault) → root ≡ stored → (dated ≡ true → is_old root ≡ true)
     → (dated ≡ false → is_imported root ≡ true)
-    → IfOk result (λ opened. opened.changes ≡ root.changes) → IfOk result (λ opened. opened.outdated ≡ dated)
-    → IfOk result (λ opened. is_some opened.style ≡ true)
+    → IfOk result (IsStyled root.changes dated)
     → IfOk result (λ opened. AreFieldsOf opened.style opened.outdated opened.changes stored)
-fields_of root stored dated (Err fault) same old new count is some = tt
-fields_of root stored dated (Ok opened) same old new count is some = record {
+fields_of root stored dated (Err fault) same old new styled = tt
+fields_of root stored dated (Ok opened) same old new styled = record {
   kind = subst (λ (r : Root). IsOfKind opened.style opened.outdated r) same
-      (kind_of opened.style opened.outdated root some (λ out. old (sym is ∙ out)) (λ fresh. new (sym is ∙ fresh)));
-  count = λ _. count ∙ ap (λ (r : Root). r.changes) same;
+      (kind_of opened.style opened.outdated root styled.styled (λ out. old (sym styled.old_is ∙ out)) (λ fresh. new (sym styled.old_is ∙ fresh)));
+  count = λ _. styled.changes_are ∙ ap (λ (r : Root). r.changes) same;
 }
 
 -- a disk that was only looked at held what it holds
@@ -361,6 +403,7 @@ pub style_good : (state : State) (image : Image) → Means state image → was_i
 style_good formatted image blank begun = absurd (cc (begun))
 style_good (imported held) image is begun = (held.style, refl, ap (λ (b : List ℕ). reading b) is.style_text ∙ is.style)
 style_good (outdated held) image is begun = (held.style, refl, ap (λ (b : List ℕ). reading b) is.style_text ∙ is.style)
+style_good (following held) image is begun = (held.style, refl, ap (λ (b : List ℕ). reading b) is.style_text ∙ is.style)
 
 pub style_one : (state : State) (image : Image) (style : StyleOf) → Means state image → was_imported state ≡ true
     → reading (image.texts STYLE_TEXT) ≡ Ok style → Some style ≡ style_in state
@@ -375,6 +418,7 @@ pub old_unreached : (state : State) (image : Image) (style : StyleOf) → Means 
     → reading (image.texts STYLE_TEXT) ≡ Ok style → reaches_nodes style ≡ false
 old_unreached formatted image style blank old read = absurd (cc (old))
 old_unreached (imported held) image style is old read = absurd (cc (old))
+old_unreached (following held) image style is old read = absurd (cc (old))
 old_unreached (outdated held) image style is old read =
     let good : reading (image.texts STYLE_TEXT) ≡ Ok held.style = ap (λ (b : List ℕ). reading b) is.style_text ∙ is.style in
     let same : style ≡ held.style = cc (read, good) in
@@ -390,3 +434,4 @@ pub style_tells : (state : State) → is_some (style_in state) ≡ was_imported 
 style_tells formatted = refl
 style_tells (imported held) = refl
 style_tells (outdated held) = refl
+style_tells (following held) = refl

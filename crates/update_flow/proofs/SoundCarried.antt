@@ -17,13 +17,13 @@ use Rattle.bucket_store.specs.declared.buckets.Buckets.{Buckets}
 use Rattle.bucket_store.specs.declared.resting.Resting.{Resting}
 use Rattle.bucket_store.proofs.Holding.{rests_later}
 use Rattle.bucket_store.proofs.Reopened.{holds_under}
-use Rattle.update_flow.specs.Handle.{Handle, IsOpen, Shows, TellsAs, changes_of, is_imported, is_old, is_whole, limits_of, style_of, view_of}
+use Rattle.update_flow.specs.Handle.{Handle, IsOpen, Shows, TellsAs, changes_of, is_follower, is_imported, is_old, is_whole, limits_of, style_of, view_of}
 use Rattle.update_flow.specs.Opening.{HoldsState}
 use Rattle.update_flow.specs.Refusals.{MayAnswer, MayLook}
 use Rattle.update_flow.specs.Sound.{IsSound, IsSoundBlank, IsSoundImport, MeansSound}
 use Rattle.update_flow.specs.SoundTurns.{IsKeptSound, IsOpenSound, LooksSound, LooksSoundOn, MayFollow, RestsSound, TakesSound, TurnsSound}
 use Rattle.update_flow.specs.SoundTurns.{TurnsSoundOn}
-use Rattle.update_flow.specs.State.{Append, Clear, Holding, Import, State, Step, formatted, fresh, imported, outdated}
+use Rattle.update_flow.specs.State.{Append, Clear, Holding, Import, State, Step, following, formatted, fresh, imported, outdated}
 use Rattle.update_flow.specs.Turning.{EndsIn, view_in}
 use Rattle.update_flow.specs.Updater.{KeptFits}
 use Rattle.update_flow.specs.Within.{is_whole_store}
@@ -104,18 +104,20 @@ module _ (old new : Handle) (kept : Option Resting) (whole : is_some kept ≡ is
     imported_is = tells.imported_same ∙ shows.imported_is;
     old_is = tells.old_same ∙ shows.old_is;
     style_is = tells.style_same ∙ shows.style_is;
+    follower_is = tells.follower_same ∙ shows.follower_is;
   }
 
   module _ (fault : Option FlowFault) where
     -- a change
-    pub append_sound : is_imported old ≡ true → is_old new ≡ is_old old → style_of new ≡ style_of old
+    pub append_sound : is_imported old ≡ true → is_old new ≡ is_old old → style_of new ≡ style_of old → is_follower new ≡ is_follower old
         → (fault ≡ None → changes_of new ≡ changes_of old + 1) → (fault ≢ None → changes_of new ≡ changes_of old)
         → (bounds : BoundsOf) (change : List Entry) → ((held : Holding) → IsOpenSound (imported held) old
         → TurnsSoundOn (limits_of old) (imported held) (Append bounds change) fault (view_of old) (view_of new) kept)
         → (state : State) → IsOpenSound state old → TakesSound state (Append bounds change) fault old new
-    append_sound begun stays style one_more as_many bounds change turns formatted opened = absurd (cc (begun, opened.shows.imported_is))
-    append_sound begun stays style one_more as_many bounds change turns (outdated held) opened = absurd opened.holds.is
-    append_sound begun stays style one_more as_many bounds change turns (imported held) opened =
+    append_sound begun stays style own one_more as_many bounds change turns formatted opened = absurd (cc (begun, opened.shows.imported_is))
+    append_sound begun stays style own one_more as_many bounds change turns (outdated held) opened = absurd opened.holds.is
+    append_sound begun stays style own one_more as_many bounds change turns (following held) opened = absurd opened.holds.is
+    append_sound begun stays style own one_more as_many bounds change turns (imported held) opened =
         let shows = opened.shows in
         step_sound (imported held) (Append bounds change) fault (turns held opened)
         (λ none next follows. subst (λ (s : State). Shows s new) (sym follows.1) (record {
@@ -123,12 +125,14 @@ module _ (old new : Handle) (kept : Option Resting) (whole : is_some kept ≡ is
           imported_is = ap (λ (o : Option StyleOf). is_some o) style ∙ shows.imported_is;
           old_is = stays ∙ shows.old_is;
           style_is = style ∙ shows.style_is;
+          follower_is = own ∙ shows.follower_is;
         }))
         (λ some. record {
           changes_are = as_many some ∙ shows.changes_are;
           imported_is = ap (λ (o : Option StyleOf). is_some o) style ∙ shows.imported_is;
           old_is = stays ∙ shows.old_is;
           style_is = style ∙ shows.style_is;
+          follower_is = own ∙ shows.follower_is;
         })
 
     -- no tile is due any more
@@ -137,6 +141,7 @@ module _ (old new : Handle) (kept : Option Resting) (whole : is_some kept ≡ is
         → (state : State) → IsOpenSound state old → TakesSound state Clear fault old new
     clear_sound tells begun turns formatted opened = absurd (cc (begun, opened.shows.imported_is))
     clear_sound tells begun turns (outdated held) opened = absurd opened.holds.is
+    clear_sound tells begun turns (following held) opened = absurd opened.holds.is
     clear_sound tells begun turns (imported held) opened =
         let shows = still_shown (imported held) tells opened.shows in
         step_sound (imported held) Clear fault (turns held opened)
@@ -145,6 +150,7 @@ module _ (old new : Handle) (kept : Option Resting) (whole : is_some kept ≡ is
           imported_is = shows.imported_is;
           old_is = shows.old_is;
           style_is = shows.style_is;
+          follower_is = shows.follower_is;
         }))
         (λ some. shows)
 
@@ -156,6 +162,7 @@ module _ (old new : Handle) (kept : Option Resting) (whole : is_some kept ≡ is
         → (state : State) → IsOpenSound state old → TakesSound state (Import style bytes buckets entries) fault old new
     begin_sound style bytes buckets entries is turns done tells (imported held) opened = absurd (cc (is, opened.shows.imported_is))
     begin_sound style bytes buckets entries is turns done tells (outdated held) opened = absurd opened.holds.is
+    begin_sound style bytes buckets entries is turns done tells (following held) opened = absurd opened.holds.is
     begin_sound style bytes buckets entries is turns done tells formatted opened =
         step_sound formatted (Import style bytes buckets entries) fault (turns opened)
         (λ none next follows.
@@ -165,6 +172,7 @@ module _ (old new : Handle) (kept : Option Resting) (whole : is_some kept ≡ is
           imported_is = shows.imported_is;
           old_is = shows.old_is;
           style_is = shows.style_is;
+          follower_is = shows.follower_is;
         }))
         (λ some. still_shown formatted (tells some) opened.shows)
 
@@ -174,6 +182,7 @@ module _ (old new : Handle) (kept : Option Resting) (whole : is_some kept ≡ is
         → (state : State) → IsOpenSound state old → LooksSound state fault new
     look_sound tells begun looks formatted opened = absurd (cc (begun, opened.shows.imported_is))
     look_sound tells begun looks (outdated held) opened = absurd opened.holds.is
+    look_sound tells begun looks (following held) opened = absurd opened.holds.is
     look_sound tells begun looks (imported held) opened =
         let own = looks held opened in
         record {
@@ -186,6 +195,7 @@ pub any_state : (state : State) (image : Image) → MeansSound state image → I
 any_state formatted image is = inl is
 any_state (imported held) image is = inr (held, is)
 any_state (outdated held) image is = absurd is
+any_state (following held) image is = absurd is
 
 -- What is refused before the store is asked.
 
@@ -213,12 +223,14 @@ pub sound_old : (state : State) (handle : Handle) → IsOpenSound state handle �
 sound_old formatted handle opened is = absurd (cc (is, opened.shows.old_is))
 sound_old (imported held) handle opened is = absurd (cc (is, opened.shows.old_is))
 sound_old (outdated held) handle opened is = absurd opened.holds.is
+sound_old (following held) handle opened is = absurd opened.holds.is
 
 pub append_unasked : (handle : Handle) (bounds : BoundsOf) (change : List Entry) (state : State) → is_imported handle ≡ false
     → IsOpenSound state handle → TakesSound state (Append bounds change) (Some flow.NotImported) handle handle
 append_unasked handle bounds change formatted is opened = sound_none handle formatted opened (Append bounds change) flow.NotImported refl
 append_unasked handle bounds change (imported held) is opened = absurd (cc (is, opened.shows.imported_is))
 append_unasked handle bounds change (outdated held) is opened = absurd opened.holds.is
+append_unasked handle bounds change (following held) is opened = absurd opened.holds.is
 
 pub append_last : (handle : Handle) (bounds : BoundsOf) (change : List Entry) (state : State) → is_imported handle ≡ true
     → changes_of handle ≡ LAST_CHANGE
@@ -227,12 +239,14 @@ append_last handle bounds change formatted begun is opened = absurd (cc (begun, 
 append_last handle bounds change (imported held) begun is opened =
     sound_none handle (imported held) opened (Append bounds change) flow.LastChange (sym opened.shows.changes_are ∙ is)
 append_last handle bounds change (outdated held) begun is opened = absurd opened.holds.is
+append_last handle bounds change (following held) begun is opened = absurd opened.holds.is
 
 pub clear_unbegun : (handle : Handle) (state : State) → is_imported handle ≡ false → IsOpenSound state handle
     → TakesSound state Clear (Some flow.NotImported) handle handle
 clear_unbegun handle formatted is opened = sound_none handle formatted opened Clear flow.NotImported refl
 clear_unbegun handle (imported held) is opened = absurd (cc (is, opened.shows.imported_is))
 clear_unbegun handle (outdated held) is opened = absurd opened.holds.is
+clear_unbegun handle (following held) is opened = absurd opened.holds.is
 
 pub import_again : (handle : Handle) (style : StyleOf) (bytes : List ℕ) (buckets : ℕ) (entries : List Entry) (state : State)
     → is_imported handle ≡ true → IsOpenSound state handle
@@ -241,12 +255,14 @@ import_again handle style bytes buckets entries formatted is opened = absurd (cc
 import_again handle style bytes buckets entries (imported held) is opened =
     sound_none handle (imported held) opened (Import style bytes buckets entries) flow.AlreadyImported refl
 import_again handle style bytes buckets entries (outdated held) is opened = absurd opened.holds.is
+import_again handle style bytes buckets entries (following held) is opened = absurd opened.holds.is
 
 pub look_unbegun : (handle : Handle) (state : State) → is_imported handle ≡ false → IsOpenSound state handle
     → LooksSound state (Some flow.NotImported) handle
 look_unbegun handle formatted is opened = record { answer = refl; stays = λ no. opened }
 look_unbegun handle (imported held) is opened = absurd (cc (is, opened.shows.imported_is))
 look_unbegun handle (outdated held) is opened = absurd opened.holds.is
+look_unbegun handle (following held) is opened = absurd opened.holds.is
 
 -- What is open is sound.
 
@@ -263,6 +279,7 @@ standing_open held store opened =
           imported_is = shows.imported_is;
           old_is = shows.old_is;
           style_is = shows.style_is;
+          follower_is = shows.follower_is;
         };
         fits = opened.fits;
       },

@@ -1,6 +1,6 @@
 -- The opening of a sound store.
 use Rattle.std.proofs.Common.{◌≡◌, inl, inr, ℕ, Bool, true, false, Option, Some, None, Result, Ok, Err, refl, ap, subst, ◌∙◌}
-use Rattle.std.specs.Prelude.{IfErr, IfOk, IsErrOf, List, is_some}
+use Rattle.std.specs.Prelude.{IfErr, IfOk, IfSome, IsErrOf, List, is_some}
 use Rattle.outside.specs.Disk.{DiskView, Stays}
 use Rattle.page_journal.specs.declared.fault.StoreFault.TheVariants as store
 use Rattle.chain_store.specs.declared.root.Root.{Root}
@@ -11,8 +11,9 @@ use Rattle.bucket_store.proofs.Reopened.{root_found}
 use Rattle.style_read.specs.Reading.{reading}
 use Rattle.style_read.specs.Style.{StyleOf}
 use Rattle.update_flow.specs.Judged.{IsSoundImage}
+use Rattle.update_flow.specs.Opening.{AreFieldsFor}
 use Rattle.update_flow.specs.Refusals.{MayFind, OrBreaks}
-use Rattle.update_flow.specs.Roots.{AreFieldsOf, IsOfKind, is_blank, is_imported}
+use Rattle.update_flow.specs.Roots.{AreFieldsOf, IsOfKind, is_blank, is_following, is_imported}
 use Rattle.update_flow.specs.Sound.{HasSoundMaps, IsSoundBlank, IsSoundImport}
 use Rattle.update_flow.specs.SoundTurns.{FindsSound, OpensSound, TellsStyle}
 use Rattle.update_flow.specs.State.{Holding, formatted, imported}
@@ -20,7 +21,7 @@ use Rattle.update_flow.specs.declared.fault.FlowFault.{FlowFault}
 use Rattle.update_flow.specs.declared.fault.FlowFault.TheVariants as flow
 use Rattle.update_flow.specs.declared.fields.TheConstants.{IMPORTED_FORMAT, OLD_FORMAT, STYLE_TEXT}
 use Rattle.update_flow.specs.declared.opened.Opened.{Opened}
-use Rattle.update_flow.proofs.Judgements.{made_apart, old_apart}
+use Rattle.update_flow.proofs.Judgements.{made_apart, old_apart, own_apart, sound_today}
 use Rattle.update_flow.proofs.Openings.{format_root, holds_stays}
 
 -- what finds no damaged page breaks, if it is refused
@@ -54,7 +55,7 @@ module _ (image : Image) (new : DiskView) (holds : HoldsImage image new) (opened
       record {
         state = formatted;
         holds = record { image = image; holds = holds; is = made };
-        found = record { changes_are = opened.begun none; style_is = none; old_is = opened.unbegun none; fits = fits };
+        found = record { changes_are = opened.begun none; style_is = none; old_is = opened.unbegun none; own = refl; fits = fits };
       }
 
   -- those of an imported one tell one, and that it is not old
@@ -77,6 +78,7 @@ module _ (image : Image) (new : DiskView) (holds : HoldsImage image new) (opened
           changes_are = fields.count (ap (λ (s : Option StyleOf). is_some s) kind.1) ∙ ap (λ (r : Root). r.changes) is.root;
           style_is = kind.1 ∙ ap (λ (s : StyleOf). Some s) same;
           old_is = kind.2;
+          own = refl;
           fits = fits;
         };
       }
@@ -88,18 +90,20 @@ module _ (image : Image) (new : DiskView) (holds : HoldsImage image new) (opened
 -- a store that was judged on the disk that it was found on
 module _ (image : Image) (mid new : DiskView) (found : Resting) (fits : Fits found mid) (holds : HoldsImage image mid)
     (stays : Stays mid new) (is : IsSoundImage image) where
-  pub judged_sound : (result : Result Opened FlowFault) → IfErr result MayFind
+  pub judged_sound : (result : Result (Option Opened) FlowFault) → IfErr result MayFind
       → ((page : ℕ) → IsErrOf result (flow.Store (store.BadStore page)) → ⊥)
-      → IfOk result (λ opened. (own : Fits found mid) → FitsPages own.pages opened.store new)
-      → IfOk result (λ opened. AreFieldsOf opened.style opened.outdated opened.changes (opened_root found))
-      → IfOk result (λ opened. (own : Image) → Fits found mid → HoldsImage own mid → TellsStyle opened.style own)
+      → IfOk result (λ judged. IfSome judged (λ opened. (own : Fits found mid) → FitsPages own.pages opened.store new))
+      → IfOk result (λ judged. AreFieldsFor judged (opened_root found))
+      → IfOk result (λ judged. IfSome judged (λ opened. (own : Image) → Fits found mid → HoldsImage own mid → TellsStyle opened.style own))
       → OpensSound new result
   judged_sound (Err fault) alone never fit fields told = record {
-    answer = never_bad fault (Some fault ≡ None) alone
-        (λ page same. never page (ap (λ (f : FlowFault). Err f) same));
+    answer = never_bad fault (Some fault ≡ None) alone (λ page same. never page (ap (λ (f : FlowFault). Err f) same));
     found = tt;
   }
-  judged_sound (Ok opened) alone never fit fields told =
+  judged_sound (Ok None) alone never fit fields told =
+      absurd (own_apart image.root (subst (λ (r : Root). is_following r ≡ true) (root_found image mid found fits holds) fields)
+      (sound_today image is))
+  judged_sound (Ok (Some opened)) alone never fit fields told =
       let own = fit fits in
       record {
         answer = refl;

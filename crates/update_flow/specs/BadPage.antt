@@ -24,7 +24,7 @@ use Rattle.value_bytes.specs.declared.store_map.StoreMap.{StoreMap}
 use Rattle.due_tiles.specs.Spelling.{set_bytes}
 use Rattle.store_check.specs.BadPage.{AreLoaded, AreOwned, IsFirstRefused, IsLeftOver, IsUnused}
 use Rattle.store_check.specs.Wrong.{AllRight, IsFirstWrong}
-use Rattle.update_flow.specs.Roots.{is_blank, is_imported, is_old}
+use Rattle.update_flow.specs.Roots.{is_blank, is_following, is_imported, is_old}
 use Rattle.update_flow.specs.declared.fault.TheConstants.{LAST_CHANGE}
 use Rattle.update_flow.specs.declared.fields.TheConstants.{DUE_TEXT, STYLE_TEXT}
 
@@ -38,11 +38,12 @@ pub record IsImageOf (image : Image) (pages : List (List ℕ)) : Type 0 where
   pub state : IsState image.root strings pages
   pub spells : Spells image strings
 
--- fields of no store: of none that was only made, of no imported one, and of no old one
+-- fields of no store: of none that was only made, of no imported one, of no old one, and of no follower's
 pub record AreOfNoStore (root : Root) : Type 0 where
   pub made : is_blank root ≡ false
   pub begun : is_imported root ≡ false
   pub old : is_old root ≡ false
+  pub own : is_following root ≡ false
 
 -- the chain of the style has these bytes
 abbrev pub HasStyleText : List (List ℕ) → Kept → List ℕ → Type 0

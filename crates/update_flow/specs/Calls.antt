@@ -1,6 +1,7 @@
 -- Calls of an open store: a step, or none of them, which is a look.
 use Rattle.std.specs.Prelude.{Option, None, Some}
-use Rattle.update_flow.specs.State.{Step, Import, Append, Clear, Migrate}
+use Rattle.delta_feed.specs.declared.block.Block.TheVariants as blocks
+use Rattle.update_flow.specs.State.{Step, Import, Append, Clear, Migrate, Follow}
 
 -- a call that leaves what the store tells of itself as it is, whatever the answer
 abbrev pub IsStill : Option Step → Type 0
@@ -13,9 +14,10 @@ abbrev pub IsForToday : Option Step → Type 0
 IsForToday (Some Migrate) = ⊥
 IsForToday _ = Unit {0}
 
--- one that a store refuses into which nothing was imported: any but an import
+-- one that a store refuses into which nothing was imported: any but an import, and a block with whole tables
 abbrev pub IsForImported : Option Step → Type 0
 IsForImported (Some (Import style style_bytes buckets entries)) = ⊥
+IsForImported (Some (Follow (blocks.Full version style_bytes style rows))) = ⊥
 IsForImported _ = Unit {0}
 
 -- an import

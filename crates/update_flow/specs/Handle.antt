@@ -6,11 +6,12 @@ use Rattle.style_read.specs.Style.{StyleOf}
 use Rattle.update_flow.specs.AtRest.{IsAt, IsOfEither, RestsAt}
 use Rattle.update_flow.specs.Needed.{FitsLimit, Grows, NeedsOn, Writes}
 use Rattle.update_flow.specs.Refusals.{IsNoDiskFault, MayAnswer, MayLook}
-use Rattle.update_flow.specs.State.{State, Step, after, changes_in, style_in, was_imported, was_old}
+use Rattle.update_flow.specs.State.{State, Step, after, changes_in, follows, style_in, was_imported, was_old}
 use Rattle.update_flow.specs.declared.fault.FlowFault.{FlowFault}
 
 -- the disk, the limits, whether no call of the disk has failed, the number of changes since the import, the style where it was
--- imported, whether it has the old format, and whether what it keeps in memory is so of the store on its disk
+-- imported, whether it has the old format, whether it is a follower's, and whether what it keeps in memory is so of the store on its
+-- disk
 pub record Handle : Type 1 where
   pub view : DiskView
   pub limits : LimitNumbers
@@ -18,6 +19,7 @@ pub record Handle : Type 1 where
   pub changes : ℕ
   pub style : Option StyleOf
   pub outdated : Bool
+  pub follower : Bool
   pub keeps : Type 0
 
 abbrev pub view_of : Handle → DiskView
@@ -38,6 +40,9 @@ is_imported store = is_some store.style
 abbrev pub is_old : Handle → Bool
 is_old store = store.outdated
 
+abbrev pub is_follower : Handle → Bool
+is_follower store = store.follower
+
 abbrev pub style_of : Handle → Option StyleOf
 style_of store = store.style
 
@@ -47,6 +52,7 @@ pub record TellsAs (old new : Handle) : Type 0 where
   pub imported_same : is_imported new ≡ is_imported old
   pub old_same : is_old new ≡ is_old old
   pub style_same : style_of new ≡ style_of old
+  pub follower_same : is_follower new ≡ is_follower old
 
 -- it tells what is so of a state
 pub record Shows (state : State) (store : Handle) : Type 0 where
@@ -54,6 +60,7 @@ pub record Shows (state : State) (store : Handle) : Type 0 where
   pub imported_is : is_imported store ≡ was_imported state
   pub old_is : is_old store ≡ was_old state
   pub style_is : style_of store ≡ style_in state
+  pub follower_is : is_follower store ≡ follows state
 
 -- the store is at rest on its disk at this state, and no call of the disk has failed
 pub record IsOpen (state : State) (store : Handle) : Type 0 where

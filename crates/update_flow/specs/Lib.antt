@@ -26,3 +26,4 @@ pub mod Sound
 pub mod SoundTurns
 pub mod BadPage
 pub mod Judged
+pub mod Taking

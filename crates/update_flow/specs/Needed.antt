@@ -11,7 +11,9 @@ use Rattle.page_journal.specs.declared.layout.TheConstants.{OPEN}
 use Rattle.bucket_store.specs.Image.{Image}
 use Rattle.bucket_store.specs.Needed.{NeedsPages}
 use Rattle.update_flow.specs.Stands.{Means, StandsFor}
-use Rattle.update_flow.specs.State.{State, imported, Step, Migrate}
+use Rattle.delta_feed.specs.declared.block.Block.{Block}
+use Rattle.delta_feed.specs.declared.block.Block.TheVariants as blocks
+use Rattle.update_flow.specs.State.{Following, State, imported, following, Step, Migrate, Follow}
 use Rattle.update_flow.specs.declared.fault.FlowFault.{FlowFault}
 use Rattle.update_flow.specs.declared.fault.FlowFault.TheVariants as flow
 
@@ -58,7 +60,18 @@ FitsLimit limits Are None = (pages : ℕ) × Are pages × (pages ≤ limits.page
 FitsLimit limits Are (Some (flow.Store (store.StoreFull pages))) = Are pages × (limits.pages < pages)
 FitsLimit limits Are (Some _) = Unit {0}
 
--- a step that is not refused writes to a store of this state: any but the migration of one that has the format of today
+-- the version of a block
+abbrev pub version_of : Block → ℕ
+version_of (blocks.Full version style_bytes style rows) = version
+version_of (blocks.Delta delta) = delta.version
+
+-- a block is new to a follower
+abbrev pub IsNew : Following → Block → Type 0
+IsNew held block = held.version < version_of block
+
+-- a step that is not refused writes to a store of this state: any but the migration of one that has the format of today, and a block
+-- that is not new to a follower
 abbrev pub Writes : State → Step → Type 0
 Writes (imported held) Migrate = ⊥
+Writes (following held) (Follow block) = IsNew held block
 Writes _ _ = Unit {0}

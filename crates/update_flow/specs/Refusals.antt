@@ -9,7 +9,8 @@ use Rattle.update_flow.specs.Calls.{IsChange, IsFirst, IsForImported, MayCommit}
 use Rattle.update_flow.specs.declared.fault.FlowFault.{FlowFault}
 use Rattle.update_flow.specs.declared.fault.FlowFault.TheVariants as flow
 use Rattle.update_flow.specs.declared.fault.TheConstants.{LAST_CHANGE}
-use Rattle.update_flow.specs.State.{Holding, State, formatted, imported, outdated, Step, Import, Append, Clear, Migrate}
+use Rattle.delta_feed.specs.declared.block.Block.TheVariants as blocks
+use Rattle.update_flow.specs.State.{Holding, State, formatted, imported, outdated, following, Step, Import, Append, Clear, Migrate, Follow}
 
 -- these many objects are pending in a change
 abbrev pub ArePending : Holding → List Entry → PendingOf → Type 0
@@ -25,22 +26,29 @@ RefusesChange limits held change (Some (flow.TooMany value)) =
     (held.changes ≢ LAST_CHANGE) × AreTooMany limits.pending (ArePending held change) value
 RefusesChange limits held change _ = ⊥
 
--- a step is refused so, or not at all, by the state alone
+-- a step is refused so, or not at all, by the state alone. A follower takes blocks and nothing else, and but for one that was only made no
+-- other store takes any: who is refused so is told before a step is begun, and none is
 abbrev pub Refuses : LimitNumbers → State → Step → Option FlowFault → Type 0
 Refuses limits formatted (Import style bytes buckets entries) fault = fault ≡ None
+Refuses limits formatted (Follow (blocks.Full version style_bytes style rows)) fault = fault ≡ None
 Refuses limits formatted _ fault = fault ≡ Some flow.NotImported
 Refuses limits (imported held) (Import style bytes buckets entries) fault = fault ≡ Some flow.AlreadyImported
 Refuses limits (imported held) (Append bounds change) fault = RefusesChange limits held change fault
 Refuses limits (imported held) Clear fault = fault ≡ None
 Refuses limits (imported held) Migrate fault = fault ≡ None
+Refuses limits (imported held) (Follow block) fault = ⊥
 Refuses limits (outdated held) Migrate fault = fault ≡ None
+Refuses limits (outdated held) (Follow block) fault = ⊥
 Refuses limits (outdated held) _ fault = fault ≡ Some flow.OldFormat
+Refuses limits (following held) (Follow block) fault = fault ≡ None
+Refuses limits (following held) _ fault = ⊥
 
 -- a look at what was imported is refused so, or not at all
 abbrev pub RefusesLook : State → Option FlowFault → Type 0
 RefusesLook formatted fault = fault ≡ Some flow.NotImported
 RefusesLook (imported held) fault = fault ≡ None
 RefusesLook (outdated held) fault = fault ≡ Some flow.OldFormat
+RefusesLook (following held) fault = fault ≡ None
 
 -- whatever the state, the disk may fail and memory may run out
 abbrev pub OrBreaks : Option FlowFault → Type 0 → Type 0

@@ -4,7 +4,7 @@ use Rattle.std.specs.Prelude.{◌≡◌, ◌<◌, ◌≤◌, ◌⊎◌, ℕ, Lis
 use Rattle.bucket_store.specs.Image.{HasImage, Image}
 use Rattle.update_flow.specs.Roots.{is_blank}
 use Rattle.update_flow.specs.Stands.{IsOfFormat}
-use Rattle.update_flow.specs.State.{Holding, State, formatted, imported, outdated}
+use Rattle.update_flow.specs.State.{Holding, State, formatted, imported, outdated, following}
 use Rattle.update_flow.specs.declared.fault.TheConstants.{LAST_CHANGE}
 use Rattle.update_flow.specs.declared.fields.TheConstants.{IMPORTED_FORMAT}
 use Rattle.store_check.specs.Maps.{HasSoundMapsOf}
@@ -22,11 +22,12 @@ HasSoundMaps held image = HasSoundMapsOf held.style held.objects image
 abbrev pub IsSoundImport : Holding → Image → Type 0
 IsSoundImport held image = IsOfFormat IMPORTED_FORMAT HasSoundMaps held image
 
--- a sound store of this state; one of the old format is none
+-- a sound store of this state; one of the old format is none, nor is a follower's
 abbrev pub MeansSound : State → Image → Type 0
 MeansSound formatted image = IsSoundBlank image
 MeansSound (imported held) image = IsSoundImport held image
 MeansSound (outdated held) image = ⊥
+MeansSound (following held) image = ⊥
 
 -- the bytes are a sound store
 pub record IsSound (bytes : List ℕ) : Type 0 where

@@ -39,8 +39,8 @@ changed_with due change held = record held { objects = folded_all held.objects c
 abbrev pub fresh_with : ObjectSet → Holding → Holding
 fresh_with objects held = record held { objects = objects }
 
--- what a sound store may hold after a step: what the state after it has. Which tiles are due after a change is not said, and where no
--- selection of the style reaches nodes, an import keeps them without their tags.
+-- what a sound store may hold after a step: what the state after it has. Which tiles are due after a change is not said, nor which
+-- objects an import holds: where no selection of the style reaches nodes, they may be kept without their tags.
 abbrev pub MayFollow : State → Step → State → Type 0
 MayFollow (imported held) (Append bounds change) next = (due : Tiles) × (next ≡ imported (changed_with due change held))
 MayFollow formatted (Import style style_bytes buckets entries) next =
@@ -108,10 +108,14 @@ pub record FindsSound (disk : DiskView) (opened : Opened) : Type 0 where
   pub holds : HoldsSound state disk
   pub found : Found state disk opened
 
--- a sound store is found so. Its opening is refused for the disk and memory alone.
-pub record OpensSound (disk : DiskView) (result : Result Opened FlowFault) : Type 0 where
+abbrev pub FindsSoundIn : DiskView → Option Opened → Type 0
+FindsSoundIn disk None = ⊥
+FindsSoundIn disk (Some opened) = FindsSound disk opened
+
+-- a sound store is found so, and is no follower's. Its opening is refused for the disk and memory alone.
+pub record OpensSound (disk : DiskView) (result : Result (Option Opened) FlowFault) : Type 0 where
   pub answer : OrBreaks (result_err result) (result_err result ≡ None)
-  pub found : IfOk result (FindsSound disk)
+  pub found : IfOk result (FindsSoundIn disk)
 
 -- the style that is told is the one of the store's text, if one is told
 abbrev pub TellsStyle : Option StyleOf → Image → Type 0

@@ -41,6 +41,7 @@ handle_of updater = record {
   changes = updater.changes;
   style = updater.style;
   outdated = updater.outdated;
+  follower = false;
   keeps = KeptFits updater.store (disk_in updater);
 }
 

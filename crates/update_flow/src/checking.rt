@@ -1,5 +1,5 @@
 //! A store is opened, and all of it is read: whether it is sound.
-ghost use Rattle.std.specs.Prelude.{◌≡◌, List, ℕ, false, IfErr, IfOk, IsErrOf};
+ghost use Rattle.std.specs.Prelude.{◌≡◌, List, ℕ, false, IfErr, IfOk, IfSome, IsErrOf};
 ghost use Rattle.std.specs.Result.{result_err};
 ghost use Rattle.outside.specs.Bytes.{IsTold};
 ghost use Rattle.outside.specs.Disk.{Stays, Tells};
@@ -10,7 +10,7 @@ ghost use Rattle.bucket_store.specs.Opening.{Fits, opened_root};
 ghost use Rattle.update_flow.specs.AtRest.{HasFlowCause, IsAt, IsAtEither, Opens, OpensAs};
 ghost use Rattle.update_flow.specs.BadPage.{IsBadPage};
 ghost use Rattle.update_flow.specs.Judged.{IsAsOpened, Judges};
-ghost use Rattle.update_flow.specs.Opening.{Found, OpensAny};
+ghost use Rattle.update_flow.specs.Opening.{FoundIn, OpensAny, as_found};
 ghost use Rattle.update_flow.specs.Refusals.{MayFind};
 ghost use Rattle.update_flow.specs.Roots.{AreFieldsOf};
 ghost use Rattle.update_flow.specs.Sound.{IsSound};
@@ -26,31 +26,49 @@ use outside::Disk;
 use std::alloc::Global;
 
 /// Opens the store on this disk as `open` does, and reads all of it: whether it is sound. `BadStore` comes with the page that is blamed
-/// first. An old store is only opened.
-pub fn check<D: Disk>(alloc: Global, disk: &mut D, limits: &Limits) -> Result<Opened, FlowFault>
+/// first. An old store is only opened, and so is that of a follower, which is `None`.
+pub fn check<D: Disk>(
+    alloc: Global,
+    disk: &mut D,
+    limits: &Limits,
+) -> Result<Option<Opened>, FlowFault>
     // As `open` has them.
     ensures reads { (bytes : List ℕ) (state : State) → Tells (D.view disk.old) bytes → StandsFor bytes state
         → OpensAs state (result_err result) (D.view disk.new) }
     ensures opens { (one other : State) → IsAtEither one other (D.view disk.old)
         → Opens one other (result_err result) (D.view disk.old) (D.view disk.new) }
-    ensures found { IfOk result (λ opened. IsTold (D.view disk.old).content → (state : State) → IsAt state (D.view disk.new)
-        → Found state (D.view disk.new) opened) }
+    ensures found { IfOk result (λ found. IsTold (D.view disk.old).content → (state : State) → IsAt state (D.view disk.new)
+        → FoundIn state (D.view disk.new) found) }
     ensures any { OpensAny (D.view disk.old) (D.view disk.new) result }
 
     // It finds a store sound just where it is, and else tells a page by the rules.
-    ensures sound { IfOk result (λ opened. opened.outdated ≡ false → (bytes : List ℕ) → Tells (D.view disk.old) bytes → IsSound bytes) }
+    ensures sound { IfOk result (λ found. IfSome found (λ opened. opened.outdated ≡ false → (bytes : List ℕ) → Tells (D.view disk.old) bytes
+        → IsSound bytes)) }
     ensures bad { (page : ℕ) → IsErrOf result (Store (BadStore page)) → (bytes : List ℕ) → Tells (D.view disk.old) bytes
         → (¬ IsSound bytes) × IsBadPage bytes page }
 {
-    let opened = match open(alloc, disk, limits) {
-        Ok(opened) => opened,
+    let found = match open(alloc, disk, limits) {
+        Ok(found) => found,
         Err(fault) => return Err(fault),
+    };
+    let Some(opened) = found else {
+        return Ok(None);
     };
     let outdated = opened.outdated;
     if outdated {
-        return Ok(opened);
+        return Ok(Some(opened));
     }
-    survey_whole(alloc, disk, limits, opened)
+    some_of(survey_whole(alloc, disk, limits, opened))
+}
+
+/// The store that was found, if one was.
+fn some_of(answer: Result<Opened, FlowFault>) -> Result<Option<Opened>, FlowFault>
+    ensures { result ≡ as_found answer }
+{
+    match answer {
+        Ok(opened) => Ok(Some(opened)),
+        Err(fault) => Err(fault),
+    }
 }
 
 /// Reads all of a store that was opened, and is no old one.

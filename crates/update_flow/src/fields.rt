@@ -1,6 +1,6 @@
 //! What the root of a store says of it, and which of its texts says what.
 ghost use Rattle.std.specs.Prelude.{◌≡◌};
-ghost use Rattle.update_flow.specs.Roots.{is_blank, is_imported, is_of, is_old};
+ghost use Rattle.update_flow.specs.Roots.{is_blank, is_following, is_imported, is_in, is_of, is_old};
 
 use crate::LAST_CHANGE;
 use chain_store::Root;
@@ -20,6 +20,9 @@ pub const OLD_FORMAT: u64 = 1;
 /// The state of an imported store.
 pub const IMPORTED: u64 = 1;
 
+/// The state of a follower's store.
+pub const FOLLOWING: u64 = 2;
+
 /// The text with the bytes of the style.
 pub const STYLE_TEXT: u32 = 1;
 
@@ -33,6 +36,7 @@ pub fn shared_numbers()
     ensures imported_format { IMPORTED_FORMAT ≡ 2 }
     ensures old_format { OLD_FORMAT ≡ 1 }
     ensures imported { IMPORTED ≡ 1 }
+    ensures following { FOLLOWING ≡ 2 }
     ensures style_text { STYLE_TEXT ≡ 1 }
     ensures due_text { DUE_TEXT ≡ 2 }
     ensures last_change { LAST_CHANGE ≡ 9223372036854775807 }
@@ -59,12 +63,23 @@ pub fn is_old(root: Root) -> bool
     is_of(OLD_FORMAT, root)
 }
 
+/// Whether these may be those of a follower's store.
+pub fn is_following(root: Root) -> bool
+    ensures { result ≡ is_following root }
+{
+    is_in(FOLLOWING, IMPORTED_FORMAT, root)
+}
+
 /// Whether these may be those of a store that was imported in this format.
 fn is_of(format: u64, root: Root) -> bool
     ensures { result ≡ is_of format root }
 {
-    root.format == format
-        && root.state == IMPORTED
-        && root.buckets != 0
-        && root.changes <= LAST_CHANGE
+    is_in(IMPORTED, format, root)
+}
+
+/// Whether these may be those of a store that has this state in this format, and holds something.
+fn is_in(state: u64, format: u64, root: Root) -> bool
+    ensures { result ≡ is_in state format root }
+{
+    root.format == format && root.state == state && root.buckets != 0 && root.changes <= LAST_CHANGE
 }

@@ -13,6 +13,7 @@ mod due_text;
 mod fault;
 mod fields;
 mod finishing;
+mod following;
 mod ids;
 mod importing;
 mod judging;
@@ -25,13 +26,14 @@ mod over_disk;
 mod reading;
 mod settling;
 mod style_text;
+mod taking;
 mod updater;
 
 pub use checking::check;
 pub use fault::{FlowFault, LAST_CHANGE, store_fault};
 pub use fields::{
-    BLANK, BLANK_FORMAT, DUE_TEXT, IMPORTED, IMPORTED_FORMAT, OLD_FORMAT, STYLE_TEXT, is_blank,
-    is_imported, is_old, shared_numbers,
+    BLANK, BLANK_FORMAT, DUE_TEXT, FOLLOWING, IMPORTED, IMPORTED_FORMAT, OLD_FORMAT, STYLE_TEXT,
+    is_blank, is_following, is_imported, is_old, shared_numbers,
 };
 pub use laws::{sound_stands, standing_is_sound};
 pub use opened::Opened;

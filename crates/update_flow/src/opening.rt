@@ -1,5 +1,5 @@
 //! A store is opened on a disk that stays with its owner.
-ghost use Rattle.std.specs.Prelude.{◌≡◌, ◌≢◌, ◌≤◌, List, ℕ, true, is_some, IfOk, IsErrOf, OnOk};
+ghost use Rattle.std.specs.Prelude.{◌≡◌, ◌≢◌, ◌≤◌, List, ℕ, true, false, IfOk, IfSome, IsErrOf, OnOk};
 ghost use Rattle.std.specs.Result.{result_err};
 ghost use Rattle.outside.specs.Bytes.{IsTold};
 ghost use Rattle.outside.specs.Disk.{Tells};
@@ -15,15 +15,15 @@ ghost use Rattle.update_flow.specs.Sound.{IsSound as IsSoundStore};
 ghost use Rattle.update_flow.specs.SoundTurns.{OpensSound, TellsStyle};
 ghost use Rattle.update_flow.specs.State.{State, style_in, was_imported, was_old};
 ghost use Rattle.update_flow.specs.Stands.{StandsFor};
-ghost use Rattle.update_flow.specs.Opening.{Finds, Found, HoldsState, OpensAny};
+ghost use Rattle.update_flow.specs.Opening.{AreFieldsFor, Finds, Found, FoundIn, HoldsState, IsStyled, OpensAny};
 ghost use Rattle.update_flow.specs.OpeningReads.{ReadsToOpen};
-ghost use Rattle.update_flow.specs.Roots.{AreFieldsOf, is_old};
+ghost use Rattle.update_flow.specs.Roots.{AreFieldsOf, is_following, is_old};
 ghost use Rattle.update_flow.specs.Within.{IsSound};
 ghost use Rattle.update_flow.specs.declared.fault.FlowFault.TheVariants.{Store};
 ghost use Rattle.update_flow.specs.declared.fault.TheConstants.{LAST_CHANGE};
 
 use crate::fault::store_fault;
-use crate::fields::{is_blank, is_imported, is_old};
+use crate::fields::{is_blank, is_following, is_imported, is_old};
 use crate::style_text::load_style;
 use crate::{FlowFault, Opened};
 use bucket_store::{Buckets, Resting};
@@ -33,15 +33,20 @@ use outside::Disk;
 use page_journal::StoreFault;
 use std::alloc::Global;
 
-/// Opens the store on this disk, which stays with its owner: a refusal loses nothing. `Updater::over` goes on from there.
-pub fn open<D: Disk>(alloc: Global, disk: &mut D, limits: &Limits) -> Result<Opened, FlowFault>
+/// Opens the store on this disk, which stays with its owner: a refusal loses nothing. `Updater::over` goes on from there. `None`: it is that
+/// of a follower.
+pub fn open<D: Disk>(
+    alloc: Global,
+    disk: &mut D,
+    limits: &Limits,
+) -> Result<Option<Opened>, FlowFault>
     // A disk that reads as a store of a state is opened as one.
     ensures reads { (bytes : List ℕ) (state : State) → Tells (D.view disk.old) bytes → StandsFor bytes state
         → OpensAs state (result_err result) (D.view disk.new) }
     ensures opens { (one other : State) → IsAtEither one other (D.view disk.old)
         → Opens one other (result_err result) (D.view disk.old) (D.view disk.new) }
-    ensures found { IfOk result (λ opened. IsTold (D.view disk.old).content → (state : State) → IsAt state (D.view disk.new)
-        → Found state (D.view disk.new) opened) }
+    ensures found { IfOk result (λ found. IsTold (D.view disk.old).content → (state : State) → IsAt state (D.view disk.new)
+        → FoundIn state (D.view disk.new) found) }
     ensures any { OpensAny (D.view disk.old) (D.view disk.new) result }
 
     // A sound store is found so, and refused for the disk and memory alone.
@@ -52,7 +57,8 @@ pub fn open<D: Disk>(alloc: Global, disk: &mut D, limits: &Limits) -> Result<Ope
         → ReadsToOpen bytes (D.view disk.old) (D.view disk.new)) }
 
     // Whatever it was read of: it is so there, or refused at the page that is blamed first.
-    ensures fits { IfOk result (λ opened. (bytes : List ℕ) → Tells (D.view disk.old) bytes → IsReadOf bytes opened (D.view disk.new)) }
+    ensures fits { IfOk result (λ found. IfSome found (λ opened. (bytes : List ℕ) → Tells (D.view disk.old) bytes
+        → IsReadOf bytes opened (D.view disk.new))) }
     ensures bad { (page : ℕ) → IsErrOf result (Store (BadStore page)) → (bytes : List ℕ) → Tells (D.view disk.old) bytes
         → (¬ IsSoundStore bytes) × IsBadPage bytes page }
 {
@@ -62,14 +68,44 @@ pub fn open<D: Disk>(alloc: Global, disk: &mut D, limits: &Limits) -> Result<Ope
     }
 }
 
-/// The state of a store of which this was read. `BadStore` comes with the root page where its fields are those of no
-/// store, or its style is that of none.
+/// What a store of which this was read is opened as. `BadStore` comes with the root page where its fields are those of no store, or its
+/// style is that of none. `None`: it is that of a follower.
 fn judged<D: Disk>(
     alloc: Global,
     disk: &mut D,
     limits: &Limits,
     found: Resting,
+) -> Result<Option<Opened>, FlowFault>
+    ensures found { IfOk result (λ judged. Fits found (D.view disk.old) → (state : State) → HoldsState state (D.view disk.old)
+        → FoundIn state (D.view disk.new) judged) }
+    ensures fields { IfOk result (λ judged. AreFieldsFor judged (opened_root found)) }
+    ensures style { IfOk result (λ judged. IfSome judged (λ opened. (image : Image) → Fits found (D.view disk.old) → HoldsImage image (D.view disk.old)
+        → TellsStyle opened.style image)) }
+    ensures sound { Fits found (D.view disk.old) → (state : State) → HoldsState state (D.view disk.old) → IsSound (result_err result) }
+    ensures finds { Finds found (D.view disk.old) (D.view disk.new) result }
+    ensures fits { IfOk result (λ judged. IfSome judged (λ opened. (fits : Fits found (D.view disk.old))
+        → FitsPages fits.pages opened.store (D.view disk.new))) }
+    ensures bad { (at : ℕ) → IsErrOf result (Store (BadStore at)) → (fits : Fits found (D.view disk.old))
+        → (¬ AreSound fits.pages) × IsBadWithin fits.pages found.kept at }
+{
+    if is_following(found.root()) {
+        return Ok(None);
+    }
+    match styled(alloc, disk, limits, found) {
+        Ok(opened) => Ok(Some(opened)),
+        Err(fault) => Err(fault),
+    }
+}
+
+/// The state of a store of which this was read, and which is no follower's. `BadStore` comes with the root page where its fields are those
+/// of no store, or its style is that of none.
+fn styled<D: Disk>(
+    alloc: Global,
+    disk: &mut D,
+    limits: &Limits,
+    found: Resting,
 ) -> Result<Opened, FlowFault>
+    requires own { is_following (opened_root found) ≡ false }
     ensures found { IfOk result (λ opened. Fits found (D.view disk.old) → (state : State) → HoldsState state (D.view disk.old)
         → Found state (D.view disk.new) opened) }
     ensures fields { IfOk result (λ opened. AreFieldsOf opened.style opened.outdated opened.changes (opened_root found)) }
@@ -109,9 +145,7 @@ fn with_style<D: Disk>(
     outdated: bool,
 ) -> Result<Opened, FlowFault>
     requires counted { changes ≤ LAST_CHANGE }
-    ensures changes { IfOk result (λ opened. opened.changes ≡ changes) }
-    ensures outdated { IfOk result (λ opened. opened.outdated ≡ outdated) }
-    ensures styled { IfOk result (λ opened. is_some opened.style ≡ true) }
+    ensures styled { IfOk result (IsStyled changes outdated) }
     ensures style { IfOk result (λ opened. (image : Image) → Fits found (D.view disk.old) → HoldsImage image (D.view disk.old) → TellsStyle opened.style image) }
     ensures found { IfOk result (λ opened. Fits found (D.view disk.old) → (state : State) → HoldsState state (D.view disk.old)
         → was_imported state ≡ true → (opened.style ≡ style_in state) × Fits opened.store (D.view disk.new)) }

@@ -26,11 +26,12 @@ use crate::importing::import;
 use crate::maps::StoreTxn;
 use crate::migrating::migrate;
 use crate::reading::load_rows;
+use crate::style_text::load_style_bytes;
 use crate::{FlowFault, LAST_CHANGE};
 use bucket_store::{Buckets, Resting};
 use geom_workers::Hands;
 use object_fold::Change;
-use osm_base::{Limits, RowChanges, Tables};
+use osm_base::{Bytes, Limits, RowChanges, Tables};
 use outside::{Disk, Gate};
 use std::alloc::Global;
 use std::thread::Threads;
@@ -96,6 +97,31 @@ pub(crate) fn due_on<D: Disk>(
     let due = load_due(alloc, &mut buckets);
     let _disk = buckets.hand_back(kept);
     due
+}
+
+/// The bytes of the style.
+pub(crate) fn style_bytes_on<D: Disk>(
+    alloc: Global,
+    disk: &mut D,
+    limits: &Limits,
+    store: Resting,
+    kept: &mut Option<Resting>,
+) -> Result<Bytes, FlowFault>
+    ensures looks { (held : Holding) → Fits store (D.view disk.old) → HoldsState (imported held) (D.view disk.old)
+        → LooksOn (imported held) (result_err result) (D.view disk.old) (D.view disk.new) kept.new }
+    ensures bytes { IfOk result (λ found. (held : Holding) → Fits store (D.view disk.old) → HoldsState (imported held) (D.view disk.old)
+        → found ≡ held.style_bytes) }
+    ensures sound { (held : Holding) → Fits store (D.view disk.old) → HoldsSound (imported held) (D.view disk.old)
+        → LooksSoundOn (imported held) (result_err result) (D.view disk.new) kept.new }
+    ensures trusted { IfOk result (λ found. (held : Holding) → Fits store (D.view disk.old) → HoldsSound (imported held) (D.view disk.old)
+        → found ≡ held.style_bytes) }
+    ensures stays { Stays (D.view disk.old) (D.view disk.new) }
+    ensures ends { EndsOn None (result_err result) (D.view disk.old) (D.view disk.new) kept.new }
+{
+    let mut buckets = Buckets::on(alloc, disk, limits, store);
+    let bytes = load_style_bytes(&mut buckets);
+    let _disk = buckets.hand_back(kept);
+    bytes
 }
 
 /// The rows of one table of a store with this style, or of all.

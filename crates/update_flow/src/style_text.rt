@@ -51,6 +51,19 @@ pub fn load_style<D: Disk>(alloc: Global, buckets: &mut Buckets<'_, D>) -> Resul
     }
 }
 
+/// The bytes of the style.
+pub(crate) fn load_style_bytes<D: Disk>(buckets: &mut Buckets<'_, D>) -> Result<Bytes, FlowFault>
+    requires ready { IsGoing buckets.old }
+    ensures bytes { IfOk result (λ bytes. (rest now : Image) → Has rest now buckets.old → bytes ≡ now.texts STYLE_TEXT) }
+    ensures sound { (rest now : Image) → Has rest now buckets.old → IsSound (result_err result) }
+    ensures runs { Runs buckets.old buckets.new (result_err result) }
+{
+    match buckets.load(STYLE_TEXT) {
+        Ok(bytes) => Ok(bytes),
+        Err(fault) => Err(store_fault(fault)),
+    }
+}
+
 /// These are the bytes of the style.
 pub(crate) fn store_style<D: Disk>(
     alloc: Global,

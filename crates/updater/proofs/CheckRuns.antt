@@ -8,8 +8,8 @@ use Rattle.outside.specs.Causes.{HasCause as HasCauseOf}
 use Rattle.outside.specs.Inputs.{FilesView}
 use Rattle.outside.specs.Sink.{SinkView}
 use Rattle.page_journal.specs.declared.fault.StoreFault.TheVariants as stores
-use Rattle.update_flow.specs.State.{State, formatted, imported, outdated}
-use Rattle.update_flow.specs.Handle.{Handle, Shows, is_old, view_of}
+use Rattle.update_flow.specs.State.{State, formatted, imported, outdated, following}
+use Rattle.update_flow.specs.Handle.{Handle, Shows, is_follower, is_old, view_of}
 use Rattle.update_flow.specs.declared.fault.FlowFault.{FlowFault}
 use Rattle.update_flow.specs.declared.fault.FlowFault.TheVariants as flow
 use Rattle.run_promise.specs.declared.fault.Fault.{Fault}
@@ -66,11 +66,12 @@ module _ (start done : Progress) (next : ℕ) (old : Before) (files : FilesView)
       → GoesOn (checks state) start done (Some faults.OldFormat) old (world files (view_of updater) output)
   outdated_checked formatted head is = true_not _ (sym is ∙ (shown formatted head).old_is)
   outdated_checked (imported held) head is = true_not _ (sym is ∙ (shown (imported held) head).old_is)
+  outdated_checked (following held) head is = true_not _ (sym is ∙ (shown (following held) head).old_is)
   outdated_checked (outdated held) head is =
       refuses_here start done (outdated held) next old files updater output head faults.OldFormat tt
 
   -- that it is sound is told
-  module _ (current : is_old updater ≡ false) (text : List ℕ) (new : SinkView) (result : Result (Unit {0}) Fault) (is : text ≡ sound_line)
+  module _ (current : is_old updater ≡ false) (own : is_follower updater ≡ false) (text : List ℕ) (new : SinkView) (result : Result (Unit {0}) Fault) (is : text ≡ sound_line)
       (all : OnOk result (Appends output.taken new.taken text)) (front : OnErr result (AppendsPrefix output.taken new.taken text))
       (alone : IfErr result (λ fault. fault ≡ faults.WriteFault)) (cause : HasCauseOf output.faults new.faults result) where
     told : (state : State) → Here state
@@ -85,3 +86,4 @@ module _ (start done : Progress) (next : ℕ) (old : Before) (files : FilesView)
     sound_told formatted head = told formatted head
     sound_told (imported held) head = told (imported held) head
     sound_told (outdated held) head = true_not _ (sym (shown (outdated held) head).old_is ∙ current)
+    sound_told (following held) head = true_not _ (sym (shown (following held) head).follower_is ∙ own)

@@ -30,3 +30,4 @@ pub mod ServeRuns
 pub mod ShownVersions
 pub mod BlockLaws
 pub mod ServeEnds
+pub mod FeedRuns

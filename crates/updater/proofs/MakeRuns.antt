@@ -1,6 +1,6 @@
 -- A run that makes its store, and goes on over it.
 use Rattle.std.proofs.Common.{◌≡◌, ◌≤◌, ℕ, true, Option, Some, None, List, [], length, Err, ⊎_elim, inl, inr, refl, sym, ◌∙◌, ap, subst}
-use Rattle.std.proofs.Common.{arith}
+use Rattle.std.proofs.Common.{arith, false}
 use Rattle.std.specs.Prelude.{IsErrOf}
 use Rattle.std.proofs.lemmas.Option.{same_Some}
 use Rattle.osm_base.specs.bounds.Limits.{standard}
@@ -19,11 +19,11 @@ use Rattle.page_journal.proofs.Moments.{stays_call}
 use Rattle.page_journal.specs.declared.fault.StoreFault.{StoreFault}
 use Rattle.page_journal.specs.declared.fault.StoreFault.TheVariants as stores
 use Rattle.update_flow.specs.AtRest.{HasFlowCause, IsAt, IsAtEither, IsOfEither, Opens}
-use Rattle.update_flow.specs.Handle.{Handle, IsOpen, is_whole, limits_of, view_of}
+use Rattle.update_flow.specs.Handle.{Handle, is_follower, IsOpen, is_whole, limits_of, view_of}
 use Rattle.update_flow.specs.Needed.{HasStood}
 use Rattle.update_flow.specs.Refusals.{IsNoDiskFault, IsOpenFault}
 use Rattle.update_flow.specs.Stands.{StandsFor}
-use Rattle.update_flow.specs.State.{State, formatted, imported, outdated}
+use Rattle.update_flow.specs.State.{State, following, follows, formatted, imported, outdated}
 use Rattle.update_flow.specs.Updater.{disk_of, handle_of}
 use Rattle.update_flow.specs.declared.fault.FlowFault.{FlowFault}
 use Rattle.update_flow.specs.declared.fault.FlowFault.TheVariants as flow
@@ -90,6 +90,7 @@ module _ (files : FilesView) (view now : DiskView) (output : SinkView) (same : n
   not_empty faults.NotImported rest why = absurd why
   not_empty faults.AlreadyImported rest why = absurd why
   not_empty faults.OldFormat rest why = absurd why
+  not_empty faults.Follower rest why = absurd why
   not_empty faults.UnknownTable rest why = absurd why
   not_empty (faults.BadStore page) rest why = absurd why
   not_empty faults.WriteFault rest why = absurd why
@@ -270,11 +271,32 @@ module _ (read : List ℕ) (next : ℕ) (old : Before) (files : FilesView) (view
           by None is = vague is fault alone cause
           by (Some bytes) is = known bytes is fault (opened formatted formatted (made_at bytes is)) (told (made_at bytes is).told) cause
 
+      -- or is told to be that of a follower, where the disk does not tell what it holds
+      pub taken_made : ((one other : State) → IsAtEither one other between → Opens one other None between now)
+          → (IsTold between.content → (state : State) → IsAt state now → follows state ≡ true) → HasFlowCause None between now
+          → Ends faults.AlreadyImported
+      taken_made opened own cause = by old.content refl
+        where
+          by : (content : Option (List ℕ)) → old.content ≡ content → Ends faults.AlreadyImported
+          by None is = (
+            at (Done None) (Some faults.AlreadyImported),
+            refl,
+            lifts None is (looks rest) (at (Done None) (Some faults.AlreadyImported)) (inr (inl (flow.AlreadyImported, tt, refl))),
+            stands_so unknown (Some faults.AlreadyImported) now tt tt (omega (arith, later, cause.later)),
+          )
+          by (Some bytes) is =
+              let place = made_at bytes is in
+              let none : follows formatted ≡ true =
+              ⊎_elim (λ (one : IsAt formatted now). own place.told formatted one)
+              (λ (other : IsAt formatted now). own place.told formatted other)
+              ((opened formatted formatted place).found refl) in
+              absurd (cc (none))
+
     -- or the run goes on over the open store
     module _ (updater : Handle) (opened : (one other : State) → IsAtEither one other between
         → Opens one other None between (view_of updater))
         (open_so : IsTold between.content → (state : State) → IsAt state (view_of updater) → IsOpen state updater)
-        (limits : limits_of updater ≡ standard) (sound : is_whole updater ≡ true)
+        (limits : limits_of updater ≡ standard) (sound : is_whole updater ≡ true) (own_is : is_follower updater ≡ false)
         (none : TellsNone updater) (cause : HasFlowCause None between (view_of updater)) (one : (now : List ℕ) → length (pages now) ≡ 1)
         (as_told : (bytes : List ℕ) → between.content ≡ Some bytes → (gate bytes ≡ OPEN → ⊥) → (view_of updater).content ≡ between.content)
       where
@@ -305,6 +327,7 @@ module _ (read : List ℕ) (next : ℕ) (old : Before) (files : FilesView) (view
         vague_comes rest formatted ending comes = inr (inr comes)
         vague_comes rest (imported held) ending is = inr (inl (flow.AlreadyImported, tt, is))
         vague_comes rest (outdated held) ending is = inr (inl (flow.AlreadyImported, tt, is))
+        vague_comes rest (following held) ending is = inr (inl (flow.AlreadyImported, tt, is))
 
         module _ (rest : Course) (fault : Option Fault) (new : World)
             (goes : (old : Before) (start done : Progress) (state : State) → IsHead start done state next old files updater output
@@ -326,7 +349,7 @@ module _ (read : List ℕ) (next : ℕ) (old : Before) (files : FilesView) (view
           goes_vague is =
               let state = state_shown updater in
               let went = goes old (begun unused 0) (Done None) state
-              (made_head None state (record { shows = shows_state updater none; whole = sound }) tt (λ certain. absurd certain)) in
+              (made_head None state (record { shows = shows_state updater own_is none; whole = sound }) tt (λ certain. absurd certain)) in
               (went.0, went.1, lifts None is (looks rest) went.0 (vague_comes rest state went.0 went.2), went.3)
 
           pub goes_made : GoesOn (formats (looks rest)) (begun unused 0) (reading_alone read) fault old new
@@ -362,7 +385,7 @@ goes_over_made {D} {g} read next old files view output head pages between makes 
     (goes_made read next old files view output head pages between makes later (handle_of updater)
     (λ one other at. subst (λ (own : D). Opens one other None between (g.view own)) (sym same) (opened one other at))
     (λ told_before state at. open_so told_before state (subst (λ (own : D). IsAt state (g.view own)) same at))
-    limits sound none (subst (λ (own : D). HasFlowCause None between (g.view own)) (sym same) cause) one
+    limits sound refl none (subst (λ (own : D). HasFlowCause None between (g.view own)) (sym same) cause) one
     (λ bytes here shut. ap (λ (own : D). (g.view own).content) same ∙ as_told bytes here shut) rest fault
     (world now (view_of (handle_of final)) told) goes)
 

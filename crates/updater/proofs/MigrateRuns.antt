@@ -7,8 +7,8 @@ use Rattle.outside.specs.Causes.{HasCause as HasCauseOf}
 use Rattle.outside.specs.Inputs.{FilesView}
 use Rattle.outside.specs.Sink.{SinkView}
 use Rattle.update_flow.specs.AtRest.{HasFlowCause}
-use Rattle.update_flow.specs.State.{Holding, State, formatted, imported, outdated, Migrate, after}
-use Rattle.update_flow.specs.Handle.{Handle, IsOpen, Shows, Takes, is_imported, is_old, is_whole, limits_of, view_of}
+use Rattle.update_flow.specs.State.{Holding, State, formatted, imported, outdated, following, Migrate, after}
+use Rattle.update_flow.specs.Handle.{Handle, IsOpen, Shows, Takes, is_imported, is_follower, is_old, is_whole, limits_of, view_of}
 use Rattle.update_flow.specs.declared.fault.FlowFault.{FlowFault}
 use Rattle.update_flow.specs.declared.fault.FlowFault.TheVariants as flow
 use Rattle.run_promise.specs.declared.fault.Fault.{Fault}
@@ -55,19 +55,22 @@ module _ (start done : Progress) (next : ℕ) (old : Before) (files : FilesView)
   none_there formatted head is = refuses_here start done formatted next old files before output head faults.NotImported tt
   none_there (imported held) head is = true_not _ (sym (shown (imported held) head).imported_is ∙ is)
   none_there (outdated held) head is = true_not _ (sym (shown (outdated held) head).imported_is ∙ is)
+  none_there (following held) head is = true_not _ (sym (shown (following held) head).imported_is ∙ is)
 
   -- the store has this format
-  pub has_format : (state : State) → Here state → is_imported before ≡ true → is_old before ≡ false
+  pub has_format : (state : State) → Here state → is_imported before ≡ true → is_old before ≡ false → is_follower before ≡ false
       → (text : List ℕ) (new : SinkView) (result : Result (Unit {0}) Fault) → text ≡ format_line
       → OnOk result (Appends output.taken new.taken text) → OnErr result (AppendsPrefix output.taken new.taken text)
       → IfErr result (λ fault. fault ≡ faults.WriteFault) → HasCauseOf output.faults new.faults result
       → GoesOn (migrates state) start done (result_err result) old (world files (view_of before) new)
-  has_format formatted head there current text new result is all front alone cause =
+  has_format formatted head there current own text new result is all front alone cause =
       true_not _ (sym there ∙ (shown formatted head).imported_is)
-  has_format (imported held) head there current text new result is all front alone cause =
+  has_format (imported held) head there current own text new result is all front alone cause =
       tells_last start done (imported held) next old files before output head format_line text new result is all front alone cause
-  has_format (outdated held) head there current text new result is all front alone cause =
+  has_format (outdated held) head there current own text new result is all front alone cause =
       true_not _ (sym (shown (outdated held) head).old_is ∙ current)
+  has_format (following held) head there current own text new result is all front alone cause =
+      true_not _ (sym (shown (following held) head).follower_is ∙ own)
 
   -- or the old one
   if_outdated : (state : State) → Here state → is_old before ≡ true → (fault : Option Fault) (new : World)
@@ -75,6 +78,7 @@ module _ (start done : Progress) (next : ℕ) (old : Before) (files : FilesView)
       → GoesOn (migrates state) start done fault old new
   if_outdated formatted head is fault new goes = true_not _ (sym is ∙ (shown formatted head).old_is)
   if_outdated (imported held) head is fault new goes = true_not _ (sym is ∙ (shown (imported held) head).old_is)
+  if_outdated (following held) head is fault new goes = true_not _ (sym is ∙ (shown (following held) head).old_is)
   if_outdated (outdated held) head is fault new goes = goes held head
 
   module _ (state : State) (head : Here state) (is_outdated : is_old before ≡ true) (now : Handle) where

@@ -20,10 +20,10 @@ use Rattle.update_flow.specs.Due.{no_tiles}
 use Rattle.update_flow.specs.History.{state_after}
 use Rattle.update_flow.specs.Refusals.{IsNoDiskFault, IsOpenFault}
 use Rattle.update_flow.specs.Stands.{StandsFor}
-use Rattle.update_flow.specs.Opening.{MayOpenAs, RootTells}
-use Rattle.update_flow.specs.State.{Holding, State, changes_in, formatted, imported, outdated, was_old}
+use Rattle.update_flow.specs.Opening.{AreFieldsIn, IfRoot, MayOpenAs, RootTells, RootTold}
+use Rattle.update_flow.specs.State.{Following, Holding, State, changes_in, follows, following, formatted, imported, outdated, style_in, was_old}
 use Rattle.update_flow.proofs.Needs.{stood_opened}
-use Rattle.update_flow.specs.Handle.{Handle, IsOpen, Shows, changes_of, is_imported, is_old, is_whole, limits_of, style_of, view_of}
+use Rattle.update_flow.specs.Handle.{Handle, IsOpen, Shows, changes_of, is_follower, is_imported, is_old, is_whole, limits_of, style_of, view_of}
 use Rattle.update_flow.specs.declared.fault.FlowFault.{FlowFault}
 use Rattle.update_flow.specs.declared.fault.FlowFault.TheVariants as flow
 use Rattle.run_promise.specs.declared.fault.Fault.{Fault}
@@ -49,19 +49,39 @@ shown_state None of_old changes = formatted
 shown_state (Some style) false changes = imported (shown_as style changes)
 shown_state (Some style) true changes = outdated (shown_as style changes)
 
+-- a follower of this version
+abbrev pub shown_follower : ℕ → Following
+shown_follower version = record {
+  style = record { selections = []; tables = [] };
+  style_bytes = [];
+  buckets = 0;
+  tables = finite.empty;
+  version = version;
+}
+
 -- a store into which nothing was imported has no changes, and is none of the old format
 abbrev pub TellsNone : Handle → Type 0
 TellsNone updater = is_imported updater ≡ false → (changes_of updater ≡ 0) × (is_old updater ≡ false)
 
 pub shows_it : (updater : Handle) (style : Option StyleOf) (of_old : Bool) → style_of updater ≡ style → is_old updater ≡ of_old
-    → TellsNone updater → Shows (shown_state style of_old (changes_of updater)) updater
-shows_it updater None of_old is old_is none =
+    → is_follower updater ≡ false → TellsNone updater → Shows (shown_state style of_old (changes_of updater)) updater
+shows_it updater None of_old is old_is own none =
     let blank : is_imported updater ≡ false = ap (λ (style : Option StyleOf). is_some style) is in
-    record { changes_are = (none blank).0; imported_is = blank; old_is = (none blank).1; style_is = is }
-shows_it updater (Some style) false is old_is none =
-    record { changes_are = refl; imported_is = ap (λ (style : Option StyleOf). is_some style) is; old_is = old_is; style_is = is }
-shows_it updater (Some style) true is old_is none =
-    record { changes_are = refl; imported_is = ap (λ (style : Option StyleOf). is_some style) is; old_is = old_is; style_is = is }
+    record { changes_are = (none blank).0; imported_is = blank; old_is = (none blank).1; style_is = is; follower_is = own }
+shows_it updater (Some style) false is old_is own none = record {
+  changes_are = refl;
+  imported_is = ap (λ (style : Option StyleOf). is_some style) is;
+  old_is = old_is;
+  style_is = is;
+  follower_is = own;
+}
+shows_it updater (Some style) true is old_is own none = record {
+  changes_are = refl;
+  imported_is = ap (λ (style : Option StyleOf). is_some style) is;
+  old_is = old_is;
+  style_is = is;
+  follower_is = own;
+}
 
 -- what was opened tells what the root page of the bytes does
 pub record IsFoundIn (updater : Handle) (bytes : List ℕ) : Type 0 where
@@ -71,20 +91,35 @@ pub record IsFoundIn (updater : Handle) (bytes : List ℕ) : Type 0 where
 abbrev pub IsFound : Option (List ℕ) → Handle → Type 0
 IsFound content updater = IfTold content (IsFoundIn updater)
 
-may_open : (state : State) (updater : Handle) (bytes : List ℕ) → Shows state updater → IsFoundIn updater bytes → MayOpenAs state bytes
-may_open state updater bytes shows found = record {
+-- a state that is no follower's has the fields that it tells of
+fields_in : (state : State) (bytes : List ℕ) → follows state ≡ false → RootTells (style_in state) (was_old state) (changes_in state) bytes
+    → IfRoot (AreFieldsIn state) bytes
+fields_in formatted bytes own tells = tells
+fields_in (imported held) bytes own tells = tells
+fields_in (outdated held) bytes own tells = tells
+fields_in (following held) bytes own tells = absurd (cc (own))
+
+may_open : (state : State) (updater : Handle) (bytes : List ℕ) → follows state ≡ false → Shows state updater → IsFoundIn updater bytes
+    → MayOpenAs state bytes
+may_open state updater bytes own shows found = record {
   formed = found.formed;
-  fields = subst (λ (style : Option StyleOf). RootTells style (was_old state) (changes_in state) bytes) shows.style_is
+  fields = fields_in state bytes own (subst (λ (style : Option StyleOf). RootTells style (was_old state) (changes_in state) bytes) shows.style_is
       (subst (λ (of_old : Bool). RootTells (style_of updater) of_old (changes_in state) bytes) shows.old_is
-      (subst (λ (changes : ℕ). RootTells (style_of updater) (is_old updater) changes bytes) shows.changes_are found.fields));
+      (subst (λ (changes : ℕ). RootTells (style_of updater) (is_old updater) changes bytes) shows.changes_are found.fields)));
 }
 
 -- the one that an open store tells of
 abbrev pub state_shown : Handle → State
 state_shown updater = shown_state (style_of updater) (is_old updater) (changes_of updater)
 
-pub shows_state : (updater : Handle) → TellsNone updater → Shows (state_shown updater) updater
-shows_state updater none = shows_it updater (style_of updater) (is_old updater) refl refl none
+pub shows_state : (updater : Handle) → is_follower updater ≡ false → TellsNone updater → Shows (state_shown updater) updater
+shows_state updater own none = shows_it updater (style_of updater) (is_old updater) refl refl own none
+
+-- which is no follower's
+shown_own : (style : Option StyleOf) (of_old : Bool) (changes : ℕ) → follows (shown_state style of_old changes) ≡ false
+shown_own None of_old changes = refl
+shown_own (Some style) false changes = refl
+shown_own (Some style) true changes = refl
 
 -- the bytes are those of one of two states: after the fewest steps, or after the most
 either_kept : (kept : Kept) → IsFit kept → (left : List ℕ) → IsOneOf kept left
@@ -229,14 +264,15 @@ module _ (files : FilesView) (view : DiskView) (output : SinkView)
         absurd (let none : Some (flow.TooMany value) ≡ None = opened.answer in cc)
 
   -- whatever the disk holds
-  pub begun_vague : (updater : Handle) (next : ℕ) → limits_of updater ≡ standard → is_whole updater ≡ true → TellsNone updater
+  pub begun_vague : (updater : Handle) (next : ℕ) → limits_of updater ≡ standard → is_whole updater ≡ true → is_follower updater ≡ false
+      → TellsNone updater
       → view.faults ≤ (view_of updater).faults
       → IsFound view.content updater → IsBegun (begun unknown 0) next old files updater output
-  begun_vague updater next limits sound none later found = record {
+  begun_vague updater next limits sound own none later found = record {
     state = state_shown updater;
     further = begun unknown 0;
     head = record {
-      here = record { shows = shows_state updater none; whole = sound };
+      here = record { shows = shows_state updater own none; whole = sound };
       vague = λ _. tt;
       limits = limits;
       stood = λ certain. absurd certain;
@@ -245,10 +281,54 @@ module _ (files : FilesView) (view : DiskView) (output : SinkView)
     };
     leads = λ rest ending comes. inr (inr (inr (
       state_shown updater,
-      (λ bytes told. may_open (state_shown updater) updater bytes (shows_state updater none) (found bytes told)),
+      (λ bytes told. may_open (state_shown updater) updater bytes (shown_own (style_of updater) (is_old updater) (changes_of updater))
+          (shows_state updater own none) (found bytes told)),
       comes,
     )));
   }
+
+  -- the store is that of a follower, and the run ends there
+  module _ (now : DiskView) (later : view.faults ≤ now.faults) (rest : State → Course)
+      (stops : (held : Following) (done : Progress) → Comes old (rest (following held)) done (at done (Some faults.Follower))) where
+    stops_so : (state : State) → follows state ≡ true → (done : Progress) → Comes old (rest state) done (at done (Some faults.Follower))
+    stops_so formatted own done = absurd (cc (own))
+    stops_so (imported held) own done = absurd (cc (own))
+    stops_so (outdated held) own done = absurd (cc (own))
+    stops_so (following held) own done = stops held done
+
+    module _ (kept : Kept) (is : IsKept view kept) (goes : Goes (IsOfEither (one kept is) (other kept is)) view.crashes now.crashes) where
+      follower_at : (cut : ℕ) → kept.least ≤ cut → cut ≤ kept.most → IsAt (state_after (first cut kept.history)) now
+          → follows (state_after (first cut kept.history)) ≡ true
+          → GoesBy (opens rest) (begun (keeps kept) kept.least) (Some faults.Follower) (world files view output) (world files now output)
+      follower_at cut low high rests own = (
+        at (opened kept cut (begun (keeps kept) kept.least)) (Some faults.Follower),
+        refl,
+        inr (cut, low, high, stops_so (state_after (first cut kept.history)) own (opened kept cut (begun (keeps kept) kept.least))),
+        begun_leaves (keeps (whole (first cut kept.history))) cut (keeps kept) kept.least (Some faults.Follower) now (
+          (λ left out. subst (λ (bytes : List ℕ). IsOneOf (whole (first cut kept.history)) bytes) (sym (rests.only left out))
+              (one_of_all rests.bytes (first cut kept.history) rests.stands)),
+          λ _. (rests.bytes, rests.told),
+        )
+            (begun_moments kept is cut (keeps (whole (first cut kept.history))) now.crashes goes) tt later,
+      )
+
+      pub follower_kept : (IsAt (one kept is) now ⊎ IsAt (other kept is) now) → ((state : State) → IsAt state now → follows state ≡ true)
+          → GoesBy (opens rest) (begun (keeps kept) kept.least) (Some faults.Follower) (world files view output) (world files now output)
+      follower_kept (inl rests) own = follower_at kept.least (omega arith) is.fit.order rests (own (one kept is) rests)
+      follower_kept (inr rests) own = follower_at kept.most is.fit.order (omega arith) rests (own (other kept is) rests)
+
+    pub follower_vague : RootTold view.content None → IfTold view.content IsFormatted
+        → GoesBy (opens rest) (begun unknown 0) (Some faults.Follower) (world files view output) (world files now output)
+    follower_vague fields formed = (
+      at (begun unknown 0) (Some faults.Follower),
+      refl,
+      inr (inr (inr (
+        following (shown_follower fields.0),
+        (λ bytes told. record { formed = formed bytes told; fields = fields.1 bytes told }),
+        stops (shown_follower fields.0) (begun unknown 0),
+      ))),
+      begun_leaves unknown 0 unknown 0 (Some faults.Follower) now tt tt tt later,
+    )
 
   pub refused_vague : (fault : FlowFault) (now : DiskView) (rest : State → Course) → IsOpenFault fault
       → (fault ≡ flow.Store stores.NotFormatted → IfTold view.content (λ bytes. ¬ IsFormatted bytes))

@@ -1,5 +1,6 @@
 -- A run that opens its store first.
-use Rattle.std.proofs.Common.{◌≡◌, ◌∙◌, ℕ, Bool, true, Option, Some, None, List, inl, inr, refl, sym, ap, subst}
+use Rattle.std.proofs.Common.{◌≡◌, ◌∙◌, ℕ, Bool, true, false, Option, Some, None, List, inl, inr, refl, sym, ap, subst}
+use Rattle.std.specs.Prelude.{IfSome}
 use Rattle.osm_base.specs.bounds.Limits.{standard}
 use Rattle.outside.specs.Bytes.{IfTold, IsTold}
 use Rattle.outside.specs.Disk.{DiskView}
@@ -12,24 +13,29 @@ use Rattle.page_journal.specs.declared.layout.TheConstants.{OPEN}
 use Rattle.page_journal.specs.declared.fault.StoreFault.TheVariants as stores
 use Rattle.update_flow.specs.AtRest.{HasFlowCause, IsAt, IsAtEither, IsDamaged, Opens}
 use Rattle.update_flow.specs.Refusals.{IsNoDiskFault, IsOpenFault}
-use Rattle.update_flow.specs.State.{State}
+use Rattle.update_flow.specs.Sound.{IsSound}
+use Rattle.update_flow.specs.State.{Following, State, follows, following}
 use Rattle.style_read.specs.Style.{StyleOf}
-use Rattle.update_flow.specs.Handle.{Handle, IsOpen, changes_of, is_old, is_whole, limits_of, style_of, view_of}
-use Rattle.update_flow.specs.Opening.{RootTells}
+use Rattle.update_flow.specs.Handle.{Handle, IsOpen, changes_of, is_follower, is_old, is_whole, limits_of, style_of, view_of}
+use Rattle.update_flow.specs.Opening.{Found, FoundIn, RootTells, RootTold}
+use Rattle.update_flow.specs.SoundTurns.{FindsSound, FindsSoundIn}
 use Rattle.update_flow.specs.Updater.{disk_of, handle_of}
 use Rattle.update_flow.specs.declared.opened.Opened.{Opened}
 use Rattle.update_flow.specs.declared.updater.Updater.{Updater}
 use Rattle.update_flow.specs.declared.fault.FlowFault.{FlowFault}
 use Rattle.update_flow.specs.declared.fault.FlowFault.TheVariants as flow
 use Rattle.run_promise.specs.declared.fault.Fault.{Fault}
+use Rattle.run_promise.specs.declared.fault.Fault.TheVariants as faults
+use Rattle.run_promise.specs.Comes.{Comes}
 use Rattle.run_promise.specs.CommandOf.{old_store}
 use Rattle.run_promise.specs.Course.{Course, opens}
 use Rattle.run_promise.specs.Faults.{flow_fault}
 use Rattle.updater.specs.Heads.{GoesOn, IsHead}
-use Rattle.run_promise.specs.Progress.{Progress}
+use Rattle.run_promise.specs.Progress.{Progress, at}
 use Rattle.run_promise.specs.Runs.{Begins, GoesBy}
 use Rattle.run_promise.specs.World.{Before, World, remembered, world}
-use Rattle.updater.proofs.OpenDeeds.{IsBegun, IsFound, TellsNone, at_either, begun_kept, begun_vague, refused_kept, refused_vague}
+use Rattle.updater.proofs.OpenDeeds.{IsBegun, IsFound, TellsNone, at_either, begun_kept, begun_vague, follower_kept, follower_vague, refused_kept}
+use Rattle.updater.proofs.OpenDeeds.{refused_vague}
 use Rattle.updater.proofs.VersionRuns.{goes_back}
 
 module _ (files : FilesView) (view : DiskView) (output : SinkView)
@@ -56,10 +62,29 @@ module _ (files : FilesView) (view : DiskView) (output : SinkView)
           GoesBy (opens rest) own (Some (flow_fault fault)) (world files view output) (world files now output)) (sym is)
           (refused_kept files view output only_now kept fits fault now rest (opened _ _ (at_either view kept fits)) (told fits.told) cause)
 
+  -- the store is that of a follower
+  pub follower_opened : (now : DiskView) (rest : State → Course)
+      → ((held : Following) (done : Progress) → Comes Old (rest (following held)) done (at done (Some faults.Follower)))
+      → ((one other : State) → IsAtEither one other view → Opens one other None view now)
+      → (IsTold view.content → (state : State) → IsAt state now → follows state ≡ true)
+      → RootTold view.content None → IfTold view.content IsFormatted → HasFlowCause None view now
+      → GoesBy (opens rest) start (Some faults.Follower) (world files view output) (world files now output)
+  follower_opened now rest stops opened own fields formed cause = by begins
+    where
+      by : Begins old_store (world files view output) start
+          → GoesBy (opens rest) start (Some faults.Follower) (world files view output) (world files now output)
+      by (inl is) = subst (λ (from : Progress).
+          GoesBy (opens rest) from (Some faults.Follower) (world files view output) (world files now output)) (sym is)
+          (follower_vague files view output only_now now cause.later rest stops fields formed)
+      by (inr (kept, fits, is)) = subst (λ (from : Progress).
+          GoesBy (opens rest) from (Some faults.Follower) (world files view output) (world files now output)) (sym is)
+          (let went = opened _ _ (at_either view kept fits) in
+          follower_kept files view output only_now now cause.later rest stops kept fits went.moments (went.found refl) (own fits.told))
+
   module _ (updater : Handle) (next : ℕ) (opened : (one other : State) → IsAtEither one other view
       → Opens one other None view (view_of updater))
       (open_so : IsTold view.content → (state : State) → IsAt state (view_of updater) → IsOpen state updater)
-      (limits : limits_of updater ≡ standard) (sound : is_whole updater ≡ true)
+      (limits : limits_of updater ≡ standard) (sound : is_whole updater ≡ true) (own_is : is_follower updater ≡ false)
       (none : TellsNone updater) (cause : HasFlowCause None view (view_of updater)) (found : IsFound view.content updater)
       (as_told : (bytes : List ℕ) → view.content ≡ Some bytes → (gate bytes ≡ OPEN → ⊥) → (view_of updater).content ≡ view.content) where
     is_begun : IsBegun start next Old files updater output
@@ -67,7 +92,7 @@ module _ (files : FilesView) (view : DiskView) (output : SinkView)
       where
         by : Begins old_store (world files view output) start → IsBegun start next Old files updater output
         by (inl is) = subst (λ (own : Progress). IsBegun own next Old files updater output) (sym is)
-            (begun_vague files view output only_now updater next limits sound none cause.later found)
+            (begun_vague files view output only_now updater next limits sound own_is none cause.later found)
         by (inr (kept, fits, is)) = subst (λ (own : Progress). IsBegun own next Old files updater output) (sym is)
             (let own = opened _ _ (at_either view kept fits) in
             begun_kept files view output only_now kept fits updater next limits cause.later own.moments as_told (own.found refl)
@@ -105,9 +130,35 @@ goes_over {D} {g} files view output only_now start begins disk updater next same
     (goes_opened files view output only_now start begins (handle_of updater) next
     (λ one other at. subst (λ (own : D). Opens one other None view (g.view own)) (sym same) (opened one other at))
     (λ told_before state at. open_so told_before state (subst (λ (own : D). IsAt state (g.view own)) same at))
-    limits sound none (subst (λ (own : D). HasFlowCause None view (g.view own)) (sym same) cause) found
+    limits sound refl none (subst (λ (own : D). HasFlowCause None view (g.view own)) (sym same) cause) found
     (λ bytes here shut. ap (λ (own : D). (g.view own).content) same ∙ as_told bytes here shut) rest fault
     (world read (view_of (handle_of final)) told) goes)
+
+-- what is so of what was found is so of this
+module _ (found : Option Opened) (opened : Opened) (is : found ≡ Some opened) where
+  pub found_some : (state : State) (view : DiskView) → FoundIn state view found → Found state view opened
+  found_some state view own = subst (λ (o : Option Opened). FoundIn state view o) is own
+
+  pub told_some : (content : Option (List ℕ)) → RootTold content found
+      → IfTold content (RootTells opened.style opened.outdated opened.changes)
+  told_some content own = subst (λ (o : Option Opened). RootTold content o) is own
+
+  pub checked_some : (content : Option (List ℕ))
+      → IfSome found (λ own. own.outdated ≡ false → (bytes : List ℕ) → content ≡ Some bytes → IsSound bytes)
+      → opened.outdated ≡ false → (bytes : List ℕ) → content ≡ Some bytes → IsSound bytes
+  checked_some content own = subst (λ (o : Option Opened). IfSome o (λ own. own.outdated ≡ false → (bytes : List ℕ)
+      → content ≡ Some bytes → IsSound bytes)) is own
+
+  pub sound_some : (view : DiskView) → FindsSoundIn view found → FindsSound view opened
+  sound_some view own = subst (λ (o : Option Opened). FindsSoundIn view o) is own
+
+-- and of nothing that was found, that the store is that of a follower
+module _ (found : Option Opened) (is : found ≡ None) where
+  pub found_none : (state : State) (view : DiskView) → FoundIn state view found → follows state ≡ true
+  found_none state view own = subst (λ (o : Option Opened). FoundIn state view o) is own
+
+  pub told_none : (content : Option (List ℕ)) → RootTold content found → RootTold content None
+  told_none content own = subst (λ (o : Option Opened). RootTold content o) is own
 
 -- what was opened tells what was found
 pub found_here : {D : Type 0} {g : Ghosts D} (opened : Opened) (updater : Updater D g) (content : Option (List ℕ))

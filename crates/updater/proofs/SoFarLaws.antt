@@ -1,7 +1,7 @@
 -- The deeds of a run between two of which its files and its output alone matter.
 use Rattle.std.proofs.Common.{◌≡◌, ◌≤◌, ◌+◌, ℕ, Option, Some, None, List, [], ◌∷◌, ◌++◌, Result, ⊎_elim, inl, inr, refl, sym, ◌∙◌, ap}
 use Rattle.std.proofs.Common.{subst, arith}
-use Rattle.std.specs.Io.KnownBytes.{Appends}
+use Rattle.std.specs.Io.KnownBytes.{Appends, Keeps}
 use Rattle.std.proofs.lemmas.List.{append-nil}
 use Rattle.outside.specs.Bytes.{AppendsPrefix, BothKnown, IfTold}
 use Rattle.outside.specs.Causes.{Rose}
@@ -11,7 +11,8 @@ use Rattle.outside.specs.Sink.{SinkView}
 use Rattle.run_promise.specs.declared.fault.Fault.{Fault}
 use Rattle.run_promise.specs.declared.fault.Fault.TheVariants as faults
 use Rattle.run_promise.specs.Comes.{AreTold, Comes, IsCertain, BreaksIn, unread, short, refused}
-use Rattle.run_promise.specs.Course.{Course, ends, refuses, reads, tells, writes}
+use Rattle.run_promise.specs.Course.{Course, ends, refuses, reads, tells, writes, feeds}
+use Rattle.run_promise.specs.FeedBlocks.{IsFeedBlock}
 use Rattle.object_fold.specs.Reading.{IsReadAlone}
 use Rattle.updater.specs.FileReads.{IsRead, IsUnread, StopsFor}
 use Rattle.updater.specs.Heads.{GoesOn, IsSoFar}
@@ -54,6 +55,14 @@ took_more (Some one) (Some two) (Some three) written text took more = record {
   grown = more ∙ ap (λ (own : List ℕ). own ++ text) (took_whole one two written took) ∙ append_more one written text
       ∙ sym (append-nil (one ++ (written ++ text)));
 }
+
+took_same : (first second third : Option (List ℕ)) (written : List ℕ) → BothKnown first second (GrewBy written [])
+    → Keeps second third → BothKnown first third (GrewBy written [])
+took_same None second third written took kept = tt
+took_same (Some one) None third written took kept = absurd took
+took_same (Some one) (Some two) None written took kept = absurd kept
+took_same (Some one) (Some two) (Some three) written took kept =
+    subst (λ (own : List ℕ). GrewBy written [] one own) (sym kept) took
 
 took_half : (first second third : Option (List ℕ)) (written text : List ℕ) → BothKnown first second (GrewBy written [])
     → AppendsPrefix second third text → BothKnown first third (GrewBy written text)
@@ -169,6 +178,7 @@ module _ (start done : Progress) (next : ℕ) (old : Before) (files : FilesView)
     stops_why rest faults.NotImported why alone = absurd why.0
     stops_why rest faults.AlreadyImported why alone = absurd why.0
     stops_why rest faults.OldFormat why alone = absurd why.0
+    stops_why rest faults.Follower why alone = absurd why.0
     stops_why rest faults.UnknownTable why alone = absurd why.0
     stops_why rest (faults.BadStore page) why alone = absurd why.0
     stops_why rest faults.WriteFault why alone = absurd why.0
@@ -227,3 +237,29 @@ module _ (start done : Progress) (next : ℕ) (old : Before) (files : FilesView)
   pub stops_short : (Fits : List ℕ → Type 0) (rest : Course)
       → GoesOn (writes Fits rest) start done (Some faults.OutOfMemory) old (world files disk output)
   stops_short Fits rest = (at done (Some faults.OutOfMemory), refl, inl refl, leaves_here faults.OutOfMemory tt)
+
+  -- a block of a feed is told in part, or there is no memory for it
+  pub stops_in_block : (Fits : List ℕ → Type 0) (text : List ℕ) (new : SinkView) (rest : Course) → IsFeedBlock text
+      → (AreTold old done.read → IsCertain done.store → Fits text) → AppendsPrefix output.taken new.taken text → output.faults ≤ new.faults
+      → Rose output.faults new.faults → GoesOn (feeds Fits rest) start done (Some faults.WriteFault) old (world files disk new)
+  stops_in_block Fits text new rest block fits front later rose =
+      (at_text text done faults.WriteFault, refl, inr (text, block, fits, inl refl), leaves_text text new front later rose)
+
+  pub short_of_block : (Fits : List ℕ → Type 0) (new : SinkView) (rest : Course) → Keeps output.taken new.taken
+      → output.faults ≤ new.faults → GoesOn (feeds Fits rest) start done (Some faults.OutOfMemory) old (world files disk new)
+  short_of_block Fits new rest kept later = (
+    at done (Some faults.OutOfMemory),
+    refl,
+    inl refl,
+    record {
+      output = took_same old.taken output.taken new.taken done.written head.so_far.output kept;
+      at_end = head.so_far.at_end;
+      others = head.so_far.others;
+      store = stands_so faults.OutOfMemory done.store old disk head.so_far.store;
+      moments = head.so_far.moments;
+      cause = tt;
+      reads = head.so_far.reads;
+      writes = omega (arith, head.so_far.writes, later);
+      disk = head.so_far.disk;
+    },
+  )

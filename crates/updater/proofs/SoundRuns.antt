@@ -9,7 +9,8 @@ use Rattle.update_flow.specs.Handle.{Handle, is_old, limits_of}
 use Rattle.update_flow.specs.Refusals.{MayAnswer, MayLook}
 use Rattle.update_flow.specs.Sound.{IsSound}
 use Rattle.update_flow.specs.SoundTurns.{IsOpenSound, IsSoundlyOpen, LooksSound, TakesSound}
-use Rattle.update_flow.specs.State.{State, Step, formatted, imported, outdated, Import, Append, Clear, Migrate}
+use Rattle.delta_feed.specs.declared.block.Block.TheVariants as blocks
+use Rattle.update_flow.specs.State.{State, Step, formatted, imported, outdated, following, Import, Append, Clear, Migrate, Follow}
 use Rattle.update_flow.specs.declared.fault.FlowFault.{FlowFault}
 use Rattle.update_flow.specs.declared.fault.FlowFault.TheVariants as flow
 use Rattle.run_promise.specs.declared.fault.Fault.{Fault}
@@ -26,6 +27,7 @@ look_bad : (state : State) (page : ℕ) → MayLook state (Some (flow.Store (sto
 look_bad formatted page may = absurd (cc (may))
 look_bad (imported held) page may = absurd (cc (may))
 look_bad (outdated held) page may = absurd (cc (may))
+look_bad (following held) page may = absurd (cc (may))
 
 step_bad : (limits : LimitNumbers) (state : State) (step : Step) (page : ℕ)
     → MayAnswer limits state step (Some (flow.Store (stores.BadStore page))) → ⊥
@@ -41,6 +43,15 @@ step_bad limits (outdated held) (Import style bytes buckets entries) page may = 
 step_bad limits (outdated held) (Append bounds change) page may = absurd (cc (may))
 step_bad limits (outdated held) Clear page may = absurd (cc (may))
 step_bad limits (outdated held) Migrate page may = absurd (cc (may))
+step_bad limits formatted (Follow (blocks.Full version style_bytes style rows)) page may = absurd (cc (may))
+step_bad limits formatted (Follow (blocks.Delta delta)) page may = absurd (cc (may))
+step_bad limits (imported held) (Follow block) page may = may
+step_bad limits (outdated held) (Follow block) page may = may
+step_bad limits (following held) (Import style bytes buckets entries) page may = may
+step_bad limits (following held) (Append bounds change) page may = may
+step_bad limits (following held) Clear page may = may
+step_bad limits (following held) Migrate page may = may
+step_bad limits (following held) (Follow block) page may = absurd (cc (may))
 
 -- Where a call of an open sound store ends the run.
 
@@ -112,3 +123,4 @@ never_old store opened is = by opened.0 opened.1
     by formatted own = absurd (cc (is, own.shows.old_is))
     by (imported held) own = absurd (cc (is, own.shows.old_is))
     by (outdated held) own = own.holds.is
+    by (following held) own = own.holds.is

@@ -16,7 +16,7 @@ use Rattle.update_flow.proofs.Needs.{fits_as, needs_from, stood_grown, stood_sta
 use Rattle.update_flow.specs.Calls.{IsForImported}
 use Rattle.update_flow.specs.Refusals.{IsCallFault, MayTell, IsNoDiskFault, MayAnswer, MayLook, OrFull, Refuses, RefusesLook}
 use Rattle.update_flow.specs.Stands.{StandsFor}
-use Rattle.update_flow.specs.State.{Holding, State, formatted, imported, outdated, Step, Import, Append, Clear, Migrate, after, was_old}
+use Rattle.update_flow.specs.State.{Holding, State, formatted, imported, outdated, following, Step, Import, Append, Clear, Migrate, Follow, after, was_old}
 use Rattle.update_flow.specs.Handle.{Handle, IsOpen, Looks, Shows, Takes, is_imported, is_old, is_whole, limits_of, view_of}
 use Rattle.update_flow.specs.Updater.{StaysOpen, handle_of}
 use Rattle.update_flow.specs.declared.updater.Updater.{Updater}
@@ -88,6 +88,7 @@ Suits formatted _ = ⊥
 Suits (imported held) call = IsForImported call
 Suits (outdated held) (Some Migrate) = Unit {0}
 Suits (outdated held) _ = ⊥
+Suits (following held) _ = ⊥
 
 -- so it is not refused because nothing was imported, or something was
 never_unbegun : (state : State) (call : Option Step) (before : Handle) (fault : FlowFault) → Suits state call → Shows state before
@@ -98,6 +99,8 @@ never_unbegun formatted None before fault suits shows told unbegun is = absurd s
 never_unbegun formatted (Some (Append bounds change)) before fault suits shows told unbegun is = absurd suits
 never_unbegun formatted (Some Clear) before fault suits shows told unbegun is = absurd suits
 never_unbegun formatted (Some Migrate) before fault suits shows told unbegun is = absurd suits
+never_unbegun formatted (Some (Follow block)) before fault suits shows told unbegun is = absurd suits
+never_unbegun (following held) call before fault suits shows told unbegun is = absurd suits
 never_unbegun (imported held) call before fault suits shows told unbegun is =
     absurd (let two : true ≡ false = sym shows.imported_is ∙ unbegun is in cc)
 never_unbegun (outdated held) call before fault suits shows told unbegun is =
@@ -113,11 +116,14 @@ never_begun (imported held) (Some (Append bounds change)) before fault suits sho
     subst (MayTell (Some (Append bounds change))) is told
 never_begun (imported held) (Some Clear) before fault suits shows told begun is = subst (MayTell (Some Clear)) is told
 never_begun (imported held) (Some Migrate) before fault suits shows told begun is = subst (MayTell (Some Migrate)) is told
+never_begun (imported held) (Some (Follow block)) before fault suits shows told begun is = subst (MayTell (Some (Follow block))) is told
 never_begun (outdated held) (Some Migrate) before fault suits shows told begun is = subst (MayTell (Some Migrate)) is told
 never_begun (outdated held) None before fault suits shows told begun is = absurd suits
 never_begun (outdated held) (Some (Import style bytes buckets entries)) before fault suits shows told begun is = absurd suits
 never_begun (outdated held) (Some (Append bounds change)) before fault suits shows told begun is = absurd suits
 never_begun (outdated held) (Some Clear) before fault suits shows told begun is = absurd suits
+never_begun (outdated held) (Some (Follow block)) before fault suits shows told begun is = absurd suits
+never_begun (following held) call before fault suits shows told begun is = absurd suits
 
 kind_of : (call : Option Step) (fault : FlowFault) → IsCallFault fault → (fault ≡ flow.Store stores.Broken → ⊥)
     → (fault ≡ flow.OldFormat → ⊥)

@@ -9,8 +9,8 @@ use Rattle.outside.specs.Inputs.{FilesView}
 use Rattle.outside.specs.Sink.{SinkView}
 use Rattle.style_read.specs.Style.{StyleOf, table_of}
 use Rattle.update_flow.specs.AtRest.{HasFlowCause}
-use Rattle.update_flow.specs.State.{Holding, State, formatted, imported, outdated, Clear, after}
-use Rattle.update_flow.specs.Handle.{Handle, IsOpen, Looks, Shows, Takes, TellsAs, is_imported, is_old, is_whole, limits_of, style_of}
+use Rattle.update_flow.specs.State.{Holding, State, formatted, imported, outdated, following, Clear, after}
+use Rattle.update_flow.specs.Handle.{Handle, IsOpen, Looks, Shows, Takes, TellsAs, is_imported, is_follower, is_old, is_whole, limits_of, style_of}
 use Rattle.update_flow.specs.Handle.{view_of}
 use Rattle.update_flow.specs.declared.fault.FlowFault.{FlowFault}
 use Rattle.run_promise.specs.declared.fault.Fault.{Fault}
@@ -55,22 +55,25 @@ module _ (start done : Progress) (next : ℕ) (old : Before) (files : FilesView)
       → GoesOn (if_formatted rest state) start done (Some faults.OldFormat) old Now
   outdated_new rest formatted head is = true_not _ (sym is ∙ (shown formatted head).old_is)
   outdated_new rest (imported held) head is = true_not _ (sym is ∙ (shown (imported held) head).old_is)
+  outdated_new rest (following held) head is = true_not _ (sym is ∙ (shown (following held) head).old_is)
   outdated_new rest (outdated held) head is = refuses_here start done (outdated held) next old files updater output head faults.OldFormat tt
 
   pub outdated_there : (rest : Holding → Course) (state : State) → Here state → is_old updater ≡ true
       → GoesOn (if_imported rest state) start done (Some faults.OldFormat) old Now
   outdated_there rest formatted head is = true_not _ (sym is ∙ (shown formatted head).old_is)
   outdated_there rest (imported held) head is = true_not _ (sym is ∙ (shown (imported held) head).old_is)
+  outdated_there rest (following held) head is = true_not _ (sym is ∙ (shown (following held) head).old_is)
   outdated_there rest (outdated held) head is =
       refuses_here start done (outdated held) next old files updater output head faults.OldFormat tt
 
   -- something was imported before
-  pub already : (rest : Course) (state : State) → Here state → is_old updater ≡ false → is_imported updater ≡ true
+  pub already : (rest : Course) (state : State) → Here state → is_old updater ≡ false → is_follower updater ≡ false → is_imported updater ≡ true
       → GoesOn (if_formatted rest state) start done (Some faults.AlreadyImported) old Now
-  already rest formatted head new is = true_not _ (sym is ∙ (shown formatted head).imported_is)
-  already rest (imported held) head new is =
+  already rest formatted head new own is = true_not _ (sym is ∙ (shown formatted head).imported_is)
+  already rest (imported held) head new own is =
       refuses_here start done (imported held) next old files updater output head faults.AlreadyImported tt
-  already rest (outdated held) head new is = true_not _ (sym (shown (outdated held) head).old_is ∙ new)
+  already rest (outdated held) head new own is = true_not _ (sym (shown (outdated held) head).old_is ∙ new)
+  already rest (following held) head new own is = true_not _ (sym (shown (following held) head).follower_is ∙ own)
 
   -- into a store that was just made
   pub never_blank : (rest : Course) (state : State) → Here state → is_imported updater ≡ true
@@ -78,6 +81,8 @@ module _ (start done : Progress) (next : ℕ) (old : Before) (files : FilesView)
   never_blank rest formatted head is = true_not _ (sym is ∙ (shown formatted head).imported_is)
   never_blank rest (imported held) head is =
       refuses_here start done (imported held) next old files updater output head faults.AlreadyImported tt
+  never_blank rest (following held) head is =
+      refuses_here start done (following held) next old files updater output head faults.AlreadyImported tt
   never_blank rest (outdated held) head is =
       refuses_here start done (outdated held) next old files updater output head faults.AlreadyImported tt
 
@@ -87,6 +92,7 @@ module _ (start done : Progress) (next : ℕ) (old : Before) (files : FilesView)
   not_yet rest formatted head new is = refuses_here start done formatted next old files updater output head faults.NotImported tt
   not_yet rest (imported held) head new is = true_not _ (sym (shown (imported held) head).imported_is ∙ is)
   not_yet rest (outdated held) head new is = true_not _ (sym (shown (outdated held) head).old_is ∙ new)
+  not_yet rest (following held) head new is = true_not _ (sym (shown (following held) head).imported_is ∙ is)
 
   -- what is so where nothing was imported, or where something was
   pub if_new : (rest : Course) (fault : Option Fault) (new : World) (state : State) → Here state → is_old updater ≡ false
@@ -95,20 +101,23 @@ module _ (start done : Progress) (next : ℕ) (old : Before) (files : FilesView)
   if_new rest fault new formatted head current is goes = goes head
   if_new rest fault new (imported held) head current is goes = true_not _ (sym (shown (imported held) head).imported_is ∙ is)
   if_new rest fault new (outdated held) head current is goes = true_not _ (sym (shown (outdated held) head).old_is ∙ current)
+  if_new rest fault new (following held) head current is goes = true_not _ (sym (shown (following held) head).imported_is ∙ is)
 
   pub if_made : (rest : Course) (fault : Option Fault) (new : World) (state : State) → Here state → is_imported updater ≡ false
       → (Here formatted → GoesOn rest start done fault old new) → GoesOn (if_blank rest state) start done fault old new
   if_made rest fault new formatted head is goes = goes head
   if_made rest fault new (imported held) head is goes = true_not _ (sym (shown (imported held) head).imported_is ∙ is)
   if_made rest fault new (outdated held) head is goes = true_not _ (sym (shown (outdated held) head).imported_is ∙ is)
+  if_made rest fault new (following held) head is goes = true_not _ (sym (shown (following held) head).imported_is ∙ is)
 
   pub if_there : (rest : Holding → Course) (fault : Option Fault) (new : World) (state : State) → Here state → is_old updater ≡ false
-      → is_imported updater ≡ true
+      → is_follower updater ≡ false → is_imported updater ≡ true
       → ((held : Holding) → Here (imported held) → GoesOn (rest held) start done fault old new)
       → GoesOn (if_imported rest state) start done fault old new
-  if_there rest fault new formatted head current is goes = true_not _ (sym is ∙ (shown formatted head).imported_is)
-  if_there rest fault new (imported held) head current is goes = goes held head
-  if_there rest fault new (outdated held) head current is goes = true_not _ (sym (shown (outdated held) head).old_is ∙ current)
+  if_there rest fault new formatted head current own is goes = true_not _ (sym is ∙ (shown formatted head).imported_is)
+  if_there rest fault new (imported held) head current own is goes = goes held head
+  if_there rest fault new (outdated held) head current own is goes = true_not _ (sym (shown (outdated held) head).old_is ∙ current)
+  if_there rest fault new (following held) head current own is goes = true_not _ (sym (shown (following held) head).follower_is ∙ own)
 
   -- a file is read first, and then the run goes on
   module _ {A : Type 0} (Reads : List ℕ → Result A Fault → Type 0) (rest : A → Course) (state : State) (head : Here state)
@@ -176,6 +185,7 @@ module _ (start done : Progress) (held : Holding) (next : ℕ) (old : Before) (f
         imported_is = tells.imported_same ∙ shows.imported_is;
         old_is = tells.old_same ∙ shows.old_is;
         style_is = tells.style_same ∙ shows.style_is;
+        follower_is = tells.follower_same ∙ shows.follower_is;
       }) sound same cause
 
   -- the text of what was looked at
@@ -253,6 +263,7 @@ module _ (start done : Progress) (held : Holding) (next : ℕ) (old : Before) (f
         imported_is = tells.imported_same ∙ shows.imported_is;
         old_is = tells.old_same ∙ shows.old_is;
         style_is = tells.style_same ∙ shows.style_is;
+        follower_is = tells.follower_same ∙ shows.follower_is;
       }) sound same cause in
       goes_back (clears true) ends start done own.further None old (world files (view_of now) output)
       (ends_here start own.further (after (imported held) Clear) next old files now output own.head) (own.leads ends)

@@ -6,6 +6,7 @@ pub mod Heads
 pub mod Serving
 pub mod Turns
 pub mod commands
+pub mod Feeding
 pub mod FileReads
 pub mod Number
 pub mod Options

@@ -1,5 +1,5 @@
 -- The options of a command: `workers=` a number from 1 to MAX_WORKERS, `readers=` one from 1 to MAX_READERS, `buckets=` a power of two
--- up to MAX_BUCKETS, `ahead=` a number up to MAX_AHEAD, `clear=yes`.
+-- up to MAX_BUCKETS, `ahead=` a number up to MAX_AHEAD, `clear=yes`, `full=yes`.
 -- Each has to belong to the command, and stands once at most.
 use Rattle.std.specs.Prelude.{◌≡◌, ◌≤◌, ℕ, true, false, not, nat_lt, ◌||◌, if◌then◌else◌, Option, Some, None, IfSome, is_some, List, []}
 use Rattle.std.specs.Prelude.{◌∷◌, length, take, drop, codes, nat_eq}
@@ -19,6 +19,10 @@ behind_name name word = if pointwise nat_eq (take (length name) word) name then 
 -- with `clear=yes`
 abbrev pub with_clear : Allowed → Options → Option Options
 with_clear allowed options = if not allowed.clear || options.clear then None else Some (record options { clear = true })
+
+-- with `full=yes`
+abbrev pub with_full : Allowed → Options → Option Options
+with_full allowed options = if not allowed.full || options.full then None else Some (record options { full = true })
 
 -- with this number of workers
 abbrev pub with_workers : Allowed → Options → List ℕ → Option Options
@@ -55,6 +59,7 @@ with_named allowed options None None None None = None
 -- with a word more
 unfoldable pub with_option : Allowed → Options → List ℕ → Option Options
 with_option allowed options word = if bytes_eq word (codes "clear=yes") then with_clear allowed options else
+    if bytes_eq word (codes "full=yes") then with_full allowed options else
     with_named allowed options (behind_name (codes "workers=") word) (behind_name (codes "buckets=") word)
     (behind_name (codes "readers=") word) (behind_name (codes "ahead=") word)
 
@@ -65,8 +70,8 @@ with_options allowed options (word ∷ words) = option_and_then (λ more. with_o
 
 -- what the options say
 abbrev pub options_read : Allowed → List (List ℕ) → Option Options
-options_read allowed words = with_options allowed (record { workers = None; readers = None; buckets = None; clear = false; ahead = None })
-    words
+options_read allowed words = with_options allowed
+    (record { workers = None; readers = None; buckets = None; clear = false; ahead = None; full = false }) words
 
 -- each value is in its range
 pub record AreInRange (options : Options) : Type 0 where

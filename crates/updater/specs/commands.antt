@@ -2,6 +2,7 @@ pub mod Append
 pub mod Check
 pub mod Demo
 pub mod Export
+pub mod Feed
 pub mod Import
 pub mod Init
 pub mod Lines

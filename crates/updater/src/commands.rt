@@ -3,6 +3,7 @@ pub mod append;
 pub mod check;
 pub mod demo;
 pub mod export;
+pub mod feed;
 pub mod import;
 pub mod init;
 pub mod lines;

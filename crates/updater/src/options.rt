@@ -26,6 +26,7 @@ pub struct Options {
     pub buckets: Option<u32>,
     pub clear: bool,
     pub ahead: Option<u32>,
+    pub full: bool,
 }
 
 /// Which options belong to a command.
@@ -36,6 +37,7 @@ pub struct Allowed {
     pub buckets: bool,
     pub clear: bool,
     pub ahead: bool,
+    pub full: bool,
 }
 
 /// What these words say. `None`: one of them does not belong to the command, stood before, or has no value in range.
@@ -49,6 +51,7 @@ pub fn options_of(allowed: Allowed, words: &[String]) -> Option<Options>
         buckets: None,
         clear: false,
         ahead: None,
+        full: false,
     };
     for word in words {
         match with_option(allowed, options, word) {
@@ -67,6 +70,9 @@ fn with_option(allowed: Allowed, options: Options, word: &str) -> Option<Options
 {
     if word == "clear=yes" {
         return with_clear(allowed, options);
+    }
+    if word == "full=yes" {
+        return with_full(allowed, options);
     }
     let bytes = word.as_bytes();
     if let Some(value) = bytes.strip_prefix(b"workers=") {
@@ -94,6 +100,20 @@ fn with_clear(allowed: Allowed, options: Options) -> Option<Options>
     }
     Some(Options {
         clear: true,
+        ..options
+    })
+}
+
+/// The options with `full=yes`.
+fn with_full(allowed: Allowed, options: Options) -> Option<Options>
+    ensures option { result ≡ spec.with_full allowed options }
+    ensures range { spec.AreInRange options → IfSome result spec.AreInRange }
+{
+    if !allowed.full || options.full {
+        return None;
+    }
+    Some(Options {
+        full: true,
         ..options
     })
 }

@@ -13,6 +13,7 @@ use crate::commands::append::append;
 use crate::commands::check::check;
 use crate::commands::demo::demo;
 use crate::commands::export::export;
+use crate::commands::feed::feed;
 use crate::commands::import::import;
 use crate::commands::init::init;
 use crate::commands::lines::lines;
@@ -54,7 +55,7 @@ pub fn run<R: Threads + Wait + Sync, I: Inputs, D: Disk, S: Sink, G: Gate>(
         (world (I.view inputs.new) (D.view disk.new) (S.view out.new)) result.fault }
 
     // Whatever the answer, a store keeps the history that it had, and behind it the steps of this run: each one at least whose
-    // line was taken whole. So does one that was made on an empty disk.
+    // line, or whose block of a feed, was taken whole. So does one that was made on an empty disk.
     ensures safe { (own : CommandOf) → command (map string_bytes words.now) ≡ Some own → IsSafe own
         (world (I.view inputs.old) (D.view disk.old) (S.view out.old))
         (world (I.view inputs.new) (D.view disk.new) (S.view out.new)) result.fault }
@@ -114,6 +115,20 @@ fn run_command<R: Threads + Wait + Sync, I: Inputs, D: Disk, S: Sink, G: Gate>(
                 gate,
             };
             append(&hands, files, ahead, inputs, disk, out)
+        }
+        Command::Feed {
+            store: _,
+            files,
+            full,
+            workers,
+        } => {
+            let hands = Hands {
+                rt,
+                alloc,
+                workers,
+                gate,
+            };
+            feed(&hands, files, full, inputs, disk, out)
         }
         Command::Export { store: _, table } => export(alloc, table, inputs, disk, out),
         Command::Tiles {

@@ -7,7 +7,8 @@ ghost use Rattle.run_promise.specs.CommandOf as promise;
 ghost use Rattle.updater.specs.Command as spec;
 
 use crate::commands::{
-    append, check, demo, export, import, init, lines, migrate, points, query, replay, serve, tiles,
+    append, check, demo, export, feed, import, init, lines, migrate, points, query, replay, serve,
+    tiles,
 };
 use crate::forms::Words;
 use demo_map::Squares;
@@ -46,6 +47,14 @@ pub enum Command<'a> {
         store: &'a str,
         files: Files,
         ahead: u32,
+        workers: Workers,
+    },
+    /// Changes of a store, one after another, and what each makes of the tables: BOUNDS and the change files, and whether
+    /// all tables are told first.
+    Feed {
+        store: &'a str,
+        files: Files,
+        full: bool,
         workers: Workers,
     },
     /// The rows of a table of a store.
@@ -102,6 +111,7 @@ pub fn store_of(words: &[String]) -> Option<&str>
             Command::Init { store }
             | Command::Import { store, .. }
             | Command::Append { store, .. }
+            | Command::Feed { store, .. }
             | Command::Export { store, .. }
             | Command::Tiles { store, .. }
             | Command::Query { store, .. }
@@ -176,6 +186,7 @@ fn named<'a>(name: &str, words: Words<'a>) -> Option<Command<'a>>
         "init" => init::form(words),
         "import" => import::form(words),
         "append" => append::form(words),
+        "feed" => feed::form(words),
         "export" => export::form(words),
         "tiles" => tiles::form(words),
         "query" => query::form(words),

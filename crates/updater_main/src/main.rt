@@ -30,6 +30,7 @@ usage: yilgartzu points KEY INPUT [CHANGE..]
        yilgartzu init STORE
        yilgartzu import [workers=N] [buckets=N] STORE STYLE INPUT
        yilgartzu append [ahead=N] [workers=N] STORE BOUNDS CHANGE..
+       yilgartzu feed [workers=N] [full=yes] STORE BOUNDS [CHANGE..]
        yilgartzu export STORE TABLE
        yilgartzu tiles [clear=yes] STORE MINZOOM
        yilgartzu query STORE QUERIES
@@ -53,6 +54,9 @@ tables, and BOUNDS has the latitudes that bound the rows of tiles of a zoom.
   append       apply the change files in order, each whole or not at all, and
                write `version N` for each; with ahead=N the next N files are
                read meanwhile
+  feed         append the change files, and write in place of each `version N` a
+               block of what that change made of the tables; with full=yes a
+               block of all tables comes first
   export       write the rows of a table
   tiles        write the tiles that changes have made due, from MINZOOM to zoom
                16, as zoom/column/row; with clear=yes none is due afterwards
@@ -81,7 +85,7 @@ limit; 11: out of memory; 12: no such table, or a line of QUERIES is wrong.
 ";
 
 /// The version, and the line of the kit that proves the program.
-const VERSION: &str = "yilgartzu 0.2.0 (rattle-kit-13f logic dac8208d650f15bf)\n";
+const VERSION: &str = "yilgartzu 0.3.0 (rattle-kit-13f logic dac8208d650f15bf)\n";
 
 /// The variable that says whether the program tells how far it is: `1`, where standard error is a terminal.
 const TELLS: &str = "YILGARTZU_PROGRESS";

@@ -10,14 +10,36 @@ ghost use Rattle.update_flow.specs.State.{Holding, State, imported};
 
 use super::Updater;
 use crate::FlowFault;
-use crate::over_disk::{due_on, rows_on};
-use osm_base::Tables;
+use crate::over_disk::{due_on, rows_on, style_bytes_on};
+use osm_base::{Bytes, Tables};
 use outside::Disk;
 use page_journal::StoreFault;
 use tile_cover::TileRuns;
 
 impl<D: Disk> Updater<'_, D> {
     ghost use Rattle.update_flow.specs.Updater.{StaysOpen, handle_of};
+
+    /// The bytes of the style.
+    pub fn style_bytes(&mut self) -> Result<Bytes, FlowFault>
+        ensures looks { (state : State) → IsOpen state (handle_of self.old) → Looks state (result_err result) (handle_of self.old) (handle_of self.new) }
+        ensures bytes { IfOk result (λ found. (held : Holding) → IsOpen (imported held) (handle_of self.old) → found ≡ held.style_bytes) }
+        ensures sound { (state : State) → IsOpenSound state (handle_of self.old) → LooksSound state (result_err result) (handle_of self.new) }
+        ensures trusted { IfOk result (λ found. (held : Holding) → IsOpenSound (imported held) (handle_of self.old) → found ≡ held.style_bytes) }
+
+        // Whatever the disk holds.
+        ensures stays { StaysOpen None self.old self.new result }
+    {
+        if self.old() {
+            return Err(FlowFault::OldFormat);
+        }
+        if !self.imported() {
+            return Err(FlowFault::NotImported);
+        }
+        let Some(store) = self.store.take() else {
+            return Err(FlowFault::Store(StoreFault::Broken));
+        };
+        style_bytes_on(self.alloc, self.disk, &self.limits, store, &mut self.store)
+    }
 
     /// The rows of all tables: those of a fresh import.
     pub fn load_tables(&mut self) -> Result<Tables, FlowFault>

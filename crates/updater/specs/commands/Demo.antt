@@ -12,7 +12,7 @@ use Rattle.updater.specs.declared.options.Options.{Options}
 
 -- the options that belong to it
 abbrev pub allowed : Allowed
-allowed = record { workers = true; readers = false; buckets = false; clear = false; ahead = false }
+allowed = record { workers = true; readers = false; buckets = false; clear = false; ahead = false; full = false }
 
 -- how many squares a word tells: from 1 to MAX_SQUARES, and no zero stands in front
 abbrev pub squares : List ℕ → Option ℕ

@@ -9,7 +9,7 @@ use Rattle.updater.specs.declared.options.Allowed.{Allowed}
 
 -- the options that belong to it
 abbrev pub allowed : Allowed
-allowed = record { workers = true; readers = true; buckets = false; clear = false; ahead = false }
+allowed = record { workers = true; readers = true; buckets = false; clear = false; ahead = false; full = false }
 
 -- the form of its words
 abbrev pub form : (options words : List (List ℕ)) → (place : ℕ) → Option CommandOf

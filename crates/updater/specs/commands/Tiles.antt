@@ -10,7 +10,7 @@ use Rattle.updater.specs.declared.options.Options.{Options}
 
 -- the options that belong to it
 abbrev pub allowed : Allowed
-allowed = record { workers = false; readers = false; buckets = false; clear = true; ahead = false }
+allowed = record { workers = false; readers = false; buckets = false; clear = true; ahead = false; full = false }
 
 -- the form of its words, once the options are read
 abbrev pub form_with : List (List ℕ) → Options → Option CommandOf

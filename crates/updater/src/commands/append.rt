@@ -41,6 +41,7 @@ const ALLOWED: Allowed = Allowed {
     buckets: false,
     clear: false,
     ahead: true,
+    full: false,
 };
 
 /// The form of its words.
@@ -76,9 +77,12 @@ pub fn append<R: Threads + Wait + Sync, I: Inputs, D: Disk, S: Sink, G: Gate>(
         (world (I.view inputs.new) (D.view disk.new) (S.view out.new))) }
 {
     let limits = Limits::standard();
-    let opened = match open(hands.alloc, disk, &limits) {
-        Ok(opened) => opened,
+    let found = match open(hands.alloc, disk, &limits) {
+        Ok(found) => found,
         Err(fault) => return Err(Fault::in_flow(fault)),
+    };
+    let Some(opened) = found else {
+        return Err(Fault::Follower);
     };
     let mut store = Updater::over(hands.alloc, disk, opened, &limits);
     let done = append_store(hands, files, ahead, inputs, &mut store, out);

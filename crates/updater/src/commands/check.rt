@@ -46,9 +46,12 @@ pub fn check<I: Inputs, D: Disk, S: Sink>(
     ensures checked { IsChecked (D.view disk.old).content (result_err result) }
 {
     let limits = Limits::standard();
-    let opened = match update_flow::check(alloc, disk, &limits) {
-        Ok(opened) => opened,
+    let found = match update_flow::check(alloc, disk, &limits) {
+        Ok(found) => found,
         Err(fault) => return Err(Fault::in_flow(fault)),
+    };
+    let Some(opened) = found else {
+        return Err(Fault::Follower);
     };
     let store = Updater::over(alloc, disk, opened, &limits);
     let done = tell_sound(inputs, &store, out);

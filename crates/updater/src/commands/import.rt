@@ -34,6 +34,7 @@ const ALLOWED: Allowed = Allowed {
     buckets: true,
     clear: false,
     ahead: false,
+    full: false,
 };
 
 /// The form of its words.
@@ -67,9 +68,12 @@ pub fn import<R: Threads + Sync, I: Inputs, D: Disk, S: Sink, G: Gate>(
         (world (I.view inputs.old) (D.view disk.old) (S.view out.old)) (world (I.view inputs.new) (D.view disk.new) (S.view out.new)) (result_err result) }
 {
     let limits = Limits::standard();
-    let opened = match open(hands.alloc, disk, &limits) {
-        Ok(opened) => opened,
+    let found = match open(hands.alloc, disk, &limits) {
+        Ok(found) => found,
         Err(fault) => return Err(Fault::in_flow(fault)),
+    };
+    let Some(opened) = found else {
+        return Err(Fault::Follower);
     };
     let mut store = Updater::over(hands.alloc, disk, opened, &limits);
     let done = import_store(hands, files, buckets, inputs, &mut store, out);

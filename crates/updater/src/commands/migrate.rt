@@ -43,9 +43,12 @@ pub fn migrate<I: Inputs, D: Disk, S: Sink>(
         (world (I.view inputs.now) (D.view disk.old) (S.view out.old)) (world (I.view inputs.now) (D.view disk.new) (S.view out.new)) (result_err result) }
 {
     let limits = Limits::standard();
-    let opened = match open(alloc, disk, &limits) {
-        Ok(opened) => opened,
+    let found = match open(alloc, disk, &limits) {
+        Ok(found) => found,
         Err(fault) => return Err(Fault::in_flow(fault)),
+    };
+    let Some(opened) = found else {
+        return Err(Fault::Follower);
     };
     let mut store = Updater::over(alloc, disk, opened, &limits);
     let done = migrate_store(inputs, &mut store, out);

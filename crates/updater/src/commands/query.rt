@@ -55,9 +55,12 @@ pub fn query<I: Inputs, D: Disk, S: Sink>(
         (world (I.view inputs.old) (D.view disk.old) (S.view out.old)) (world (I.view inputs.new) (D.view disk.new) (S.view out.new)) (result_err result) }
 {
     let limits = Limits::standard();
-    let opened = match open(alloc, disk, &limits) {
-        Ok(opened) => opened,
+    let found = match open(alloc, disk, &limits) {
+        Ok(found) => found,
         Err(fault) => return Err(Fault::in_flow(fault)),
+    };
+    let Some(opened) = found else {
+        return Err(Fault::Follower);
     };
     let mut store = Updater::over(alloc, disk, opened, &limits);
     let done = query_store(alloc, files, inputs, &mut store, out);

@@ -47,6 +47,7 @@ const ALLOWED: Allowed = Allowed {
     buckets: false,
     clear: false,
     ahead: false,
+    full: false,
 };
 
 /// The form of its words.
@@ -126,9 +127,12 @@ fn make_store<R: Threads + Sync, I: Inputs, D: Disk, S: Sink, G: Gate>(
         return Err(Fault::in_store(fault));
     }
     let limits = Limits::standard();
-    let opened = match open(hands.alloc, disk, &limits) {
-        Ok(opened) => opened,
+    let found = match open(hands.alloc, disk, &limits) {
+        Ok(found) => found,
         Err(fault) => return Err(Fault::in_made(fault)),
+    };
+    let Some(opened) = found else {
+        return Err(Fault::AlreadyImported);
     };
     let mut store = Updater::over(hands.alloc, disk, opened, &limits);
     let done = fill_store(

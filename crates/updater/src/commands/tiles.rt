@@ -32,6 +32,7 @@ const ALLOWED: Allowed = Allowed {
     buckets: false,
     clear: true,
     ahead: false,
+    full: false,
 };
 
 /// The form of its words.
@@ -68,9 +69,12 @@ pub fn tiles<I: Inputs, D: Disk, S: Sink>(
         (world (I.view inputs.now) (D.view disk.old) (S.view out.old)) (world (I.view inputs.now) (D.view disk.new) (S.view out.new)) (result_err result) }
 {
     let limits = Limits::standard();
-    let opened = match open(alloc, disk, &limits) {
-        Ok(opened) => opened,
+    let found = match open(alloc, disk, &limits) {
+        Ok(found) => found,
         Err(fault) => return Err(Fault::in_flow(fault)),
+    };
+    let Some(opened) = found else {
+        return Err(Fault::Follower);
     };
     let mut store = Updater::over(alloc, disk, opened, &limits);
     let done = tiles_in(alloc, least, clear, inputs, &mut store, out);

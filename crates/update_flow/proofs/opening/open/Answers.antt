@@ -1,8 +1,8 @@
 -- What the buckets found is judged.
-use Rattle.std.proofs.Common.{◌≡◌, ◌≢◌, ◌⊎◌, inl, inr, ℕ, List, Some, Result, Ok, Err, OnOk, refl, rules, sym, subst, ◌∙◌}
+use Rattle.std.proofs.Common.{◌≡◌, ◌≢◌, ◌⊎◌, inl, inr, ℕ, List, Some, Result, Ok, Err, OnOk, Option, refl, rules, sym, subst, ◌∙◌}
 use Rattle.std.specs.Result.{result_err}
 use Rattle.std.proofs.lemmas.Result.{IfOk-weaker, on_ok_weaker}
-use Rattle.outside.specs.Bytes.{IfTold, IsTold}
+use Rattle.outside.specs.Bytes.{IsTold}
 use Rattle.outside.specs.Disk.{Goes, Tells}
 use Rattle.page_journal.specs.Home.{HasOpenJournal}
 use Rattle.page_journal.specs.declared.fault.StoreFault.TheVariants as store
@@ -10,17 +10,15 @@ use Rattle.page_journal.proofs.Moments.{stays_then}
 use Rattle.page_journal.specs.Pages.{gate}
 use Rattle.page_journal.specs.declared.layout.TheConstants.{OPEN}
 use Rattle.bucket_store.specs.Image.{IsSoundAnswer}
-use Rattle.chain_store.specs.declared.root.Root.{Root}
 use Rattle.bucket_store.specs.Opening.{Fits, FitsPages, OpensStore, opened_root}
 use Rattle.page_journal.specs.declared.fault.StoreFault.{StoreFault}
 use Rattle.update_flow.specs.BadPage.{BadInside}
 use Rattle.update_flow.specs.Judged.{IsReadOf}
-use Rattle.update_flow.proofs.Checks.{both_ok, opening_bad, read_of, same_home}
+use Rattle.update_flow.proofs.Checks.{both_found, opening_bad, read_of, same_home}
 use Rattle.update_flow.proofs.Judgements.{fault_at, home_of_sound, refused_at}
 use Rattle.bucket_store.specs.declared.resting.Resting.{Resting}
 use Rattle.update_flow.specs.AtRest.{IsAt, IsOfEither}
-use Rattle.update_flow.specs.Opening.{Found, HoldsState, RootTells}
-use Rattle.update_flow.specs.Roots.{AreFieldsOf}
+use Rattle.update_flow.specs.Opening.{AreFieldsFor, FoundIn, HoldsState, RootTold}
 use Rattle.update_flow.specs.Refusals.{IsNoDiskFault}
 use Rattle.update_flow.specs.Stands.{StandsFor}
 use Rattle.update_flow.specs.State.{State}
@@ -30,7 +28,7 @@ use Rattle.update_flow.specs.declared.fault.FlowFault.TheVariants as flow
 use Rattle.update_flow.specs.declared.opened.Opened.{Opened}
 use Rattle.update_flow.specs.OpeningReads.{ReadsStyle, ReadsToOpen}
 use Rattle.update_flow.proofs.OpeningReads.{opens_then}
-use Rattle.update_flow.proofs.Openings.{bad_formed, bad_none, each_meant, goes_either, opens_as, opens_either, quiet_fault, root_told}
+use Rattle.update_flow.proofs.Openings.{bad_formed, bad_none, each_meant, goes_either, opens_as, opens_either, quiet_fault, told_by}
 use Rattle.update_flow.proofs.Openings.{sound_answer, sound_store, state_before}
 use Rattle.update_flow.proofs.SoundOpened.{judged_sound}
 use Rattle.update_flow.proofs.opening.open.Goals as goal
@@ -48,14 +46,9 @@ returns-in-Ok-clause-any g c = record {
   formed = on_ok_always c.judged.result _ (λ bytes told. (c.in-Ok.ensures.answers bytes told).1.formatted);
   fields = let old = g.D.Disk.view c.args.disk.now in
       let mid = g.D.Disk.view c.open.new.disk in
-      IfOk-weaker c.judged.result
-      (λ opened. AreFieldsOf opened.style opened.outdated opened.changes (opened_root c.in-Ok.found))
-      (λ opened. IfTold old.content (RootTells opened.style opened.outdated opened.changes))
-      (λ opened own bytes told shut pages home.
-      subst (λ (root : Root). AreFieldsOf opened.style opened.outdated opened.changes root)
-      (root_told c.in-Ok.found bytes pages old mid told
-      (c.open.ensures.leaves.looked bytes told (λ (opened : HasOpenJournal bytes). shut opened.is_open))
-      (c.in-Ok.ensures.fits bytes told) home) own)
+      IfOk-weaker c.judged.result (λ judged. AreFieldsFor judged (opened_root c.in-Ok.found)) (RootTold old.content)
+      (λ judged own. told_by c.in-Ok.found old mid (λ bytes told shut.
+      c.open.ensures.leaves.looked bytes told (λ (opened : HasOpenJournal bytes). shut opened.is_open)) c.in-Ok.ensures.fits judged own)
       c.judged.ensures.fields;
   untouched = search rules;
   told = λ told no.
@@ -70,7 +63,7 @@ returns-in-Ok-clause-any g c = record {
           holds = c.in-Ok.ensures.image.found bytes told stands.0 stands.2;
           means = stands.1;
         } in
-        bad_none Opened c.judged.result page is (c.judged.ensures.sound (c.in-Ok.ensures.fits bytes told) state holds);
+        bad_none (Option Opened) c.judged.result page is (c.judged.ensures.sound (c.in-Ok.ensures.fits bytes told) state holds);
   };
   same = λ bytes told shut.
       c.judged.ensures.finds.stays.content ∙ (c.open.ensures.leaves.looked bytes told
@@ -100,7 +93,7 @@ returns-in-Err-clause-any g c = record {
         let sound : IsSound (Some c.store_fault.result) =
         subst (λ (f : FlowFault). IsSound (Some f)) (sym c.store_fault.ensures)
         (sound_store Resting c.in-Err.fault (c.in-Err.ensures.image.sound bytes told stands.0 stands.2)) in
-        bad_none Opened (Err c.store_fault.result) page is sound;
+        bad_none (Option Opened) (Err c.store_fault.result) page is sound;
   };
   same = λ bytes told shut. (c.open.ensures.leaves.looked bytes told (λ (opened : HasOpenJournal bytes). shut opened.is_open)).content;
   looked = λ bytes told shut. c.open.ensures.leaves.looked bytes told shut;
@@ -145,8 +138,8 @@ returns-in-Ok-clause-found g c =
     let mid = g.D.Disk.view c.open.new.disk in
     let new = g.D.Disk.view c.judged.new.disk in
     IfOk-weaker c.judged.result
-    (λ opened. Fits c.in-Ok.found mid → (state : State) → HoldsState state mid → Found state new opened)
-    (λ opened. IsTold (g.D.Disk.view c.args.disk.now).content → (state : State) → IsAt state new → Found state new opened)
+    (λ judged. Fits c.in-Ok.found mid → (state : State) → HoldsState state mid → FoundIn state new judged)
+    (λ judged. IsTold (g.D.Disk.view c.args.disk.now).content → (state : State) → IsAt state new → FoundIn state new judged)
     (λ opened own told state at.
     let fits = c.in-Ok.ensures.fits told.0 told.1 in
     own fits state (state_before state mid new c.in-Ok.found fits c.judged.ensures.finds.stays at))
@@ -209,9 +202,8 @@ returns-in-Ok-clause-fits g c =
     let old = g.D.Disk.view c.args.disk.now in
     let mid = g.D.Disk.view c.open.new.disk in
     let new = g.D.Disk.view c.judged.new.disk in
-    both_ok c.judged.result (λ opened. (fits : Fits c.in-Ok.found mid) → FitsPages fits.pages opened.store new)
-    (λ opened. AreFieldsOf opened.style opened.outdated opened.changes (opened_root c.in-Ok.found))
-    (λ opened. (bytes : List ℕ) → Tells old bytes → IsReadOf bytes opened new)
+    both_found c.judged.result (λ opened. (fits : Fits c.in-Ok.found mid) → FitsPages fits.pages opened.store new)
+    (opened_root c.in-Ok.found) (λ opened. (bytes : List ℕ) → Tells old bytes → IsReadOf bytes opened new)
     (λ opened fits fields bytes told.
     let before = c.in-Ok.ensures.fits bytes told in
     let home = c.in-Ok.ensures.home bytes told in
@@ -231,7 +223,7 @@ returns-in-Ok-clause-bad g c = λ page is bytes told.
 
 pub returns-in-Err-clause-bad : goal.returns-in-Err-clause-bad
 returns-in-Err-clause-bad g c = λ page is bytes told.
-    let same = refused_at c.in-Err.fault page (sym c.store_fault.ensures ∙ fault_at Opened c.store_fault.result page is) in (
+    let same = refused_at c.in-Err.fault page (sym c.store_fault.ensures ∙ fault_at (Option Opened) c.store_fault.result page is) in (
       (λ sound. subst (λ (f : StoreFault). IsSoundAnswer {T = Resting} (Err f)) same
           (c.in-Err.ensures.image.sound bytes told sound.image sound.has)),
       opening_bad bytes page (subst (λ (f : StoreFault). OpensStore {T = Resting} bytes (Err f)) same (c.in-Err.ensures.answers bytes told)),

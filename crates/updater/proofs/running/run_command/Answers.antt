@@ -2,7 +2,7 @@ use Rattle.std.proofs.Common.{List, ℕ, refl, subst, sym}
 use Rattle.std.specs.Result.{result_err}
 use Rattle.updater.specs.declared.words.Command.{Command}
 use Rattle.run_promise.specs.CommandOf.{FilesFit, Names, points_of, lines_of, init_of, import_of, append_of, export_of, tiles_of, query_of}
-use Rattle.run_promise.specs.CommandOf.{serve_of, replay_of, migrate_of, check_of, demo_of, no_store, new_store}
+use Rattle.run_promise.specs.CommandOf.{feed_of, serve_of, replay_of, migrate_of, check_of, demo_of, no_store, new_store}
 use Rattle.updater.specs.Command.{seen}
 use Rattle.run_promise.specs.Courses.{course_of, demo_course, init_course, replay_course}
 use Rattle.run_promise.specs.Locality.{IsLocal}
@@ -112,6 +112,23 @@ returns-in-Append g c =
           (λ (asked : List ℕ). g.I.Inputs.reads c.args.inputs.now asked c.append.new.inputs) old new fault) (sym c.in-Append.is) own;
       safe = subst (λ (own : Command). IsSafe (seen own) old new fault) (sym c.in-Append.is)
           (runs_safe command (λ (asked : List ℕ). g.I.Inputs.reads c.args.inputs.now asked c.append.new.inputs) old new fault own);
+    }
+
+pub returns-in-Feed : goal.returns-in-Feed
+returns-in-Feed g c =
+    let old = world (g.I.Inputs.view c.args.inputs.now) (g.D.Disk.view c.args.disk.now) (g.S.Sink.view c.args.out.now) in
+    let new = world (g.I.Inputs.view c.feed.new.inputs) (g.D.Disk.view c.feed.new.disk) (g.S.Sink.view c.feed.new.out) in
+    let fault = result_err c.feed.result in
+    let fits = subst (λ (own : Command). FilesFit (seen own)) c.in-Feed.is c.requires.fits in
+    let command = feed_of c.in-Feed.store.now c.in-Feed.files c.in-Feed.full c.in-Feed.workers in
+    let own = runs_by command (λ (asked : List ℕ). g.I.Inputs.reads c.args.inputs.now asked c.feed.new.inputs) fault old new fits.least
+    c.feed.ensures.does.asked c.feed.ensures.does.goes (λ none. absurd (cc)) (λ not. absurd (not refl))
+    c.feed.ensures.does.unformatted tt tt (λ _. c.feed.ensures.does.trusted) in
+    record {
+      runs = subst (λ (own : Command). Runs (seen own)
+          (λ (asked : List ℕ). g.I.Inputs.reads c.args.inputs.now asked c.feed.new.inputs) old new fault) (sym c.in-Feed.is) own;
+      safe = subst (λ (own : Command). IsSafe (seen own) old new fault) (sym c.in-Feed.is)
+          (runs_safe command (λ (asked : List ℕ). g.I.Inputs.reads c.args.inputs.now asked c.feed.new.inputs) old new fault own);
     }
 
 pub returns-in-Export : goal.returns-in-Export

@@ -39,6 +39,7 @@ returns-in-Ok-tell_version-clause-leads g c = λ file files read old start done 
       old_is = c.in-Ok.ensures.style.1;
       style_is =
           c.in-Ok.ensures.style.2 ∙ shows.style_is;
+      follower_is = refl;
     })
     c.in-Ok.ensures.stays.whole c.append_one.ensures.stays.over.same_limits c.in-Ok.ensures.stays.cause
     (λ (next : Holding). IsNext held next c.in-Ok.delta)
@@ -63,6 +64,7 @@ returns-in-Err-tell_version-clause-leads g c = λ file files read old start done
       old_is = c.in-Ok.ensures.style.1;
       style_is =
           c.in-Ok.ensures.style.2 ∙ shows.style_is;
+      follower_is = refl;
     })
     c.in-Ok.ensures.stays.whole c.append_one.ensures.stays.over.same_limits c.in-Ok.ensures.stays.cause
     (version_line c.in-Ok.delta.version) (g.S.Sink.view c.tell_version.new.out) (Err c.in-Err-tell_version.fault)
@@ -111,6 +113,7 @@ returns-in-Ok-tell_version-clause-grows g c = λ next files old start done held 
       old_is = c.in-Ok.ensures.style.1;
       style_is =
           c.in-Ok.ensures.style.2 ∙ shows.style_is;
+      follower_is = refl;
     })
     c.in-Ok.ensures.stays.whole c.append_one.ensures.stays.over.same_limits c.in-Ok.ensures.stays.cause
     (version_line c.in-Ok.delta.version) (g.S.Sink.view c.tell_version.new.out) (Ok tt)
@@ -130,6 +133,7 @@ returns-in-Err-tell_version-clause-grows g c = λ next files old start done held
       old_is = c.in-Ok.ensures.style.1;
       style_is =
           c.in-Ok.ensures.style.2 ∙ shows.style_is;
+      follower_is = refl;
     })
     c.in-Ok.ensures.stays.whole c.append_one.ensures.stays.over.same_limits c.in-Ok.ensures.stays.cause
     (version_line c.in-Ok.delta.version) (g.S.Sink.view c.tell_version.new.out) (Err c.in-Err-tell_version.fault)

@@ -36,6 +36,7 @@ returns-clause-leads g c = λ next files old start done head.
       old_is =
           c.in_default.ensures.imported.1;
       style_is = c.in_default.ensures.imported.3;
+      follower_is = refl;
     })
     c.in_default.ensures.stays.whole c.import.ensures.stays.over.same_limits c.in_default.ensures.stays.cause
     (version_line 0) (g.S.Sink.view c.tell_version.new.out) c.tell_version.result refl c.tell_version.ensures.ok c.tell_version.ensures.err

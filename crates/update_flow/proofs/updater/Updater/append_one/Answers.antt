@@ -15,7 +15,7 @@ pub returns-in-Ok-clause-takes : goal.returns-in-Ok-clause-takes
 returns-in-Ok-clause-takes g c =
     append_taken (handle_of c.args.self.now) _ c.append_on-appended.new.kept refl (λ fits. fits)
     (ap (λ (o : Option StyleOf). is_some o) c.in-Some.is)
-    (sym c.if-old.ensures.is) refl refl _
+    (sym c.if-old.ensures.is) refl refl refl refl _
     (λ none. refl) (λ some. absurd (some refl)) c.args.bounds.now c.args.change
     (λ held opened. c.in-Ok.ensures.turns held
     (kept_fits c.args.self.now.store c.in-Some-take.store _ (sym c.take.ensures.value ∙ c.in-Some-take.is) opened.fits)
@@ -26,7 +26,7 @@ pub returns-clause-takes : goal.returns-clause-takes
 returns-clause-takes g c =
     append_taken (handle_of c.args.self.now) _ c.append_on-appended.new.kept refl (λ fits. fits)
     (ap (λ (o : Option StyleOf). is_some o) c.in-Some.is)
-    (sym c.if-old.ensures.is) refl refl _
+    (sym c.if-old.ensures.is) refl refl refl refl _
     (λ none. absurd (cc (none))) (λ some. refl) c.args.bounds.now c.args.change
     (λ held opened. c.in-Err.ensures.turns held
     (kept_fits c.args.self.now.store c.in-Some-take.store _ (sym c.take.ensures.value ∙ c.in-Some-take.is) opened.fits)
@@ -47,7 +47,7 @@ returns-then-self-eq-LAST_CHANGE-clause-sound g c state opened =
 pub returns-in-Ok-clause-sound : goal.returns-in-Ok-clause-sound
 returns-in-Ok-clause-sound g c =
     append_sound (handle_of c.args.self.now) _ c.append_on-appended.new.kept refl (λ fits. fits) _
-    (ap (λ (o : Option StyleOf). is_some o) c.in-Some.is) refl refl
+    (ap (λ (o : Option StyleOf). is_some o) c.in-Some.is) refl refl refl
     (λ none. refl) (λ some. absurd (some refl)) c.args.bounds.now c.args.change
     (λ held opened. c.in-Ok.ensures.sound held
     (kept_fits c.args.self.now.store c.in-Some-take.store _ (sym c.take.ensures.value ∙ c.in-Some-take.is) opened.fits)
@@ -57,7 +57,7 @@ returns-in-Ok-clause-sound g c =
 pub returns-clause-sound : goal.returns-clause-sound
 returns-clause-sound g c =
     append_sound (handle_of c.args.self.now) _ c.append_on-appended.new.kept refl (λ fits. fits) _
-    (ap (λ (o : Option StyleOf). is_some o) c.in-Some.is) refl refl
+    (ap (λ (o : Option StyleOf). is_some o) c.in-Some.is) refl refl refl
     (λ none. absurd (cc (none))) (λ some. refl) c.args.bounds.now c.args.change
     (λ held opened. c.in-Err.ensures.sound held
     (kept_fits c.args.self.now.store c.in-Some-take.store _ (sym c.take.ensures.value ∙ c.in-Some-take.is) opened.fits)

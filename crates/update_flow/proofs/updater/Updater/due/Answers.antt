@@ -11,8 +11,8 @@ use Rattle.update_flow.proofs.updater.Updater.due.Goals as goal
 pub returns-clause-looks : goal.returns-clause-looks
 returns-clause-looks g c =
     look_taken (handle_of c.args.self.now) _ c.due_on.new.kept refl (λ fits. fits)
-    (record { changes_same = refl; imported_same = refl; old_same = refl; style_same = refl }) (sym (c.if-not-imported.ensures.is))
-    (sym c.if-old.ensures.is) (result_err c.due_on.result)
+    (record { changes_same = refl; imported_same = refl; old_same = refl; style_same = refl; follower_same = refl }) (sym (c.if-not-imported.ensures.is))
+    (sym c.if-old.ensures.is) refl (result_err c.due_on.result)
     (λ held opened. c.due_on.ensures.looks held
     (kept_fits c.args.self.now.store c.in-Some.store _ (sym c.take.ensures.value ∙ c.in-Some.is) opened.fits)
     (state_here _ _ opened.at_rest))
@@ -29,7 +29,7 @@ returns-clause-due g c =
 pub returns-clause-sound : goal.returns-clause-sound
 returns-clause-sound g c =
     look_sound (handle_of c.args.self.now) _ c.due_on.new.kept refl (λ fits. fits) (result_err c.due_on.result)
-    (record { changes_same = refl; imported_same = refl; old_same = refl; style_same = refl }) (sym (c.if-not-imported.ensures.is))
+    (record { changes_same = refl; imported_same = refl; old_same = refl; style_same = refl; follower_same = refl }) (sym (c.if-not-imported.ensures.is))
     (λ held opened. c.due_on.ensures.sound held
     (kept_fits c.args.self.now.store c.in-Some.store _ (sym c.take.ensures.value ∙ c.in-Some.is) opened.fits) opened.holds)
 

@@ -15,7 +15,7 @@ returns-in-Ok-clause-takes g c =
     (λ opened. c.in-Ok.ensures.turns (kept_fits c.args.self.now.store c.in-Some.store _
     (sym c.take.ensures.value ∙ c.in-Some.is) opened.fits)
     (state_here _ _ opened.at_rest))
-    (λ is. record { changes_are = refl; imported_is = refl; old_is = sym c.if-old.ensures.is; style_is = refl }) (λ not. absurd (not refl))
+    (λ is. record { changes_are = refl; imported_is = refl; old_is = sym c.if-old.ensures.is; style_is = refl; follower_is = refl }) (λ not. absurd (not refl))
 
 pub returns-in-Err-clause-takes : goal.returns-in-Err-clause-takes
 returns-in-Err-clause-takes g c =
@@ -25,7 +25,7 @@ returns-in-Err-clause-takes g c =
     (λ opened. c.in-Err.ensures.turns (kept_fits c.args.self.now.store c.in-Some.store _
     (sym c.take.ensures.value ∙ c.in-Some.is) opened.fits)
     (state_here _ _ opened.at_rest))
-    (λ is. absurd (cc (is))) (λ not. record { changes_same = refl; imported_same = refl; old_same = refl; style_same = refl })
+    (λ is. absurd (cc (is))) (λ not. record { changes_same = refl; imported_same = refl; old_same = refl; style_same = refl; follower_same = refl })
 
 -- a sound store
 pub returns-in-Ok-clause-sound : goal.returns-in-Ok-clause-sound
@@ -34,7 +34,7 @@ returns-in-Ok-clause-sound g c =
     c.args.buckets c.args.change (sym c.if-imported.ensures.is)
     (λ opened. c.in-Ok.ensures.sound (kept_fits c.args.self.now.store c.in-Some.store _
     (sym c.take.ensures.value ∙ c.in-Some.is) opened.fits) opened.holds)
-    (λ is. record { changes_are = refl; imported_is = refl; old_is = sym c.if-old.ensures.is; style_is = refl }) (λ not. absurd (not refl))
+    (λ is. record { changes_are = refl; imported_is = refl; old_is = sym c.if-old.ensures.is; style_is = refl; follower_is = refl }) (λ not. absurd (not refl))
 
 pub returns-in-Err-clause-sound : goal.returns-in-Err-clause-sound
 returns-in-Err-clause-sound g c =
@@ -42,7 +42,7 @@ returns-in-Err-clause-sound g c =
     c.args.style_bytes.now c.args.buckets c.args.change (sym c.if-imported.ensures.is)
     (λ opened. c.in-Err.ensures.sound (kept_fits c.args.self.now.store c.in-Some.store _
     (sym c.take.ensures.value ∙ c.in-Some.is) opened.fits) opened.holds)
-    (λ is. absurd (cc (is))) (λ not. record { changes_same = refl; imported_same = refl; old_same = refl; style_same = refl })
+    (λ is. absurd (cc (is))) (λ not. record { changes_same = refl; imported_same = refl; old_same = refl; style_same = refl; follower_same = refl })
 
 pub returns-then-imported-clause-sound : goal.returns-then-imported-clause-sound
 returns-then-imported-clause-sound g c = λ state opened.

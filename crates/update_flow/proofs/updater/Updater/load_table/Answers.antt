@@ -14,8 +14,8 @@ use Rattle.update_flow.proofs.updater.Updater.load_table.Goals as goal
 pub returns-clause-looks : goal.returns-clause-looks
 returns-clause-looks g c =
     look_taken (handle_of c.args.self.now) _ c.rows_on.new.kept refl (λ fits. fits)
-    (record { changes_same = refl; imported_same = refl; old_same = refl; style_same = refl })
-    (ap (λ (o : Option StyleOf). is_some o) c.in-Some.is) (sym c.if-old.ensures.is) (result_err c.rows_on.result)
+    (record { changes_same = refl; imported_same = refl; old_same = refl; style_same = refl; follower_same = refl })
+    (ap (λ (o : Option StyleOf). is_some o) c.in-Some.is) (sym c.if-old.ensures.is) refl (result_err c.rows_on.result)
     (λ held opened.
     c.rows_on.ensures.looks held (kept_fits c.args.self.now.store c.in-Some-take.store _
     (sym c.take.ensures.value ∙ c.in-Some-take.is) opened.fits)
@@ -33,7 +33,7 @@ returns-clause-table g c =
 pub returns-clause-sound : goal.returns-clause-sound
 returns-clause-sound g c =
     look_sound (handle_of c.args.self.now) _ c.rows_on.new.kept refl (λ fits. fits) (result_err c.rows_on.result)
-    (record { changes_same = refl; imported_same = refl; old_same = refl; style_same = refl })
+    (record { changes_same = refl; imported_same = refl; old_same = refl; style_same = refl; follower_same = refl })
     (ap (λ (o : Option StyleOf). is_some o) c.in-Some.is)
     (λ held opened. c.rows_on.ensures.sound held (kept_fits c.args.self.now.store c.in-Some-take.store _
     (sym c.take.ensures.value ∙ c.in-Some-take.is) opened.fits)

@@ -11,7 +11,7 @@ returns-in-Ok-clause-takes g c =
     (λ held opened. c.in-Ok.ensures.turns held
     (kept_fits c.args.self.now.store c.in-Some.store _ (sym c.take.ensures.value ∙ c.in-Some.is) opened.fits)
     (state_here _ _ opened.at_rest))
-    refl refl refl (λ none. refl) (λ some. absurd (some refl))
+    refl refl refl refl (λ none. refl) (λ some. absurd (some refl))
 
 pub returns-in-Err-clause-takes : goal.returns-in-Err-clause-takes
 returns-in-Err-clause-takes g c =
@@ -20,4 +20,4 @@ returns-in-Err-clause-takes g c =
     (λ held opened. c.in-Err.ensures.turns held
     (kept_fits c.args.self.now.store c.in-Some.store _ (sym c.take.ensures.value ∙ c.in-Some.is) opened.fits)
     (state_here _ _ opened.at_rest))
-    refl refl refl (λ none. absurd (cc (none))) (λ some. refl)
+    refl refl refl refl (λ none. absurd (cc (none))) (λ some. refl)

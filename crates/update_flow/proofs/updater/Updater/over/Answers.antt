@@ -1,5 +1,5 @@
 -- What was found is told.
-use Rattle.std.proofs.Common.{Option, refl, ap, ◌∙◌}
+use Rattle.std.proofs.Common.{Option, refl, sym, ap, ◌∙◌}
 use Rattle.std.specs.Prelude.{is_some}
 use Rattle.style_read.specs.Style.{StyleOf}
 use Rattle.update_flow.proofs.Openings.{style_tells}
@@ -14,6 +14,7 @@ returns-clause-open g c = λ state at found. record {
     imported_is = ap (λ (s : Option StyleOf). is_some s) found.style_is ∙ style_tells state;
     old_is = found.old_is;
     style_is = found.style_is;
+    follower_is = sym found.own;
   };
   fits = (c.args.opened.store, refl, found.fits);
 }
@@ -29,6 +30,7 @@ returns-clause-sound g c finds = (
       imported_is = ap (λ (s : Option StyleOf). is_some s) finds.found.style_is ∙ style_tells finds.state;
       old_is = finds.found.old_is;
       style_is = finds.found.style_is;
+      follower_is = sym finds.found.own;
     };
     fits = (c.args.opened.store, refl, finds.found.fits);
   },

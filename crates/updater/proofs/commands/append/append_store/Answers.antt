@@ -44,7 +44,7 @@ returns-in-Err-clause-goes_on g c = (
       let first = c.args.files.first in
       let files = g.I.Inputs.view c.args.inputs.now in
       let output = g.S.Sink.view c.args.out.now in
-      if_there start done first old files (handle_of c.args.store.now) output _ _ _ state head (sym c.old.ensures.is ∙ c.if-old.false)
+      if_there start done first old files (handle_of c.args.store.now) output _ _ _ state head (sym c.old.ensures.is ∙ c.if-old.false) refl
       (sym c.imported.ensures.is ∙ c.if-not-imported.false)
       (λ held head. first_unread start done first old files (handle_of c.args.store.now) output (IsBounds first)
       (λ bounds. appends bounds held (first + 1) (c.args.files.count - 1) (onward finished)) (imported held) head
@@ -93,7 +93,7 @@ returns-clause-goes_on g c =
           let told = g.S.Sink.view c.append_ahead.new.out in
           let count = c.args.files.count - 1 in
           if_there start done first old files (handle_of c.args.store.now) output _ (result_err c.append_ahead.result)
-          (world last (view_of (handle_of c.append_ahead.new.store)) told) state head (sym c.old.ensures.is ∙ c.if-old.false)
+          (world last (view_of (handle_of c.append_ahead.new.store)) told) state head (sym c.old.ensures.is ∙ c.if-old.false) refl
           (sym c.imported.ensures.is ∙ c.if-not-imported.false)
           (λ held head. first_read start done first old files (handle_of c.args.store.now) output (IsBounds first)
           (λ bounds. appends bounds held (first + 1) count (onward finished)) (imported held) head

@@ -1,4 +1,4 @@
-use Rattle.std.proofs.Common.{◌∙◌, Err, ap, sym, false, ◌≡◌}
+use Rattle.std.proofs.Common.{◌∙◌, Err, ap, sym, false, ◌≡◌, refl}
 use Rattle.std.specs.Result.{result_err}
 use Rattle.run_promise.specs.Courses.{checks}
 use Rattle.run_promise.specs.declared.fault.Fault.TheVariants as faults
@@ -9,7 +9,8 @@ use Rattle.updater.proofs.Asked.{asked_none}
 use Rattle.updater.proofs.CheckRuns.{bad_says, ends_so}
 use Rattle.updater.proofs.LocalLaws.{where_done}
 use Rattle.updater.proofs.NoStoreFaults.{opening_says}
-use Rattle.updater.proofs.OpenRuns.{found_here, goes_over, unopened}
+use Rattle.updater.proofs.OpenRuns.{follower_opened, found_here, found_none, found_some, goes_over, told_none, told_some, unopened}
+use Rattle.updater.proofs.OpenRuns.{checked_some}
 use Rattle.updater.proofs.SoundRuns.{unopened_trusted}
 use Rattle.updater.proofs.commands.check.check.Goals as goal
 
@@ -37,6 +38,26 @@ returns-in-Err g c =
       };
     })
 
+-- the store of a follower
+pub returns-in_default : goal.returns-in_default
+returns-in_default g c =
+    let laws = g.met.D.Disk in
+    let asks = g.met.I.Inputs g.world.𝓛 g.world.𝓜 g.world.𝓡 ((λ s x. x), (λ x. x), (λ x. x), λ x. x) in
+    record {
+      does = record {
+        goes = λ start begins.
+            follower_opened (g.I.Inputs.view c.args.inputs.now) (g.D.Disk.view c.args.disk.now) (g.S.Sink.view c.args.out.now)
+            (laws.only_now c.args.disk.now) start begins (g.D.Disk.view c.check.new.disk) checks (λ held done. refl) c.in-Ok.ensures.opens
+            (λ told state at. found_none c.in-Ok.found c.in_default.is state (g.D.Disk.view c.check.new.disk) (c.in-Ok.ensures.found told state at))
+            (told_none c.in-Ok.found c.in_default.is (g.D.Disk.view c.args.disk.now).content c.in-Ok.ensures.any.fields)
+            c.in-Ok.ensures.any.formed c.in-Ok.ensures.any.cause;
+        asked = asked_none g.I.Inputs.reads NoFile c.args.inputs.now (asks.reads_none c.args.inputs.now);
+        unformatted = λ is. absurd (cc (is));
+        trusted = λ page is. absurd (cc (is));
+      };
+      checked = record { sound = λ is. absurd (cc (is)); bad = λ page is. absurd (cc (is)) };
+    }
+
 pub returns : goal.returns
 returns g c =
     let laws = g.met.D.Disk in
@@ -47,12 +68,14 @@ returns g c =
             goes_over (g.I.Inputs.view c.args.inputs.now) (g.D.Disk.view c.args.disk.now) (g.S.Sink.view c.args.out.now)
             (laws.only_now c.args.disk.now) start begins
             c.check.new.disk c.over-store.result 0 c.over-store.ensures.disk c.in-Ok.ensures.opens
-            (λ told state at. c.over-store.ensures.open state at (c.in-Ok.ensures.found told state at))
+            (λ told state at. c.over-store.ensures.open state at
+            (found_some c.in-Ok.found c.in-Some.opened c.in-Some.is state (g.D.Disk.view c.check.new.disk) (c.in-Ok.ensures.found told state at)))
             (c.over-store.ensures.tells.limits_are ∙ c.standard-limits.ensures.numbers) c.over-store.ensures.tells.whole
             (λ is. (c.over-store.ensures.tells.begun is, c.over-store.ensures.tells.unbegun is)) c.in-Ok.ensures.any.cause
-            (found_here c.in-Ok.opened c.over-store.result
+            (found_here c.in-Some.opened c.over-store.result
             (g.D.Disk.view c.args.disk.now).content c.over-store.ensures.tells.style c.over-store.ensures.tells.outdated
-            c.over-store.ensures.tells.changes c.in-Ok.ensures.any.formed c.in-Ok.ensures.any.fields) c.in-Ok.ensures.any.same
+            c.over-store.ensures.tells.changes c.in-Ok.ensures.any.formed
+            (told_some c.in-Ok.found c.in-Some.opened c.in-Some.is (g.D.Disk.view c.args.disk.now).content c.in-Ok.ensures.any.fields)) c.in-Ok.ensures.any.same
             checks (result_err c.tell_sound-done.result) c.over-store.result c.disk-1.given.0
             (c.disk-1.given.1 (sym c.over-store.ensures.same_disk ∙ sym c.close-disk.ensures.same_disk) ∙ c.close-disk.ensures.disk)
             (g.I.Inputs.view c.args.inputs.now) (g.S.Sink.view c.tell_sound-done.new.out) c.tell_sound-done.ensures.goes_on;
@@ -61,7 +84,7 @@ returns g c =
         trusted = λ page is. absurd (ends_so c.tell_sound-done.result (faults.BadStore page) c.tell_sound-done.ensures.alone is);
       };
       checked = record {
-        sound = λ is. c.in-Ok.ensures.sound (sym c.over-store.ensures.tells.outdated
+        sound = λ is. checked_some c.in-Ok.found c.in-Some.opened c.in-Some.is (g.D.Disk.view c.args.disk.now).content c.in-Ok.ensures.sound (sym c.over-store.ensures.tells.outdated
             ∙ where_done c.tell_sound-done.result (is_old (handle_of c.over-store.result) ≡ false) c.tell_sound-done.ensures.judged is);
         bad = λ page is. absurd (ends_so c.tell_sound-done.result (faults.BadStore page) c.tell_sound-done.ensures.alone is);
       };

@@ -1,4 +1,4 @@
-use Rattle.std.proofs.Common.{List, ℕ, Option, None, Some, ◌≡◌, ◌∙◌, ap, sym}
+use Rattle.std.proofs.Common.{List, ℕ, Option, None, Some, ◌≡◌, ◌∙◌, ap, sym, refl}
 use Rattle.std.specs.Prelude.{encode_utf8_all, is_some}
 use Rattle.std.specs.Result.{result_err}
 use Rattle.std.proofs.lemmas.Str.{encodes-chars}
@@ -31,7 +31,7 @@ pub returns-in_default-clause-goes_on : goal.returns-in_default-clause-goes_on
 returns-in_default-clause-goes_on g c = λ old start done state head.
     let files = g.I.Inputs.view c.args.inputs.now in
     let output = g.S.Sink.view c.args.out.now in
-    if_there start done 0 old files (handle_of c.args.store.now) output _ _ _ state head (sym c.old.ensures.is ∙ c.if-old.false)
+    if_there start done 0 old files (handle_of c.args.store.now) output _ _ _ state head (sym c.old.ensures.is ∙ c.if-old.false) refl
     (ap (λ (style : Option StyleOf). is_some style) (sym c.in-Some.ensures.style))
     (λ held head. unknown_table start done held 0 old files (handle_of c.args.store.now) output head c.args.table.now
     (found_table start done held 0 old files
@@ -43,7 +43,7 @@ returns-in-Err-clause-goes_on g c = rw c.in_flow.ensures.fault (λ old start don
     let files = g.I.Inputs.view c.args.inputs.now in
     let output = g.S.Sink.view c.args.out.now in
     let number = c.in-Some-number.number in
-    if_there start done 0 old files (handle_of c.args.store.now) output _ _ _ state head (sym c.old.ensures.is ∙ c.if-old.false)
+    if_there start done 0 old files (handle_of c.args.store.now) output _ _ _ state head (sym c.old.ensures.is ∙ c.if-old.false) refl
     (ap (λ (style : Option StyleOf). is_some style) (sym c.in-Some.ensures.style))
     (λ held head. exports_found start done held 0 old files (handle_of c.args.store.now) output head c.args.table.now (Some number)
     (found_table start done held 0 old files (handle_of c.args.store.now) output head c.in-Some.style.now c.args.table.now
@@ -63,7 +63,7 @@ returns-in-Ok-text-clause-goes_on g c = λ old start done state head.
     c.as_bytes.ensures.value ∙ sym (encodes-chars c.as_str.result.now c.as_str.utf8) ∙ ap encode_utf8_all c.as_str.ensures.characters
     ∙ c.in-Ok-text.ensures.text in
     if_there start done 0 old files (handle_of c.args.store.now) output _ (result_err c.tell.result)
-    (world files (view_of (handle_of c.load_table.new.self)) new) state head (sym c.old.ensures.is ∙ c.if-old.false)
+    (world files (view_of (handle_of c.load_table.new.self)) new) state head (sym c.old.ensures.is ∙ c.if-old.false) refl
     (ap (λ (style : Option StyleOf). is_some style) (sym c.in-Some.ensures.style))
     (λ held head.
     let sure = look_done start done held 0 old files (handle_of c.args.store.now)
@@ -88,7 +88,7 @@ returns-clause-goes_on g c = λ old start done state head.
     let files = g.I.Inputs.view c.args.inputs.now in
     let output = g.S.Sink.view c.args.out.now in
     let number = c.in-Some-number.number in
-    if_there start done 0 old files (handle_of c.args.store.now) output _ _ _ state head (sym c.old.ensures.is ∙ c.if-old.false)
+    if_there start done 0 old files (handle_of c.args.store.now) output _ _ _ state head (sym c.old.ensures.is ∙ c.if-old.false) refl
     (ap (λ (style : Option StyleOf). is_some style) (sym c.in-Some.ensures.style))
     (λ held head.
     let sure = look_done start done held 0 old files (handle_of c.args.store.now)

@@ -23,7 +23,7 @@ returns-then-old-clause-goes_on g c = λ old start done state head.
 pub returns-then-imported-clause-goes_on : goal.returns-then-imported-clause-goes_on
 returns-then-imported-clause-goes_on g c = λ old start done state head.
     already start done c.args.files.first old (g.I.Inputs.view c.args.inputs.now) (handle_of c.args.store.now)
-    (g.S.Sink.view c.args.out.now) _ state head (sym c.old.ensures.is ∙ c.if-old.false) (sym c.imported.ensures.is ∙ c.if-imported.true)
+    (g.S.Sink.view c.args.out.now) _ state head (sym c.old.ensures.is ∙ c.if-old.false) refl (sym c.imported.ensures.is ∙ c.if-imported.true)
 
 pub returns-in-Err-clause-goes_on : goal.returns-in-Err-clause-goes_on
 returns-in-Err-clause-goes_on g c = λ old start done state head.

@@ -1,4 +1,4 @@
-use Rattle.std.proofs.Common.{◌∙◌, Err, ap, sym}
+use Rattle.std.proofs.Common.{◌∙◌, Err, ap, sym, refl}
 use Rattle.update_flow.specs.Updater.{handle_of}
 use Rattle.updater.proofs.MigrateRuns.{has_format, migrate_done, migrate_refused, none_there}
 use Rattle.updater.proofs.StoreDeeds.{refused_so}
@@ -13,7 +13,7 @@ returns-then-not-imported-clause-goes_on g c = λ old start done state head.
 pub returns-then-not-old-clause-goes_on : goal.returns-then-not-old-clause-goes_on
 returns-then-not-old-clause-goes_on g c = λ old start done state head.
     has_format start done 0 old (g.I.Inputs.view c.args.inputs.now) (handle_of c.args.store.now) (g.S.Sink.view c.args.out.now) state head
-    (sym c.imported.ensures.is ∙ c.if-not-imported.false) (sym c.old.ensures.is ∙ c.if-not-old.true)
+    (sym c.imported.ensures.is ∙ c.if-not-imported.false) (sym c.old.ensures.is ∙ c.if-not-old.true) refl
     c.as_bytes.result.now (g.S.Sink.view c.tell.new.out) c.tell.result c.as_bytes.ensures.value c.tell.ensures.ok c.tell.ensures.err
     c.tell.ensures.alone c.tell.ensures.cause
 
@@ -26,6 +26,7 @@ returns-in-Ok-clause-goes_on g c = λ old start done state head.
       imported_is = c.in-Ok.ensures.migrated.0;
       old_is = c.in-Ok.ensures.migrated.1;
       style_is = c.in-Ok.ensures.migrated.3 ∙ shows.style_is;
+      follower_is = refl;
     })
     c.in-Ok.ensures.stays.whole c.migrate.ensures.stays.over.same_limits c.in-Ok.ensures.stays.cause
     c.as_bytes-in-Ok.result.now (g.S.Sink.view c.tell-in-Ok.new.out) c.tell-in-Ok.result c.as_bytes-in-Ok.ensures.value

@@ -40,7 +40,7 @@ returns-in-Err-clause-goes_on g c = λ old start done state head.
     let files = g.I.Inputs.view c.args.inputs.now in
     let output = g.S.Sink.view c.args.out.now in
     let read = g.I.Inputs.view c.read_queries_file-read.new.inputs in
-    if_there start done first old files (handle_of c.args.store.now) output _ _ _ state head (sym c.old.ensures.is ∙ c.if-old.false)
+    if_there start done first old files (handle_of c.args.store.now) output _ _ _ state head (sym c.old.ensures.is ∙ c.if-old.false) refl
     (ap (λ (style : Option StyleOf). is_some style) (sym c.in-Some.ensures.style))
     (λ held head. first_unread start done first old files (handle_of c.args.store.now) output (IsQueries held.style first)
     (λ queries. looks (writes_text (answers_text held.style (tables held.style held.objects) held.changes queries) ends))
@@ -55,7 +55,7 @@ returns-in-Err-load_tables-clause-goes_on g c = rw c.in_flow.ensures.fault (λ o
     let files = g.I.Inputs.view c.args.inputs.now in
     let output = g.S.Sink.view c.args.out.now in
     let read = g.I.Inputs.view c.read_queries_file-read.new.inputs in
-    if_there start done first old files (handle_of c.args.store.now) output _ _ _ state head (sym c.old.ensures.is ∙ c.if-old.false)
+    if_there start done first old files (handle_of c.args.store.now) output _ _ _ state head (sym c.old.ensures.is ∙ c.if-old.false) refl
     (ap (λ (style : Option StyleOf). is_some style) (sym c.in-Some.ensures.style))
     (λ held head. first_read start done first old files (handle_of c.args.store.now) output (IsQueries held.style first)
     (λ queries. looks (writes_text (answers_text held.style (tables held.style held.objects) held.changes queries) ends))
@@ -77,7 +77,7 @@ returns-in-Ok-text-clause-goes_on g c = λ old start done state head.
     let text = c.as_bytes.result.now in
     let new = g.S.Sink.view c.tell.new.out in
     if_there start done first old files (handle_of c.args.store.now) output _ (result_err c.tell.result)
-    (world read (view_of (handle_of c.load_tables.new.self)) new) state head (sym c.old.ensures.is ∙ c.if-old.false)
+    (world read (view_of (handle_of c.load_tables.new.self)) new) state head (sym c.old.ensures.is ∙ c.if-old.false) refl
     (ap (λ (style : Option StyleOf). is_some style) (sym c.in-Some.ensures.style))
     (λ held head. first_read start done first old files (handle_of c.args.store.now) output (IsQueries held.style first)
     (λ queries. looks (writes_text (answers_text held.style (tables held.style held.objects) held.changes queries) ends))
@@ -112,7 +112,7 @@ returns-clause-goes_on g c = λ old start done state head.
     let files = g.I.Inputs.view c.args.inputs.now in
     let output = g.S.Sink.view c.args.out.now in
     let read = g.I.Inputs.view c.read_queries_file-read.new.inputs in
-    if_there start done first old files (handle_of c.args.store.now) output _ _ _ state head (sym c.old.ensures.is ∙ c.if-old.false)
+    if_there start done first old files (handle_of c.args.store.now) output _ _ _ state head (sym c.old.ensures.is ∙ c.if-old.false) refl
     (ap (λ (style : Option StyleOf). is_some style) (sym c.in-Some.ensures.style))
     (λ held head. first_read start done first old files (handle_of c.args.store.now) output (IsQueries held.style first)
     (λ queries. looks (writes_text (answers_text held.style (tables held.style held.objects) held.changes queries) ends))

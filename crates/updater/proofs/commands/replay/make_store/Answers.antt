@@ -5,7 +5,8 @@ use Rattle.run_promise.specs.Course.{looks}
 use Rattle.run_promise.specs.Courses.{fills}
 use Rattle.updater.proofs.FillRuns.{made_never}
 use Rattle.updater.proofs.InitRuns.{never_unformatted}
-use Rattle.updater.proofs.MakeRuns.{goes_over_made, unmade, unopened}
+use Rattle.updater.proofs.MakeRuns.{goes_over_made, taken_made, unmade, unopened}
+use Rattle.updater.proofs.OpenRuns.{found_none, found_some}
 use Rattle.updater.proofs.commands.replay.make_store.Goals as goal
 
 pub returns-in-Err-clause-goes_on : goal.returns-in-Err-clause-goes_on
@@ -31,6 +32,16 @@ pub returns-in-Err-open-clause-formatted : goal.returns-in-Err-open-clause-forma
 returns-in-Err-open-clause-formatted g c =
     rw c.in_made.ensures.fault (λ is. made_never c.in-Err-open.fault _ c.in-Err-open.ensures.any.alone is)
 
+pub returns-in_default-found-clause-goes_on : goal.returns-in_default-found-clause-goes_on
+returns-in_default-found-clause-goes_on g c = (λ old read head.
+    taken_made read c.args.first old (g.I.Inputs.view c.args.inputs.now) (g.D.Disk.view c.args.disk.now) (g.S.Sink.view c.args.out.now) head
+    (λ (now : List ℕ). page_from now 4096 ∷ [])
+    (g.D.Disk.view c.format.new.disk) c.in_default.ensures.fresh c.in_default.ensures.cause.later
+    (g.D.Disk.view c.open.new.disk) (fills (c.args.style.style, c.args.style.bytes) c.args.bounds.now c.args.first c.args.changes)
+    c.in-Ok.ensures.opens
+    (λ told state at. found_none c.in-Ok.found c.in_default-found.is state (g.D.Disk.view c.open.new.disk) (c.in-Ok.ensures.found told state at))
+    c.in-Ok.ensures.any.cause)
+
 pub returns-clause-goes_on : goal.returns-clause-goes_on
 returns-clause-goes_on g c = λ old read head.
     goes_over_made read c.args.first old (g.I.Inputs.view c.args.inputs.now) (g.D.Disk.view c.args.disk.now)
@@ -38,7 +49,8 @@ returns-clause-goes_on g c = λ old read head.
     (λ (now : List ℕ). page_from now 4096 ∷ [])
     (g.D.Disk.view c.format.new.disk) c.in_default.ensures.fresh c.in_default.ensures.cause.later
     c.open.new.disk c.over-store.result c.over-store.ensures.disk c.in-Ok.ensures.opens
-    (λ told state at. c.over-store.ensures.open state at (c.in-Ok.ensures.found told state at))
+    (λ told state at. c.over-store.ensures.open state at
+    (found_some c.in-Ok.found c.in-Some.opened c.in-Some.is state (g.D.Disk.view c.open.new.disk) (c.in-Ok.ensures.found told state at)))
     (c.over-store.ensures.tells.limits_are ∙ c.standard-limits.ensures.numbers) c.over-store.ensures.tells.whole
     (λ is. (c.over-store.ensures.tells.begun is, c.over-store.ensures.tells.unbegun is)) c.in-Ok.ensures.any.cause
     (λ now. refl) c.in-Ok.ensures.any.same

@@ -37,7 +37,7 @@ returns-in-Err-clause-goes_on g c = λ old start done state head.
     let first = c.args.files.first in
     let count = c.args.files.count - 2 in
     if_there start done first old (g.I.Inputs.view c.args.inputs.now) (handle_of c.args.store.now)
-    (g.S.Sink.view c.args.out.now) _ _ _ state head (sym c.old.ensures.is ∙ c.if-old.false)
+    (g.S.Sink.view c.args.out.now) _ _ _ state head (sym c.old.ensures.is ∙ c.if-old.false) refl
     (sym c.imported.ensures.is ∙ c.if-not-imported.false)
     (λ held head. first_unread start done first old (g.I.Inputs.view c.args.inputs.now) (handle_of c.args.store.now)
     (g.S.Sink.view c.args.out.now) (IsBounds first)
@@ -87,7 +87,7 @@ returns-in-Err-read-clause-goes_on g c = λ old start done state head.
     let store = handle_of c.args.store.now in
     let bounds_read = g.I.Inputs.view c.read_bounds_file.new.inputs in
     let read = g.I.Inputs.view c.read_queries_file-read.new.inputs in
-    if_there start done first old files store output _ _ _ state head (sym c.old.ensures.is ∙ c.if-old.false)
+    if_there start done first old files store output _ _ _ state head (sym c.old.ensures.is ∙ c.if-old.false) refl
     (sym c.imported.ensures.is ∙ c.if-not-imported.false)
     (λ held head. first_read start done first old files store output (IsBounds first)
     (λ bounds. reads (first + 1) (IsQueries held.style (first + 1))
@@ -109,7 +109,7 @@ returns-in-Err-load_tables-clause-goes_on g c = rw c.in_flow.ensures.fault (λ o
     let store = handle_of c.args.store.now in
     let bounds_read = g.I.Inputs.view c.read_bounds_file.new.inputs in
     let read = g.I.Inputs.view c.read_queries_file-read.new.inputs in
-    if_there start done first old files store output _ _ _ state head (sym c.old.ensures.is ∙ c.if-old.false)
+    if_there start done first old files store output _ _ _ state head (sym c.old.ensures.is ∙ c.if-old.false) refl
     (sym c.imported.ensures.is ∙ c.if-not-imported.false)
     (λ held head. first_read start done first old files store output (IsBounds first)
     (λ bounds. reads (first + 1) (IsQueries held.style (first + 1))
@@ -139,7 +139,7 @@ returns-clause-goes_on g c = λ old start done state head.
     let fault = result_err c.serve_loaded.result in
     let new = world (g.I.Inputs.view c.serve_loaded.new.inputs) (view_of (handle_of c.serve_loaded.new.store))
     (g.S.Sink.view c.serve_loaded.new.out) in
-    if_there start done first old files store output _ fault new state head (sym c.old.ensures.is ∙ c.if-old.false)
+    if_there start done first old files store output _ fault new state head (sym c.old.ensures.is ∙ c.if-old.false) refl
     (sym c.imported.ensures.is ∙ c.if-not-imported.false)
     (λ held head. first_read start done first old files store output (IsBounds first)
     (λ bounds. reads (first + 1) (IsQueries held.style (first + 1))

@@ -1,4 +1,4 @@
-use Rattle.std.proofs.Common.{true, false, None, ◌∙◌, sym, Err}
+use Rattle.std.proofs.Common.{true, false, None, ◌∙◌, sym, Err, refl}
 use Rattle.update_flow.specs.Handle.{view_of}
 use Rattle.update_flow.specs.Updater.{handle_of}
 use Rattle.run_promise.specs.Courses.{IsTileText, clears}
@@ -27,7 +27,7 @@ pub returns-in-Err-clause-goes_on : goal.returns-in-Err-clause-goes_on
 returns-in-Err-clause-goes_on g c = rw c.in_flow.ensures.fault (λ old start done state head.
     let files = g.I.Inputs.view c.args.inputs.now in
     let output = g.S.Sink.view c.args.out.now in
-    if_there start done 0 old files (handle_of c.args.store.now) output _ _ _ state head (sym c.old.ensures.is ∙ c.if-old.false)
+    if_there start done 0 old files (handle_of c.args.store.now) output _ _ _ state head (sym c.old.ensures.is ∙ c.if-old.false) refl
     (sym c.imported.ensures.is ∙ c.if-not-imported.false)
     (λ held head. look_refused start done held 0 old files (handle_of c.args.store.now)
     (handle_of c.due.new.self) output head c.in-Err.fault c.in-Err.ensures.looks (refused_so c.in-Err.ensures.stays)
@@ -37,7 +37,7 @@ pub returns-in-Err-of-clause-goes_on : goal.returns-in-Err-of-clause-goes_on
 returns-in-Err-of-clause-goes_on g c = λ old start done state head.
     let files = g.I.Inputs.view c.args.inputs.now in
     let output = g.S.Sink.view c.args.out.now in
-    if_there start done 0 old files (handle_of c.args.store.now) output _ _ _ state head (sym c.old.ensures.is ∙ c.if-old.false)
+    if_there start done 0 old files (handle_of c.args.store.now) output _ _ _ state head (sym c.old.ensures.is ∙ c.if-old.false) refl
     (sym c.imported.ensures.is ∙ c.if-not-imported.false)
     (λ held head.
     let sure = look_done start done held 0 old files (handle_of c.args.store.now)
@@ -50,7 +50,7 @@ pub returns-in-Err-tell_tiles-clause-goes_on : goal.returns-in-Err-tell_tiles-cl
 returns-in-Err-tell_tiles-clause-goes_on g c = λ old start done state head.
     let files = g.I.Inputs.view c.args.inputs.now in
     let output = g.S.Sink.view c.args.out.now in
-    if_there start done 0 old files (handle_of c.args.store.now) output _ _ _ state head (sym c.old.ensures.is ∙ c.if-old.false)
+    if_there start done 0 old files (handle_of c.args.store.now) output _ _ _ state head (sym c.old.ensures.is ∙ c.if-old.false) refl
     (sym c.imported.ensures.is ∙ c.if-not-imported.false)
     (λ held head.
     let sure = look_done start done held 0 old files (handle_of c.args.store.now)
@@ -74,7 +74,7 @@ returns-then-not-clear-clause-goes_on g c = rw c.if-not-clear.true (λ old start
     let text = c.in-Ok-of.tiles in
     let new = g.S.Sink.view c.tell_tiles.new.out in
     if_there start done 0 old files (handle_of c.args.store.now) output _ None
-    (world files (view_of (handle_of c.due.new.self)) new) state head (sym c.old.ensures.is ∙ c.if-old.false)
+    (world files (view_of (handle_of c.due.new.self)) new) state head (sym c.old.ensures.is ∙ c.if-old.false) refl
     (sym c.imported.ensures.is ∙ c.if-not-imported.false)
     (λ held head.
     let sure = look_done start done held 0 old files (handle_of c.args.store.now)
@@ -97,7 +97,7 @@ returns-in-Ok-clear_due-clause-goes_on g c = rw c.if-not-clear.false (λ old sta
     let text = c.in-Ok-of.tiles in
     let new = g.S.Sink.view c.tell_tiles.new.out in
     if_there start done 0 old files (handle_of c.args.store.now) output _ None
-    (world files (view_of (handle_of c.clear_due.new.self)) new) state head (sym c.old.ensures.is ∙ c.if-old.false)
+    (world files (view_of (handle_of c.clear_due.new.self)) new) state head (sym c.old.ensures.is ∙ c.if-old.false) refl
     (sym c.imported.ensures.is ∙ c.if-not-imported.false)
     (λ held head.
     let sure = look_done start done held 0 old files (handle_of c.args.store.now)
@@ -122,7 +122,7 @@ returns-clause-goes_on g c = rw c.in_flow-in-Err-clear_due.ensures.fault (rw c.i
     let text = c.in-Ok-of.tiles in
     let new = g.S.Sink.view c.tell_tiles.new.out in
     if_there start done 0 old files (handle_of c.args.store.now) output _ _
-    (world files (view_of (handle_of c.clear_due.new.self)) new) state head (sym c.old.ensures.is ∙ c.if-old.false)
+    (world files (view_of (handle_of c.clear_due.new.self)) new) state head (sym c.old.ensures.is ∙ c.if-old.false) refl
     (sym c.imported.ensures.is ∙ c.if-not-imported.false)
     (λ held head.
     let sure = look_done start done held 0 old files (handle_of c.args.store.now)

@@ -1,0 +1,81 @@
+use Rattle.std.proofs.Common.{◌∙◌, refl}
+use Rattle.update_flow.specs.Updater.{handle_of}
+use Rattle.delta_feed.specs.Text.{full_text}
+use Rattle.run_promise.proofs.FeedTexts.{full_is_block}
+use Rattle.updater.proofs.FeedRuns.{block_ends, full_same, full_told, full_unlooked, full_untold}
+use Rattle.updater.proofs.StoreDeeds.{refused_so}
+use Rattle.updater.proofs.StoreRuns.{look_done}
+use Rattle.updater.proofs.SoundRuns.{ends_well, look_goes, look_stops}
+use Rattle.updater.proofs.feeding.feed_tables.Goals as goal
+
+pub returns-in-Err-clause-feeds : goal.returns-in-Err-clause-feeds
+returns-in-Err-clause-feeds g c = rw c.in_flow.ensures.fault (λ next files old start done held head.
+    full_unlooked start done held next old files (g.S.Sink.view c.args.out.now) (handle_of c.args.store.now)
+    (handle_of c.style_bytes.new.self) head c.in-Err.fault c.in-Err.ensures.looks (refused_so c.in-Err.ensures.stays))
+
+pub returns-in-Err-load_tables-clause-feeds : goal.returns-in-Err-load_tables-clause-feeds
+returns-in-Err-load_tables-clause-feeds g c = rw c.in_flow-in-Err-load_tables.ensures.fault (λ next files old start done held head.
+    let output = g.S.Sink.view c.args.out.now in
+    let read = handle_of c.style_bytes.new.self in
+    let sure = look_done start done held next old files (handle_of c.args.store.now) read output head c.in-Ok.ensures.looks
+    (c.in-Ok.ensures.stays.still tt) c.in-Ok.ensures.stays.whole c.style_bytes.ensures.stays.over.same_limits c.in-Ok.ensures.stays.cause in
+    full_unlooked start done held next old files output read (handle_of c.load_tables.new.self) sure c.in-Err-load_tables.fault
+    c.in-Err-load_tables.ensures.looks (refused_so c.in-Err-load_tables.ensures.stays))
+
+pub returns-in-Ok-write_full-clause-feeds : goal.returns-in-Ok-write_full-clause-feeds
+returns-in-Ok-write_full-clause-feeds g c = λ next files old start done held head.
+    let output = g.S.Sink.view c.args.out.now in
+    let read = handle_of c.style_bytes.new.self in
+    let loaded = handle_of c.load_tables.new.self in
+    let first = look_done start done held next old files (handle_of c.args.store.now) read output head c.in-Ok.ensures.looks
+    (c.in-Ok.ensures.stays.still tt) c.in-Ok.ensures.stays.whole c.style_bytes.ensures.stays.over.same_limits c.in-Ok.ensures.stays.cause in
+    let second = look_done start done held next old files read loaded output first c.in-Ok-load_tables.ensures.looks
+    (c.in-Ok-load_tables.ensures.stays.still tt) c.in-Ok-load_tables.ensures.stays.whole c.load_tables.ensures.stays.over.same_limits
+    c.in-Ok-load_tables.ensures.stays.cause in
+    full_told start done held next old files output loaded second
+    (full_text c.changes.result c.as_slice.result.now c.in-Ok-load_tables.tables)
+    (full_is_block c.changes.result c.as_slice.result.now c.in-Ok-load_tables.tables)
+    (full_same start done held next old files output (handle_of c.args.store.now) read loaded head first second
+    c.changes.result c.as_slice.result.now c.in-Ok-load_tables.tables c.changes.ensures.number
+    (λ opened. c.as_slice.ensures.items ∙ c.in-Ok.ensures.bytes held opened)
+    (c.in-Ok-load_tables.ensures.tables held))
+    (g.S.Sink.view c.write_full.new.out) c.write_full.ensures.later c.in-Ok-write_full.ensures.ok
+
+pub returns-clause-feeds : goal.returns-clause-feeds
+returns-clause-feeds g c = rw c.in_feed.ensures.fault (λ next files old start done held head.
+    let output = g.S.Sink.view c.args.out.now in
+    let read = handle_of c.style_bytes.new.self in
+    let loaded = handle_of c.load_tables.new.self in
+    let first = look_done start done held next old files (handle_of c.args.store.now) read output head c.in-Ok.ensures.looks
+    (c.in-Ok.ensures.stays.still tt) c.in-Ok.ensures.stays.whole c.style_bytes.ensures.stays.over.same_limits c.in-Ok.ensures.stays.cause in
+    let second = look_done start done held next old files read loaded output first c.in-Ok-load_tables.ensures.looks
+    (c.in-Ok-load_tables.ensures.stays.still tt) c.in-Ok-load_tables.ensures.stays.whole c.load_tables.ensures.stays.over.same_limits
+    c.in-Ok-load_tables.ensures.stays.cause in
+    full_untold start done held next old files output loaded second
+    (full_text c.changes.result c.as_slice.result.now c.in-Ok-load_tables.tables)
+    (full_is_block c.changes.result c.as_slice.result.now c.in-Ok-load_tables.tables)
+    (full_same start done held next old files output (handle_of c.args.store.now) read loaded head first second
+    c.changes.result c.as_slice.result.now c.in-Ok-load_tables.tables c.changes.ensures.number
+    (λ opened. c.as_slice.ensures.items ∙ c.in-Ok.ensures.bytes held opened)
+    (c.in-Ok-load_tables.ensures.tables held))
+    (g.S.Sink.view c.write_full.new.out) c.write_full.ensures.later c.in-Err-write_full.fault c.in-Err-write_full.ensures.err)
+
+pub returns-in-Err-clause-sound : goal.returns-in-Err-clause-sound
+returns-in-Err-clause-sound g c = rw c.in_flow.ensures.fault (λ opened.
+    look_stops c.in-Err.fault (handle_of c.args.store.now) opened (handle_of c.style_bytes.new.self)
+    (handle_of c.style_bytes.new.self) c.in-Err.ensures.sound)
+
+pub returns-in-Err-load_tables-clause-sound : goal.returns-in-Err-load_tables-clause-sound
+returns-in-Err-load_tables-clause-sound g c = rw c.in_flow-in-Err-load_tables.ensures.fault (λ opened.
+    look_stops c.in-Err-load_tables.fault (handle_of c.style_bytes.new.self)
+    (look_goes (handle_of c.args.store.now) (handle_of c.style_bytes.new.self) c.in-Ok.ensures.sound opened)
+    (handle_of c.load_tables.new.self) (handle_of c.load_tables.new.self) c.in-Err-load_tables.ensures.sound)
+
+pub returns-in-Ok-write_full-clause-sound : goal.returns-in-Ok-write_full-clause-sound
+returns-in-Ok-write_full-clause-sound g c = λ opened.
+    ends_well (handle_of c.load_tables.new.self)
+    (look_goes (handle_of c.style_bytes.new.self) (handle_of c.load_tables.new.self) c.in-Ok-load_tables.ensures.sound
+    (look_goes (handle_of c.args.store.now) (handle_of c.style_bytes.new.self) c.in-Ok.ensures.sound opened))
+
+pub returns-clause-sound : goal.returns-clause-sound
+returns-clause-sound g c = rw c.in_feed.ensures.fault (λ opened. block_ends c.in-Err-write_full.fault (handle_of c.load_tables.new.self))
