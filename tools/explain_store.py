@@ -174,6 +174,10 @@ def rights(path):
 def write_fault(call):
     if call.command == "tiles" and "clear=yes" in call.options:
         kept = "; nothing was cleared"
+    elif call.command == "feed":
+        # To run it again would make one more version.
+        kept = "; the last step may be in the store without its block: tools/load_postgis --if-behind brings tables up that follow it"
+        return [f"standard output took no more: what read it has ended (it may say why), or its disk is full{kept}"]
     elif call.command in ("import", "append", "serve", "replay", "demo", "migrate", "init"):
         kept = "; the last step may be in the store without its line"
     else:
