@@ -16,7 +16,7 @@ use outside::Disk;
 use page_journal::StoreFault;
 use value_bytes::StoreMap;
 
-/// Takes out all rows that the store has. For callers outside: the program does not use it.
+/// Takes out all rows that the store has.
 pub fn clear<D: Disk>(buckets: &mut Buckets<'_, D>) -> Result<(), StoreFault>
     requires ready { IsReady buckets.old }
     ensures cleared { OnOk result ((rest now : Image) → Has rest now buckets.old → Has rest (without_rows now) buckets.new) }

@@ -20,7 +20,7 @@ use page_journal::StoreFault;
 use std::alloc::Global;
 use style_read::Style;
 
-/// Gives a spot this row, or none. For callers outside: the program does not use it.
+/// Gives a spot this row, or none.
 pub fn set_row<D: Disk>(
     alloc: Global,
     buckets: &mut Buckets<'_, D>,
