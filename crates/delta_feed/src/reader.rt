@@ -66,6 +66,7 @@ impl FeedReader {
         ensures block { IfOk result (λ block. BothKnown ((I.view inputs.old).left self.old.file) ((I.view inputs.new).left self.old.file)
             (λ before after. GivesBlock (option_copied base.entry) self.old self.new (lines_left self.old before) (lines_left self.new after) block)) }
         ensures sound { IfOk result (λ block. IfSome block (IsSound (option_copied base.entry))) }
+        ensures number { IfOk result (λ block. IfSome block (λ _. (self.old.lines.number < self.new.lines.number) × (self.new.lines.number ≤ self.old.limits.lines))) }
         ensures stopped { IfErr result (Stops (λ fault. IfSome ((I.view inputs.old).left self.old.file)
             (λ before. Comes self.old.limits (option_copied base.entry) Stage.Between self.old.lines.number (lines_left self.old before) (refused fault)))
             (Rose (I.view inputs.old).faults (I.view inputs.new).faults)) }

@@ -1,4 +1,5 @@
-use Rattle.std.proofs.Common.{◌≡◌, ℕ, Option, Some, ap, ◌∙◌, subst}
+use Rattle.std.proofs.Common.{◌≡◌, ◌≤◌, ◌<◌, ℕ, Option, Some, ap, ◌∙◌, arith, subst}
+use Rattle.osm_base.specs.declared.bounds.limits.LimitNumbers.{LimitNumbers}
 use Rattle.std.specs.Prelude.{IfSome}
 use Rattle.std.specs.Option.{option_copied}
 use Rattle.outside.specs.Bytes.{BothKnown}
@@ -20,6 +21,9 @@ loop-next-preserved g c =
     c.in-Ok-Some-On.field-0-is ∙ ap (λ (own : Turn). Some own) c.in-Ok-Some-On.field-0-0-is in
     let sound : IsSoundTurn base (turns.On c.in-Ok-Some-On.next) =
     subst (λ (own : Option Turn). IfSome own (IsSoundTurn base)) turn_is c.in-Ok-Some-On.ensures.sound in
+    let rise : (now.lines.number < new.lines.number) × (new.lines.number ≤ now.limits.lines) =
+    subst (λ (own : Option Turn). IfSome own (λ _. (now.lines.number < new.lines.number) × (new.lines.number ≤ now.limits.lines))) turn_is
+    c.in-Ok-Some-On.ensures.number in
     let turn : BothKnown ((g.I.Inputs.view c.loop-next.inputs).left now.file) ((g.I.Inputs.view c.turn.new.inputs).left now.file)
     (λ before after. Leads base c.loop-next.stage now new (lines_left now before) (lines_left new after) (Some (turns.On c.in-Ok-Some-On.next))) =
     subst (λ (own : Option Turn). BothKnown ((g.I.Inputs.view c.loop-next.inputs).left now.file) ((g.I.Inputs.view c.turn.new.inputs).left now.file)
@@ -32,6 +36,7 @@ loop-next-preserved g c =
     c.loop-next.invariant.same.file turn) in
     record {
       going = c.in-Ok-Some-On.ensures.going;
+      counted = omega (arith, c.loop-next.invariant.counted, rise.0);
       same = record {
         file = c.turn.ensures.same.file ∙ c.loop-next.invariant.same.file;
         limits = c.turn.ensures.same.limits ∙ c.loop-next.invariant.same.limits;
@@ -42,6 +47,19 @@ loop-next-preserved g c =
       alone = reads_on g.I.Inputs.reads g.I.Inputs.view c.args.self.now.file now.file c.loop-next.invariant.same.file
           laws.reads_then c.args.inputs.now c.loop-next.inputs c.turn.new.inputs c.loop-next.invariant.alone c.turn.ensures.read;
     }
+
+pub returns-in-Ok-Some-Whole-clause-number : goal.returns-in-Ok-Some-Whole-clause-number
+returns-in-Ok-Some-Whole-clause-number g c =
+    let now = c.loop-next.self in
+    let new = c.turn.new.self in
+    let turn_is : c.in-Ok-Some-Whole.field-0 ≡ Some (turns.Whole c.in-Ok-Some-Whole.block) =
+    c.in-Ok-Some-Whole.field-0-is ∙ ap (λ (own : Turn). Some own) c.in-Ok-Some-Whole.field-0-0-is in
+    let rise : (now.lines.number < new.lines.number) × (new.lines.number ≤ now.limits.lines) =
+    subst (λ (own : Option Turn). IfSome own (λ _. (now.lines.number < new.lines.number) × (new.lines.number ≤ now.limits.lines))) turn_is
+    c.in-Ok-Some-Whole.ensures.number in (
+      omega (arith, c.loop-next.invariant.counted, rise.0),
+      subst (λ (own : LimitNumbers). new.lines.number ≤ own.lines) c.loop-next.invariant.same.limits rise.1,
+    )
 
 pub returns-in-Ok-Some-Whole-clause-read : goal.returns-in-Ok-Some-Whole-clause-read
 returns-in-Ok-Some-Whole-clause-read g c =

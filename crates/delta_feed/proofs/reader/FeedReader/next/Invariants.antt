@@ -1,4 +1,4 @@
-use Rattle.std.proofs.Common.{◌-◌}
+use Rattle.std.proofs.Common.{◌-◌, ◌≤◌}
 use Rattle.std.specs.Option.{option_copied}
 use Rattle.object_fold.specs.Reading.{ReadsNoOther}
 use Rattle.delta_feed.specs.Feeding.{IsGoing, IsSameReader}
@@ -10,6 +10,7 @@ use Rattle.delta_feed.proofs.reader.FeedReader.next.Given as goal
 abbrev pub invariant-loop-next : goal.invariant-loop-next
 invariant-loop-next g l = record {
   going : IsGoing l.self;
+  counted : l.fn.self.lines.number ≤ l.self.lines.number;
   same : IsSameReader l.fn.self l.self;
   sound : IsSoundStage (option_copied l.base) l.stage;
   leads : LeadsTo (option_copied l.base) l.stage l.fn.self l.self ((g.I.Inputs.view l.fn.inputs).left l.fn.self.file)
