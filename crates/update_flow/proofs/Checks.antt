@@ -47,7 +47,7 @@ state_sound (imported held) bytes fresh own stands = import_is_sound bytes held 
 state_sound (outdated held) bytes fresh own stands = absurd (cc (fresh))
 state_sound (following held) bytes fresh own stands = absurd (cc (own))
 
-only_made : (state : State) (image : Image) → Means state image → is_blank image.root ≡ true → formatted ≡ state
+pub only_made : (state : State) (image : Image) → Means state image → is_blank image.root ≡ true → formatted ≡ state
 only_made formatted image means made = refl
 only_made (imported held) image means made = absurd (made_apart IMPORTED_FORMAT image.root made (imported_root held image means))
 only_made (outdated held) image means made = absurd (made_apart OLD_FORMAT image.root made (old_root held image means))

@@ -35,3 +35,8 @@ pub mod SoundStanding
 pub mod Judgements
 pub mod Checks
 pub mod Takings
+pub mod Followers
+pub mod FollowerLooks
+pub mod SourceLaws
+pub mod BaseOpened
+pub mod EitherOpened

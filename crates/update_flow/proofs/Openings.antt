@@ -95,7 +95,7 @@ two_not : (b c : Bool) → b ≡ false → c ≡ true → (not b && c) ≡ true
 two_not b c one two = cc
 
 pub blank_root : (image : Image) → IsBlank image → is_blank image.root ≡ true
-blank_root image blank = ap (λ (r : Root). is_blank r) blank.root
+blank_root image blank = blank.root
 
 pub format_root : (MapsOf : Holding → Image → Type 0) (held : Holding) (image : Image) → IsOfFormat IMPORTED_FORMAT MapsOf held image
     → is_imported image.root ≡ true
@@ -119,24 +119,55 @@ following_root held image is =
     ∙ two_not (held.buckets == 0) (nat_le held.version LAST_CHANGE) (some_count held.buckets is.some)
     (low_count held.version LAST_CHANGE is.counted)
 
+-- those of a store that was only made are of no other kind
+front_of : (b c : Bool) → (b && c) ≡ true → b ≡ true
+front_of true c is = refl
+front_of false c is = absurd (cc (is))
+
+behind_of : (b c : Bool) → (b && c) ≡ true → c ≡ true
+behind_of true c is = is
+behind_of false c is = absurd (cc (is))
+
+one_no_two : (n : ℕ) → (n == 1) ≡ true → (n == 2) ≡ false
+one_no_two n is = grind (arith, nat_tests, is)
+
+none_no_one : (n : ℕ) → (n == 0) ≡ true → (n == 1) ≡ false
+none_no_one n is = grind (arith, nat_tests, is)
+
+not_front : (b c : Bool) → b ≡ false → (b && c) ≡ false
+not_front b c is = cc
+
+not_inner : (a b c : Bool) → b ≡ false → (a && (b && c)) ≡ false
+not_inner true b c is = not_front b c is
+not_inner false b c is = refl
+
+made_own : (root : Root) → is_blank root ≡ true → is_following root ≡ false
+made_own root made = not_front (root.format == 2) _ (one_no_two root.format (front_of (root.format == 1) _ made))
+
+made_old : (root : Root) → is_blank root ≡ true → is_old root ≡ false
+made_old root made =
+    not_inner (root.format == 1) (root.state == 1) _
+    (none_no_one root.state (front_of (root.state == 0) (root.buckets == 0) (behind_of (root.format == 1) _ made)))
+
 -- whether they are those of a follower's store, or of an old one
 pub tells_own : (state : State) (image : Image) → Means state image → is_following image.root ≡ follows state
-tells_own formatted image blank = ap (λ (r : Root). is_following r) blank.root
+tells_own formatted image blank = made_own image.root blank.root
 tells_own (imported held) image is = ap (λ (r : Root). is_following r) is.root
 tells_own (outdated held) image is = ap (λ (r : Root). is_following r) is.root
 tells_own (following held) image is = following_root held image is
 
 pub tells_old : (state : State) (image : Image) → Means state image → is_old image.root ≡ was_old state
-tells_old formatted image blank = ap (λ (r : Root). is_old r) blank.root
+tells_old formatted image blank = made_old image.root blank.root
 tells_old (imported held) image is = ap (λ (r : Root). is_old r) is.root
 tells_old (outdated held) image is = old_root held image is
 tells_old (following held) image is = ap (λ (r : Root). is_old r) is.root
 
-pub tells_count : (state : State) (image : Image) → Means state image → image.root.changes ≡ changes_in state
-tells_count formatted image blank = ap (λ (r : Root). r.changes) blank.root
-tells_count (imported held) image is = ap (λ (r : Root). r.changes) is.root
-tells_count (outdated held) image is = ap (λ (r : Root). r.changes) is.root
-tells_count (following held) image is = ap (λ (r : Root). r.changes) is.root
+-- and how many changes those of one with tables tell
+pub tells_count : (state : State) (image : Image) → was_imported state ≡ true → Means state image → image.root.changes ≡ changes_in state
+tells_count formatted image begun blank = absurd (cc (begun))
+tells_count (imported held) image begun is = ap (λ (r : Root). r.changes) is.root
+tells_count (outdated held) image begun is = ap (λ (r : Root). r.changes) is.root
+tells_count (following held) image begun is = ap (λ (r : Root). r.changes) is.root
 
 pub root_of : (state : State) (view : DiskView) (opened : Resting) → Fits opened view → (holds : HoldsState state view)
     → opened_root opened ≡ holds.image.root
@@ -312,9 +343,10 @@ pub found_of : (root : Root) (view new : DiskView) (found : Resting) (dated : Bo
 found_of root view new found dated (Err fault) same blank other is styled rest = tt
 found_of root view new found dated (Ok opened) same blank other is styled rest = λ fits state holds.
     let are : root ≡ holds.image.root = same ∙ root_of state view found fits holds in
-    let own = rest fits state holds (begun_state state view found root same blank fits holds) in
+    let begun = begun_state state view found root same blank fits holds in
+    let own = rest fits state holds begun in
     record {
-      changes_are = styled.changes_are ∙ ap (λ (r : Root). r.changes) are ∙ tells_count state holds.image holds.means;
+      changes_are = styled.changes_are ∙ ap (λ (r : Root). r.changes) are ∙ tells_count state holds.image begun holds.means;
       style_is = own.0;
       old_is = styled.old_is ∙ is ∙ ap (λ (r : Root). is_old r) are ∙ tells_old state holds.image holds.means;
       own = sym (tells_own state holds.image holds.means) ∙ ap (λ (r : Root). is_following r) (sym are) ∙ other;

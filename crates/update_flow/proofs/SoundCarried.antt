@@ -20,9 +20,10 @@ use Rattle.bucket_store.proofs.Reopened.{holds_under}
 use Rattle.update_flow.specs.Handle.{Handle, IsOpen, Shows, TellsAs, changes_of, is_follower, is_imported, is_old, is_whole, limits_of, style_of, view_of}
 use Rattle.update_flow.specs.Opening.{HoldsState}
 use Rattle.update_flow.specs.Refusals.{MayAnswer, MayLook}
-use Rattle.update_flow.specs.Sound.{IsSound, IsSoundBlank, IsSoundImport, MeansSound}
+use Rattle.update_flow.specs.Sound.{IsSound, IsSoundImport, MeansSound}
 use Rattle.update_flow.specs.SoundTurns.{IsKeptSound, IsOpenSound, LooksSound, LooksSoundOn, MayFollow, RestsSound, TakesSound, TurnsSound}
 use Rattle.update_flow.specs.SoundTurns.{TurnsSoundOn}
+use Rattle.update_flow.specs.Stands.{IsBlank}
 use Rattle.update_flow.specs.State.{Append, Clear, Holding, Import, State, Step, following, formatted, fresh, imported, outdated}
 use Rattle.update_flow.specs.Turning.{EndsIn, view_in}
 use Rattle.update_flow.specs.Updater.{KeptFits}
@@ -191,7 +192,7 @@ module _ (old new : Handle) (kept : Option Resting) (whole : is_some kept ≡ is
         }
 
 -- what is sound in a state is sound
-pub any_state : (state : State) (image : Image) → MeansSound state image → IsSoundBlank image ⊎ ((held : Holding) × IsSoundImport held image)
+pub any_state : (state : State) (image : Image) → MeansSound state image → IsBlank image ⊎ ((held : Holding) × IsSoundImport held image)
 any_state formatted image is = inl is
 any_state (imported held) image is = inr (held, is)
 any_state (outdated held) image is = absurd is

@@ -1,5 +1,5 @@
 -- What stands for a state is a sound store.
-use Rattle.std.proofs.Common.{◌≡◌, ◌≤◌, inl, inr, ℕ, Bool, List, [], ◌∷◌, Option, Some, None, refl, sym, ap, subst, ◌∙◌, arith}
+use Rattle.std.proofs.Common.{◌≡◌, inl, inr, ℕ, Bool, List, [], ◌∷◌, Option, Some, None, refl, sym, ap, subst, ◌∙◌}
 use Rattle.std.specs.Prelude.{IsSome}
 use Rattle.std.specs.FinMap as finite
 use Rattle.std.specs.List.{AllByRecursion}
@@ -19,19 +19,16 @@ use Rattle.object_fold.specs.Listings.{HasIds}
 use Rattle.row_map.specs.Condition.{reaches_nodes}
 use Rattle.row_map.specs.Rows.{rows_in}
 use Rattle.value_bytes.specs.declared.nodes.NodeRecord.{NodeRecord}
-use Rattle.chain_store.specs.declared.root.Root.{Root}
 use Rattle.bucket_store.specs.Image.{Image}
 use Rattle.store_maps.specs.Maps.{Maps, kept_rows, rows_at, unless_empty}
 use Rattle.store_maps.specs.Stands.{HoldsNode, HoldsTags, Stands, StandsOn}
 use Rattle.store_maps.specs.Turns.{blocks_in, listed_by, told_by}
 use Rattle.store_maps.proofs.Listings.{retold}
 use Rattle.store_check.specs.Kept.{HoldsMaps}
-use Rattle.update_flow.specs.Roots.{is_blank}
-use Rattle.update_flow.specs.Stands.{IsBlank, IsImported, StandsFor}
+use Rattle.update_flow.specs.Stands.{IsImported, StandsFor}
 use Rattle.update_flow.specs.State.{Holding, formatted, imported}
-use Rattle.update_flow.specs.declared.fault.TheConstants.{LAST_CHANGE}
 use Rattle.store_check.specs.Maps.{HasSoundMapsOf}
-use Rattle.update_flow.specs.Sound.{IsSound, IsSoundBlank, IsSoundImport}
+use Rattle.update_flow.specs.Sound.{IsSound, IsSoundImport}
 use Rattle.store_check.specs.Values.{AreRightRows, ByTags, IfUnknown, IsPlaced, bare, objects_of}
 use Rattle.store_check.proofs.ObjectSets.{get_node, get_way, get_relation}
 use Rattle.store_check.proofs.Right.{holds_node, proper_at}
@@ -185,13 +182,6 @@ module _ (style : StyleOf) (image : Image) (objects : ObjectSet) (maps : Maps) (
 
 -- a store that was only made
 
-blank_sound : (image : Image) → IsBlank image → IsSoundBlank image
-blank_sound image blank = record {
-  root = ap is_blank blank.root;
-  counted = subst (λ (count : ℕ). count ≤ LAST_CHANGE) (sym (ap (λ (root : Root). root.changes) blank.root)) (omega arith);
-  texts = blank.texts;
-}
-
 -- an imported one holds the objects of its maps: of a node whose tags nobody knows the one without tags
 abbrev pub own_of : (held : Holding) (image : Image) → IsImported held image → Holding
 own_of held image is = record held { objects = objects_of is.maps.maps.nodes is.maps.maps.ways is.maps.maps.relations }
@@ -216,7 +206,7 @@ import_sound image held is =
 -- whatever stands for a store that was made, or for an imported one
 pub blank_is_sound : (bytes : List ℕ) → StandsFor bytes formatted → IsSound bytes
 unfolding StandsFor
-blank_is_sound bytes stands = record { image = stands.0; has = stands.2; is = inl (blank_sound stands.0 stands.1) }
+blank_is_sound bytes stands = record { image = stands.0; has = stands.2; is = inl stands.1 }
 
 pub import_is_sound : (bytes : List ℕ) (held : Holding) → StandsFor bytes (imported held) → IsSound bytes
 unfolding StandsFor

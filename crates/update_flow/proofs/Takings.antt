@@ -37,6 +37,7 @@ use Rattle.update_flow.specs.Stands.{IsBlank, IsFollowing}
 use Rattle.update_flow.specs.State.{Following, followed, follower_buckets, taken_whole}
 use Rattle.update_flow.specs.Taking.{AllFit, HasRoom, HasTables, IsBeside, following_root, styled, versioned}
 use Rattle.update_flow.specs.declared.fields.TheConstants.{STYLE_TEXT}
+use Rattle.update_flow.proofs.SoundSteps.{blank_count}
 
 beside_rows : (kind : Kind) (m : ℕ) → m < 6 → m ≡ map_of kind → ⊥
 beside_rows kinds.Node m below is = absurd (omega (arith, below, is))
@@ -182,7 +183,7 @@ module _ (version : ℕ) (bytes : List ℕ) (style : StyleOf) (rows : List RowCh
   pub blank_becomes : IsBlank rest → (rest.root.buckets ≡ 0 → (m : ℕ) → m < 8 → rest.maps m ≡ finite.empty)
       → IsFollowing (taken_whole follower_buckets version bytes style rows) (styled version bytes after)
   blank_becomes blank none =
-      let zero : rest.root.buckets ≡ 0 = ap (λ (r : Root). r.buckets) blank.root in
+      let zero = blank_count rest.root blank.root in
       whole_becomes version bytes style rows follower_buckets rest later after full (omega arith) follower_power (omega arith)
       (room.buckets ∙ ap (λ (b : Bool). cond b follower_buckets rest.root.buckets) (eq-eqb rest.root.buckets 0 zero))
       (λ n below apart. blank.texts n below) (λ m below. none zero m (omega (arith, below))) room beside tables

@@ -21,7 +21,8 @@ use Rattle.store_check.specs.BadPage.{IsUnused}
 use Rattle.store_check.specs.Wrong.{IsFirstWrong}
 use Rattle.update_flow.specs.BadPage.{IsBadImage, IsBadWithin, IsImageOf, IsUnread, WritesStyle, root_told}
 use Rattle.update_flow.specs.Roots.{AreFieldsOf, is_blank, is_imported}
-use Rattle.update_flow.specs.Sound.{IsSoundBlank, IsSoundImport}
+use Rattle.update_flow.specs.Sound.{IsSoundImport}
+use Rattle.update_flow.specs.Stands.{IsBlank}
 use Rattle.update_flow.specs.State.{Holding}
 use Rattle.update_flow.specs.declared.fault.FlowFault.{FlowFault}
 use Rattle.update_flow.specs.declared.fault.FlowFault.TheVariants as flow
@@ -30,7 +31,7 @@ use Rattle.update_flow.specs.declared.opened.Opened.{Opened}
 
 -- what a sound store means
 abbrev pub IsSoundImage : Image → Type 0
-IsSoundImage image = IsSoundBlank image ⊎ ((held : Holding) × IsSoundImport held image)
+IsSoundImage image = IsBlank image ⊎ ((held : Holding) × IsSoundImport held image)
 
 -- these are the home pages of a sound store
 pub record AreSound (pages : List (List ℕ)) : Type 0 where

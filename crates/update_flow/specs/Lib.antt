@@ -27,3 +27,6 @@ pub mod SoundTurns
 pub mod BadPage
 pub mod Judged
 pub mod Taking
+pub mod Follower
+pub mod Either
+pub mod Sources

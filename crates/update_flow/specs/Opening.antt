@@ -76,18 +76,21 @@ pub record MayOpenAs (state : State) (bytes : List ℕ) : Type 0 where
   pub formed : IsFormatted bytes
   pub fields : IfRoot (AreFieldsIn state) bytes
 
--- whatever a disk holds, its opening is answered so and leaves it so
-pub record OpensAny (old new : DiskView) (result : Result (Option Opened) FlowFault) : Type 0 where
+-- whatever a disk holds, its opening is answered so and leaves it so; of what it has found the bytes as they were tell this
+pub record OpensWith {T : Type 0} (Told : Option (List ℕ) → T → Type 0) (old new : DiskView) (result : Result T FlowFault) : Type 0 where
   pub alone : IfErr result IsOpenFault
   pub no_store : IsErrOf result (Store NotFormatted) → IfTold old.content (λ bytes. ¬ IsFormatted bytes)
   pub formed : OnOk result (IfTold old.content IsFormatted)
-  pub fields : IfOk result (RootTold old.content)
+  pub fields : IfOk result (Told old.content)
   pub untouched : IsErrOf result (Store NotFormatted) → Stays old new
   pub told : IsTold old.content → IsNoDiskFault (result_err result) → IsTold new.content
   pub bad : (page : ℕ) → IsErrOf result (Store (BadStore page)) → IfTold old.content IsDamaged
   pub same : IfTold old.content (λ bytes. gate bytes ≢ OPEN → new.content ≡ old.content)
   pub looked : IfTold old.content (λ bytes. ¬ HasOpenJournal bytes → Stays old new)
   pub cause : HasFlowCause (result_err result) old new
+
+abbrev pub OpensAny : (old new : DiskView) → Result (Option Opened) FlowFault → Type 0
+OpensAny old new result = OpensWith RootTold old new result
 
 -- an answer that has found a store, where it has
 abbrev pub as_found : Result Opened FlowFault → Result (Option Opened) FlowFault

@@ -1,19 +1,11 @@
 -- The bytes of a sound store.
 -- docs/FILES.md: the bytes are those of a store that was only made, or of an imported one of the format of today, in all that they spell.
-use Rattle.std.specs.Prelude.{◌≡◌, ◌<◌, ◌≤◌, ◌⊎◌, ℕ, List, [], true}
+use Rattle.std.specs.Prelude.{◌⊎◌, ℕ, List}
 use Rattle.bucket_store.specs.Image.{HasImage, Image}
-use Rattle.update_flow.specs.Roots.{is_blank}
-use Rattle.update_flow.specs.Stands.{IsOfFormat}
+use Rattle.update_flow.specs.Stands.{IsBlank, IsOfFormat}
 use Rattle.update_flow.specs.State.{Holding, State, formatted, imported, outdated, following}
-use Rattle.update_flow.specs.declared.fault.TheConstants.{LAST_CHANGE}
 use Rattle.update_flow.specs.declared.fields.TheConstants.{IMPORTED_FORMAT}
 use Rattle.store_check.specs.Maps.{HasSoundMapsOf}
-
--- a store that was only made: all of its chains are empty
-pub record IsSoundBlank (image : Image) : Type 0 where
-  pub root : is_blank image.root ≡ true
-  pub counted : image.root.changes ≤ LAST_CHANGE
-  pub texts : (n : ℕ) → n < 8 → image.texts n ≡ []
 
 -- an imported one, with the objects that its maps have
 abbrev pub HasSoundMaps : Holding → Image → Type 0
@@ -24,7 +16,7 @@ IsSoundImport held image = IsOfFormat IMPORTED_FORMAT HasSoundMaps held image
 
 -- a sound store of this state; one of the old format is none, nor is a follower's
 abbrev pub MeansSound : State → Image → Type 0
-MeansSound formatted image = IsSoundBlank image
+MeansSound formatted image = IsBlank image
 MeansSound (imported held) image = IsSoundImport held image
 MeansSound (outdated held) image = ⊥
 MeansSound (following held) image = ⊥
@@ -33,4 +25,4 @@ MeansSound (following held) image = ⊥
 pub record IsSound (bytes : List ℕ) : Type 0 where
   pub image : Image
   pub has : HasImage image bytes
-  pub is : IsSoundBlank image ⊎ ((held : Holding) × IsSoundImport held image)
+  pub is : IsBlank image ⊎ ((held : Holding) × IsSoundImport held image)

@@ -112,10 +112,14 @@ abbrev pub FindsSoundIn : DiskView → Option Opened → Type 0
 FindsSoundIn disk None = ⊥
 FindsSoundIn disk (Some opened) = FindsSound disk opened
 
--- a sound store is found so, and is no follower's. Its opening is refused for the disk and memory alone.
-pub record OpensSound (disk : DiskView) (result : Result (Option Opened) FlowFault) : Type 0 where
+-- the opening of a sound store is refused for the disk and memory alone, and what it has found is so
+pub record OpensSoundWith {T : Type 0} (FindsIn : DiskView → T → Type 0) (disk : DiskView) (result : Result T FlowFault) : Type 0 where
   pub answer : OrBreaks (result_err result) (result_err result ≡ None)
-  pub found : IfOk result (FindsSoundIn disk)
+  pub found : IfOk result (FindsIn disk)
+
+-- it is found to be sound, and no follower's
+abbrev pub OpensSound : DiskView → Result (Option Opened) FlowFault → Type 0
+OpensSound disk result = OpensSoundWith FindsSoundIn disk result
 
 -- the style that is told is the one of the store's text, if one is told
 abbrev pub TellsStyle : Option StyleOf → Image → Type 0

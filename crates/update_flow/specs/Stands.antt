@@ -2,7 +2,7 @@
 -- docs/FILES.md, "The root page" and "Chains": state 0 of a store that was only made, all of whose strings are empty; state 1 of an
 -- imported one, with the style's bytes as string 1 and the due set as string 2. An old store has state 1 too, in format 1, with the
 -- places of nodes alone and a style that does not reach nodes. A follower's has state 2, the style's bytes and the maps of rows alone.
-use Rattle.std.specs.Prelude.{◌≡◌, ◌≢◌, ◌<◌, ◌≤◌, ℕ, List, [], Ok, IsTrue, false}
+use Rattle.std.specs.Prelude.{◌≡◌, ◌≢◌, ◌<◌, ◌≤◌, ℕ, List, [], Ok, IsTrue, false, true}
 use Rattle.std.specs.FinMap as finite
 use Rattle.std.specs.Int.{is_power_of_two}
 use Rattle.style_read.specs.Reading.{reading}
@@ -16,10 +16,11 @@ use Rattle.store_maps.specs.Maps.{Maps}
 use Rattle.store_maps.specs.Stands.{Stands}
 use Rattle.store_check.specs.Kept.{HoldsMaps, HoldsOldMaps}
 use Rattle.update_flow.specs.Due.{Tiles}
+use Rattle.update_flow.specs.Roots.{is_blank}
 use Rattle.update_flow.specs.State.{Following, Holding, State, formatted, imported, outdated, following}
 use Rattle.row_store.specs.Tables.{HoldsTables}
 use Rattle.update_flow.specs.declared.fault.TheConstants.{LAST_CHANGE}
-use Rattle.update_flow.specs.declared.fields.TheConstants.{BLANK, BLANK_FORMAT, DUE_TEXT, FOLLOWING, IMPORTED, IMPORTED_FORMAT, OLD_FORMAT, STYLE_TEXT}
+use Rattle.update_flow.specs.declared.fields.TheConstants.{DUE_TEXT, FOLLOWING, IMPORTED, IMPORTED_FORMAT, OLD_FORMAT, STYLE_TEXT}
 
 -- these bytes are those of this set of tiles
 pub record AreDue (bytes : List ℕ) (due : Tiles) : Type 0 where
@@ -28,9 +29,10 @@ pub record AreDue (bytes : List ℕ) (due : Tiles) : Type 0 where
   pub bytes_are : bytes ≡ set_bytes runs
   pub tiles : (zoom x y : ℕ) → has runs zoom x y ≡ due zoom x y
 
--- a store that was only made
+-- a store that was only made: all of its chains are empty
 pub record IsBlank (image : Image) : Type 0 where
-  pub root : image.root ≡ record { format = BLANK_FORMAT; state = BLANK; changes = 0; buckets = 0 }
+  pub root : is_blank image.root ≡ true
+  pub counted : image.root.changes ≤ LAST_CHANGE
   pub texts : (n : ℕ) → n < 8 → image.texts n ≡ []
 
 -- the maps of a store stand for what it holds

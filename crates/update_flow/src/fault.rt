@@ -36,6 +36,20 @@ pub enum FlowFault {
     OutOfMemory,
 }
 
+/// Why a follower's store does not take a block.
+#[derive(Clone, Copy, Debug, PartialEq, Eq, Error)]
+pub enum FollowFault {
+    /// The store refuses.
+    #[error("{0}")]
+    Flow(FlowFault),
+    /// It has no tables yet that a change could be made of.
+    #[error("not imported")]
+    NotImported,
+    /// A version is missing between the one that the store has and the one that comes.
+    #[error("have {have}, got {got}")]
+    Gap { have: u64, got: u64 },
+}
+
 impl From<NoMemory> for FlowFault {
     ghost from_gives = { λ _ fault. fault ≡ OutOfMemory };
 

@@ -82,7 +82,7 @@ pub(crate) fn take_delta<D: Disk>(
     }
 }
 
-// A store without buckets gets them, and of any other all rows are taken out.
+/// A store without buckets gets them, and of any other all rows are taken out.
 fn make_room<D: Disk>(buckets: &mut Buckets<'_, D>) -> Result<(), FlowFault>
     requires ready { IsGoing buckets.old }
     ensures room { OnOk result ((rest now : Image) → Has rest now buckets.old → (later : Image) × Has rest later buckets.new × HasRoom now later) }
@@ -101,7 +101,7 @@ fn make_room<D: Disk>(buckets: &mut Buckets<'_, D>) -> Result<(), FlowFault>
     }
 }
 
-// Commits what the transaction has changed as a follower's store of a version, with these bytes of its style.
+/// Commits what the transaction has changed as a follower's store of a version, with these bytes of its style.
 fn finish_whole<D: Disk>(
     buckets: &mut Buckets<'_, D>,
     version: u64,
@@ -125,7 +125,7 @@ fn finish_whole<D: Disk>(
     }
 }
 
-// These are the bytes of the style.
+/// These are the bytes of the style.
 fn keep_style<D: Disk>(buckets: &mut Buckets<'_, D>, style_bytes: Bytes) -> Result<(), FlowFault>
     requires ready { IsGoing buckets.old }
     ensures stores { StoresText STYLE_TEXT style_bytes buckets.old buckets.new result }
@@ -136,7 +136,7 @@ fn keep_style<D: Disk>(buckets: &mut Buckets<'_, D>, style_bytes: Bytes) -> Resu
     }
 }
 
-// Commits what the transaction has changed as a store of this version.
+/// Commits what the transaction has changed as a store of this version.
 fn finish_delta<D: Disk>(buckets: &mut Buckets<'_, D>, version: u64) -> Result<(), FlowFault>
     requires ready { IsGoing buckets.old }
     ensures commits { CommitsWith (versioned version) (result_err result) buckets.old buckets.new }

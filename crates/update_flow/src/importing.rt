@@ -6,7 +6,6 @@ ghost use Rattle.bucket_store.specs.Image.{Has, Image};
 ghost use Rattle.update_flow.specs.maps.Calls.{buckets_of, stop_of, style_in};
 ghost use Rattle.update_flow.specs.Asked.{MayImport};
 ghost use Rattle.update_flow.specs.Settling.{begun};
-ghost use Rattle.update_flow.specs.Sound.{IsSoundBlank};
 ghost use Rattle.update_flow.specs.SoundTurns.{TurnsSound};
 ghost use Rattle.update_flow.specs.Stands.{IsBlank};
 ghost use Rattle.update_flow.specs.State.{Import, formatted};
@@ -47,7 +46,7 @@ pub(crate) fn import<D: Disk, R: Threads + Sync, G: Gate>(
     ensures turns { (limits : LimitNumbers) (rest : Image) → limit_in (buckets_of maps.old) ≡ limits.pages → Has rest rest (buckets_of maps.old)
         → IsBlank rest → TurnsIn limits formatted (Import style.now style_bytes.now buckets change) (result_err result) (buckets_of maps.old) (buckets_of maps.new) }
     ensures sound { (limits : LimitNumbers) (rest : Image) → limit_in (buckets_of maps.old) ≡ limits.pages → Has rest rest (buckets_of maps.old)
-        → IsSoundBlank rest → TurnsSound limits formatted (Import style.now style_bytes.now buckets change) (result_err result) (buckets_of maps.old) (buckets_of maps.new) }
+        → IsBlank rest → TurnsSound limits formatted (Import style.now style_bytes.now buckets change) (result_err result) (buckets_of maps.old) (buckets_of maps.new) }
     ensures ends { EndsIn (Some (Import style.now style_bytes.now buckets change)) (result_err result) (buckets_of maps.old) (buckets_of maps.new) }
 {
     if maps.indexed.buckets.root().buckets != 0 {

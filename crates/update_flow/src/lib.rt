@@ -7,12 +7,17 @@
 #![tactic(auto)]
 
 mod appending;
+mod base;
 mod checking;
 mod clearing;
 mod due_text;
+mod either;
+mod either_opening;
 mod fault;
 mod fields;
 mod finishing;
+mod follower;
+mod follower_opening;
 mod following;
 mod ids;
 mod importing;
@@ -29,13 +34,18 @@ mod style_text;
 mod taking;
 mod updater;
 
+pub use base::Base;
 pub use checking::check;
-pub use fault::{FlowFault, LAST_CHANGE, store_fault};
+pub use either::Either;
+pub use either_opening::open_either;
+pub use fault::{FlowFault, FollowFault, LAST_CHANGE, store_fault};
 pub use fields::{
     BLANK, BLANK_FORMAT, DUE_TEXT, FOLLOWING, IMPORTED, IMPORTED_FORMAT, OLD_FORMAT, STYLE_TEXT,
     is_blank, is_following, is_imported, is_old, shared_numbers,
 };
-pub use laws::{sound_stands, standing_is_sound};
+pub use follower::Follower;
+pub use follower_opening::open_follower;
+pub use laws::{a_follower_holds_its_source, sound_stands, standing_is_sound};
 pub use opened::Opened;
 pub use opening::open;
 pub use style_text::load_style;

@@ -99,7 +99,7 @@ fn judged<D: Disk>(
 
 /// The state of a store of which this was read, and which is no follower's. `BadStore` comes with the root page where its fields are those
 /// of no store, or its style is that of none.
-fn styled<D: Disk>(
+pub(crate) fn styled<D: Disk>(
     alloc: Global,
     disk: &mut D,
     limits: &Limits,
@@ -136,7 +136,7 @@ fn styled<D: Disk>(
 
 /// An imported store with so many changes, an old one or not, of which this was read. `BadStore` comes with the root page where its
 /// style does not read, or where it reaches nodes and the store is an old one.
-fn with_style<D: Disk>(
+pub(crate) fn with_style<D: Disk>(
     alloc: Global,
     disk: &mut D,
     limits: &Limits,

@@ -1,11 +1,13 @@
 //! A store stands on its disk between two calls. For a call its buckets are laid over the disk, and taken off again.
-ghost use Rattle.std.specs.Prelude.{◌≡◌, ◌≤◌, ◌+◌, ℕ, None, Some, IfOk, List, OnOk};
+ghost use Rattle.std.specs.Prelude.{◌≡◌, ◌≤◌, ◌<◌, ◌+◌, ℕ, None, Some, IfOk, List, OnOk};
 ghost use Rattle.std.specs.Result.{result_err};
 ghost use Rattle.osm_base.specs.map.Objects.{folded_all};
 ghost use Rattle.outside.specs.Disk.{Stays};
 ghost use Rattle.row_map.specs.Row.{tables};
 ghost use Rattle.tile_cover.specs.Runs.{has};
 ghost use Rattle.bucket_store.specs.Opening.{Fits};
+ghost use Rattle.delta_feed.specs.Sound.{IsDelta, IsFull};
+ghost use Rattle.delta_feed.specs.declared.block.Block.TheVariants as blocks;
 ghost use Rattle.page_journal.specs.Crash.{IsAtRest};
 ghost use Rattle.store_maps.specs.Asked.{May};
 ghost use Rattle.update_step.specs.Touch.{MayTouch};
@@ -14,7 +16,7 @@ ghost use Rattle.update_flow.specs.Asked.{MayImport};
 ghost use Rattle.update_flow.specs.Changes.{AreChanges};
 ghost use Rattle.update_flow.specs.Opening.{HoldsState};
 ghost use Rattle.update_flow.specs.SoundTurns.{HoldsSound, LooksSoundOn, TurnsSoundOn};
-ghost use Rattle.update_flow.specs.State.{Append, Clear, Holding, Import, Migrate, formatted, imported, outdated};
+ghost use Rattle.update_flow.specs.State.{Append, Clear, Follow, Following, Holding, Import, Migrate, following, formatted, imported, outdated};
 ghost use Rattle.update_flow.specs.Turning.{EndsOn, LooksOn, TurnsOn};
 ghost use Rattle.update_flow.specs.Within.{wanted_of};
 ghost use Rattle.update_flow.specs.declared.fault.TheConstants.{LAST_CHANGE};
@@ -22,6 +24,7 @@ ghost use Rattle.update_flow.specs.declared.fault.TheConstants.{LAST_CHANGE};
 use crate::appending::append;
 use crate::clearing::clear;
 use crate::due_text::load_due;
+use crate::following::{take_delta, take_whole};
 use crate::importing::import;
 use crate::maps::StoreTxn;
 use crate::migrating::migrate;
@@ -31,7 +34,7 @@ use crate::{FlowFault, LAST_CHANGE};
 use bucket_store::{Buckets, Resting};
 use geom_workers::Hands;
 use object_fold::Change;
-use osm_base::{Bytes, Limits, RowChanges, Tables};
+use osm_base::{Bytes, Delta, Limits, RowChanges, Tables};
 use outside::{Disk, Gate};
 use std::alloc::Global;
 use std::thread::Threads;
@@ -138,6 +141,10 @@ pub(crate) fn rows_on<D: Disk>(
         → LooksOn (imported held) (result_err result) (D.view disk.old) (D.view disk.new) kept.new }
     ensures tables { IfOk result (λ found. (held : Holding) → Fits store (D.view disk.old) → HoldsState (imported held) (D.view disk.old)
         → held.style ≡ style.now → found ≡ wanted_of wanted (tables held.style held.objects)) }
+    ensures follower { (held : Following) → Fits store (D.view disk.old) → HoldsState (following held) (D.view disk.old) → held.style ≡ style.now
+        → LooksOn (following held) (result_err result) (D.view disk.old) (D.view disk.new) kept.new }
+    ensures followed { IfOk result (λ found. (held : Following) → Fits store (D.view disk.old) → HoldsState (following held) (D.view disk.old)
+        → held.style ≡ style.now → found ≡ wanted_of wanted held.tables) }
     ensures sound { (held : Holding) → Fits store (D.view disk.old) → HoldsSound (imported held) (D.view disk.old) → held.style ≡ style.now
         → LooksSoundOn (imported held) (result_err result) (D.view disk.new) kept.new }
     ensures stays { Stays (D.view disk.old) (D.view disk.new) }
@@ -206,4 +213,52 @@ pub(crate) fn append_on<D: Disk, R: Threads + Sync, G: Gate>(
     let told = append(hands, &mut maps, style, bounds, change, limits, number);
     let _disk = maps.close().hand_back(kept);
     told
+}
+
+/// Whole tables of a version take the place of those of a follower's store, or of one that was only made, by one commit.
+pub(crate) fn whole_on<D: Disk>(
+    alloc: Global,
+    disk: &mut D,
+    limits: &Limits,
+    store: Resting,
+    kept: &mut Option<Resting>,
+    version: u64,
+    style_bytes: Bytes,
+    style: &Style,
+    rows: RowChanges,
+) -> Result<(), FlowFault>
+    requires block { IsFull version style_bytes style.now rows }
+    ensures begun { Fits store (D.view disk.old) → HoldsState formatted (D.view disk.old)
+        → TurnsOn limits.now formatted (Follow (blocks.Full version style_bytes style.now rows)) (result_err result) (D.view disk.old) (D.view disk.new) kept.new }
+    ensures turns { (held : Following) → Fits store (D.view disk.old) → HoldsState (following held) (D.view disk.old) → held.version < version
+        → TurnsOn limits.now (following held) (Follow (blocks.Full version style_bytes style.now rows)) (result_err result) (D.view disk.old) (D.view disk.new)
+        kept.new }
+    ensures ends { EndsOn (Some (Follow (blocks.Full version style_bytes style.now rows))) (result_err result) (D.view disk.old) (D.view disk.new) kept.new }
+{
+    let mut buckets = Buckets::on(alloc, disk, limits, store);
+    let taken = take_whole(alloc, &mut buckets, version, style_bytes, style, rows);
+    let _disk = buckets.hand_back(kept);
+    taken
+}
+
+/// What the next change made of the tables is done to those of a follower's store with this style, by one commit.
+pub(crate) fn delta_on<D: Disk>(
+    alloc: Global,
+    disk: &mut D,
+    limits: &Limits,
+    store: Resting,
+    kept: &mut Option<Resting>,
+    style: &Style,
+    delta: Delta,
+) -> Result<(), FlowFault>
+    requires block { IsDelta style.now.tables delta.version delta.changes }
+    ensures turns { (held : Following) → Fits store (D.view disk.old) → HoldsState (following held) (D.view disk.old) → held.style ≡ style.now
+        → delta.version ≡ held.version + 1
+        → TurnsOn limits.now (following held) (Follow (blocks.Delta delta)) (result_err result) (D.view disk.old) (D.view disk.new) kept.new }
+    ensures ends { EndsOn (Some (Follow (blocks.Delta delta))) (result_err result) (D.view disk.old) (D.view disk.new) kept.new }
+{
+    let mut buckets = Buckets::on(alloc, disk, limits, store);
+    let taken = take_delta(alloc, &mut buckets, style, delta);
+    let _disk = buckets.hand_back(kept);
+    taken
 }

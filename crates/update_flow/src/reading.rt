@@ -1,8 +1,10 @@
 //! The rows of a store are read, of all tables or of one.
-ghost use Rattle.std.specs.Prelude.{◌≡◌, IfOk};
+ghost use Rattle.std.specs.Prelude.{◌≡◌, ◌≤◌, IfOk};
 ghost use Rattle.std.specs.Result.{result_err};
+ghost use Rattle.osm_base.specs.map.Spots.{TableMap};
 ghost use Rattle.row_map.specs.Row.{tables};
 ghost use Rattle.bucket_store.specs.Image.{Has, Image};
+ghost use Rattle.row_store.specs.Tables.{HoldsTables};
 ghost use Rattle.update_flow.specs.Sound.{IsSoundImport};
 ghost use Rattle.update_flow.specs.Stands.{IsImported};
 ghost use Rattle.update_flow.specs.State.{Holding};
@@ -32,6 +34,10 @@ pub(crate) fn load_rows<D: Disk>(
         → IsSound (result_err result) }
     ensures trusted { (rest now : Image) (held : Holding) → Has rest now buckets.old → IsSoundImport held now → held.style ≡ style.now
         → IsSound (result_err result) }
+    ensures follower { IfOk result (λ found. (rest now : Image) (all : TableMap) → Has rest now buckets.old → HoldsTables style.now.tables now.maps all
+        → found ≡ wanted_of wanted all) }
+    ensures followed { (rest now : Image) (all : TableMap) → Has rest now buckets.old → HoldsTables style.now.tables now.maps all
+        → 1 ≤ now.root.buckets → IsSound (result_err result) }
     ensures runs { Runs buckets.old buckets.new (result_err result) }
 {
     if buckets.root().buckets == 0 {

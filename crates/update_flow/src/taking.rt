@@ -45,7 +45,7 @@ pub(crate) fn take_rows<D: Disk>(
     Ok(())
 }
 
-// What a change says of a row is so from now on.
+/// What a change says of a row is so from now on.
 fn take_row<D: Disk>(
     alloc: Global,
     buckets: &mut Buckets<'_, D>,

@@ -30,7 +30,7 @@ use Rattle.update_flow.proofs.importing.import.Goals as goal
 -- the root says that there are buckets already
 pub returns-then-root-ne0-clause-turns : goal.returns-then-root-ne0-clause-turns
 returns-then-root-ne0-clause-turns g c limits rest same has blank =
-    absurd (c.if-root-ne0.true (ap (λ (r : Root). r.buckets) (c.root.ensures ∙ has.root ∙ blank.root)))
+    absurd (c.if-root-ne0.true (ap (λ (r : Root). r.buckets) (c.root.ensures ∙ has.root) ∙ blank_count rest.root blank.root))
 
 pub import_maps-requires-clause-spent : goal.import_maps-requires-clause-spent
 import_maps-requires-clause-spent g c lifetimes lives =
@@ -58,7 +58,7 @@ returns-in-Ok-clause-turns g c limits rest same has blank =
     let numbered = with_root (with_buckets count rest.root) rest in
     let root = root_with_root (with_buckets count rest.root) rest in
     let texts = texts_with_root (with_buckets count rest.root) rest in
-    let none : rest.root.buckets ≡ 0 = ap (λ (r : Root). r.buckets) blank.root in
+    let none : rest.root.buckets ≡ 0 = blank_count rest.root blank.root in
     let under : Beside = record { rest = rest; root = with_buckets count rest.root; texts = rest.texts } in
     let keeps : HasMaps (style_in c.args.maps.now).tables under empty_maps mid =
     record {
@@ -100,7 +100,7 @@ returns-in-Err-clause-turns g c limits rest same has blank =
     let step = Import c.args.style.now c.args.style_bytes.now count c.args.change in
     let later = c.import_maps.ensures.goes.looked _ (later_same _) in
     let numbered = with_root (with_buckets count rest.root) rest in
-    let none : rest.root.buckets ≡ 0 = ap (λ (r : Root). r.buckets) blank.root in
+    let none : rest.root.buckets ≡ 0 = blank_count rest.root blank.root in
     let under : Beside = record { rest = rest; root = with_buckets count rest.root; texts = rest.texts } in
     let keeps : HasMaps (style_in c.args.maps.now).tables under empty_maps mid =
     record {

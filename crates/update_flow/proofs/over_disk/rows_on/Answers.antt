@@ -1,15 +1,19 @@
 -- What the buckets say is said of the disk under them.
-use Rattle.std.proofs.Common.{◌≡◌, None, rules, sym}
+use Rattle.std.proofs.Common.{◌≡◌, ◌≤◌, None, rules, subst, sym}
 use Rattle.std.specs.Result.{result_err}
 use Rattle.page_journal.specs.Journal.{disk_of as disk_under}
 use Rattle.chain_store.specs.Chains.{journal_of}
 use Rattle.bucket_store.specs.Transaction.{chains_of}
 use Rattle.bucket_store.proofs.Holding.{rests_under}
-use Rattle.update_flow.specs.State.{imported}
+use Rattle.chain_store.specs.declared.root.Root.{Root}
+use Rattle.row_store.specs.Tables.{HoldsTables}
+use Rattle.style_read.specs.Style.{StyleOf}
+use Rattle.update_flow.specs.State.{following, imported}
 use Rattle.update_flow.proofs.Carrying.{ends_on, looks_on, ok_then}
 use Rattle.update_flow.proofs.Looking.{looked_stays}
 use Rattle.update_flow.proofs.Openings.{sound_answer}
 use Rattle.update_flow.proofs.SoundCarried.{looked_on}
+use Rattle.update_flow.proofs.FollowerLooks.{follower_look}
 use Rattle.update_flow.proofs.Turning.{looks_at, runs_ended}
 use Rattle.update_flow.proofs.over_disk.rows_on.Goals as goal
 
@@ -64,3 +68,29 @@ returns-clause-sound g c =
     (runs_ended {call = None} fault old new c.load_rows-rows.ensures.runs)
     (imported held) holds.image (rests_under holds.image holds.image old has) holds.is c.load_rows-rows.ensures.runs.looks
     (sound_answer fault (c.load_rows-rows.ensures.trusted holds.image holds.image held has holds.is same)) c.disk-1.given.0 last
+
+-- a follower's store
+pub returns-clause-follower : goal.returns-clause-follower
+returns-clause-follower g c =
+    let last : disk_under (journal_of (chains_of c.load_rows-rows.new.buckets)) ≡ c.disk-1.given.0 = search rules in
+    λ held fits holds same.
+    let fault = result_err c.load_rows-rows.result in
+    let old = c.on-buckets.result in
+    let new = c.load_rows-rows.new.buckets in
+    let has = c.on-buckets.ensures.has holds.image fits holds.holds in
+    let rows = subst (λ (s : StyleOf). HoldsTables s.tables holds.image.maps held.tables) same holds.means.tables in
+    let some : 1 ≤ holds.image.root.buckets = subst (λ (r : Root). 1 ≤ r.buckets) (sym holds.means.root) holds.means.some in
+    looks_on fault old new c.hand_back-disk.new.kept (c.hand_back-disk.ensures.whole, c.hand_back-disk.ensures.fits)
+    (runs_ended {call = None} fault old new c.load_rows-rows.ensures.runs)
+    (following held) (follower_look held fault holds.image old new
+    (rests_under holds.image holds.image old has) holds.means c.load_rows-rows.ensures.runs.looks
+    (sound_answer fault (c.load_rows-rows.ensures.followed holds.image holds.image held.tables has rows some))) c.args.disk.now
+    c.disk-1.given.0 c.on-buckets.ensures.disk last
+
+pub returns-clause-followed : goal.returns-clause-followed
+returns-clause-followed g c =
+    ok_then c.load_rows-rows.result _ _
+    (λ found told held fits holds same. told holds.image holds.image held.tables
+    (c.on-buckets.ensures.has holds.image fits holds.holds)
+    (subst (λ (s : StyleOf). HoldsTables s.tables holds.image.maps held.tables) same holds.means.tables))
+    c.load_rows-rows.ensures.follower

@@ -10,7 +10,12 @@ use Rattle.update_flow.specs.Stands.{IsImported}
 use Rattle.update_flow.specs.State.{Holding}
 use Rattle.update_flow.specs.Within.{IsSound, Runs}
 use Rattle.update_flow.specs.declared.fault.FlowFault.{FlowFault}
-use Rattle.update_flow.proofs.Loading.{all_loaded, nodes_told, others_told, rows_id, sound_id, wanted_row}
+use Rattle.osm_base.proofs.SpotOrder.{spot_cmp_total, spot_cmp-IsAntisymmetric}
+use Rattle.row_store.proofs.MapTables.{nodes_told, others_told, wanted_row}
+use Rattle.row_store.proofs.TableLaws.{row_maps, table_nodes_told, table_others_told, tables_loaded}
+use Rattle.update_flow.specs.Within.{wanted_of}
+use Rattle.update_flow.proofs.Loading.{all_loaded, rows_id, sound_id}
+use Rattle.update_flow.proofs.OneTable.{wanted_get}
 use Rattle.update_flow.proofs.Openings.{sound_store}
 use Rattle.chain_store.specs.declared.root.Root.{Root}
 use Rattle.update_flow.proofs.Running.{runs_done, runs_refused, runs_unfit}
@@ -20,14 +25,14 @@ told_nodes : (style : StyleOf) (wanted : Option ℕ) (image : Image) (held : Hol
     → AreTold style.tables wanted 6 (wanted_row wanted is.maps.maps) (image.maps 6)
 told_nodes style wanted image held is same =
     subst (λ (s : StyleOf). AreTold s.tables wanted 6 (wanted_row wanted is.maps.maps) (image.maps 6)) same
-    (nodes_told held.style wanted image.maps is.maps.maps
+    (nodes_told held.style.tables wanted image.maps is.maps.maps
     (rows_id held.style is.maps.maps held.objects is.maps.stand.rows is.ids) is.maps.kept.node_rows)
 
 told_others : (style : StyleOf) (wanted : Option ℕ) (image : Image) (held : Holding) → (is : IsImported held image) → held.style ≡ style
     → AreTold style.tables wanted 7 (wanted_row wanted is.maps.maps) (image.maps 7)
 told_others style wanted image held is same =
     subst (λ (s : StyleOf). AreTold s.tables wanted 7 (wanted_row wanted is.maps.maps) (image.maps 7)) same
-    (others_told held.style wanted image.maps is.maps.maps
+    (others_told held.style.tables wanted image.maps is.maps.maps
     (rows_id held.style is.maps.maps held.objects is.maps.stand.rows is.ids) is.maps.kept.other_rows)
 
 filled : (which : ℕ) (rows : RowsBySpot) (image : Image) (old new : TableMap) → old ≡ map.empty
@@ -79,12 +84,42 @@ returns-in-Err-clause-trusted g c = λ rest now held has is same.
     let maps = is.maps.maps in
     let good = sound_id held.style held.objects now is.maps is.ids in
     let nodes = subst (λ (s : StyleOf). AreTold s.tables wanted 6 (wanted_row wanted maps) (now.maps 6)) same
-    (nodes_told held.style wanted now.maps maps good is.maps.kept.node_rows) in
+    (nodes_told held.style.tables wanted now.maps maps good is.maps.kept.node_rows) in
     let others = subst (λ (s : StyleOf). AreTold s.tables wanted 7 (wanted_row wanted maps) (now.maps 7)) same
-    (others_told held.style wanted now.maps maps good is.maps.kept.other_rows) in
+    (others_told held.style.tables wanted now.maps maps good is.maps.kept.other_rows) in
     subst (λ (f : FlowFault). IsSound (Some f)) (sym c.store_fault.ensures)
     (sound_store (Unit {0}) c.in-Err.fault (c.in-Err.ensures.sound rest now (wanted_row wanted maps) has nodes others))
 
 pub returns-then-root-eq0-clause-trusted : goal.returns-then-root-eq0-clause-trusted
 returns-then-root-eq0-clause-trusted g c = λ rest now held has is same.
     absurd (omega (arith, is.some, ap (λ (r : Root). r.buckets) (c.root.ensures ∙ has.root ∙ is.root), c.if-root-eq0.true))
+
+-- a follower's store
+pub returns-in-Ok-clause-follower : goal.returns-in-Ok-clause-follower
+returns-in-Ok-clause-follower g c = λ rest now all has holds.
+    let wanted = c.args.wanted in
+    let definitions = c.args.style.now.tables in
+    let rows = wanted_row wanted (row_maps holds.node_rows holds.other_rows) in
+    let nodes = table_nodes_told definitions now.maps all holds wanted in
+    let others = table_others_told definitions now.maps all holds wanted in
+    map.same_map spot_cmp_total spot_cmp-IsAntisymmetric c.load.new.tables (wanted_of wanted all)
+    (λ spot.
+    tables_loaded definitions now.maps all holds wanted c.load.new.tables
+    (filled 6 rows now c.new-tables.result c.load.new.tables c.new-tables.ensures.empty
+    (c.in-Ok.ensures.nodes rest now rows has nodes others))
+    (filled 7 rows now c.new-tables.result c.load.new.tables c.new-tables.ensures.empty
+    (c.in-Ok.ensures.others rest now rows has nodes others)) spot
+    ∙ sym (wanted_get wanted all spot))
+
+pub returns-in-Err-clause-followed : goal.returns-in-Err-clause-followed
+returns-in-Err-clause-followed g c = λ rest now all has holds some.
+    let wanted = c.args.wanted in
+    let definitions = c.args.style.now.tables in
+    subst (λ (f : FlowFault). IsSound (Some f)) (sym c.store_fault.ensures)
+    (sound_store (Unit {0}) c.in-Err.fault
+    (c.in-Err.ensures.sound rest now (wanted_row wanted (row_maps holds.node_rows holds.other_rows)) has
+    (table_nodes_told definitions now.maps all holds wanted) (table_others_told definitions now.maps all holds wanted)))
+
+pub returns-then-root-eq0-clause-followed : goal.returns-then-root-eq0-clause-followed
+returns-then-root-eq0-clause-followed g c = λ rest now all has holds some.
+    absurd (omega (arith, some, ap (λ (r : Root). r.buckets) (c.root.ensures ∙ has.root), c.if-root-eq0.true))
